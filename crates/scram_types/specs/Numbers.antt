@@ -1,0 +1,24 @@
+-- Whole numbers: clamping, division that truncates toward zero, a remainder that is not negative.
+use Rattle.std.specs.Prelude.{ℕ, ℤ, pos, neg_ℤ, ◌≤ℤ◌, int_div, int_lt, List, slice_index_or, if◌then◌else◌}
+use Rattle.std.specs.Int.{int_rem_euclid}
+
+abbrev pub minus : ℕ → ℤ
+minus n = neg_ℤ (pos n)
+
+unfoldable pub clamp : ℤ → ℤ → ℤ → ℤ
+clamp x low high = if int_lt x low then low else (if int_lt high x then high else x)
+
+unfoldable pub part : ℤ → ℕ → ℤ
+part x n = int_div x (pos n)
+
+unfoldable pub modulo : ℤ → ℕ → ℤ
+modulo x n = int_rem_euclid x (pos n)
+
+-- word i of an area
+unfoldable pub word : List ℤ → ℕ → ℤ
+word area i = slice_index_or area i (pos 0)
+
+-- z is small enough for sums of a few such numbers to fit 64 bits
+pub record IsWord (z : ℤ) : Type 0 where
+  pub low : minus 4294967296 ≤ℤ z
+  pub high : z ≤ℤ pos 4294967296

@@ -1,0 +1,10 @@
+-- A range from -below to above: each holds 0.
+use Rattle.std.specs.Prelude.{ℕ, ℤ, pos}
+use Rattle.scram_types.specs.declared.ranges.Range.{Range}
+use Rattle.scram_types.specs.Numbers.{clamp, minus}
+
+abbrev pub limit : ℕ → ℕ → Range
+limit a b = record { below = a; above = b }
+
+unfoldable pub clamp_in : Range → ℤ → ℤ
+clamp_in r x = clamp x (minus r.below) (pos r.above)

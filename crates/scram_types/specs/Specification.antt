@@ -1,0 +1,182 @@
+-- A specification as plain data, and what every specification keeps.
+use Rattle.std.specs.Prelude.{◌≡◌, ℕ, ℤ, pos, Bool, true, false, ◌==◌, ◌+◌, ◌^◌, ◌<◌, ◌≤◌, ◌≤ℤ◌, nat_lt, List, [], ◌∷◌, length, slice_get, Option, Some, None, IsSome, IfSome, option_and_then, if◌then◌else◌}
+use Rattle.scram_types.specs.Numbers.{minus}
+use Rattle.scram_types.specs.declared.ids.AppId.{AppId}
+use Rattle.scram_types.specs.declared.ids.ConfId.{ConfId}
+use Rattle.scram_types.specs.declared.flights.Goal.{Goal}
+use Rattle.scram_types.specs.declared.specification.Proc.{Proc}
+use Rattle.scram_types.specs.declared.specification.ModeSpec.{ModeSpec}
+use Rattle.scram_types.specs.declared.specification.AppSpec.{AppSpec}
+use Rattle.scram_types.specs.declared.specification.Place.{Place}
+use Rattle.scram_types.specs.declared.specification.Conf.{Conf}
+use Rattle.scram_types.specs.declared.specification.Factor.{Factor}
+use Rattle.scram_types.specs.declared.specification.Want.{Want}
+use Rattle.scram_types.specs.declared.specification.Choice.{Choice}
+use Rattle.scram_types.specs.declared.specification.Bound.{Bound}
+use Rattle.scram_types.specs.declared.specification.Invariant.{Invariant}
+use Rattle.scram_types.specs.declared.specification.Precondition.{Precondition}
+use Rattle.scram_types.specs.declared.specification.Policy.{Policy}
+
+pub record Parts : Type 0 where
+  pub procs : List Proc
+  pub apps : List AppSpec
+  pub confs : List Conf
+  pub factors : List Factor
+  pub rules : List Choice
+  pub bounds : List Bound
+  pub start : ConfId
+  pub goal : Goal
+  pub invariants : List Invariant
+  pub preconditions : List Precondition
+  pub policy : Policy
+  pub halts : ℕ
+  pub changes : ℕ
+  pub window : ℕ
+
+-- Where a configuration places application a: nowhere where it is off, or past the last.
+abbrev pub place_in : Conf → ℕ → Option Place
+place_in conf a = option_and_then (λ (place : Option Place). place) (slice_get conf.places a)
+
+-- What a mode costs: the first of the listed modes that has this number.
+abbrev pub mode_in : List ModeSpec → ℕ → Option ModeSpec
+mode_in [] mode = None
+mode_in (listed ∷ modes) mode = if listed.mode.0 == mode then Some listed else mode_in modes mode
+
+-- How many modes a kind has; they are numbered from 1.
+abbrev pub modes_of_kind : ℕ → ℕ
+modes_of_kind kind = if kind == 2 then 3 else (if nat_lt kind 5 then 2 else 0)
+
+pub record HasLength {A : Type 0} (low high : ℕ) (xs : List A) : Type 0 where
+  pub enough : low ≤ length xs
+  pub few : length xs ≤ high
+
+-- Each item of a list keeps a fact.
+abbrev pub Each : {A : Type 0} → (A → Type 0) → List A → Type 0
+Each {A} Fact xs = (i : ℕ) (x : A) → slice_get xs i ≡ Some x → Fact x
+
+-- No two items of a list have the same name.
+abbrev pub NamesDiffer : {A : Type 0} → (A → List ℕ) → List A → Type 0
+NamesDiffer {A} name xs =
+    (i j : ℕ) (x y : A) → slice_get xs i ≡ Some x → slice_get xs j ≡ Some y → name x ≡ name y → i ≡ j
+
+pub record IsProc (proc : Proc) : Type 0 where
+  pub capacity : proc.capacity ≤ 1000000
+
+-- A phase takes 1 to 16 frames.
+pub record IsPhase (frames : ℕ) : Type 0 where
+  pub least : 1 ≤ frames
+  pub most : frames ≤ 16
+
+pub record IsModeSpec (kind : ℕ) (listed : ModeSpec) : Type 0 where
+  pub on : 1 ≤ listed.mode.0
+  pub of_kind : listed.mode.0 ≤ modes_of_kind kind
+  pub load : listed.load ≤ 1000000
+  pub halt : IsPhase listed.halt
+  pub prepare : IsPhase listed.prepare
+  pub init : IsPhase listed.init
+
+-- An application that another needs exists and has a lower rank.
+pub record IsNeeded (apps : List AppSpec) (app : AppSpec) (needed : AppId) : Type 0 where
+  pub lower : AppSpec
+  pub there : slice_get apps needed.0 ≡ Some lower
+  pub falls : lower.rank < app.rank
+
+pub record IsAppSpec (apps : List AppSpec) (app : AppSpec) : Type 0 where
+  pub kind : app.kind.0 < 5
+  pub rank : app.rank < 8
+  pub few_needs : length app.needs ≤ 8
+  pub needs : Each (IsNeeded apps app) app.needs
+  pub count : HasLength 1 3 app.modes
+  pub modes : Each (IsModeSpec app.kind.0) app.modes
+
+-- The place of application a is on a processor that exists, in a mode that the application lists.
+pub record IsPlace (procs : List Proc) (apps : List AppSpec) (a : ℕ) (place : Place) : Type 0 where
+  pub on : place.proc.0 < length procs
+  pub app : AppSpec
+  pub there : slice_get apps a ≡ Some app
+  pub listed : IsSome (mode_in app.modes place.mode.0)
+
+pub record IsConf (procs : List Proc) (apps : List AppSpec) (conf : Conf) : Type 0 where
+  pub width : length conf.places ≡ 8
+  pub places : (a : ℕ) (place : Place) → place_in conf a ≡ Some place → IsPlace procs apps a place
+
+pub record IsFactor (factor : Factor) : Type 0 where
+  pub count : HasLength 2 4 factor.values
+  pub differ : NamesDiffer (λ (name : List ℕ). name) factor.values
+
+-- A configuration exists; so does any that is named, where one is.
+abbrev pub IsIn : List Conf → ConfId → Type 0
+IsIn confs c = c.0 < length confs
+
+abbrev pub IsInIfNamed : List Conf → Option ConfId → Type 0
+IsInIfNamed confs c = IfSome c (IsIn confs)
+
+pub record IsWant (factors : List Factor) (want : Want) : Type 0 where
+  pub factor : Factor
+  pub there : slice_get factors want.factor.0 ≡ Some factor
+  pub value : want.value < length factor.values
+
+pub record IsChoice (procs : List Proc) (confs : List Conf) (factors : List Factor) (rule : Choice) : Type 0 where
+  pub from : IsInIfNamed confs rule.from
+  pub few : length rule.wants ≤ 6
+  pub wants : Each (IsWant factors) rule.wants
+  pub up : rule.up < 2 ^ length procs
+  pub to : IsIn confs rule.to
+
+pub record IsBound (confs : List Conf) (bound : Bound) : Type 0 where
+  pub from : IsIn confs bound.from
+  pub to : IsIn confs bound.to
+  pub least : 1 ≤ bound.frames
+  pub most : bound.frames ≤ 1000
+
+pub record IsGoal (goal : Goal) : Type 0 where
+  pub lowest : pos 0 ≤ℤ goal.altitude
+  pub highest : goal.altitude ≤ℤ pos 40000
+  pub first : pos 0 ≤ℤ goal.heading
+  pub last : goal.heading ≤ℤ pos 3599
+
+-- The ends of an interval for a variable of an application that exists.
+pub record IsInterval (apps : List AppSpec) (app : AppId) (variable : ℕ) (low high : ℤ) : Type 0 where
+  pub there : app.0 < length apps
+  pub is_variable : variable ≤ 7
+  pub low_least : minus 1000000000 ≤ℤ low
+  pub low_most : low ≤ℤ pos 1000000000
+  pub high_least : minus 1000000000 ≤ℤ high
+  pub high_most : high ≤ℤ pos 1000000000
+
+pub record IsInvariant (apps : List AppSpec) (confs : List Conf) (inv : Invariant) : Type 0 where
+  pub from : IsInIfNamed confs inv.from
+  pub interval : IsInterval apps inv.app inv.variable inv.least inv.greatest
+
+pub record IsPrecondition (apps : List AppSpec) (confs : List Conf) (pre : Precondition) : Type 0 where
+  pub conf : IsIn confs pre.conf
+  pub interval : IsInterval apps pre.app pre.variable pre.least pre.greatest
+
+-- The specification's invariant.
+pub record IsSpec (spec : Parts) : Type 0 where
+  pub procs_count : HasLength 1 8 spec.procs
+  pub procs_differ : NamesDiffer (λ (proc : Proc). proc.name) spec.procs
+  pub procs : Each IsProc spec.procs
+  pub apps_count : HasLength 1 8 spec.apps
+  pub apps_differ : NamesDiffer (λ (app : AppSpec). app.name) spec.apps
+  pub apps : Each (IsAppSpec spec.apps) spec.apps
+  pub confs_count : HasLength 1 12 spec.confs
+  pub confs_differ : NamesDiffer (λ (conf : Conf). conf.name) spec.confs
+  pub confs : Each (IsConf spec.procs spec.apps) spec.confs
+  pub factors_count : length spec.factors ≤ 6
+  pub factors_differ : NamesDiffer (λ (factor : Factor). factor.name) spec.factors
+  pub factors : Each IsFactor spec.factors
+  pub rules_count : length spec.rules ≤ 64
+  pub rules : Each (IsChoice spec.procs spec.confs spec.factors) spec.rules
+  pub bounds_count : length spec.bounds ≤ 144
+  pub bounds : Each (IsBound spec.confs) spec.bounds
+  pub start : IsIn spec.confs spec.start
+  pub goal : IsGoal spec.goal
+  pub invariants_count : length spec.invariants ≤ 64
+  pub invariants : Each (IsInvariant spec.apps spec.confs) spec.invariants
+  pub preconditions_count : length spec.preconditions ≤ 64
+  pub preconditions : Each (IsPrecondition spec.apps spec.confs) spec.preconditions
+  pub halts : spec.halts ≤ 8
+  pub changes : spec.changes ≤ 16
+  pub window_least : 1 ≤ spec.window
+  pub window_most : spec.window ≤ 1000

@@ -1,0 +1,67 @@
+//! What a flight shows: areas, the world, the environment, rows and reports.
+
+use crate::ids::ConfId;
+use crate::lists::List;
+use crate::orders::{Act, KMode};
+
+/// The eight words of an application in stable storage. An application that is off has zeros.
+pub type Area = [i64; 8];
+
+/// The words of a processor in stable storage: word `8 * a + i` is word `i` of application `a`.
+pub type Image = [i64; 64];
+
+/// The aircraft: `alt` in feet, `climb` in tenths of a foot per frame, `heading` and `bank` in tenths
+/// of a degree.
+#[derive(Clone, Copy, Debug, PartialEq, Eq)]
+pub struct World {
+    pub alt: i64,
+    pub climb: i64,
+    pub heading: i64,
+    pub bank: i64,
+}
+
+/// Where the mission wants the aircraft: `altitude` in feet, 0 to 40,000, and `heading` in tenths of a
+/// degree, 0 to 3,599.
+#[derive(Clone, Copy, Debug, PartialEq, Eq)]
+pub struct Goal {
+    pub altitude: i64,
+    pub heading: i64,
+}
+
+/// What the table chooses by. Bit `p` of `up` is set where processor `p` is up; bits past the last
+/// processor are clear. `factors` holds the number of each factor's value, and 0 past the last factor.
+#[derive(Clone, Copy, Debug, PartialEq, Eq)]
+pub struct Env {
+    pub up: u8,
+    pub factors: [u8; 6],
+}
+
+/// One frame of the trace: the environment and the kernel's mode of the frame, and what each
+/// application did, with its area and the world at the frame's end. Past the last application acts are
+/// `Off` and areas zeros.
+#[derive(Clone, Copy, Debug, PartialEq, Eq)]
+pub struct Row {
+    pub frame: u32,
+    pub env: Env,
+    pub mode: KMode,
+    pub acts: [Act; 8],
+    pub areas: [Area; 8],
+    pub world: World,
+}
+
+/// A reconfiguration: the frames in which it began and ended. One that the script cut off has no
+/// target, and its end is the number of frames.
+#[derive(Clone, Copy, Debug, PartialEq, Eq)]
+pub struct Report {
+    pub from: ConfId,
+    pub to: Option<ConfId>,
+    pub begin: u32,
+    pub end: u32,
+}
+
+/// A finished flight.
+#[derive(Drop)]
+pub struct Flown {
+    pub rows: List<Row>,
+    pub reports: List<Report>,
+}

@@ -1,0 +1,28 @@
+//! The plain types of SCRAM. Whoever holds a `Spec` holds a specification that keeps its invariant, so
+//! no crate above tests an index, a limit or a name again.
+#![tactic(auto)]
+
+pub mod flights;
+pub mod ids;
+pub mod limits;
+pub mod lists;
+pub mod memory;
+pub mod names;
+pub mod numbers;
+pub mod orders;
+pub mod ranges;
+pub mod scripts;
+pub mod specification;
+
+pub use flights::{Area, Env, Flown, Goal, Image, Report, Row, World};
+pub use ids::{AppId, ConfId, FactorId, KindId, Mode, ProcId};
+pub use lists::List;
+pub use memory::NoMemory;
+pub use names::Name;
+pub use orders::{Act, KMode, Order};
+pub use ranges::Range;
+pub use scripts::{Change, HaltAt, RestartAt, Script};
+pub use specification::{
+    AppSpec, Bound, Choice, Conf, Factor, Invariant, ModeSpec, Place, Policy, Precondition, Proc,
+    Spec, Want,
+};

@@ -1,0 +1,41 @@
+//! A list whose value is its items alone.
+
+ghost use Rattle.std.specs.Prelude.{◌≡◌};
+
+/// Items in order. Contracts see the items and nothing of the room behind them, so a value that holds
+/// a list can equal a definition's value.
+#[derive(Drop)]
+pub struct List<T> {
+    items: Vec<T>,
+}
+
+impl<T> std::marker::Model for List<T> {
+    ghost use Rattle.std.specs.Prelude.{List};
+
+    ghost Value = { List T };
+
+    ghost view = { λ a. a.items.items };
+}
+
+impl<T> List<T> {
+    /// The list of these items. It takes no memory.
+    pub fn of(items: Vec<T>) -> List<T>
+        ensures { result ≡ items.items }
+    {
+        List { items }
+    }
+
+    /// The items, in order.
+    pub fn items(&self) -> &[T]
+        ensures { result.now ≡ self.now }
+    {
+        &self.items
+    }
+
+    /// The items as a vector, which takes no memory.
+    pub fn into_items(self) -> Vec<T>
+        ensures { result.items ≡ self }
+    {
+        self.items
+    }
+}

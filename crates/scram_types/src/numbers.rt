@@ -1,0 +1,43 @@
+//! Whole numbers: clamping, sums and differences that fit.
+#![tactic(auto, unfolding(crate::specs::Numbers::clamp))]
+
+ghost use Rattle.std.specs.Prelude.{◌-ℤ◌, ◌+ℤ◌, pos, ◌≡◌, ◌≤ℤ◌};
+ghost use Rattle.scram_types.specs.Numbers.{IsWord, clamp, minus};
+
+/// `x`, but at least `low` and at most `high`.
+pub fn clamped(x: i64, low: i64, high: i64) -> i64
+    requires { low ≤ℤ high }
+    ensures value { result ≡ clamp x low high }
+    ensures low { low ≤ℤ result }
+    ensures high { result ≤ℤ high }
+{
+    if x < low {
+        low
+    } else if x > high {
+        high
+    } else {
+        x
+    }
+}
+
+/// `x + y` of two numbers within 2^32 of 0.
+pub fn sum(x: i64, y: i64) -> i64
+    requires x { IsWord x }
+    requires y { IsWord y }
+    ensures value { result ≡ x +ℤ y }
+    ensures low { minus 8589934592 ≤ℤ result }
+    ensures high { result ≤ℤ pos 8589934592 }
+{
+    x + y
+}
+
+/// How far `target` lies above `x`, both within 2^32 of 0.
+pub fn gap(x: i64, target: i64) -> i64
+    requires x { IsWord x }
+    requires target { IsWord target }
+    ensures value { result ≡ target -ℤ x }
+    ensures low { minus 8589934592 ≤ℤ result }
+    ensures high { result ≤ℤ pos 8589934592 }
+{
+    target - x
+}

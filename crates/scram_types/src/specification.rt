@@ -1,0 +1,239 @@
+//! Specifications: processors, applications, configurations, the choice table and the bounds.
+
+ghost use Rattle.std.specs.Prelude.{◌≡◌, option_map, slice_get};
+ghost use Rattle.std.specs.Option.{option_copied};
+
+use crate::flights::Goal;
+use crate::ids::{AppId, ConfId, FactorId, KindId, Mode, ProcId};
+use crate::lists::List;
+use crate::names::Name;
+
+/// A processor and the load that it can carry, 0 to 1,000,000 load units.
+#[derive(Drop)]
+pub struct Proc {
+    pub name: Name,
+    pub capacity: u32,
+}
+
+/// What an application's mode costs: its load, 0 to 1,000,000 load units, and how many frames its
+/// halt, prepare and init phases take, 1 to 16 each.
+#[derive(Clone, Copy, Debug, PartialEq, Eq)]
+pub struct ModeSpec {
+    pub mode: Mode,
+    pub load: u32,
+    pub halt: u8,
+    pub prepare: u8,
+    pub init: u8,
+}
+
+/// An application: its kind, what it needs, and the modes of its kind that it may be in. The rank of
+/// an application is above that of each that it needs.
+#[derive(Drop)]
+pub struct AppSpec {
+    pub name: Name,
+    pub kind: KindId,
+    pub needs: List<AppId>,
+    pub modes: List<ModeSpec>,
+    pub rank: u8,
+}
+
+/// The mode and the processor of an application that is on.
+#[derive(Clone, Copy, Debug, PartialEq, Eq)]
+pub struct Place {
+    pub mode: Mode,
+    pub proc: ProcId,
+}
+
+/// A configuration: the place of each application, in their order, `None` where it is off.
+#[derive(Drop)]
+pub struct Conf {
+    pub name: Name,
+    pub places: [Option<Place>; 8],
+}
+
+/// An environment factor and the values that it can have; it begins with the first.
+#[derive(Drop)]
+pub struct Factor {
+    pub name: Name,
+    pub values: List<Name>,
+}
+
+/// A wanted value of a factor, by its number among the factor's values.
+#[derive(Clone, Copy, Debug, PartialEq, Eq)]
+pub struct Want {
+    pub factor: FactorId,
+    pub value: u8,
+}
+
+/// A rule of the choice table. It fits where the source is `from` (`None` for any), each wanted factor
+/// has the wanted value, and each processor whose bit is set in `up` is up; its target is `to`.
+#[derive(Drop)]
+pub struct Choice {
+    pub from: Option<ConfId>,
+    pub wants: List<Want>,
+    pub up: u8,
+    pub to: ConfId,
+}
+
+/// The most frames, 1 to 1,000, that a reconfiguration between two configurations may take.
+#[derive(Clone, Copy, Debug, PartialEq, Eq)]
+pub struct Bound {
+    pub from: ConfId,
+    pub to: ConfId,
+    pub frames: u32,
+}
+
+/// While a reconfiguration leaves `from` (`None` for any configuration), this variable of this
+/// application lies between `least` and `greatest`, both within 1,000,000,000 of 0.
+#[derive(Clone, Copy, Debug, PartialEq, Eq)]
+pub struct Invariant {
+    pub from: Option<ConfId>,
+    pub app: AppId,
+    pub variable: u8,
+    pub least: i64,
+    pub greatest: i64,
+}
+
+/// As a configuration begins to run, this variable of this application lies between `least` and
+/// `greatest`, both within 1,000,000,000 of 0.
+#[derive(Clone, Copy, Debug, PartialEq, Eq)]
+pub struct Precondition {
+    pub conf: ConfId,
+    pub app: AppId,
+    pub variable: u8,
+    pub least: i64,
+    pub greatest: i64,
+}
+
+/// What a failure during a reconfiguration does to its target: `Retarget` chooses anew with each
+/// change, `Settle` keeps the target while it can run.
+#[derive(Clone, Copy, Debug, PartialEq, Eq)]
+pub enum Policy {
+    Retarget,
+    Settle,
+}
+
+/// A specification. Whoever makes one proves `IsSpec` of it: names differ within their class, indexes
+/// are in range, the limits hold, a needed application has a lower rank, modes are modes of their
+/// kind, and a placed mode is one that its application lists.
+///
+/// `halts`, `changes` and `window` are the failure assumption: at most `halts` processors are down at
+/// once, and any `window` consecutive frames hold at most `changes + 1` frames in which the
+/// environment changes.
+#[derive(Drop)]
+pub struct Spec {
+    pub procs: List<Proc>,
+    pub apps: List<AppSpec>,
+    pub confs: List<Conf>,
+    pub factors: List<Factor>,
+    pub rules: List<Choice>,
+    pub bounds: List<Bound>,
+    pub start: ConfId,
+    pub goal: Goal,
+    pub invariants: List<Invariant>,
+    pub preconditions: List<Precondition>,
+    pub policy: Policy,
+    pub halts: u8,
+    pub changes: u8,
+    pub window: u32,
+}
+
+impl std::marker::Model for Spec {
+    ghost use Rattle.scram_types.specs.Specification.{Parts, IsSpec};
+
+    ghost Value = { Parts };
+
+    ghost view = { λ s. record {
+      procs = s.procs;
+      apps = s.apps;
+      confs = s.confs;
+      factors = s.factors;
+      rules = s.rules;
+      bounds = s.bounds;
+      start = s.start;
+      goal = s.goal;
+      invariants = s.invariants;
+      preconditions = s.preconditions;
+      policy = s.policy;
+      halts = s.halts;
+      changes = s.changes;
+      window = s.window;
+    } };
+
+    ghost invariant = { λ s. IsSpec (record {
+      procs = s.procs;
+      apps = s.apps;
+      confs = s.confs;
+      factors = s.factors;
+      rules = s.rules;
+      bounds = s.bounds;
+      start = s.start;
+      goal = s.goal;
+      invariants = s.invariants;
+      preconditions = s.preconditions;
+      policy = s.policy;
+      halts = s.halts;
+      changes = s.changes;
+      window = s.window;
+    }) };
+}
+
+impl Conf {
+    ghost use Rattle.scram_types.specs.Specification.{place_in};
+
+    /// Where the configuration places an application, or `None` where it is off.
+    pub fn place(&self, app: AppId) -> Option<Place>
+        ensures { result ≡ place_in self.now app.0 }
+    {
+        match self.places.get(usize::from(app.0)) {
+            Some(place) => *place,
+            None => None,
+        }
+    }
+}
+
+impl AppSpec {
+    ghost use Rattle.scram_types.specs.Specification.{mode_in};
+
+    /// What a mode of the application costs, or `None` where it does not list the mode.
+    pub fn mode(&self, mode: Mode) -> Option<ModeSpec>
+        ensures { result ≡ mode_in self.now.modes mode.0 }
+    {
+        for listed in self.modes.items() {
+            if listed.mode.0 == mode.0 {
+                return Some(*listed);
+            }
+        }
+        None
+    }
+}
+
+impl Spec {
+    /// The processor of this number, if there is one.
+    pub fn proc(&self, proc: ProcId) -> Option<&Proc>
+        ensures { option_copied result ≡ slice_get self.now.procs proc.0 }
+    {
+        self.procs.items().get(usize::from(proc.0))
+    }
+
+    /// The application of this number, if there is one.
+    pub fn app(&self, app: AppId) -> Option<&AppSpec>
+        ensures { option_copied result ≡ slice_get self.now.apps app.0 }
+    {
+        self.apps.items().get(usize::from(app.0))
+    }
+
+    /// The configuration of this number, if there is one.
+    pub fn conf(&self, conf: ConfId) -> Option<&Conf>
+        ensures { option_copied result ≡ slice_get self.now.confs conf.0 }
+    {
+        self.confs.items().get(usize::from(conf.0))
+    }
+
+    /// The factor of this number, if there is one.
+    pub fn factor(&self, factor: FactorId) -> Option<&Factor>
+        ensures { option_copied result ≡ slice_get self.now.factors factor.0 }
+    {
+        self.factors.items().get(usize::from(factor.0))
+    }
+}
