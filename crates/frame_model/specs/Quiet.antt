@@ -1,12 +1,11 @@
 -- The trace of a quiet mission: the start configuration runs in each frame.
-use Rattle.std.specs.Prelude.{ℕ, zero, suc, ◌+◌, ℤ, pos, List, [], ◌∷◌, ◌++◌, replicate, slice_get, option_and_then, Option, Some, None}
+use Rattle.std.specs.Prelude.{ℕ, zero, suc, ◌+◌, ℤ, pos, List, [], ◌∷◌, replicate, slice_get, option_and_then, Option, Some, None}
 use Rattle.scram_types.specs.Specification.{Parts, place_in}
 use Rattle.scram_types.specs.declared.specification.Conf.{Conf}
 use Rattle.scram_types.specs.declared.specification.Place.{Place}
 use Rattle.scram_types.specs.declared.flights.Row.{Row}
 use Rattle.scram_types.specs.declared.flights.World.{World}
 use Rattle.scram_types.specs.declared.flights.Env.{Env}
-use Rattle.scram_types.specs.declared.orders.Act.{Act}
 use Rattle.scram_types.specs.declared.orders.Act.TheVariants as act
 use Rattle.scram_types.specs.declared.orders.KMode.TheVariants as mode
 use Rattle.frame_model.specs.Power.{area_after}
@@ -39,7 +38,8 @@ row_of spec place f own = record {
   mode = mode.Stable spec.start;
   acts = act.Ran place.mode place.proc ∷ replicate 7 act.Off;
   areas = area_after place.mode.0 own ∷ replicate 7 (replicate 8 (pos 0));
-  world = start_world }
+  world = start_world;
+}
 
 -- n rows from frame f on, the first of which begins with this area
 abbrev pub rows_from : Parts → Place → ℕ → List ℤ → ℕ → List Row

@@ -16,7 +16,16 @@ pub fn run(mode: Mode, own: &Area) -> Area
     ensures { result ≡ area_after mode.0 own.now }
 {
     let charge = next_charge(mode, own);
-    [1, charge, SUPPLY, demand(mode), shed(charge), 0, next_ticks(own), 0]
+    [
+        1,
+        charge,
+        SUPPLY,
+        demand(mode),
+        shed(charge),
+        0,
+        next_ticks(own),
+        0,
+    ]
 }
 
 fn demand(mode: Mode) -> i64

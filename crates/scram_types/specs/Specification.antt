@@ -1,5 +1,5 @@
 -- A specification as plain data, and what every specification keeps.
-use Rattle.std.specs.Prelude.{◌≡◌, ℕ, ℤ, pos, Bool, true, false, ◌==◌, ◌+◌, ◌^◌, ◌<◌, ◌≤◌, ◌≤ℤ◌, nat_lt, List, [], ◌∷◌, length, slice_get, Option, Some, None, IsSome, IfSome, option_and_then, if◌then◌else◌}
+use Rattle.std.specs.Prelude.{◌≡◌, ℕ, ℤ, pos, ◌==◌, ◌&&◌, ◌^◌, ◌<◌, ◌≤◌, ◌≤ℤ◌, nat_lt, List, [], ◌∷◌, length, slice_get, Option, Some, None, IsSome, IfSome, option_and_then, if◌then◌else◌}
 use Rattle.scram_types.specs.Numbers.{minus}
 use Rattle.scram_types.specs.declared.ids.AppId.{AppId}
 use Rattle.scram_types.specs.declared.ids.ConfId.{ConfId}
@@ -41,6 +41,25 @@ place_in conf a = option_and_then (λ (place : Option Place). place) (slice_get 
 abbrev pub mode_in : List ModeSpec → ℕ → Option ModeSpec
 mode_in [] mode = None
 mode_in (listed ∷ modes) mode = if listed.mode.0 == mode then Some listed else mode_in modes mode
+
+-- The bound that is given for a pair of configurations: the first, where there are several.
+abbrev pub bound_in : List Bound → ℕ → ℕ → Option ℕ
+bound_in [] from to = None
+bound_in (bound ∷ bounds) from to =
+    if bound.from.0 == from && bound.to.0 == to then Some bound.frames else bound_in bounds from to
+
+abbrev pub greater_of : Option ℕ → ℕ → ℕ
+greater_of (Some most) frames = if nat_lt most frames then frames else most
+greater_of None frames = frames
+
+-- The greatest bound that is given from a configuration, `greatest` being that of the bounds before.
+abbrev pub greatest_bound_from : Option ℕ → List Bound → ℕ → Option ℕ
+greatest_bound_from greatest [] from = greatest
+greatest_bound_from greatest (bound ∷ bounds) from =
+    greatest_bound_from (if bound.from.0 == from then Some (greater_of greatest bound.frames) else greatest) bounds from
+
+abbrev pub greatest_bound_in : List Bound → ℕ → Option ℕ
+greatest_bound_in bounds from = greatest_bound_from None bounds from
 
 -- How many modes a kind has; they are numbered from 1.
 abbrev pub modes_of_kind : ℕ → ℕ

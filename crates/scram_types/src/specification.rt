@@ -2,6 +2,7 @@
 
 ghost use Rattle.std.specs.Prelude.{◌≡◌, option_map, slice_get};
 ghost use Rattle.std.specs.Option.{option_copied};
+ghost use Rattle.scram_types.specs.Specification.{greater_of};
 
 use crate::flights::Goal;
 use crate::ids::{AppId, ConfId, FactorId, KindId, Mode, ProcId};
@@ -209,6 +210,33 @@ impl AppSpec {
 }
 
 impl Spec {
+    ghost use Rattle.scram_types.specs.Specification.{bound_in, greatest_bound_in};
+
+    /// The bound, in frames, on a reconfiguration from one configuration to another, if one is given.
+    pub fn bound(&self, from: ConfId, to: ConfId) -> Option<u32>
+        ensures { result ≡ bound_in self.now.bounds from.0 to.0 }
+    {
+        for bound in self.bounds.items() {
+            if bound.from.0 == from.0 && bound.to.0 == to.0 {
+                return Some(bound.frames);
+            }
+        }
+        None
+    }
+
+    /// The greatest bound, in frames, that is given from a configuration to any other.
+    pub fn greatest_bound(&self, from: ConfId) -> Option<u32>
+        ensures { result ≡ greatest_bound_in self.now.bounds from.0 }
+    {
+        let mut greatest = None;
+        for bound in self.bounds.items() {
+            if bound.from.0 == from.0 {
+                greatest = Some(greater(greatest, bound.frames));
+            }
+        }
+        greatest
+    }
+
     /// The processor of this number, if there is one.
     pub fn proc(&self, proc: ProcId) -> Option<&Proc>
         ensures { option_copied result ≡ slice_get self.now.procs proc.0 }
@@ -235,5 +263,14 @@ impl Spec {
         ensures { option_copied result ≡ slice_get self.now.factors factor.0 }
     {
         self.factors.items().get(usize::from(factor.0))
+    }
+}
+
+fn greater(greatest: Option<u32>, frames: u32) -> u32
+    ensures { result ≡ greater_of greatest frames }
+{
+    match greatest {
+        Some(most) => { if most < frames { frames } else { most } }
+        None => frames,
     }
 }
