@@ -1,0 +1,5 @@
+pub mod Outside
+pub mod Entries
+pub mod Counts
+pub mod Memory
+pub mod Streams

@@ -1,0 +1,67 @@
+-- Files and a sink in memory: what they hold, and what a call makes of it.
+use Rattle.std.specs.Prelude.{◌≡◌, ℕ, ◌+◌, ◌-◌, ◌<◌, nat_eq, nat_lt, nat_le, Bool, true, false, not, ◌&&◌, ◌||◌, List, [], ◌∷◌, ◌++◌, length, Option, Some, None, Result, Ok, Err, if◌then◌else◌, is_none}
+use Rattle.std.specs.List.{list_any}
+use Rattle.scram_io.specs.Outside.{FileMap, file_at, counted, greatest_count}
+use Rattle.scram_io.specs.declared.files.ReadFault.{ReadFault}
+use Rattle.scram_io.specs.declared.files.ReadFault.TheVariants.{Failed, TooLong}
+
+-- the call of this number is among those that are to fail
+abbrev pub is_listed : List ℕ → ℕ → Bool
+is_listed failing call = list_any (λ (n : ℕ). nat_eq n call) failing
+
+-- files in memory: the map, the numbers of the reads that are to fail, and how many reads and faults there were
+pub record FilesHeld : Type 0 where
+  pub map : FileMap
+  pub failing : List ℕ
+  pub reads : ℕ
+  pub faults : ℕ
+
+-- files that were not read yet
+abbrev pub unread_files : FileMap → List ℕ → FilesHeld
+unread_files map failing = record { map = map; failing = failing; reads = 0; faults = 0 }
+
+-- what a look at a file of at most so many bytes gives
+abbrev pub within_limit : ℕ → Option (List ℕ) → Result (List ℕ) ReadFault
+within_limit limit None = Err Failed
+within_limit limit (Some bytes) = if nat_le (length bytes) limit then Ok bytes else Err TooLong
+
+-- what the next read gives, if memory is there
+abbrev pub read_of : FilesHeld → List ℕ → ℕ → Result (List ℕ) ReadFault
+read_of held name limit = if is_listed held.failing held.reads then Err Failed else within_limit limit (file_at name held.map)
+
+-- the next read fails: its number is listed, or no file has the name
+abbrev pub read_fails : FilesHeld → List ℕ → Bool
+read_fails held name = is_listed held.failing held.reads || is_none (file_at name held.map)
+
+-- the files after a read of this name
+abbrev pub after_read : FilesHeld → List ℕ → FilesHeld
+after_read held name = record held {
+  reads = counted held.reads;
+  faults = if read_fails held name then counted held.faults else held.faults;
+}
+
+-- a sink in memory: the bytes taken, the room for them, the numbers of the puts that are to fail, and how many puts and faults there were
+pub record SinkHeld : Type 0 where
+  pub bytes : List ℕ
+  pub room : ℕ
+  pub failing : List ℕ
+  pub puts : ℕ
+  pub faults : ℕ
+
+-- a sink that has taken nothing
+abbrev pub empty_sink : ℕ → List ℕ → SinkHeld
+empty_sink room failing = record { bytes = []; room = room; failing = failing; puts = 0; faults = 0 }
+
+-- the next put takes these bytes: its number is not listed, and they do not pass the room
+abbrev pub put_takes : SinkHeld → List ℕ → Bool
+put_takes held bytes = not (is_listed held.failing held.puts) && nat_le (length held.bytes + length bytes) held.room
+
+-- the sink after a put of these bytes
+abbrev pub after_put : SinkHeld → List ℕ → SinkHeld
+after_put held bytes =
+    if put_takes held bytes then record held { bytes = held.bytes ++ bytes; puts = counted held.puts }
+    else record held { puts = counted held.puts; faults = counted held.faults }
+
+-- the number of bytes that the sink surely takes, where no put is to fail and the count of faults is below the greatest
+abbrev pub surely_takes : SinkHeld → Option ℕ
+surely_takes held = if nat_eq (length held.failing) 0 && nat_lt held.faults greatest_count then Some (held.room - length held.bytes) else None

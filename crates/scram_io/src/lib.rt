@@ -1,0 +1,23 @@
+// The outside of SCRAM: files that are read and a sink that is written, each with a count of its faults.
+//
+// What this crate promises the layer above: a file that is read is whole, bytes that are put are all
+// appended or, at a fault, a prefix of them is, and no fault passes uncounted.
+#![tactic(auto)]
+
+pub mod files;
+pub(crate) mod listed;
+pub mod mem_files;
+pub mod mem_sink;
+pub mod real_files;
+pub mod real_sink;
+pub mod sink;
+pub(crate) mod streams;
+#[cfg(test)]
+mod tests;
+
+pub use files::{Files, ReadFault};
+pub use mem_files::MemFiles;
+pub use mem_sink::MemSink;
+pub use real_files::RealFiles;
+pub use real_sink::RealSink;
+pub use sink::{Sink, SinkFault};

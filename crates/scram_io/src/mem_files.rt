@@ -1,0 +1,106 @@
+//! Files in memory.
+ghost use Rattle.std.specs.Prelude.{◌≡◌, ◌<◌, ◌≤◌, ℕ, Option, Some, [], IfOk, IfErr, IsOk, IsErrOf, Ok, Err, length, ◌↔◌, if◌then◌else◌};
+ghost use Rattle.std.specs.Option.{option_map};
+ghost use Rattle.scram_io.specs.Outside.{GivesFile, IsLonger, Rose, StaysSteady, counted, file_at, greatest_count};
+ghost use Rattle.scram_io.specs.Memory.{FilesHeld, after_read, read_of, unread_files};
+ghost use Rattle.scram_io.specs.Entries.{entries_of};
+
+use super::files::{Files, ReadFault};
+use super::listed::is_listed_call;
+use std::alloc::Global;
+use std::marker::Model;
+
+/// Files in memory, for tests and for whoever has the bytes already.
+///
+/// Contracts see the map, the numbers of the reads that are to fail, and how many reads and faults
+/// there were. The reads are numbered from 0, each call of `read` being one.
+#[derive(Drop)]
+pub struct MemFiles {
+    files: Vec<(String, Vec<u8>)>,
+    failing: Vec<u32>,
+    reads: u64,
+    faults: u64,
+}
+
+impl Model for MemFiles {
+    ghost Value = { FilesHeld };
+
+    ghost view = { λ s. record { map = entries_of s.files.items; failing = s.failing.items; reads = s.reads; faults = s.faults } };
+}
+
+impl MemFiles {
+    /// The files with these names and bytes; of two entries with one name the first counts. The
+    /// reads whose numbers are in `failing` fail.
+    pub fn new(files: Vec<(String, Vec<u8>)>, failing: Vec<u32>) -> MemFiles
+        ensures { result ≡ unread_files (entries_of files.items) failing.items }
+    {
+        MemFiles {
+            files,
+            failing,
+            reads: 0,
+            faults: 0,
+        }
+    }
+}
+
+impl Files for MemFiles {
+    ghost told = { λ held. Some held.map };
+
+    ghost faults = { λ held. held.faults };
+
+    ghost steady = { λ held. (held.failing ≡ []) × (held.faults < greatest_count) };
+
+    /// Fails exactly where the read's number is listed or no file has the name, and raises the
+    /// count of faults exactly then. Else it is `TooLong` exactly where the file has more bytes than
+    /// `limit`.
+    fn read(&mut self, alloc: Global, name: &str, limit: usize) -> Result<Vec<u8>, ReadFault>
+        ensures count { self.old.faults ≤ self.new.faults }
+        ensures after { self.new ≡ after_read self.old name.now }
+        ensures whole { IfOk result (λ bytes. read_of self.old name.now limit ≡ Ok bytes.items) }
+        ensures failed { IsErrOf result ReadFault.Failed ↔ (read_of self.old name.now limit ≡ Err ReadFault.Failed) }
+        ensures too_long { IsErrOf result ReadFault.TooLong ↔ (read_of self.old name.now limit ≡ Err ReadFault.TooLong) }
+    {
+        let listed = is_listed_call(&self.failing, self.reads);
+        self.reads = self.reads.saturating_add(1);
+        if listed {
+            self.faults = self.faults.saturating_add(1);
+            return Err(ReadFault::Failed);
+        }
+        match find_file(&self.files, name) {
+            None => {
+                self.faults = self.faults.saturating_add(1);
+                Err(ReadFault::Failed)
+            }
+            Some(bytes) => copy_within(alloc, bytes, limit),
+        }
+    }
+
+    ghost steady_below = { λ held steady. steady.1 };
+}
+
+/// The bytes of the first entry of this name.
+fn find_file<'a>(files: &'a [(String, Vec<u8>)], name: &str) -> Option<&'a [u8]>
+    ensures { option_map (λ bytes. bytes.now) result ≡ file_at name.now (entries_of files.now) }
+{
+    for entry in files {
+        if entry.0.as_str() == name {
+            return Some(entry.1.as_slice());
+        }
+    }
+    None
+}
+
+/// A copy of the bytes, where they are no more than the limit.
+fn copy_within(alloc: Global, bytes: &[u8], limit: usize) -> Result<Vec<u8>, ReadFault>
+    ensures ok { IfOk result (λ copy. (copy.items ≡ bytes.now) × (length bytes.now ≤ limit)) }
+    ensures too_long { IsErrOf result ReadFault.TooLong → limit < length bytes.now }
+    ensures no_memory { IsErrOf result ReadFault.NoMemory → length bytes.now ≤ limit }
+    ensures not_failed { ¬ IsErrOf result ReadFault.Failed }
+{
+    if bytes.len() > limit {
+        return Err(ReadFault::TooLong);
+    }
+    let mut copy = Vec::new(alloc);
+    copy.extend_from_slice(bytes)?;
+    Ok(copy)
+}

@@ -1,0 +1,86 @@
+//! A sink in memory.
+ghost use Rattle.std.specs.Prelude.{◌≡◌, ◌<◌, ◌≤◌, ℕ, Option, Some, IfOk, IfSome, OnOk, OnErr, is_ok, length, vec_len, vec_capacity};
+ghost use Rattle.scram_io.specs.Outside.{Rose, TakesSurely, Took, TookPrefix, greatest_count};
+ghost use Rattle.scram_io.specs.Counts.{surely_held_below};
+ghost use Rattle.scram_io.specs.Memory.{SinkHeld, after_put, empty_sink, put_takes, surely_takes};
+
+use super::listed::is_listed_call;
+use super::sink::{Sink, SinkFault};
+use scram_types::NoMemory;
+use std::alloc::Global;
+use std::marker::Model;
+
+/// A sink that keeps the bytes in memory, all of which it took as it was made.
+///
+/// Contracts see the bytes, the room, the numbers of the puts that are to fail, and how many puts
+/// and faults there were. The puts are numbered from 0, each call of `put` being one.
+#[derive(Drop)]
+pub struct MemSink {
+    bytes: Vec<u8>,
+    room: usize,
+    failing: Vec<u32>,
+    puts: u64,
+    faults: u64,
+}
+
+impl Model for MemSink {
+    ghost Value = { SinkHeld };
+
+    ghost view = { λ s. record { bytes = s.bytes.items; room = s.room; failing = s.failing.items; puts = s.puts; faults = s.faults } };
+
+    ghost invariant = { λ s. (s.room ≤ vec_capacity s.bytes) × (vec_len s.bytes ≤ s.room) };
+}
+
+impl MemSink {
+    /// A sink with room for so many bytes. The puts whose numbers are in `failing` fail.
+    pub fn new(alloc: Global, room: usize, failing: Vec<u32>) -> Result<MemSink, NoMemory>
+        ensures { IfOk result (λ sink. sink ≡ empty_sink room failing.items) }
+    {
+        let bytes = Vec::with_capacity(alloc, room)?;
+        Ok(MemSink {
+            bytes,
+            room,
+            failing,
+            puts: 0,
+            faults: 0,
+        })
+    }
+
+    /// The bytes taken, no more than there was room for.
+    pub fn bytes(&self) -> &[u8]
+        ensures shown { result.now ≡ self.now.bytes }
+        ensures within { length result.now ≤ self.now.room }
+    {
+        &self.bytes
+    }
+}
+
+impl Sink for MemSink {
+    ghost taken = { λ held. Some held.bytes };
+
+    ghost faults = { λ held. held.faults };
+
+    ghost surely = { surely_takes };
+
+    /// Fails exactly where the put's number is listed or the bytes would pass the room; then it
+    /// takes nothing and raises the count of faults.
+    fn put(&mut self, bytes: &[u8]) -> Result<(), SinkFault>
+        ensures count { self.old.faults ≤ self.new.faults }
+        ensures surely { TakesSurely (surely_takes self.old) (surely_takes self.new) self.old.faults self.new.faults bytes.now }
+        ensures after { self.new ≡ after_put self.old bytes.now }
+        ensures answer { is_ok result ≡ put_takes self.old bytes.now }
+    {
+        let listed = is_listed_call(&self.failing, self.puts);
+        self.puts = self.puts.saturating_add(1);
+        if listed || bytes.len() > self.room - self.bytes.len() {
+            self.faults = self.faults.saturating_add(1);
+            return Err(SinkFault);
+        }
+        match self.bytes.extend_from_slice(bytes) {
+            Ok(()) => Ok(()),
+            Err(_) => unreachable!(),
+        }
+    }
+
+    ghost surely_below = { surely_held_below };
+}

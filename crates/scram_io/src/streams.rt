@@ -1,0 +1,60 @@
+//! Whole reads of a stream and whole writes to one, whatever the stream is.
+ghost use Rattle.std.specs.Prelude.{◌≡◌, ◌+◌, ◌<◌, ◌≤◌, IfOk, IfSome, IsErrOf, OnErr, OnOk, length};
+ghost use Rattle.std.specs.Io.KnownBytes.{Appends};
+ghost use Rattle.scram_io.specs.Streams.{AppendsPrefix, ConsumesAtMost};
+
+use super::files::ReadFault;
+use super::sink::SinkFault;
+use std::alloc::Global;
+use std::io::{Read, Write};
+
+/// The most bytes that one turn of a read asks for.
+const PIECE: usize = 4096;
+
+/// Reads a stream to its end, where it has at most `limit` bytes.
+///
+/// It asks for at most `limit + 1` bytes in all, takes at least one in each turn, and ends where a
+/// read gives none. It fails where one read fails.
+pub(crate) fn read_whole<I: Read>(
+    alloc: Global,
+    input: &mut I,
+    limit: usize,
+) -> Result<Vec<u8>, ReadFault>
+    ensures whole { IfOk result (λ bytes. IfSome (I.remaining input.old) (λ all. bytes.items ≡ all)) }
+    ensures limited { IfOk result (λ bytes. length bytes.items ≤ limit) }
+    ensures too_long { IsErrOf result ReadFault.TooLong → IfSome (I.remaining input.old) (λ all. limit < length all) }
+    ensures asked { ConsumesAtMost (I.remaining input.old) (I.remaining input.new) (limit + 1) }
+{
+    let mut bytes = Vec::new(alloc);
+    let mut piece = [0u8; PIECE];
+    'turns: loop {
+        if bytes.len() > limit {
+            return Err(ReadFault::TooLong);
+        }
+        let want = PIECE.min((limit - bytes.len()).saturating_add(1));
+        let count = input.read(&mut piece[..want])?;
+        if count == 0 {
+            return Ok(bytes);
+        }
+        bytes.extend_from_slice(&piece[..count])?;
+    }
+}
+
+/// Writes all the bytes to a stream, and has it pass them on. A write that takes nothing fails.
+pub(crate) fn write_whole<O: Write>(output: &mut O, bytes: &[u8]) -> Result<(), SinkFault>
+    ensures whole { OnOk result (Appends (O.contents output.old) (O.contents output.new) bytes.now) }
+    ensures prefix { OnErr result (AppendsPrefix (O.contents output.old) (O.contents output.new) bytes.now) }
+{
+    let mut start = 0;
+    'turns: while start < bytes.len() {
+        match output.write(&bytes[start..]) {
+            Ok(0) => return Err(SinkFault),
+            Ok(count) => start += count,
+            Err(_) => return Err(SinkFault),
+        }
+    }
+    match output.flush() {
+        Ok(()) => Ok(()),
+        Err(_) => Err(SinkFault),
+    }
+}
