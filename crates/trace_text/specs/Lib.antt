@@ -1,0 +1,4 @@
+pub mod Modes
+pub mod Names
+pub mod Text
+pub mod Printing

@@ -1,0 +1,114 @@
+-- The text of a trace: row lines with their application lines, then reports, then the end line.
+use Rattle.std.specs.Prelude.{ℕ, ℤ, ◌+◌, ◌-◌, List, [], ◌∷◌, ◌++◌, length, slice_index_or, Option, Some, None, codes, decimal}
+use Rattle.std.specs.Fmt.{signed_decimal}
+use Rattle.scram_types.specs.Specification.{Parts, bound_in, greatest_bound_in}
+use Rattle.scram_types.specs.declared.ids.ConfId.{ConfId}
+use Rattle.scram_types.specs.declared.specification.AppSpec.{AppSpec}
+use Rattle.scram_types.specs.declared.flights.Report.{Report}
+use Rattle.scram_types.specs.declared.flights.Row.{Row}
+use Rattle.scram_types.specs.declared.flights.World.{World}
+use Rattle.scram_types.specs.declared.orders.Act.{Act}
+use Rattle.scram_types.specs.declared.orders.Act.TheVariants.{Ran, Halting, Held, Preparing, Initialising, Off, Lost}
+use Rattle.scram_types.specs.declared.orders.KMode.{KMode}
+use Rattle.scram_types.specs.declared.orders.KMode.TheVariants.{Stable, Moving}
+use Rattle.trace_text.specs.Modes.{mode_text}
+use Rattle.trace_text.specs.Names.{conf_name, proc_name, conf_or_dash, joined, values_named, names_up}
+
+abbrev pub kernel_mode_text : Parts → KMode → List ℕ
+kernel_mode_text spec (Stable c) = codes "stable " ++ conf_name spec c.0
+kernel_mode_text spec (Moving from halting to since) =
+    codes "moving " ++ conf_name spec from.0 ++ codes " " ++ conf_or_dash spec halting
+    ++ codes " " ++ conf_name spec to.0 ++ codes " " ++ decimal since
+
+abbrev pub values_text : Parts → List ℕ → List ℕ
+values_text spec values = joined (values_named spec.factors 0 values)
+
+abbrev pub up_text : Parts → ℕ → List ℕ
+up_text spec up = joined (names_up spec.procs up)
+
+abbrev pub world_text : World → List ℕ
+world_text world =
+    signed_decimal world.alt ++ codes " " ++ signed_decimal world.climb ++ codes " "
+    ++ signed_decimal world.heading ++ codes " " ++ signed_decimal world.bank
+
+abbrev pub row_line : Parts → Row → List ℕ
+row_line spec row =
+    codes "frame " ++ decimal row.frame ++ codes " " ++ kernel_mode_text spec row.mode
+    ++ codes " env " ++ values_text spec row.env.factors ++ codes " up " ++ up_text spec row.env.up
+    ++ codes " world " ++ world_text row.world ++ codes "\n"
+
+-- frame k of the n frames of a phase, and where
+abbrev pub phase_text : Parts → ℕ → ℕ → ℕ → List ℕ
+phase_text spec k n proc = decimal k ++ codes "/" ++ decimal n ++ codes " " ++ proc_name spec proc
+
+abbrev pub act_text : Parts → ℕ → Act → List ℕ
+act_text spec kind (Ran mode proc) = codes "ran " ++ mode_text kind mode.0 ++ codes " " ++ proc_name spec proc.0
+act_text spec kind (Halting k n proc) = codes "halting " ++ phase_text spec k n proc.0
+act_text spec kind Held = codes "held"
+act_text spec kind (Preparing k n proc) = codes "preparing " ++ phase_text spec k n proc.0
+act_text spec kind (Initialising k n proc) = codes "initialising " ++ phase_text spec k n proc.0
+act_text spec kind Off = codes "off"
+act_text spec kind Lost = codes "lost"
+
+-- each word after a space
+abbrev pub area_text : List ℤ → List ℕ
+area_text [] = []
+area_text (word ∷ words) = codes " " ++ signed_decimal word ++ area_text words
+
+abbrev pub app_line : Parts → AppSpec → Act → List ℤ → List ℕ
+app_line spec app act area =
+    codes "app " ++ app.name ++ codes " " ++ act_text spec app.kind.0 act ++ codes " :" ++ area_text area ++ codes "\n"
+
+-- the line of application a in a row
+abbrev pub app_line_in : Parts → Row → AppSpec → ℕ → List ℕ
+app_line_in spec row app a = app_line spec app (slice_index_or row.acts a Off) (slice_index_or row.areas a [])
+
+-- the lines of the applications from number a on
+abbrev pub app_lines : Parts → Row → List AppSpec → ℕ → List ℕ
+app_lines spec row [] a = []
+app_lines spec row (app ∷ apps) a =
+    app_line_in spec row app a ++ app_lines spec row apps (a + 1)
+
+abbrev pub row_text : Parts → Row → List ℕ
+row_text spec row = row_line spec row ++ app_lines spec row spec.apps 0
+
+abbrev pub rows_text : Parts → List Row → List ℕ
+rows_text spec [] = []
+rows_text spec (row ∷ rows) = row_text spec row ++ rows_text spec rows
+
+-- a bound, or `-` where none is given
+abbrev pub bound_text : Option ℕ → List ℕ
+bound_text None = codes "-"
+bound_text (Some frames) = decimal frames
+
+-- how long it took, and the bound on that
+abbrev pub length_text : Report → Option ℕ → List ℕ
+length_text report bound = codes " took " ++ decimal (report.end - report.begin) ++ codes " of " ++ bound_text bound
+
+-- the target and the end; an unfinished one has neither, and shows the greatest bound from its source
+abbrev pub target_text : Parts → Report → Option ConfId → List ℕ
+target_text spec report None =
+    codes " > - begin " ++ decimal report.begin ++ codes " end -"
+    ++ length_text report (greatest_bound_in spec.bounds report.from.0)
+target_text spec report (Some to) =
+    codes " > " ++ conf_name spec to.0 ++ codes " begin " ++ decimal report.begin ++ codes " end " ++ decimal report.end
+    ++ length_text report (bound_in spec.bounds report.from.0 to.0)
+
+abbrev pub report_line : Parts → Report → List ℕ
+report_line spec report =
+    codes "reconfiguration " ++ conf_name spec report.from.0 ++ target_text spec report report.to ++ codes "\n"
+
+abbrev pub reports_text : Parts → List Report → List ℕ
+reports_text spec [] = []
+reports_text spec (report ∷ reports) = report_line spec report ++ reports_text spec reports
+
+abbrev pub end_line : ℕ → ℕ → List ℕ
+end_line frames reports = codes "end frames " ++ decimal frames ++ codes " reconfigurations " ++ decimal reports ++ codes "\n"
+
+-- what follows the lines of so many rows
+abbrev pub ending_text : Parts → ℕ → List Report → List ℕ
+ending_text spec frames reports = reports_text spec reports ++ end_line frames (length reports)
+
+-- the whole text
+abbrev pub text_of : Parts → List Row → List Report → List ℕ
+text_of spec rows reports = rows_text spec rows ++ ending_text spec (length rows) reports

@@ -1,0 +1,67 @@
+//! One line of text, made without memory.
+
+ghost use Rattle.std.specs.Prelude.{◌≡◌, ◌+◌, ◌≤◌, ◌++◌, [], ℕ, ℤ, length, decimal};
+ghost use Rattle.std.specs.Fmt.{signed_decimal};
+
+use arrayvec::ArrayVec;
+use itoa::Buffer;
+
+/// Bytes of one line, at most 512. No line of a trace is longer.
+#[derive(Drop)]
+pub struct Line {
+    bytes: ArrayVec<u8, 512>,
+}
+
+impl std::marker::Model for Line {
+    ghost use Rattle.std.specs.Prelude.{List, ℕ};
+
+    ghost Value = { List ℕ };
+
+    ghost view = { λ a. a.bytes.items };
+}
+
+impl Line {
+    /// The empty line.
+    pub fn new() -> Line
+        ensures { result ≡ [] }
+    {
+        Line {
+            bytes: ArrayVec::new(),
+        }
+    }
+
+    /// The bytes so far.
+    pub fn as_bytes(&self) -> &[u8]
+        ensures { result.now ≡ self.now }
+    {
+        self.bytes.as_slice()
+    }
+
+    /// Appends a text.
+    pub fn text(&mut self, text: &[u8])
+        requires { length self.old + length text.now ≤ 512 }
+        ensures { self.new ≡ self.old ++ text.now }
+    {
+        let _fits = self.bytes.try_extend_from_slice(text);
+    }
+
+    /// Appends a number in decimal.
+    pub fn number(&mut self, number: u32)
+        requires { length self.old + 10 ≤ 512 }
+        ensures text { self.new ≡ self.old ++ decimal number }
+        ensures short { length self.new ≤ length self.old + 10 }
+    {
+        let mut buffer = Buffer::new();
+        self.text(buffer.format(number).as_bytes());
+    }
+
+    /// Appends a number in decimal, `-` first where it is negative.
+    pub fn signed(&mut self, number: &i64)
+        requires { length self.old + 20 ≤ 512 }
+        ensures text { self.new ≡ self.old ++ signed_decimal number.now }
+        ensures short { length self.new ≤ length self.old + 20 }
+    {
+        let mut buffer = Buffer::new();
+        self.text(buffer.format(*number).as_bytes());
+    }
+}

@@ -1,0 +1,83 @@
+//! The line of a reconfiguration, and the line that ends a trace.
+
+ghost use Rattle.std.specs.Prelude.{◌≡◌, ◌+◌, ◌≤◌, ◌++◌, length};
+ghost use Rattle.trace_text.specs.Text.{bound_text, length_text, target_text, report_line, end_line};
+
+use crate::lines::Line;
+use crate::row_lines::name_of_conf;
+use scram_types::{ConfId, Report, Spec};
+
+/// The line of a reconfiguration: where it led, how long it took, and the bound on it.
+pub fn make_report_line(spec: &Spec, report: &Report) -> Line
+    ensures { result ≡ report_line spec.now report.now }
+{
+    let mut line = Line::new();
+    line.text(b"reconfiguration ");
+    line.text(name_of_conf(spec, report.from).as_bytes());
+    match report.to {
+        Some(to) => add_finished(&mut line, spec, report, to),
+        None => add_unfinished(&mut line, spec, report),
+    }
+    line.text(b"\n");
+    line
+}
+
+/// The line that ends a trace, with the numbers of its rows and of its reports.
+pub fn make_end_line(frames: u32, reports: u32) -> Line
+    ensures { result ≡ end_line frames reports }
+{
+    let mut line = Line::new();
+    line.text(b"end frames ");
+    line.number(frames);
+    line.text(b" reconfigurations ");
+    line.number(reports);
+    line.text(b"\n");
+    line
+}
+
+fn add_finished(line: &mut Line, spec: &Spec, report: &Report, to: ConfId)
+    requires { length line.old + 90 ≤ 512 }
+    ensures text { line.new ≡ line.old ++ target_text spec.now report.now (Some to) }
+    ensures short { length line.new ≤ length line.old + 90 }
+{
+    line.text(b" > ");
+    line.text(name_of_conf(spec, to).as_bytes());
+    line.text(b" begin ");
+    line.number(report.begin);
+    line.text(b" end ");
+    line.number(report.end);
+    add_length(line, report, spec.bound(report.from, to));
+}
+
+fn add_unfinished(line: &mut Line, spec: &Spec, report: &Report)
+    requires { length line.old + 90 ≤ 512 }
+    ensures text { line.new ≡ line.old ++ target_text spec.now report.now None }
+    ensures short { length line.new ≤ length line.old + 90 }
+{
+    line.text(b" > - begin ");
+    line.number(report.begin);
+    line.text(b" end -");
+    add_length(line, report, spec.greatest_bound(report.from));
+}
+
+fn add_length(line: &mut Line, report: &Report, bound: Option<u32>)
+    requires { length line.old + 30 ≤ 512 }
+    ensures text { line.new ≡ line.old ++ length_text report.now bound }
+    ensures short { length line.new ≤ length line.old + 30 }
+{
+    line.text(b" took ");
+    line.number(report.end.saturating_sub(report.begin));
+    line.text(b" of ");
+    add_bound(line, bound);
+}
+
+fn add_bound(line: &mut Line, bound: Option<u32>)
+    requires { length line.old + 10 ≤ 512 }
+    ensures text { line.new ≡ line.old ++ bound_text bound }
+    ensures short { length line.new ≤ length line.old + 10 }
+{
+    match bound {
+        Some(frames) => line.number(frames),
+        None => line.text(b"-"),
+    }
+}
