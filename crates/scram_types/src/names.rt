@@ -69,7 +69,7 @@ fn is_name_text(text: &[u8]) -> bool
 {
     match text {
         [] => false,
-        [first, rest @ ..] => first.is_ascii_lowercase() && rest.len() <= 15 && is_name_end(rest),
+        [first, rest @ ..] => first.is_ascii_lowercase() && is_name_end(rest) && text.len() <= 16,
     }
 }
 
