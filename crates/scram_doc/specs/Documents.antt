@@ -1,0 +1,15 @@
+-- What JSON value some bytes are.
+use Rattle.std.specs.Prelude.{ℕ, List, [], Option, None, Result, if◌then◌else◌}
+use Rattle.std.specs.Str.{is_utf8}
+use Rattle.serde_json.specs.Data.{Data}
+use Rattle.serde_json.specs.Read.{read}
+use Rattle.scram_doc.specs.declared.fault.DocFault.{DocFault}
+use Rattle.scram_doc.specs.declared.rule.TheConstants.{NO_JSON_TEXT}
+use Rattle.scram_doc.specs.Faults.{or_broken}
+
+-- a JSON text is UTF-8, and a value nests at most 127 levels deep
+abbrev pub document : List ℕ → Option Data
+document bytes = if is_utf8 bytes then read bytes else None
+
+abbrev pub parsed : List ℕ → Result Data DocFault
+parsed bytes = or_broken NO_JSON_TEXT [] (document bytes)

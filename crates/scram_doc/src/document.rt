@@ -1,0 +1,23 @@
+ghost use Rattle.serde_json.specs.View.{view};
+ghost use Rattle.scram_doc.specs.Documents.{parsed};
+ghost use Rattle.scram_doc.specs.Faults.{Answers};
+
+use crate::{DocError, DocFault, Path, rule};
+use serde_json::Value;
+use std::alloc::Global;
+
+/// The JSON value of the bytes. Rule 1 is broken where they are no JSON text.
+pub fn parse(alloc: Global, bytes: &[u8]) -> Result<Value, DocError>
+    ensures { Answers (parsed bytes.now) view result }
+{
+    match Value::from_slice(alloc, bytes) {
+        Ok(value) => Ok(value),
+        Err(error) => {
+            if error.is_memory() {
+                Err(DocError::NoMemory)
+            } else {
+                Err(DocError::Fault(DocFault::new(rule::NO_JSON_TEXT, &Path::root())))
+            }
+        }
+    }
+}

@@ -1,0 +1,61 @@
+ghost use Rattle.std.specs.Prelude.{◌≡◌, ◌≤◌, ◌+◌, length, option_map};
+ghost use Rattle.serde_json.specs.Find.{get};
+ghost use Rattle.serde_json.specs.View.{view, members_view};
+ghost use Rattle.serde_json.specs.Events.{members_len};
+ghost use Rattle.scram_doc.specs.Chain.{ok_map};
+ghost use Rattle.scram_doc.specs.Members.{object_at, needed, no_more_than};
+
+use crate::{DocFault, Path, rule};
+use serde_json::{Map, Value};
+
+/// Tests that the value is an object, and else rule 2 is broken at its path.
+pub fn object(v: &Value, at: &Path) -> Result<(), DocFault>
+    ensures { result ≡ object_at at.now (view v.now) }
+{
+    match v.as_object() {
+        Some(_) => Ok(()),
+        None => Err(DocFault::new(rule::NO_OBJECT, at)),
+    }
+}
+
+/// The value of a member. Rule 3 is broken at the member's path where the value at `at` has no such member;
+/// there must be room for that path.
+pub fn need<'a>(v: &'a Value, name: &str, at: &Path) -> Result<&'a Value, DocFault>
+    requires { length at.now + 1 + length name.now ≤ 64 }
+    ensures { ok_map (λ d. view d.now) result ≡ needed name.now at.now (view v.now) }
+{
+    match v.get(name) {
+        Some(member) => Ok(member),
+        None => Err(DocFault::new(rule::MISSING_MEMBER, &at.member(name))),
+    }
+}
+
+/// Tests that an object has at most `count` members, and else rule 4 is broken at its path. A member that the
+/// text repeats counts once. A value that is no object has no members.
+pub fn no_more(v: &Value, count: usize, at: &Path) -> Result<(), DocFault>
+    ensures { result ≡ no_more_than count at.now (view v.now) }
+{
+    match v.as_object() {
+        Some(members) => {
+            if count_members(members) <= count {
+                Ok(())
+            } else {
+                Err(DocFault::new(rule::FURTHER_MEMBER, at))
+            }
+        }
+        None => Ok(()),
+    }
+}
+
+fn count_members(members: &Map<String, Value>) -> usize
+    ensures { result ≡ members_len (members_view members.now.entries) }
+{
+    members.len()
+}
+
+/// The value of a member, or none where the value is no object or lacks it.
+pub fn field<'a>(v: &'a Value, name: &str) -> Option<&'a Value>
+    ensures { option_map (λ d. view d.now) result ≡ get name.now (view v.now) }
+{
+    v.get(name)
+}

@@ -1,0 +1,81 @@
+ghost use Rattle.std.specs.Prelude.{◌≡◌, ◌+◌, ◌≤◌, ◌<◌, [], length};
+ghost use Rattle.scram_doc.specs.Paths.{member_path, item_path, shown};
+
+use arrayvec::ArrayString;
+use itoa::Buffer;
+use std::fmt;
+use std::marker::Model;
+
+/// The path of a value in a document, of at most 64 bytes: `.` and a member name or an index for each level,
+/// and `.` alone for the whole document. A contract sees its bytes, and none for the whole document.
+#[derive(Drop)]
+pub struct Path {
+    text: ArrayString<64>,
+}
+
+impl Model for Path {
+    ghost use Rattle.std.specs.Prelude.{List, ℕ};
+
+    ghost Value = { List ℕ };
+
+    ghost view = { λ p. p.text.bytes };
+}
+
+impl Path {
+    /// The path of the whole document.
+    pub fn root() -> Path
+        ensures { result ≡ [] }
+    {
+        Path {
+            text: ArrayString::new(),
+        }
+    }
+
+    /// Another such path, which takes no memory.
+    pub fn copy(&self) -> Path
+        ensures { result ≡ self.now }
+    {
+        Path { text: self.text }
+    }
+
+    /// The path of a member of the object at this path. There must be room for it.
+    pub fn member(&self, name: &str) -> Path
+        requires { length self.now + 1 + length name.now ≤ 64 }
+        ensures { result ≡ member_path self.now name.now }
+    {
+        let mut text = self.text;
+        text.push_str(".");
+        text.push_str(name);
+        Path { text }
+    }
+
+    /// The path of an element of the list at this path. There must be room for an index of five digits.
+    pub fn item(&self, index: usize) -> Path
+        requires index { index < 100000 }
+        requires room { length self.now + 6 ≤ 64 }
+        ensures path { result ≡ item_path self.now index }
+        ensures short { length result ≤ length self.now + 6 }
+    {
+        let mut buffer = Buffer::new();
+        self.member(buffer.format(index))
+    }
+
+    /// The path as it is shown.
+    pub fn as_str(&self) -> &str
+        ensures { result.now ≡ shown self.now }
+    {
+        let text = self.text.as_str();
+        if text.is_empty() { "." } else { text }
+    }
+}
+
+impl fmt::Display for Path {
+    ghost use Rattle.std.specs.Prelude.{Some};
+    ghost use Rattle.scram_doc.specs.Paths.{shown};
+
+    ghost output = { λ p. Some (shown p) };
+
+    fn fmt<W: fmt::Write>(&self, f: &mut fmt::Formatter<W>) -> fmt::Result {
+        f.pad(self.as_str())
+    }
+}

@@ -1,0 +1,92 @@
+ghost use Rattle.std.specs.Prelude.{◌≡◌, ◌≤◌, ◌<◌, ◌&&◌, int_le, length, IfOk};
+ghost use Rattle.serde_json.specs.View.{view, items_view};
+ghost use Rattle.serde_json.specs.Events.{items_len};
+ghost use Rattle.scram_doc.specs.Chain.{ok_map};
+ghost use Rattle.scram_doc.specs.Values.{list_at, text_at, int_at, whole_at};
+
+use crate::{DocFault, Path, rule};
+use serde_json::Value;
+
+/// The elements of a list. Rule 5 is broken at its path where the value is no list, and rule 6 where it has
+/// fewer than `least` or more than `most` elements.
+pub fn list<'a>(
+    v: &'a Value,
+    least: usize,
+    most: usize,
+    at: &Path,
+) -> Result<&'a [Value], DocFault>
+    ensures items { ok_map (λ ds. items_view ds.now) result ≡ list_at least most at.now (view v.now) }
+    ensures least { IfOk result (λ ds. least ≤ length ds.now) }
+    ensures most { IfOk result (λ ds. length ds.now ≤ most) }
+{
+    match v.as_array() {
+        Some(items) => {
+            let items = items.as_slice();
+            let count = count_items(items);
+            if least <= count && count <= most {
+                Ok(items)
+            } else {
+                Err(DocFault::new(rule::WRONG_LENGTH, at))
+            }
+        }
+        None => Err(DocFault::new(rule::NO_LIST, at)),
+    }
+}
+
+fn count_items(items: &[Value]) -> usize
+    ensures view { result ≡ items_len (items_view items.now) }
+    ensures length { result ≡ length items.now }
+{
+    items.len()
+}
+
+/// The text that the value is, and else rule 7 is broken at its path.
+pub fn text<'a>(v: &'a Value, at: &Path) -> Result<&'a str, DocFault>
+    ensures { ok_map (λ s. s.now) result ≡ text_at at.now (view v.now) }
+{
+    match v.as_str() {
+        Some(text) => Ok(text),
+        None => Err(DocFault::new(rule::NO_TEXT, at)),
+    }
+}
+
+/// The whole number that the value is, from `least` to `most`, and else rule 8 is broken at its path. A number
+/// with a point or an exponent, `-0` and a number past 64 bits are no whole numbers.
+pub fn int_in(v: &Value, least: i64, most: i64, at: &Path) -> Result<i64, DocFault>
+    ensures { result ≡ int_at least most at.now (view v.now) }
+{
+    match v.as_i64() {
+        Some(number) => {
+            if is_within(number, least, most) {
+                Ok(number)
+            } else {
+                Err(DocFault::new(rule::NO_NUMBER_IN_RANGE, at))
+            }
+        }
+        None => Err(DocFault::new(rule::NO_NUMBER_IN_RANGE, at)),
+    }
+}
+
+fn is_within(number: i64, least: i64, most: i64) -> bool
+    ensures { result ≡ (int_le least number && int_le number most) }
+{
+    least <= number && number <= most
+}
+
+/// The whole number that the value is, from `least` on and below `end`, and else rule 8 is broken at its path.
+pub fn whole_in(v: &Value, least: u32, end: u32, at: &Path) -> Result<u32, DocFault>
+    ensures value { result ≡ whole_at least end at.now (view v.now) }
+    ensures least { IfOk result (λ n. least ≤ n) }
+    ensures end { IfOk result (λ n. n < end) }
+{
+    match v.as_u64() {
+        Some(number) => {
+            if least as u64 <= number && number < end as u64 {
+                Ok(number as u32)
+            } else {
+                Err(DocFault::new(rule::NO_NUMBER_IN_RANGE, at))
+            }
+        }
+        None => Err(DocFault::new(rule::NO_NUMBER_IN_RANGE, at)),
+    }
+}
