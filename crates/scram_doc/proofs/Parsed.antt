@@ -5,6 +5,7 @@ use Rattle.std.specs.Str.{is_utf8}
 use Rattle.std.proofs.lemmas.Str.{IsUtf8-from_is_utf8, is_utf8-from_IsUtf8}
 use Rattle.serde_json.specs.Data.{Data}
 use Rattle.serde_json.specs.Read.{read}
+use Rattle.scram_doc.specs.declared.rule.TheConstants.{NO_JSON_TEXT}
 use Rattle.scram_doc.specs.Documents.{document, parsed}
 use Rattle.scram_doc.specs.Faults.{broken}
 
@@ -23,5 +24,5 @@ document-none bytes none = cond-none (is_utf8 bytes) (read bytes) (λ e. none (I
 pub parsed-some : (bytes : List ℕ) (d : Data) → IsUtf8 bytes → read bytes ≡ Some d → parsed bytes ≡ Ok d
 parsed-some bytes d utf8 value = rw (document-some bytes d utf8 value) refl
 
-pub parsed-none : (bytes : List ℕ) → (IsUtf8 bytes → read bytes ≡ None) → parsed bytes ≡ broken 1 []
+pub parsed-none : (bytes : List ℕ) → (IsUtf8 bytes → read bytes ≡ None) → parsed bytes ≡ broken NO_JSON_TEXT []
 parsed-none bytes none = rw (document-none bytes none) refl

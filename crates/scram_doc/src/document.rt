@@ -12,12 +12,7 @@ pub fn parse(alloc: Global, bytes: &[u8]) -> Result<Value, DocError>
 {
     match Value::from_slice(alloc, bytes) {
         Ok(value) => Ok(value),
-        Err(error) => {
-            if error.is_memory() {
-                Err(DocError::NoMemory)
-            } else {
-                Err(DocError::Fault(DocFault::new(rule::NO_JSON_TEXT, &Path::root())))
-            }
-        }
+        Err(error) if error.is_memory() => Err(DocError::NoMemory),
+        Err(_) => Err(DocError::Fault(DocFault::new(rule::NO_JSON_TEXT, &Path::root()))),
     }
 }

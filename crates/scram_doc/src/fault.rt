@@ -3,7 +3,7 @@ ghost use Rattle.std.specs.Prelude.{◌≡◌};
 use crate::Path;
 
 /// A broken rule of a document, with the path of the value where it is broken.
-#[derive(Drop)]
+#[derive(Debug, Drop)]
 pub struct DocFault {
     pub rule: u8,
     pub path: Path,
@@ -22,7 +22,7 @@ impl DocFault {
 }
 
 /// Why a document was not read.
-#[derive(Drop)]
+#[derive(Debug, Drop)]
 pub enum DocError {
     /// The document breaks a rule.
     Fault(DocFault),

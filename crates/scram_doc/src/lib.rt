@@ -1,5 +1,5 @@
-//! JSON documents read by path: each reader gives the value that the document has at its path, or the rule
-//! that is broken there, exactly as the definitions of this crate say.
+//! JSON documents read by path: each call gives the value that stands there, or the number of the broken rule
+//! and the path where it is broken, exactly as its definition says.
 #![tactic(auto)]
 
 mod document;
@@ -16,3 +16,6 @@ pub use members::{field, need, no_more, object};
 pub use name::name_of;
 pub use path::Path;
 pub use values::{int_in, list, text, whole_in};
+
+#[cfg(test)]
+mod tests;

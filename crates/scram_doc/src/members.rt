@@ -12,10 +12,18 @@ use serde_json::{Map, Value};
 pub fn object(v: &Value, at: &Path) -> Result<(), DocFault>
     ensures { result ≡ object_at at.now (view v.now) }
 {
-    match v.as_object() {
-        Some(_) => Ok(()),
-        None => Err(DocFault::new(rule::NO_OBJECT, at)),
+    if v.is_object() {
+        Ok(())
+    } else {
+        Err(DocFault::new(rule::NO_OBJECT, at))
     }
+}
+
+/// The value of a member, or none where the value is no object or lacks it.
+pub fn field<'a>(v: &'a Value, name: &str) -> Option<&'a Value>
+    ensures { option_map (λ d. view d.now) result ≡ get name.now (view v.now) }
+{
+    v.get(name)
 }
 
 /// The value of a member. Rule 3 is broken at the member's path where the value at `at` has no such member;
@@ -24,10 +32,7 @@ pub fn need<'a>(v: &'a Value, name: &str, at: &Path) -> Result<&'a Value, DocFau
     requires { length at.now + 1 + length name.now ≤ 64 }
     ensures { ok_map (λ d. view d.now) result ≡ needed name.now at.now (view v.now) }
 {
-    match v.get(name) {
-        Some(member) => Ok(member),
-        None => Err(DocFault::new(rule::MISSING_MEMBER, &at.member(name))),
-    }
+    field(v, name).ok_or_else(|| DocFault::new(rule::MISSING_MEMBER, &at.member(name)))
 }
 
 /// Tests that an object has at most `count` members, and else rule 4 is broken at its path. A member that the
@@ -36,14 +41,10 @@ pub fn no_more(v: &Value, count: usize, at: &Path) -> Result<(), DocFault>
     ensures { result ≡ no_more_than count at.now (view v.now) }
 {
     match v.as_object() {
-        Some(members) => {
-            if count_members(members) <= count {
-                Ok(())
-            } else {
-                Err(DocFault::new(rule::FURTHER_MEMBER, at))
-            }
+        Some(members) if count_members(members) > count => {
+            Err(DocFault::new(rule::FURTHER_MEMBER, at))
         }
-        None => Ok(()),
+        Some(_) | None => Ok(()),
     }
 }
 
@@ -51,11 +52,4 @@ fn count_members(members: &Map<String, Value>) -> usize
     ensures { result ≡ members_len (members_view members.now.entries) }
 {
     members.len()
-}
-
-/// The value of a member, or none where the value is no object or lacks it.
-pub fn field<'a>(v: &'a Value, name: &str) -> Option<&'a Value>
-    ensures { option_map (λ d. view d.now) result ≡ get name.now (view v.now) }
-{
-    v.get(name)
 }

@@ -1,6 +1,6 @@
 ghost use Rattle.std.specs.Prelude.{◌≡◌, option_map};
 ghost use Rattle.std.specs.List.{list_all};
-ghost use Rattle.scram_doc.specs.Names.{is_name as is_name_text, is_name_byte as is_byte_of_name, named};
+ghost use Rattle.scram_doc.specs.Names.{is_name, is_name_byte, named};
 
 use arrayvec::ArrayString;
 
@@ -9,32 +9,32 @@ use arrayvec::ArrayString;
 pub fn name_of(s: &str) -> Option<ArrayString<16>>
     ensures { option_map (λ n. n.bytes) result ≡ named s.now }
 {
-    if is_name(s.as_bytes()) {
+    if is_well_formed(s.as_bytes()) {
         ArrayString::from(s).ok()
     } else {
         None
     }
 }
 
-fn is_name(text: &[u8]) -> bool
-    ensures { result ≡ is_name_text text.now }
+fn is_well_formed(text: &[u8]) -> bool
+    ensures { result ≡ is_name text.now }
 {
     match text {
         [] => false,
         [first, rest @ ..] => {
-            first.is_ascii_lowercase() && are_name_bytes(rest) && rest.len() <= 15
+            first.is_ascii_lowercase() && are_allowed(rest) && text.len() <= 16
         }
     }
 }
 
-fn are_name_bytes(bytes: &[u8]) -> bool
-    ensures { result ≡ list_all is_byte_of_name bytes.now }
+fn are_allowed(bytes: &[u8]) -> bool
+    ensures { result ≡ list_all is_name_byte bytes.now }
 {
-    bytes.iter().all(|byte| is_name_byte(*byte))
+    bytes.iter().all(|byte| is_allowed(*byte))
 }
 
-fn is_name_byte(byte: u8) -> bool
-    ensures { result ≡ is_byte_of_name byte }
+fn is_allowed(byte: u8) -> bool
+    ensures { result ≡ is_name_byte byte }
 {
     byte.is_ascii_lowercase() || byte.is_ascii_digit() || byte == b'_'
 }

@@ -8,7 +8,7 @@ use std::marker::Model;
 
 /// The path of a value in a document, of at most 64 bytes: `.` and a member name or an index for each level,
 /// and `.` alone for the whole document. A contract sees its bytes, and none for the whole document.
-#[derive(Drop)]
+#[derive(Debug, Drop)]
 pub struct Path {
     text: ArrayString<64>,
 }

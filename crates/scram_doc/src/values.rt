@@ -1,4 +1,4 @@
-ghost use Rattle.std.specs.Prelude.{◌≡◌, ◌≤◌, ◌<◌, ◌&&◌, int_le, length, IfOk};
+ghost use Rattle.std.specs.Prelude.{◌≡◌, ◌≤◌, ◌<◌, ◌&&◌, ◌≤ℤ◌, int_le, length, IfOk};
 ghost use Rattle.serde_json.specs.View.{view, items_view};
 ghost use Rattle.serde_json.specs.Events.{items_len};
 ghost use Rattle.scram_doc.specs.Chain.{ok_map};
@@ -9,27 +9,19 @@ use serde_json::Value;
 
 /// The elements of a list. Rule 5 is broken at its path where the value is no list, and rule 6 where it has
 /// fewer than `least` or more than `most` elements.
-pub fn list<'a>(
-    v: &'a Value,
-    least: usize,
-    most: usize,
-    at: &Path,
-) -> Result<&'a [Value], DocFault>
+pub fn list<'a>(v: &'a Value, least: usize, most: usize, at: &Path) -> Result<&'a [Value], DocFault>
     ensures items { ok_map (λ ds. items_view ds.now) result ≡ list_at least most at.now (view v.now) }
     ensures least { IfOk result (λ ds. least ≤ length ds.now) }
     ensures most { IfOk result (λ ds. length ds.now ≤ most) }
 {
-    match v.as_array() {
-        Some(items) => {
-            let items = items.as_slice();
-            let count = count_items(items);
-            if least <= count && count <= most {
-                Ok(items)
-            } else {
-                Err(DocFault::new(rule::WRONG_LENGTH, at))
-            }
-        }
-        None => Err(DocFault::new(rule::NO_LIST, at)),
+    let Some(items) = v.as_array() else {
+        return Err(DocFault::new(rule::NO_LIST, at));
+    };
+    let count = count_items(items);
+    if least <= count && count <= most {
+        Ok(items)
+    } else {
+        Err(DocFault::new(rule::WRONG_LENGTH, at))
     }
 }
 
@@ -44,26 +36,19 @@ fn count_items(items: &[Value]) -> usize
 pub fn text<'a>(v: &'a Value, at: &Path) -> Result<&'a str, DocFault>
     ensures { ok_map (λ s. s.now) result ≡ text_at at.now (view v.now) }
 {
-    match v.as_str() {
-        Some(text) => Ok(text),
-        None => Err(DocFault::new(rule::NO_TEXT, at)),
-    }
+    v.as_str().ok_or_else(|| DocFault::new(rule::NO_TEXT, at))
 }
 
 /// The whole number that the value is, from `least` to `most`, and else rule 8 is broken at its path. A number
 /// with a point or an exponent, `-0` and a number past 64 bits are no whole numbers.
 pub fn int_in(v: &Value, least: i64, most: i64, at: &Path) -> Result<i64, DocFault>
-    ensures { result ≡ int_at least most at.now (view v.now) }
+    ensures value { result ≡ int_at least most at.now (view v.now) }
+    ensures least { IfOk result (λ n. least ≤ℤ n) }
+    ensures most { IfOk result (λ n. n ≤ℤ most) }
 {
     match v.as_i64() {
-        Some(number) => {
-            if is_within(number, least, most) {
-                Ok(number)
-            } else {
-                Err(DocFault::new(rule::NO_NUMBER_IN_RANGE, at))
-            }
-        }
-        None => Err(DocFault::new(rule::NO_NUMBER_IN_RANGE, at)),
+        Some(number) if is_within(number, least, most) => Ok(number),
+        Some(_) | None => Err(DocFault::new(rule::NO_NUMBER_IN_RANGE, at)),
     }
 }
 
@@ -80,13 +65,7 @@ pub fn whole_in(v: &Value, least: u32, end: u32, at: &Path) -> Result<u32, DocFa
     ensures end { IfOk result (λ n. n < end) }
 {
     match v.as_u64() {
-        Some(number) => {
-            if least as u64 <= number && number < end as u64 {
-                Ok(number as u32)
-            } else {
-                Err(DocFault::new(rule::NO_NUMBER_IN_RANGE, at))
-            }
-        }
-        None => Err(DocFault::new(rule::NO_NUMBER_IN_RANGE, at)),
+        Some(number) if least as u64 <= number && number < end as u64 => Ok(number as u32),
+        Some(_) | None => Err(DocFault::new(rule::NO_NUMBER_IN_RANGE, at)),
     }
 }

@@ -1,4 +1,4 @@
-use Rattle.std.proofs.Common.{◌≤◌, ◌+◌, length, arith}
+use Rattle.std.proofs.Common.{arith}
 use Rattle.scram_doc.proofs.Indexes.{length-decimal_index, length-item_path}
 use Rattle.scram_doc.proofs.path.Path.item.Goals as goal
 
