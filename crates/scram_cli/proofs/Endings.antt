@@ -23,7 +23,8 @@ printed_tells status text old new room left before now printed = record {
   line = text;
   is = inl (refl, refl);
   says = inl (refl, printed.whole);
-  surely = surely_of room left before now text printed.surely }
+  surely = surely_of room left before now text printed.surely;
+}
 
 -- a text that was cut off, with status 4
 pub cut_tells : (status : ℕ) (text : List ℕ) (old new : Option (List ℕ)) (room left : Option ℕ) (before now : ℕ) →
@@ -33,7 +34,8 @@ cut_tells status text old new room left before now cut = record {
   line = text;
   is = inl (refl, refl);
   says = inr (refl, cut.prefix, cut.rose);
-  surely = surely_of room left before now text cut.surely }
+  surely = surely_of room left before now text cut.surely;
+}
 
 -- a fact for whatever there is
 pub for_some : {A : Type 0} (P : A → Type 0) (o : Option A) → ((a : A) → P a) → IfSome o P
@@ -58,7 +60,8 @@ unread_ends answered names name unread reads old new room before now code named 
   text = tells.line;
   outcome = unread_outcome answered names name unread reads tells.told tells.line named rose tells.is;
   says = tells.says;
-  surely = tells.surely }
+  surely = tells.surely;
+}
 
 contains_more : (names : List (List ℕ)) (first name : List ℕ) → Contains names name → Contains (first ∷ names) name
 contains_more names first name (k, below, is) = (suc k, omega (arith, below), is)
@@ -72,7 +75,8 @@ wider_outcome answered names first unread mid reads status text kept (inr (inr i
   name = is.name;
   named = contains_more names first is.name is.named;
   line = is.line;
-  rose = rose_since unread mid reads kept is.rose }))
+  rose = rose_since unread mid reads kept is.rose;
+}))
 
 -- one more name, and a count taken earlier
 pub wider_ends : (answered : Option (ℕ × List ℕ)) (names : List (List ℕ)) (first : List ℕ) (unread mid reads : ℕ)
@@ -84,7 +88,8 @@ wider_ends answered names first unread mid reads old new room before now code ke
   text = ends.text;
   outcome = wider_outcome answered names first unread mid reads ends.status ends.text kept ends.outcome;
   says = ends.says;
-  surely = ends.surely }
+  surely = ends.surely;
+}
 
 spec_answered : (m : FileMap) (name script : List ℕ) (spec : Parts) → Reads spec_of m name (Some spec) →
     script_answer m script (Some spec) ≡ run_answer m (Some (name, script))
@@ -147,7 +152,7 @@ words_ends words names m unread reads old new room before now code form ends =
     let known = form_words words names form in
     let wider = wider_ends (run_answer m (Some names)) (names.0 ∷ names.1 ∷ []) known.0 unread unread reads old new room before now code (omega arith) ends in
     let all : Ends (run_answer m (Some names)) words unread reads old new room before now code =
-        subst (λ (ws : List (List ℕ)). Ends (run_answer m (Some names)) ws unread reads old new room before now code) (sym known.1) wider in
+    subst (λ (ws : List (List ℕ)). Ends (run_answer m (Some names)) ws unread reads old new room before now code) (sym known.1) wider in
     rw form all
 
 -- one fact from another, for whatever there is

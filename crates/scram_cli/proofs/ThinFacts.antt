@@ -7,7 +7,6 @@ use Rattle.scram_cli.specs.declared.specifications.Thin.{Thin}
 use Rattle.scram_cli.specs.ThinSpecification.{IsThin, parts_of, home_of}
 use Rattle.scram_cli.proofs.Ones.{each_none, each_one, differ_none, differ_one}
 
-
 home_listed : (thin : Thin) → IsSome (mode_in (thin.monitor.mode ∷ []) thin.monitor.mode.mode.0)
 home_listed thin = search rules
 
@@ -42,7 +41,8 @@ thin_kept thin facts = record {
     few_needs = omega arith;
     needs = each_none _;
     count = record { enough = omega arith; few = omega arith };
-    modes = each_one _ _ facts.mode });
+    modes = each_one _ _ facts.mode;
+  });
   confs_count = record { enough = omega arith; few = omega arith };
   confs_differ = differ_one _ _;
   confs = each_one _ _ (record { width = refl; places = places_kept thin });
@@ -62,4 +62,5 @@ thin_kept thin facts = record {
   halts = facts.halts;
   changes = facts.changes;
   window_least = facts.window_least;
-  window_most = facts.window_most }
+  window_most = facts.window_most;
+}

@@ -160,7 +160,8 @@ parts_of thin = record {
   policy = thin.policy;
   halts = thin.assumption.halts;
   changes = thin.assumption.changes;
-  window = thin.assumption.window }
+  window = thin.assumption.window;
+}
 
 -- what was read keeps the ranges
 pub record IsThin (thin : Thin) : Type 0 where

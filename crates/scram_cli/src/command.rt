@@ -20,7 +20,12 @@ pub struct Status {
 }
 
 /// Flies the mission that the words name: `run SPEC SCRIPT`, the words after the program's name.
-pub fn scram<R: AllocGlobal, F: Files, K: Sink>(rt: &R, words: &[String], files: &mut F, out: &mut K) -> Status
+pub fn scram<R: AllocGlobal, F: Files, K: Sink>(
+    rt: &R,
+    words: &[String],
+    files: &mut F,
+    out: &mut K,
+) -> Status
     ensures answer { IfSome (F.told files.old) (λ m. Ends (answer (map string_bytes words.now) m) (map string_bytes words.now)
         (F.faults files.old) (F.faults files.new)
         (K.taken out.old) (K.taken out.new) (K.surely out.old) (K.faults out.old) (K.faults out.new) result.code) }
@@ -41,12 +46,21 @@ fn names_of(words: &[String]) -> Option<(&str, &str)>
     ensures { option_map (λ names. (names.0.now, names.1.now)) result ≡ form_of (map string_bytes words.now) }
 {
     match words {
-        [command, specification, script] if command.as_str() == "run" => Some((specification.as_str(), script.as_str())),
+        [command, specification, script] if command.as_str() == "run" => Some((
+            specification.as_str(),
+            script.as_str(),
+        )),
         _ => None,
     }
 }
 
-fn run<F: Files, K: Sink>(alloc: Global, specification: &str, script: &str, files: &mut F, out: &mut K) -> Status
+fn run<F: Files, K: Sink>(
+    alloc: Global,
+    specification: &str,
+    script: &str,
+    files: &mut F,
+    out: &mut K,
+) -> Status
     ensures ends { IfSome (F.told files.old) (λ m. Ends (run_answer m (Some (specification.now, script.now)))
         (specification.now ∷ script.now ∷ []) (F.faults files.old) (F.faults files.new)
         (K.taken out.old) (K.taken out.new) (K.surely out.old) (K.faults out.old) (K.faults out.new) result.code) }
@@ -63,7 +77,13 @@ fn run<F: Files, K: Sink>(alloc: Global, specification: &str, script: &str, file
     }
 }
 
-fn run_script<F: Files, K: Sink>(alloc: Global, spec: &Spec, script: &str, files: &mut F, out: &mut K) -> Status
+fn run_script<F: Files, K: Sink>(
+    alloc: Global,
+    spec: &Spec,
+    script: &str,
+    files: &mut F,
+    out: &mut K,
+) -> Status
     ensures ends { IfSome (F.told files.old) (λ m. Ends (script_answer m script.now (Some spec.now))
         (script.now ∷ []) (F.faults files.old) (F.faults files.new)
         (K.taken out.old) (K.taken out.new) (K.surely out.old) (K.faults out.old) (K.faults out.new) result.code) }

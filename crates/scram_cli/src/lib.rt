@@ -8,5 +8,7 @@ mod loads;
 mod refusals;
 mod scripts;
 mod specifications;
+#[cfg(test)]
+mod tests;
 
 pub use command::{Status, scram};

@@ -7,8 +7,13 @@ ghost use Rattle.scram_types.specs.Specification.{IsGoal, IsModeSpec};
 ghost use Rattle.scram_cli.specs.Documents.{is_text, passes};
 ghost use Rattle.scram_cli.specs.ThinSpecification.{IsThin, assumption_of, conf_of, goal_of, has_no_lists, is_list_of_place, is_mode, is_place, mode_named, mode_of, monitor_of, parts_of, policy_named, policy_of, proc_of, spec_in, thin_in, thin_of, thin_parts};
 
-use crate::documents::{is_empty_member, is_object_of, is_spelled, only_element, read_document, read_name, read_whole};
-use scram_types::{AppSpec, Conf, ConfId, Goal, KindId, List, Mode, ModeSpec, Name, NoMemory, Place, Policy, Proc, ProcId, Spec};
+use crate::documents::{
+    is_empty_member, is_object_of, is_spelled, only_element, read_document, read_name, read_whole,
+};
+use scram_types::{
+    AppSpec, Conf, ConfId, Goal, KindId, List, Mode, ModeSpec, Name, NoMemory, Place, Policy, Proc,
+    ProcId, Spec,
+};
 use serde_json::Value;
 use std::alloc::Global;
 
@@ -64,7 +69,11 @@ fn read_policy(value: &Value, version: u32) -> Option<Policy>
     ensures { result ≡ policy_of version (view value.now) }
 {
     if version == 1 {
-        if is_object_of(value, 12) { Some(Policy::Retarget) } else { None }
+        if is_object_of(value, 12) {
+            Some(Policy::Retarget)
+        } else {
+            None
+        }
     } else if is_object_of(value, 13) {
         name_policy(value.get("policy")?)
     } else {
@@ -96,7 +105,14 @@ fn read_thin_under(value: &Value, policy: Policy) -> Option<Thin>
     }
     let goal = read_goal(value.get("goal")?)?;
     let assumption = read_assumption(value.get("assumption")?)?;
-    Some(Thin { proc, monitor, conf, goal, policy, assumption })
+    Some(Thin {
+        proc,
+        monitor,
+        conf,
+        goal,
+        policy,
+        assumption,
+    })
 }
 
 fn is_start(value: &Value, conf: &Name) -> bool
