@@ -4,6 +4,7 @@
 #![tactic(auto)]
 
 pub mod app;
+pub mod autopilot_law;
 pub mod bounds;
 pub mod calls;
 pub mod comparisons;
