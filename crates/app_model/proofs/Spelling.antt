@@ -1,9 +1,9 @@
 -- Names and numbers lead to one another, where no name stands twice in a table.
-use Rattle.std.proofs.Common.{◌≡◌, ◌∙◌, refl, ap, subst, ℕ, zero, suc, ◌<◌, ◌+◌, Bool, true, false, ◌&&◌, ◌||◌, not, if◌then◌else◌, List, [], ◌∷◌, Option, Some, None, slice_get, arith}
+use Rattle.std.proofs.Common.{◌≡◌, ◌∙◌, refl, ap, subst, ℕ, zero, suc, ◌+◌, Bool, true, false, ◌&&◌, ◌||◌, not, if◌then◌else◌, List, [], ◌∷◌, Option, Some, None, arith}
 use Rattle.std.specs.Str.{bytes_eq}
 use Rattle.std.proofs.Math.Bool.{or-true}
 use Rattle.std.proofs.lemmas.Slice.Eq.{bytes_eq-Decides}
-use Rattle.app_model.specs.Names.{kind_names, mode_names, variable_names, name_at, is_spelled, number_from, number_of, NamesAgree, AllNamesAgree}
+use Rattle.app_model.specs.Names.{kind_names, mode_names, variable_names, name_at, is_spelled, number_from, NamesAgree, AllNamesAgree}
 use Rattle.app_model.proofs.Within.{each_kind}
 
 -- a text stands in a table

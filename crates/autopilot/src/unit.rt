@@ -46,7 +46,7 @@ impl App for Autopilot {
 mod tests {
     use super::Autopilot;
     use app_model::kinds::autopilot::{HOLD, KIND, NAVIGATE};
-    use app_model::{start_area, App, Seen};
+    use app_model::{App, Seen, start_area};
     use scram_types::{Area, Goal, KindId, Mode, Order, World};
 
     fn seen_in(mode: u8, own: Area, from: (i64, i64), to: (i64, i64)) -> Seen {
@@ -104,7 +104,11 @@ mod tests {
                 seen_in(NAVIGATE, start, (5_000, 0), (5_000, 1_800)),
                 [1, 0, -150, 5_000, 1_800, 0, 1, 0],
             ),
-            (Order::Run, seen_in(NAVIGATE, start, level, (5_200, 900)), climbing),
+            (
+                Order::Run,
+                seen_in(NAVIGATE, start, level, (5_200, 900)),
+                climbing,
+            ),
             (
                 Order::Run,
                 seen_in(NAVIGATE, climbing, level, (5_200, 900)),

@@ -6,12 +6,12 @@ ghost use Rattle.scram_types.specs.Numbers.{IsWord};
 ghost use Rattle.app_model.specs.FlightControl.{command, closer, elevator_after, aileron_after, flight_control_ran};
 ghost use Rattle.app_model.specs.Law.{law};
 
+use app_model::Seen;
+use app_model::kinds::autopilot;
 use app_model::kinds::every_kind::STATUS;
 use app_model::kinds::flight_control::{AILERON, AUGMENTED, ELEVATOR, KIND};
-use app_model::kinds::autopilot;
 use app_model::orders::area_after;
 use app_model::reads::{next_ticks, read_lead, read_own};
-use app_model::Seen;
 use scram_types::numbers::{gap, sum};
 use scram_types::ranges::{clamped_in, make_range};
 use scram_types::{Area, Order};

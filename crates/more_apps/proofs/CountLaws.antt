@@ -1,5 +1,5 @@
 -- The data link loses no message uncounted.
-use Rattle.std.proofs.Common.{◌≡◌, ◌+ℤ◌, ◌-ℤ◌, ◌<ℤ◌, ℤ, pos, arith}
+use Rattle.std.proofs.Common.{◌≡◌, ◌+ℤ◌, ◌<ℤ◌, pos, arith}
 use Rattle.std.proofs.lemmas.Int.{ints, clamps}
 use Rattle.scram_types.specs.Numbers.{word}
 use Rattle.app_model.specs.declared.seen.Seen.{Seen}

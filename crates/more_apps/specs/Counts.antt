@@ -16,4 +16,4 @@ after_run seen i = word (law 4 Run seen) i
 abbrev pub KeepsCount : Type 0
 KeepsCount = (seen : Seen) → after_run seen 2 <ℤ pos 1000000 → after_run seen 4 <ℤ pos 1000000
     → (after_run seen 2 +ℤ after_run seen 1) +ℤ after_run seen 4
-      ≡ ((own_word 4 seen 2 +ℤ own_word 4 seen 1) +ℤ own_word 4 seen 4) +ℤ fresh seen
+    ≡ ((own_word 4 seen 2 +ℤ own_word 4 seen 1) +ℤ own_word 4 seen 4) +ℤ fresh seen

@@ -45,11 +45,7 @@ fn next_rate(seen: &Seen) -> i64
     ensures low { pos 1 ≤ℤ result }
     ensures high { result ≤ℤ pos 4 }
 {
-    if seen.mode.0 == FAST {
-        4
-    } else {
-        1
-    }
+    if seen.mode.0 == FAST { 4 } else { 1 }
 }
 
 fn all_waiting(seen: &Seen) -> i64
@@ -151,8 +147,7 @@ pub fn data_link_area(order: Order, seen: &Seen) -> Area
 /// dropped has grown by the fresh messages, one for each kind whose application runs.
 pub fn data_link_keeps_count()
     ensures { KeepsCount }
-{
-}
+{}
 
 /// A data link: it sends a message for each application that runs. What it answers is the law of kind
 /// 4; it gives its last answer again where the call is the same.

@@ -5,7 +5,6 @@
 pub mod data_link;
 pub mod navigator;
 pub mod plain_autopilot;
-
 #[cfg(test)]
 mod tests;
 

@@ -2,7 +2,7 @@
 
 use crate::{Datalink, Navigator, PlainAutopilot};
 use app_model::kinds::{autopilot, data_link, navigator};
-use app_model::{start_area, App, Seen};
+use app_model::{App, Seen, start_area};
 use scram_types::{Area, Goal, KindId, Mode, Order, World};
 
 fn seen_in(mode: u8, own: Area, statuses: [i64; 4], from: (i64, i64), to: (i64, i64)) -> Seen {
@@ -46,13 +46,25 @@ fn answers(app: &mut dyn App, order: Order, seen: &Seen) -> (Area, Area, Area) {
 #[test]
 fn navigator_runs_as_was_worked_out(rt: HostRuntime) {
     let start = start_area(KindId(navigator::KIND));
-    let off_course = seen_in(navigator::ROUTE, start, [0; 4], (5_000, 3_500), (5_050, 100));
+    let off_course = seen_in(
+        navigator::ROUTE,
+        start,
+        [0; 4],
+        (5_000, 3_500),
+        (5_050, 100),
+    );
     let on_course = seen_in(navigator::ROUTE, start, [0; 4], (5_000, 900), (5_000, 900));
     let mut app = Navigator::new();
     let want = [1, 200, 50, 0, 0, 0, 1, 0];
-    assert_eq!(rt; answers(&mut app, Order::Run, &off_course), (want, want, want));
+    assert_eq!(rt;
+        answers(&mut app, Order::Run, &off_course),
+        (want, want, want)
+    );
     let want = [1, 0, 0, 1, 0, 0, 1, 0];
-    assert_eq!(rt; answers(&mut app, Order::Run, &on_course), (want, want, want));
+    assert_eq!(rt;
+        answers(&mut app, Order::Run, &on_course),
+        (want, want, want)
+    );
 }
 
 #[test]

@@ -6,10 +6,10 @@ ghost use Rattle.scram_types.specs.Numbers.{IsWord};
 ghost use Rattle.app_model.specs.PowerMonitor.{alternator, supply_after, demand_after, charge_after, shed_after, power_monitor_ran};
 ghost use Rattle.app_model.specs.Law.{law};
 
+use app_model::Seen;
 use app_model::kinds::power_monitor::{CHARGE, KIND, NORMAL, SAVER};
 use app_model::orders::area_after;
 use app_model::reads::{next_ticks, read_own};
-use app_model::Seen;
 use scram_types::ranges::{clamped_in, make_range};
 use scram_types::{Area, Order};
 
@@ -18,11 +18,7 @@ fn alternator_gives(value: u8) -> i64
     ensures low { pos 0 ≤ℤ result }
     ensures high { result ≤ℤ pos 60 }
 {
-    if value == 0 {
-        60
-    } else {
-        0
-    }
+    if value == 0 { 60 } else { 0 }
 }
 
 fn next_supply(seen: &Seen) -> i64
@@ -67,11 +63,7 @@ fn next_charge(seen: &Seen) -> i64
 fn next_shed(seen: &Seen) -> i64
     ensures { result ≡ shed_after seen.now }
 {
-    if next_charge(seen) < 2_000 {
-        1
-    } else {
-        0
-    }
+    if next_charge(seen) < 2_000 { 1 } else { 0 }
 }
 
 fn run(seen: &Seen) -> Area
