@@ -1,0 +1,7 @@
+pub mod Equality
+pub mod Within
+pub mod Tables
+pub mod Runs
+pub mod AreaLaws
+pub mod Fitting
+pub mod Spelling
