@@ -3,6 +3,7 @@
 #![tactic(auto)]
 
 pub mod environments;
+pub mod laws;
 pub mod times;
 
 pub use environments::env_at;
