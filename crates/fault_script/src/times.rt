@@ -1,0 +1,180 @@
+//! What a script says of a processor and of a frame.
+
+ghost use Rattle.std.specs.Prelude.{◌≡◌};
+ghost use Rattle.std.specs.List.{list_all};
+ghost use Rattle.fault_script.specs.Times.{factors_at, halt_in, halt_of, is_over, is_up, restart_of, restarted, value_after};
+
+use scram_types::{HaltAt, ProcId, Script};
+
+/// The values of the six factors in a frame, each by its number: that of the factor's last change up to
+/// the frame, and 0 without one. It takes no memory.
+pub fn factors_at(script: &Script, frame: u32) -> [u8; 6]
+    ensures { result ≡ factors_at script.now frame }
+{
+    [
+        value_at(script, 0, frame),
+        value_at(script, 1, frame),
+        value_at(script, 2, frame),
+        value_at(script, 3, frame),
+        value_at(script, 4, frame),
+        value_at(script, 5, frame),
+    ]
+}
+
+fn value_at(script: &Script, factor: u8, frame: u32) -> u8
+    ensures { result ≡ value_after script.now.changes factor frame 0 }
+{
+    let mut value = 0;
+    for change in script.changes.items() {
+        if change.factor.0 == factor && change.frame <= frame {
+            value = change.value;
+        }
+    }
+    value
+}
+
+/// The first halt of a processor, or `None` where the script has no halt of it. It takes no memory.
+pub fn halt_of(script: &Script, proc: ProcId) -> Option<HaltAt>
+    ensures { result ≡ halt_of script.now proc.0 }
+{
+    for halt in script.halts.items() {
+        if halt.proc.0 == proc.0 {
+            return Some(*halt);
+        }
+    }
+    None
+}
+
+/// The halt of a processor in a frame, or `None` where it has none there. It takes no memory.
+pub fn halt_in(script: &Script, proc: ProcId, frame: u32) -> Option<HaltAt>
+    ensures { result ≡ halt_in script.now proc.0 frame }
+{
+    for halt in script.halts.items() {
+        if halt.proc.0 == proc.0 && halt.frame == frame {
+            return Some(*halt);
+        }
+    }
+    None
+}
+
+/// The frame in which a processor restarts, or `None` where it never does. It takes no memory.
+pub fn restart_of(script: &Script, proc: ProcId) -> Option<u32>
+    ensures { result ≡ restart_of script.now proc.0 }
+{
+    for restart in script.restarts.items() {
+        if restart.proc.0 == proc.0 {
+            return Some(restart.frame);
+        }
+    }
+    None
+}
+
+/// Whether a processor is up in a frame: it has no halt in an earlier frame, or it has restarted since
+/// the latest such halt and up to this frame. It takes no memory.
+pub fn up_at(script: &Script, proc: ProcId, frame: u32) -> bool
+    ensures { result ≡ is_up script.now proc.0 frame }
+{
+    are_halts_over(script, proc, frame)
+}
+
+// Whether a processor has restarted since each of its halts in a frame before this one.
+fn are_halts_over(script: &Script, proc: ProcId, frame: u32) -> bool
+    ensures { result ≡ list_all (is_over script.now proc.0 frame) script.now.halts }
+{
+    for halt in script.halts.items() {
+        if halt.proc.0 == proc.0
+            && halt.frame < frame
+            && !has_restarted(script, proc, halt.frame, frame)
+        {
+            return false;
+        }
+    }
+    true
+}
+
+// Whether a processor restarts after frame `after` and in a frame up to `frame`.
+fn has_restarted(script: &Script, proc: ProcId, after: u32, frame: u32) -> bool
+    ensures { result ≡ restarted script.now proc.0 after frame }
+{
+    for restart in script.restarts.items() {
+        if restart.proc.0 == proc.0 && after < restart.frame && restart.frame <= frame {
+            return true;
+        }
+    }
+    false
+}
+
+#[cfg(test)]
+mod tests {
+    use super::*;
+    use scram_types::{Change, FactorId, List, RestartAt};
+    use std::alloc::{AllocError, Global};
+
+    // Factor 1 changes in frames 3 and 5. Processor 0 halts in 4 and stays down; processor 1 halts in 2,
+    // restarts in 6 and halts again in that very frame.
+    fn script(alloc: Global) -> Result<Script, AllocError> {
+        let change = |frame, value| Change {
+            frame,
+            factor: FactorId(1),
+            value,
+        };
+        let halt = |proc, frame, step| HaltAt {
+            proc: ProcId(proc),
+            frame,
+            step,
+        };
+        let changes = Vec::from_slice(alloc, &[change(3, 2), change(5, 1)])?;
+        let halts = Vec::from_slice(alloc, &[halt(1, 2, 0), halt(0, 4, 9), halt(1, 6, 3)])?;
+        let restarts = Vec::from_slice(
+            alloc,
+            &[RestartAt {
+                proc: ProcId(1),
+                frame: 6,
+            }],
+        )?;
+        Ok(Script {
+            frames: 10,
+            changes: List::of(changes),
+            halts: List::of(halts),
+            restarts: List::of(restarts),
+        })
+    }
+
+    #[test]
+    fn tells_values_and_who_is_up(rt: HostRuntime) -> Result<(), AllocError> {
+        let script = script(rt.alloc())?;
+        for (frame, value, up0, up1) in [
+            (0, 0, true, true),
+            (2, 0, true, true),
+            (3, 2, true, false),
+            (4, 2, true, false),
+            (5, 1, false, false),
+            (6, 1, false, true),
+            (7, 1, false, false),
+        ] {
+            assert_eq!(rt;
+                factors_at(&script, frame),
+                [0, value, 0, 0, 0, 0],
+                "in frame {frame}"
+            );
+            assert_eq!(rt; up_at(&script, ProcId(0), frame), up0, "in frame {frame}");
+            assert_eq!(rt; up_at(&script, ProcId(1), frame), up1, "in frame {frame}");
+        }
+        Ok(())
+    }
+
+    #[test]
+    fn finds_halts_and_restarts(rt: HostRuntime) -> Result<(), AllocError> {
+        let script = script(rt.alloc())?;
+        assert_eq!(rt; halt_of(&script, ProcId(1)).map(|halt| halt.frame), Some(2));
+        assert_eq!(rt; halt_of(&script, ProcId(2)).is_none(), true);
+        assert_eq!(rt;
+            halt_in(&script, ProcId(1), 6).map(|halt| halt.step),
+            Some(3)
+        );
+        assert_eq!(rt; halt_in(&script, ProcId(1), 4).is_none(), true);
+        assert_eq!(rt; restart_of(&script, ProcId(1)), Some(6));
+        assert_eq!(rt; restart_of(&script, ProcId(0)), None);
+        Ok(())
+    }
+}
