@@ -4,6 +4,7 @@ ghost use Rattle.std.specs.Prelude.{◌≡◌, ◌≤◌, [], length, option_map
 ghost use Rattle.serde_json.specs.View.{items_view, view};
 ghost use Rattle.scram_doc.specs.Chain.{ok_map};
 ghost use Rattle.scram_doc.specs.Faults.{Answers};
+ghost use Rattle.fault_script.specs.Fits.{Fits};
 ghost use Rattle.fault_script.specs.Reading.{change_at, changes_at, changes_from, factor_named_at, frames_in, halt_at, halts_at, halts_from, halts_kept, kept, make_members, members_in, proc_at, restart_at, restarts_at, restarts_from, restarts_needed, scram_at, script_in, script_of, script_values, value_named_at};
 
 use crate::find::{find_factor, find_proc, find_value};
@@ -314,7 +315,8 @@ fn read_values(
 }
 
 fn read_document(alloc: Global, spec: &Spec, v: &Value) -> Result<Script, ScriptError>
-    ensures { Answers (script_in spec.now (view v.now)) (λ script. script) result }
+    ensures script { Answers (script_in spec.now (view v.now)) (λ script. script) result }
+    ensures fits { IfOk result (λ script. Fits spec.now script) }
 {
     let version = version_of(v);
     let members = find_members(version, v).map_err(ScriptError::Fault)?;
@@ -327,7 +329,8 @@ pub const MAX_SCRIPT_BYTES: usize = 2_097_152;
 /// The script that a document is, for a specification, or the first rule that it breaks, with the path where it
 /// is broken.
 pub fn read_script(alloc: Global, bytes: &[u8], spec: &Spec) -> Result<Script, ScriptError>
-    ensures { Answers (script_of spec.now bytes.now) (λ script. script) result }
+    ensures script { Answers (script_of spec.now bytes.now) (λ script. script) result }
+    ensures fits { IfOk result (λ script. Fits spec.now script) }
 {
     if bytes.len() > MAX_SCRIPT_BYTES {
         return Err(ScriptError::Fault(ScriptFault::new(rule::TOO_LONG, &Path::root())));

@@ -1,0 +1,4 @@
+pub mod Alternation
+pub mod Ends
+pub mod Fitting
+pub mod Taken
