@@ -1,4 +1,5 @@
 pub mod Alternation
 pub mod Ends
 pub mod Fitting
+pub mod Plain
 pub mod Taken
