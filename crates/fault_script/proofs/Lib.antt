@@ -1,5 +1,9 @@
 pub mod Alternation
+pub mod Back
 pub mod Ends
 pub mod Fitting
+pub mod Found
 pub mod Plain
+pub mod SecondHalts
+pub mod Splits
 pub mod Taken

@@ -128,7 +128,10 @@ fn make_script(alloc: Global, spec: &Spec, script: &Script) -> Result<Value, All
 pub fn write_script(alloc: Global, script: &Script, spec: &Spec) -> Result<Vec<u8>, NoMemory>
     ensures text { IfOk result (λ text. text.items ≡ script_text spec.now script.now) }
     ensures value { IfOk result (λ text. read text.items ≡ Some (script_data spec.now script.now)) }
+    ensures back { IfOk result (λ text. Fits spec.now script.now → length text.items ≤ 2097152 → script_of spec.now text.items ≡ Ok script.now) }
 {
+    // Whoever uses a field of a specification knows that it keeps its invariant.
+    let _ = &spec.procs;
     let Ok(value) = make_script(alloc, spec, script) else {
         return Err(NoMemory);
     };
