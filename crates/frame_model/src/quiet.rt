@@ -1,6 +1,6 @@
 //! The rows of a quiet mission.
 
-ghost use Rattle.std.specs.Prelude.{◌≡◌, IfOk};
+ghost use Rattle.std.specs.Prelude.{◌≡◌, ◌≤◌, IfOk, length};
 ghost use Rattle.frame_model.specs.Power.{area_after};
 ghost use Rattle.frame_model.specs.Quiet.{home, row_of, rows_of, rows_at, rows_from, start_area};
 
@@ -25,7 +25,9 @@ const START_AREA: Area = [4, 8000, 0, 0, 0, 0, 0, 0];
 /// The rows of a quiet mission, which has one power monitor on one processor, no factor and no fault:
 /// the start configuration runs in each frame of the script. The only refusal is want of memory.
 pub fn rows(alloc: Global, spec: &Spec, script: &Script) -> Result<Vec<Row>, NoMemory>
-    ensures { IfOk result (λ rows. rows.items ≡ rows_of spec.now script.now.frames) }
+    ensures rows { IfOk result (λ rows. rows.items ≡ rows_of spec.now script.now.frames) }
+    ensures count { IfOk result (λ rows. length rows.items ≤ script.now.frames) }
+    ensures few { IfOk result (λ rows. length rows.items ≤ 20000) }
 {
     match start_place(spec) {
         Some(place) => rows_in(alloc, spec, place, script.frames),
@@ -40,7 +42,8 @@ fn start_place(spec: &Spec) -> Option<Place>
 }
 
 fn rows_in(alloc: Global, spec: &Spec, place: Place, frames: u32) -> Result<Vec<Row>, NoMemory>
-    ensures { IfOk result (λ rows. rows.items ≡ rows_from spec.now place 0 start_area frames) }
+    ensures rows { IfOk result (λ rows. rows.items ≡ rows_from spec.now place 0 start_area frames) }
+    ensures count { IfOk result (λ rows. length rows.items ≤ frames) }
 {
     let mut rows = Vec::new(alloc);
     let mut own = START_AREA;

@@ -1,7 +1,7 @@
 -- Puts one after another: what they took together, when a count rose, and what was surely taken.
 -- Whoever prints by several puts proves the clauses of `put` for all its bytes by these.
-use Rattle.std.proofs.Common.{◌≡◌, ℕ, ◌+◌, ◌-◌, ◌^◌, ◌<◌, ◌≤◌, min, List, [], ◌++◌, length, Option, Some, None, Result, Ok, Err, OnOk, OnErr, IfSome, option_map, append_assoc, append-nil, length-append, arith, sym, ◌∙◌, ap, refl}
-use Rattle.scram_io.specs.Outside.{Rose, Unrisen, TakesSurely, Took, TookPrefix, greatest_count, counted}
+use Rattle.std.proofs.Common.{◌≡◌, ℕ, ◌+◌, ◌-◌, ◌<◌, ◌≤◌, List, [], ◌++◌, length, Option, Some, None, Result, Ok, Err, OnOk, OnErr, IfSome, option_map, append_assoc, append-nil, length-append, arith, sym, ◌∙◌, ap, refl}
+use Rattle.scram_io.specs.Outside.{Rose, Unrisen, TakesSurely, Took, TookPrefix, greatest_count}
 
 -- no put: nothing is taken
 pub took_none : (old : Option (List ℕ)) → Took old old []

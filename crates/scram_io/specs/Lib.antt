@@ -1,5 +1,4 @@
 pub mod Outside
 pub mod Entries
-pub mod Counts
 pub mod Memory
 pub mod Streams

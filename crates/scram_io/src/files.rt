@@ -1,6 +1,8 @@
 //! The reading side of the outside.
 ghost use Rattle.std.specs.Prelude.{◌≡◌, ◌≢◌, ◌<◌, ◌≤◌, ℕ, Option, IfOk, IsErrOf, length};
-ghost use Rattle.scram_io.specs.declared.files.ReadFault.TheVariants.{NoMemory, TooLong};
+ghost use Rattle.scram_io.specs.declared.files.ReadFault.TheVariants.{Failed, NoMemory};
+ghost use Rattle.std.specs.IoError.{error_kind};
+ghost use Rattle.std.specs.declared.io.ErrorKind.TheVariants.{OutOfMemory};
 ghost use Rattle.scram_io.specs.Outside.{FileMap, GivesFile, IsLonger, Rose, StaysSteady, greatest_count};
 
 use std::alloc::{AllocError, Global};
@@ -8,7 +10,7 @@ use std::io;
 use std::io::ErrorKind;
 use thiserror::Error;
 
-/// Why a file was not read.
+/// Why a file was not read. Want of memory is merged with no other.
 #[derive(Clone, Copy, Debug, PartialEq, Eq, Error)]
 pub enum ReadFault {
     /// The file could not be read. The count of faults rose.
@@ -17,13 +19,13 @@ pub enum ReadFault {
     /// The file has more bytes than the limit.
     #[error("the file is longer than the limit")]
     TooLong,
-    /// Memory was wanting. This can come at any read.
+    /// No memory was to be had. This can come wherever the read would else give the bytes.
     #[error("memory was wanting")]
     NoMemory,
 }
 
 impl From<io::Error> for ReadFault {
-    ghost from_gives = { λ _ fault. fault ≢ TooLong };
+    ghost from_gives = { λ error fault. (error_kind error ≡ OutOfMemory → fault ≡ NoMemory) × (error_kind error ≢ OutOfMemory → fault ≡ Failed) };
 
     fn from(error: io::Error) -> ReadFault {
         match error.kind() {

@@ -1,7 +1,6 @@
-// The outside of SCRAM: files that are read and a sink that is written, each with a count of its faults.
-//
-// What this crate promises the layer above: a file that is read is whole, bytes that are put are all
-// appended or, at a fault, a prefix of them is, and no fault passes uncounted.
+//! The outside of SCRAM: files that are read and a sink that is written, each with a count of its
+//! faults. A file that is read is whole, bytes that are put are all taken or, at a fault, a prefix of
+//! them, and no fault passes uncounted.
 #![tactic(auto)]
 
 pub mod files;

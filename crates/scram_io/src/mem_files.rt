@@ -1,7 +1,7 @@
 //! Files in memory.
-ghost use Rattle.std.specs.Prelude.{◌≡◌, ◌<◌, ◌≤◌, ℕ, Option, Some, [], IfOk, IfErr, IsOk, IsErrOf, Ok, Err, length, ◌↔◌, if◌then◌else◌};
+ghost use Rattle.std.specs.Prelude.{◌≡◌, ◌<◌, ◌≤◌, ◌↔◌, [], Some, IfOk, IsErrOf, length};
 ghost use Rattle.std.specs.Option.{option_map};
-ghost use Rattle.scram_io.specs.Outside.{GivesFile, IsLonger, Rose, StaysSteady, counted, file_at, greatest_count};
+ghost use Rattle.scram_io.specs.Outside.{file_at, greatest_count};
 ghost use Rattle.scram_io.specs.Memory.{FilesHeld, after_read, read_of, unread_files};
 ghost use Rattle.scram_io.specs.Entries.{entries_of};
 
@@ -13,7 +13,8 @@ use std::marker::Model;
 /// Files in memory, for tests and for whoever has the bytes already.
 ///
 /// Contracts see the map, the numbers of the reads that are to fail, and how many reads and faults
-/// there were. The reads are numbered from 0, each call of `read` being one.
+/// there were. The reads are numbered from 0, each call of `read` being one; both counts stay at the
+/// greatest `u64`, which is above every number that can be listed.
 #[derive(Drop)]
 pub struct MemFiles {
     files: Vec<(String, Vec<u8>)>,
@@ -62,16 +63,17 @@ impl Files for MemFiles {
     {
         let listed = is_listed_call(&self.failing, self.reads);
         self.reads = self.reads.saturating_add(1);
-        if listed {
-            self.faults = self.faults.saturating_add(1);
-            return Err(ReadFault::Failed);
-        }
-        match find_file(&self.files, name) {
+        let found = if listed {
+            None
+        } else {
+            find_file(&self.files, name)
+        };
+        match found {
+            Some(bytes) => copy_within(alloc, bytes, limit),
             None => {
                 self.faults = self.faults.saturating_add(1);
                 Err(ReadFault::Failed)
             }
-            Some(bytes) => copy_within(alloc, bytes, limit),
         }
     }
 

@@ -1,7 +1,7 @@
 //! A sink in memory.
-ghost use Rattle.std.specs.Prelude.{◌≡◌, ◌<◌, ◌≤◌, ℕ, Option, Some, IfOk, IfSome, OnOk, OnErr, is_ok, length, vec_len, vec_capacity};
-ghost use Rattle.scram_io.specs.Outside.{Rose, TakesSurely, Took, TookPrefix, greatest_count};
-ghost use Rattle.scram_io.specs.Counts.{surely_held_below};
+ghost use Rattle.std.specs.Prelude.{◌≡◌, ◌≤◌, Some, IfOk, is_ok, length, vec_len, vec_capacity};
+ghost use Rattle.std.proofs.Common.{rules};
+ghost use Rattle.scram_io.specs.Outside.{TakesSurely};
 ghost use Rattle.scram_io.specs.Memory.{SinkHeld, after_put, empty_sink, put_takes, surely_takes};
 
 use super::listed::is_listed_call;
@@ -10,10 +10,11 @@ use scram_types::NoMemory;
 use std::alloc::Global;
 use std::marker::Model;
 
-/// A sink that keeps the bytes in memory, all of which it took as it was made.
+/// A sink that keeps the bytes in memory, all of which it takes as it is made.
 ///
 /// Contracts see the bytes, the room, the numbers of the puts that are to fail, and how many puts
-/// and faults there were. The puts are numbered from 0, each call of `put` being one.
+/// and faults there were. The puts are numbered from 0, each call of `put` being one; both counts
+/// stay at the greatest `u64`, which is above every number that can be listed.
 #[derive(Drop)]
 pub struct MemSink {
     bytes: Vec<u8>,
@@ -72,7 +73,8 @@ impl Sink for MemSink {
     {
         let listed = is_listed_call(&self.failing, self.puts);
         self.puts = self.puts.saturating_add(1);
-        if listed || bytes.len() > self.room - self.bytes.len() {
+        let passes = bytes.len() > self.room - self.bytes.len();
+        if listed || passes {
             self.faults = self.faults.saturating_add(1);
             return Err(SinkFault);
         }
@@ -82,5 +84,5 @@ impl Sink for MemSink {
         }
     }
 
-    ghost surely_below = { surely_held_below };
+    ghost surely_below = { λ held. Prim.search rules };
 }

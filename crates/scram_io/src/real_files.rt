@@ -1,6 +1,6 @@
 //! The files of the system.
 ghost use Rattle.std.specs.Prelude.{◌≡◌, ◌≤◌, ℕ, None, IfOk, IsErrOf, length, is_err, if◌then◌else◌};
-ghost use Rattle.scram_io.specs.Outside.{GivesFile, IsLonger, Rose, StaysSteady, counted};
+ghost use Rattle.scram_io.specs.Outside.{GivesFile, Rose, counted};
 
 use super::files::{Files, ReadFault};
 use super::streams::read_whole;

@@ -1,6 +1,6 @@
 //! Standard output.
 ghost use Rattle.std.specs.Prelude.{◌≡◌, ◌≤◌, ℕ, None, OnOk, OnErr, is_err, if◌then◌else◌};
-ghost use Rattle.scram_io.specs.Outside.{Rose, TakesSurely, Took, TookPrefix, counted};
+ghost use Rattle.scram_io.specs.Outside.{Rose, Took, TookPrefix, counted};
 
 use super::sink::{Sink, SinkFault};
 use super::streams::write_whole;

@@ -1,5 +1,5 @@
 -- A write that took some bytes lengthens the front; one that took none leaves it.
-use Rattle.std.proofs.Common.{◌+◌, take, arith, length-drop}
+use Rattle.std.proofs.Common.{◌+◌, arith, length-drop}
 use Rattle.std.proofs.lemmas.List.{length-take}
 use Rattle.scram_io.proofs.KnownBytes.{appends_kept, appends_part, prefix_taken}
 use Rattle.scram_io.proofs.streams.write_whole.Goals as goal

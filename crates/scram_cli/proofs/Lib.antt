@@ -1,0 +1,4 @@
+mod Parsed
+mod Ones
+mod ThinFacts
+mod Endings
