@@ -1,5 +1,14 @@
+pub mod Alternation
+pub mod Back
 pub mod Bits
+pub mod Ends
+pub mod Fitting
+pub mod Found
 pub mod Halts
 pub mod Losses
+pub mod Plain
+pub mod SecondHalts
 pub mod Showing
+pub mod Splits
+pub mod Taken
 pub mod Unseen

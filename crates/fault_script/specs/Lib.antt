@@ -2,3 +2,8 @@ pub mod Times
 pub mod Environments
 pub mod Fits
 pub mod Laws
+pub mod Versions
+pub mod Lookups
+pub mod Orders
+pub mod Reading
+pub mod Texts

@@ -1,10 +1,21 @@
-//! What a fault script says of each frame: the factors' values, which processors are up, and so the
-//! environment by which the kernel chooses.
+//! Fault scripts. A document is read as exactly the script that it is, and that script fits the specification, or
+//! refused at the first rule that it breaks; a script is written as its canonical text, which is read back to it.
+//! What a script says of each frame: the factors' values, which processors are up, and so the environment by which
+//! the kernel chooses.
 #![tactic(auto)]
 
 pub mod environments;
+mod find;
 pub mod laws;
+mod order;
+mod reading;
+pub mod rule;
 pub mod times;
+mod version;
+mod writing;
 
 pub use environments::env_at;
+pub use reading::{MAX_SCRIPT_BYTES, read_script};
+pub use scram_doc::{DocError as ScriptError, DocFault as ScriptFault};
 pub use times::{factors_at, halt_in, halt_of, restart_of, up_at};
+pub use writing::write_script;

@@ -1,0 +1,340 @@
+//! Reading script documents.
+
+ghost use Rattle.std.specs.Prelude.{◌≡◌, ◌≤◌, [], length, option_map, IfOk};
+ghost use Rattle.serde_json.specs.View.{items_view, view};
+ghost use Rattle.scram_doc.specs.Chain.{ok_map};
+ghost use Rattle.scram_doc.specs.Faults.{Answers};
+ghost use Rattle.fault_script.specs.Fits.{Fits};
+ghost use Rattle.fault_script.specs.Reading.{change_at, changes_at, changes_from, factor_named_at, frames_in, halt_at, halts_at, halts_from, halts_kept, kept, make_members, members_in, proc_at, restart_at, restarts_at, restarts_from, restarts_needed, scram_at, script_in, script_of, script_values, value_named_at};
+
+use crate::find::{find_factor, find_proc, find_value};
+use crate::order::{change_follows, halt_follows, may_halt, restart_follows};
+use crate::version::{Version, version_of};
+use crate::{ScriptError, ScriptFault, rule};
+use scram_doc::{Path, list, need, no_more, object, parse, text, whole_in};
+use scram_types::limits::MAX_FRAMES;
+use scram_types::{Change, FactorId, HaltAt, List, ProcId, RestartAt, Script, Spec};
+use serde_json::Value;
+use std::alloc::Global;
+
+// Tests that a rule is kept.
+fn keep(test: bool, rule: u8, at: &Path) -> Result<(), ScriptFault>
+    ensures { result ≡ kept test rule at.now }
+{
+    if test {
+        Ok(())
+    } else {
+        Err(ScriptFault::new(rule, at))
+    }
+}
+
+fn read_scram(v: &Value, at: &Path) -> Result<(), ScriptFault>
+    ensures { result ≡ scram_at at.now (view v.now) }
+{
+    let version = whole_in(v, 0, 1_001, at)?;
+    keep(version == 1 || version == 2, rule::UNKNOWN_VERSION, at)
+}
+
+fn read_proc(spec: &Spec, v: &Value, at: &Path) -> Result<ProcId, ScriptFault>
+    ensures { result ≡ proc_at spec.now at.now (view v.now) }
+{
+    match find_proc(spec, text(v, at)?) {
+        Some(proc) => Ok(proc),
+        None => Err(ScriptFault::new(rule::UNKNOWN_NAME, at)),
+    }
+}
+
+fn read_factor(spec: &Spec, v: &Value, at: &Path) -> Result<FactorId, ScriptFault>
+    ensures { result ≡ factor_named_at spec.now at.now (view v.now) }
+{
+    match find_factor(spec, text(v, at)?) {
+        Some(factor) => Ok(factor),
+        None => Err(ScriptFault::new(rule::UNKNOWN_NAME, at)),
+    }
+}
+
+fn read_value(spec: &Spec, factor: FactorId, v: &Value, at: &Path) -> Result<u8, ScriptFault>
+    ensures { result ≡ value_named_at spec.now factor at.now (view v.now) }
+{
+    match find_value(spec, factor, text(v, at)?) {
+        Some(value) => Ok(value),
+        None => Err(ScriptFault::new(rule::UNKNOWN_NAME, at)),
+    }
+}
+
+fn read_change(spec: &Spec, frames: u32, v: &Value, at: &Path) -> Result<Change, ScriptFault>
+    requires { length at.now ≤ 40 }
+    ensures { result ≡ change_at spec.now frames at.now (view v.now) }
+{
+    object(v, at)?;
+    let frame = need(v, "frame", at)?;
+    let factor = need(v, "factor", at)?;
+    let value = need(v, "value", at)?;
+    no_more(v, 3, at)?;
+    let frame = whole_in(frame, 1, frames, &at.member("frame"))?;
+    let factor = read_factor(spec, factor, &at.member("factor"))?;
+    let value = read_value(spec, factor, value, &at.member("value"))?;
+    Ok(Change {
+        frame,
+        factor,
+        value,
+    })
+}
+
+fn read_changes(
+    alloc: Global,
+    spec: &Spec,
+    frames: u32,
+    v: &Value,
+    at: &Path,
+) -> Result<List<Change>, ScriptError>
+    requires { length at.now ≤ 30 }
+    ensures { Answers (changes_at spec.now frames at.now (view v.now)) (λ changes. changes) result }
+{
+    let items = list(v, 0, 20_000, at).map_err(ScriptError::Fault)?;
+    let mut changes = Vec::new(alloc);
+    for (i, item) in items.iter().enumerate() {
+        let at = at.item(i);
+        let change = read_change(spec, frames, item, &at).map_err(ScriptError::Fault)?;
+        keep(change_follows(&changes, &change), rule::OUT_OF_ORDER, &at).map_err(
+            ScriptError::Fault,
+        )?;
+        if changes.push(change).is_err() {
+            return Err(ScriptError::NoMemory);
+        }
+    }
+    Ok(List::of(changes))
+}
+
+fn read_halt(spec: &Spec, frames: u32, v: &Value, at: &Path) -> Result<HaltAt, ScriptFault>
+    requires { length at.now ≤ 40 }
+    ensures { result ≡ halt_at spec.now frames at.now (view v.now) }
+{
+    object(v, at)?;
+    let proc = need(v, "processor", at)?;
+    let frame = need(v, "frame", at)?;
+    let step = need(v, "step", at)?;
+    no_more(v, 3, at)?;
+    let proc = read_proc(spec, proc, &at.member("processor"))?;
+    let frame = whole_in(frame, 0, frames, &at.member("frame"))?;
+    let words = 8 * spec.apps.items().len() as u32;
+    let step = whole_in(step, 0, words + 2, &at.member("step"))?;
+    Ok(HaltAt {
+        proc,
+        frame,
+        step: step as u8,
+    })
+}
+
+fn read_halts(
+    alloc: Global,
+    spec: &Spec,
+    version: Version,
+    frames: u32,
+    v: &Value,
+    at: &Path,
+) -> Result<List<HaltAt>, ScriptError>
+    requires { length at.now ≤ 30 }
+    ensures halts { Answers (halts_at spec.now version frames at.now (view v.now)) (λ halts. halts) result }
+    ensures few { IfOk result (λ halts. length halts ≤ 16) }
+{
+    let items = list(v, 0, version.halts_limit(), at).map_err(ScriptError::Fault)?;
+    let mut halts = Vec::new(alloc);
+    for (i, item) in items.iter().enumerate() {
+        let at = at.item(i);
+        let halt = read_halt(spec, frames, item, &at).map_err(ScriptError::Fault)?;
+        keep(
+            halt_follows(version, &halts, &halt),
+            rule::OUT_OF_ORDER,
+            &at,
+        )
+        .map_err(ScriptError::Fault)?;
+        if halts.push(halt).is_err() {
+            return Err(ScriptError::NoMemory);
+        }
+    }
+    Ok(List::of(halts))
+}
+
+fn read_restart(spec: &Spec, frames: u32, v: &Value, at: &Path) -> Result<RestartAt, ScriptFault>
+    requires { length at.now ≤ 40 }
+    ensures { result ≡ restart_at spec.now frames at.now (view v.now) }
+{
+    object(v, at)?;
+    let proc = need(v, "processor", at)?;
+    let frame = need(v, "frame", at)?;
+    no_more(v, 2, at)?;
+    let proc = read_proc(spec, proc, &at.member("processor"))?;
+    let frame = whole_in(frame, 2, frames, &at.member("frame"))?;
+    Ok(RestartAt { proc, frame })
+}
+
+fn read_restart_items(
+    alloc: Global,
+    spec: &Spec,
+    frames: u32,
+    halts: &[HaltAt],
+    items: &[Value],
+    at: &Path,
+) -> Result<List<RestartAt>, ScriptError>
+    requires path { length at.now ≤ 30 }
+    requires few { length items.now ≤ 8 }
+    ensures { Answers (restarts_from spec.now frames halts.now at.now 0 [] (items_view items.now)) (λ restarts. restarts) result }
+{
+    let mut restarts = Vec::new(alloc);
+    for (i, item) in items.iter().enumerate() {
+        let at = at.item(i);
+        let restart = read_restart(spec, frames, item, &at).map_err(ScriptError::Fault)?;
+        keep(
+            restart_follows(halts, &restarts, &restart),
+            rule::WRONG_RESTART,
+            &at,
+        )
+        .map_err(ScriptError::Fault)?;
+        if restarts.push(restart).is_err() {
+            return Err(ScriptError::NoMemory);
+        }
+    }
+    Ok(List::of(restarts))
+}
+
+// The restarts of a document that has a list of them.
+fn read_restarts(
+    alloc: Global,
+    spec: &Spec,
+    frames: u32,
+    halts: &[HaltAt],
+    v: Option<&Value>,
+    at: &Path,
+) -> Result<List<RestartAt>, ScriptError>
+    requires { length at.now ≤ 30 }
+    ensures { Answers (restarts_at spec.now frames halts.now at.now (option_map (λ d. view d.now) v.entry)) (λ restarts. restarts) result }
+{
+    match v {
+        Some(v) => {
+            let items = list(v, 0, 8, at).map_err(ScriptError::Fault)?;
+            read_restart_items(alloc, spec, frames, halts, items, at)
+        }
+        None => Ok(List::of(Vec::new(alloc))),
+    }
+}
+
+// Tests that each halt is one that its processor may have.
+fn keep_halts(restarts: &[RestartAt], halts: &[HaltAt], at: &Path) -> Result<(), ScriptFault>
+    requires path { length at.now ≤ 30 }
+    requires few { length halts.now ≤ 16 }
+    ensures { result ≡ halts_kept restarts.now at.now 0 [] halts.now }
+{
+    for (i, halt) in halts.iter().enumerate() {
+        keep(
+            may_halt(restarts, &halts[..i], halt),
+            rule::WRONG_HALT,
+            &at.item(i),
+        )?;
+    }
+    Ok(())
+}
+
+// The members of a script document.
+#[derive(Drop)]
+struct Members<'a> {
+    scram: &'a Value,
+    frames: &'a Value,
+    changes: &'a Value,
+    halts: &'a Value,
+    restarts: Option<&'a Value>,
+}
+
+fn need_restarts(version: Version, v: &Value) -> Result<Option<&Value>, ScriptFault>
+    ensures { ok_map (λ o. option_map (λ d. view d.now) o) result ≡ restarts_needed version (view v.now) }
+{
+    match version {
+        Version::First => Ok(None),
+        Version::Second => match need(v, "restarts", &Path::root()) {
+            Ok(restarts) => Ok(Some(restarts)),
+            Err(fault) => Err(fault),
+        },
+    }
+}
+
+fn find_members(version: Version, v: &Value) -> Result<Members<'_>, ScriptFault>
+    ensures { ok_map (λ m. make_members (view m.scram.now) (view m.frames.now) (view m.changes.now) (view m.halts.now) (option_map (λ d. view d.now) m.restarts)) result ≡ members_in version (view v.now) }
+{
+    let at = Path::root();
+    object(v, &at)?;
+    let scram = need(v, "scram", &at)?;
+    let frames = need(v, "frames", &at)?;
+    let changes = need(v, "changes", &at)?;
+    let halts = need(v, "halts", &at)?;
+    let restarts = need_restarts(version, v)?;
+    no_more(v, version.member_count(), &at)?;
+    Ok(Members {
+        scram,
+        frames,
+        changes,
+        halts,
+        restarts,
+    })
+}
+
+fn read_frames(scram: &Value, frames: &Value) -> Result<u32, ScriptFault>
+    ensures { result ≡ frames_in (view scram.now) (view frames.now) }
+{
+    let at = Path::root();
+    read_scram(scram, &at.member("scram"))?;
+    whole_in(frames, 0, MAX_FRAMES + 1, &at.member("frames"))
+}
+
+fn read_values(
+    alloc: Global,
+    spec: &Spec,
+    version: Version,
+    m: &Members<'_>,
+) -> Result<Script, ScriptError>
+    ensures { Answers (script_values spec.now version (make_members (view m.now.scram.now) (view m.now.frames.now) (view m.now.changes.now) (view m.now.halts.now) (option_map (λ d. view d.now) m.now.restarts))) (λ script. script) result }
+{
+    let at = Path::root();
+    let frames = read_frames(m.scram, m.frames).map_err(ScriptError::Fault)?;
+    let changes = read_changes(alloc, spec, frames, m.changes, &at.member("changes"))?;
+    let halts = read_halts(alloc, spec, version, frames, m.halts, &at.member("halts"))?;
+    let restarts = read_restarts(
+        alloc,
+        spec,
+        frames,
+        halts.items(),
+        m.restarts,
+        &at.member("restarts"),
+    )?;
+    keep_halts(restarts.items(), halts.items(), &at.member("halts")).map_err(ScriptError::Fault)?;
+    Ok(Script {
+        frames,
+        changes,
+        halts,
+        restarts,
+    })
+}
+
+fn read_document(alloc: Global, spec: &Spec, v: &Value) -> Result<Script, ScriptError>
+    ensures script { Answers (script_in spec.now (view v.now)) (λ script. script) result }
+    ensures fits { IfOk result (λ script. Fits spec.now script) }
+{
+    let version = version_of(v);
+    let members = find_members(version, v).map_err(ScriptError::Fault)?;
+    read_values(alloc, spec, version, &members)
+}
+
+/// The most bytes that a script document may have.
+pub const MAX_SCRIPT_BYTES: usize = 2_097_152;
+
+/// The script that a document is, for a specification, or the first rule that it breaks, with the path where it
+/// is broken.
+pub fn read_script(alloc: Global, bytes: &[u8], spec: &Spec) -> Result<Script, ScriptError>
+    ensures script { Answers (script_of spec.now bytes.now) (λ script. script) result }
+    ensures fits { IfOk result (λ script. Fits spec.now script) }
+{
+    if bytes.len() > MAX_SCRIPT_BYTES {
+        return Err(ScriptError::Fault(ScriptFault::new(rule::TOO_LONG, &Path::root())));
+    }
+    let value = parse(alloc, bytes)?;
+    read_document(alloc, spec, &value)
+}
