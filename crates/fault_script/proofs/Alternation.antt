@@ -34,16 +34,18 @@ Again restarts a b = a.proc.0 ≡ b.proc.0 → RestartsBy restarts b.proc.0 b.fr
 
 -- an earlier halt of the processor, and so a restart
 again_by : (restarts : List RestartAt) (n : ℕ) (p f : ℕ) → 1 ≤ n → (n == 0 || (n == 1 && list_any (is_restart_by p f) restarts)) ≡ true → RestartsBy restarts p f
-again_by restarts n p f some may = elim (or_cases (n == 0) (n == 1 && list_any (is_restart_by p f) restarts) may)
-    [ inl none ↦ absurd (grind (arith, nat_tests, none, some))
-    | inr once ↦ some_passes (is_restart_by p f) restarts (and_parts (n == 1) (list_any (is_restart_by p f) restarts) once).1
-        (λ i r there passes. let parts = and_parts (r.proc.0 == p) (nat_le r.frame f) passes in
-            record { place = i; restart = r; there = there; proc = grind (arith, nat_tests, parts.0); frame = grind (arith, nat_tests, parts.1) }) ]
+again_by restarts n p f some may = elim (or_cases (n == 0) (n == 1 && list_any (is_restart_by p f) restarts) may) [
+  | inl none ↦ absurd (grind (arith, nat_tests, none, some))
+  | inr once ↦ some_passes (is_restart_by p f) restarts (and_parts (n == 1) (list_any (is_restart_by p f) restarts) once).1
+      (λ i r there passes. let parts = and_parts (r.proc.0 == p) (nat_le r.frame f) passes in
+      record { place = i; restart = r; there = there; proc = grind (arith, nat_tests, parts.0); frame = grind (arith, nat_tests, parts.1) })
+]
 
 at_most_one : (restarts : List RestartAt) (n : ℕ) (p f : ℕ) → (n == 0 || (n == 1 && list_any (is_restart_by p f) restarts)) ≡ true → n ≤ 1
-at_most_one restarts n p f may = elim (or_cases (n == 0) (n == 1 && list_any (is_restart_by p f) restarts) may)
-    [ inl none ↦ grind (arith, nat_tests, none)
-    | inr once ↦ let parts = and_parts (n == 1) (list_any (is_restart_by p f) restarts) once in grind (arith, nat_tests, parts.0) ]
+at_most_one restarts n p f may = elim (or_cases (n == 0) (n == 1 && list_any (is_restart_by p f) restarts) may) [
+  | inl none ↦ grind (arith, nat_tests, none)
+  | inr once ↦ let parts = and_parts (n == 1) (list_any (is_restart_by p f) restarts) once in grind (arith, nat_tests, parts.0)
+]
 
 pub record Alternate (restarts : List RestartAt) (halts : List HaltAt) : Type 0 where
   pub twice : AtMostTwice halts
@@ -65,15 +67,16 @@ alternate_none restarts = record { twice = λ i j k x y z ij jk e. absurd cc; ag
 
 alternate_end : (restarts : List RestartAt) (xs : List HaltAt) (h : HaltAt) → Alternate restarts xs → may_halt restarts xs h ≡ true → Alternate restarts (xs ++ h ∷ [])
 alternate_end restarts xs h so_far may = record {
-    twice = λ i j k x y z ij jk p q r. thrice xs h so_far.twice (at_most_one restarts (halts_of h.proc.0 xs) h.proc.0 h.frame may)
-        i j k x y z ij jk (place_of xs h i x p) (place_of xs h j y q) (place_of xs h k z r);
-    again = each_later_end (Again restarts) xs h so_far.again
-        (λ i y there same. again_by restarts (halts_of h.proc.0 xs) h.proc.0 h.frame (one_of h.proc.0 xs i y there same) may) }
+  twice = λ i j k x y z ij jk p q r. thrice xs h so_far.twice (at_most_one restarts (halts_of h.proc.0 xs) h.proc.0 h.frame may)
+      i j k x y z ij jk (place_of xs h i x p) (place_of xs h j y q) (place_of xs h k z r);
+  again = each_later_end (Again restarts) xs h so_far.again
+      (λ i y there same. again_by restarts (halts_of h.proc.0 xs) h.proc.0 h.frame (one_of h.proc.0 xs i y there same) may);
+}
 
 pub halts_alternate : (restarts : List RestartAt) (at : List ℕ) (i : ℕ) (xs halts : List HaltAt) (u : ⊤) → Alternate restarts xs
     → halts_kept restarts at i xs halts ≡ Ok u → Alternate restarts (xs ++ halts)
 halts_alternate restarts at i xs [] u so_far e = subst (Alternate restarts) (sym (append-nil xs)) so_far
 halts_alternate restarts at i xs (h ∷ halts) u so_far e =
     chain_ok _ _ u e (λ v kept rest.
-        subst (Alternate restarts) (append_assoc xs (h ∷ []) halts)
-            (halts_alternate restarts at (suc i) (xs ++ h ∷ []) halts u (alternate_end restarts xs h so_far (kept_ok _ _ _ v kept)) rest))
+    subst (Alternate restarts) (append_assoc xs (h ∷ []) halts)
+    (halts_alternate restarts at (suc i) (xs ++ h ∷ []) halts u (alternate_end restarts xs h so_far (kept_ok _ _ _ v kept)) rest))

@@ -62,7 +62,7 @@ changes_back : (spec : Parts) (frames : ℕ) (at : List ℕ) (i : ℕ) (whole be
 changes_back spec frames at i whole before [] is each follow e = ap (λ (xs : List Change). Ok xs) (sym (append-nil before) ∙ e)
 changes_back spec frames at i whole before (c ∷ cs) is each follow e =
     rw (change_back spec frames (item_path at i) c is (split_each (IsChange spec frames) whole before cs c each e), follow before c cs e)
-        (changes_back spec frames at (suc i) whole (before ++ c ∷ []) cs is each follow (append_assoc before (c ∷ []) cs ∙ e))
+    (changes_back spec frames at (suc i) whole (before ++ c ∷ []) cs is each follow (append_assoc before (c ∷ []) cs ∙ e))
 
 halts_back : (spec : Parts) (version : Version) (frames : ℕ) (at : List ℕ) (i : ℕ) (whole before hs : List HaltAt) → IsSpec spec → Each (IsHalt spec frames) whole
     → EachSplit (λ xs h _. halt_follows version xs h ≡ true) whole → before ++ hs ≡ whole
@@ -70,7 +70,7 @@ halts_back : (spec : Parts) (version : Version) (frames : ℕ) (at : List ℕ) (
 halts_back spec version frames at i whole before [] is each follow e = ap (λ (xs : List HaltAt). Ok xs) (sym (append-nil before) ∙ e)
 halts_back spec version frames at i whole before (h ∷ hs) is each follow e =
     rw (halt_back spec frames (item_path at i) h is (split_each (IsHalt spec frames) whole before hs h each e), follow before h hs e)
-        (halts_back spec version frames at (suc i) whole (before ++ h ∷ []) hs is each follow (append_assoc before (h ∷ []) hs ∙ e))
+    (halts_back spec version frames at (suc i) whole (before ++ h ∷ []) hs is each follow (append_assoc before (h ∷ []) hs ∙ e))
 
 restarts_back : (spec : Parts) (frames : ℕ) (halts : List HaltAt) (at : List ℕ) (i : ℕ) (whole before rs : List RestartAt) → IsSpec spec → Each (IsRestart spec frames) whole
     → EachSplit (λ xs r _. restart_follows halts xs r ≡ true) whole → before ++ rs ≡ whole
@@ -78,7 +78,7 @@ restarts_back : (spec : Parts) (frames : ℕ) (halts : List HaltAt) (at : List �
 restarts_back spec frames halts at i whole before [] is each follow e = ap (λ (xs : List RestartAt). Ok xs) (sym (append-nil before) ∙ e)
 restarts_back spec frames halts at i whole before (r ∷ rs) is each follow e =
     rw (restart_back spec frames (item_path at i) r is (split_each (IsRestart spec frames) whole before rs r each e), follow before r rs e)
-        (restarts_back spec frames halts at (suc i) whole (before ++ r ∷ []) rs is each follow (append_assoc before (r ∷ []) rs ∙ e))
+    (restarts_back spec frames halts at (suc i) whole (before ++ r ∷ []) rs is each follow (append_assoc before (r ∷ []) rs ∙ e))
 
 kept_back : (restarts : List RestartAt) (at : List ℕ) (i : ℕ) (whole before hs : List HaltAt)
     → EachSplit (λ xs h _. may_halt restarts xs h ≡ true) whole → before ++ hs ≡ whole → halts_kept restarts at i before hs ≡ Ok tt
@@ -108,7 +108,7 @@ halts_follow_once spec script fits apart xs h ys e =
 restarts_follow : (spec : Parts) (script : ScriptParts) → Fits spec script → EachSplit (λ xs r _. restart_follows script.halts xs r ≡ true) script.restarts
 restarts_follow spec script fits xs r ys e =
     restart_follows_by script.halts xs ys r (subst (EachNext RestartBefore) (sym e) fits.restarts_ordered) (subst (EachLater Differ) (sym e) fits.restarts_once)
-        (split_each (IsLate script.halts) script.restarts xs ys r fits.restarts_late e)
+    (split_each (IsLate script.halts) script.restarts xs ys r fits.restarts_late e)
 
 halts_may : (spec : Parts) (script : ScriptParts) → Fits spec script → EachSplit (λ xs h _. may_halt script.restarts xs h ≡ true) script.halts
 halts_may spec script fits xs h ys e =
@@ -121,24 +121,28 @@ first_back spec frames changes halts is fits =
     let few = halts_few (length spec.procs) halts apart (λ i h there. (fits.halts i h there).proc) in
     let procs = is.procs_count.few in
     let last = fits.frames in
-    rw (whole_back 0 20001 frames (omega arith) (omega (arith, last)),
-        list_back (change_data spec) 20000 (member_path [] (codes "changes")) changes fits.changes_count,
-        changes_back spec frames (member_path [] (codes "changes")) 0 changes [] changes is fits.changes (changes_follow spec (make_script frames changes halts []) fits) refl,
-        list_back (halt_data spec) 8 (member_path [] (codes "halts")) halts (omega (arith, few, procs)),
-        halts_back spec First frames (member_path [] (codes "halts")) 0 halts [] halts is fits.halts (halts_follow_once spec (make_script frames changes halts []) fits apart) refl,
-        kept_back [] (member_path [] (codes "halts")) 0 halts [] halts (halts_may spec (make_script frames changes halts []) fits) refl) refl
+    rw (
+      whole_back 0 20001 frames (omega arith) (omega (arith, last)),
+      list_back (change_data spec) 20000 (member_path [] (codes "changes")) changes fits.changes_count,
+      changes_back spec frames (member_path [] (codes "changes")) 0 changes [] changes is fits.changes (changes_follow spec (make_script frames changes halts []) fits) refl,
+      list_back (halt_data spec) 8 (member_path [] (codes "halts")) halts (omega (arith, few, procs)),
+      halts_back spec First frames (member_path [] (codes "halts")) 0 halts [] halts is fits.halts (halts_follow_once spec (make_script frames changes halts []) fits apart) refl,
+      kept_back [] (member_path [] (codes "halts")) 0 halts [] halts (halts_may spec (make_script frames changes halts []) fits) refl,
+    ) refl
 
 second_back : (spec : Parts) (script : ScriptParts) → IsSpec spec → Fits spec script → script_in spec (second_data spec script) ≡ Ok script
 second_back spec script is fits =
     let last = fits.frames in
-    rw (whole_back 0 20001 script.frames (omega arith) (omega (arith, last)),
-        list_back (change_data spec) 20000 (member_path [] (codes "changes")) script.changes fits.changes_count,
-        changes_back spec script.frames (member_path [] (codes "changes")) 0 script.changes [] script.changes is fits.changes (changes_follow spec script fits) refl,
-        list_back (halt_data spec) 16 (member_path [] (codes "halts")) script.halts fits.halts_count,
-        halts_back spec Second script.frames (member_path [] (codes "halts")) 0 script.halts [] script.halts is fits.halts (halts_follow spec script fits) refl,
-        list_back (restart_data spec) 8 (member_path [] (codes "restarts")) script.restarts fits.restarts_count,
-        restarts_back spec script.frames script.halts (member_path [] (codes "restarts")) 0 script.restarts [] script.restarts is fits.restarts (restarts_follow spec script fits) refl,
-        kept_back script.restarts (member_path [] (codes "halts")) 0 script.halts [] script.halts (halts_may spec script fits) refl) refl
+    rw (
+      whole_back 0 20001 script.frames (omega arith) (omega (arith, last)),
+      list_back (change_data spec) 20000 (member_path [] (codes "changes")) script.changes fits.changes_count,
+      changes_back spec script.frames (member_path [] (codes "changes")) 0 script.changes [] script.changes is fits.changes (changes_follow spec script fits) refl,
+      list_back (halt_data spec) 16 (member_path [] (codes "halts")) script.halts fits.halts_count,
+      halts_back spec Second script.frames (member_path [] (codes "halts")) 0 script.halts [] script.halts is fits.halts (halts_follow spec script fits) refl,
+      list_back (restart_data spec) 8 (member_path [] (codes "restarts")) script.restarts fits.restarts_count,
+      restarts_back spec script.frames script.halts (member_path [] (codes "restarts")) 0 script.restarts [] script.restarts is fits.restarts (restarts_follow spec script fits) refl,
+      kept_back script.restarts (member_path [] (codes "halts")) 0 script.halts [] script.halts (halts_may spec script fits) refl,
+    ) refl
 
 script_back_by : (spec : Parts) (frames : ℕ) (changes : List Change) (halts : List HaltAt) (restarts : List RestartAt) → IsSpec spec → Fits spec (make_script frames changes halts restarts)
     → script_in spec (script_data spec (make_script frames changes halts restarts)) ≡ Ok (make_script frames changes halts restarts)

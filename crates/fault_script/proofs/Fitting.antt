@@ -42,15 +42,15 @@ id_within n None p within e = absurd cc
 proc_at_ok : (spec : Parts) (at : List ℕ) (d : Data) (p : ProcId) → proc_at spec at d ≡ Ok p → p.0 < length spec.procs
 proc_at_ok spec at d p e = chain_ok (text_at at d) _ p e (λ text _ found.
     id_within (length spec.procs) (place_from (λ (proc : Proc). proc.name) text 0 spec.procs) p
-        (λ k there. place_from_within (λ (proc : Proc). proc.name) text 0 k spec.procs there) (or_broken_ok _ at _ p found))
+    (λ k there. place_from_within (λ (proc : Proc). proc.name) text 0 k spec.procs there) (or_broken_ok _ at _ p found))
 
 make_is_change : (spec : Parts) (frames frame : ℕ) (x : FactorId) (value : ℕ) (text : List ℕ) → 1 ≤ frame → frame < frames → value_named spec x text ≡ Some value
     → IsChange spec frames (make_change frame x value)
 make_is_change spec frames frame x value text low high e =
     option_and_then_some (λ (factor : Factor). place_from (λ (name : List ℕ). name) text 0 factor.values) (slice_get spec.factors x.0) value e
-        (λ factor there found.
-            let within = place_from_within (λ (name : List ℕ). name) text 0 value factor.values found in
-            record { least = low; most = high; factor = factor; there = there; value = omega (arith, within) })
+    (λ factor there found.
+    let within = place_from_within (λ (name : List ℕ). name) text 0 value factor.values found in
+    record { least = low; most = high; factor = factor; there = there; value = omega (arith, within) })
 
 change_values_ok : (spec : Parts) (frames : ℕ) (at : List ℕ) (df dx dv : Data) (c : Change) → change_values spec frames at df dx dv ≡ Ok c → IsChange spec frames c
 change_values_ok spec frames at df dx dv c e =
@@ -58,10 +58,10 @@ change_values_ok spec frames at df dx dv c e =
     chain_ok (factor_named_at spec (member_path at (codes "factor")) dx) _ c e1 (λ x is_factor e2.
     chain_ok (value_named_at spec x (member_path at (codes "value")) dv) _ c e2 (λ value is_value same.
     chain_ok (text_at (member_path at (codes "value")) dv) _ value is_value (λ text _ found.
-        let range = whole_at_ok 1 frames _ df frame is_frame in
-        let known = or_broken_ok _ _ _ value found in
-        let is : make_change frame x value ≡ c = cc in
-        subst (IsChange spec frames) is (make_is_change spec frames frame x value text range.low range.high known)))))
+    let range = whole_at_ok 1 frames _ df frame is_frame in
+    let known = or_broken_ok _ _ _ value found in
+    let is : make_change frame x value ≡ c = cc in
+    subst (IsChange spec frames) is (make_is_change spec frames frame x value text range.low range.high known)))))
 
 change_at_ok : (spec : Parts) (frames : ℕ) (at : List ℕ) (d : Data) (c : Change) → change_at spec frames at d ≡ Ok c → IsChange spec frames c
 change_at_ok spec frames at d c e =
@@ -72,9 +72,10 @@ change_at_ok spec frames at d c e =
     chain_ok (no_more_than 3 at d) _ c e4 (λ _ _ e5. change_values_ok spec frames at df dx dv c e5)))))
 
 comes_after_ok : (a b c d : ℕ) → comes_after a b c d ≡ true → Before a b c d
-comes_after_ok a b c d e = elim (or_cases (nat_lt a c) (a == c && nat_lt b d) e)
-    [ inl less ↦ inl (grind (arith, nat_tests, less))
-    | inr both ↦ let parts = and_parts (a == c) (nat_lt b d) both in inr (grind (arith, nat_tests, parts.0), grind (arith, nat_tests, parts.1)) ]
+comes_after_ok a b c d e = elim (or_cases (nat_lt a c) (a == c && nat_lt b d) e) [
+  | inl less ↦ inl (grind (arith, nat_tests, less))
+  | inr both ↦ let parts = and_parts (a == c) (nat_lt b d) both in inr (grind (arith, nat_tests, parts.0), grind (arith, nat_tests, parts.1))
+]
 
 pub record GoodChanges (spec : Parts) (frames : ℕ) (changes : List Change) : Type 0 where
   pub each : Each (IsChange spec frames) changes
@@ -83,9 +84,10 @@ pub record GoodChanges (spec : Parts) (frames : ℕ) (changes : List Change) : T
 good_changes_end : (spec : Parts) (frames : ℕ) (before : List Change) (c : Change) → GoodChanges spec frames before → IsChange spec frames c → change_follows before c ≡ true
     → GoodChanges spec frames (before ++ c ∷ [])
 good_changes_end spec frames before c good is follows = record {
-    each = each_end (IsChange spec frames) before c good.each is;
-    ordered = each_next_end ChangeBefore before c good.ordered
-        (λ l last. comes_after_ok l.frame l.factor.0 c.frame c.factor.0 (ap (λ o. change_after o c) (sym last) ∙ follows)) }
+  each = each_end (IsChange spec frames) before c good.each is;
+  ordered = each_next_end ChangeBefore before c good.ordered
+      (λ l last. comes_after_ok l.frame l.factor.0 c.frame c.factor.0 (ap (λ o. change_after o c) (sym last) ∙ follows));
+}
 
 pub record Read {A : Type 0} (Good : List A → Type 0) (count : ℕ) (xs : List A) : Type 0 where
   pub good : Good xs
@@ -99,22 +101,22 @@ changes_from_ok spec frames at i before cs no_items good e =
 changes_from_ok spec frames at i before cs (item d ds) good e =
     chain_ok (change_at spec frames (item_path at i) d) _ cs e (λ c is e1.
     chain_ok (kept (change_follows before c) OUT_OF_ORDER (item_path at i)) _ cs e1 (λ u kept rest.
-        let more = changes_from_ok spec frames at (suc i) (before ++ c ∷ []) cs ds
-            (good_changes_end spec frames before c good (change_at_ok spec frames _ d c is) (kept_ok _ _ _ u kept)) rest in
-        let long = length-append before (c ∷ []) in let count = more.count_is in
-        record { good = more.good; count_is = omega (arith, long, count) }))
+    let more = changes_from_ok spec frames at (suc i) (before ++ c ∷ []) cs ds
+    (good_changes_end spec frames before c good (change_at_ok spec frames _ d c is) (kept_ok _ _ _ u kept)) rest in
+    let long = length-append before (c ∷ []) in let count = more.count_is in
+    record { good = more.good; count_is = omega (arith, long, count) }))
 
 make_is_halt : (spec : Parts) (frames : ℕ) (at : List ℕ) (dp df ds : Data) (h : HaltAt) → halt_values spec frames at dp df ds ≡ Ok h → IsHalt spec frames h
 make_is_halt spec frames at dp df ds h e =
     chain_ok (proc_at spec (member_path at (codes "processor")) dp) _ h e (λ p is_proc e1.
     chain_ok (whole_at 0 frames (member_path at (codes "frame")) df) _ h e1 (λ frame is_frame e2.
     chain_ok (whole_at 0 (words spec + 2) (member_path at (codes "step")) ds) _ h e2 (λ step is_step same.
-        let within = proc_at_ok spec _ dp p is_proc in
-        let frames_range = whole_at_ok 0 frames _ df frame is_frame in
-        let steps_range = whole_at_ok 0 (words spec + 2) _ ds step is_step in
-        let last = steps_range.high in
-        let is : make_halt p frame step ≡ h = cc in
-        subst (IsHalt spec frames) is (record { proc = within; frame = frames_range.high; step = omega (arith, last) }))))
+    let within = proc_at_ok spec _ dp p is_proc in
+    let frames_range = whole_at_ok 0 frames _ df frame is_frame in
+    let steps_range = whole_at_ok 0 (words spec + 2) _ ds step is_step in
+    let last = steps_range.high in
+    let is : make_halt p frame step ≡ h = cc in
+    subst (IsHalt spec frames) is (record { proc = within; frame = frames_range.high; step = omega (arith, last) }))))
 
 halt_at_ok : (spec : Parts) (frames : ℕ) (at : List ℕ) (d : Data) (h : HaltAt) → halt_at spec frames at d ≡ Ok h → IsHalt spec frames h
 halt_at_ok spec frames at d h e =
@@ -135,9 +137,10 @@ follows_after Second before h follows = follows
 good_halts_end : (spec : Parts) (frames : ℕ) (before : List HaltAt) (h : HaltAt) → GoodHalts spec frames before → IsHalt spec frames h → halt_after (last_of before) h ≡ true
     → GoodHalts spec frames (before ++ h ∷ [])
 good_halts_end spec frames before h good is follows = record {
-    each = each_end (IsHalt spec frames) before h good.each is;
-    ordered = each_next_end HaltBefore before h good.ordered
-        (λ l last. comes_after_ok l.frame l.proc.0 h.frame h.proc.0 (ap (λ o. halt_after o h) (sym last) ∙ follows)) }
+  each = each_end (IsHalt spec frames) before h good.each is;
+  ordered = each_next_end HaltBefore before h good.ordered
+      (λ l last. comes_after_ok l.frame l.proc.0 h.frame h.proc.0 (ap (λ o. halt_after o h) (sym last) ∙ follows));
+}
 
 halts_from_ok : (spec : Parts) (version : Version) (frames : ℕ) (at : List ℕ) (i : ℕ) (before hs : List HaltAt) (ds : Items) → GoodHalts spec frames before
     → halts_from spec version frames at i before ds ≡ Ok hs → Read (GoodHalts spec frames) (length before + items_len ds) hs
@@ -147,19 +150,19 @@ halts_from_ok spec version frames at i before hs no_items good e =
 halts_from_ok spec version frames at i before hs (item d ds) good e =
     chain_ok (halt_at spec frames (item_path at i) d) _ hs e (λ h is e1.
     chain_ok (kept (halt_follows version before h) OUT_OF_ORDER (item_path at i)) _ hs e1 (λ u kept rest.
-        let more = halts_from_ok spec version frames at (suc i) (before ++ h ∷ []) hs ds
-            (good_halts_end spec frames before h good (halt_at_ok spec frames _ d h is) (follows_after version before h (kept_ok _ _ _ u kept))) rest in
-        let long = length-append before (h ∷ []) in let count = more.count_is in
-        record { good = more.good; count_is = omega (arith, long, count) }))
+    let more = halts_from_ok spec version frames at (suc i) (before ++ h ∷ []) hs ds
+    (good_halts_end spec frames before h good (halt_at_ok spec frames _ d h is) (follows_after version before h (kept_ok _ _ _ u kept))) rest in
+    let long = length-append before (h ∷ []) in let count = more.count_is in
+    record { good = more.good; count_is = omega (arith, long, count) }))
 
 make_is_restart : (spec : Parts) (frames : ℕ) (at : List ℕ) (dp df : Data) (r : RestartAt) → restart_values spec frames at dp df ≡ Ok r → IsRestart spec frames r
 make_is_restart spec frames at dp df r e =
     chain_ok (proc_at spec (member_path at (codes "processor")) dp) _ r e (λ p is_proc e1.
     chain_ok (whole_at 2 frames (member_path at (codes "frame")) df) _ r e1 (λ frame is_frame same.
-        let within = proc_at_ok spec _ dp p is_proc in
-        let range = whole_at_ok 2 frames _ df frame is_frame in
-        let is : make_restart p frame ≡ r = cc in
-        subst (IsRestart spec frames) is (record { proc = within; least = range.low; most = range.high })))
+    let within = proc_at_ok spec _ dp p is_proc in
+    let range = whole_at_ok 2 frames _ df frame is_frame in
+    let is : make_restart p frame ≡ r = cc in
+    subst (IsRestart spec frames) is (record { proc = within; least = range.low; most = range.high })))
 
 restart_at_ok : (spec : Parts) (frames : ℕ) (at : List ℕ) (d : Data) (r : RestartAt) → restart_at spec frames at d ≡ Ok r → IsRestart spec frames r
 restart_at_ok spec frames at d r e =
@@ -183,7 +186,7 @@ pub record GoodRestarts (spec : Parts) (frames : ℕ) (halts : List HaltAt) (res
 late_ok : (halts : List HaltAt) (p f : ℕ) → list_any (is_halt_before p f) halts ≡ true → HaltsWellBefore halts p f
 late_ok halts p f some = some_passes (is_halt_before p f) halts some
     (λ i h there passes. let parts = and_parts (h.proc.0 == p) (nat_le (h.frame + 2) f) passes in
-        record { place = i; halt = h; there = there; proc = grind (arith, nat_tests, parts.0); frame = grind (arith, nat_tests, parts.1) })
+    record { place = i; halt = h; there = there; proc = grind (arith, nat_tests, parts.0); frame = grind (arith, nat_tests, parts.1) })
 
 good_restarts_end : (spec : Parts) (frames : ℕ) (halts : List HaltAt) (before : List RestartAt) (r : RestartAt) → GoodRestarts spec frames halts before → IsRestart spec frames r
     → restart_follows halts before r ≡ true → GoodRestarts spec frames halts (before ++ r ∷ [])
@@ -192,16 +195,21 @@ good_restarts_end spec frames halts before r good is follows =
     let first = and_parts (restart_after (last_of before) r) (not (list_any (is_restart_of r.proc.0) before)) parts.0 in
     let none = not-true (list_any (is_restart_of r.proc.0) before) first.1 in
     record {
-        each = each_end (IsRestart spec frames) before r good.each is;
-        ordered = each_next_end RestartBefore before r good.ordered
-            (λ l last. comes_after_ok l.frame l.proc.0 r.frame r.proc.0 (ap (λ o. restart_after o r) (sym last) ∙ first.0));
-        once = each_later_end Differ before r good.once
-            (λ i y there same. let other = none_passes (is_restart_of r.proc.0) before i y none there in absurd (grind (arith, nat_tests, other, same)));
-        late = each_end (IsLate halts) before r good.late (late_ok halts r.proc.0 r.frame parts.1) }
+      each = each_end (IsRestart spec frames) before r good.each is;
+      ordered = each_next_end RestartBefore before r good.ordered
+          (λ l last. comes_after_ok l.frame l.proc.0 r.frame r.proc.0 (ap (λ o. restart_after o r) (sym last) ∙ first.0));
+      once = each_later_end Differ before r good.once
+          (λ i y there same. let other = none_passes (is_restart_of r.proc.0) before i y none there in absurd (grind (arith, nat_tests, other, same)));
+      late = each_end (IsLate halts) before r good.late (late_ok halts r.proc.0 r.frame parts.1);
+    }
 
 good_restarts_none : (spec : Parts) (frames : ℕ) (halts : List HaltAt) → GoodRestarts spec frames halts []
 good_restarts_none spec frames halts = record {
-    each = each_none (IsRestart spec frames); ordered = each_next_none RestartBefore; once = each_later_none Differ; late = each_none (IsLate halts) }
+  each = each_none (IsRestart spec frames);
+  ordered = each_next_none RestartBefore;
+  once = each_later_none Differ;
+  late = each_none (IsLate halts);
+}
 
 restarts_from_ok : (spec : Parts) (frames : ℕ) (halts : List HaltAt) (at : List ℕ) (i : ℕ) (before rs : List RestartAt) (ds : Items) → GoodRestarts spec frames halts before
     → restarts_from spec frames halts at i before ds ≡ Ok rs → Read (GoodRestarts spec frames halts) (length before + items_len ds) rs
@@ -211,10 +219,10 @@ restarts_from_ok spec frames halts at i before rs no_items good e =
 restarts_from_ok spec frames halts at i before rs (item d ds) good e =
     chain_ok (restart_at spec frames (item_path at i) d) _ rs e (λ r is e1.
     chain_ok (kept (restart_follows halts before r) WRONG_RESTART (item_path at i)) _ rs e1 (λ u kept rest.
-        let more = restarts_from_ok spec frames halts at (suc i) (before ++ r ∷ []) rs ds
-            (good_restarts_end spec frames halts before r good (restart_at_ok spec frames _ d r is) (kept_ok _ _ _ u kept)) rest in
-        let long = length-append before (r ∷ []) in let count = more.count_is in
-        record { good = more.good; count_is = omega (arith, long, count) }))
+    let more = restarts_from_ok spec frames halts at (suc i) (before ++ r ∷ []) rs ds
+    (good_restarts_end spec frames halts before r good (restart_at_ok spec frames _ d r is) (kept_ok _ _ _ u kept)) rest in
+    let long = length-append before (r ∷ []) in let count = more.count_is in
+    record { good = more.good; count_is = omega (arith, long, count) }))
 
 -- what is read of a list, and how long it can be
 pub record Listed {A : Type 0} (Good : List A → Type 0) (most : ℕ) (xs : List A) : Type 0 where
@@ -257,12 +265,21 @@ frames_in_ok scram frames n e = chain_ok (scram_at (member_path [] (codes "scram
 fits_of : (spec : Parts) (frames : ℕ) (changes : List Change) (halts : List HaltAt) (restarts : List RestartAt) → frames ≤ 20000 → Listed (GoodChanges spec frames) 20000 changes
     → Listed (GoodHalts spec frames) 16 halts → Listed (GoodRestarts spec frames halts) 8 restarts → Alternate restarts halts → Fits spec (make_script frames changes halts restarts)
 fits_of spec frames changes halts restarts few cs hs rs alternate = record {
-    frames = few;
-    changes_count = cs.few; changes = cs.good.each; changes_ordered = cs.good.ordered;
-    halts_count = hs.few; halts = hs.good.each; halts_ordered = hs.good.ordered;
-    restarts_count = rs.few; restarts = rs.good.each; restarts_ordered = rs.good.ordered;
-    restarts_once = rs.good.once; restarts_late = rs.good.late;
-    halts_twice = alternate.twice; halts_again = alternate.again }
+  frames = few;
+  changes_count = cs.few;
+  changes = cs.good.each;
+  changes_ordered = cs.good.ordered;
+  halts_count = hs.few;
+  halts = hs.good.each;
+  halts_ordered = hs.good.ordered;
+  restarts_count = rs.few;
+  restarts = rs.good.each;
+  restarts_ordered = rs.good.ordered;
+  restarts_once = rs.good.once;
+  restarts_late = rs.good.late;
+  halts_twice = alternate.twice;
+  halts_again = alternate.again;
+}
 
 script_values_ok : (spec : Parts) (version : Version) (m : ScriptMembers) (script : ScriptParts) → script_values spec version m ≡ Ok script → Fits spec script
 script_values_ok spec version m script e =
@@ -271,13 +288,13 @@ script_values_ok spec version m script e =
     chain_ok (halts_at spec version frames (member_path [] (codes "halts")) m.halts) _ script e2 (λ halts are_halts e3.
     chain_ok (restarts_at spec frames halts (member_path [] (codes "restarts")) m.restarts) _ script e3 (λ restarts are_restarts e4.
     chain_ok (halts_kept restarts (member_path [] (codes "halts")) 0 [] halts) _ script e4 (λ u kept same.
-        let is : make_script frames changes halts restarts ≡ script = cc in
-        subst (Fits spec) is (fits_of spec frames changes halts restarts
-            (frames_in_ok m.scram m.frames frames is_frames)
-            (changes_at_ok spec frames _ m.changes changes are_changes)
-            (halts_at_ok spec version frames _ m.halts halts are_halts)
-            (restarts_at_ok spec frames halts _ m.restarts restarts are_restarts)
-            (halts_alternate restarts (member_path [] (codes "halts")) 0 [] halts u (alternate_none restarts) kept)))))))
+    let is : make_script frames changes halts restarts ≡ script = cc in
+    subst (Fits spec) is (fits_of spec frames changes halts restarts
+    (frames_in_ok m.scram m.frames frames is_frames)
+    (changes_at_ok spec frames _ m.changes changes are_changes)
+    (halts_at_ok spec version frames _ m.halts halts are_halts)
+    (restarts_at_ok spec frames halts _ m.restarts restarts are_restarts)
+    (halts_alternate restarts (member_path [] (codes "halts")) 0 [] halts u (alternate_none restarts) kept)))))))
 
 pub script_in_fits : (spec : Parts) (d : Data) (script : ScriptParts) → script_in spec d ≡ Ok script → Fits spec script
 script_in_fits spec d script e = chain_ok (members_in (version_of d) d) _ script e (λ m _ rest. script_values_ok spec _ m script rest)

@@ -32,7 +32,7 @@ found name k zero (y ∷ ys) x differ e =
 found name k (suc i) (y ∷ ys) x differ e =
     let rest = found name (suc k) i ys x (λ a b p q there other same. let next : suc a ≡ suc b = differ (suc a) (suc b) p q there other same in omega (arith, next)) e in
     later (bytes_eq (name y) (name x)) (name y ≡ name x) k i (place_from name (name x) (suc k) ys) (bytes_eq-Decides (name y) (name x))
-        (λ same. let first : 0 ≡ suc i = differ 0 (suc i) y x refl e same in absurd (omega (arith, first))) rest
+    (λ same. let first : 0 ≡ suc i = differ 0 (suc i) y x refl e same in absurd (omega (arith, first))) rest
 
 pub proc_found : (spec : Parts) (p : ProcId) → IsSpec spec → p.0 < length spec.procs → proc_named spec (proc_name spec p) ≡ Some p
 proc_found spec p is within = some_item spec.procs p.0 within (λ proc there.

@@ -27,8 +27,8 @@ one_there : {P : Type 0} (p : ℕ) (xs : List HaltAt) → 1 ≤ halts_of p xs �
 one_there p [] many then = absurd (omega (arith, many))
 one_there p (x ∷ xs) many then =
     one_at p (x.proc.0 == p) x xs refl many
-        (λ more. one_there p xs more (λ i y there same. then (suc i) y there same))
-        (λ same. then 0 x refl same)
+    (λ more. one_there p xs more (λ i y there same. then (suc i) y there same))
+    (λ same. then 0 x refl same)
 
 two_at : {P : Type 0} (p : ℕ) (here : Bool) (x : HaltAt) (xs : List HaltAt) → (x.proc.0 == p) ≡ here → 2 ≤ cond here 1 0 + halts_of p xs
     → (2 ≤ halts_of p xs → P) → (x.proc.0 ≡ p → 1 ≤ halts_of p xs → P) → P
@@ -40,8 +40,8 @@ two_there : {P : Type 0} (p : ℕ) (xs : List HaltAt) → 2 ≤ halts_of p xs
 two_there p [] many then = absurd (omega (arith, many))
 two_there p (x ∷ xs) many then =
     two_at p (x.proc.0 == p) x xs refl many
-        (λ more. two_there p xs more (λ i j y z less one other same_y same_z. then (suc i) (suc j) y z (omega (arith, less)) one other same_y same_z))
-        (λ same more. one_there p xs more (λ j z there same_z. then 0 (suc j) x z (omega arith) refl there same same_z))
+    (λ more. two_there p xs more (λ i j y z less one other same_y same_z. then (suc i) (suc j) y z (omega (arith, less)) one other same_y same_z))
+    (λ same more. one_there p xs more (λ j z there same_z. then 0 (suc j) x z (omega arith) refl there same same_z))
 
 restarts_back : (restarts : List RestartAt) (p f : ℕ) → RestartsBy restarts p f → list_any (is_restart_by p f) restarts ≡ true
 restarts_back restarts p f by = any_passes (is_restart_by p f) restarts by.place by.restart by.there
@@ -57,12 +57,12 @@ few_before xs ys h zero is twice = omega arith
 few_before xs ys h (suc zero) is twice = omega arith
 few_before xs ys h (suc (suc n)) is twice = absurd (two_there h.proc.0 xs (omega (arith, is))
     (λ i j x y less one other same_x same_y.
-        twice i j (length xs) x y h less (slice_get_within xs j y other) (front xs (h ∷ ys) i x one) (front xs (h ∷ ys) j y other) (seam xs ys h) (same_x ∙ sym same_y) same_x))
+    twice i j (length xs) x y h less (slice_get_within xs j y other) (front xs (h ∷ ys) i x one) (front xs (h ∷ ys) j y other) (seam xs ys h) (same_x ∙ sym same_y) same_x))
 
 pub may_halt_by : (restarts : List RestartAt) (xs ys : List HaltAt) (h : HaltAt) → AtMostTwice (xs ++ h ∷ ys) → EachLater (Again restarts) (xs ++ h ∷ ys) → may_halt restarts xs h ≡ true
 may_halt_by restarts xs ys h twice again =
     may_by restarts (halts_of h.proc.0 xs) h.proc.0 h.frame (few_before xs ys h (halts_of h.proc.0 xs) refl twice)
-        (λ some. one_there h.proc.0 xs some (λ i x there same. later_at (Again restarts) xs ys h x i again there same))
+    (λ some. one_there h.proc.0 xs some (λ i x there same. later_at (Again restarts) xs ys h x i again there same))
 
 abbrev pub Apart : HaltAt → HaltAt → Type 0
 Apart a b = a.proc.0 ≡ b.proc.0 → ⊥
@@ -81,15 +81,17 @@ other_procs p (x ∷ xs) apart =
 procs_distinct : (xs : List HaltAt) → EachLater Apart xs → IsDistinct (λ (p q : ℕ). p == q) (map proc_of xs)
 unfolding IsDistinct
 procs_distinct [] apart = tt
-procs_distinct (x ∷ xs) apart =
-    (other_procs x.proc.0 xs (λ i y there same. apart 0 (suc i) x y (omega arith) refl there same),
-     procs_distinct xs (λ i j y z less one other same. apart (suc i) (suc j) y z (omega (arith, less)) one other same))
+procs_distinct (x ∷ xs) apart = (
+  other_procs x.proc.0 xs (λ i y there same. apart 0 (suc i) x y (omega arith) refl there same),
+  procs_distinct xs (λ i j y z less one other same. apart (suc i) (suc j) y z (omega (arith, less)) one other same),
+)
 
 procs_below : (n : ℕ) (xs : List HaltAt) → Each (λ (h : HaltAt). h.proc.0 < n) xs → (q : ℕ) → list_any (λ (p : ℕ). q == p) (map proc_of xs) ≡ true → q < n
 procs_below n [] below q some = absurd cc
-procs_below n (x ∷ xs) below q some = elim (or_cases (q == x.proc.0) (list_any (λ (p : ℕ). q == p) (map proc_of xs)) some)
-    [ inl same ↦ let first = below 0 x refl in grind (arith, nat_tests, same, first)
-    | inr rest ↦ procs_below n xs (λ i y there. below (suc i) y there) q rest ]
+procs_below n (x ∷ xs) below q some = elim (or_cases (q == x.proc.0) (list_any (λ (p : ℕ). q == p) (map proc_of xs)) some) [
+  | inl same ↦ let first = below 0 x refl in grind (arith, nat_tests, same, first)
+  | inr rest ↦ procs_below n xs (λ i y there. below (suc i) y there) q rest
+]
 
 -- as many halts as processors at most, where each halts once
 pub halts_few : (n : ℕ) (xs : List HaltAt) → EachLater Apart xs → Each (λ (h : HaltAt). h.proc.0 < n) xs → length xs ≤ n

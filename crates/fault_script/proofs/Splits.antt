@@ -38,9 +38,9 @@ any_passes p [] i x e passes = absurd cc
 any_passes p (y ∷ ys) zero x e passes = let here : p y ≡ true = ap p (same_Some y x e) ∙ passes in rw here refl
 any_passes p (y ∷ ys) (suc i) x e passes = rw (any_passes p ys i x e passes) (either_true (p y))
   where
-  either_true : (b : Bool) → (b || true) ≡ true
-  either_true true = refl
-  either_true false = refl
+    either_true : (b : Bool) → (b || true) ≡ true
+    either_true true = refl
+    either_true false = refl
 
 none_by : {A : Type 0} (p : A → Bool) (here : Bool) (xs : List A) → (here ≡ true → ⊥) → list_any p xs ≡ false → (here || list_any p xs) ≡ false
 none_by p true xs apart rest = absurd (apart refl)
@@ -85,5 +85,5 @@ pub restart_follows_by : (halts : List HaltAt) (xs ys : List RestartAt) (r : Res
 restart_follows_by halts xs ys r ordered once late =
     let after = restart_after_by (last_of xs) r (λ l last. next_at RestartBefore xs ys r l ordered last) in
     let first = none_any (is_restart_of r.proc.0) xs
-        (λ i y there same. later_at (λ (a b : RestartAt). a.proc.0 ≡ b.proc.0 → ⊥) xs ys r y i once there (grind (arith, nat_tests, same))) in
+    (λ i y there same. later_at (λ (a b : RestartAt). a.proc.0 ≡ b.proc.0 → ⊥) xs ys r y i once there (grind (arith, nat_tests, same))) in
     rw (after, first, well_before halts r.proc.0 r.frame late) refl

@@ -86,7 +86,11 @@ fn make_restart(alloc: Global, spec: &Spec, restart: &RestartAt) -> Result<Value
     json!(in alloc; {"processor": proc, "frame": restart.frame})
 }
 
-fn make_restarts(alloc: Global, spec: &Spec, restarts: &[RestartAt]) -> Result<Vec<Value>, AllocError>
+fn make_restarts(
+    alloc: Global,
+    spec: &Spec,
+    restarts: &[RestartAt],
+) -> Result<Vec<Value>, AllocError>
     ensures { IfOk result (λ vs. map view vs.items ≡ map (restart_data spec.now) restarts.now) }
 {
     let mut values = Vec::new(alloc);
