@@ -9,6 +9,7 @@ pub mod Losses
 pub mod Plain
 pub mod SecondHalts
 pub mod Showing
+pub mod SmallSpec
 pub mod Splits
 pub mod Taken
 pub mod Unseen

@@ -1,0 +1,83 @@
+-- What lists of none, one and two items keep, for the small specification of the tests.
+use Rattle.std.proofs.Common.{rules, ◌≡◌, ℕ, zero, suc, List, [], ◌∷◌, subst, sym, refl, ap, ◌∙◌, length, arith}
+use Rattle.std.specs.Prelude.{slice_get, slice_index_or, Some, codes, pos}
+use Rattle.scram_types.specs.declared.specification.AppSpec.{AppSpec}
+use Rattle.scram_types.specs.declared.specification.Conf.{Conf}
+use Rattle.scram_types.specs.declared.specification.Factor.{Factor}
+use Rattle.scram_types.specs.declared.specification.Policy.TheVariants.{Retarget}
+use Rattle.scram_types.specs.declared.specification.Proc.{Proc}
+use Rattle.scram_types.specs.Specification.{Each, IsAppSpec, IsConf, IsFactor, IsProc, IsSpec, NamesDiffer}
+use Rattle.std.proofs.lemmas.Option.{same_Some}
+
+pub each_none : {A : Type 0} (P : A → Type 0) → Each P []
+each_none P i x there = absurd cc
+
+pub each_one : {A : Type 0} (P : A → Type 0) (x : A) → P x → Each P (x ∷ [])
+each_one P x fact zero y there = subst P (same_Some x y there) fact
+each_one P x fact (suc i) y there = absurd cc
+
+pub each_two : {A : Type 0} (P : A → Type 0) (x y : A) → P x → P y → Each P (x ∷ y ∷ [])
+each_two P x y first second zero z there = subst P (same_Some x z there) first
+each_two P x y first second (suc i) z there = each_one P y second i z there
+
+pub differ_one : {A : Type 0} (name : A → List ℕ) (x : A) → NamesDiffer name (x ∷ [])
+differ_one name x zero zero y z first second same = refl
+differ_one name x zero (suc j) y z first second same = absurd cc
+differ_one name x (suc i) j y z first second same = absurd cc
+
+pub differ_two : {A : Type 0} (name : A → List ℕ) (x y : A) → (name x ≡ name y → ⊥) → NamesDiffer name (x ∷ y ∷ [])
+differ_two name x y apart zero zero a b first second same = refl
+differ_two name x y apart zero (suc zero) a b first second same = absurd (apart (subst (λ z. name z ≡ name y) (sym (same_Some x a first)) (subst (λ z. name a ≡ name z) (sym (same_Some y b second)) same)))
+differ_two name x y apart zero (suc (suc j)) a b first second same = absurd cc
+differ_two name x y apart (suc zero) zero a b first second same = absurd (apart (sym (subst (λ z. name z ≡ name x) (sym (same_Some y a first)) (subst (λ z. name a ≡ name z) (sym (same_Some x b second)) same))))
+differ_two name x y apart (suc zero) (suc zero) a b first second same = refl
+differ_two name x y apart (suc zero) (suc (suc j)) a b first second same = absurd cc
+differ_two name x y apart (suc (suc i)) j a b first second same = absurd cc
+
+-- two processors, one application, one configuration and two factors keep the specification's invariant
+pub small_kept : (p0 p1 : Proc) (app : AppSpec) (conf : Conf) (x0 x1 : Factor) → p0.name ≡ codes "p0" → p1.name ≡ codes "p1" → IsProc p0 → IsProc p1 → IsAppSpec (app ∷ []) app
+    → ((procs : List Proc) (apps : List AppSpec) → IsConf procs apps conf) → x0.name ≡ codes "alternator1" → x1.name ≡ codes "alternator2" → IsFactor x0 → IsFactor x1
+    → IsSpec (record {
+      procs = p0 ∷ p1 ∷ [];
+      apps = app ∷ [];
+      confs = conf ∷ [];
+      factors = x0 ∷ x1 ∷ [];
+      rules = [];
+      bounds = [];
+      start = record { 0 = 0 };
+      goal = record { altitude = pos 5000; heading = pos 900 };
+      invariants = [];
+      preconditions = [];
+      policy = Retarget;
+      halts = 2;
+      changes = 1;
+      window = 40;
+    })
+small_kept p0 p1 app conf x0 x1 name0 name1 kept0 kept1 kept_app kept_conf name_x0 name_x1 kept_x0 kept_x1 = record {
+  procs_count = record { enough = omega arith; few = omega arith };
+  procs_differ = differ_two (λ (p : Proc). p.name) p0 p1 (λ same. let e : 48 ≡ 49 = ap (λ (t : List ℕ). slice_index_or t 1 0) (sym name0 ∙ same ∙ name1) in absurd (omega (arith, e)));
+  procs = each_two IsProc p0 p1 kept0 kept1;
+  apps_count = record { enough = omega arith; few = omega arith };
+  apps_differ = differ_one (λ (a : AppSpec). a.name) app;
+  apps = each_one (IsAppSpec (app ∷ [])) app kept_app;
+  confs_count = record { enough = omega arith; few = omega arith };
+  confs_differ = differ_one (λ (c : Conf). c.name) conf;
+  confs = each_one (IsConf (p0 ∷ p1 ∷ []) (app ∷ [])) conf (kept_conf (p0 ∷ p1 ∷ []) (app ∷ []));
+  factors_count = omega arith;
+  factors_differ = differ_two (λ (x : Factor). x.name) x0 x1 (λ same. let e : 49 ≡ 50 = ap (λ (t : List ℕ). slice_index_or t 10 0) (sym name_x0 ∙ same ∙ name_x1) in absurd (omega (arith, e)));
+  factors = each_two IsFactor x0 x1 kept_x0 kept_x1;
+  rules_count = omega arith;
+  rules = each_none _;
+  bounds_count = omega arith;
+  bounds = each_none _;
+  start = omega arith;
+  goal = record { lowest = search rules; highest = search rules; first = search rules; last = search rules };
+  invariants_count = omega arith;
+  invariants = each_none _;
+  preconditions_count = omega arith;
+  preconditions = each_none _;
+  halts = omega arith;
+  changes = omega arith;
+  window_least = omega arith;
+  window_most = omega arith;
+}
