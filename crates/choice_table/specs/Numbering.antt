@@ -1,0 +1,68 @@
+-- The number of an environment, and the environment of a number.
+use Rattle.std.specs.Prelude.{◌≡◌, ℕ, zero, suc, ◌+◌, ◌-◌, ◌*◌, ◌/◌, ◌%◌, ◌^◌, ◌<◌, ◌≤◌, Bool, true, false, not, nat_lt, List, [], ◌∷◌, ◌++◌, length, replicate, Option, Some, None, if◌then◌else◌}
+use Rattle.scram_types.specs.declared.flights.Env.{Env}
+use Rattle.scram_types.specs.declared.specification.Factor.{Factor}
+use Rattle.scram_types.specs.Specification.{Parts}
+use Rattle.choice_table.specs.Environments.{count_below, in_scope, is_up_in}
+
+-- The numbers below n that pass a test, as bits: the sum of 2 ^ p over them.
+abbrev pub bits_below : (ℕ → Bool) → ℕ → ℕ
+bits_below test zero = 0
+bits_below test (suc n) = bits_below test n + (if test n then 2 ^ n else 0)
+
+-- The processors that are down, as bits.
+abbrev pub down_set : Parts → Env → ℕ
+down_set spec v = bits_below (λ p. not (is_up_in v p)) (length spec.procs)
+
+-- In how many ways factors can have values: the product of their counts of values.
+abbrev pub combinations : List Factor → ℕ
+combinations [] = 1
+combinations (factor ∷ factors) = length factor.values * combinations factors
+
+-- The mixed-radix number of the factors' values, the first factor being the most significant digit.
+abbrev pub digits_of : List Factor → List ℕ → ℕ
+digits_of [] values = 0
+digits_of (factor ∷ factors) [] = 0
+digits_of (factor ∷ factors) (value ∷ values) = value * combinations factors + digits_of factors values
+
+-- The factors' values that a mixed-radix number spells.
+abbrev pub values_of : List Factor → ℕ → List ℕ
+values_of [] digits = []
+values_of (factor ∷ factors) digits = digits / combinations factors ∷ values_of factors (digits % combinations factors)
+
+-- An environment's number: the processors that are down, and below them the factors' values.
+abbrev pub number_of : Parts → Env → ℕ
+number_of spec v = down_set spec v * combinations spec.factors + digits_of spec.factors v.factors
+
+-- How many environments there are; their numbers are those below this.
+abbrev pub environments : Parts → ℕ
+environments spec = 2 ^ length spec.procs * combinations spec.factors
+
+abbrev pub numbered : Parts → ℕ → Env
+numbered spec n = record {
+  up = 2 ^ length spec.procs - 1 - n / combinations spec.factors;
+  factors = values_of spec.factors (n % combinations spec.factors) ++ replicate (6 - length spec.factors) 0;
+}
+
+-- The environment that has this number, if there is one.
+abbrev pub env_of : Parts → ℕ → Option Env
+env_of spec n = if nat_lt n (environments spec) then Some (numbered spec n) else None
+
+-- The environment of number n is in scope.
+abbrev pub is_number_in_scope : Parts → ℕ → Bool
+is_number_in_scope spec n = in_scope spec (numbered spec n)
+
+-- How many environments are in scope.
+abbrev pub states : Parts → ℕ
+states spec = count_below (is_number_in_scope spec) (environments spec)
+
+-- n is the least number from low on whose environment is in scope.
+pub record IsNextInScope (spec : Parts) (low n : ℕ) : Type 0 where
+  pub from : low ≤ n
+  pub inside : n < environments spec
+  pub scope : is_number_in_scope spec n ≡ true
+  pub least : (k : ℕ) → low ≤ k → k < n → is_number_in_scope spec k ≡ false
+
+-- No environment from number low on is in scope.
+abbrev pub NoneInScope : Parts → ℕ → Type 0
+NoneInScope spec low = (k : ℕ) → low ≤ k → k < environments spec → is_number_in_scope spec k ≡ false

@@ -1,0 +1,112 @@
+-- When the applications of a configuration halt, prepare and initialise, and how long that takes.
+use Rattle.std.specs.Prelude.{◌≡◌, ℕ, ◌+◌, ◌<◌, ◌≤◌, Bool, true, false, ◌==◌, List, [], ◌∷◌, length, map, slice_get, Option, Some, option_map, option_and_then, is_some, if◌then◌else◌}
+use Rattle.std.specs.Option.{option_map_or}
+use Rattle.std.specs.List.{list_any}
+use Rattle.scram_types.specs.declared.ids.AppId.{AppId}
+use Rattle.scram_types.specs.declared.ids.ConfId.{ConfId}
+use Rattle.scram_types.specs.declared.specification.ModeSpec.{ModeSpec}
+use Rattle.scram_types.specs.declared.specification.AppSpec.{AppSpec}
+use Rattle.scram_types.specs.declared.specification.Place.{Place}
+use Rattle.scram_types.specs.declared.specification.Conf.{Conf}
+use Rattle.scram_types.specs.Specification.{Parts, IsSpec, mode_in, place_in}
+use Rattle.dep_order.specs.declared.timetables.Times.{Times}
+use Rattle.dep_order.specs.Chains.{Chart, HasFirst, IsOffset, greatest, offset}
+
+-- Where configuration c places application a: nowhere where it is off.
+abbrev pub place_of : Parts → ConfId → ℕ → Option Place
+place_of spec c a = option_and_then (λ (conf : Conf). place_in conf a) (slice_get spec.confs c.0)
+
+abbrev pub is_on : Parts → ConfId → ℕ → Bool
+is_on spec c a = is_some (place_of spec c a)
+
+-- What application a costs in mode m.
+abbrev pub mode_of_app : Parts → ℕ → ℕ → Option ModeSpec
+mode_of_app spec a m = option_and_then (λ (app : AppSpec). mode_in app.modes m) (slice_get spec.apps a)
+
+-- What the mode of application a in configuration c costs, if a is on there.
+abbrev pub mode_of : Parts → ConfId → ℕ → Option ModeSpec
+mode_of spec c a = option_and_then (λ (place : Place). mode_of_app spec a place.mode.0) (place_of spec c a)
+
+-- How many frames its halt, its preparation and its initialisation take there: 0 where it is off.
+abbrev pub halt_time : Parts → ConfId → ℕ → ℕ
+halt_time spec c a = option_map_or (λ (listed : ModeSpec). listed.halt) (mode_of spec c a) 0
+
+abbrev pub prepare_time : Parts → ConfId → ℕ → ℕ
+prepare_time spec c a = option_map_or (λ (listed : ModeSpec). listed.prepare) (mode_of spec c a) 0
+
+abbrev pub init_time : Parts → ConfId → ℕ → ℕ
+init_time spec c a = option_map_or (λ (listed : ModeSpec). listed.init) (mode_of spec c a) 0
+
+-- Application b needs application a.
+abbrev pub is_named : List AppId → ℕ → Bool
+is_named needs a = list_any (λ (needed : AppId). needed.0 == a) needs
+
+abbrev pub needs : Parts → ℕ → ℕ → Bool
+needs spec b a = option_map_or (λ (app : AppSpec). is_named app.needs a) (slice_get spec.apps b) false
+
+-- Dependents halt before what they need, and what is needed initialises before its dependents.
+abbrev pub halt_chart : Parts → ConfId → Chart
+halt_chart spec c = record { apps = length spec.apps; on = is_on spec c; before = needs spec; time = halt_time spec c }
+
+abbrev pub init_chart : Parts → ConfId → Chart
+init_chart spec c = record { apps = length spec.apps; on = is_on spec c; before = λ b a. needs spec a b; time = init_time spec c }
+
+-- The greatest sum of halt times over the chains of dependents above application a.
+abbrev pub halt_offset : Parts → ConfId → ℕ → ℕ
+halt_offset spec c a = offset (halt_chart spec c) a
+
+-- The greatest sum of init times over the chains of what application a needs.
+abbrev pub init_offset : Parts → ConfId → ℕ → ℕ
+init_offset spec c a = offset (init_chart spec c) a
+
+abbrev pub where_on : Parts → ConfId → ℕ → ℕ → ℕ
+where_on spec c a n = if is_on spec c a then n else 0
+
+-- How long a configuration takes to halt, to prepare and to initialise: 0 where nothing is on.
+abbrev pub halting_time : Parts → ConfId → ℕ
+halting_time spec c = greatest (λ a. where_on spec c a (halt_offset spec c a + halt_time spec c a)) (length spec.apps)
+
+abbrev pub preparing_time : Parts → ConfId → ℕ
+preparing_time spec c = greatest (prepare_time spec c) (length spec.apps)
+
+abbrev pub initialising_time : Parts → ConfId → ℕ
+initialising_time spec c = greatest (λ a. where_on spec c a (init_offset spec c a + init_time spec c a)) (length spec.apps)
+
+-- A value for each of eight applications.
+abbrev pub eight : (ℕ → ℕ) → List ℕ
+eight value = map value (0 ∷ 1 ∷ 2 ∷ 3 ∷ 4 ∷ 5 ∷ 6 ∷ 7 ∷ [])
+
+abbrev pub timetable : Parts → ConfId → Times
+timetable spec c = record {
+  halt = eight (λ a. where_on spec c a (halt_offset spec c a));
+  init = eight (λ a. where_on spec c a (init_offset spec c a));
+  h = halting_time spec c;
+  p = preparing_time spec c;
+  i = initialising_time spec c;
+}
+
+-- Halt and init offsets are greatest sums over chains.
+pub record OffsetsAreSums (spec : Parts) (c : ConfId) : Type 0 where
+  pub halt : IsOffset (halt_chart spec c)
+  pub init : IsOffset (init_chart spec c)
+
+-- Each phase of an application that is on ends in time, a phase takes at least a frame where something is
+-- on, and something halts and something initialises at once.
+pub record IsInTime (spec : Parts) (c : ConfId) : Type 0 where
+  pub halts : (a : ℕ) → is_on spec c a ≡ true → halt_offset spec c a + halt_time spec c a ≤ halting_time spec c
+  pub prepares : (a : ℕ) → is_on spec c a ≡ true → prepare_time spec c a ≤ preparing_time spec c
+  pub initialises : (a : ℕ) → is_on spec c a ≡ true → init_offset spec c a + init_time spec c a ≤ initialising_time spec c
+  pub halt_least : (a : ℕ) → is_on spec c a ≡ true → 1 ≤ halt_time spec c a
+  pub prepare_least : (a : ℕ) → is_on spec c a ≡ true → 1 ≤ prepare_time spec c a
+  pub init_least : (a : ℕ) → is_on spec c a ≡ true → 1 ≤ init_time spec c a
+  pub halt_first : HasFirst (halt_chart spec c)
+  pub init_first : HasFirst (init_chart spec c)
+  pub halt_most : halting_time spec c ≤ 128
+  pub prepare_most : preparing_time spec c ≤ 16
+  pub init_most : initialising_time spec c ≤ 128
+
+abbrev pub OffsetsAreGreatestSums : Type 0
+OffsetsAreGreatestSums = (spec : Parts) → IsSpec spec → (c : ConfId) → OffsetsAreSums spec c
+
+abbrev pub PhasesEndInTime : Type 0
+PhasesEndInTime = (spec : Parts) → IsSpec spec → (c : ConfId) → IsInTime spec c

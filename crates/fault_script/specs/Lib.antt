@@ -1,0 +1,4 @@
+pub mod Times
+pub mod Environments
+pub mod Fits
+pub mod Laws

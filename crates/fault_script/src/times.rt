@@ -1,0 +1,81 @@
+//! What a script says of a processor and of a frame.
+
+ghost use Rattle.std.specs.Prelude.{◌≡◌};
+ghost use Rattle.fault_script.specs.Times.{factors_at, halt_in, halt_of, restart_of, restarted, value_after};
+
+use scram_types::{HaltAt, ProcId, Script};
+
+/// The values of the six factors in a frame, each by its number: that of the factor's last change up to
+/// the frame, and 0 without one. It takes no memory.
+pub fn factors_at(script: &Script, frame: u32) -> [u8; 6]
+    ensures { result ≡ factors_at script.now frame }
+{
+    [
+        value_at(script, 0, frame),
+        value_at(script, 1, frame),
+        value_at(script, 2, frame),
+        value_at(script, 3, frame),
+        value_at(script, 4, frame),
+        value_at(script, 5, frame),
+    ]
+}
+
+fn value_at(script: &Script, factor: u8, frame: u32) -> u8
+    ensures { result ≡ value_after script.now.changes factor frame 0 }
+{
+    let mut value = 0;
+    for change in script.changes.items() {
+        if change.factor.0 == factor && change.frame <= frame {
+            value = change.value;
+        }
+    }
+    value
+}
+
+/// The first halt of a processor, or `None` where the script has no halt of it. It takes no memory.
+pub fn halt_of(script: &Script, proc: ProcId) -> Option<HaltAt>
+    ensures { result ≡ halt_of script.now proc.0 }
+{
+    for halt in script.halts.items() {
+        if halt.proc.0 == proc.0 {
+            return Some(*halt);
+        }
+    }
+    None
+}
+
+/// The halt of a processor in a frame, or `None` where it has none there. It takes no memory.
+pub fn halt_in(script: &Script, proc: ProcId, frame: u32) -> Option<HaltAt>
+    ensures { result ≡ halt_in script.now proc.0 frame }
+{
+    for halt in script.halts.items() {
+        if halt.proc.0 == proc.0 && halt.frame == frame {
+            return Some(*halt);
+        }
+    }
+    None
+}
+
+/// The frame in which a processor restarts, or `None` where it never does. It takes no memory.
+pub fn restart_of(script: &Script, proc: ProcId) -> Option<u32>
+    ensures { result ≡ restart_of script.now proc.0 }
+{
+    for restart in script.restarts.items() {
+        if restart.proc.0 == proc.0 {
+            return Some(restart.frame);
+        }
+    }
+    None
+}
+
+// Whether a processor restarts after frame `after` and in a frame up to `frame`.
+fn has_restarted(script: &Script, proc: ProcId, after: u32, frame: u32) -> bool
+    ensures { result ≡ restarted script.now proc.0 after frame }
+{
+    for restart in script.restarts.items() {
+        if restart.proc.0 == proc.0 && after < restart.frame && restart.frame <= frame {
+            return true;
+        }
+    }
+    false
+}
