@@ -1,0 +1,6 @@
+pub mod Equality
+pub mod Within
+pub mod Tables
+pub mod Runs
+pub mod AreaLaws
+pub mod Fitting

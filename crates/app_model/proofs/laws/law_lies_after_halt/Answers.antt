@@ -1,0 +1,5 @@
+use Rattle.app_model.proofs.AreaLaws.{law_lies_after_halt}
+use Rattle.app_model.proofs.laws.law_lies_after_halt.Goals as goal
+
+pub returns : goal.returns
+returns c = law_lies_after_halt

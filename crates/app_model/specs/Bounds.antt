@@ -1,0 +1,24 @@
+-- The tables of ranges as least and greatest numbers, the status with them.
+use Rattle.std.specs.Prelude.{ℕ, ℤ, pos, ◌==◌, if◌then◌else◌}
+use Rattle.scram_types.specs.declared.ranges.Range.{Range}
+use Rattle.scram_types.specs.Numbers.{minus}
+use Rattle.app_model.specs.Ranges.{range_of, initialised_range, sane_range, moves}
+
+abbrev pub ends : Range → ℤ × ℤ
+ends r = (minus r.below, pos r.above)
+
+-- while an application of the kind does an act in a mode: act 1 run, 2 halt, 3 prepare, 4 init
+unfoldable pub during : ℕ → ℕ → ℕ → ℕ → ℤ × ℤ
+during kind act mode i = if i == 0 then (pos act, pos act) else ends (range_of kind mode i)
+
+-- after the last frame of a halt
+unfoldable pub after_halt : ℕ → ℕ → ℕ → ℤ × ℤ
+after_halt kind mode i = if moves kind i then (pos 0, pos 0) else during kind 2 mode i
+
+-- after the last frame of an init phase
+unfoldable pub after_init : ℕ → ℕ → ℕ → ℤ × ℤ
+after_init kind mode i = if i == 0 then (pos 4, pos 4) else ends (initialised_range kind mode i)
+
+-- the widest of the modes' ranges
+unfoldable pub sane : ℕ → ℕ → ℤ × ℤ
+sane kind i = ends (sane_range kind i)

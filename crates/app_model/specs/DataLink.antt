@@ -1,0 +1,38 @@
+-- What the data link's run leaves.
+use Rattle.std.specs.Prelude.{ℕ, ℤ, pos, ◌-ℤ◌, ◌+ℤ◌, ◌==◌, List, [], ◌∷◌, if◌then◌else◌}
+use Rattle.std.specs.Int.{int_min}
+use Rattle.std.specs.Ordering.{int_eq}
+use Rattle.app_model.specs.declared.seen.Seen.{Seen}
+use Rattle.app_model.specs.Reads.{own_word, lead_word, ticks_after}
+
+-- one message where the application of a kind runs
+unfoldable pub fresh_of : ℕ → Seen → ℤ
+fresh_of kind seen = if int_eq (lead_word kind seen 0) (pos 1) then pos 1 else pos 0
+
+unfoldable pub fresh : Seen → ℤ
+fresh seen = ((fresh_of 0 seen +ℤ fresh_of 1 seen) +ℤ fresh_of 2 seen) +ℤ fresh_of 3 seen
+
+unfoldable pub rate_after : Seen → ℤ
+rate_after seen = if seen.mode.0 == 1 then pos 4 else pos 1
+
+unfoldable pub waiting : Seen → ℤ
+waiting seen = own_word 4 seen 1 +ℤ fresh seen
+
+unfoldable pub going : Seen → ℤ
+going seen = int_min (rate_after seen) (waiting seen)
+
+unfoldable pub queued_after : Seen → ℤ
+queued_after seen = int_min (waiting seen -ℤ going seen) (pos 64)
+
+unfoldable pub sent_after : Seen → ℤ
+sent_after seen = int_min (own_word 4 seen 2 +ℤ going seen) (pos 1000000)
+
+-- messages that neither go nor find room in the queue
+unfoldable pub left_over : Seen → ℤ
+left_over seen = (waiting seen -ℤ going seen) -ℤ queued_after seen
+
+unfoldable pub dropped_after : Seen → ℤ
+dropped_after seen = int_min (own_word 4 seen 4 +ℤ left_over seen) (pos 1000000)
+
+unfoldable pub data_link_ran : Seen → List ℤ
+data_link_ran seen = pos 1 ∷ queued_after seen ∷ sent_after seen ∷ rate_after seen ∷ dropped_after seen ∷ pos 0 ∷ ticks_after 4 seen ∷ pos 0 ∷ []

@@ -1,0 +1,14 @@
+pub mod Ranges
+pub mod Reads
+pub mod Orders
+pub mod Headings
+pub mod Autopilot
+pub mod FlightControl
+pub mod PowerMonitor
+pub mod Navigator
+pub mod DataLink
+pub mod Law
+pub mod Starts
+pub mod Bounds
+pub mod Areas
+pub mod Racks

@@ -1,0 +1,13 @@
+-- When racks fit. How a box's kind is read, and a rack's boxes, is an argument.
+use Rattle.std.specs.Prelude.{◌≡◌, ℕ, List, [], ◌∷◌, length, map, All}
+
+-- Five boxes: that of kind k at place k.
+abbrev pub Fits : {B : Type 0} → (B → ℕ) → List B → Type 0
+Fits kind boxes = map kind boxes ≡ 0 ∷ 1 ∷ 2 ∷ 3 ∷ 4 ∷ []
+
+abbrev pub AllFit : {B R : Type 0} → (B → ℕ) → (R → List B) → List R → Type 0
+AllFit kind boxes racks = All (λ r. Fits kind (boxes r)) racks
+
+-- One rack for each of the eight processors.
+abbrev pub RacksFit : {B R : Type 0} → (B → ℕ) → (R → List B) → List R → Type 0
+RacksFit kind boxes racks = (length racks ≡ 8) × AllFit kind boxes racks

@@ -1,0 +1,31 @@
+-- What a law reads, clamped to its range.
+use Rattle.std.specs.Prelude.{ℕ, ℤ, pos, ◌+ℤ◌, [], slice_index_or}
+use Rattle.std.specs.Int.{int_min}
+use Rattle.app_model.specs.declared.seen.Seen.{Seen}
+use Rattle.scram_types.specs.Numbers.{word}
+use Rattle.scram_types.specs.Ranges.{clamp_in, limit}
+use Rattle.app_model.specs.Ranges.{range_of, sane_range}
+
+-- word i of the own area, in the range of the mode that the application is to be in
+unfoldable pub own_word : ℕ → Seen → ℕ → ℤ
+own_word kind seen i = clamp_in (range_of kind seen.mode.0 i) (word seen.own i)
+
+-- word i of the area of the least-numbered application of a kind
+unfoldable pub lead_word : ℕ → Seen → ℕ → ℤ
+lead_word kind seen i = clamp_in (sane_range kind i) (word (slice_index_or seen.lead kind []) i)
+
+unfoldable pub altitude : Seen → ℤ
+altitude seen = clamp_in (limit 0 40000) seen.world.alt
+
+unfoldable pub heading : Seen → ℤ
+heading seen = clamp_in (limit 0 3599) seen.world.heading
+
+unfoldable pub goal_altitude : Seen → ℤ
+goal_altitude seen = clamp_in (limit 0 40000) seen.goal.altitude
+
+unfoldable pub goal_heading : Seen → ℤ
+goal_heading seen = clamp_in (limit 0 3599) seen.goal.heading
+
+-- frames in which the application ran
+unfoldable pub ticks_after : ℕ → Seen → ℤ
+ticks_after kind seen = int_min (own_word kind seen 6 +ℤ pos 1) (pos 1000000)

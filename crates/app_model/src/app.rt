@@ -1,0 +1,23 @@
+//! Applications as objects that the caller hands in.
+
+ghost use Rattle.std.specs.Prelude.{◌≡◌, ℕ};
+ghost use Rattle.app_model.specs.Law.{law};
+
+use crate::seen::Seen;
+use scram_types::{Area, KindId, Order};
+
+/// An application of a kind. It may keep what it likes, but what it answers depends on the order and on
+/// what it sees alone.
+pub trait App: Drop {
+    ghost kind_of: { Self → ℕ };
+
+    /// The application's kind.
+    fn kind(&self) -> KindId
+        ensures { result.0 ≡ kind_of self.now };
+
+    /// The application's area after a frame with this order: the law of its kind, whatever the object
+    /// keeps, for every order, mode, area, world, factors and goal. The kind stays. It takes no memory.
+    fn frame(&mut self, order: Order, seen: &Seen) -> Area
+        ensures answer { result ≡ law (kind_of self.old) order seen.now }
+        ensures same { kind_of self.new ≡ kind_of self.old };
+}

@@ -1,0 +1,57 @@
+//! The tables of ranges: the least and the greatest number of each variable.
+#![tactic(auto, unfolding(crate::specs::Bounds::during, crate::specs::Bounds::after_halt, crate::specs::Bounds::after_init, crate::specs::Bounds::sane))]
+
+ghost use Rattle.std.specs.Prelude.{◌≡◌};
+ghost use Rattle.app_model.specs.Bounds.{ends, during, after_halt, after_init, sane};
+
+use crate::ranges::{is_moving, mode_range, range_when_initialised, widest_range};
+use scram_types::{KindId, Mode, Range};
+
+fn ends_of(range: Range) -> (i64, i64)
+    ensures { result ≡ ends range }
+{
+    (-i64::from(range.below), i64::from(range.above))
+}
+
+/// The least and the greatest number of a variable while an application of the kind does an act in a
+/// mode. `act` is the number that the status has then: 1 run, 2 halt, 3 prepare, 4 init. The units are
+/// those of [`crate::kinds`].
+pub fn during(kind: KindId, act: u8, mode: Mode, variable: u8) -> (i64, i64)
+    ensures { result ≡ during kind.0 act mode.0 variable }
+{
+    if variable == 0 {
+        (i64::from(act), i64::from(act))
+    } else {
+        ends_of(mode_range(kind.0, mode.0, usize::from(variable)))
+    }
+}
+
+/// The least and the greatest number of a variable after the last frame of a halt: 0 for those that
+/// the halt brings to 0.
+pub fn after_halt(kind: KindId, mode: Mode, variable: u8) -> (i64, i64)
+    ensures { result ≡ after_halt kind.0 mode.0 variable }
+{
+    if is_moving(kind.0, usize::from(variable)) {
+        (0, 0)
+    } else {
+        during(kind, 2, mode, variable)
+    }
+}
+
+/// The least and the greatest number of a variable after the last frame of an init phase.
+pub fn after_init(kind: KindId, mode: Mode, variable: u8) -> (i64, i64)
+    ensures { result ≡ after_init kind.0 mode.0 variable }
+{
+    if variable == 0 {
+        (4, 4)
+    } else {
+        ends_of(range_when_initialised(kind.0, mode.0, usize::from(variable)))
+    }
+}
+
+/// The least and the greatest number of a variable over all modes of the kind, 0 to 4 for the status.
+pub fn sane(kind: KindId, variable: u8) -> (i64, i64)
+    ensures { result ≡ sane kind.0 variable }
+{
+    ends_of(widest_range(kind.0, usize::from(variable)))
+}

@@ -1,0 +1,47 @@
+//! What an application remembers of its last call.
+
+ghost use Rattle.std.specs.Prelude.{◌≡◌, IfSome};
+ghost use Rattle.app_model.specs.Law.{law};
+
+use crate::comparisons::{same_order, same_seen};
+use crate::seen::Seen;
+use scram_types::{Area, Order};
+
+/// The last call of an application: its order, what was seen, and the answer, which is the law of the
+/// kind.
+#[derive(Clone, Copy)]
+pub struct LastCall {
+    kind: u8,
+    order: Order,
+    seen: Seen,
+    answer: Area,
+    ghost right: { answer ≡ law kind order seen },
+}
+
+impl LastCall {
+    /// The call of an application of the kind with this answer.
+    pub fn of(kind: u8, order: Order, seen: &Seen, answer: &Area) -> LastCall
+        requires { answer.now ≡ law kind order seen.now }
+        ensures kind { result.kind ≡ kind }
+        ensures order { result.order ≡ order }
+        ensures seen { result.seen ≡ seen.now }
+    {
+        LastCall {
+            kind,
+            order,
+            seen: *seen,
+            answer: *answer,
+        }
+    }
+
+    /// The answer once more, where this is the same call; else `None`.
+    pub fn answer_to(&self, kind: u8, order: Order, seen: &Seen) -> Option<Area>
+        ensures { IfSome result (λ area. area ≡ law kind order seen.now) }
+    {
+        if self.kind == kind && same_order(self.order, order) && same_seen(&self.seen, seen) {
+            Some(self.answer)
+        } else {
+            None
+        }
+    }
+}

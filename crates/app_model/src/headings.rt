@@ -1,0 +1,42 @@
+//! Turns from one heading to another, in tenths of a degree.
+#![tactic(auto, unfolding(scram_types::specs::Numbers::modulo, crate::specs::Headings::turn))]
+
+ghost use Rattle.std.specs.Prelude.{◌≡◌, ◌≤ℤ◌, ◌-ℤ◌, ◌+ℤ◌, pos};
+ghost use Rattle.scram_types.specs.Numbers.{IsWord, modulo};
+ghost use Rattle.app_model.specs.Headings.{turn};
+
+fn around(x: i64) -> i64
+    ensures value { result ≡ modulo x 3600 }
+    ensures low { pos 0 ≤ℤ result }
+    ensures high { result ≤ℤ pos 3599 }
+{
+    x.rem_euclid(3_600)
+}
+
+fn turn_offset(target: i64, from: i64) -> i64
+    requires target { IsWord target }
+    requires from { IsWord from }
+    ensures { result ≡ (target -ℤ from) +ℤ pos 5400 }
+{
+    target - from + 5_400
+}
+
+fn centred(x: i64) -> i64
+    requires low { pos 0 ≤ℤ x }
+    requires high { x ≤ℤ pos 3599 }
+    ensures value { result ≡ x -ℤ pos 1800 }
+    ensures word { IsWord result }
+{
+    x - 1_800
+}
+
+/// The turn from one heading to another, the short way: -1,800 to 1,799 tenths of a degree, where
+/// less than 0 is to the left.
+pub fn turn_to(target: i64, from: i64) -> i64
+    requires target { IsWord target }
+    requires from { IsWord from }
+    ensures value { result ≡ turn target from }
+    ensures word { IsWord result }
+{
+    centred(around(turn_offset(target, from)))
+}

@@ -1,0 +1,109 @@
+//! The kinds of application: their numbers, their modes and what the words of their areas hold.
+//!
+//! Word 0 of every area is the status: 1 as the application runs, 2 as it halts, 3 as it prepares, 4
+//! as it initialises, 0 where it is off. Word 6 counts the frames in which it ran, 0 to 1,000,000.
+
+/// What the words of every kind's area share.
+pub mod every_kind {
+    /// The status: 0 off, 1 run, 2 halt, 3 prepare, 4 init.
+    pub const STATUS: usize = 0;
+    /// Frames in which the application ran, 0 to [`MOST_TICKS`], where it stays.
+    pub const TICKS: usize = 6;
+    /// The greatest count of frames.
+    pub const MOST_TICKS: u32 = 1_000_000;
+}
+
+/// The autopilot: it commands pitch and roll so that the aircraft comes to a target altitude and a
+/// target heading.
+pub mod autopilot {
+    /// The kind's number.
+    pub const KIND: u8 = 0;
+    /// The mode in which the targets are the mission's goal.
+    pub const NAVIGATE: u8 = 1;
+    /// The mode in which the targets stay and the wings are kept level.
+    pub const HOLD: u8 = 2;
+    /// The pitch that it commands, in tenths of a degree: -100 to 100 in `navigate`, -80 to 80 in
+    /// `hold`.
+    pub const PITCH: usize = 1;
+    /// The roll that it commands, in tenths of a degree: -150 to 150 in `navigate`, 0 in `hold`.
+    pub const ROLL: usize = 2;
+    /// The altitude that it flies to, in feet: 0 to 40,000.
+    pub const TARGET_ALT: usize = 3;
+    /// The heading that it flies to, in tenths of a degree: 0 to 3,599.
+    pub const TARGET_HEADING: usize = 4;
+    /// The sum of the altitude errors, in feet: -4,000 to 4,000.
+    pub const INTEGRAL: usize = 5;
+}
+
+/// The flight control: it moves the surfaces as the autopilot commands.
+pub mod flight_control {
+    /// The kind's number.
+    pub const KIND: u8 = 1;
+    /// The mode in which the surfaces move toward the command, a step each frame.
+    pub const AUGMENTED: u8 = 1;
+    /// The mode in which the surfaces stand at twice the command.
+    pub const DIRECT: u8 = 2;
+    /// The elevator, in tenths of a degree: -100 to 100 in `augmented`, -200 to 200 in `direct`.
+    pub const ELEVATOR: usize = 1;
+    /// The aileron, in tenths of a degree: -150 to 150 in `augmented`, -300 to 300 in `direct`.
+    pub const AILERON: usize = 2;
+    /// The pitch that was commanded, in tenths of a degree: -100 to 100.
+    pub const COMMAND_PITCH: usize = 3;
+    /// The roll that was commanded, in tenths of a degree: -150 to 150.
+    pub const COMMAND_ROLL: usize = 4;
+}
+
+/// The power monitor: it keeps account of the battery's charge.
+pub mod power_monitor {
+    /// The kind's number.
+    pub const KIND: u8 = 2;
+    /// The mode that takes 100 charge units a frame.
+    pub const NORMAL: u8 = 1;
+    /// The mode that takes 60 charge units a frame.
+    pub const SAVER: u8 = 2;
+    /// The mode that takes 20 charge units a frame.
+    pub const ESSENTIAL: u8 = 3;
+    /// The battery's charge, in charge units: 0 to 10,000.
+    pub const CHARGE: usize = 1;
+    /// What the alternators give in a frame, in charge units: 0 to 120.
+    pub const SUPPLY: usize = 2;
+    /// What the loads take in a frame, in charge units: 0 to 100 in `normal`, 0 to 60 in `saver`, 0 to
+    /// 20 in `essential`.
+    pub const DEMAND: usize = 3;
+    /// 1 where loads are to be shed, else 0.
+    pub const SHED: usize = 4;
+}
+
+/// The navigator: it tells how far the aircraft is off its goal.
+pub mod navigator {
+    /// The kind's number.
+    pub const KIND: u8 = 3;
+    /// The mode that minds heading and altitude.
+    pub const ROUTE: u8 = 1;
+    /// The mode that minds the heading alone.
+    pub const COARSE: u8 = 2;
+    /// The turn to the goal's heading, in tenths of a degree: -1,800 to 1,799.
+    pub const BEARING_ERROR: usize = 1;
+    /// The climb to the goal's altitude, in feet: -5,000 to 5,000 in `route`, 0 in `coarse`.
+    pub const CLIMB_LEFT: usize = 2;
+    /// 1 where the aircraft is on course, else 0.
+    pub const ON_COURSE: usize = 3;
+}
+
+/// The data link: it sends a message for each application that runs.
+pub mod data_link {
+    /// The kind's number.
+    pub const KIND: u8 = 4;
+    /// The mode that sends up to 4 messages a frame.
+    pub const FAST: u8 = 1;
+    /// The mode that sends up to 1 message a frame.
+    pub const SLOW: u8 = 2;
+    /// Messages that wait: 0 to 64.
+    pub const QUEUED: usize = 1;
+    /// Messages sent so far: 0 to 1,000,000, where the count stays.
+    pub const SENT: usize = 2;
+    /// The most messages that a frame may send: 0 to 4 in `fast`, 0 to 1 in `slow`.
+    pub const RATE: usize = 3;
+    /// Messages dropped so far: 0 to 1,000,000, where the count stays.
+    pub const DROPPED: usize = 4;
+}

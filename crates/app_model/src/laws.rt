@@ -1,0 +1,31 @@
+//! What holds of every law: its areas lie in the tables' ranges. Each function here states a law of the
+//! definitions by its contract and does nothing.
+
+ghost use Rattle.app_model.specs.Areas.{LawLiesDuring, LawLiesAfterHalt, LawLiesAfterInit, StartLiesAfterInit, AllTablesNarrow};
+
+/// The area that the law of a kind answers lies in the ranges of the act that was ordered, in the mode
+/// that the application is to be in, whatever it sees.
+pub fn law_lies_during()
+    ensures { LawLiesDuring }
+{}
+
+/// After the last frame of a halt the area lies in the ranges after a halt.
+pub fn law_lies_after_halt()
+    ensures { LawLiesAfterHalt }
+{}
+
+/// After the last frame of an init phase the area lies in the ranges after an init phase.
+pub fn law_lies_after_init()
+    ensures { LawLiesAfterInit }
+{}
+
+/// The area that an application begins with lies in the ranges after an init phase, in every mode.
+pub fn start_lies_after_init()
+    ensures { StartLiesAfterInit }
+{}
+
+/// The ranges after a halt and after an init phase lie in those of the phase, and the sane ranges hold
+/// all others.
+pub fn tables_narrow()
+    ensures { AllTablesNarrow }
+{}

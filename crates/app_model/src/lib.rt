@@ -1,0 +1,24 @@
+//! Boxed applications and their laws. Whatever an application keeps in itself, what it answers in a
+//! frame is the law of its kind, read off the order and what it was shown, and the area that it
+//! answers lies in the ranges of its act.
+#![tactic(auto)]
+
+pub mod app;
+pub mod bounds;
+pub mod calls;
+pub mod comparisons;
+pub mod headings;
+pub mod kinds;
+pub mod laws;
+pub mod orders;
+pub mod racks;
+pub mod ranges;
+pub mod reads;
+pub mod seen;
+pub mod starts;
+
+pub use app::App;
+pub use bounds::{after_halt, after_init, during, sane};
+pub use racks::{Rack, rack_fits, racks_fit};
+pub use seen::Seen;
+pub use starts::start_area;
