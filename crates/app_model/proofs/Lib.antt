@@ -4,3 +4,4 @@ pub mod Tables
 pub mod Runs
 pub mod AreaLaws
 pub mod Fitting
+pub mod Spelling

@@ -11,4 +11,5 @@ pub mod Law
 pub mod Starts
 pub mod Bounds
 pub mod Areas
+pub mod Names
 pub mod Racks

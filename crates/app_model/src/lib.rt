@@ -10,6 +10,7 @@ pub mod comparisons;
 pub mod headings;
 pub mod kinds;
 pub mod laws;
+pub mod names;
 pub mod orders;
 pub mod racks;
 pub mod ranges;
@@ -19,6 +20,7 @@ pub mod starts;
 
 pub use app::App;
 pub use bounds::{after_halt, after_init, during, sane};
+pub use names::{kind_name, kind_named, mode_name, mode_named, variable_name, variable_named};
 pub use racks::{Rack, rack_fits, racks_fit};
 pub use seen::Seen;
 pub use starts::start_area;

@@ -1,0 +1,108 @@
+-- Names and numbers lead to one another, where no name stands twice in a table.
+use Rattle.std.proofs.Common.{◌≡◌, ◌∙◌, refl, ap, subst, ℕ, zero, suc, ◌<◌, ◌+◌, Bool, true, false, ◌&&◌, ◌||◌, not, if◌then◌else◌, List, [], ◌∷◌, Option, Some, None, slice_get, arith}
+use Rattle.std.specs.Str.{bytes_eq}
+use Rattle.std.proofs.Math.Bool.{or-true}
+use Rattle.std.proofs.lemmas.Slice.Eq.{bytes_eq-Decides}
+use Rattle.app_model.specs.Names.{kind_names, mode_names, variable_names, name_at, is_spelled, number_from, number_of, NamesAgree, AllNamesAgree}
+use Rattle.app_model.proofs.Within.{each_kind}
+
+-- a text stands in a table
+abbrev stands : List (Option (List ℕ)) → List ℕ → Bool
+stands [] text = false
+stands (name ∷ names) text = is_spelled name text || stands names text
+
+abbrev is_new : Option (List ℕ) → List (Option (List ℕ)) → Bool
+is_new None names = true
+is_new (Some name) names = not (stands names name)
+
+-- no name stands twice
+abbrev differ : List (Option (List ℕ)) → Bool
+differ [] = true
+differ (name ∷ names) = is_new name names && differ names
+
+spelled_itself : (text : List ℕ) → bytes_eq text text ≡ true
+spelled_itself text = (bytes_eq-Decides text text).1 refl
+
+same_text : (a b : List ℕ) → bytes_eq a b ≡ true → a ≡ b
+same_text a b e = (bytes_eq-Decides a b).0 e
+
+stands_at : (names : List (Option (List ℕ))) (i : ℕ) (text : List ℕ) → name_at names i ≡ Some text → stands names text ≡ true
+stands_at [] i text h = cc
+stands_at (None ∷ names) zero text h = cc
+stands_at (Some name ∷ names) zero text h =
+    let e : name ≡ text = cc in
+    let t = spelled_itself text in
+    rw (e, t) refl
+stands_at (name ∷ names) (suc i) text h = rw (stands_at names i text h) (or-true (is_spelled name text))
+
+not_spelled : (name text : List ℕ) (names : List (Option (List ℕ))) (b : Bool) → stands names text ≡ true → (not (stands names name) && b) ≡ true → bytes_eq name text ≡ false
+not_spelled name text names b s d = by (bytes_eq name text) refl
+  where
+    by : (c : Bool) → bytes_eq name text ≡ c → c ≡ false
+    by false e = refl
+    by true e =
+        let same : name ≡ text = same_text name text e in
+        let new : (not (stands names text) && b) ≡ true = subst (λ (t : List ℕ). (not (stands names t) && b) ≡ true) same d in
+        let no : (not true && b) ≡ true = subst (λ (c : Bool). (not c && b) ≡ true) s new in
+        cc
+
+and_right : (b c : Bool) → (b && c) ≡ true → c ≡ true
+and_right true c e = e
+and_right false c e = cc
+
+named_from : (n : ℕ) (names : List (Option (List ℕ))) (i : ℕ) (text : List ℕ) → differ names ≡ true → name_at names i ≡ Some text → number_from n names text ≡ Some (n + i)
+named_from n [] i text d h = cc
+named_from n (None ∷ names) zero text d h = cc
+named_from n (Some name ∷ names) zero text d h =
+    let e : name ≡ text = cc in
+    let t = spelled_itself text in
+    let sum : n + 0 ≡ n = omega arith in
+    rw (e, t, sum) refl
+named_from n (None ∷ names) (suc i) text d h =
+    let sum : (n + 1) + i ≡ n + suc i = omega arith in
+    named_from (n + 1) names i text d h ∙ ap Some sum
+named_from n (Some name ∷ names) (suc i) text d h =
+    let other : bytes_eq name text ≡ false = not_spelled name text names (differ names) (stands_at names i text h) d in
+    let sum : (n + 1) + i ≡ n + suc i = omega arith in
+    rw other (named_from (n + 1) names i text (and_right (not (stands names name)) (differ names) d) h ∙ ap Some sum)
+
+record Found (n : ℕ) (names : List (Option (List ℕ))) (text : List ℕ) (m : ℕ) : Type 0 where
+  place : ℕ
+  sum : m ≡ n + place
+  there : name_at names place ≡ Some text
+
+spelled_is : (name : Option (List ℕ)) (text : List ℕ) → is_spelled name text ≡ true → name ≡ Some text
+spelled_is None text e = cc
+spelled_is (Some name) text e = ap Some (same_text name text e)
+
+spelled_from : (n : ℕ) (names : List (Option (List ℕ))) (text : List ℕ) (m : ℕ) → number_from n names text ≡ Some m → Found n names text m
+spelled_from n [] text m h = cc
+spelled_from n (name ∷ names) text m h = by (is_spelled name text) refl h (spelled_from (n + 1) names text m)
+  where
+    by : (c : Bool) → is_spelled name text ≡ c → (if c then Some n else number_from (n + 1) names text) ≡ Some m
+        → (number_from (n + 1) names text ≡ Some m → Found (n + 1) names text m) → Found n (name ∷ names) text m
+    by true e f later =
+        let same : n ≡ m = cc in
+        record { place = 0; sum = omega arith; there = spelled_is name text e }
+    by false e f later =
+        let rest = later f in
+        let sum = rest.sum in
+        record { place = suc rest.place; sum = omega arith; there = rest.there }
+
+agree : (names : List (Option (List ℕ))) → differ names ≡ true → NamesAgree names
+agree names d = record {
+  named = λ number text h.
+      let sum : 0 + number ≡ number = omega arith in
+      named_from 0 names number text d h ∙ ap Some sum;
+  spelled = λ number text h. let found = spelled_from 0 names text number h in
+      let sum = found.sum in
+      let same : found.place ≡ number = omega arith in
+      subst (λ (i : ℕ). name_at names i ≡ Some text) same found.there;
+}
+
+pub all_names_agree : AllNamesAgree
+all_names_agree = record {
+  kinds = agree kind_names refl;
+  modes = each_kind (λ kind. NamesAgree (mode_names kind)) (agree (mode_names 0) refl) (agree (mode_names 1) refl) (agree (mode_names 2) refl) (agree (mode_names 3) refl) (agree (mode_names 4) refl);
+  variables = each_kind (λ kind. NamesAgree (variable_names kind)) (agree (variable_names 0) refl) (agree (variable_names 1) refl) (agree (variable_names 2) refl) (agree (variable_names 3) refl) (agree (variable_names 4) refl);
+}

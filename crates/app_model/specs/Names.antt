@@ -1,0 +1,51 @@
+-- How kinds, modes and variables are spelled. In a table of names the name of number n stands at place
+-- n, and None where the number has none.
+use Rattle.std.specs.Prelude.{◌≡◌, ℕ, ◌<◌, codes, ◌+◌, ◌==◌, Bool, false, List, [], ◌∷◌, Option, Some, None, slice_get, option_and_then, if◌then◌else◌}
+use Rattle.std.specs.Str.{bytes_eq}
+
+abbrev pub kind_names : List (Option (List ℕ))
+kind_names = Some (codes "autopilot") ∷ Some (codes "flight_control") ∷ Some (codes "power_monitor") ∷ Some (codes "navigator") ∷ Some (codes "datalink") ∷ []
+
+-- mode 0 is off
+abbrev pub mode_names : ℕ → List (Option (List ℕ))
+mode_names kind =
+    if kind == 0 then None ∷ Some (codes "navigate") ∷ Some (codes "hold") ∷ [] else
+    (if kind == 1 then None ∷ Some (codes "augmented") ∷ Some (codes "direct") ∷ [] else
+    (if kind == 2 then None ∷ Some (codes "normal") ∷ Some (codes "saver") ∷ Some (codes "essential") ∷ [] else
+    (if kind == 3 then None ∷ Some (codes "route") ∷ Some (codes "coarse") ∷ [] else
+    (if kind == 4 then None ∷ Some (codes "fast") ∷ Some (codes "slow") ∷ [] else []))))
+
+-- the eight words of a kind's area; a word that is not used has no name
+abbrev pub variable_names : ℕ → List (Option (List ℕ))
+variable_names kind =
+    if kind == 0 then Some (codes "status") ∷ Some (codes "pitch") ∷ Some (codes "roll") ∷ Some (codes "target_alt") ∷ Some (codes "target_heading") ∷ Some (codes "integral") ∷ Some (codes "ticks") ∷ None ∷ [] else
+    (if kind == 1 then Some (codes "status") ∷ Some (codes "elevator") ∷ Some (codes "aileron") ∷ Some (codes "command_pitch") ∷ Some (codes "command_roll") ∷ None ∷ Some (codes "ticks") ∷ None ∷ [] else
+    (if kind == 2 then Some (codes "status") ∷ Some (codes "charge") ∷ Some (codes "supply") ∷ Some (codes "demand") ∷ Some (codes "shed") ∷ None ∷ Some (codes "ticks") ∷ None ∷ [] else
+    (if kind == 3 then Some (codes "status") ∷ Some (codes "bearing_error") ∷ Some (codes "climb_left") ∷ Some (codes "on_course") ∷ None ∷ None ∷ Some (codes "ticks") ∷ None ∷ [] else
+    (if kind == 4 then Some (codes "status") ∷ Some (codes "queued") ∷ Some (codes "sent") ∷ Some (codes "rate") ∷ Some (codes "dropped") ∷ None ∷ Some (codes "ticks") ∷ None ∷ [] else []))))
+
+-- the name of a number
+abbrev pub name_at : List (Option (List ℕ)) → ℕ → Option (List ℕ)
+name_at names number = option_and_then (λ (name : Option (List ℕ)). name) (slice_get names number)
+
+abbrev pub is_spelled : Option (List ℕ) → List ℕ → Bool
+is_spelled None text = false
+is_spelled (Some name) text = bytes_eq name text
+
+-- the number that a text names: the first place where it stands
+abbrev pub number_from : ℕ → List (Option (List ℕ)) → List ℕ → Option ℕ
+number_from number [] text = None
+number_from number (name ∷ names) text = if is_spelled name text then Some number else number_from (number + 1) names text
+
+abbrev pub number_of : List (Option (List ℕ)) → List ℕ → Option ℕ
+number_of names text = number_from 0 names text
+
+-- Number and name lead to one another.
+pub record NamesAgree (names : List (Option (List ℕ))) : Type 0 where
+  pub named : (number : ℕ) (text : List ℕ) → name_at names number ≡ Some text → number_of names text ≡ Some number
+  pub spelled : (number : ℕ) (text : List ℕ) → number_of names text ≡ Some number → name_at names number ≡ Some text
+
+pub record AllNamesAgree : Type 0 where
+  pub kinds : NamesAgree kind_names
+  pub modes : (kind : ℕ) → kind < 5 → NamesAgree (mode_names kind)
+  pub variables : (kind : ℕ) → kind < 5 → NamesAgree (variable_names kind)
