@@ -1,2 +1,10 @@
+pub mod Phases
+pub mod Tasks
+pub mod Decisions
+pub mod Runs
+pub mod Readings
+pub mod States
+pub mod Frames
+pub mod Flights
 pub mod Power
 pub mod Quiet

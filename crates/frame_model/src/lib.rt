@@ -1,7 +1,16 @@
-//! The rows of a quiet mission: one power monitor, one processor, and nothing that disturbs them.
+//! The one-thread trace: what the kernel decides and orders in each frame, what becomes of areas,
+//! keepers and world whoever halts or restarts, the row that shows it, and the reconfigurations that
+//! are read off the rows, each exactly as defined, for every specification and every fitting script.
 #![tactic(auto)]
 
+pub mod phases;
 pub mod power;
 pub mod quiet;
+pub mod readings;
+pub mod systems;
+pub mod tasks;
 
-pub use quiet::rows;
+pub use phases::Phase;
+pub use readings::Reading;
+pub use systems::{Input, Sys};
+pub use tasks::Task;
