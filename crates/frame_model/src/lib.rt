@@ -3,6 +3,7 @@
 //! are read off the rows, each exactly as defined, for every specification and every fitting script.
 #![tactic(auto)]
 
+pub mod acts;
 pub mod phases;
 pub mod power;
 pub mod quiet;
@@ -10,7 +11,8 @@ pub mod readings;
 pub mod systems;
 pub mod tasks;
 
+pub use acts::{running, runs};
 pub use phases::Phase;
-pub use readings::Reading;
+pub use readings::{Reading, close, read_row, reports};
 pub use systems::{Input, Sys};
 pub use tasks::Task;
