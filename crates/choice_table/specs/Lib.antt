@@ -1,3 +1,4 @@
 pub mod Environments
 pub mod Choices
 pub mod Numbering
+pub mod Laws

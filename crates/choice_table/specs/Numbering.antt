@@ -1,9 +1,10 @@
 -- The number of an environment, and the environment of a number.
-use Rattle.std.specs.Prelude.{◌≡◌, ℕ, zero, suc, ◌+◌, ◌-◌, ◌*◌, ◌/◌, ◌%◌, ◌^◌, ◌<◌, ◌≤◌, Bool, true, false, not, nat_lt, List, [], ◌∷◌, ◌++◌, length, replicate, Option, Some, None, if◌then◌else◌}
+use Rattle.std.specs.Prelude.{◌≡◌, ℕ, zero, suc, ◌+◌, ◌-◌, ◌*◌, ◌/◌, ◌%◌, ◌^◌, ◌<◌, ◌≤◌, Bool, true, false, not, nat_le, nat_lt, List, [], ◌∷◌, ◌++◌, length, replicate, slice_get, Option, Some, None, if◌then◌else◌}
+use Rattle.std.specs.Option.{option_map_or}
 use Rattle.scram_types.specs.declared.flights.Env.{Env}
 use Rattle.scram_types.specs.declared.specification.Factor.{Factor}
 use Rattle.scram_types.specs.Specification.{Parts}
-use Rattle.choice_table.specs.Environments.{count_below, in_scope, is_up_in}
+use Rattle.choice_table.specs.Environments.{count_below, has_bit, in_scope, is_up_in}
 
 -- The numbers below n that pass a test, as bits: the sum of 2 ^ p over them.
 abbrev pub bits_below : (ℕ → Bool) → ℕ → ℕ
@@ -13,6 +14,10 @@ bits_below test (suc n) = bits_below test n + (if test n then 2 ^ n else 0)
 -- The processors that are down, as bits.
 abbrev pub down_set : Parts → Env → ℕ
 down_set spec v = bits_below (λ p. not (is_up_in v p)) (length spec.procs)
+
+-- How many values factor x has.
+abbrev pub value_count : List Factor → ℕ → ℕ
+value_count factors x = option_map_or (λ (factor : Factor). length factor.values) (slice_get factors x) 0
 
 -- In how many ways factors can have values: the product of their counts of values.
 abbrev pub combinations : List Factor → ℕ
@@ -47,6 +52,11 @@ numbered spec n = record {
 -- The environment that has this number, if there is one.
 abbrev pub env_of : Parts → ℕ → Option Env
 env_of spec n = if nat_lt n (environments spec) then Some (numbered spec n) else None
+
+-- A set of processors may be down together.
+abbrev pub is_down_in_scope : Parts → ℕ → Bool
+is_down_in_scope spec down =
+    nat_le (count_below (λ p. not (has_bit (2 ^ length spec.procs - 1 - down) p)) (length spec.procs)) spec.halts
 
 -- The environment of number n is in scope.
 abbrev pub is_number_in_scope : Parts → ℕ → Bool

@@ -2,6 +2,11 @@
 //! can run; which environments are in scope; and a number for each environment, both ways.
 #![tactic(auto)]
 
+pub mod choices;
+pub mod environments;
+pub mod laws;
 pub mod numbering;
 
-pub use numbering::Numbered;
+pub use choices::{choose, has_rule, runnable};
+pub use environments::in_scope;
+pub use numbering::{Numbered, env_of, next_in_scope, number_of, states};

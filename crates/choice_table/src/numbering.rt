@@ -1,10 +1,192 @@
 //! The number of an environment, and the environment of a number.
 
-use scram_types::Env;
+ghost use Rattle.std.specs.Prelude.{◌≡◌, ℕ, ◌+◌, ◌-◌, ◌*◌, ◌/◌, ◌%◌, ◌^◌, ◌<◌, ◌≤◌, ◌++◌, drop, length, not, replicate, slice_get, IfSome, MatchOption, Some};
+ghost use Rattle.scram_types.specs.Specification.{Each, IsFactor};
+ghost use Rattle.choice_table.specs.Environments.{IsEnv, has_bit};
+ghost use Rattle.choice_table.specs.Numbering.{IsNextInScope, NoneInScope, bits_below, combinations, digits_of, down_set, env_of, environments, is_down_in_scope, number_of, numbered, states, value_count, values_of};
+
+use crate::environments::count_down;
+use scram_types::{Env, Spec};
 
 /// An environment and its number.
 #[derive(Clone, Copy, Debug, PartialEq, Eq)]
 pub struct Numbered {
     pub number: u32,
     pub env: Env,
+}
+
+/// The number of an environment: with `M` the product of the factors' counts of values, it is `M` times
+/// the set of processors that are down, as bits, plus the mixed-radix number of the factors' values, the
+/// first factor being the most significant digit. It takes no memory.
+pub fn number_of(spec: &Spec, env: &Env) -> u32
+    ensures number { result ≡ number_of spec.now env.now }
+    ensures back { IsEnv spec.now env.now → env_of spec.now result ≡ Some env.now }
+{
+    let down = others(count_processors(spec), env.up);
+    u32::from(down) * count_combinations(spec) + number_of_values(spec, &env.factors)
+}
+
+/// The environment that has this number, or `None` where no environment has it. It takes no memory.
+pub fn env_of(spec: &Spec, number: u32) -> Option<Env>
+    ensures env { result ≡ env_of spec.now number }
+    ensures belongs { IfSome result (λ v. IsEnv spec.now v) }
+    ensures back { IfSome result (λ v. number_of spec.now v ≡ number) }
+{
+    if number < count_environments(spec) {
+        Some(env_numbered(spec, number))
+    } else {
+        None
+    }
+}
+
+/// How many environments are in scope. It takes no memory, and looks at each set of processors once and
+/// not at each environment.
+pub fn states(spec: &Spec) -> u32
+    ensures { result ≡ states spec.now }
+{
+    let combinations = count_combinations(spec);
+    let mut states = 0;
+    for down in 0..count_sets(spec) {
+        if can_be_down(spec, down) {
+            states += combinations;
+        }
+    }
+    states
+}
+
+/// The environment in scope with the least number from `low` on, or `None` where there is none. It takes
+/// no memory, and passes over a set of processors that is out of scope at once.
+pub fn next_in_scope(spec: &Spec, low: u32) -> Option<Numbered>
+    ensures next { MatchOption result (NoneInScope spec.now low) (λ found. IsNextInScope spec.now low found.number) }
+    ensures env { IfSome result (λ found. env_of spec.now found.number ≡ Some found.env) }
+{
+    let combinations = count_combinations(spec);
+    for down in low / combinations..count_sets(spec) {
+        if can_be_down(spec, down) {
+            let number = low.max(down * combinations);
+            return Some(Numbered {
+                number,
+                env: env_numbered(spec, number),
+            });
+        }
+    }
+    None
+}
+
+// Whether as many processors as stand in the set `down` may be down.
+fn can_be_down(spec: &Spec, down: u32) -> bool
+    requires { down < 2 ^ length spec.now.procs }
+    ensures { result ≡ is_down_in_scope spec.now down }
+{
+    count_down(count_processors(spec), up_beside(spec, down)) <= spec.halts
+}
+
+fn env_numbered(spec: &Spec, number: u32) -> Env
+    requires { number < environments spec.now }
+    ensures { result ≡ numbered spec.now number }
+{
+    let combinations = count_combinations(spec);
+    Env {
+        up: up_beside(spec, number / combinations),
+        factors: values_numbered(spec, number % combinations),
+    }
+}
+
+// The processors that are up where those of the set `down` are down.
+fn up_beside(spec: &Spec, down: u32) -> u8
+    requires { down < 2 ^ length spec.now.procs }
+    ensures { result ≡ 2 ^ length spec.now.procs - 1 - down }
+{
+    (count_sets(spec) - 1 - down) as u8
+}
+
+// The numbers below `count` that are not in a set of numbers, both sets as bits.
+fn others(count: u8, set: u8) -> u8
+    requires { count ≤ 8 }
+    ensures value { result ≡ bits_below (λ p. not (has_bit set p)) count }
+    ensures few { result < 2 ^ count }
+{
+    let all = (1u16 << count) - 1;
+    (all - (u16::from(set) & all)) as u8
+}
+
+fn number_of_values(spec: &Spec, values: &[u8; 6]) -> u32
+    ensures value { result ≡ digits_of spec.now.factors values.now }
+    ensures few { result ≤ 348075 }
+{
+    let mut number = 0;
+    for x in 0..count_factors(spec) {
+        number = number * count_values(spec, x) + u32::from(values[x]);
+    }
+    number
+}
+
+fn values_numbered(spec: &Spec, number: u32) -> [u8; 6]
+    requires { number < combinations spec.now.factors }
+    ensures { result ≡ values_of spec.now.factors number ++ replicate (6 - length spec.now.factors) 0 }
+{
+    let mut values = [0; 6];
+    let mut rest = number;
+    let mut place = count_combinations(spec);
+    for x in 0..count_factors(spec) {
+        place /= count_values(spec, x);
+        values[x] = (rest / place) as u8;
+        rest %= place;
+    }
+    values
+}
+
+fn count_environments(spec: &Spec) -> u32
+    ensures value { result ≡ environments spec.now }
+    ensures known { Each IsFactor spec.now.factors }
+    ensures few { length spec.now.factors ≤ 6 }
+{
+    count_sets(spec) * count_combinations(spec)
+}
+
+// How many sets of processors there are.
+fn count_sets(spec: &Spec) -> u32
+    ensures value { result ≡ 2 ^ length spec.now.procs }
+    ensures least { 1 ≤ result }
+    ensures most { result ≤ 256 }
+{
+    1 << count_processors(spec)
+}
+
+fn count_processors(spec: &Spec) -> u8
+    ensures value { result ≡ length spec.now.procs }
+    ensures most { result ≤ 8 }
+{
+    spec.procs.items().len() as u8
+}
+
+fn count_combinations(spec: &Spec) -> u32
+    ensures value { result ≡ combinations spec.now.factors }
+    ensures least { 1 ≤ result }
+    ensures most { result ≤ 4096 }
+    ensures known { Each IsFactor spec.now.factors }
+    ensures few { length spec.now.factors ≤ 6 }
+{
+    let mut product = 1;
+    for x in 0..count_factors(spec) {
+        product *= count_values(spec, x);
+    }
+    product
+}
+
+fn count_factors(spec: &Spec) -> usize
+    ensures value { result ≡ length spec.now.factors }
+    ensures most { result ≤ 6 }
+    ensures known { Each IsFactor spec.now.factors }
+{
+    spec.factors.items().len()
+}
+
+fn count_values(spec: &Spec, x: usize) -> u32
+    requires { x < length spec.now.factors }
+    ensures value { result ≡ value_count spec.now.factors x }
+    ensures least { 2 ≤ result }
+    ensures most { result ≤ 4 }
+{
+    spec.factors.items()[x].values.items().len() as u32
 }

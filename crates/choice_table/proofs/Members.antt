@@ -1,0 +1,97 @@
+-- What is up, place by place and bit by bit.
+use Rattle.std.proofs.Common.{◌≡◌, ℕ, zero, suc, ◌<◌, ◌^◌, ◌/◌, ◌%◌, refl, arith, sym, ap, ◌∙◌, Bool, true, false, List, [], ◌∷◌}
+use mathlib.Core.Logic.{inl, inr}
+use Rattle.std.specs.Prelude.{Option, Some, None, ◌&&◌, bit_and, ◌==◌, slice_get, unwrap_or}
+use Rattle.std.specs.List.{list_all}
+use Rattle.std.specs.Int.{bit_at}
+use Rattle.std.proofs.Math.Nat.{mod-eq_of_lt, mod-one}
+use Rattle.std.proofs.lemmas.Bool.Decides.{nat_tests}
+use Rattle.std.proofs.lemmas.Nat.{and_le_l, and_mod, and_shr}
+use Rattle.std.proofs.lemmas.Option.{slice_get_within}
+use Rattle.scram_types.specs.declared.flights.Env.{Env}
+use Rattle.scram_types.specs.declared.specification.Place.{Place}
+use Rattle.choice_table.specs.Environments.{has_bit, is_up_in}
+use Rattle.choice_table.specs.Choices.{all_up, is_place_up, places_of}
+use Rattle.choice_table.specs.Laws.{RunsWherePlacesAreUp, SetsAreUpByMembers}
+use Rattle.choice_table.proofs.Bits.{bit_cases, low_bits, twice}
+
+both_left : (a b : Bool) → (a && b) ≡ true → a ≡ true
+both_left true b h = refl
+both_left false b h = h
+
+both_right : (a b : Bool) → (a && b) ≡ true → b ≡ true
+both_right true b h = h
+both_right false b h = cc
+
+pub each_passes : {A : Type 0} (test : A → Bool) (xs : List A) → list_all test xs ≡ true → (i : ℕ) (x : A) → slice_get xs i ≡ Some x → test x ≡ true
+each_passes test [] h i x e = let none : i < 0 = slice_get_within [] i x e in absurd (omega arith)
+each_passes test (y ∷ ys) h zero x e =
+    let same : y ≡ x = ap (λ o. unwrap_or o y) e in
+    rw (← same) (both_left (test y) (list_all test ys) h)
+each_passes test (y ∷ ys) h (suc i) x e = each_passes test ys (both_right (test y) (list_all test ys) h) i x e
+
+pub all_pass : {A : Type 0} (test : A → Bool) (xs : List A) → ((i : ℕ) (x : A) → slice_get xs i ≡ Some x → test x ≡ true) → list_all test xs ≡ true
+all_pass test [] h = refl
+all_pass test (x ∷ xs) h = rw (h 0 x refl, all_pass test xs (λ i y e. h (suc i) y e)) refl
+
+up_places : (v : Env) (places : List (Option Place)) → ((a : ℕ) (place : Place) → slice_get places a ≡ Some (Some place) → is_up_in v place.proc.0 ≡ true)
+    → (a : ℕ) (place : Option Place) → slice_get places a ≡ Some place → is_place_up v place ≡ true
+up_places v places h a None e = refl
+up_places v places h a (Some place) e = h a place e
+
+pub runs_where_up : RunsWherePlacesAreUp
+runs_where_up spec c v = (
+  λ runs a place e. each_passes (is_place_up v) (places_of spec c) runs a (Some place) e,
+  λ up. all_pass (is_place_up v) (places_of spec c) (up_places v (places_of spec c) up),
+)
+
+-- bit p of the common bits
+common_bit : (a b p : ℕ) → bit_at (bit_and a b) p ≡ bit_and (bit_at a p) (bit_at b p)
+common_bit a b p = ap (λ n. n % 2) (and_shr a b p) ∙ and_mod (a / 2 ^ p) (b / 2 ^ p) 1
+
+bit_known : (set p : ℕ) → has_bit set p ≡ true → bit_at set p ≡ 1
+bit_known set p h = grind (arith, nat_tests)
+
+equal_test : (a b : ℕ) → a ≡ b → (a == b) ≡ true
+equal_test a b h = grind (arith, nat_tests)
+
+bit_told : (set p : ℕ) → bit_at set p ≡ 1 → has_bit set p ≡ true
+bit_told set p h = rw (h) refl
+
+-- where the common bits are all of the set's, each of them is common
+members : (set : ℕ) (v : Env) → all_up set v ≡ true → (p : ℕ) → has_bit set p ≡ true → is_up_in v p ≡ true
+members set v h p e =
+    let all : bit_and set v.up ≡ set = grind (arith, nat_tests) in
+    let one = bit_known set p e in
+    let common : bit_and (bit_at set p) (bit_at v.up p) ≡ bit_at set p = sym (common_bit set v.up p) ∙ ap (λ n. bit_at n p) all in
+    elim (bit_cases v.up p) [
+      | inl z ↦ (let clash = rw (one, z) at common in absurd (omega (arith, clash)))
+      | inr o ↦ bit_told v.up p o
+    ]
+
+-- and where each is common, so are all, digit by digit
+same_bit : (set up p : ℕ) → ((q : ℕ) → has_bit set q ≡ true → has_bit up q ≡ true) → bit_at (bit_and set up) p ≡ bit_at set p
+same_bit set up p h = elim (bit_cases set p) [
+  | inl z ↦ (let small = and_le_l (bit_at set p) (bit_at up p) in let common = common_bit set up p in omega arith)
+  | inr o ↦ common_bit set up p ∙ rw (o, bit_known up p (h p (bit_told set p o))) refl
+]
+
+common_low : (set up n : ℕ) → ((p : ℕ) → has_bit set p ≡ true → has_bit up p ≡ true) → bit_and set up % 2 ^ n ≡ set % 2 ^ n
+common_low set up zero h = mod-one (bit_and set up) ∙ sym (mod-one set)
+common_low set up (suc n) h =
+    rw (low_bits (bit_and set up) n, low_bits set n, same_bit set up n h, common_low set up n h) refl
+
+below_power : (n : ℕ) → n < 2 ^ n
+below_power zero = omega arith
+below_power (suc n) = let before = below_power n in let both = twice n in omega arith
+
+whole : (set : ℕ) (v : Env) → ((p : ℕ) → has_bit set p ≡ true → is_up_in v p ≡ true) → all_up set v ≡ true
+whole set v h =
+    let wide = below_power set in
+    let small = and_le_l set v.up in
+    let room : bit_and set v.up < 2 ^ set = omega arith in
+    let same : bit_and set v.up ≡ set = sym (mod-eq_of_lt room) ∙ common_low set v.up set h ∙ mod-eq_of_lt wide in
+    equal_test (bit_and set v.up) set same
+
+pub sets_by_members : SetsAreUpByMembers
+sets_by_members set v = (members set v, whole set v)

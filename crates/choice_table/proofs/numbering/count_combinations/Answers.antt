@@ -1,0 +1,20 @@
+use Rattle.std.proofs.Common.{◌≡◌, arith}
+use Rattle.choice_table.specs.Numbering.{combinations}
+use Rattle.choice_table.proofs.Digits.{combinations_least, most_combinations, product_end, product_few}
+use Rattle.choice_table.proofs.numbering.count_combinations.Goals as goal
+
+pub overflow_mul-product : goal.overflow_mul-product
+overflow_mul-product c =
+    let few = product_few c.args.spec.now.factors c.loop-x.x c.loop-x.product c.count_factors-x-end.ensures.known (omega arith) (omega arith) c.loop-x.invariant in
+    rw (c.count_values-product.ensures.value) (omega arith)
+
+whole : (c : goal.After-loop-x) → c.loop-x.product ≡ combinations c.args.spec.now.factors
+whole c = product_end c.args.spec.now.factors c.loop-x.x c.loop-x.product (omega arith) c.loop-x.invariant
+
+pub returns-clause-least : goal.returns-clause-least
+returns-clause-least c =
+    rw (whole c) (combinations_least c.args.spec.now.factors c.count_factors-x-end.ensures.known)
+
+pub returns-clause-most : goal.returns-clause-most
+returns-clause-most c =
+    rw (whole c) (most_combinations c.args.spec.now.factors c.count_factors-x-end.ensures.known (omega arith))

@@ -1,0 +1,84 @@
+//! What the choice table chooses, and what can run.
+
+ghost use Rattle.std.specs.Prelude.{◌≡◌, ◌<◌, length};
+ghost use Rattle.std.specs.List.{list_all};
+ghost use Rattle.choice_table.specs.Choices.{all_up, choose, has_rule, has_source, has_wanted, is_place_up, is_runnable, rule_fits};
+
+use crate::environments::is_in_set;
+use scram_types::{Choice, ConfId, Env, Place, Spec, Want};
+
+/// The target of the first rule that fits configuration `c` and the environment, and `c` where none
+/// fits. It takes no memory.
+pub fn choose(spec: &Spec, c: ConfId, env: &Env) -> ConfId
+    ensures target { result ≡ choose spec.now c env.now }
+    ensures inside { c.0 < length spec.now.confs → result.0 < length spec.now.confs }
+{
+    for rule in spec.rules.items() {
+        if fits(rule, c, env) {
+            return rule.to;
+        }
+    }
+    c
+}
+
+/// Whether some rule fits configuration `c` and the environment. It takes no memory.
+pub fn has_rule(spec: &Spec, c: ConfId, env: &Env) -> bool
+    ensures { result ≡ has_rule spec.now c env.now }
+{
+    spec.rules.items().iter().any(|rule| fits(rule, c, env))
+}
+
+/// Whether each processor that configuration `c` uses is up; a configuration that does not exist uses
+/// none. It takes no memory.
+pub fn runnable(spec: &Spec, c: ConfId, env: &Env) -> bool
+    ensures { result ≡ is_runnable spec.now c env.now }
+{
+    match spec.conf(c) {
+        Some(conf) => conf.places.iter().all(|place| has_processor(place, env)),
+        None => true,
+    }
+}
+
+fn has_processor(place: &Option<Place>, env: &Env) -> bool
+    ensures { result ≡ is_place_up env.now place.now }
+{
+    match place {
+        Some(place) => is_in_set(env.up, place.proc.0),
+        None => true,
+    }
+}
+
+fn fits(rule: &Choice, c: ConfId, env: &Env) -> bool
+    ensures { result ≡ rule_fits c env.now rule.now }
+{
+    is_source(rule.from, c) && are_met(rule.wants.items(), env) && are_up(rule.up, env)
+}
+
+fn is_source(from: Option<ConfId>, c: ConfId) -> bool
+    ensures { result ≡ has_source from c }
+{
+    match from {
+        Some(from) => from.0 == c.0,
+        None => true,
+    }
+}
+
+fn are_met(wants: &[Want], env: &Env) -> bool
+    ensures { result ≡ list_all (has_wanted env.now) wants.now }
+{
+    wants.iter().all(|want| is_met(want, env))
+}
+
+fn is_met(want: &Want, env: &Env) -> bool
+    ensures { result ≡ has_wanted env.now want.now }
+{
+    let x = usize::from(want.factor.0);
+    let value = if x < 6 { env.factors[x] } else { 0 };
+    value == want.value
+}
+
+fn are_up(set: u8, env: &Env) -> bool
+    ensures { result ≡ all_up set env.now }
+{
+    set & env.up == set
+}
