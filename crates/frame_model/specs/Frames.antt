@@ -1,10 +1,10 @@
 -- What a frame makes of a system and its input.
-use Rattle.std.specs.Prelude.{ℕ, suc, Bool, ◌&&◌, not, bit_and, bit_or}
+use Rattle.std.specs.Prelude.{ℕ, suc, Bool, bit_and, bit_or}
 use Rattle.std.specs.Int.{bit_not, w8}
 use Rattle.scram_types.specs.declared.flights.Env.{Env}
 use Rattle.scram_types.specs.declared.flights.Row.{Row}
 use Rattle.scram_types.specs.Specification.{Parts}
-use Rattle.choice_table.specs.Environments.{has_bit, is_up_in}
+use Rattle.choice_table.specs.Environments.{has_bit}
 use Rattle.frame_model.specs.declared.systems.Input.{Input}
 use Rattle.frame_model.specs.declared.systems.Sys.{Sys}
 use Rattle.frame_model.specs.States.{State, has_arrived, row_of, step}
@@ -17,8 +17,11 @@ abbrev pub env_of : Sys → Input → Env
 env_of sys input = record { up = bit_or sys.up input.back; factors = input.factors }
 
 -- Who is up commits, unless it halts before its mark.
+abbrev pub committing : Sys → Input → ℕ
+committing sys input = bit_and (env_of sys input).up (bit_not w8 input.early)
+
 abbrev pub commits_in : Sys → Input → ℕ → Bool
-commits_in sys input p = is_up_in (env_of sys input) p && not (has_bit input.early p)
+commits_in sys input p = has_bit (committing sys input) p
 
 -- Who halts in the frame, before or after its mark, is not up at its end.
 abbrev pub up_after : Sys → Input → ℕ

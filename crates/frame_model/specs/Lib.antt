@@ -5,6 +5,7 @@ pub mod Runs
 pub mod Readings
 pub mod States
 pub mod Frames
+pub mod Outcomes
 pub mod Flights
 pub mod Power
 pub mod Quiet

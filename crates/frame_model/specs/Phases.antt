@@ -1,10 +1,10 @@
 -- How far a mode has come in a frame.
-use Rattle.std.specs.Prelude.{ℕ, ◌+◌, ◌-◌, Bool, false, nat_le, nat_lt, Option, Some, None, if◌then◌else◌}
+use Rattle.std.specs.Prelude.{ℕ, ◌+◌, ◌-◌, Bool, true, false, nat_le, nat_lt, List, replicate, Option, Some, None, if◌then◌else◌}
 use Rattle.scram_types.specs.declared.ids.ConfId.{ConfId}
 use Rattle.scram_types.specs.declared.orders.KMode.{KMode}
 use Rattle.scram_types.specs.declared.orders.KMode.TheVariants.{Stable, Moving}
 use Rattle.scram_types.specs.Specification.{Parts}
-use Rattle.dep_order.specs.Timetables.{halting_time, initialising_time, preparing_time}
+use Rattle.dep_order.specs.Timetables.{halting_time, initialising_time, preparing_time, timetable}
 use Rattle.frame_model.specs.declared.phases.Phase.{Phase}
 use Rattle.frame_model.specs.declared.phases.Phase.TheVariants.{Running, Halting, Preparing, Initialising}
 
@@ -35,7 +35,24 @@ phase_at spec (Stable c) f = Running c
 phase_at spec (Moving from halting to since) f = moving_phase spec halting to (f - since)
 
 -- A reconfiguration is past its phases: its target is to run.
+abbrev pub is_past : Parts → Option ConfId → ConfId → ℕ → ℕ → Bool
+is_past spec halting to since f =
+    nat_le (halting_frames spec halting + preparing_time spec to + initialising_time spec to) (f - since)
+
+-- Frame f is settled: a reconfiguration is under way, and past its phases.
 abbrev pub is_settled : Parts → KMode → ℕ → Bool
 is_settled spec (Stable c) f = false
-is_settled spec (Moving from halting to since) f =
-    nat_le (halting_frames spec halting + preparing_time spec to + initialising_time spec to) (f - since)
+is_settled spec (Moving from halting to since) f = is_past spec halting to since f
+
+-- The frame of the phase in which each application's turn comes.
+abbrev pub offsets_in : Parts → Phase → List ℕ
+offsets_in spec (Running c) = replicate 8 0
+offsets_in spec (Halting c age) = (timetable spec c).halt
+offsets_in spec (Preparing c age) = replicate 8 0
+offsets_in spec (Initialising c age) = (timetable spec c).init
+
+abbrev pub is_running : Phase → Bool
+is_running (Running c) = true
+is_running (Halting c age) = false
+is_running (Preparing c age) = false
+is_running (Initialising c age) = false

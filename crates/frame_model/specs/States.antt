@@ -63,16 +63,23 @@ lead_among (app ∷ apps) (area ∷ areas) kind = if app.kind.0 == kind then are
 abbrev pub lead_of : Parts → List (List ℤ) → ℕ → List ℤ
 lead_of spec areas kind = lead_among spec.apps areas kind
 
--- What an application in a mode sees: what stood at the end of the frame before, and the frame's factors.
-abbrev pub seen_by : Parts → Env → State → Mode → ℕ → Seen
-seen_by spec v state mode a = record {
-  mode = mode;
-  own = area_at state.areas a;
+-- What all applications see: what stood at the end of the frame before, and the frame's factors.
+abbrev pub shown : Parts → Env → State → Seen
+shown spec v state = record {
+  mode = record { 0 = 0 };
+  own = zeros;
   lead = for_eight (lead_of spec state.areas);
   world = state.world;
   factors = v.factors;
   goal = spec.goal;
 }
+
+-- The same as one of them sees it, which is in a mode and has an area of its own.
+abbrev pub seen_in : Seen → Mode → List ℤ → Seen
+seen_in seen mode own = record seen { mode = mode; own = own }
+
+abbrev pub seen_by : Parts → Env → State → Mode → ℕ → Seen
+seen_by spec v state mode a = seen_in (shown spec v state) mode (area_at state.areas a)
 
 -- The area that a task makes of what its application sees.
 abbrev pub law_of : Parts → Env → State → Task → ℕ → List ℤ
