@@ -1,5 +1,5 @@
 -- When the applications of a configuration halt, prepare and initialise, and how long that takes.
-use Rattle.std.specs.Prelude.{◌≡◌, ℕ, ◌+◌, ◌<◌, ◌≤◌, Bool, true, false, ◌==◌, List, [], ◌∷◌, length, map, slice_get, Option, Some, option_map, option_and_then, is_some, if◌then◌else◌}
+use Rattle.std.specs.Prelude.{◌≡◌, ℕ, ◌+◌, ◌<◌, ◌≤◌, Bool, true, false, ◌==◌, List, [], ◌∷◌, length, map, nat_lt, slice_get, slice_index, Option, Some, option_map, option_and_then, is_some, if◌then◌else◌}
 use Rattle.std.specs.Option.{option_map_or}
 use Rattle.std.specs.List.{list_any}
 use Rattle.scram_types.specs.declared.ids.AppId.{AppId}
@@ -9,6 +9,8 @@ use Rattle.scram_types.specs.declared.specification.AppSpec.{AppSpec}
 use Rattle.scram_types.specs.declared.specification.Place.{Place}
 use Rattle.scram_types.specs.declared.specification.Conf.{Conf}
 use Rattle.scram_types.specs.Specification.{Parts, IsSpec, mode_in, place_in}
+use Rattle.dep_order.specs.declared.timetables.Phase.{Phase}
+use Rattle.dep_order.specs.declared.timetables.Phase.TheVariants as phase
 use Rattle.dep_order.specs.declared.timetables.Times.{Times}
 use Rattle.dep_order.specs.Chains.{Chart, HasFirst, IsOffset, greatest, offset}
 
@@ -71,6 +73,44 @@ preparing_time spec c = greatest (prepare_time spec c) (length spec.apps)
 
 abbrev pub initialising_time : Parts → ConfId → ℕ
 initialising_time spec c = greatest (λ a. where_on spec c a (init_offset spec c a + init_time spec c a)) (length spec.apps)
+
+-- How many frames a phase of application a takes.
+abbrev pub phase_time : Parts → ConfId → Phase → ℕ → ℕ
+phase_time spec c phase.Halt a = halt_time spec c a
+phase_time spec c phase.Prepare a = prepare_time spec c a
+phase_time spec c phase.Init a = init_time spec c a
+
+-- In a phase, application b goes before application a; all prepare at once.
+abbrev pub goes_before : Parts → Phase → ℕ → ℕ → Bool
+goes_before spec phase.Halt b a = needs spec b a
+goes_before spec phase.Prepare b a = false
+goes_before spec phase.Init b a = needs spec a b
+
+-- The same with times that are listed: on is what takes some time.
+abbrev pub timed_chart : Parts → Phase → List ℕ → Chart
+timed_chart spec phase times = record {
+  apps = length spec.apps;
+  on = λ b. nat_lt 0 (slice_index times b);
+  before = goes_before spec phase;
+  time = slice_index times;
+}
+
+-- The length of a phase, of listed times and offsets.
+abbrev pub phase_length : List ℕ → List ℕ → ℕ → ℕ
+phase_length times offsets n =
+    greatest (λ a. if nat_lt 0 (slice_index times a) then slice_index offsets a + slice_index times a else 0) n
+
+-- Offsets where some time is taken, and 0 elsewhere.
+abbrev pub offset_where_on : List ℕ → List ℕ → ℕ → ℕ
+offset_where_on times offsets a = if nat_lt 0 (slice_index times a) then slice_index offsets a else 0
+
+-- A list holds a function's values below n.
+abbrev pub Holds : (ℕ → ℕ) → ℕ → List ℕ → Type 0
+Holds value n xs = (a : ℕ) → a < n → slice_index xs a ≡ value a
+
+-- No number below n of a list is above `most`.
+abbrev pub AtMost : ℕ → ℕ → List ℕ → Type 0
+AtMost most n xs = (a : ℕ) → a < n → slice_index xs a ≤ most
 
 -- A value for each of eight applications.
 abbrev pub eight : (ℕ → ℕ) → List ℕ

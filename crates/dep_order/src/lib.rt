@@ -2,8 +2,9 @@
 //! configuration halt, prepare and initialise, each by the longest chain of those that go before it.
 #![tactic(auto)]
 
+pub mod laws;
 pub mod ranks;
 pub mod timetables;
 
 pub use ranks::Cycle;
-pub use timetables::Times;
+pub use timetables::{Times, timetable};

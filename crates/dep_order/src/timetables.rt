@@ -1,5 +1,12 @@
 //! When the applications of a configuration halt, prepare and initialise.
 
+ghost use Rattle.std.specs.Prelude.{◌≡◌, ◌≤◌, length, slice_index};
+ghost use Rattle.scram_types.specs.Specification.{IsSpec};
+ghost use Rattle.dep_order.specs.Chains.{greatest, offset, step};
+ghost use Rattle.dep_order.specs.Timetables.{AtMost, Holds, eight, goes_before, is_named, mode_of, needs, offset_where_on, phase_length, phase_time, timed_chart, timetable};
+
+use scram_types::{AppId, ConfId, ModeSpec, Spec};
+
 /// The timetable of a configuration, in frames. `halt` and `init` hold the offset of each application
 /// from the beginning of the halting and of the initialising phase, 0 where it is off; `h`, `p` and `i`
 /// are how long the halting, preparing and initialising phases take, 0 where nothing is on.
@@ -10,4 +17,166 @@ pub struct Times {
     pub h: u16,
     pub p: u16,
     pub i: u16,
+}
+
+/// A phase of a reconfiguration. Dependents halt before what they need, and initialise after it; all
+/// prepare at once.
+#[derive(Clone, Copy, Debug, PartialEq, Eq)]
+pub enum Phase {
+    Halt,
+    Prepare,
+    Init,
+}
+
+/// The timetable of configuration `c`. An application's halt offset is the greatest sum of halt times
+/// over the chains of its dependents that are on, its init offset that of init times over the chains of
+/// what it needs. It takes no memory.
+pub fn timetable(spec: &Spec, c: ConfId) -> Times
+    ensures { result ≡ timetable spec.now c }
+{
+    let count = count_apps(spec);
+    let halt_times = times_in(spec, c, Phase::Halt);
+    let prepare_times = times_in(spec, c, Phase::Prepare);
+    let init_times = times_in(spec, c, Phase::Init);
+    let halt_offsets = offsets_in(spec, Phase::Halt, &halt_times);
+    let init_offsets = offsets_in(spec, Phase::Init, &init_times);
+    Times {
+        halt: keep_where_on(&halt_times, &halt_offsets),
+        init: keep_where_on(&init_times, &init_offsets),
+        h: length_of_phase(&halt_times, &halt_offsets, count),
+        p: length_of_phase(&prepare_times, &[0; 8], count),
+        i: length_of_phase(&init_times, &init_offsets, count),
+    }
+}
+
+// The offset of each application, 0 where there is none: every round allows chains of one more link.
+fn offsets_in(spec: &Spec, phase: Phase, times: &[u8; 8]) -> [u16; 8]
+    requires { AtMost 16 (length spec.now.apps) times.now }
+    ensures offsets { Holds (offset (timed_chart spec.now phase times.now)) (length spec.now.apps) result }
+    ensures most { AtMost 128 (length spec.now.apps) result }
+{
+    let mut offsets = [0; 8];
+    for _links in 0..8usize {
+        offsets = offsets_after(spec, phase, times, &offsets);
+    }
+    offsets
+}
+
+fn offsets_after(spec: &Spec, phase: Phase, times: &[u8; 8], before: &[u16; 8]) -> [u16; 8]
+    requires times { AtMost 16 (length spec.now.apps) times.now }
+    requires before { AtMost 112 (length spec.now.apps) before.now }
+    ensures { Holds (λ a. greatest (step (timed_chart spec.now phase times.now) (slice_index before.now) a) (length spec.now.apps)) (length spec.now.apps) result }
+{
+    let mut offsets = [0; 8];
+    for a in 0..count_apps(spec) {
+        offsets[a] = offset_after(spec, phase, times, before, a);
+    }
+    offsets
+}
+
+// When the last application that goes before application `a` is through, by these offsets.
+fn offset_after(spec: &Spec, phase: Phase, times: &[u8; 8], offsets: &[u16; 8], a: usize) -> u16
+    requires times { AtMost 16 (length spec.now.apps) times.now }
+    requires offsets { AtMost 112 (length spec.now.apps) offsets.now }
+    ensures { result ≡ greatest (step (timed_chart spec.now phase times.now) (slice_index offsets.now) a) (length spec.now.apps) }
+{
+    let mut last = 0;
+    for b in 0..count_apps(spec) {
+        if times[b] > 0 && precedes(spec, phase, b, a) {
+            last = last.max(u16::from(times[b]) + offsets[b]);
+        }
+    }
+    last
+}
+
+// Whether application `b` goes before application `a` in a phase.
+fn precedes(spec: &Spec, phase: Phase, b: usize, a: usize) -> bool
+    ensures { result ≡ goes_before spec.now phase b a }
+{
+    match phase {
+        Phase::Halt => depends(spec, b, a),
+        Phase::Prepare => false,
+        Phase::Init => depends(spec, a, b),
+    }
+}
+
+// Whether application `b` needs application `a`.
+fn depends(spec: &Spec, b: usize, a: usize) -> bool
+    ensures { result ≡ needs spec.now b a }
+{
+    match spec.apps.items().get(b) {
+        Some(app) => is_listed(app.needs.items(), a),
+        None => false,
+    }
+}
+
+fn is_listed(needs: &[AppId], a: usize) -> bool
+    ensures { result ≡ is_named needs.now a }
+{
+    needs.iter().any(|needed| usize::from(needed.0) == a)
+}
+
+fn length_of_phase(times: &[u8; 8], offsets: &[u16; 8], count: usize) -> u16
+    requires count { count ≤ 8 }
+    requires times { AtMost 16 count times.now }
+    requires offsets { AtMost 128 count offsets.now }
+    ensures { result ≡ phase_length times.now offsets.now count }
+{
+    let mut length = 0;
+    for a in 0..count {
+        if times[a] > 0 {
+            length = length.max(offsets[a] + u16::from(times[a]));
+        }
+    }
+    length
+}
+
+fn keep_where_on(times: &[u8; 8], offsets: &[u16; 8]) -> [u16; 8]
+    ensures { result ≡ eight (offset_where_on times.now offsets.now) }
+{
+    let mut kept = [0; 8];
+    for a in 0..8 {
+        kept[a] = if times[a] > 0 { offsets[a] } else { 0 };
+    }
+    kept
+}
+
+// How many frames the phase takes of each application, 0 where it is off.
+fn times_in(spec: &Spec, c: ConfId, phase: Phase) -> [u8; 8]
+    ensures { Holds (phase_time spec.now c phase) 8 result }
+{
+    let mut times = [0; 8];
+    for a in 0..8u8 {
+        times[usize::from(a)] = time_in(spec, c, phase, a);
+    }
+    times
+}
+
+fn time_in(spec: &Spec, c: ConfId, phase: Phase, a: u8) -> u8
+    ensures { result ≡ phase_time spec.now c phase a }
+{
+    match mode_in_conf(spec, c, AppId(a)) {
+        Some(listed) => match phase {
+            Phase::Halt => listed.halt,
+            Phase::Prepare => listed.prepare,
+            Phase::Init => listed.init,
+        },
+        None => 0,
+    }
+}
+
+// What the mode of application `a` in configuration `c` costs, or `None` where it is off.
+fn mode_in_conf(spec: &Spec, c: ConfId, a: AppId) -> Option<ModeSpec>
+    ensures { result ≡ mode_of spec.now c a.0 }
+{
+    let place = spec.conf(c)?.place(a)?;
+    spec.app(a)?.mode(place.mode)
+}
+
+fn count_apps(spec: &Spec) -> usize
+    ensures value { result ≡ length spec.now.apps }
+    ensures most { result ≤ 8 }
+    ensures known { IsSpec spec.now }
+{
+    spec.apps.items().len()
 }

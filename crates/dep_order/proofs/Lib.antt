@@ -1,0 +1,5 @@
+pub mod Chains
+pub mod Charts
+pub mod Lengths
+pub mod Modes
+pub mod Offsets
