@@ -1,5 +1,5 @@
 -- Every number of the world after a step lies in its range.
-use Rattle.std.proofs.Common.{◌≡◌, ◌≤ℤ◌, ◌%◌, refl, ℕ, suc, ℤ, pos, negsuc, ◌<◌, Bool, true, false, if◌then◌else◌, int_lt, arith}
+use Rattle.std.proofs.Common.{◌≡◌, ◌≤ℤ◌, ◌%◌, refl, ℤ, pos, negsuc, ◌<◌, Bool, true, false, if◌then◌else◌, int_lt, arith}
 use Rattle.std.proofs.lemmas.Int.{ints}
 use native.Mathlib.Nat.{mod-lt}
 use Rattle.scram_types.specs.declared.ranges.Range.{Range}

@@ -151,41 +151,23 @@ mod tests {
     use super::step;
     use scram_types::World;
 
+    fn make_world(alt: i64, climb: i64, heading: i64, bank: i64) -> World {
+        World {
+            alt,
+            climb,
+            heading,
+            bank,
+        }
+    }
+
     #[test]
-    fn step_leads_to_the_worlds_that_were_worked_out() {
-        let start = World {
-            alt: 5_000,
-            climb: 0,
-            heading: 900,
-            bank: 0,
-        };
-        let high = World {
-            alt: 39_995,
-            climb: 290,
-            heading: 3_590,
-            bank: 200,
-        };
-        let after = World {
-            alt: 40_000,
-            climb: 292,
-            heading: 15,
-            bank: 250,
-        };
-        let climbing = World {
-            alt: 5_000,
-            climb: 5,
-            heading: 900,
-            bank: 0,
-        };
-        let still_climbing = World {
-            alt: 5_000,
-            climb: 9,
-            heading: 900,
-            bank: 0,
-        };
-        assert_eq!(step(start, 0, 0), start);
-        assert_eq!(step(high, 300, 300), after);
-        assert_eq!(step(start, 22, 0), climbing);
-        assert_eq!(step(climbing, 24, 0), still_climbing);
+    fn steps_lead_where_they_were_worked_out_to_lead(rt: HostRuntime) {
+        let level = make_world(5_000, 0, 900, 0);
+        let high = make_world(39_995, 290, 3_590, 200);
+        let rising = make_world(5_000, 5, 900, 0);
+        assert_eq!(rt; step(level, 0, 0), level);
+        assert_eq!(rt; step(high, 300, 300), make_world(40_000, 292, 15, 250));
+        assert_eq!(rt; step(level, 22, 0), rising);
+        assert_eq!(rt; step(rising, 24, 0), make_world(5_000, 9, 900, 0));
     }
 }

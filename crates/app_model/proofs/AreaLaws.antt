@@ -1,9 +1,8 @@
 -- The areas of the laws lie in the tables' ranges.
-use Rattle.std.proofs.Common.{◌≡◌, ◌≤◌, refl, sym, subst, ap, ℕ, zero, suc, ℤ, pos, ◌<◌, ◌+◌, ◌-◌, ◌==◌, eq-eqb, Bool, true, false, if◌then◌else◌, Some, None, arith}
+use Rattle.std.proofs.Common.{◌≡◌, refl, sym, subst, ℕ, zero, suc, ℤ, pos, ◌<◌, ◌+◌, ◌-◌, ◌==◌, eq-eqb, Bool, true, false, if◌then◌else◌, arith}
 use Rattle.std.specs.Prelude.{List}
 use Rattle.std.proofs.lemmas.Int.{ints}
 use Rattle.scram_types.specs.declared.ranges.Range.{Range}
-use Rattle.scram_types.specs.declared.orders.Order.{Order}
 use Rattle.scram_types.specs.declared.orders.Order.TheVariants.{Run, Hold, Halt, Prepare, Init, Off}
 use Rattle.app_model.specs.declared.seen.Seen.{Seen}
 use Rattle.scram_types.specs.Numbers.{word}
@@ -12,8 +11,8 @@ use Rattle.app_model.specs.Ranges.{range_of, autopilot_initialised, autopilot_ra
 use Rattle.app_model.specs.Reads.{own_word, altitude, heading}
 use Rattle.app_model.specs.Orders.{kept, halted_word, halted, initialised_word, initialised, initialising}
 use Rattle.app_model.specs.Bounds.{ends, during, after_halt, after_init}
-use Rattle.app_model.specs.Areas.{Between, AreaLies, act_of, LawLiesDuring, LawLiesAfterHalt, LawLiesAfterInit, StartLiesAfterInit}
-use Rattle.app_model.specs.Law.{law, ran}
+use Rattle.app_model.specs.Areas.{Between, AreaLies, LawLiesDuring, LawLiesAfterHalt, LawLiesAfterInit, StartLiesAfterInit}
+use Rattle.app_model.specs.Law.{ran}
 use Rattle.app_model.specs.Starts.{start_of}
 use Rattle.app_model.proofs.Within.{In, Within, each, each_kind, in_clamp, in_choice, in_either, in_zero, in_number, in_faded, in_faded_last, in_own}
 use Rattle.app_model.proofs.Tables.{wider, init_narrows, during_is, after_init_is, status_stays}

@@ -1,9 +1,10 @@
 -- Names and numbers lead to one another, where no name stands twice in a table.
-use Rattle.std.proofs.Common.{◌≡◌, ◌∙◌, refl, ap, subst, ℕ, zero, suc, ◌<◌, ◌+◌, Bool, true, false, ◌&&◌, ◌||◌, not, if◌then◌else◌, List, [], ◌∷◌, Option, Some, None, slice_get, arith}
+use Rattle.std.proofs.Common.{◌≡◌, ◌∙◌, refl, ap, subst, ℕ, zero, suc, ◌+◌, ◌<◌, ◌≤◌, length, drop, Bool, true, false, ◌&&◌, ◌||◌, not, if◌then◌else◌, List, [], ◌∷◌, Option, Some, None, arith}
 use Rattle.std.specs.Str.{bytes_eq}
 use Rattle.std.proofs.Math.Bool.{or-true}
 use Rattle.std.proofs.lemmas.Slice.Eq.{bytes_eq-Decides}
-use Rattle.app_model.specs.Names.{kind_names, mode_names, variable_names, name_at, is_spelled, number_from, number_of, NamesAgree, AllNamesAgree}
+use Rattle.app_model.specs.Names.{kind_names, mode_names, variable_names, name_at, is_spelled, number_from, number_of, IsModeNumber, NamesAgree, AllNamesAgree}
+use Rattle.scram_types.specs.Specification.{modes_of_kind}
 use Rattle.app_model.proofs.Within.{each_kind}
 
 -- a text stands in a table
@@ -106,3 +107,37 @@ all_names_agree = record {
   modes = each_kind (λ kind. NamesAgree (mode_names kind)) (agree (mode_names 0) refl) (agree (mode_names 1) refl) (agree (mode_names 2) refl) (agree (mode_names 3) refl) (agree (mode_names 4) refl);
   variables = each_kind (λ kind. NamesAgree (variable_names kind)) (agree (variable_names 0) refl) (agree (variable_names 1) refl) (agree (variable_names 2) refl) (agree (variable_names 3) refl) (agree (variable_names 4) refl);
 }
+
+-- a number that is found is one of the table's places
+pub record Counted (n m : ℕ) (names : List (Option (List ℕ))) : Type 0 where
+  pub first : n ≤ m
+  pub last : m < n + length names
+
+counted_from : (n : ℕ) (names : List (Option (List ℕ))) (text : List ℕ) (m : ℕ) → number_from n names text ≡ Some m → Counted n m names
+counted_from n [] text m h = cc
+counted_from n (name ∷ names) text m h = by (is_spelled name text) h (counted_from (n + 1) names text m)
+  where
+    by : (c : Bool) → (if c then Some n else number_from (n + 1) names text) ≡ Some m
+        → (number_from (n + 1) names text ≡ Some m → Counted (n + 1) m names) → Counted n m (name ∷ names)
+    by true f later =
+        let same : n ≡ m = cc in
+        record { first = omega arith; last = omega arith }
+    by false f later =
+        let rest = later f in
+        record { first = omega (arith, rest.first); last = omega (arith, rest.last) }
+
+modes_counted : (names : List (Option (List ℕ))) (text : List ℕ) (m modes : ℕ) → length names ≤ modes → number_of (None ∷ names) text ≡ Some m → IsModeNumber m modes
+modes_counted names text m modes l h =
+    let c = counted_from 1 names text m h in
+    record { first = c.first; last = omega (arith, c.last) }
+
+abbrev ModesCounted : ℕ → Type 0
+ModesCounted kind = (text : List ℕ) (m : ℕ) → number_of (mode_names kind) text ≡ Some m → IsModeNumber m (modes_of_kind kind)
+
+pub mode_numbers : (kind : ℕ) → kind < 5 → ModesCounted kind
+mode_numbers = each_kind ModesCounted
+    (λ text m h. modes_counted (drop 1 (mode_names 0)) text m 2 (omega arith) h)
+    (λ text m h. modes_counted (drop 1 (mode_names 1)) text m 2 (omega arith) h)
+    (λ text m h. modes_counted (drop 1 (mode_names 2)) text m 3 (omega arith) h)
+    (λ text m h. modes_counted (drop 1 (mode_names 3)) text m 2 (omega arith) h)
+    (λ text m h. modes_counted (drop 1 (mode_names 4)) text m 2 (omega arith) h)

@@ -2,11 +2,10 @@
 use Rattle.std.proofs.Common.{◌≡◌, ◌≤◌, ℕ, zero, suc, ℤ, pos, ◌<◌, ◌==◌, Bool, true, false, if◌then◌else◌, arith, refl}
 use Rattle.std.proofs.lemmas.Int.{ints}
 use Rattle.scram_types.specs.declared.ranges.Range.{Range}
-use Rattle.scram_types.specs.Numbers.{minus}
 use Rattle.scram_types.specs.Ranges.{limit}
 use Rattle.app_model.specs.Ranges.{autopilot_range, flight_control_range, power_monitor_range, navigator_range, data_link_range, range_of, autopilot_initialised, flight_control_initialised, navigator_initialised, initialised_range, widest_mode, sane_range, moves}
 use Rattle.app_model.specs.Bounds.{ends, during, after_halt, after_init, sane}
-use Rattle.app_model.specs.Areas.{Inside, TablesNarrow, AllTablesNarrow}
+use Rattle.app_model.specs.Areas.{Inside, AllTablesNarrow}
 use Rattle.app_model.proofs.Within.{In, each, each_kind}
 
 pub record Narrower (r s : Range) : Type 0 where

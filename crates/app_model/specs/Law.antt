@@ -10,6 +10,7 @@ use Rattle.app_model.specs.PowerMonitor.{power_monitor_ran}
 use Rattle.app_model.specs.Navigator.{navigator_ran}
 use Rattle.app_model.specs.DataLink.{data_link_ran}
 
+-- the kinds are 0 to 4; what follows gives every other number the data link's law
 abbrev pub ran : ℕ → Seen → List ℤ
 ran kind seen =
     if kind == 0 then autopilot_ran seen else

@@ -1,6 +1,6 @@
 -- How kinds, modes and variables are spelled. In a table of names the name of number n stands at place
 -- n, and None where the number has none.
-use Rattle.std.specs.Prelude.{◌≡◌, ℕ, ◌<◌, codes, ◌+◌, ◌==◌, Bool, false, List, [], ◌∷◌, Option, Some, None, slice_get, option_and_then, if◌then◌else◌}
+use Rattle.std.specs.Prelude.{◌≡◌, ℕ, ◌<◌, ◌≤◌, codes, ◌+◌, ◌==◌, Bool, false, List, [], ◌∷◌, Option, Some, None, slice_get, option_and_then, if◌then◌else◌}
 use Rattle.std.specs.Str.{bytes_eq}
 
 abbrev pub kind_names : List (Option (List ℕ))
@@ -39,6 +39,11 @@ number_from number (name ∷ names) text = if is_spelled name text then Some num
 
 abbrev pub number_of : List (Option (List ℕ)) → List ℕ → Option ℕ
 number_of names text = number_from 0 names text
+
+-- a mode that is on, of a kind that has so many modes
+pub record IsModeNumber (mode modes : ℕ) : Type 0 where
+  pub first : 1 ≤ mode
+  pub last : mode ≤ modes
 
 -- Number and name lead to one another.
 pub record NamesAgree (names : List (Option (List ℕ))) : Type 0 where

@@ -25,6 +25,7 @@ impl LastCall {
         ensures kind { result.kind ≡ kind }
         ensures order { result.order ≡ order }
         ensures seen { result.seen ≡ seen.now }
+        ensures answer { result.answer ≡ answer.now }
     {
         LastCall {
             kind,

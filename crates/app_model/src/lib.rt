@@ -4,9 +4,10 @@
 #![tactic(auto)]
 
 pub mod app;
+pub mod autopilot_law;
 pub mod bounds;
 pub mod calls;
-pub mod comparisons;
+mod comparisons;
 pub mod headings;
 pub mod kinds;
 pub mod laws;
@@ -24,3 +25,6 @@ pub use names::{kind_name, kind_named, mode_name, mode_named, variable_name, var
 pub use racks::{Rack, rack_fits, racks_fit};
 pub use seen::Seen;
 pub use starts::start_area;
+
+#[cfg(test)]
+mod tests;

@@ -1,14 +1,15 @@
 //! The names of kinds, modes and variables, as documents and traces spell them.
 
-ghost use Rattle.std.specs.Prelude.{◌≡◌, ◌≤◌, length, map, option_map};
-ghost use Rattle.app_model.specs.Names.{kind_names, mode_names, variable_names, name_at, is_spelled, number_of, AllNamesAgree};
+ghost use Rattle.std.specs.Prelude.{◌≡◌, ◌≤◌, ◌<◌, IfSome, length, map, option_map};
+ghost use Rattle.scram_types.specs.Specification.{modes_of_kind};
+ghost use Rattle.app_model.specs.Names.{kind_names, mode_names, variable_names, name_at, is_spelled, number_of, IsModeNumber, AllNamesAgree};
 
 use crate::kinds::{autopilot, data_link, flight_control, navigator, power_monitor};
 use scram_types::{KindId, Mode};
 
 fn names_of_kinds() -> &'static [Option<&'static str>]
     ensures names { map (option_map (λ s. s.now)) result.now ≡ kind_names }
-    ensures few { length result.now ≤ 8 }
+    ensures five { length result.now ≡ 5 }
 {
     &[
         Some("autopilot"),
@@ -112,7 +113,8 @@ fn is_spelled_so(name: Option<&str>, text: &str) -> bool
 
 fn number_in(names: &[Option<&str>], text: &str) -> Option<u8>
     requires few { length names.now ≤ 8 }
-    ensures { result ≡ number_of (map (option_map (λ s. s.now)) names.now) text.now }
+    ensures below { IfSome result (λ number. number < length names.now) }
+    ensures number { result ≡ number_of (map (option_map (λ s. s.now)) names.now) text.now }
 {
     let mut number = 0;
     for name in names {
@@ -126,7 +128,8 @@ fn number_in(names: &[Option<&str>], text: &str) -> Option<u8>
 
 /// The kind of this name, or `None` where no kind has it.
 pub fn kind_named(name: &str) -> Option<KindId>
-    ensures { option_map (λ kind. kind.0) result ≡ number_of kind_names name.now }
+    ensures kind { option_map (λ kind. kind.0) result ≡ number_of kind_names name.now }
+    ensures built { IfSome result (λ kind. kind.0 < 5) }
 {
     match number_in(names_of_kinds(), name) {
         Some(number) => Some(KindId(number)),
@@ -136,7 +139,8 @@ pub fn kind_named(name: &str) -> Option<KindId>
 
 /// The mode of this name of a kind, or `None` where the kind has no such mode.
 pub fn mode_named(kind: KindId, name: &str) -> Option<Mode>
-    ensures { option_map (λ mode. mode.0) result ≡ number_of (mode_names kind.0) name.now }
+    ensures mode { option_map (λ mode. mode.0) result ≡ number_of (mode_names kind.0) name.now }
+    ensures of_kind { kind.0 < 5 → IfSome result (λ mode. IsModeNumber mode.0 (modes_of_kind kind.0)) }
 {
     match number_in(names_of_modes(kind), name) {
         Some(number) => Some(Mode(number)),
@@ -147,7 +151,8 @@ pub fn mode_named(kind: KindId, name: &str) -> Option<Mode>
 /// The place, 0 to 7, of the variable of this name in the areas of a kind, or `None` where the kind has
 /// no such variable.
 pub fn variable_named(kind: KindId, name: &str) -> Option<u8>
-    ensures { result ≡ number_of (variable_names kind.0) name.now }
+    ensures variable { result ≡ number_of (variable_names kind.0) name.now }
+    ensures word { IfSome result (λ variable. variable < 8) }
 {
     number_in(names_of_variables(kind), name)
 }

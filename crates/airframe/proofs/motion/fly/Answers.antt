@@ -1,4 +1,4 @@
-use Rattle.std.proofs.Common.{◌≡◌, sym, subst}
+use Rattle.std.proofs.Common.{sym, subst}
 use Rattle.scram_types.specs.declared.flights.World.{World}
 use Rattle.airframe.specs.Motion.{IsFlyable}
 use Rattle.airframe.proofs.Flyable.{flyable}

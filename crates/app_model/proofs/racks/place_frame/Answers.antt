@@ -1,6 +1,5 @@
-use Rattle.std.proofs.Common.{◌≡◌, ◌∙◌, ap}
+use Rattle.std.proofs.Common.{◌∙◌, ap}
 use Rattle.std.proofs.Math.Seq.{map-set_same}
-use Rattle.app_model.specs.Law.{law}
 use Rattle.app_model.proofs.Fitting.{kind_at}
 use Rattle.app_model.proofs.racks.place_frame.Goals as goal
 

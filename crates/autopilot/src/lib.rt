@@ -1,0 +1,6 @@
+//! The autopilot as a boxed application. Whatever it remembers, it answers the law of its kind.
+#![tactic(auto)]
+
+pub mod unit;
+
+pub use unit::Autopilot;

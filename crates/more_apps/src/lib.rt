@@ -1,0 +1,13 @@
+//! The navigator, the data link and a plain autopilot as boxed applications. Whatever they remember,
+//! they answer the laws of their kinds.
+#![tactic(auto)]
+
+pub mod data_link;
+pub mod navigator;
+pub mod plain_autopilot;
+#[cfg(test)]
+mod tests;
+
+pub use data_link::Datalink;
+pub use navigator::Navigator;
+pub use plain_autopilot::PlainAutopilot;

@@ -1,0 +1,114 @@
+//! The navigator.
+#![tactic(auto, unfolding(app_model::specs::Navigator::bearing_after, app_model::specs::Navigator::climb_after, app_model::specs::Navigator::near, app_model::specs::Navigator::on_course, app_model::specs::Navigator::navigator_ran))]
+
+ghost use Rattle.std.specs.Prelude.{◌≡◌, ◌≤ℤ◌, pos};
+ghost use Rattle.scram_types.specs.Numbers.{IsWord};
+ghost use Rattle.app_model.specs.Navigator.{bearing_after, climb_after, near, on_course, navigator_ran};
+ghost use Rattle.app_model.specs.Law.{law};
+
+use app_model::calls::LastCall;
+use app_model::headings::turn_to;
+use app_model::kinds::navigator::{KIND, ROUTE};
+use app_model::orders::area_after;
+use app_model::reads::{
+    next_ticks, read_altitude, read_goal_altitude, read_goal_heading, read_heading,
+};
+use app_model::{App, Seen};
+use scram_types::numbers::gap;
+use scram_types::ranges::{clamped_in, make_range};
+use scram_types::{Area, KindId, Order};
+
+fn next_bearing(seen: &Seen) -> i64
+    ensures value { result ≡ bearing_after seen.now }
+    ensures word { IsWord result }
+{
+    turn_to(read_goal_heading(seen), read_heading(seen))
+}
+
+fn next_climb(seen: &Seen) -> i64
+    ensures value { result ≡ climb_after seen.now }
+    ensures word { IsWord result }
+{
+    if seen.mode.0 == ROUTE {
+        clamped_in(
+            make_range(5_000, 5_000),
+            gap(read_altitude(seen), read_goal_altitude(seen)),
+        )
+    } else {
+        0
+    }
+}
+
+fn is_near(x: i64, most: u32) -> bool
+    ensures { result ≡ near x most }
+{
+    -i64::from(most) <= x && x <= i64::from(most)
+}
+
+fn next_on_course(seen: &Seen) -> i64
+    ensures { result ≡ on_course seen.now }
+{
+    if is_near(next_bearing(seen), 50) && is_near(next_climb(seen), 100) {
+        1
+    } else {
+        0
+    }
+}
+
+fn run(seen: &Seen) -> Area
+    ensures { result ≡ navigator_ran seen.now }
+{
+    [
+        1,
+        next_bearing(seen),
+        next_climb(seen),
+        next_on_course(seen),
+        0,
+        0,
+        next_ticks(KIND, seen),
+        0,
+    ]
+}
+
+/// The navigator's area after a frame with this order, by its law. It takes no memory.
+pub fn navigator_area(order: Order, seen: &Seen) -> Area
+    ensures { result ≡ law 3 order seen.now }
+{
+    match area_after(KIND, order, seen) {
+        Some(area) => area,
+        None => run(seen),
+    }
+}
+
+/// A navigator: it tells how far the aircraft is off its goal. What it answers is the law of kind 3;
+/// it gives its last answer again where the call is the same.
+#[derive(Drop)]
+pub struct Navigator {
+    last: Option<LastCall>,
+}
+
+impl Navigator {
+    /// A navigator that has not been called. It takes no memory.
+    pub fn new() -> Navigator {
+        Navigator { last: None }
+    }
+}
+
+impl App for Navigator {
+    ghost kind_of = { λ _. 3 };
+
+    fn kind(&self) -> KindId {
+        KindId(KIND)
+    }
+
+    fn frame(&mut self, order: Order, seen: &Seen) -> Area {
+        if let Some(last) = &self.last {
+            if let Some(answer) = last.answer_to(KIND, order, seen) {
+                return answer;
+            }
+        }
+        let answer = navigator_area(order, seen);
+        self.last = Some(LastCall::of(KIND, order, seen, &answer));
+        answer
+    }
+}

@@ -1,0 +1,31 @@
+//! An autopilot that remembers nothing.
+
+ghost use Rattle.std.specs.Prelude.{◌≡◌};
+
+use app_model::autopilot_law::autopilot_area;
+use app_model::kinds::autopilot::KIND;
+use app_model::{App, Seen};
+use scram_types::{Area, KindId, Order};
+
+/// An autopilot without a memory of its last call. What it answers is the law of kind 0.
+#[derive(Drop)]
+pub struct PlainAutopilot {}
+
+impl PlainAutopilot {
+    /// An autopilot. It takes no memory.
+    pub fn new() -> PlainAutopilot {
+        PlainAutopilot {}
+    }
+}
+
+impl App for PlainAutopilot {
+    ghost kind_of = { λ _. 0 };
+
+    fn kind(&self) -> KindId {
+        KindId(KIND)
+    }
+
+    fn frame(&mut self, order: Order, seen: &Seen) -> Area {
+        autopilot_area(order, seen)
+    }
+}
