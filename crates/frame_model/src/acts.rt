@@ -34,9 +34,13 @@ pub fn running(spec: &Spec, acts: &[Act; 8]) -> Option<ConfId>
 
 // Where configuration `c` places an application, or `None` where it is off.
 pub(crate) fn place_of(spec: &Spec, c: ConfId, app: AppId) -> Option<Place>
-    ensures { result ≡ place_of spec.now c app.0 }
+    ensures place { result ≡ place_of spec.now c app.0 }
+    ensures proc { IfSome result (λ place. place.proc.0 < 8) }
 {
-    spec.conf(c)?.place(app)
+    match spec.confs.items().get(usize::from(c.0)) {
+        Some(conf) => conf.place(app),
+        None => None,
+    }
 }
 
 fn act_of(acts: &[Act; 8], a: u8) -> Act

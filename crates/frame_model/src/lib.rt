@@ -4,6 +4,9 @@
 #![tactic(auto)]
 
 pub mod acts;
+pub mod decisions;
+pub mod frames;
+mod outcomes;
 pub mod phases;
 pub mod power;
 pub mod quiet;
@@ -12,7 +15,9 @@ pub mod systems;
 pub mod tasks;
 
 pub use acts::{running, runs};
-pub use phases::Phase;
+pub use decisions::decide;
+pub use frames::frame;
+pub use phases::{Phase, phase_at, target};
 pub use readings::{Reading, close, read_row, reports};
 pub use systems::{Input, Sys};
-pub use tasks::Task;
+pub use tasks::{Task, order_of};
