@@ -1,5 +1,5 @@
 -- What is read from a list, and where a configuration places applications.
-use Rattle.std.proofs.Common.{◌≡◌, ◌∙◌, ℕ, ◌<◌, refl, arith, true, List, length}
+use Rattle.std.proofs.Common.{◌≡◌, ℕ, ◌<◌, refl, arith, true, List, length}
 use Rattle.std.specs.Prelude.{Option, Some, None, IfSome, nat_lt, slice_get, slice_index_or}
 use Rattle.std.proofs.lemmas.Bool.Decides.{nat_tests}
 use Rattle.std.proofs.lemmas.Option.{slice_get_read}

@@ -1,7 +1,7 @@
 -- Tests over the numbers below a number.
-use Rattle.std.proofs.Common.{◌≡◌, ℕ, zero, suc, ◌+◌, ◌-◌, ◌<◌, refl, arith, Bool, true, false, ◌&&◌, sym, ◌∙◌, ap, ◌⊎◌}
+use Rattle.std.proofs.Common.{◌≡◌, ℕ, zero, suc, ◌+◌, ◌-◌, ◌<◌, refl, arith, Bool, true, false, ◌&&◌, ◌⊎◌}
 use mathlib.Core.Logic.{inl, inr}
-use Rattle.std.specs.Prelude.{Option, Some, None, if◌then◌else◌}
+use Rattle.std.specs.Prelude.{Some}
 use Rattle.frame_model.specs.Runs.{all_below, least_from}
 
 and_false : (b : Bool) → b && false ≡ false

@@ -1,8 +1,7 @@
 -- The one-thread trace of a script, and the images of its processors.
-use Rattle.std.specs.Prelude.{ℕ, zero, suc, ◌==◌, ℤ, Bool, false, List, [], ◌∷◌, ◌++◌, Option, Some, None, if◌then◌else◌}
+use Rattle.std.specs.Prelude.{ℕ, zero, suc, ◌==◌, ℤ, Bool, false, List, [], ◌∷◌, ◌++◌, Option, if◌then◌else◌}
 use Rattle.std.specs.Option.{option_map_or}
 use Rattle.scram_types.specs.declared.ids.ProcId.{ProcId}
-use Rattle.scram_types.specs.declared.flights.Env.{Env}
 use Rattle.scram_types.specs.declared.flights.Row.{Row}
 use Rattle.scram_types.specs.declared.flights.Report.{Report}
 use Rattle.scram_types.specs.declared.orders.KMode.{KMode}

@@ -7,7 +7,7 @@ use Rattle.scram_types.specs.Specification.{Parts}
 use Rattle.choice_table.specs.Environments.{has_bit}
 use Rattle.frame_model.specs.declared.systems.Input.{Input}
 use Rattle.frame_model.specs.declared.systems.Sys.{Sys}
-use Rattle.frame_model.specs.States.{State, has_arrived, row_of, step}
+use Rattle.frame_model.specs.States.{State, row_of, step}
 
 abbrev pub state_of : Sys → State
 state_of sys = record { mode = sys.mode; arrived = sys.settled; areas = sys.areas; keepers = sys.keepers; world = sys.world }

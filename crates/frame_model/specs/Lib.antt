@@ -6,6 +6,7 @@ pub mod Readings
 pub mod States
 pub mod Frames
 pub mod Outcomes
+pub mod Inputs
 pub mod Flights
 pub mod Power
 pub mod Quiet

@@ -5,7 +5,9 @@
 
 pub mod acts;
 pub mod decisions;
+pub mod flights;
 pub mod frames;
+pub mod inputs;
 mod outcomes;
 pub mod phases;
 pub mod power;
@@ -16,7 +18,9 @@ pub mod tasks;
 
 pub use acts::{running, runs};
 pub use decisions::decide;
+pub use flights::rows;
 pub use frames::frame;
+pub use inputs::Factors;
 pub use phases::{Phase, phase_at, target};
 pub use readings::{Reading, close, read_row, reports};
 pub use systems::{Input, Sys};

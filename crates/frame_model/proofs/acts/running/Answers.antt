@@ -1,4 +1,4 @@
-use Rattle.std.proofs.Common.{◌≡◌, ◌∙◌, sym, ap, arith, false, length}
+use Rattle.std.proofs.Common.{◌∙◌, sym, ap, arith, length}
 use Rattle.scram_types.specs.Specification.{Parts}
 use Rattle.frame_model.specs.Runs.{conf_of, runs}
 use Rattle.frame_model.proofs.Tests.{least_passes}

@@ -1,4 +1,3 @@
-use Rattle.std.proofs.Common.{◌≡◌}
 use Rattle.frame_model.proofs.FrameSteps.{acts_are, areas_are, frame_row, frame_sys, keepers_are}
 use Rattle.frame_model.proofs.frames.frame.Goals as goal
 

@@ -1,4 +1,4 @@
-use Rattle.std.proofs.Common.{◌≡◌, ◌∙◌, sym, ap, arith, length, ◌<◌}
+use Rattle.std.proofs.Common.{◌∙◌, sym, ap, arith, length}
 use Rattle.scram_types.specs.Specification.{Parts}
 use Rattle.frame_model.proofs.Leads.{lead_here, lead_later}
 use Rattle.frame_model.proofs.outcomes.lead_of.Goals as goal

@@ -1,8 +1,4 @@
-use Rattle.std.proofs.Common.{◌≡◌, ◌<◌, ℕ, length}
-use Rattle.std.specs.Prelude.{Option, slice_index_or}
 use Rattle.app_model.specs.Racks.{RacksFit}
-use Rattle.scram_types.specs.declared.ids.ProcId.{ProcId}
-use Rattle.scram_types.specs.declared.orders.Act.{Act}
 use Rattle.frame_model.specs.Outcomes.{act_made, area_made, keeper_made}
 use Rattle.frame_model.proofs.Eights.{Filled}
 use Rattle.frame_model.proofs.outcomes.perform_all.Given as goal
