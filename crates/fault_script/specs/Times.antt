@@ -67,6 +67,10 @@ is_up_since script p f (Some h) = restarted script p h f
 abbrev pub is_up : ScriptParts → ℕ → ℕ → Bool
 is_up script p f = is_up_since script p f (latest_halt script p f)
 
+-- A halt leaves processor p up in frame f: it is not of p, or not in a frame below f, or p has restarted since.
+abbrev pub is_over : ScriptParts → ℕ → ℕ → HaltAt → Bool
+is_over script p f halt = not (halt.proc.0 == p && nat_lt halt.frame f && not (restarted script p halt.frame f))
+
 -- How many words an image has: eight for each application.
 abbrev pub words : Parts → ℕ
 words spec = 8 * length spec.apps

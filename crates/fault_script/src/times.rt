@@ -1,7 +1,8 @@
 //! What a script says of a processor and of a frame.
 
 ghost use Rattle.std.specs.Prelude.{◌≡◌};
-ghost use Rattle.fault_script.specs.Times.{factors_at, halt_in, halt_of, restart_of, restarted, value_after};
+ghost use Rattle.std.specs.List.{list_all};
+ghost use Rattle.fault_script.specs.Times.{factors_at, halt_in, halt_of, is_over, is_up, restart_of, restarted, value_after};
 
 use scram_types::{HaltAt, ProcId, Script};
 
@@ -66,6 +67,29 @@ pub fn restart_of(script: &Script, proc: ProcId) -> Option<u32>
         }
     }
     None
+}
+
+/// Whether a processor is up in a frame: it has no halt in an earlier frame, or it has restarted since
+/// the latest such halt and up to this frame. It takes no memory.
+pub fn up_at(script: &Script, proc: ProcId, frame: u32) -> bool
+    ensures { result ≡ is_up script.now proc.0 frame }
+{
+    are_halts_over(script, proc, frame)
+}
+
+// Whether a processor has restarted since each of its halts in a frame before this one.
+fn are_halts_over(script: &Script, proc: ProcId, frame: u32) -> bool
+    ensures { result ≡ list_all (is_over script.now proc.0 frame) script.now.halts }
+{
+    for halt in script.halts.items() {
+        if halt.proc.0 == proc.0
+            && halt.frame < frame
+            && !has_restarted(script, proc, halt.frame, frame)
+        {
+            return false;
+        }
+    }
+    true
 }
 
 // Whether a processor restarts after frame `after` and in a frame up to `frame`.
