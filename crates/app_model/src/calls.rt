@@ -1,6 +1,6 @@
 //! What an application remembers of its last call.
 
-ghost use Rattle.std.specs.Prelude.{◌≡◌, IfSome};
+ghost use Rattle.std.specs.Prelude.{◌≡◌, IfSome, IsSome};
 ghost use Rattle.app_model.specs.Law.{law};
 
 use crate::comparisons::{same_order, same_seen};
@@ -37,7 +37,8 @@ impl LastCall {
 
     /// The answer once more, where this is the same call; else `None`.
     pub fn answer_to(&self, kind: u8, order: Order, seen: &Seen) -> Option<Area>
-        ensures { IfSome result (λ area. area ≡ law kind order seen.now) }
+        ensures law { IfSome result (λ area. area ≡ law kind order seen.now) }
+        ensures again { self.now.kind ≡ kind → self.now.order ≡ order → self.now.seen ≡ seen.now → IsSome result }
     {
         if self.kind == kind && same_order(self.order, order) && same_seen(&self.seen, seen) {
             Some(self.answer)

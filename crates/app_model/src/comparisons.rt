@@ -6,9 +6,9 @@ ghost use Rattle.std.specs.Prelude.{◌≡◌, ◌↔◌, IsTrue};
 use crate::seen::Seen;
 use scram_types::{Area, Goal, Order, World};
 
-/// `true` only where the orders are the same.
+/// Whether the orders are the same.
 pub fn same_order(a: Order, b: Order) -> bool
-    ensures { IsTrue result → a ≡ b }
+    ensures { IsTrue result ↔ (a ≡ b) }
 {
     match (a, b) {
         (Order::Run, Order::Run) | (Order::Hold, Order::Hold) | (Order::Off, Order::Off) => true,
@@ -38,20 +38,20 @@ fn same_factors(a: &[u8; 6], b: &[u8; 6]) -> bool
 }
 
 fn same_world(a: &World, b: &World) -> bool
-    ensures { IsTrue result → a.now ≡ b.now }
+    ensures { IsTrue result ↔ (a.now ≡ b.now) }
 {
     a.alt == b.alt && a.climb == b.climb && a.heading == b.heading && a.bank == b.bank
 }
 
 fn same_goal(a: &Goal, b: &Goal) -> bool
-    ensures { IsTrue result → a.now ≡ b.now }
+    ensures { IsTrue result ↔ (a.now ≡ b.now) }
 {
     a.altitude == b.altitude && a.heading == b.heading
 }
 
-/// `true` only where the same is seen.
+/// Whether the same is seen.
 pub fn same_seen(a: &Seen, b: &Seen) -> bool
-    ensures { IsTrue result → a.now ≡ b.now }
+    ensures { IsTrue result ↔ (a.now ≡ b.now) }
 {
     if a.mode.0 != b.mode.0 {
         return false;

@@ -2,7 +2,7 @@
 
 ghost use Rattle.std.specs.Prelude.{◌≡◌, ◌↔◌, ◌<◌, IsTrue};
 ghost use Rattle.app_model.specs.Law.{law};
-ghost use Rattle.app_model.specs.Racks.{Fits, AllFit, RacksFit};
+ghost use Rattle.app_model.specs.Racks.{Fits, AllFit, RacksFit, OthersStay};
 
 use crate::app::App;
 use crate::seen::Seen;
@@ -65,23 +65,25 @@ fn place_frame(rack: &mut Rack, place: usize, order: Order, seen: &Seen) -> Area
     requires place { place < 5 }
     ensures answer { result ≡ law place order seen.now }
     ensures fits { Fits kind_of rack.new.boxes.items }
+    ensures others { OthersStay rack.old.boxes.items rack.new.boxes.items place }
 {
     box_frame(&mut rack.boxes[place], order, seen)
 }
 
 /// What the box of kind `kind` of a rack that fits answers in a frame: the law of the kind. The rack
-/// still fits.
+/// still fits, and its other boxes are as they were.
 pub fn rack_frame(rack: &mut Rack, kind: KindId, order: Order, seen: &Seen) -> Area
     requires fits { Fits kind_of rack.old.boxes.items }
     requires kind { kind.0 < 5 }
     ensures answer { result ≡ law kind.0 order seen.now }
     ensures fits { Fits kind_of rack.new.boxes.items }
+    ensures others { OthersStay rack.old.boxes.items rack.new.boxes.items kind.0 }
 {
     place_frame(rack, usize::from(kind.0), order, seen)
 }
 
 /// What the box of kind `kind` on processor `proc` answers in a frame: the law of the kind. The racks
-/// still fit.
+/// still fit, and the other racks are as they were.
 pub fn racks_frame(
     racks: &mut [Rack],
     proc: ProcId,
@@ -94,6 +96,7 @@ pub fn racks_frame(
     requires kind { kind.0 < 5 }
     ensures answer { result ≡ law kind.0 order seen.now }
     ensures fits { RacksFit kind_of (λ r. r.boxes.items) racks.new }
+    ensures others { OthersStay racks.old racks.new proc.0 }
 {
     rack_frame(&mut racks[usize::from(proc.0)], kind, order, seen)
 }
