@@ -14,7 +14,7 @@ use Rattle.fault_script.specs.Times.{commits, halts_before_mark, halts_in, is_ha
 use Rattle.frame_model.specs.Inputs.{halts_after_mark, input_at, is_up_before, restarts_in, up_before}
 use Rattle.frame_model.proofs.Bits.{bits_but, bits_or, has_bits, same_bits}
 
-any_same : {A : Type 0} (s t : A → Bool) (xs : List A) → ((x : A) → s x ≡ t x) → list_any s xs ≡ list_any t xs
+pub any_same : {A : Type 0} (s t : A → Bool) (xs : List A) → ((x : A) → s x ≡ t x) → list_any s xs ≡ list_any t xs
 any_same s t [] is = refl
 any_same s t (x ∷ xs) is = rw (is x, any_same s t xs is) refl
 
@@ -25,7 +25,7 @@ or_mixed false true false d = refl
 or_mixed false false true d = refl
 or_mixed false false false d = refl
 
-any_or : {A : Type 0} (s t : A → Bool) (xs : List A) → list_any (λ x. s x || t x) xs ≡ (list_any s xs || list_any t xs)
+pub any_or : {A : Type 0} (s t : A → Bool) (xs : List A) → list_any (λ x. s x || t x) xs ≡ (list_any s xs || list_any t xs)
 any_or s t [] = refl
 any_or s t (x ∷ xs) = rw (any_or s t xs) (or_mixed (s x) (t x) (list_any s xs) (list_any t xs))
 

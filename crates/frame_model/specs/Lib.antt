@@ -8,5 +8,6 @@ pub mod Frames
 pub mod Outcomes
 pub mod Inputs
 pub mod Flights
+pub mod Laws
 pub mod Power
 pub mod Quiet

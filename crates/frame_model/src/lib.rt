@@ -8,6 +8,7 @@ pub mod decisions;
 pub mod flights;
 pub mod frames;
 pub mod inputs;
+pub mod laws;
 mod outcomes;
 pub mod phases;
 pub mod power;
