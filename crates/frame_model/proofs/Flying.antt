@@ -1,6 +1,7 @@
 -- One more frame of a script.
-use Rattle.std.proofs.Common.{◌≡◌, ◌∙◌, ℕ, suc, ◌+◌, ◌-◌, ◌^◌, refl, ap, arith, length, List, [], ◌∷◌, ◌++◌}
+use Rattle.std.proofs.Common.{◌≡◌, ◌∙◌, ℕ, zero, suc, ◌+◌, ◌-◌, ◌^◌, refl, ap, arith, length, List, [], ◌∷◌, ◌++◌}
 use Rattle.std.specs.Prelude.{bit_and, bit_or}
+use Rattle.std.proofs.lemmas.List.{length-append}
 use Rattle.std.specs.Int.{bit_not, w8}
 use Rattle.scram_types.specs.declared.flights.Env.{Env}
 use Rattle.scram_types.specs.declared.flights.Row.{Row}
@@ -78,3 +79,9 @@ pub rows_more : (value : ℕ → Row) (n at : ℕ) (front all : List Row) (row :
 rows_more value n at front all row before more is same =
     let e : n + 1 ≡ suc n = omega arith in
     rw (e, more, before, is, same) refl
+
+pub length_listed : {X : Type 0} (value : ℕ → X) (n : ℕ) → length (listed_below value n) ≡ n
+length_listed value zero = refl
+length_listed value (suc n) =
+    let before = length_listed value n in
+    length-append (listed_below value n) (value n ∷ []) ∙ omega arith

@@ -1,6 +1,6 @@
 //! The one-thread trace.
 
-ghost use Rattle.std.specs.Prelude.{◌≡◌, ◌<◌, ◌+◌, IfOk};
+ghost use Rattle.std.specs.Prelude.{◌≡◌, ◌<◌, ◌+◌, IfOk, length};
 ghost use Rattle.app_model.specs.Racks.{RacksFit};
 ghost use Rattle.fault_script.specs.Fits.{Fits};
 ghost use Rattle.frame_model.specs.Flights.{row_at, rows_of};
@@ -22,11 +22,13 @@ pub fn rows(
 ) -> Result<Vec<Row>, NoMemory>
     requires script { Fits spec.now script.now }
     requires racks { RacksFit (λ b. kind_of (b.vtable, b.value)) (λ r. r.boxes.items) racks.items }
-    ensures { IfOk result (λ rows. rows.items ≡ rows_of spec.now script.now) }
+    ensures rows { IfOk result (λ rows. rows.items ≡ rows_of spec.now script.now) }
+    ensures count { IfOk result (λ rows. length rows.items ≡ script.now.frames) }
 {
     fly_all(alloc, spec, script, &mut racks)
 }
 
+#[tactic(auto, using(crate::proofs::Flying::length_listed))]
 fn fly_all(
     alloc: Global,
     spec: &Spec,
@@ -35,7 +37,8 @@ fn fly_all(
 ) -> Result<Vec<Row>, NoMemory>
     requires script { Fits spec.now script.now }
     requires racks { RacksFit (λ b. kind_of (b.vtable, b.value)) (λ r. r.boxes.items) racks.old }
-    ensures { IfOk result (λ rows. rows.items ≡ rows_of spec.now script.now) }
+    ensures rows { IfOk result (λ rows. rows.items ≡ rows_of spec.now script.now) }
+    ensures count { IfOk result (λ rows. length rows.items ≡ script.now.frames) }
 {
     let mut rows = Vec::with_capacity(alloc, script.frames as usize)?;
     let mut sys = Sys::start(spec);
