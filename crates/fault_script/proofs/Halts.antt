@@ -104,7 +104,7 @@ restarted_earlier script p h g f earlier t =
     let found = any_found (is_restart_between p g f) script.restarts t in
     let b = between p g f found.1 found.3 in
     any_is (is_restart_between p h f) script.restarts found.0 found.1 found.2
-        (between_test p h f found.1 (let after = b.after in record { proc = b.proc; after = omega arith; by = b.by }))
+    (between_test p h f found.1 (let after = b.after in record { proc = b.proc; after = omega arith; by = b.by }))
 
 -- the latest halt below n tells of each halt below n
 EachOver : ScriptParts → ℕ → ℕ → ℕ → Type 0
@@ -170,8 +170,8 @@ listed_over script p f all h less halts =
 over_listed : (script : ScriptParts) (p f : ℕ) → ((h : ℕ) → h < f → halts_in script p h ≡ true → restarted script p h f ≡ true) → list_all (is_over script p f) script.halts ≡ true
 over_listed script p f over = all_pass (is_over script p f) script.halts (λ i halt there.
     over_of (halt.proc.0 == p) (nat_lt halt.frame f) (restarted script p halt.frame f) (λ proc early.
-      over halt.frame (below halt.frame f early)
-        (any_is (is_halt_in p halt.frame) script.halts i halt there (halt_test p halt.frame halt (equal halt.proc.0 p proc) refl))))
+    over halt.frame (below halt.frame f early)
+    (any_is (is_halt_in p halt.frame) script.halts i halt there (halt_test p halt.frame halt (equal halt.proc.0 p proc) refl))))
 
 same_test : (a b : Bool) → (a ≡ true → b ≡ true) → (b ≡ true → a ≡ true) → a ≡ b
 same_test true b h k = sym (h refl)

@@ -22,8 +22,8 @@ value_keeps : (P : ℕ → Type 0) (changes : List Change) (x f value : ℕ) →
 value_keeps P [] x f value made had = had
 value_keeps P (change ∷ changes) x f value made had =
     value_keeps P changes x f (if change.factor.0 == x && nat_le change.frame f then change.value else value) (λ i later there. made (suc i) later there)
-        (keeps P (change.factor.0 == x && nat_le change.frame f) change.value value
-          (λ test. made 0 change refl (equal change.factor.0 x (and_left (change.factor.0 == x) (nat_le change.frame f) test))) had)
+    (keeps P (change.factor.0 == x && nat_le change.frame f) change.value value
+    (λ test. made 0 change refl (equal change.factor.0 x (and_left (change.factor.0 == x) (nat_le change.frame f) test))) had)
 
 changed_value : (spec : Parts) (frames : ℕ) (change : Change) → IsChange spec frames change → (x : ℕ) (factor : Factor) → change.factor.0 ≡ x → slice_get spec.factors x ≡ Some factor → change.value < length factor.values
 changed_value spec frames change fits x factor is there =
@@ -40,8 +40,8 @@ environments_show spec script known fits f = record {
       (let some = (known.factors x factor there).count.enough in omega arith);
   rest = λ x past. value_keeps (λ v. v ≡ 0) script.changes x f 0
       (λ i change listed is. (
-        let fit = fits.changes i change listed in
-        let inside = slice_get_within spec.factors change.factor.0 fit.factor fit.there in
-        absurd (omega arith)))
+      let fit = fits.changes i change listed in
+      let inside = slice_get_within spec.factors change.factor.0 fit.factor fit.there in
+      absurd (omega arith)))
       refl;
 }

@@ -52,7 +52,7 @@ all_same f g (x ∷ xs) same = rw (same x, all_same f g xs same) refl
 kept_change : (change : Change) (changes : List Change) (x f value : ℕ) (kept : Bool) → nat_le change.frame f ≡ kept
     → ((v : ℕ) → value_after (filter (λ (c : Change). nat_le c.frame f) changes) x f v ≡ value_after changes x f v)
     → value_after (if kept then change ∷ filter (λ (c : Change). nat_le c.frame f) changes else filter (λ (c : Change). nat_le c.frame f) changes) x f value
-        ≡ value_after changes x f (if change.factor.0 == x && nat_le change.frame f then change.value else value)
+    ≡ value_after changes x f (if change.factor.0 == x && nat_le change.frame f then change.value else value)
 kept_change change changes x f value true is same = same (if change.factor.0 == x && nat_le change.frame f then change.value else value)
 kept_change change changes x f value false is same = rw (is, and_false (change.factor.0 == x)) (same value)
 
@@ -101,6 +101,7 @@ same_env : (a b : ℕ) (c d : List ℕ) → a ≡ b → c ≡ d → ◌≡◌ {A
 same_env a b c d e f = rw (e, f) refl
 
 pub later_is_unseen : LaterIsUnseen
-later_is_unseen spec one other f agree =
-    (same_env _ _ _ _ (bits_same (λ p. is_up one p f) (λ p. is_up other p f) (length spec.procs) (same_up one other f agree)) (same_factors one other f agree),
-     same_commits one other f agree spec)
+later_is_unseen spec one other f agree = (
+  same_env _ _ _ _ (bits_same (λ p. is_up one p f) (λ p. is_up other p f) (length spec.procs) (same_up one other f agree)) (same_factors one other f agree),
+  same_commits one other f agree spec,
+)

@@ -15,7 +15,10 @@ pub fn env_at(spec: &Spec, script: &Script, frame: u32) -> Env
     for p in 0..spec.procs.items().len() as u8 {
         up += bit_where(up_at(script, ProcId(p), frame), p);
     }
-    Env { up, factors: factors_at(script, frame) }
+    Env {
+        up,
+        factors: factors_at(script, frame),
+    }
 }
 
 // The set that holds number `p` alone where the test holds, and nothing where it does not.

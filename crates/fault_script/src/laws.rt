@@ -5,31 +5,26 @@ ghost use Rattle.fault_script.specs.Laws.{EnvironmentsShow, HaltsShow, LaterIsUn
 /// Who halts in a frame is down in the environment of the next one, where the script fits.
 pub fn halts_show()
     ensures { HaltsShow }
-{
-}
+{}
 
 /// Who does not commit a frame is down in that frame's environment or in the next one's, where the
 /// script fits.
 pub fn losses_show()
     ensures { LossesShow }
-{
-}
+{}
 
 /// A processor is up in a frame exactly where it has restarted since each of its halts in earlier frames.
 pub fn up_after_each_halt()
     ensures { UpAfterEachHalt }
-{
-}
+{}
 
 /// An environment's bits tell which processors are up, and its factors have values that they can have;
 /// zeros stand past the last processor and the last factor.
 pub fn environments_show()
     ensures { EnvironmentsShow }
-{
-}
+{}
 
 /// Nothing of a frame depends on what the script says of later frames.
 pub fn later_is_unseen()
     ensures { LaterIsUnseen }
-{
-}
+{}
