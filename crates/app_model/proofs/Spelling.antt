@@ -1,9 +1,10 @@
 -- Names and numbers lead to one another, where no name stands twice in a table.
-use Rattle.std.proofs.Common.{◌≡◌, ◌∙◌, refl, ap, subst, ℕ, zero, suc, ◌+◌, ◌<◌, ◌≤◌, length, drop, Bool, true, false, ◌&&◌, ◌||◌, not, if◌then◌else◌, List, [], ◌∷◌, Option, Some, None, arith}
+use Rattle.std.proofs.Common.{◌≡◌, ◌∙◌, refl, ap, subst, ℕ, zero, suc, ◌+◌, ◌<◌, ◌≤◌, length, Bool, true, false, ◌&&◌, ◌||◌, not, if◌then◌else◌, List, [], ◌∷◌, Option, Some, None, IsSome, arith}
+use Rattle.std.specs.Prelude.{codes}
 use Rattle.std.specs.Str.{bytes_eq}
 use Rattle.std.proofs.Math.Bool.{or-true}
 use Rattle.std.proofs.lemmas.Slice.Eq.{bytes_eq-Decides}
-use Rattle.app_model.specs.Names.{kind_names, mode_names, variable_names, name_at, is_spelled, number_from, number_of, IsModeNumber, NamesAgree, AllNamesAgree}
+use Rattle.app_model.specs.Names.{kind_names, mode_names, variable_names, name_at, is_spelled, number_from, number_of, IsModeNumber, NamesAgree, KindIsNamed, AllNamesAgree}
 use Rattle.scram_types.specs.Specification.{modes_of_kind}
 use Rattle.app_model.proofs.Within.{each_kind}
 
@@ -101,13 +102,6 @@ agree names d = record {
       subst (λ (i : ℕ). name_at names i ≡ Some text) same found.there;
 }
 
-pub all_names_agree : AllNamesAgree
-all_names_agree = record {
-  kinds = agree kind_names refl;
-  modes = each_kind (λ kind. NamesAgree (mode_names kind)) (agree (mode_names 0) refl) (agree (mode_names 1) refl) (agree (mode_names 2) refl) (agree (mode_names 3) refl) (agree (mode_names 4) refl);
-  variables = each_kind (λ kind. NamesAgree (variable_names kind)) (agree (variable_names 0) refl) (agree (variable_names 1) refl) (agree (variable_names 2) refl) (agree (variable_names 3) refl) (agree (variable_names 4) refl);
-}
-
 -- a number that is found is one of the table's places
 pub record Counted (n m : ℕ) (names : List (Option (List ℕ))) : Type 0 where
   pub first : n ≤ m
@@ -131,13 +125,55 @@ modes_counted names text m modes l h =
     let c = counted_from 1 names text m h in
     record { first = c.first; last = omega (arith, c.last) }
 
-abbrev ModesCounted : ℕ → Type 0
-ModesCounted kind = (text : List ℕ) (m : ℕ) → number_of (mode_names kind) text ≡ Some m → IsModeNumber m (modes_of_kind kind)
+words_counted : (names : List (Option (List ℕ))) → length names ≤ 8 → (text : List ℕ) (i : ℕ) → number_of names text ≡ Some i → i < 8
+words_counted names l text i h = let c = counted_from 0 names text i h in omega (arith, c.last)
 
-pub mode_numbers : (kind : ℕ) → kind < 5 → ModesCounted kind
-mode_numbers = each_kind ModesCounted
-    (λ text m h. modes_counted (drop 1 (mode_names 0)) text m 2 (omega arith) h)
-    (λ text m h. modes_counted (drop 1 (mode_names 1)) text m 2 (omega arith) h)
-    (λ text m h. modes_counted (drop 1 (mode_names 2)) text m 3 (omega arith) h)
-    (λ text m h. modes_counted (drop 1 (mode_names 3)) text m 2 (omega arith) h)
-    (λ text m h. modes_counted (drop 1 (mode_names 4)) text m 2 (omega arith) h)
+two_named : (a b : List ℕ) (mode : ℕ) → IsModeNumber mode 2 → IsSome (name_at (None ∷ Some a ∷ Some b ∷ []) mode)
+two_named a b zero p = absurd (omega (arith, p.first))
+two_named a b (suc zero) p = refl
+two_named a b (suc (suc zero)) p = refl
+two_named a b (suc (suc (suc mode))) p = absurd (omega (arith, p.last))
+
+three_named : (a b c : List ℕ) (mode : ℕ) → IsModeNumber mode 3 → IsSome (name_at (None ∷ Some a ∷ Some b ∷ Some c ∷ []) mode)
+three_named a b c zero p = absurd (omega (arith, p.first))
+three_named a b c (suc zero) p = refl
+three_named a b c (suc (suc zero)) p = refl
+three_named a b c (suc (suc (suc zero))) p = refl
+three_named a b c (suc (suc (suc (suc mode)))) p = absurd (omega (arith, p.last))
+
+with_two_modes : (kind : ℕ) (a b : List ℕ) → modes_of_kind kind ≡ 2 → mode_names kind ≡ None ∷ Some a ∷ Some b ∷ [] → IsSome (name_at kind_names kind)
+    → NamesAgree (mode_names kind) → NamesAgree (variable_names kind) → length (variable_names kind) ≤ 8 → KindIsNamed kind
+with_two_modes kind a b two names named modes variables few = record {
+  name = named;
+  modes = modes;
+  mode_named = rw (two, names) (two_named a b);
+  mode_number = λ text mode. rw (two, names) (modes_counted (Some a ∷ Some b ∷ []) text mode 2 (omega arith));
+  variables = variables;
+  variable_number = words_counted (variable_names kind) few;
+}
+
+with_three_modes : (kind : ℕ) (a b c : List ℕ) → modes_of_kind kind ≡ 3 → mode_names kind ≡ None ∷ Some a ∷ Some b ∷ Some c ∷ [] → IsSome (name_at kind_names kind)
+    → NamesAgree (mode_names kind) → NamesAgree (variable_names kind) → length (variable_names kind) ≤ 8 → KindIsNamed kind
+with_three_modes kind a b c three names named modes variables few = record {
+  name = named;
+  modes = modes;
+  mode_named = rw (three, names) (three_named a b c);
+  mode_number = λ text mode. rw (three, names) (modes_counted (Some a ∷ Some b ∷ Some c ∷ []) text mode 3 (omega arith));
+  variables = variables;
+  variable_number = words_counted (variable_names kind) few;
+}
+
+pub each_is_named : (kind : ℕ) → kind < 5 → KindIsNamed kind
+each_is_named = each_kind KindIsNamed
+    (with_two_modes 0 (codes "navigate") (codes "hold") refl refl refl (agree (mode_names 0) refl) (agree (variable_names 0) refl) (omega arith))
+    (with_two_modes 1 (codes "augmented") (codes "direct") refl refl refl (agree (mode_names 1) refl) (agree (variable_names 1) refl) (omega arith))
+    (with_three_modes 2 (codes "normal") (codes "saver") (codes "essential") refl refl refl (agree (mode_names 2) refl) (agree (variable_names 2) refl) (omega arith))
+    (with_two_modes 3 (codes "route") (codes "coarse") refl refl refl (agree (mode_names 3) refl) (agree (variable_names 3) refl) (omega arith))
+    (with_two_modes 4 (codes "fast") (codes "slow") refl refl refl (agree (mode_names 4) refl) (agree (variable_names 4) refl) (omega arith))
+
+pub all_names_agree : AllNamesAgree
+all_names_agree = record {
+  kinds = agree kind_names refl;
+  kind_number = λ text kind h. let c = counted_from 0 kind_names text kind h in omega (arith, c.last);
+  each = each_is_named;
+}

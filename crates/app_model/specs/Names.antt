@@ -1,7 +1,8 @@
 -- How kinds, modes and variables are spelled. In a table of names the name of number n stands at place
 -- n, and None where the number has none.
-use Rattle.std.specs.Prelude.{◌≡◌, ℕ, ◌<◌, ◌≤◌, codes, ◌+◌, ◌==◌, Bool, false, List, [], ◌∷◌, Option, Some, None, slice_get, option_and_then, if◌then◌else◌}
+use Rattle.std.specs.Prelude.{◌≡◌, ℕ, ◌<◌, ◌≤◌, codes, ◌+◌, ◌==◌, Bool, false, List, [], ◌∷◌, Option, Some, None, IsSome, slice_get, option_and_then, if◌then◌else◌}
 use Rattle.std.specs.Str.{bytes_eq}
+use Rattle.scram_types.specs.Specification.{modes_of_kind}
 
 abbrev pub kind_names : List (Option (List ℕ))
 kind_names = Some (codes "autopilot") ∷ Some (codes "flight_control") ∷ Some (codes "power_monitor") ∷ Some (codes "navigator") ∷ Some (codes "datalink") ∷ []
@@ -50,7 +51,16 @@ pub record NamesAgree (names : List (Option (List ℕ))) : Type 0 where
   pub named : (number : ℕ) (text : List ℕ) → name_at names number ≡ Some text → number_of names text ≡ Some number
   pub spelled : (number : ℕ) (text : List ℕ) → number_of names text ≡ Some number → name_at names number ≡ Some text
 
+-- The tables of a kind: its modes, and no others, have names, and its variables are words of an area.
+pub record KindIsNamed (kind : ℕ) : Type 0 where
+  pub name : IsSome (name_at kind_names kind)
+  pub modes : NamesAgree (mode_names kind)
+  pub mode_named : (mode : ℕ) → IsModeNumber mode (modes_of_kind kind) → IsSome (name_at (mode_names kind) mode)
+  pub mode_number : (text : List ℕ) (mode : ℕ) → number_of (mode_names kind) text ≡ Some mode → IsModeNumber mode (modes_of_kind kind)
+  pub variables : NamesAgree (variable_names kind)
+  pub variable_number : (text : List ℕ) (i : ℕ) → number_of (variable_names kind) text ≡ Some i → i < 8
+
 pub record AllNamesAgree : Type 0 where
   pub kinds : NamesAgree kind_names
-  pub modes : (kind : ℕ) → kind < 5 → NamesAgree (mode_names kind)
-  pub variables : (kind : ℕ) → kind < 5 → NamesAgree (variable_names kind)
+  pub kind_number : (text : List ℕ) (kind : ℕ) → number_of kind_names text ≡ Some kind → kind < 5
+  pub each : (kind : ℕ) → kind < 5 → KindIsNamed kind

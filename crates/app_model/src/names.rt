@@ -178,8 +178,8 @@ pub fn variable_name(kind: KindId, variable: u8) -> Option<&'static str>
     name_in(names_of_variables(kind), variable)
 }
 
-/// Numbers and names lead to one another: what a number is named is named so by it, of kinds, modes and
-/// variables.
+/// Numbers and names lead to one another, of kinds, modes and variables; every kind has a name, of its
+/// modes each has one and no other, and what is named a variable is one of the eight words.
 pub fn names_agree()
     ensures { AllNamesAgree }
 {}

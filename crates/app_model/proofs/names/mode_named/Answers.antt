@@ -1,6 +1,6 @@
 use Rattle.std.proofs.Common.{◌≡◌, Some}
 use Rattle.app_model.specs.Names.{mode_names, number_of}
-use Rattle.app_model.proofs.Spelling.{mode_numbers}
+use Rattle.app_model.proofs.Spelling.{each_is_named}
 use Rattle.app_model.proofs.names.mode_named.Goals as goal
 
 pub returns-in-Some-clause-of_kind : goal.returns-in-Some-clause-of_kind
@@ -8,4 +8,4 @@ returns-in-Some-clause-of_kind c = λ built.
     let names = c.names_of_modes.ensures.names in
     let number = c.in-Some.ensures.number in
     let found : number_of (mode_names c.args.kind.0) c.args.name.now ≡ Some c.in-Some.number = cc in
-    mode_numbers c.args.kind.0 built c.args.name.now c.in-Some.number found
+    (each_is_named c.args.kind.0 built).mode_number c.args.name.now c.in-Some.number found
