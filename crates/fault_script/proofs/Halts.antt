@@ -1,7 +1,7 @@
 -- Who is up after which halts.
-use Rattle.std.proofs.Common.{◌≡◌, ℕ, zero, suc, ◌+◌, ◌<◌, ◌≤◌, Bool, true, false, not, refl, arith, ◌⊎◌, ap, sym, ◌∙◌, List, [], ◌∷◌, length}
+use Rattle.std.proofs.Common.{◌≡◌, ℕ, zero, suc, ◌<◌, ◌≤◌, Bool, true, false, not, refl, arith, ◌⊎◌, ap, sym, ◌∙◌, List, [], ◌∷◌}
 use mathlib.Core.Logic.{inl, inr}
-use Rattle.std.specs.Prelude.{◌&&◌, ◌||◌, ◌==◌, Option, Some, None, if◌then◌else◌, nat_le, nat_lt, slice_get, unwrap_or}
+use Rattle.std.specs.Prelude.{◌&&◌, ◌||◌, ◌==◌, Some, if◌then◌else◌, nat_le, nat_lt, slice_get, unwrap_or}
 use Rattle.std.specs.List.{list_all, list_any}
 use Rattle.std.proofs.lemmas.Bool.Decides.{nat_tests}
 use Rattle.std.proofs.lemmas.Option.{slice_get_within}

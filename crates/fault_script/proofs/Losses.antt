@@ -1,5 +1,5 @@
 -- Halts and losses show in the next frame's environment.
-use Rattle.std.proofs.Common.{◌≡◌, ℕ, zero, suc, ◌+◌, ◌-◌, ◌<◌, ◌≤◌, Bool, true, false, not, refl, arith, ◌⊎◌, ap, sym, ◌∙◌, List, [], ◌∷◌, length, get_or}
+use Rattle.std.proofs.Common.{◌≡◌, ℕ, zero, suc, ◌+◌, ◌-◌, ◌<◌, ◌≤◌, Bool, true, false, not, refl, arith, ◌⊎◌, ap, sym, ◌∙◌, List, length, get_or}
 use mathlib.Core.Logic.{inl, inr}
 use Rattle.std.specs.Prelude.{◌&&◌, ◌==◌, Some, nat_le, slice_get}
 use Rattle.std.specs.Int.{bit_at}
@@ -8,7 +8,7 @@ use Rattle.scram_types.specs.declared.scripts.HaltAt.{HaltAt}
 use Rattle.scram_types.specs.declared.scripts.RestartAt.{RestartAt}
 use Rattle.scram_types.specs.Scripts.{ScriptParts}
 use Rattle.scram_types.specs.Specification.{Parts}
-use Rattle.fault_script.specs.Times.{commits, halts_before_mark, halts_in, is_halt_in, is_restart_between, is_up, restarted, words}
+use Rattle.fault_script.specs.Times.{halts_before_mark, halts_in, is_halt_in, is_restart_between, is_up, restarted, words}
 use Rattle.fault_script.specs.Environments.{bits_below, env_at}
 use Rattle.fault_script.specs.Fits.{EachNext, Fits, HaltBefore}
 use Rattle.fault_script.specs.Laws.{HaltsShow, LossesShow}

@@ -1,13 +1,12 @@
 -- What the environment of a frame holds, where the script fits.
-use Rattle.std.proofs.Common.{◌≡◌, ℕ, zero, suc, ◌+◌, ◌<◌, ◌≤◌, Bool, true, false, refl, arith, ap, sym, ◌∙◌, List, [], ◌∷◌, length, subst}
+use Rattle.std.proofs.Common.{◌≡◌, ℕ, suc, ◌<◌, Bool, true, false, refl, arith, ap, sym, ◌∙◌, List, [], ◌∷◌, length, subst}
 use Rattle.std.specs.Prelude.{◌&&◌, ◌==◌, Some, if◌then◌else◌, nat_le, slice_get}
 use Rattle.std.proofs.lemmas.Option.{slice_get_within}
 use Rattle.scram_types.specs.declared.scripts.Change.{Change}
 use Rattle.scram_types.specs.declared.specification.Factor.{Factor}
-use Rattle.scram_types.specs.Scripts.{ScriptParts}
-use Rattle.scram_types.specs.Specification.{Each, IsSpec, Parts}
-use Rattle.fault_script.specs.Times.{factor_at, is_up, value_after}
-use Rattle.fault_script.specs.Fits.{Fits, IsChange}
+use Rattle.scram_types.specs.Specification.{Parts}
+use Rattle.fault_script.specs.Times.{is_up, value_after}
+use Rattle.fault_script.specs.Fits.{IsChange}
 use Rattle.fault_script.specs.Laws.{EnvironmentsShow}
 use Rattle.fault_script.proofs.Bits.{bit_is, bits_few}
 use Rattle.fault_script.proofs.Halts.{and_left, equal, some_same}

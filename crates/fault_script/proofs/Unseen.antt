@@ -1,5 +1,5 @@
 -- What a script says after a frame does not show in it.
-use Rattle.std.proofs.Common.{◌≡◌, ℕ, zero, suc, ◌+◌, ◌<◌, ◌≤◌, Bool, true, false, not, refl, arith, ap, sym, ◌∙◌, List, [], ◌∷◌, length}
+use Rattle.std.proofs.Common.{◌≡◌, ℕ, Bool, true, false, refl, arith, ap, sym, ◌∙◌, List, [], ◌∷◌, length}
 use Rattle.std.specs.Prelude.{◌&&◌, ◌||◌, ◌==◌, filter, if◌then◌else◌, nat_le, nat_lt}
 use Rattle.std.specs.List.{list_all, list_any}
 use Rattle.std.proofs.lemmas.Bool.Decides.{nat_tests}
@@ -10,7 +10,6 @@ use Rattle.scram_types.specs.declared.scripts.RestartAt.{RestartAt}
 use Rattle.scram_types.specs.Scripts.{ScriptParts}
 use Rattle.scram_types.specs.Specification.{Parts}
 use Rattle.fault_script.specs.Times.{commits, factor_at, factors_at, halts_before_mark, is_halt_in, is_over, is_restart_between, is_up, restarted, value_after, words}
-use Rattle.fault_script.specs.Environments.{bits_below, env_at}
 use Rattle.fault_script.specs.Laws.{AgreeUpTo, LaterIsUnseen}
 use Rattle.fault_script.proofs.Bits.{bits_same}
 use Rattle.fault_script.proofs.Halts.{up_by_lists}
