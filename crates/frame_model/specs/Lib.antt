@@ -1,2 +1,13 @@
+pub mod Phases
+pub mod Tasks
+pub mod Decisions
+pub mod Runs
+pub mod Readings
+pub mod States
+pub mod Frames
+pub mod Outcomes
+pub mod Inputs
+pub mod Flights
+pub mod Laws
 pub mod Power
 pub mod Quiet

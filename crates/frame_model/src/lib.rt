@@ -1,7 +1,28 @@
-//! The rows of a quiet mission: one power monitor, one processor, and nothing that disturbs them.
+//! The one-thread trace: what the kernel decides and orders in each frame, what becomes of areas,
+//! keepers and world whoever halts or restarts, the row that shows it, and the reconfigurations that
+//! are read off the rows, each exactly as defined, for every specification and every fitting script.
 #![tactic(auto)]
 
+pub mod acts;
+pub mod decisions;
+pub mod flights;
+pub mod frames;
+pub mod inputs;
+pub mod laws;
+mod outcomes;
+pub mod phases;
 pub mod power;
 pub mod quiet;
+pub mod readings;
+pub mod systems;
+pub mod tasks;
 
-pub use quiet::rows;
+pub use acts::{running, runs};
+pub use decisions::decide;
+pub use flights::rows;
+pub use frames::frame;
+pub use inputs::Factors;
+pub use phases::{Phase, phase_at, target};
+pub use readings::{Reading, close, read_row, reports};
+pub use systems::{Input, Sys};
+pub use tasks::{Task, order_of};

@@ -1,0 +1,41 @@
+-- What a phase asks, by a timetable in which what is off has offset 0.
+use Rattle.std.proofs.Common.{◌≡◌, ◌∙◌, ℕ, zero, suc, ◌<◌, refl, ap, arith, List}
+use Rattle.std.specs.Prelude.{Option, Some, None, is_some, slice_index_or, if◌then◌else◌}
+use Rattle.scram_types.specs.declared.ids.ConfId.{ConfId}
+use Rattle.scram_types.specs.declared.orders.Order.{Order}
+use Rattle.scram_types.specs.declared.specification.Place.{Place}
+use Rattle.scram_types.specs.Specification.{Parts}
+use Rattle.dep_order.specs.Timetables.{eight, halt_offset, halt_time, init_offset, init_time, place_of, where_on}
+use Rattle.frame_model.specs.declared.phases.Phase.{Phase}
+use Rattle.frame_model.specs.declared.phases.Phase.TheVariants.{Halting, Initialising}
+use Rattle.frame_model.specs.Phases.{offsets_in}
+use Rattle.frame_model.specs.Tasks.{halting_order, initialising_order, task_for, task_in}
+
+eight_at : (value : ℕ → ℕ) (a d : ℕ) → a < 8 → slice_index_or (eight value) a d ≡ value a
+eight_at value zero d low = refl
+eight_at value (suc zero) d low = refl
+eight_at value (suc (suc zero)) d low = refl
+eight_at value (suc (suc (suc zero))) d low = refl
+eight_at value (suc (suc (suc (suc zero)))) d low = refl
+eight_at value (suc (suc (suc (suc (suc zero))))) d low = refl
+eight_at value (suc (suc (suc (suc (suc (suc zero)))))) d low = refl
+eight_at value (suc (suc (suc (suc (suc (suc (suc zero))))))) d low = refl
+eight_at value (suc (suc (suc (suc (suc (suc (suc (suc a)))))))) d low = absurd (omega arith)
+
+same_task : (order : ℕ → Order) (place : Option Place) (n : ℕ) → task_for (order (if is_some place then n else 0)) place ≡ task_for (order n) place
+same_task order None n = refl
+same_task order (Some place) n = refl
+
+pub halting_task : (spec : Parts) (c : ConfId) (a age : ℕ) (phase : Phase) (offsets : List ℕ) → a < 8 → phase ≡ Halting c age → offsets ≡ offsets_in spec phase
+    → task_for (halting_order (slice_index_or offsets a 0) (halt_time spec c a) age) (place_of spec c a) ≡ task_in spec phase a
+halting_task spec c a age phase offsets low is listed =
+    let all : offsets ≡ eight (λ b. where_on spec c b (halt_offset spec c b)) = listed ∙ ap (offsets_in spec) is in
+    rw (is, all, eight_at (λ b. where_on spec c b (halt_offset spec c b)) a 0 low)
+    (same_task (λ n. halting_order n (halt_time spec c a) age) (place_of spec c a) (halt_offset spec c a))
+
+pub initialising_task : (spec : Parts) (c : ConfId) (a age : ℕ) (phase : Phase) (offsets : List ℕ) → a < 8 → phase ≡ Initialising c age → offsets ≡ offsets_in spec phase
+    → task_for (initialising_order (slice_index_or offsets a 0) (init_time spec c a) age) (place_of spec c a) ≡ task_in spec phase a
+initialising_task spec c a age phase offsets low is listed =
+    let all : offsets ≡ eight (λ b. where_on spec c b (init_offset spec c b)) = listed ∙ ap (offsets_in spec) is in
+    rw (is, all, eight_at (λ b. where_on spec c b (init_offset spec c b)) a 0 low)
+    (same_task (λ n. initialising_order n (init_time spec c a) age) (place_of spec c a) (init_offset spec c a))

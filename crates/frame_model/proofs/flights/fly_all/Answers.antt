@@ -1,0 +1,21 @@
+use Rattle.std.proofs.Common.{sym}
+use Rattle.frame_model.specs.Flights.{row_at}
+use Rattle.frame_model.proofs.Flying.{rows_more, stands_first}
+use Rattle.frame_model.proofs.flights.fly_all.Goals as goal
+
+pub loop-frame-init : goal.loop-frame-init
+loop-frame-init g c = record {
+  rows = c.in_ok-rows.ensures.items;
+  before = stands_first c.args.spec.now c.args.script.now c.start-sys.result c.first-factors.result c.start-sys.ensures c.first-factors.ensures;
+  fits = c.requires.racks;
+}
+
+pub loop-frame-preserved : goal.loop-frame-preserved
+loop-frame-preserved g c =
+    let at = c.loop-frame.invariant.before.frame in
+    record {
+      rows = rows_more (row_at c.args.spec.now c.args.script.now) c.loop-frame._frame c.loop-frame.sys.frame c.loop-frame.rows.items c.push.new.self.items c.fly.result
+          c.loop-frame.invariant.rows c.in_ok-push.ensures.items c.fly.ensures.row at;
+      before = rw (sym at) c.fly.ensures.after;
+      fits = c.fly.ensures.racks;
+    }

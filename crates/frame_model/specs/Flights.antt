@@ -1,0 +1,75 @@
+-- The one-thread trace of a script, and the images of its processors.
+use Rattle.std.specs.Prelude.{ℕ, zero, suc, ◌==◌, ℤ, Bool, false, List, [], ◌∷◌, ◌++◌, Option, if◌then◌else◌}
+use Rattle.std.specs.Option.{option_map_or}
+use Rattle.scram_types.specs.declared.ids.ProcId.{ProcId}
+use Rattle.scram_types.specs.declared.flights.Row.{Row}
+use Rattle.scram_types.specs.declared.flights.Report.{Report}
+use Rattle.scram_types.specs.declared.orders.KMode.{KMode}
+use Rattle.scram_types.specs.Scripts.{ScriptParts}
+use Rattle.scram_types.specs.Specification.{Parts}
+use Rattle.fault_script.specs.Environments.{env_at}
+use Rattle.fault_script.specs.Times.{commits}
+use Rattle.frame_model.specs.declared.tasks.Task.{Task}
+use Rattle.frame_model.specs.Readings.{reports}
+use Rattle.frame_model.specs.States.{State, law_of, mode_in, row_of, start_area_of, start_keeper_of, start_state, step, zeros}
+use Rattle.frame_model.specs.Tasks.{task_of}
+
+-- The state after the first f frames.
+abbrev pub state_after : Parts → ScriptParts → ℕ → State
+state_after spec script zero = start_state spec
+state_after spec script (suc f) = step spec f (env_at spec script f) (λ p. commits spec script p f) (state_after spec script f)
+
+-- The mode that is decided at the start of frame f, also of the frame after the last one.
+abbrev pub decided : Parts → ScriptParts → ℕ → KMode
+decided spec script f = mode_in spec f (env_at spec script f) (state_after spec script f)
+
+-- The row of frame f.
+abbrev pub row_at : Parts → ScriptParts → ℕ → Row
+row_at spec script f = row_of spec f (env_at spec script f) (λ p. commits spec script p f) (state_after spec script f)
+
+-- A value for each number below n.
+abbrev pub listed_below : {X : Type 0} → (ℕ → X) → ℕ → List X
+listed_below value zero = []
+listed_below value (suc n) = listed_below value n ++ value n ∷ []
+
+-- The rows of all frames, and the reconfigurations that they show.
+abbrev pub rows_of : Parts → ScriptParts → List Row
+rows_of spec script = listed_below (row_at spec script) script.frames
+
+abbrev pub reports_of : Parts → ScriptParts → List Report
+reports_of spec script = reports spec (rows_of spec script)
+
+-- What frame f asks of application a.
+abbrev pub task_given : Parts → ScriptParts → ℕ → ℕ → Task
+task_given spec script f a = task_of spec (decided spec script f) f a
+
+abbrev pub is_proc : ℕ → Option ProcId → Bool
+is_proc p proc = option_map_or (λ (q : ProcId). q.0 == p) proc false
+
+-- The slot of application a in the image of processor p: at first the start area, where p keeps it.
+abbrev pub start_slot : Parts → ℕ → ℕ → List ℤ
+start_slot spec p a = if is_proc p (start_keeper_of spec a) then start_area_of spec a else zeros
+
+-- What p drafts for the slot in frame f, over the old slot: the law of a task that names p.
+abbrev pub slot_drafted : Parts → ScriptParts → ℕ → ℕ → ℕ → List ℤ → List ℤ
+slot_drafted spec script p f a old =
+    if is_proc p (task_given spec script f a).proc
+    then law_of spec (env_at spec script f) (state_after spec script f) (task_given spec script f a) a
+    else old
+
+-- The slot after the first f frames: the draft of each frame that p commits.
+abbrev pub slot_after : Parts → ScriptParts → ℕ → ℕ → ℕ → List ℤ
+slot_after spec script p zero a = start_slot spec p a
+slot_after spec script p (suc f) a =
+    if commits spec script p f then slot_drafted spec script p f a (slot_after spec script p f a) else slot_after spec script p f a
+
+-- An image is the slots of eight applications, one after another.
+abbrev pub image_of : (ℕ → List ℤ) → List ℤ
+image_of slot = slot 0 ++ slot 1 ++ slot 2 ++ slot 3 ++ slot 4 ++ slot 5 ++ slot 6 ++ slot 7
+
+-- The image of processor p after the first f frames, and what it drafts in frame f.
+abbrev pub image_after : Parts → ScriptParts → ℕ → ℕ → List ℤ
+image_after spec script p f = image_of (slot_after spec script p f)
+
+abbrev pub draft : Parts → ScriptParts → ℕ → ℕ → List ℤ
+draft spec script p f = image_of (λ a. slot_drafted spec script p f a (slot_after spec script p f a))

@@ -1,0 +1,27 @@
+-- What becomes of an application in a frame, from what all applications share: the phase, the processors
+-- that commit, as bits, and what all see.
+use Rattle.std.specs.Prelude.{ℕ, ℤ, List, Option}
+use Rattle.scram_types.specs.declared.ids.ProcId.{ProcId}
+use Rattle.scram_types.specs.declared.orders.Act.{Act}
+use Rattle.scram_types.specs.Specification.{Parts}
+use Rattle.choice_table.specs.Environments.{has_bit}
+use Rattle.app_model.specs.declared.seen.Seen.{Seen}
+use Rattle.app_model.specs.Law.{law}
+use Rattle.frame_model.specs.declared.phases.Phase.{Phase}
+use Rattle.frame_model.specs.declared.systems.Sys.{Sys}
+use Rattle.frame_model.specs.declared.tasks.Task.{Task}
+use Rattle.frame_model.specs.States.{act_after, area_at, area_on, keeper_at, keeper_on, kind_of_app, seen_in}
+use Rattle.frame_model.specs.Tasks.{task_in}
+
+abbrev pub act_made : Parts → Phase → ℕ → ℕ → Act
+act_made spec phase committing a = act_after (has_bit committing) (task_in spec phase a)
+
+abbrev pub law_made : Parts → Sys → Seen → ℕ → Task → List ℤ
+law_made spec sys seen a task = law (kind_of_app spec a) task.order (seen_in seen task.mode (area_at sys.areas a))
+
+abbrev pub area_made : Parts → Sys → Phase → ℕ → Seen → ℕ → List ℤ
+area_made spec sys phase committing seen a =
+    area_on (has_bit committing) (law_made spec sys seen a (task_in spec phase a)) (area_at sys.areas a) (task_in spec phase a).proc
+
+abbrev pub keeper_made : Parts → Sys → Phase → ℕ → ℕ → Option ProcId
+keeper_made spec sys phase committing a = keeper_on (has_bit committing) (keeper_at sys.keepers a) (task_in spec phase a).proc

@@ -1,0 +1,191 @@
+-- What a frame makes of the state, by its environment and by who commits it.
+use Rattle.std.specs.Prelude.{ℕ, ◌-◌, ◌==◌, ℤ, pos, Bool, false, ◌&&◌, List, [], ◌∷◌, replicate, slice_get, slice_index_or, Option, Some, None, option_map, if◌then◌else◌}
+use Rattle.std.specs.Option.{option_map_or}
+use Rattle.scram_types.specs.declared.ids.ProcId.{ProcId}
+use Rattle.scram_types.specs.declared.ids.Mode.{Mode}
+use Rattle.scram_types.specs.declared.flights.Env.{Env}
+use Rattle.scram_types.specs.declared.flights.Row.{Row}
+use Rattle.scram_types.specs.declared.flights.World.{World}
+use Rattle.scram_types.specs.declared.orders.Act.{Act}
+use Rattle.scram_types.specs.declared.orders.Act.TheVariants as act
+use Rattle.scram_types.specs.declared.orders.KMode.{KMode}
+use Rattle.scram_types.specs.declared.orders.KMode.TheVariants.{Stable}
+use Rattle.scram_types.specs.declared.orders.Order.{Order}
+use Rattle.scram_types.specs.declared.orders.Order.TheVariants as order
+use Rattle.scram_types.specs.declared.specification.AppSpec.{AppSpec}
+use Rattle.scram_types.specs.declared.specification.Place.{Place}
+use Rattle.scram_types.specs.Numbers.{word}
+use Rattle.scram_types.specs.Specification.{Parts}
+use Rattle.dep_order.specs.Timetables.{place_of}
+use Rattle.app_model.specs.declared.seen.Seen.{Seen}
+use Rattle.app_model.specs.Law.{law}
+use Rattle.app_model.specs.Starts.{start_of}
+use Rattle.airframe.specs.Motion.{step_of}
+use Rattle.frame_model.specs.declared.phases.Phase.{Phase}
+use Rattle.frame_model.specs.declared.tasks.Task.{Task}
+use Rattle.frame_model.specs.Decisions.{decision}
+use Rattle.frame_model.specs.Phases.{is_settled, phase_at, target}
+use Rattle.frame_model.specs.Runs.{runs}
+use Rattle.frame_model.specs.Tasks.{task_in}
+
+-- The state after some frames: the mode of the last one, whether that was settled and its row ran the
+-- target, the areas and their keepers, and the world.
+pub record State : Type 0 where
+  pub mode : KMode
+  pub arrived : Bool
+  pub areas : List (List ℤ)
+  pub keepers : List (Option ProcId)
+  pub world : World
+
+-- A value for each of eight applications.
+abbrev pub for_eight : {A : Type 0} → (ℕ → A) → List A
+for_eight value = value 0 ∷ value 1 ∷ value 2 ∷ value 3 ∷ value 4 ∷ value 5 ∷ value 6 ∷ value 7 ∷ []
+
+abbrev pub zeros : List ℤ
+zeros = replicate 8 (pos 0)
+
+abbrev pub area_at : List (List ℤ) → ℕ → List ℤ
+area_at areas a = slice_index_or areas a zeros
+
+abbrev pub keeper_at : List (Option ProcId) → ℕ → Option ProcId
+keeper_at keepers a = slice_index_or keepers a None
+
+abbrev pub kind_of_app : Parts → ℕ → ℕ
+kind_of_app spec a = option_map_or (λ (app : AppSpec). app.kind.0) (slice_get spec.apps a) 0
+
+-- The area of the first of some applications that is of a kind, the areas standing beside them.
+abbrev pub lead_among : List AppSpec → List (List ℤ) → ℕ → List ℤ
+lead_among [] areas kind = zeros
+lead_among (app ∷ apps) [] kind = zeros
+lead_among (app ∷ apps) (area ∷ areas) kind = if app.kind.0 == kind then area else lead_among apps areas kind
+
+-- The area of the least-numbered application of a kind, zeros without one.
+abbrev pub lead_of : Parts → List (List ℤ) → ℕ → List ℤ
+lead_of spec areas kind = lead_among spec.apps areas kind
+
+-- What all applications see: what stood at the end of the frame before, and the frame's factors.
+abbrev pub shown : Parts → Env → State → Seen
+shown spec v state = record {
+  mode = record { 0 = 0 };
+  own = zeros;
+  lead = for_eight (lead_of spec state.areas);
+  world = state.world;
+  factors = v.factors;
+  goal = spec.goal;
+}
+
+-- The same as one of them sees it, which is in a mode and has an area of its own.
+abbrev pub seen_in : Seen → Mode → List ℤ → Seen
+seen_in seen mode own = record seen { mode = mode; own = own }
+
+abbrev pub seen_by : Parts → Env → State → Mode → ℕ → Seen
+seen_by spec v state mode a = seen_in (shown spec v state) mode (area_at state.areas a)
+
+-- The area that a task makes of what its application sees.
+abbrev pub law_of : Parts → Env → State → Task → ℕ → List ℤ
+law_of spec v state task a = law (kind_of_app spec a) task.order (seen_by spec v state task.mode a)
+
+-- What an order makes of a frame, where its processor commits.
+abbrev pub act_of_order : Order → Mode → ProcId → Act
+act_of_order order.Run mode proc = act.Ran mode proc
+act_of_order (order.Halt k n) mode proc = act.Halting k n proc
+act_of_order order.Hold mode proc = act.Held
+act_of_order (order.Prepare k n) mode proc = act.Preparing k n proc
+act_of_order (order.Init k n) mode proc = act.Initialising k n proc
+act_of_order order.Off mode proc = act.Off
+
+-- The act of a task: off without a processor, the order's where the processor commits, and else lost.
+abbrev pub act_on : (ℕ → Bool) → Task → Option ProcId → Act
+act_on commits task None = act.Off
+act_on commits task (Some proc) = if commits proc.0 then act_of_order task.order task.mode proc else act.Lost
+
+-- The area after a task: zeros without a processor, the law's where the processor commits, and else the old one.
+abbrev pub area_on : (ℕ → Bool) → List ℤ → List ℤ → Option ProcId → List ℤ
+area_on commits made old None = zeros
+area_on commits made old (Some proc) = if commits proc.0 then made else old
+
+-- The keeper after a task: none without a processor, the processor where it commits, and else the old one.
+abbrev pub keeper_on : (ℕ → Bool) → Option ProcId → Option ProcId → Option ProcId
+keeper_on commits old None = None
+keeper_on commits old (Some proc) = if commits proc.0 then Some proc else old
+
+abbrev pub act_after : (ℕ → Bool) → Task → Act
+act_after commits task = act_on commits task task.proc
+
+abbrev pub area_after : Parts → Env → (ℕ → Bool) → State → Task → ℕ → List ℤ
+area_after spec v commits state task a = area_on commits (law_of spec v state task a) (area_at state.areas a) task.proc
+
+abbrev pub keeper_after : (ℕ → Bool) → State → Task → ℕ → Option ProcId
+keeper_after commits state task a = keeper_on commits (keeper_at state.keepers a) task.proc
+
+abbrev pub acts_in : Parts → Phase → (ℕ → Bool) → List Act
+acts_in spec phase commits = for_eight (λ a. act_after commits (task_in spec phase a))
+
+abbrev pub areas_in : Parts → Env → (ℕ → Bool) → State → Phase → List (List ℤ)
+areas_in spec v commits state phase = for_eight (λ a. area_after spec v commits state (task_in spec phase a) a)
+
+abbrev pub keepers_in : Parts → (ℕ → Bool) → State → Phase → List (Option ProcId)
+keepers_in spec commits state phase = for_eight (λ a. keeper_after commits state (task_in spec phase a) a)
+
+-- The airframe's step, by the surfaces of the least-numbered flight control as they stand after the frame.
+abbrev pub world_in : Parts → World → List (List ℤ) → World
+world_in spec world areas = step_of world (word (lead_of spec areas 1) 1) (word (lead_of spec areas 1) 2)
+
+-- The decision at the start of frame f, on the frame's environment.
+abbrev pub mode_in : Parts → ℕ → Env → State → KMode
+mode_in spec f v state = decision spec f state.mode (is_settled spec state.mode (f - 1)) state.arrived v
+
+-- The row of frame f, with the mode that was decided.
+abbrev pub row_in : Parts → ℕ → Env → (ℕ → Bool) → State → KMode → Row
+row_in spec f v commits state mode = record {
+  frame = f;
+  env = v;
+  mode = mode;
+  acts = acts_in spec (phase_at spec mode f) commits;
+  areas = areas_in spec v commits state (phase_at spec mode f);
+  world = world_in spec state.world (areas_in spec v commits state (phase_at spec mode f));
+}
+
+abbrev pub row_of : Parts → ℕ → Env → (ℕ → Bool) → State → Row
+row_of spec f v commits state = row_in spec f v commits state (mode_in spec f v state)
+
+-- Frame f was settled, and its row ran the target: two facts.
+abbrev pub has_arrived : Parts → Row → Bool
+has_arrived spec row = is_settled spec row.mode row.frame && runs spec row.acts (target row.mode)
+
+-- The state after frame f.
+abbrev pub step_with : Parts → (ℕ → Bool) → State → Row → State
+step_with spec commits state row = record {
+  mode = row.mode;
+  arrived = has_arrived spec row;
+  areas = row.areas;
+  keepers = keepers_in spec commits state (phase_at spec row.mode row.frame);
+  world = row.world;
+}
+
+abbrev pub step : Parts → ℕ → Env → (ℕ → Bool) → State → State
+step spec f v commits state = step_with spec commits state (row_of spec f v commits state)
+
+-- An application begins with the start area of its kind where the start configuration has it on.
+abbrev pub start_area_at : Parts → ℕ → Option Place → List ℤ
+start_area_at spec a None = zeros
+start_area_at spec a (Some place) = start_of (kind_of_app spec a)
+
+abbrev pub start_area_of : Parts → ℕ → List ℤ
+start_area_of spec a = start_area_at spec a (place_of spec spec.start a)
+
+abbrev pub start_keeper_of : Parts → ℕ → Option ProcId
+start_keeper_of spec a = option_map (λ (place : Place). place.proc) (place_of spec spec.start a)
+
+-- feet, tenths of a foot per frame, tenths of a degree
+abbrev pub start_world : World
+start_world = record { alt = pos 5000; climb = pos 0; heading = pos 900; bank = pos 0 }
+
+abbrev pub start_state : Parts → State
+start_state spec = record {
+  mode = Stable spec.start;
+  arrived = false;
+  areas = for_eight (start_area_of spec);
+  keepers = for_eight (start_keeper_of spec);
+  world = start_world;
+}

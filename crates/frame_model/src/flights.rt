@@ -1,0 +1,71 @@
+//! The one-thread trace.
+
+ghost use Rattle.std.specs.Prelude.{◌≡◌, ◌<◌, ◌+◌, IfOk, length};
+ghost use Rattle.app_model.specs.Racks.{RacksFit};
+ghost use Rattle.fault_script.specs.Fits.{Fits};
+ghost use Rattle.frame_model.specs.Flights.{row_at, rows_of};
+ghost use Rattle.frame_model.specs.Inputs.{StandsBefore};
+
+use crate::frames::frame;
+use crate::inputs::{Factors, input_at};
+use crate::systems::Sys;
+use app_model::Rack;
+use scram_types::{NoMemory, Row, Script, Spec};
+use std::alloc::Global;
+
+/// The rows of all frames of a script: the one-thread trace. The only refusal is want of memory.
+pub fn rows(
+    alloc: Global,
+    spec: &Spec,
+    script: &Script,
+    mut racks: Vec<Rack>,
+) -> Result<Vec<Row>, NoMemory>
+    requires script { Fits spec.now script.now }
+    requires racks { RacksFit (λ b. kind_of (b.vtable, b.value)) (λ r. r.boxes.items) racks.items }
+    ensures rows { IfOk result (λ rows. rows.items ≡ rows_of spec.now script.now) }
+    ensures count { IfOk result (λ rows. length rows.items ≡ script.now.frames) }
+{
+    fly_all(alloc, spec, script, &mut racks)
+}
+
+#[tactic(auto, using(crate::proofs::Flying::length_listed))]
+fn fly_all(
+    alloc: Global,
+    spec: &Spec,
+    script: &Script,
+    racks: &mut [Rack],
+) -> Result<Vec<Row>, NoMemory>
+    requires script { Fits spec.now script.now }
+    requires racks { RacksFit (λ b. kind_of (b.vtable, b.value)) (λ r. r.boxes.items) racks.old }
+    ensures rows { IfOk result (λ rows. rows.items ≡ rows_of spec.now script.now) }
+    ensures count { IfOk result (λ rows. length rows.items ≡ script.now.frames) }
+{
+    let mut rows = Vec::with_capacity(alloc, script.frames as usize)?;
+    let mut sys = Sys::start(spec);
+    let mut factors = Factors::first(script);
+    for _frame in 0..script.frames {
+        rows.push(fly(spec, script, &mut sys, &mut factors, racks))?;
+    }
+    Ok(rows)
+}
+
+// Flies the next frame of the script.
+fn fly(
+    spec: &Spec,
+    script: &Script,
+    sys: &mut Sys,
+    factors: &mut Factors,
+    racks: &mut [Rack],
+) -> Row
+    requires script { Fits spec.now script.now }
+    requires racks { RacksFit (λ b. kind_of (b.vtable, b.value)) (λ r. r.boxes.items) racks.old }
+    requires frame { sys.old.frame < 20000 }
+    requires before { StandsBefore spec.now script.now sys.old.frame sys.old factors.old }
+    ensures row { result ≡ row_at spec.now script.now sys.old.frame }
+    ensures after { StandsBefore spec.now script.now (sys.old.frame + 1) sys.new factors.new }
+    ensures racks { RacksFit (λ b. kind_of (b.vtable, b.value)) (λ r. r.boxes.items) racks.new }
+{
+    let values = factors.at(script, sys.frame);
+    let input = input_at(spec, script, sys.frame, &values);
+    frame(spec, sys, &input, racks)
+}

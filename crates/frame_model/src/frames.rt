@@ -1,0 +1,168 @@
+//! One frame.
+
+ghost use Rattle.std.specs.Prelude.{◌≡◌, ◌<◌, ℕ};
+ghost use Rattle.scram_types.specs.Numbers.{word};
+ghost use Rattle.scram_types.specs.Specification.{Parts};
+ghost use Rattle.app_model.specs.Racks.{RacksFit};
+ghost use Rattle.frame_model.specs.Frames.{committing, env_of, row_given, state_of, sys_after, up_after};
+ghost use Rattle.frame_model.specs.Phases.{is_running, is_settled, phase_at};
+ghost use Rattle.frame_model.specs.States.{for_eight, has_arrived, lead_of, shown, world_in};
+
+use crate::acts::runs;
+use crate::decisions::decide;
+use crate::outcomes::{Outcomes, Setting, lead_of, perform_all};
+use crate::phases::{Phase, stage_at, target};
+use crate::systems::{Input, Sys};
+use airframe::step;
+use app_model::kinds::flight_control;
+use app_model::{Rack, Seen};
+use scram_types::{Area, Env, KMode, Mode, Row, Spec, World};
+
+/// Flies one frame: whoever restarts is up; the kernel decides on the frame's environment; each
+/// application does what it is asked where its processor commits, and is lost where that is not up or
+/// halts before its mark; then the airframe makes a step. The row shows it, and `sys` is the state
+/// after the frame. It takes no memory.
+pub fn frame(spec: &Spec, sys: &mut Sys, input: &Input, racks: &mut [Rack]) -> Row
+    requires frame { sys.old.frame < 20000 }
+    requires fits { RacksFit (λ b. kind_of (b.vtable, b.value)) (λ r. r.boxes.items) racks.old }
+    ensures row { result ≡ row_given spec.now sys.old input.now }
+    ensures after { sys.new ≡ sys_after spec.now sys.old input.now }
+    ensures fits { RacksFit (λ b. kind_of (b.vtable, b.value)) (λ r. r.boxes.items) racks.new }
+{
+    let env = env_of(sys, input);
+    let mode = decide(spec, sys, &env);
+    let stage = stage_at(spec, &mode, sys.frame);
+    let seen = shown(spec, sys, &env);
+    let setting = Setting {
+        seen,
+        committing: committing(sys, input),
+        stage,
+    };
+    let outcomes = perform_all(spec, sys, &setting, racks);
+    let acts = outcomes.acts;
+    let areas = outcomes.areas;
+    let keepers = outcomes.keepers;
+    let world = world_after(spec, sys.world, &areas);
+    let row = Row {
+        frame: sys.frame,
+        env,
+        mode,
+        acts,
+        areas,
+        world,
+    };
+    *sys = Sys {
+        frame: sys.frame + 1,
+        mode,
+        areas,
+        keepers,
+        world,
+        up: up_after(sys, input),
+        settled: has_arrived(spec, &row, stage.phase),
+    };
+    row
+}
+
+fn env_of(sys: &Sys, input: &Input) -> Env
+    ensures { result ≡ env_of sys.now input.now }
+{
+    let factors = input.factors;
+    Env {
+        up: sys.up | input.back,
+        factors,
+    }
+}
+
+fn committing(sys: &Sys, input: &Input) -> u8
+    ensures { result ≡ committing sys.now input.now }
+{
+    (sys.up | input.back) & !input.early
+}
+
+fn up_after(sys: &Sys, input: &Input) -> u8
+    ensures { result ≡ up_after sys.now input.now }
+{
+    (sys.up | input.back) & !(input.early | input.late)
+}
+
+fn shown(spec: &Spec, sys: &Sys, env: &Env) -> Seen
+    ensures { result ≡ shown spec.now env.now (state_of sys.now) }
+{
+    let lead = leads(spec, &sys.areas);
+    let factors = env.factors;
+    Seen {
+        mode: Mode(0),
+        own: [0; 8],
+        lead,
+        world: sys.world,
+        factors,
+        goal: spec.goal,
+    }
+}
+
+fn leads(spec: &Spec, areas: &[Area; 8]) -> [Area; 8]
+    ensures { result ≡ for_eight (lead_of spec.now areas.now) }
+{
+    [
+        lead_of(spec, areas, 0),
+        lead_of(spec, areas, 1),
+        lead_of(spec, areas, 2),
+        lead_of(spec, areas, 3),
+        lead_of(spec, areas, 4),
+        lead_of(spec, areas, 5),
+        lead_of(spec, areas, 6),
+        lead_of(spec, areas, 7),
+    ]
+}
+
+fn world_after(spec: &Spec, world: World, areas: &[Area; 8]) -> World
+    ensures { result ≡ world_in spec.now world areas.now }
+{
+    let lead = lead_of(spec, areas, flight_control::KIND);
+    step(
+        world,
+        read_word(&lead, flight_control::ELEVATOR),
+        read_word(&lead, flight_control::AILERON),
+    )
+}
+
+#[tactic(auto, unfolding(scram_types::specs::Numbers::word))]
+fn read_word(area: &Area, i: usize) -> i64
+    requires { i < 8 }
+    ensures { result ≡ word area.now i }
+{
+    area[i]
+}
+
+// Whether a frame in this phase was settled and its row ran the target.
+fn has_arrived(spec: &Spec, row: &Row, phase: Phase) -> bool
+    requires { phase ≡ phase_at spec.now row.now.mode row.now.frame }
+    ensures { result ≡ has_arrived spec.now row.now }
+{
+    is_settled(&row.mode, phase) && runs(spec, &row.acts, target(&row.mode))
+}
+
+fn is_settled(mode: &KMode, phase: Phase) -> bool
+    ensures { (spec : Parts) (f : ℕ) → phase ≡ phase_at spec mode.now f → result ≡ is_settled spec mode.now f }
+{
+    match mode {
+        KMode::Stable(_) => false,
+        KMode::Moving {
+            from: _,
+            halting: _,
+            to: _,
+            since: _,
+        } => is_running(phase),
+    }
+}
+
+fn is_running(phase: Phase) -> bool
+    ensures { result ≡ is_running phase }
+{
+    match phase {
+        Phase::Running(_) => true,
+        Phase::Halting(_, _) => false,
+        Phase::Preparing(_, _) => false,
+        Phase::Initialising(_, _) => false,
+    }
+}

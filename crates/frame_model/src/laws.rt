@@ -1,0 +1,48 @@
+//! What the words of this crate's contracts come to: each function's contract is a law.
+
+ghost use Rattle.frame_model.specs.Laws.{AreasAreKept, BeginningsAreRead, HaltsLastWithoutRestarts, LaterIsUnseen, ReadsReconfigurations, ReadsRowByRow, RetargetChoosesAnew, SettlesWithItsPhases};
+
+/// After each frame the area of each application equals its slot in the image of its keeper, and is
+/// zeros where it has none.
+pub fn areas_are_kept()
+    ensures { AreasAreKept }
+{}
+
+/// Nothing of a frame depends on what the script says of later frames.
+pub fn later_is_unseen()
+    ensures { LaterIsUnseen }
+{
+    fault_script::laws::later_is_unseen();
+}
+
+/// Without restarts a processor is up in a frame exactly where it has not halted in an earlier one.
+pub fn halts_last_without_restarts()
+    ensures { HaltsLastWithoutRestarts }
+{}
+
+/// Under the policy `Retarget` the target is chosen anew from the source whenever the target did not run.
+pub fn retarget_chooses_anew()
+    ensures { RetargetChoosesAnew }
+{}
+
+/// A reconfiguration is settled exactly where its phase is to run the target.
+pub fn settles_with_its_phases()
+    ensures { SettlesWithItsPhases }
+{}
+
+/// What is read off rows: a reconfiguration begins in the first row that does not run the configuration,
+/// and ends in the first later row that runs some configuration, of which the least-numbered is meant.
+pub fn reads_reconfigurations()
+    ensures { ReadsReconfigurations }
+{}
+
+/// One row more goes on with what was read off the rows before it.
+pub fn reads_row_by_row()
+    ensures { ReadsRowByRow }
+{}
+
+/// The reconfigurations that began in the first rows, with their sources and their begins, are those
+/// that these rows show, whatever rows follow.
+pub fn beginnings_are_read()
+    ensures { BeginningsAreRead }
+{}

@@ -1,0 +1,103 @@
+//! Reconfigurations, read off the acts of rows.
+
+ghost use Rattle.std.specs.Prelude.{◌≡◌, ◌<◌, ◌^◌, ◌++◌, length, IfOk};
+ghost use Rattle.frame_model.specs.Readings.{arrive, arrival, as_list, close, ended, read_row, reading_of, report_of, reports};
+
+use crate::acts::{running, runs};
+use scram_types::{Act, ConfId, NoMemory, Report, Row, Spec};
+use std::alloc::Global;
+
+/// What has been read off the rows so far.
+#[derive(Clone, Copy, Debug, PartialEq, Eq)]
+pub enum Reading {
+    /// Each row since the last reconfiguration runs this configuration.
+    Steady(ConfId),
+    /// The configuration was left in this frame, and no row has run any configuration since.
+    Leaving(ConfId, u32),
+}
+
+/// Reads the row of a frame: `Leaving` comes with the first row that does not run the configuration that
+/// ran, and `Steady` with the first later row that runs some configuration (the least-numbered one), and
+/// that ends a reconfiguration. It takes no memory.
+pub fn read_row(
+    spec: &Spec,
+    reading: Reading,
+    frame: u32,
+    acts: &[Act; 8],
+) -> (Reading, Option<Report>)
+    ensures reading { result.0 ≡ read_row spec.now reading frame acts.now }
+    ensures report { result.1 ≡ report_of spec.now reading frame acts.now }
+{
+    match reading {
+        Reading::Steady(c) => {
+            if runs(spec, acts, c) {
+                (Reading::Steady(c), None)
+            } else {
+                (Reading::Leaving(c, frame), None)
+            }
+        }
+        Reading::Leaving(c, begin) => arrive(c, begin, frame, running(spec, acts)),
+    }
+}
+
+fn arrive(from: ConfId, begin: u32, frame: u32, to: Option<ConfId>) -> (Reading, Option<Report>)
+    ensures reading { result.0 ≡ arrive from begin to }
+    ensures report { result.1 ≡ arrival from begin frame to }
+{
+    match to {
+        Some(to) => (
+            Reading::Steady(to),
+            Some(Report {
+                from,
+                to: Some(to),
+                begin,
+                end: frame,
+            }),
+        ),
+        None => (Reading::Leaving(from, begin), None),
+    }
+}
+
+/// The reconfiguration that is cut off after `frames` frames, if one is under way. It takes no memory.
+pub fn close(reading: Reading, frames: u32) -> Option<Report>
+    ensures { result ≡ close reading frames }
+{
+    match reading {
+        Reading::Steady(_) => None,
+        Reading::Leaving(from, begin) => Some(Report {
+            from,
+            to: None,
+            begin,
+            end: frames,
+        }),
+    }
+}
+
+/// The reconfigurations that rows show, the first row being that of frame 0: read from the start
+/// configuration, in order, and last the one that the end of the rows cuts off. The only refusal is
+/// want of memory.
+pub fn reports(alloc: Global, spec: &Spec, rows: &[Row]) -> Result<Vec<Report>, NoMemory>
+    requires { length rows.now < 2 ^ 32 }
+    ensures { IfOk result (λ list. list.items ≡ reports spec.now rows.now) }
+{
+    let mut reports = Vec::new(alloc);
+    let mut reading = Reading::Steady(spec.start);
+    let mut frame = 0;
+    for row in rows {
+        let (next, report) = read_row(spec, reading, frame, &row.acts);
+        add(&mut reports, report)?;
+        reading = next;
+        frame += 1;
+    }
+    add(&mut reports, close(reading, frame))?;
+    Ok(reports)
+}
+
+fn add(reports: &mut Vec<Report>, report: Option<Report>) -> Result<(), NoMemory>
+    ensures { IfOk result (λ done. reports.new.items ≡ reports.old.items ++ as_list report) }
+{
+    if let Some(report) = report {
+        reports.push(report)?;
+    }
+    Ok(())
+}
