@@ -1,7 +1,7 @@
 //! Numbers that name things: each counts from 0 in the list of its class.
 
-/// An application, by its place among the specification's applications.
-#[derive(Clone, Copy, Debug, PartialEq, Eq)]
+/// An application, by its place among the specification's applications; the first one by default.
+#[derive(Clone, Copy, Debug, Default, PartialEq, Eq)]
 pub struct AppId(pub u8);
 
 /// A processor, by its place among the specification's processors.
