@@ -1,7 +1,7 @@
 //! Ranks of applications by what they need.
 
-ghost use Rattle.std.specs.Prelude.{◌≡◌, ℕ, ◌++◌, ◌<◌, ◌≤◌, drop, find, length, slice_get, slice_index_or, take, true, IfErr, IfOk, IfSome, MatchOption, None};
-ghost use Rattle.dep_order.specs.Ranks.{IsCycle, Needs, NeedsInRange};
+ghost use Rattle.std.specs.Prelude.{◌≡◌, ℕ, ◌++◌, ◌<◌, ◌≤◌, drop, find, length, slice_get, slice_index_or, take, true, All, IfErr, IfOk, IfSome, MatchOption, None};
+ghost use Rattle.dep_order.specs.Ranks.{IsCycle, IsRanking, Needs, NeedsInRange, RanksFall};
 ghost use Rattle.dep_order.specs.Ranking.{AreSmall, IsReady, IsSound, IsStuck, IsWaiting, is_unranked, rank_in, ready};
 
 ghost use Rattle.dep_order.specs.Timetables.{is_named};
@@ -14,6 +14,24 @@ use scram_types::{AppId, AppSpec};
 /// and the least stands first.
 #[derive(Drop)]
 pub struct Cycle(pub ArrayVec<AppId, 8>);
+
+/// The rank of each application: 0 where it needs none, else one more than the greatest rank of what it
+/// needs. `Cycle` comes exactly where the needs have a cycle. Ranks that an application has already are
+/// not looked at. It takes no memory.
+pub fn rank(apps: &[AppSpec]) -> Result<ArrayVec<u8, 8>, Cycle>
+    requires few { length apps.now ≤ 8 }
+    requires needs { NeedsInRange apps.now }
+    ensures ranks { IfOk result (λ ranks. IsRanking apps.now ranks.items) }
+    ensures falls { IfOk result (λ ranks. RanksFall apps.now ranks.items) }
+    ensures small { IfOk result (λ ranks. All (λ (r : ℕ). r < 8) ranks.items) }
+    ensures cycle { IfErr result (λ cycle. IsCycle apps.now cycle.0.items) }
+{
+    let ranks = ranks_of_unbound(apps);
+    match list_ranks(apps.len(), &ranks) {
+        Ok(listed) => Ok(listed),
+        Err(waiting) => Err(Cycle(find_cycle(apps, &ranks, AppId(waiting)))),
+    }
+}
 
 // The ranks found so far.
 type Ranks = [Option<u8>; 8];
@@ -181,11 +199,7 @@ fn turned(cycle: &[AppId], place: usize) -> ArrayVec<AppId, 8>
     ensures { result.items ≡ drop place cycle.now ++ take place cycle.now }
 {
     let mut turned: ArrayVec<AppId, 8> = ArrayVec::new();
-    for k in place..cycle.len() {
-        turned.push(cycle[k]);
-    }
-    for k in 0..place {
-        turned.push(cycle[k]);
-    }
+    let _back = turned.try_extend_from_slice(&cycle[place..]);
+    let _front = turned.try_extend_from_slice(&cycle[..place]);
     turned
 }
