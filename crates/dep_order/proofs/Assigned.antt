@@ -1,10 +1,10 @@
 -- Ranks that are given one after another.
-use Rattle.std.proofs.Common.{◌≡◌, ℕ, zero, suc, ◌+◌, ◌<◌, ◌≤◌, ◌≢◌, Bool, true, false, refl, arith, ◌⊎◌, ap, sym, ◌∙◌, List, [], ◌∷◌, length, set, subst}
+use Rattle.std.proofs.Common.{◌≡◌, ℕ, zero, suc, ◌+◌, ◌<◌, ◌≤◌, ◌≢◌, refl, arith, ◌⊎◌, ap, sym, ◌∙◌, List, [], ◌∷◌, length, set}
 use mathlib.Core.Logic.{inl, inr}
 use Rattle.std.specs.Prelude.{Option, Some, None, max, option_and_then, slice_get}
 use Rattle.scram_types.specs.declared.ids.AppId.{AppId}
 use Rattle.scram_types.specs.declared.specification.AppSpec.{AppSpec}
-use Rattle.dep_order.specs.Ranking.{IsReady, IsSound, rank_in, ready}
+use Rattle.dep_order.specs.Ranking.{IsSound, rank_in, ready}
 use Rattle.dep_order.proofs.Modes.{none_or_some, some_same}
 
 pub count_none : List (Option ℕ) → ℕ

@@ -2,7 +2,7 @@
 use Rattle.std.proofs.Common.{◌≡◌, ℕ, zero, suc, ◌+◌, ◌*◌, ◌-◌, ◌<◌, ◌≤◌, Bool, true, false, refl, arith, ◌⊎◌, ap, sym, ◌∙◌, List, [], ◌∷◌, length}
 use mathlib.Core.Logic.{inl, inr}
 use Rattle.std.specs.Prelude.{◌&&◌, if◌then◌else◌}
-use Rattle.dep_order.specs.Chains.{Chain, Chart, HasFirst, IsOffset, chain_time, greatest, longest, offset, step}
+use Rattle.dep_order.specs.Chains.{Chain, Chart, HasFirst, IsOffset, chain_time, longest, step}
 use Rattle.dep_order.proofs.Charts.{below_or_last, greatest_below, greatest_most, greatest_reached, greatest_zero, true_false}
 
 -- what goes before has the higher rank, and ranks are below 8

@@ -1,8 +1,8 @@
 -- Greatest values, and offsets as greatest sums along chains.
-use Rattle.std.proofs.Common.{◌≡◌, ℕ, zero, suc, ◌+◌, ◌*◌, ◌<◌, ◌≤◌, Bool, true, false, refl, arith, ◌⊎◌, ap, sym, ◌∙◌, List, [], ◌∷◌, length}
+use Rattle.std.proofs.Common.{◌≡◌, ℕ, zero, suc, ◌+◌, ◌*◌, ◌<◌, ◌≤◌, Bool, true, false, refl, arith, ◌⊎◌, ap, ◌∙◌}
 use mathlib.Core.Logic.{inl, inr}
 use Rattle.std.specs.Prelude.{◌&&◌, if◌then◌else◌, max}
-use Rattle.dep_order.specs.Chains.{Chain, Chart, HasFirst, IsOffset, chain_time, greatest, longest, offset, step}
+use Rattle.dep_order.specs.Chains.{Chart, greatest, longest, offset, step}
 
 pub below_or_last : (k n : ℕ) → k < suc n → (k < n) ⊎ (k ≡ n)
 below_or_last k n h = grind arith

@@ -1,13 +1,10 @@
 -- Worked examples of the definitions: computed, and compared with what the rules say.
 use Rattle.std.proofs.Common.{◌≡◌, refl, ℕ, List, [], ◌∷◌, pos}
 use Rattle.std.specs.Prelude.{Some, None, map, replicate}
-use Rattle.scram_types.specs.declared.ids.AppId.{AppId}
-use Rattle.scram_types.specs.declared.ids.ConfId.{ConfId}
 use Rattle.scram_types.specs.declared.specification.AppSpec.{AppSpec}
 use Rattle.scram_types.specs.declared.specification.Conf.{Conf}
 use Rattle.scram_types.specs.declared.specification.Policy.TheVariants as policy
 use Rattle.scram_types.specs.Specification.{Parts}
-use Rattle.dep_order.specs.declared.timetables.Times.{Times}
 use Rattle.dep_order.specs.Timetables.{timetable}
 
 -- an application in one mode, with these needs, and these halt and init times

@@ -6,10 +6,10 @@ use Rattle.scram_types.specs.declared.ids.ConfId.{ConfId}
 use Rattle.scram_types.specs.Specification.{IsSpec, Parts}
 use Rattle.dep_order.specs.declared.timetables.Phase.{Phase}
 use Rattle.dep_order.specs.declared.timetables.Times.{Times}
-use Rattle.dep_order.specs.Chains.{Chart, greatest, offset}
+use Rattle.dep_order.specs.Chains.{Chart, greatest}
 use Rattle.dep_order.specs.Timetables.{Holds, eight, goes_before, is_on, offset_where_on, phase_length, timed_chart, where_on}
-use Rattle.dep_order.proofs.Charts.{Agree, greatest_same, same_offset}
-use Rattle.dep_order.proofs.Modes.{AreTimed, IsTimed, timed}
+use Rattle.dep_order.proofs.Charts.{Agree, greatest_same}
+use Rattle.dep_order.proofs.Modes.{IsTimed, timed}
 
 pub same_times : (a b c d : List ℕ) (e f g h i j : ℕ) → a ≡ b → c ≡ d → e ≡ f → g ≡ h → i ≡ j
     → ◌≡◌ {A = Times} (record { halt = a; init = c; h = e; p = g; i = i }) (record { halt = b; init = d; h = f; p = h; i = j })

@@ -5,4 +5,6 @@ pub mod Examples
 pub mod Lengths
 pub mod Modes
 pub mod Offsets
+pub mod Rankings
+pub mod Turns
 pub mod Walks

@@ -1,6 +1,6 @@
 -- What a specification tells of the modes of a configuration's applications.
-use Rattle.std.proofs.Common.{◌≡◌, ℕ, zero, suc, ◌+◌, ◌<◌, ◌≤◌, Bool, true, false, refl, arith, ap, sym, ◌∙◌, List, [], ◌∷◌, length, subst}
-use Rattle.std.specs.Prelude.{Option, Some, None, if◌then◌else◌, is_some, nat_lt, slice_get, unwrap_or, IsSome, option_and_then, ◌==◌}
+use Rattle.std.proofs.Common.{◌≡◌, ℕ, suc, ◌<◌, ◌≤◌, Bool, true, false, refl, arith, ap, sym, List, [], ◌∷◌, length, subst}
+use Rattle.std.specs.Prelude.{Option, Some, None, if◌then◌else◌, nat_lt, slice_get, unwrap_or, IsSome, option_and_then, ◌==◌}
 use Rattle.std.proofs.lemmas.Bool.Decides.{nat_tests}
 use Rattle.std.proofs.lemmas.Option.{slice_get_within}
 use Rattle.scram_types.specs.declared.ids.ConfId.{ConfId}
@@ -9,7 +9,7 @@ use Rattle.scram_types.specs.declared.specification.Conf.{Conf}
 use Rattle.scram_types.specs.declared.specification.ModeSpec.{ModeSpec}
 use Rattle.scram_types.specs.declared.specification.Place.{Place}
 use Rattle.scram_types.specs.Specification.{Each, IsModeSpec, IsPhase, IsPlace, IsSpec, Parts, mode_in, place_in}
-use Rattle.dep_order.specs.Timetables.{halt_time, init_time, is_on, mode_of, mode_of_app, place_of, prepare_time}
+use Rattle.dep_order.specs.Timetables.{halt_time, init_time, is_on, mode_of_app, place_of, prepare_time}
 
 pub none_or_some : {A : Type 0} {P : Type 0} (x : A) → None ≡ Some x → P
 none_or_some {A} {P} x e = absurd (cc)

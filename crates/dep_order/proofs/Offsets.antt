@@ -1,18 +1,17 @@
 -- The charts of a specification: ranks fall along them, and phases end in time.
-use Rattle.std.proofs.Common.{◌≡◌, ℕ, zero, suc, ◌+◌, ◌*◌, ◌-◌, ◌<◌, ◌≤◌, Bool, true, false, refl, arith, ap, sym, ◌∙◌, List, [], ◌∷◌, length}
-use Rattle.std.specs.Prelude.{Option, Some, None, ◌==◌, ◌||◌, if◌then◌else◌, nat_lt, slice_get, option_map}
+use Rattle.std.proofs.Common.{◌≡◌, ℕ, suc, ◌+◌, ◌-◌, ◌<◌, ◌≤◌, Bool, true, false, refl, arith, ap, sym, ◌∙◌, List, [], ◌∷◌, length}
+use Rattle.std.specs.Prelude.{Option, Some, None, ◌==◌, ◌||◌, if◌then◌else◌, nat_lt, slice_get}
 use Rattle.std.specs.Option.{option_map_or}
 use Rattle.std.proofs.lemmas.Bool.Decides.{nat_tests}
-use Rattle.std.proofs.lemmas.Option.{slice_get-get_or, slice_get_within}
 use Rattle.scram_types.specs.declared.ids.AppId.{AppId}
 use Rattle.scram_types.specs.declared.ids.ConfId.{ConfId}
 use Rattle.scram_types.specs.declared.specification.AppSpec.{AppSpec}
-use Rattle.scram_types.specs.Specification.{Each, IsNeeded, IsSpec, Parts}
-use Rattle.dep_order.specs.Chains.{Chart, greatest, longest, offset}
-use Rattle.dep_order.specs.Timetables.{IsInTime, OffsetsAreGreatestSums, PhasesEndInTime, halt_chart, halt_offset, halt_time, init_chart, init_offset, init_time, is_named, is_on, needs, prepare_time, where_on}
+use Rattle.scram_types.specs.Specification.{IsSpec, Parts}
+use Rattle.dep_order.specs.Chains.{greatest}
+use Rattle.dep_order.specs.Timetables.{OffsetsAreGreatestSums, PhasesEndInTime, halt_chart, halt_offset, halt_time, init_chart, init_offset, init_time, is_named, is_on, needs, prepare_time, where_on}
 use Rattle.dep_order.proofs.Chains.{IsRanked, has_first, is_offset, longest_ranked}
 use Rattle.dep_order.proofs.Charts.{greatest_below, greatest_most}
-use Rattle.dep_order.proofs.Modes.{AreTimed, IsTimed, none_or_some, some_same, timed}
+use Rattle.dep_order.proofs.Modes.{IsTimed, timed}
 
 abbrev pub rank_of : Parts → ℕ → ℕ
 rank_of spec a = option_map_or (λ (app : AppSpec). app.rank) (slice_get spec.apps a) 0

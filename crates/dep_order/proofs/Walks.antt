@@ -1,7 +1,7 @@
 -- A walk along needs: it cannot go on for ever without coming back.
-use Rattle.std.proofs.Common.{◌≡◌, ℕ, zero, suc, ◌+◌, ◌<◌, ◌≤◌, ◌≢◌, Bool, true, false, not, refl, arith, ◌⊎◌, ap, sym, ◌∙◌, List, [], ◌∷◌, ◌++◌, length, get_or, drop, take}
+use Rattle.std.proofs.Common.{◌≡◌, ℕ, zero, suc, ◌+◌, ◌<◌, ◌≤◌, ◌≢◌, Bool, true, false, refl, arith, ◌⊎◌, ap, sym, ◌∙◌, List, [], ◌∷◌, ◌++◌, length, get_or}
 use mathlib.Core.Logic.{inl, inr}
-use Rattle.std.specs.Prelude.{AllPairs, Option, Some, None, ◌||◌, ◌==◌, find, if◌then◌else◌, is_none, max, option_and_then, slice_get}
+use Rattle.std.specs.Prelude.{Option, Some, None, ◌||◌, ◌==◌, find, if◌then◌else◌, is_none, max, option_and_then, slice_get}
 use Rattle.std.proofs.lemmas.Bool.Decides.{nat_tests}
 use Rattle.scram_types.specs.declared.ids.AppId.{AppId}
 use Rattle.scram_types.specs.declared.specification.AppSpec.{AppSpec}
@@ -70,6 +70,10 @@ pub count_free : List AppId → ℕ → ℕ
 count_free path zero = 0
 count_free path (suc n) = count_free path n + (if is_named path n then 0 else 1)
 
+pub free_start : count_free [] 8 ≡ 8
+unfolding count_free
+free_start = refl
+
 or_false : (b : Bool) → (b || false) ≡ b
 or_false true = refl
 or_false false = refl
@@ -122,9 +126,6 @@ free_push path at (suc n) inside free = elim (below_or_last at.0 n inside) [
 ]
 
 -- the applications of a path differ
-
-Other : AppId → AppId → Type 0
-Other a b = a.0 ≢ b.0
 
 pub not_named : (path : List AppId) (a : ℕ) → is_named path a ≡ false → (i : ℕ) (d : AppId) → i < length path → (get_or path i d).0 ≢ a
 not_named [] a free i d inside = absurd (omega arith)

@@ -1,5 +1,5 @@
 -- When the applications of a configuration halt, prepare and initialise, and how long that takes.
-use Rattle.std.specs.Prelude.{◌≡◌, ℕ, ◌+◌, ◌<◌, ◌≤◌, Bool, true, false, ◌==◌, List, [], ◌∷◌, length, map, nat_lt, slice_get, slice_index, Option, Some, option_map, option_and_then, is_some, if◌then◌else◌}
+use Rattle.std.specs.Prelude.{◌≡◌, ℕ, ◌+◌, ◌<◌, ◌≤◌, Bool, true, false, ◌==◌, List, [], ◌∷◌, length, map, nat_lt, slice_get, slice_index, Option, option_and_then, is_some, if◌then◌else◌}
 use Rattle.std.specs.Option.{option_map_or}
 use Rattle.std.specs.List.{list_any}
 use Rattle.scram_types.specs.declared.ids.AppId.{AppId}

@@ -3,7 +3,6 @@
 ghost use Rattle.std.specs.Prelude.{◌≡◌, ℕ, ◌++◌, ◌<◌, ◌≤◌, drop, find, length, slice_get, slice_index_or, take, true, All, IfErr, IfOk, IfSome, MatchOption, None};
 ghost use Rattle.dep_order.specs.Ranks.{IsCycle, IsRanking, Needs, NeedsInRange, RanksFall};
 ghost use Rattle.dep_order.specs.Ranking.{AreSmall, IsReady, IsSound, IsStuck, IsWaiting, is_unranked, rank_in, ready};
-
 ghost use Rattle.dep_order.specs.Timetables.{is_named};
 
 use crate::timetables::is_listed;

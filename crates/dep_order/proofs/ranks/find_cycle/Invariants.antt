@@ -1,4 +1,4 @@
-use Rattle.std.proofs.Common.{◌≡◌, ◌+◌, ◌<◌, ◌≢◌, ℕ, length}
+use Rattle.std.proofs.Common.{◌≡◌, ◌+◌, ◌≢◌, length}
 use Rattle.std.specs.Prelude.{AllPairs}
 use Rattle.scram_types.specs.declared.ids.AppId.{AppId}
 use Rattle.dep_order.specs.Ranking.{IsWaiting}

@@ -9,16 +9,16 @@ use Rattle.dep_order.proofs.ranks.wait_of.Goals as goal
 pub unreachable-requires : goal.unreachable-requires
 unreachable-requires c =
     let there : slice_get c.args.apps.now c.args.a.0 ≡ Some c.index-apps-from.result =
-        rw (← c.from.ensures) (slice_get_read c.args.apps.now (length c.args.apps.now) c.from.result c.index-apps-from.result refl (rw (c.from.ensures) c.requires.waiting.there) c.index-apps-from.is) in
+    rw (← c.from.ensures) (slice_get_read c.args.apps.now (length c.args.apps.now) c.from.result c.index-apps-from.result refl (rw (c.from.ensures) c.requires.waiting.there) c.index-apps-from.is) in
     let none : find (λ (n : AppId). is_unranked c.args.ranks.now n.0) c.items.result.now ≡ None = sym c.find_waiting.ensures ∙ c.in-None.is in
     let none_needed = rw (c.items.ensures, ← c.index-apps-from.is) at none in
     someone_waits c.args.ranks.now c.index-apps-from.result.needs 0 none_needed
-        (c.requires.stuck c.args.a.0 c.index-apps-from.result there c.requires.waiting.unranked)
+    (c.requires.stuck c.args.a.0 c.index-apps-from.result there c.requires.waiting.unranked)
 
 pub returns-clause-needs : goal.returns-clause-needs
 returns-clause-needs c =
     let there : slice_get c.args.apps.now c.args.a.0 ≡ Some c.index-apps-from.result =
-        rw (← c.from.ensures) (slice_get_read c.args.apps.now (length c.args.apps.now) c.from.result c.index-apps-from.result refl (rw (c.from.ensures) c.requires.waiting.there) c.index-apps-from.is) in
+    rw (← c.from.ensures) (slice_get_read c.args.apps.now (length c.args.apps.now) c.from.result c.index-apps-from.result refl (rw (c.from.ensures) c.requires.waiting.there) c.index-apps-from.is) in
     let some : find (λ (n : AppId). is_unranked c.args.ranks.now n.0) c.items.result.now ≡ Some c.in-Some.needed = sym c.find_waiting.ensures ∙ c.in-Some.is in
     let some_needed = rw (c.items.ensures, ← c.index-apps-from.is) at some in
     let found = found_at (λ (n : AppId). is_unranked c.args.ranks.now n.0) c.index-apps-from.result.needs c.in-Some.needed some_needed in
@@ -27,7 +27,7 @@ returns-clause-needs c =
 pub returns-clause-waiting : goal.returns-clause-waiting
 returns-clause-waiting c =
     let there : slice_get c.args.apps.now c.args.a.0 ≡ Some c.index-apps-from.result =
-        rw (← c.from.ensures) (slice_get_read c.args.apps.now (length c.args.apps.now) c.from.result c.index-apps-from.result refl (rw (c.from.ensures) c.requires.waiting.there) c.index-apps-from.is) in
+    rw (← c.from.ensures) (slice_get_read c.args.apps.now (length c.args.apps.now) c.from.result c.index-apps-from.result refl (rw (c.from.ensures) c.requires.waiting.there) c.index-apps-from.is) in
     let some : find (λ (n : AppId). is_unranked c.args.ranks.now n.0) c.items.result.now ≡ Some c.in-Some.needed = sym c.find_waiting.ensures ∙ c.in-Some.is in
     let some_needed = rw (c.items.ensures, ← c.index-apps-from.is) at some in
     let found = found_at (λ (n : AppId). is_unranked c.args.ranks.now n.0) c.index-apps-from.result.needs c.in-Some.needed some_needed in

@@ -1,4 +1,4 @@
-use Rattle.std.proofs.Common.{◌≡◌, ◌≤◌, ◌+◌, ◌*◌, ◌∙◌, arith, suc}
+use Rattle.std.proofs.Common.{◌≡◌, ◌+◌, ◌∙◌, arith, suc}
 use Rattle.std.specs.Prelude.{slice_index}
 use Rattle.dep_order.specs.Chains.{longest}
 use Rattle.dep_order.specs.Timetables.{timed_chart}
