@@ -1,6 +1,10 @@
+pub mod Assigned
 pub mod Chains
 pub mod Charts
 pub mod Examples
 pub mod Lengths
 pub mod Modes
 pub mod Offsets
+pub mod Rankings
+pub mod Turns
+pub mod Walks

@@ -1,3 +1,4 @@
+pub mod Ranking
 pub mod Ranks
 pub mod Chains
 pub mod Timetables

@@ -1,5 +1,6 @@
 //! What the words of this crate's contracts come to: each function's contract is a law.
 
+ghost use Rattle.dep_order.specs.Ranks.{RankingExcludesCycles};
 ghost use Rattle.dep_order.specs.Timetables.{OffsetsAreGreatestSums, PhasesEndInTime};
 
 /// An application's halt offset is the sum of halt times along some chain of dependents, and no chain
@@ -13,4 +14,9 @@ pub fn offsets_are_greatest_sums()
 /// take at most 128 frames, preparing at most 16.
 pub fn phases_end_in_time()
     ensures { PhasesEndInTime }
+{}
+
+/// Where ranks can be given, the needs have no cycle: so `rank` answers a cycle wherever one exists.
+pub fn ranking_excludes_cycles()
+    ensures { RankingExcludesCycles }
 {}

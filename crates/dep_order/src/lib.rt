@@ -6,5 +6,5 @@ pub mod laws;
 pub mod ranks;
 pub mod timetables;
 
-pub use ranks::Cycle;
+pub use ranks::{Cycle, rank};
 pub use timetables::{Times, timetable};

@@ -110,7 +110,7 @@ fn depends(spec: &Spec, b: usize, a: usize) -> bool
     }
 }
 
-fn is_listed(needs: &[AppId], a: usize) -> bool
+pub(crate) fn is_listed(needs: &[AppId], a: usize) -> bool
     ensures { result ≡ is_named needs.now a }
 {
     needs.iter().any(|needed| usize::from(needed.0) == a)
