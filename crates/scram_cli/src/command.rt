@@ -6,7 +6,7 @@ ghost use Rattle.scram_cli.specs.Answers.{Ends, HasFiles, HasRoom, Tells, answer
 
 use crate::loads::{Loaded, load_script, load_spec};
 use crate::refusals::{refuse, refuse_memory, refuse_read};
-use frame_model::rows;
+use frame_model::quiet::rows;
 use scram_io::{Files, Sink};
 use scram_types::{Script, Spec};
 use std::alloc::{AllocGlobal, Global};
