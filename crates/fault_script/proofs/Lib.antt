@@ -1,7 +1,9 @@
 pub mod Alternation
+pub mod Assuming
 pub mod Back
 pub mod Bits
 pub mod Ends
+pub mod Examples
 pub mod Fitting
 pub mod Found
 pub mod Halts
@@ -13,3 +15,4 @@ pub mod SmallSpec
 pub mod Splits
 pub mod Taken
 pub mod Unseen
+pub mod Walking

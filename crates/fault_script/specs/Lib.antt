@@ -1,9 +1,11 @@
-pub mod Times
+pub mod Assumption
 pub mod Environments
 pub mod Fits
 pub mod Laws
-pub mod Versions
 pub mod Lookups
 pub mod Orders
 pub mod Reading
 pub mod Texts
+pub mod Times
+pub mod Versions
+pub mod Walks

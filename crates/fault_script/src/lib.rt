@@ -4,6 +4,7 @@
 //! the kernel chooses.
 #![tactic(auto)]
 
+pub mod assumption;
 pub mod environments;
 mod find;
 pub mod laws;
@@ -12,8 +13,10 @@ mod reading;
 pub mod rule;
 pub mod times;
 mod version;
+mod walks;
 mod writing;
 
+pub use assumption::{Outside, OutsideKind, within};
 pub use environments::env_at;
 pub use reading::{MAX_SCRIPT_BYTES, read_script};
 pub use scram_doc::{DocError as ScriptError, DocFault as ScriptFault};

@@ -1,0 +1,273 @@
+-- A specification has no refusal exactly where it is accepted.
+use Rattle.std.proofs.Common.{◌≡◌, ◌≢◌, ℕ, zero, suc, ◌+◌, ◌<◌, ◌≤◌, Bool, true, false, not, refl, arith, ◌⊎◌, ap, sym, subst, ◌∙◌, List, [], ◌∷◌, length}
+use mathlib.Core.Logic.{inl, inr}
+use Rattle.std.specs.Prelude.{◌&&◌, ◌||◌, ◌==◌, Option, Some, None, if◌then◌else◌, max, nat_le, nat_lt, option_map, slice_get}
+use Rattle.std.specs.Option.{option_map_or, option_or}
+use Rattle.std.proofs.lemmas.Option.{slice_get_within}
+use Rattle.std.proofs.lemmas.Bool.Decides.{nat_tests}
+use Rattle.scram_types.specs.declared.ids.ConfId.{ConfId}
+use Rattle.scram_types.specs.declared.flights.Env.{Env}
+use Rattle.scram_types.specs.declared.specification.Bound.{Bound}
+use Rattle.scram_types.specs.declared.specification.Invariant.{Invariant}
+use Rattle.scram_types.specs.declared.specification.Precondition.{Precondition}
+use Rattle.scram_types.specs.Specification.{Each, IsSpec, Parts, bound_in}
+use Rattle.choice_table.specs.Environments.{IsEnv, in_scope}
+use Rattle.choice_table.specs.Choices.{IsTarget, choose, has_rule, has_source, is_runnable}
+use Rattle.choice_table.specs.Numbering.{environments, is_number_in_scope, number_of, numbered, states}
+use Rattle.dep_order.specs.Timetables.{place_of}
+use Rattle.coverage_check.specs.declared.choosing.Demand.{Demand}
+use Rattle.coverage_check.specs.declared.choosing.Demand.TheVariants as demand
+use Rattle.coverage_check.specs.declared.shown.Shown.{Shown}
+use Rattle.coverage_check.specs.Search.{all_below, first_below, shown_if}
+use Rattle.coverage_check.specs.Showing.{conf}
+use Rattle.coverage_check.specs.Form.{is_empty, is_overloaded, is_same, lacks_need, load_refusal, load_refusal_in, need_refusal, need_refusal_in, shape_refusal, shape_refusal_of, state_refusal, twin_refusal_of}
+use Rattle.coverage_check.specs.Choosing.{demand_refusal, demand_refusal_of, first_unmet_env, is_unmet, leaves_start, opening_env, start_refusal, unmet_env_at}
+use Rattle.coverage_check.specs.Timing.{bound_refusal, bound_refusal_of, can_return, further, greatest_bound, has_short_window, is_bounded, is_target, lacks_bound, lacks_bound_to, least, window_refusal}
+use Rattle.coverage_check.specs.Holding.{breaks_entering, breaks_from, holds_entering, holds_from, holds_leaving, holds_on_way, holds_reached, holds_reaching, invariant_refusal, invariant_refusal_at, invariant_refusal_of, precondition_refusal, precondition_refusal_at, precondition_refusal_of}
+use Rattle.coverage_check.specs.Acceptance.{Accepts, AcceptsWhereUnrefused, IsKept, IsServed, IsShaped, RefusesTheRest, choice_refusal, first_refusal, form_refusal, range_refusal, time_refusal}
+use Rattle.coverage_check.proofs.Searching.{all_each, and_left, and_right, below_none, by_bool, each_all, none_below, none_both, none_left, none_right, none_shown, not_not, not_shown, or_cases, some_none, true_false}
+use Rattle.coverage_check.proofs.Reaching.{at_most, at_most_test, belongs_numbered, choose_inside, equal, equal_test, below_test, not_below, not_below_test, number_inside, numbered_number, same_conf, target_test, target_tested}
+
+not_false : (b : Bool) → not b ≡ false → b ≡ true
+not_false true e = refl
+not_false false e = absurd (cc)
+
+not_true : (b : Bool) → b ≡ true → not b ≡ false
+not_true b e = rw (e) refl
+
+second_false : (a b : Bool) → (a && b) ≡ false → a ≡ true → b ≡ false
+second_false true b e h = e
+second_false false b e h = absurd (cc)
+
+either_false : (a b : Bool) → (a ≡ true → b ≡ false) → (a && b) ≡ false
+either_false true b f = f refl
+either_false false b f = refl
+
+if_none : {A : Type 0} (b : Bool) (x : A) (o : Option A) → (if b then Some x else o) ≡ None → (b ≡ false) × (o ≡ None)
+if_none true x o e = some_none x e
+if_none false x o e = (refl, e)
+
+none_if : {A : Type 0} (b : Bool) (x : A) (o : Option A) → b ≡ false → o ≡ None → (if b then Some x else o) ≡ None
+none_if b x o e f = rw (e) f
+
+map_none : {A B : Type 0} (f : A → B) (o : Option A) → option_map f o ≡ None → o ≡ None
+map_none f None e = refl
+map_none f (Some x) e = some_none (f x) e
+
+none_map : {A B : Type 0} (f : A → B) (o : Option A) → o ≡ None → option_map f o ≡ None
+none_map f o e = rw (e) refl
+
+implied : (a b : Bool) → (not a || b) ≡ true → a ≡ true → b ≡ true
+implied true b e h = e
+implied false b e h = absurd (cc)
+
+implies : (a b : Bool) → (a ≡ true → b ≡ true) → (not a || b) ≡ true
+implies true b f = f refl
+implies false b f = refl
+
+both : (a b : Bool) → a ≡ true → b ≡ true → (a && b) ≡ true
+both a b e f = rw (e, f) refl
+
+below : (a b : ℕ) → nat_lt a b ≡ true → a < b
+below a b h = grind (arith, nat_tests)
+
+-- an item that is there refuses nothing
+at_none : {A B : Type 0} (o : Option A) (f : A → Option B) → ((x : A) → o ≡ Some x → f x ≡ None) → option_map_or f o None ≡ None
+at_none None f each = refl
+at_none (Some x) f each = each x refl
+
+-- the greatest bound
+
+pub bounds_most : (bounds : List Bound) (k : ℕ) (bound : Bound) → slice_get bounds k ≡ Some bound → bound.frames ≤ greatest_bound bounds
+bounds_most [] k bound there = let none : k < 0 = slice_get_within [] k bound there in absurd (omega arith)
+bounds_most (first ∷ bounds) zero bound there = let same : first.frames ≡ bound.frames = ap (λ (o : Option Bound). option_map_or (λ (b : Bound). b.frames) o 0) there in omega arith
+bounds_most (first ∷ bounds) (suc k) bound there = let before = bounds_most bounds k bound there in omega arith
+
+most_bounds : (bounds : List Bound) (window : ℕ) → 1 ≤ window → ((k : ℕ) (bound : Bound) → slice_get bounds k ≡ Some bound → bound.frames + 1 ≤ window) → greatest_bound bounds + 1 ≤ window
+most_bounds [] window some each = some
+most_bounds (first ∷ bounds) window some each =
+    let here = each 0 first refl in
+    let rest = most_bounds bounds window some (λ k bound there. each (suc k) bound there) in
+    omega arith
+
+module _ (spec : Parts) (made : IsSpec spec) where
+  -- from no refusal
+
+  shaped : shape_refusal spec ≡ None → (c : ConfId) → c.0 < length spec.confs → IsShaped spec c
+  shaped e c known =
+      let tests = if_none (is_empty spec c) _ (twin_refusal_of spec c.0) (below_none (shape_refusal_of spec) (length spec.confs) c.0 e known) in
+      record { something_on = tests.0; differs = λ d less. not_shown (is_same spec c d) _ (below_none _ c.0 d.0 tests.1 less) }
+
+  met : (asked : Demand) → demand_refusal spec asked ≡ None → (c : ConfId) (v : Env) → c.0 < length spec.confs → IsEnv spec v → in_scope spec v ≡ true → is_unmet spec asked c v ≡ false
+  met asked e c v known belongs scope =
+      let n = number_of spec v in
+      let same = numbered_number spec made v belongs in
+      let nowhere = map_none _ (first_unmet_env spec asked c) (below_none (demand_refusal_of spec asked) (length spec.confs) c.0 e known) in
+      let here = not_shown (is_number_in_scope spec n && is_unmet spec asked c (numbered spec n)) _
+      (below_none (unmet_env_at spec asked c) (environments spec) n nowhere (number_inside spec made v belongs)) in
+      ap (is_unmet spec asked c) (sym same) ∙ second_false (is_number_in_scope spec n) _ here (ap (in_scope spec) same ∙ scope)
+
+  served : (i j : ConfId) (o : Option ℕ) → bound_in spec.bounds i.0 j.0 ≡ o → option_map_or (λ (t : ℕ). nat_le (least spec i j) t) o false ≡ true → IsServed spec i j
+  served i j None given test = absurd (cc)
+  served i j (Some t) given test = record { frames = t; given = given; serves = at_most (least spec i j) t test }
+
+  asked_true : (i j : ConfId) → (i.0 ≢ j.0) ⊎ (1 ≤ further spec.policy spec.changes) → (not (i.0 == j.0) || can_return spec) ≡ true
+  asked_true i j (inl away) = by_bool (i.0 == j.0) (λ t. absurd (away (equal i.0 j.0 t))) (λ f. rw (f) refl)
+  asked_true i j (inr some) = rw (below_test 0 (further spec.policy spec.changes) (omega arith)) (or_last (not (i.0 == j.0)))
+    where
+      or_last : (b : Bool) → (b || true) ≡ true
+      or_last true = refl
+      or_last false = refl
+
+  bounded : bound_refusal spec ≡ None → (i j : ConfId) → i.0 < length spec.confs → IsTarget spec i j → (i.0 ≢ j.0) ⊎ (1 ≤ further spec.policy spec.changes) → IsServed spec i j
+  bounded e i j known target asked =
+      let inside : j.0 < length spec.confs = subst (λ (k : ConfId). k.0 < length spec.confs) target.chosen (choose_inside spec made i target.seen known) in
+      let free = not_shown (lacks_bound spec i j.0) _ (below_none _ (length spec.confs) j.0 (below_none (bound_refusal_of spec) (length spec.confs) i.0 e known) inside) in
+      let to = second_false (is_target spec i j.0) (lacks_bound_to spec i j) free (target_test spec made i j target) in
+      let given = not_false (is_bounded spec i j) (second_false (not (i.0 == j.0) || can_return spec) _ to (asked_true i j asked)) in
+      served i j (bound_in spec.bounds i.0 j.0) refl given
+
+  invariant_none : invariant_refusal spec ≡ None → (k : ℕ) (inv : Invariant) → slice_get spec.invariants k ≡ Some inv → invariant_refusal_of spec k inv ≡ None
+  invariant_none e k inv there =
+      let here = below_none (invariant_refusal_at spec) (length spec.invariants) k e (slice_get_within spec.invariants k inv there) in
+      rw (there) at here
+
+  precondition_none : precondition_refusal spec ≡ None → (k : ℕ) (pre : Precondition) → slice_get spec.preconditions k ≡ Some pre → precondition_refusal_of spec k pre ≡ None
+  precondition_none e k pre there =
+      let here = below_none (precondition_refusal_at spec) (length spec.preconditions) k e (slice_get_within spec.preconditions k pre there) in
+      rw (there) at here
+
+  kept : (inv : Invariant) (i : ConfId) → i.0 < length spec.confs → holds_from spec inv i ≡ true → IsKept spec inv i
+  kept inv i known test =
+      let reached = and_right (holds_leaving spec inv (place_of spec i inv.app.0)) (holds_reached spec inv i) test in
+      record {
+        leaving = and_left (holds_leaving spec inv (place_of spec i inv.app.0)) (holds_reached spec inv i) test;
+        reaching = λ j target.
+            (let inside : j.0 < length spec.confs = subst (λ (k : ConfId). k.0 < length spec.confs) target.chosen (choose_inside spec made i target.seen known) in
+            implied (is_target spec i j.0) _ (all_each (holds_on_way spec inv i) (length spec.confs) j.0 reached inside) (target_test spec made i j target));
+      }
+
+  pub accepted : first_refusal spec ≡ None → Accepts spec
+  accepted e =
+      let form = none_left (form_refusal spec) _ e in
+      let later = none_right (form_refusal spec) (option_or (choice_refusal spec) (option_or (time_refusal spec) (range_refusal spec))) e in
+      let choice = none_left (choice_refusal spec) _ later in
+      let last = none_right (choice_refusal spec) (option_or (time_refusal spec) (range_refusal spec)) later in
+      let time = none_left (time_refusal spec) _ last in
+      let range = none_right (time_refusal spec) (range_refusal spec) last in
+      let need = none_left (need_refusal spec) _ form in
+      let form_2 = none_right (need_refusal spec) (option_or (state_refusal spec) (option_or (shape_refusal spec) (load_refusal spec))) form in
+      let state = none_left (state_refusal spec) _ form_2 in
+      let form_3 = none_right (state_refusal spec) (option_or (shape_refusal spec) (load_refusal spec)) form_2 in
+      let shape = none_left (shape_refusal spec) _ form_3 in
+      let load = none_right (shape_refusal spec) (load_refusal spec) form_3 in
+      let rule = none_left (demand_refusal spec demand.HasRule) _ choice in
+      let choice_2 = none_right (demand_refusal spec demand.HasRule) (option_or (demand_refusal spec demand.CanRun) (option_or (demand_refusal spec demand.Stays) (start_refusal spec))) choice in
+      let run = none_left (demand_refusal spec demand.CanRun) _ choice_2 in
+      let choice_3 = none_right (demand_refusal spec demand.CanRun) (option_or (demand_refusal spec demand.Stays) (start_refusal spec)) choice_2 in
+      let stay = none_left (demand_refusal spec demand.Stays) _ choice_3 in
+      let start = none_right (demand_refusal spec demand.Stays) (start_refusal spec) choice_3 in
+      let bound = none_left (bound_refusal spec) _ time in
+      let window = none_right (bound_refusal spec) (window_refusal spec) time in
+      let invariant = none_left (invariant_refusal spec) _ range in
+      let precondition = none_right (invariant_refusal spec) (precondition_refusal spec) range in
+      record {
+        needs_on = λ c a known there. not_shown (lacks_need spec c a) _ (below_none _ (length spec.apps) a (below_none (need_refusal_in spec) (length spec.confs) c.0 need known) there);
+        few_states = not_below 16384 (states spec) (not_shown _ _ state);
+        shaped = shaped shape;
+        carried = λ c p known there. not_shown (is_overloaded spec c p) _ (below_none _ (length spec.procs) p (below_none (load_refusal_in spec) (length spec.confs) c.0 load known) there);
+        ruled = λ c v known belongs scope. not_false (has_rule spec c v) (met demand.HasRule rule c v known belongs scope);
+        runs = λ c v known belongs scope. not_false (is_runnable spec (choose spec c v) v) (met demand.CanRun run c v known belongs scope);
+        stays = λ c v known belongs scope. same_conf (choose spec (choose spec c v) v) (choose spec c v)
+            (equal _ _ (not_false ((choose spec (choose spec c v) v).0 == (choose spec c v).0) (met demand.Stays stay c v known belongs scope)));
+        starts = same_conf (choose spec spec.start (opening_env spec)) spec.start
+            (equal _ _ (not_false ((choose spec spec.start (opening_env spec)).0 == spec.start.0) (not_shown (leaves_start spec) _ start)));
+        bounded = bounded bound;
+        windowed = λ k given there. (let most = bounds_most spec.bounds k given there in let wide = not_below spec.window (greatest_bound spec.bounds + 1) (not_shown _ _ window) in omega arith);
+        kept = λ k inv there i known speaks. kept inv i known
+            (not_false (holds_from spec inv i) (second_false (has_source inv.from i) _ (not_shown (breaks_from spec inv i) _ (below_none _ (length spec.confs) i.0 (invariant_none invariant k inv there) known)) speaks));
+        entered = λ k pre there. not_false (holds_entering spec pre (place_of spec pre.conf pre.app.0))
+            (not_shown (breaks_entering spec pre) _ (precondition_none precondition k pre there));
+      }
+
+  -- to no refusal
+
+  module _ (accepts : Accepts spec) where
+    no_need : need_refusal spec ≡ None
+    no_need = none_below (need_refusal_in spec) (length spec.confs) (λ c known.
+        none_below _ (length spec.apps) (λ a there. none_shown (lacks_need spec (conf c) a) _ (accepts.needs_on (conf c) a known there)))
+
+    no_state : state_refusal spec ≡ None
+    no_state = none_shown _ _ (not_below_test 16384 (states spec) accepts.few_states)
+
+    no_shape : shape_refusal spec ≡ None
+    no_shape = none_below (shape_refusal_of spec) (length spec.confs) (λ c known.
+        none_if (is_empty spec (conf c)) _ (twin_refusal_of spec c) (accepts.shaped (conf c) known).something_on
+        (none_below _ c (λ d less. none_shown (is_same spec (conf c) (conf d)) _ ((accepts.shaped (conf c) known).differs (conf d) less))))
+
+    no_load : load_refusal spec ≡ None
+    no_load = none_below (load_refusal_in spec) (length spec.confs) (λ c known.
+        none_below _ (length spec.procs) (λ p there. none_shown (is_overloaded spec (conf c) p) _ (accepts.carried (conf c) p known there)))
+
+    all_met : (asked : Demand) (c : ConfId) (v : Env) → c.0 < length spec.confs → IsEnv spec v → in_scope spec v ≡ true → is_unmet spec asked c v ≡ false
+    all_met demand.HasRule c v known belongs scope = not_true (has_rule spec c v) (accepts.ruled c v known belongs scope)
+    all_met demand.CanRun c v known belongs scope = not_true (is_runnable spec (choose spec c v) v) (accepts.runs c v known belongs scope)
+    all_met demand.Stays c v known belongs scope = not_true _ (equal_test _ _ (ap (λ (k : ConfId). k.0) (accepts.stays c v known belongs scope)))
+
+    no_demand : (asked : Demand) → demand_refusal spec asked ≡ None
+    no_demand asked = none_below (demand_refusal_of spec asked) (length spec.confs) (λ c known.
+        none_map _ (first_unmet_env spec asked (conf c)) (none_below (unmet_env_at spec asked (conf c)) (environments spec) (λ n inside.
+        none_shown (is_number_in_scope spec n && is_unmet spec asked (conf c) (numbered spec n)) _
+        (either_false (is_number_in_scope spec n) _ (λ scope. all_met asked (conf c) (numbered spec n) known (belongs_numbered spec made n inside) scope)))))
+
+    no_start : start_refusal spec ≡ None
+    no_start = none_shown (leaves_start spec) _ (not_true _ (equal_test _ _ (ap (λ (k : ConfId). k.0) accepts.starts)))
+
+    way_open : (i j : ConfId) → (not (i.0 == j.0) || can_return spec) ≡ true → (i.0 ≢ j.0) ⊎ (1 ≤ further spec.policy spec.changes)
+    way_open i j test = elim (or_cases (not (i.0 == j.0)) (can_return spec) test) [
+      | inl away ↦ inl (λ same. true_false (i.0 == j.0) (equal_test i.0 j.0 same) (not_not (i.0 == j.0) away))
+      | inr returns ↦ inr (below 0 (further spec.policy spec.changes) returns)
+    ]
+
+    bound_serves : (i j : ConfId) → IsServed spec i j → is_bounded spec i j ≡ true
+    bound_serves i j given = rw (given.given) (at_most_test (least spec i j) given.frames given.serves)
+
+    no_bound : bound_refusal spec ≡ None
+    no_bound = none_below (bound_refusal_of spec) (length spec.confs) (λ i known.
+        none_below _ (length spec.confs) (λ j there.
+        none_shown (lacks_bound spec (conf i) j) _ (either_false (is_target spec (conf i) j) _ (λ target.
+        either_false (not (i == j) || can_return spec) _ (λ asked.
+        not_true (is_bounded spec (conf i) (conf j)) (bound_serves (conf i) (conf j)
+        (accepts.bounded (conf i) (conf j) known (target_tested spec made (conf i) (conf j) target) (way_open (conf i) (conf j) asked))))))))
+
+    no_window : window_refusal spec ≡ None
+    no_window = none_shown (has_short_window spec) _ (not_below_test spec.window (greatest_bound spec.bounds + 1)
+        (most_bounds spec.bounds spec.window made.window_least accepts.windowed))
+
+    each_held : (inv : Invariant) (i : ConfId) → IsKept spec inv i → holds_from spec inv i ≡ true
+    each_held inv i is = both (holds_leaving spec inv (place_of spec i inv.app.0)) _ is.leaving
+        (each_all (holds_on_way spec inv i) (length spec.confs) (λ j there.
+        implies (is_target spec i j) _ (λ target. is.reaching (conf j) (target_tested spec made i (conf j) target))))
+
+    no_invariant : invariant_refusal spec ≡ None
+    no_invariant = none_below (invariant_refusal_at spec) (length spec.invariants) (λ k inside.
+        at_none (slice_get spec.invariants k) (invariant_refusal_of spec k) (λ inv there.
+        none_below _ (length spec.confs) (λ i known.
+        none_shown (breaks_from spec inv (conf i)) _ (either_false (has_source inv.from (conf i)) _ (λ speaks.
+        not_true (holds_from spec inv (conf i)) (each_held inv (conf i) (accepts.kept k inv there (conf i) known speaks)))))))
+
+    no_precondition : precondition_refusal spec ≡ None
+    no_precondition = none_below (precondition_refusal_at spec) (length spec.preconditions) (λ k inside.
+        at_none (slice_get spec.preconditions k) (precondition_refusal_of spec k) (λ pre there.
+        none_shown (breaks_entering spec pre) _ (not_true _ (accepts.entered k pre there))))
+
+    pub unrefused : first_refusal spec ≡ None
+    unrefused = none_both (form_refusal spec) _
+        (none_both (need_refusal spec) _ no_need (none_both (state_refusal spec) _ no_state (none_both (shape_refusal spec) _ no_shape no_load)))
+        (none_both (choice_refusal spec) _
+        (none_both (demand_refusal spec demand.HasRule) _ (no_demand demand.HasRule) (none_both (demand_refusal spec demand.CanRun) _ (no_demand demand.CanRun)
+        (none_both (demand_refusal spec demand.Stays) _ (no_demand demand.Stays) no_start)))
+        (none_both (time_refusal spec) _ (none_both (bound_refusal spec) _ no_bound no_window) (none_both (invariant_refusal spec) _ no_invariant no_precondition)))
+
+pub accepts_where_unrefused : AcceptsWhereUnrefused
+accepts_where_unrefused spec made = record { accepted = accepted spec made; unrefused = unrefused spec made }

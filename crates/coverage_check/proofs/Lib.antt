@@ -1,0 +1,7 @@
+pub mod Accepting
+pub mod Breaking
+pub mod Examples
+pub mod Flights
+pub mod Keeping
+pub mod Reaching
+pub mod Searching

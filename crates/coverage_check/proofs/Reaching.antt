@@ -1,0 +1,179 @@
+-- Environments by number, and possible targets.
+use Rattle.std.proofs.Common.{◌≡◌, ℕ, zero, suc, ◌+◌, ◌<◌, ◌≤◌, Bool, true, false, not, refl, arith, ◌⊎◌, ap, sym, subst, ◌∙◌, ◌*◌, ◌^◌, List, [], ◌∷◌, length, set}
+use mathlib.Core.Logic.{inl, inr}
+use Rattle.std.specs.Prelude.{◌&&◌, ◌||◌, ◌==◌, Option, Some, None, if◌then◌else◌, nat_le, nat_lt, slice_get}
+use Rattle.std.proofs.lemmas.Bool.Decides.{nat_tests}
+use Rattle.std.proofs.lemmas.Nat.{mul-le}
+use Rattle.std.proofs.lemmas.List.{get_or-set_other, get_or-set_same}
+use Rattle.std.proofs.lemmas.Option.{unwrap_or-slice_get}
+use Rattle.std.proofs.Math.Nat.{pow-le-pow_right}
+use Rattle.scram_types.specs.declared.ids.ConfId.{ConfId}
+use Rattle.scram_types.specs.declared.flights.Env.{Env}
+use Rattle.scram_types.specs.declared.specification.Choice.{Choice}
+use Rattle.scram_types.specs.Specification.{Each, IsChoice, IsSpec, Parts}
+use Rattle.choice_table.specs.Environments.{IsEnv, in_scope}
+use Rattle.choice_table.specs.Choices.{IsTarget, choose, rule_fits, target_among}
+use Rattle.choice_table.specs.Numbering.{IsNextInScope, NoneInScope, bits_below, combinations, env_of, environments, is_number_in_scope, number_of, numbered}
+use Rattle.choice_table.proofs.Digits.{most_combinations}
+use Rattle.choice_table.proofs.Inverses.{env_of-number_of, is_env, number_below}
+use Rattle.coverage_check.specs.declared.choosing.Demand.{Demand}
+use Rattle.coverage_check.specs.Search.{any_below, first_below}
+use Rattle.coverage_check.specs.Choosing.{first_unmet_env, is_unmet, unmet_env_at}
+use Rattle.coverage_check.specs.Showing.{conf}
+use Rattle.coverage_check.specs.Timing.{is_chosen_in, is_target}
+use Rattle.coverage_check.specs.TargetSets.{is_in}
+use Rattle.coverage_check.proofs.Searching.{and_left, and_right, any_found, any_is, any_skip, below_none, by_bool, first_found, none_below, none_both, or_false, plus_one, same_some, true_false}
+
+pub equal : (a b : ℕ) → (a == b) ≡ true → a ≡ b
+equal a b h = grind (arith, nat_tests)
+
+pub equal_test : (a b : ℕ) → a ≡ b → (a == b) ≡ true
+equal_test a b h = grind (arith, nat_tests)
+
+pub below_test : (a b : ℕ) → a < b → nat_lt a b ≡ true
+below_test a b h = grind (arith, nat_tests)
+
+below_of : (a b : ℕ) → nat_lt a b ≡ true → a < b
+below_of a b h = grind (arith, nat_tests)
+
+pub not_below : (a b : ℕ) → nat_lt a b ≡ false → b ≤ a
+not_below a b h = grind (arith, nat_tests)
+
+pub not_below_test : (a b : ℕ) → b ≤ a → nat_lt a b ≡ false
+not_below_test a b h = grind (arith, nat_tests)
+
+pub at_most : (a b : ℕ) → nat_le a b ≡ true → a ≤ b
+at_most a b h = grind (arith, nat_tests)
+
+pub at_most_test : (a b : ℕ) → a ≤ b → nat_le a b ≡ true
+at_most_test a b h = grind (arith, nat_tests)
+
+pub same_conf : (x y : ConfId) → x.0 ≡ y.0 → x ≡ y
+same_conf x y e = ap conf e
+
+both : (a b : Bool) → a ≡ true → b ≡ true → (a && b) ≡ true
+both a b e f = rw (e, f) refl
+
+pick_inside : (n : ℕ) (first : Bool) (x y : ConfId) → x.0 < n → y.0 < n → (if first then x else y).0 < n
+pick_inside n true x y a b = a
+pick_inside n false x y a b = b
+
+target_inside : (n : ℕ) (rules : List Choice) (c : ConfId) (v : Env) → ((k : ℕ) (rule : Choice) → slice_get rules k ≡ Some rule → rule.to.0 < n) → c.0 < n
+    → (target_among rules c v).0 < n
+target_inside n [] c v inside known = known
+target_inside n (rule ∷ rules) c v inside known =
+    pick_inside n (rule_fits c v rule) rule.to (target_among rules c v) (inside 0 rule refl) (target_inside n rules c v (λ k r there. inside (suc k) r there) known)
+
+module _ (spec : Parts) (made : IsSpec spec) where
+  -- what is chosen from a configuration exists
+  pub choose_inside : (c : ConfId) (v : Env) → c.0 < length spec.confs → (choose spec c v).0 < length spec.confs
+  choose_inside c v known = target_inside (length spec.confs) spec.rules c v (λ k rule there. (made.rules k rule there).to) known
+
+  -- an environment is that of its number
+  pub number_inside : (v : Env) → IsEnv spec v → number_of spec v < environments spec
+  number_inside v belongs = number_below spec made.factors made.factors_count v belongs
+
+  pub numbered_number : (v : Env) → IsEnv spec v → numbered spec (number_of spec v) ≡ v
+  numbered_number v belongs =
+      let inside = below_test (number_of spec v) (environments spec) (number_inside v belongs) in
+      let back = env_of-number_of spec made.factors made.factors_count v belongs in
+      same_some (numbered spec (number_of spec v)) v (rw (inside) at back)
+
+  pub belongs_numbered : (n : ℕ) → n < environments spec → IsEnv spec (numbered spec n)
+  belongs_numbered n h = is_env spec made.factors made.factors_count n h
+
+  -- the test of possible targets tells them
+  pub target_test : (i j : ConfId) → IsTarget spec i j → is_target spec i j.0 ≡ true
+  target_test i j target =
+      let same = numbered_number target.seen target.belongs in
+      any_is (is_chosen_in spec i j.0) (environments spec) (number_of spec target.seen)
+      (both (is_number_in_scope spec (number_of spec target.seen)) _
+      (ap (in_scope spec) same ∙ target.scope)
+      (equal_test _ j.0 (ap (λ (v : Env). (choose spec i v).0) same ∙ ap (λ (c : ConfId). c.0) target.chosen)))
+      (number_inside target.seen target.belongs)
+
+  pub target_tested : (i j : ConfId) → is_target spec i j.0 ≡ true → IsTarget spec i j
+  target_tested i j test =
+      let found = any_found (is_chosen_in spec i j.0) (environments spec) test in
+      record {
+        seen = numbered spec found.0;
+        belongs = belongs_numbered found.0 found.1;
+        scope = and_left (is_number_in_scope spec found.0) _ found.2;
+        chosen = same_conf (choose spec i (numbered spec found.0)) j (equal _ j.0 (and_right (is_number_in_scope spec found.0) _ found.2));
+      }
+
+-- environments in scope, one after another
+
+module _ (spec : Parts) where
+  pub env_numbered : (n : ℕ) (v : Env) → n < environments spec → env_of spec n ≡ Some v → numbered spec n ≡ v
+  env_numbered n v inside e = same_some (numbered spec n) v (rw (below_test n (environments spec) inside) at e)
+
+  out_of_scope : (asked : Demand) (c : ConfId) (k : ℕ) → is_number_in_scope spec k ≡ false → unmet_env_at spec asked c k ≡ None
+  out_of_scope asked c k out = rw (out) refl
+
+  unmet_upto : (asked : Demand) (c : ConfId) (low n : ℕ) → first_below (unmet_env_at spec asked c) low ≡ None → ((k : ℕ) → low ≤ k → k < n → is_number_in_scope spec k ≡ false)
+      → first_below (unmet_env_at spec asked c) n ≡ None
+  unmet_upto asked c low n before out = none_below (unmet_env_at spec asked c) n (λ k less. by_bool (nat_lt k low)
+      (λ t. below_none (unmet_env_at spec asked c) low k before (below_of k low t))
+      (λ f. out_of_scope asked c k (out k (not_below k low f) less)))
+
+  pub unmet_more : (asked : Demand) (c : ConfId) (low n : ℕ) (v : Env) → first_below (unmet_env_at spec asked c) low ≡ None → IsNextInScope spec low n
+      → env_of spec n ≡ Some v → is_unmet spec asked c v ≡ false → first_below (unmet_env_at spec asked c) (n + 1) ≡ None
+  unmet_more asked c low n v before next is met =
+      let here : is_unmet spec asked c (numbered spec n) ≡ false = ap (is_unmet spec asked c) (env_numbered n v next.inside is) ∙ met in
+      ap (first_below (unmet_env_at spec asked c)) (sym (plus_one n)) ∙ none_both (first_below (unmet_env_at spec asked c) n) (unmet_env_at spec asked c n)
+      (unmet_upto asked c low n before next.least) (rw (next.scope, here) refl)
+
+  pub unmet_found : (asked : Demand) (c : ConfId) (low n : ℕ) (v : Env) → first_below (unmet_env_at spec asked c) low ≡ None → IsNextInScope spec low n
+      → env_of spec n ≡ Some v → is_unmet spec asked c v ≡ true → Some v ≡ first_unmet_env spec asked c
+  unmet_found asked c low n v before next is unmet =
+      let same = env_numbered n v next.inside is in
+      ap Some (sym same) ∙ sym (first_found (unmet_env_at spec asked c) (environments spec) n (numbered spec n) (unmet_upto asked c low n before next.least)
+      (rw (next.scope, ap (is_unmet spec asked c) same ∙ unmet) refl) next.inside)
+
+  pub unmet_nowhere : (asked : Demand) (c : ConfId) (low : ℕ) → first_below (unmet_env_at spec asked c) low ≡ None → NoneInScope spec low → None ≡ first_unmet_env spec asked c
+  unmet_nowhere asked c low before none = sym (unmet_upto asked c low (environments spec) before none)
+
+-- as many environments as there can be fit a number
+
+sets_most : (n : ℕ) → n ≤ 8 → 2 ^ n ≤ 256
+sets_most n h = pow-le-pow_right {n = 2} (omega arith) h
+
+pub environments_most : (spec : Parts) → IsSpec spec → environments spec ≤ 1048576
+environments_most spec made =
+    mul-le (2 ^ length spec.procs) (combinations spec.factors) 256 4096 (sets_most (length spec.procs) made.procs_count.few)
+    (most_combinations spec.factors made.factors made.factors_count)
+
+-- the targets of one environment more
+
+or_true : (b : Bool) → (b || true) ≡ true
+or_true true = refl
+or_true false = refl
+
+is_set : (tests : List Bool) (t j : ℕ) (here : Bool) → (t == j) ≡ here → t < length tests → is_in (set tests t true) j ≡ (is_in tests j || here)
+is_set tests t j true same inside =
+    let e : j ≡ t = sym (equal t j same) in
+    rw (e) (unwrap_or-slice_get (set tests t true) t false ∙ get_or-set_same tests t true false inside ∙ sym (or_true (is_in tests t)))
+is_set tests t j false other inside =
+    unwrap_or-slice_get (set tests t true) j false
+    ∙ get_or-set_other tests t j true false (λ e. true_false (t == j) (equal_test t j (sym e)) other)
+    ∙ sym (unwrap_or-slice_get tests j false) ∙ sym (or_false (is_in tests j))
+
+pub out_chosen : (spec : Parts) (i j k : ℕ) → is_number_in_scope spec k ≡ false → is_chosen_in spec (conf i) j k ≡ false
+out_chosen spec i j k out = rw (out) refl
+
+pub target_more : (spec : Parts) (i low n : ℕ) (v : Env) (tests : List Bool) (t j : ℕ) → IsNextInScope spec low n → env_of spec n ≡ Some v
+    → t ≡ (choose spec (conf i) v).0 → t < length tests → is_in tests j ≡ any_below (is_chosen_in spec (conf i) j) low
+    → is_in (set tests t true) j ≡ any_below (is_chosen_in spec (conf i) j) (n + 1)
+target_more spec i low n v tests t j next is chosen inside before =
+    let same = env_numbered spec n v next.inside is in
+    let here : (t == j) ≡ is_chosen_in spec (conf i) j n =
+    ap (λ (k : ℕ). k == j) (chosen ∙ ap (λ (w : Env). (choose spec (conf i) w).0) (sym same)) ∙ sym (ap (λ (b : Bool). b && ((choose spec (conf i) (numbered spec n)).0 == j)) next.scope) in
+    is_set tests t j (t == j) refl inside
+    ∙ ap (λ (b : Bool). b || (t == j)) (before ∙ sym (any_skip (is_chosen_in spec (conf i) j) n low next.from (λ k from less. out_chosen spec i j k (next.least k from less))))
+    ∙ ap (λ (b : Bool). any_below (is_chosen_in spec (conf i) j) n || b) here
+    ∙ ap (any_below (is_chosen_in spec (conf i) j)) (plus_one n)
+
+pub bits_same : (f g : ℕ → Bool) (n : ℕ) → ((k : ℕ) → k < n → f k ≡ g k) → bits_below f n ≡ bits_below g n
+bits_same f g zero each = refl
+bits_same f g (suc n) each = rw (bits_same f g n (λ k less. each k (omega arith)), each n (omega arith)) refl

@@ -1,0 +1,8 @@
+use Rattle.std.proofs.Common.{◌≡◌, ◌∙◌, arith, length, sym, true, false, not}
+use Rattle.coverage_check.specs.Choosing.{demand_refusal_of}
+use Rattle.coverage_check.proofs.Searching.{first_is}
+use Rattle.coverage_check.proofs.choosing.refuse_demand.Goals as goal
+
+pub returns-then-is_some : goal.returns-then-is_some
+returns-then-is_some c = first_is (demand_refusal_of c.args.spec.now c.args.demand) (length c.args.spec.now.confs) c.loop-c.c c.refuse_demand_of-shown.result c.loop-c.invariant c.refuse_demand_of-shown.ensures
+    (sym c.is_some.ensures ∙ c.if-is_some.true) (omega arith)

@@ -1,0 +1,7 @@
+use Rattle.std.proofs.Common.{◌≡◌, true, not}
+use Rattle.coverage_check.specs.Search.{all_below}
+use Rattle.dep_order.specs.Timetables.{is_on}
+use Rattle.coverage_check.proofs.form.is_empty.Given as goal
+
+abbrev pub invariant-loop-a : goal.invariant-loop-a
+invariant-loop-a l = all_below (λ a. not (is_on l.spec l.c a)) l.a ≡ true

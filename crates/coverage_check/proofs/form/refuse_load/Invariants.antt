@@ -1,0 +1,7 @@
+use Rattle.std.proofs.Common.{◌≡◌, None}
+use Rattle.coverage_check.specs.Search.{first_below}
+use Rattle.coverage_check.specs.Form.{load_refusal_in}
+use Rattle.coverage_check.proofs.form.refuse_load.Given as goal
+
+abbrev pub invariant-loop-c : goal.invariant-loop-c
+invariant-loop-c l = first_below (load_refusal_in l.spec) l.c ≡ None

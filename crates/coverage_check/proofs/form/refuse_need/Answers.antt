@@ -1,0 +1,8 @@
+use Rattle.std.proofs.Common.{◌≡◌, ◌∙◌, arith, length, sym, true, false, not}
+use Rattle.coverage_check.specs.Form.{need_refusal_in}
+use Rattle.coverage_check.proofs.Searching.{first_is}
+use Rattle.coverage_check.proofs.form.refuse_need.Goals as goal
+
+pub returns-then-is_some : goal.returns-then-is_some
+returns-then-is_some c = first_is (need_refusal_in c.args.spec.now) (length c.args.spec.now.confs) c.loop-c.c c.refuse_need_in-shown.result c.loop-c.invariant c.refuse_need_in-shown.ensures
+    (sym c.is_some.ensures ∙ c.if-is_some.true) (omega arith)

@@ -1,0 +1,10 @@
+use Rattle.std.proofs.Common.{◌≡◌, ◌∙◌, arith, length, sym, true, false, not}
+use Rattle.coverage_check.specs.declared.shown.Other.TheVariants as other
+use Rattle.coverage_check.specs.Form.{lacks_need}
+use Rattle.coverage_check.specs.Showing.{app, conf, shown_at}
+use Rattle.coverage_check.proofs.Searching.{first_shown}
+use Rattle.coverage_check.proofs.form.refuse_need_in.Goals as goal
+
+pub returns-then-lacks_need : goal.returns-then-lacks_need
+returns-then-lacks_need c = first_shown (λ a. lacks_need c.args.spec.now (conf c.args.c) a) (λ a. shown_at 1 c.args.c (other.App (app a))) (length c.args.spec.now.apps) c.loop-a.a c.at.result c.lacks_need.result
+    c.loop-a.invariant c.lacks_need.ensures c.if-lacks_need.true c.at.ensures (omega arith)

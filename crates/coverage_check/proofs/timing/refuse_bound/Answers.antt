@@ -1,0 +1,8 @@
+use Rattle.std.proofs.Common.{◌≡◌, ◌∙◌, ap, arith, length, sym, true, false}
+use Rattle.coverage_check.specs.Timing.{bound_refusal_of}
+use Rattle.coverage_check.proofs.Searching.{first_is}
+use Rattle.coverage_check.proofs.timing.refuse_bound.Goals as goal
+
+pub returns-then-is_some : goal.returns-then-is_some
+returns-then-is_some c = first_is (bound_refusal_of c.args.spec.now) (length c.args.spec.now.confs) c.loop-i.i c.refuse_bound_of-shown.result c.loop-i.invariant c.refuse_bound_of-shown.ensures
+    (sym c.is_some.ensures ∙ c.if-is_some.true) (omega arith)

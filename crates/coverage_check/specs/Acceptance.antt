@@ -1,0 +1,105 @@
+-- When a specification is accepted, and what is shown where it is not.
+use Rattle.std.specs.Prelude.{◌≡◌, ◌≢◌, ◌⊎◌, ℕ, suc, ◌+◌, ◌<◌, ◌≤◌, Bool, true, false, length, slice_get, Option, Some, None}
+use Rattle.std.specs.Option.{option_or}
+use Rattle.scram_types.specs.declared.ids.ConfId.{ConfId}
+use Rattle.scram_types.specs.declared.flights.Env.{Env}
+use Rattle.scram_types.specs.declared.specification.Bound.{Bound}
+use Rattle.scram_types.specs.declared.specification.Invariant.{Invariant}
+use Rattle.scram_types.specs.declared.specification.Precondition.{Precondition}
+use Rattle.scram_types.specs.Specification.{Each, IsSpec, Parts, bound_in}
+use Rattle.choice_table.specs.Environments.{IsEnv, in_scope}
+use Rattle.choice_table.specs.Choices.{IsTarget, choose, has_rule, has_source, is_runnable}
+use Rattle.choice_table.specs.Numbering.{environments, is_number_in_scope, numbered, states}
+use Rattle.dep_order.specs.Timetables.{place_of}
+use Rattle.coverage_check.specs.declared.shown.Shown.{Shown}
+use Rattle.coverage_check.specs.declared.shown.Other.TheVariants as other
+use Rattle.coverage_check.specs.declared.choosing.Demand.{Demand}
+use Rattle.coverage_check.specs.declared.choosing.Demand.TheVariants as demand
+use Rattle.coverage_check.specs.Showing.{app, conf, proc, shown_at, shown_in, shown_nowhere}
+use Rattle.coverage_check.specs.Form.{has_too_many_states, is_empty, is_overloaded, is_same, lacks_need, load_refusal, need_refusal, shape_refusal, state_refusal}
+use Rattle.coverage_check.specs.Choosing.{demand_refusal, is_unmet, leaves_start, number_of_demand, opening_env, start_refusal, target_shown}
+use Rattle.coverage_check.specs.Timing.{bound_refusal, further, greatest_bound, has_short_window, lacks_bound, least, window_refusal}
+use Rattle.coverage_check.specs.Holding.{breaks_entering, breaks_from, holds_entering, holds_leaving, holds_reaching, invariant_refusal, precondition_refusal}
+
+-- The first refusal, condition by condition.
+abbrev pub form_refusal : Parts → Option Shown
+form_refusal spec = option_or (need_refusal spec) (option_or (state_refusal spec) (option_or (shape_refusal spec) (load_refusal spec)))
+
+abbrev pub choice_refusal : Parts → Option Shown
+choice_refusal spec =
+    option_or (demand_refusal spec demand.HasRule) (option_or (demand_refusal spec demand.CanRun)
+    (option_or (demand_refusal spec demand.Stays) (start_refusal spec)))
+
+abbrev pub time_refusal : Parts → Option Shown
+time_refusal spec = option_or (bound_refusal spec) (window_refusal spec)
+
+abbrev pub range_refusal : Parts → Option Shown
+range_refusal spec = option_or (invariant_refusal spec) (precondition_refusal spec)
+
+abbrev pub first_refusal : Parts → Option Shown
+first_refusal spec = option_or (form_refusal spec) (option_or (choice_refusal spec) (option_or (time_refusal spec) (range_refusal spec)))
+
+-- Something is on, and no configuration before this one is the same.
+pub record IsShaped (spec : Parts) (c : ConfId) : Type 0 where
+  pub something_on : is_empty spec c ≡ false
+  pub differs : (d : ConfId) → d.0 < c.0 → is_same spec c d ≡ false
+
+-- A bound is given that serves.
+pub record IsServed (spec : Parts) (i j : ConfId) : Type 0 where
+  pub frames : ℕ
+  pub given : bound_in spec.bounds i.0 j.0 ≡ Some frames
+  pub serves : least spec i j ≤ frames
+
+-- An invariant's interval holds whatever reconfigurations from i show of its variable.
+pub record IsKept (spec : Parts) (inv : Invariant) (i : ConfId) : Type 0 where
+  pub leaving : holds_leaving spec inv (place_of spec i inv.app.0) ≡ true
+  pub reaching : (j : ConfId) → IsTarget spec i j → holds_reaching spec inv (place_of spec j inv.app.0) ≡ true
+
+-- What is asked of a specification so that every reconfiguration is assured.
+pub record Accepts (spec : Parts) : Type 0 where
+  pub needs_on : (c : ConfId) (a : ℕ) → c.0 < length spec.confs → a < length spec.apps → lacks_need spec c a ≡ false
+  pub few_states : states spec ≤ 16384
+  pub shaped : (c : ConfId) → c.0 < length spec.confs → IsShaped spec c
+  pub carried : (c : ConfId) (p : ℕ) → c.0 < length spec.confs → p < length spec.procs → is_overloaded spec c p ≡ false
+  pub ruled : (c : ConfId) (v : Env) → c.0 < length spec.confs → IsEnv spec v → in_scope spec v ≡ true → has_rule spec c v ≡ true
+  pub runs : (c : ConfId) (v : Env) → c.0 < length spec.confs → IsEnv spec v → in_scope spec v ≡ true → is_runnable spec (choose spec c v) v ≡ true
+  pub stays : (c : ConfId) (v : Env) → c.0 < length spec.confs → IsEnv spec v → in_scope spec v ≡ true → choose spec (choose spec c v) v ≡ choose spec c v
+  pub starts : choose spec spec.start (opening_env spec) ≡ spec.start
+  pub bounded : (i j : ConfId) → i.0 < length spec.confs → IsTarget spec i j → (i.0 ≢ j.0) ⊎ (1 ≤ further spec.policy spec.changes) → IsServed spec i j
+  pub windowed : Each (λ (bound : Bound). bound.frames + 1 ≤ spec.window) spec.bounds
+  pub kept : Each (λ (inv : Invariant). (i : ConfId) → i.0 < length spec.confs → has_source inv.from i ≡ true → IsKept spec inv i) spec.invariants
+  pub entered : Each (λ (pre : Precondition). holds_entering spec pre (place_of spec pre.conf pre.app.0) ≡ true) spec.preconditions
+
+-- A specification has no refusal exactly where it is accepted.
+pub record RefusesTheRest (spec : Parts) : Type 0 where
+  pub accepted : first_refusal spec ≡ None → Accepts spec
+  pub unrefused : Accepts spec → first_refusal spec ≡ None
+
+abbrev pub AcceptsWhereUnrefused : Type 0
+AcceptsWhereUnrefused = (spec : Parts) → IsSpec spec → RefusesTheRest spec
+
+-- What is shown exists in the specification, and the condition is false there.
+pub data IsBroken (spec : Parts) (shown : Shown) : Type 0 where
+  NeedOff : (c a : ℕ) → c < length spec.confs → a < length spec.apps → lacks_need spec (conf c) a ≡ true
+      → shown ≡ shown_at 1 c (other.App (app a)) → IsBroken spec shown
+  ManyStates : has_too_many_states spec ≡ true → shown ≡ shown_nowhere 2 (other.Count (states spec)) → IsBroken spec shown
+  NothingOn : (c : ℕ) → c < length spec.confs → is_empty spec (conf c) ≡ true → shown ≡ shown_at 3 c other.Nothing → IsBroken spec shown
+  SameAgain : (c d : ℕ) → c < length spec.confs → d < c → is_same spec (conf c) (conf d) ≡ true
+      → shown ≡ shown_at 3 c (other.Conf (conf d)) → IsBroken spec shown
+  Overloaded : (c p : ℕ) → c < length spec.confs → p < length spec.procs → is_overloaded spec (conf c) p ≡ true
+      → shown ≡ shown_at 4 c (other.Proc (proc p)) → IsBroken spec shown
+  Unmet : (asked : Demand) (c n : ℕ) → c < length spec.confs → n < environments spec → is_number_in_scope spec n ≡ true
+      → is_unmet spec asked (conf c) (numbered spec n) ≡ true
+      → shown ≡ shown_in (number_of_demand asked) c (numbered spec n) (target_shown spec asked (conf c) (numbered spec n)) → IsBroken spec shown
+  StartLeft : leaves_start spec ≡ true
+      → shown ≡ shown_in 8 spec.start.0 (opening_env spec) (other.Conf (choose spec spec.start (opening_env spec))) → IsBroken spec shown
+  BoundWanting : (i j : ℕ) → i < length spec.confs → j < length spec.confs → lacks_bound spec (conf i) j ≡ true
+      → shown ≡ shown_at 9 i (other.Least (conf j) (least spec (conf i) (conf j))) → IsBroken spec shown
+  WindowShort : has_short_window spec ≡ true → shown ≡ shown_nowhere 10 (other.Count (greatest_bound spec.bounds)) → IsBroken spec shown
+  InvariantBroken : (k i : ℕ) (inv : Invariant) → slice_get spec.invariants k ≡ Some inv → i < length spec.confs → breaks_from spec inv (conf i) ≡ true
+      → shown ≡ shown_at 11 i (other.Item k) → IsBroken spec shown
+  PreconditionBroken : (k : ℕ) (pre : Precondition) → slice_get spec.preconditions k ≡ Some pre → breaks_entering spec pre ≡ true
+      → shown ≡ shown_at 12 pre.conf.0 (other.Item k) → IsBroken spec shown
+
+abbrev pub ShownIsBroken : Type 0
+ShownIsBroken = (spec : Parts) (shown : Shown) → first_refusal spec ≡ Some shown → IsBroken spec shown

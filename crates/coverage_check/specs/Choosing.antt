@@ -1,0 +1,58 @@
+-- What the choice table has to give in each environment in scope.
+use Rattle.std.specs.Prelude.{◌≡◌, ℕ, ◌-◌, ◌^◌, Bool, not, ◌&&◌, ◌==◌, length, replicate, Option, Some, None, option_map}
+use Rattle.scram_types.specs.declared.ids.ConfId.{ConfId}
+use Rattle.scram_types.specs.declared.flights.Env.{Env}
+use Rattle.scram_types.specs.Specification.{Parts}
+use Rattle.choice_table.specs.Choices.{choose, has_rule, is_runnable}
+use Rattle.choice_table.specs.Numbering.{environments, is_number_in_scope, numbered}
+use Rattle.coverage_check.specs.declared.shown.Shown.{Shown}
+use Rattle.coverage_check.specs.declared.shown.Other.{Other}
+use Rattle.coverage_check.specs.declared.shown.Other.TheVariants as other
+use Rattle.coverage_check.specs.declared.choosing.Demand.{Demand}
+use Rattle.coverage_check.specs.declared.choosing.Demand.TheVariants as demand
+use Rattle.coverage_check.specs.Search.{first_below, shown_if}
+use Rattle.coverage_check.specs.Showing.{conf, shown_in}
+
+-- No rule fits; the target cannot run; another target is chosen from the target.
+abbrev pub is_unmet : Parts → Demand → ConfId → Env → Bool
+is_unmet spec demand.HasRule c v = not (has_rule spec c v)
+is_unmet spec demand.CanRun c v = not (is_runnable spec (choose spec c v) v)
+is_unmet spec demand.Stays c v = not ((choose spec (choose spec c v) v).0 == (choose spec c v).0)
+
+abbrev pub number_of_demand : Demand → ℕ
+number_of_demand demand.HasRule = 5
+number_of_demand demand.CanRun = 6
+number_of_demand demand.Stays = 7
+
+-- The target, where there is one to show.
+abbrev pub target_shown : Parts → Demand → ConfId → Env → Other
+target_shown spec demand.HasRule c v = other.Nothing
+target_shown spec demand.CanRun c v = other.Conf (choose spec c v)
+target_shown spec demand.Stays c v = other.Conf (choose spec c v)
+
+-- Environment number n, where it is in scope and configuration c does not meet a demand there.
+abbrev pub unmet_env_at : Parts → Demand → ConfId → ℕ → Option Env
+unmet_env_at spec asked c n = shown_if (is_number_in_scope spec n && is_unmet spec asked c (numbered spec n)) (numbered spec n)
+
+-- The first environment in scope in which configuration c does not meet a demand.
+abbrev pub first_unmet_env : Parts → Demand → ConfId → Option Env
+first_unmet_env spec asked c = first_below (unmet_env_at spec asked c) (environments spec)
+
+abbrev pub demand_refusal_of : Parts → Demand → ℕ → Option Shown
+demand_refusal_of spec asked c =
+    option_map (λ (v : Env). shown_in (number_of_demand asked) c v (target_shown spec asked (conf c) v)) (first_unmet_env spec asked (conf c))
+
+abbrev pub demand_refusal : Parts → Demand → Option Shown
+demand_refusal spec asked = first_below (demand_refusal_of spec asked) (length spec.confs)
+
+-- The environment that a flight opens in: all processors up, each factor at its first value.
+abbrev pub opening_env : Parts → Env
+opening_env spec = record { up = 2 ^ length spec.procs - 1; factors = replicate 6 0 }
+
+-- The start configuration is left at once.
+abbrev pub leaves_start : Parts → Bool
+leaves_start spec = not ((choose spec spec.start (opening_env spec)).0 == spec.start.0)
+
+abbrev pub start_refusal : Parts → Option Shown
+start_refusal spec =
+    shown_if (leaves_start spec) (shown_in 8 spec.start.0 (opening_env spec) (other.Conf (choose spec spec.start (opening_env spec))))

@@ -1,0 +1,90 @@
+-- What a configuration has to be by itself: whole, different from the others, and not too heavy.
+use Rattle.std.specs.Prelude.{ℕ, zero, suc, ◌+◌, Bool, true, false, not, ◌&&◌, ◌==◌, nat_lt, List, length, slice_get, Option, Some, None, if◌then◌else◌}
+use Rattle.std.specs.Option.{option_map_or, option_or}
+use Rattle.std.specs.List.{list_any}
+use Rattle.scram_types.specs.declared.ids.AppId.{AppId}
+use Rattle.scram_types.specs.declared.ids.ConfId.{ConfId}
+use Rattle.scram_types.specs.declared.specification.AppSpec.{AppSpec}
+use Rattle.scram_types.specs.declared.specification.ModeSpec.{ModeSpec}
+use Rattle.scram_types.specs.declared.specification.Place.{Place}
+use Rattle.scram_types.specs.declared.specification.Proc.{Proc}
+use Rattle.scram_types.specs.Specification.{Parts}
+use Rattle.choice_table.specs.Numbering.{states}
+use Rattle.dep_order.specs.Timetables.{is_on, mode_of, place_of}
+use Rattle.coverage_check.specs.declared.shown.Shown.{Shown}
+use Rattle.coverage_check.specs.declared.shown.Other.TheVariants as other
+use Rattle.coverage_check.specs.Search.{all_below, any_below, first_below, shown_if}
+use Rattle.coverage_check.specs.Showing.{app, conf, proc, shown_at, shown_nowhere}
+
+-- Some of these applications is off in configuration c.
+abbrev pub has_off : Parts → ConfId → List AppId → Bool
+has_off spec c needs = list_any (λ (needed : AppId). not (is_on spec c needed.0)) needs
+
+-- Something that application a needs is off in configuration c.
+abbrev pub has_off_need : Parts → ConfId → ℕ → Bool
+has_off_need spec c a = option_map_or (λ (needing : AppSpec). has_off spec c needing.needs) (slice_get spec.apps a) false
+
+-- Application a is on in configuration c, and something that it needs is off there.
+abbrev pub lacks_need : Parts → ConfId → ℕ → Bool
+lacks_need spec c a = is_on spec c a && has_off_need spec c a
+
+-- More environments are in scope than a table is looked through for.
+abbrev pub has_too_many_states : Parts → Bool
+has_too_many_states spec = nat_lt 16384 (states spec)
+
+-- No application is on in configuration c.
+abbrev pub is_empty : Parts → ConfId → Bool
+is_empty spec c = all_below (λ a. not (is_on spec c a)) 8
+
+abbrev pub is_same_place : Option Place → Option Place → Bool
+is_same_place None None = true
+is_same_place None (Some other) = false
+is_same_place (Some one) None = false
+is_same_place (Some one) (Some other) = one.mode.0 == other.mode.0 && one.proc.0 == other.proc.0
+
+-- Configurations c and d give every application the same mode and processor.
+abbrev pub is_same : Parts → ConfId → ConfId → Bool
+is_same spec c d = all_below (λ a. is_same_place (place_of spec c a) (place_of spec d a)) 8
+
+-- The load of application a on processor p in configuration c: none where it is not placed there.
+abbrev pub load_of : Parts → ConfId → ℕ → ℕ → ℕ
+load_of spec c p a =
+    if option_map_or (λ (place : Place). place.proc.0 == p) (place_of spec c a) false
+    then option_map_or (λ (listed : ModeSpec). listed.load) (mode_of spec c a) 0 else 0
+
+-- The load that the first n applications put on processor p.
+abbrev pub load_below : Parts → ConfId → ℕ → ℕ → ℕ
+load_below spec c p zero = 0
+load_below spec c p (suc n) = load_below spec c p n + load_of spec c p n
+
+abbrev pub capacity_of : Parts → ℕ → ℕ
+capacity_of spec p = option_map_or (λ (processor : Proc). processor.capacity) (slice_get spec.procs p) 0
+
+-- Configuration c loads processor p beyond its capacity.
+abbrev pub is_overloaded : Parts → ConfId → ℕ → Bool
+is_overloaded spec c p = nat_lt (capacity_of spec p) (load_below spec c p (length spec.apps))
+
+-- The first refusal of each of these four.
+abbrev pub need_refusal_in : Parts → ℕ → Option Shown
+need_refusal_in spec c = first_below (λ a. shown_if (lacks_need spec (conf c) a) (shown_at 1 c (other.App (app a)))) (length spec.apps)
+
+abbrev pub need_refusal : Parts → Option Shown
+need_refusal spec = first_below (need_refusal_in spec) (length spec.confs)
+
+abbrev pub state_refusal : Parts → Option Shown
+state_refusal spec = shown_if (has_too_many_states spec) (shown_nowhere 2 (other.Count (states spec)))
+
+abbrev pub twin_refusal_of : Parts → ℕ → Option Shown
+twin_refusal_of spec c = first_below (λ d. shown_if (is_same spec (conf c) (conf d)) (shown_at 3 c (other.Conf (conf d)))) c
+
+abbrev pub shape_refusal_of : Parts → ℕ → Option Shown
+shape_refusal_of spec c = if is_empty spec (conf c) then Some (shown_at 3 c other.Nothing) else twin_refusal_of spec c
+
+abbrev pub shape_refusal : Parts → Option Shown
+shape_refusal spec = first_below (shape_refusal_of spec) (length spec.confs)
+
+abbrev pub load_refusal_in : Parts → ℕ → Option Shown
+load_refusal_in spec c = first_below (λ p. shown_if (is_overloaded spec (conf c) p) (shown_at 4 c (other.Proc (proc p)))) (length spec.procs)
+
+abbrev pub load_refusal : Parts → Option Shown
+load_refusal spec = first_below (load_refusal_in spec) (length spec.confs)

@@ -1,0 +1,85 @@
+-- What invariants and preconditions have to hold.
+use Rattle.std.specs.Prelude.{◌≡◌, ℕ, ℤ, pos, Bool, true, false, not, ◌&&◌, ◌||◌, ◌==◌, int_le, length, slice_get, Option, Some, None}
+use Rattle.std.specs.Option.{option_map_or}
+use Rattle.scram_types.specs.declared.ids.ConfId.{ConfId}
+use Rattle.scram_types.specs.declared.specification.AppSpec.{AppSpec}
+use Rattle.scram_types.specs.declared.specification.Invariant.{Invariant}
+use Rattle.scram_types.specs.declared.specification.Place.{Place}
+use Rattle.scram_types.specs.declared.specification.Precondition.{Precondition}
+use Rattle.scram_types.specs.Specification.{Parts}
+use Rattle.choice_table.specs.Choices.{has_source}
+use Rattle.app_model.specs.Bounds.{after_init, during}
+use Rattle.dep_order.specs.Timetables.{place_of}
+use Rattle.coverage_check.specs.declared.shown.Shown.{Shown}
+use Rattle.coverage_check.specs.declared.shown.Other.TheVariants as other
+use Rattle.coverage_check.specs.Search.{all_below, first_below, shown_if}
+use Rattle.coverage_check.specs.Showing.{conf, shown_at}
+use Rattle.coverage_check.specs.Timing.{is_target}
+
+-- An interval from low to high holds a range.
+abbrev pub holds : ℤ → ℤ → ℤ × ℤ → Bool
+holds low high range = int_le low range.0 && int_le range.1 high
+
+abbrev pub kind_of : Parts → ℕ → ℕ
+kind_of spec a = option_map_or (λ (running : AppSpec). running.kind.0) (slice_get spec.apps a) 0
+
+-- An invariant's interval holds the range of its variable during an act in a mode: 1 run, 2 halt,
+-- 3 prepare, 4 init.
+abbrev pub holds_during : Parts → Invariant → ℕ → ℕ → Bool
+holds_during spec inv act mode = holds inv.least inv.greatest (during (kind_of spec inv.app.0) act mode inv.variable)
+
+-- It holds the zeros of an application that is off.
+abbrev pub holds_off : Invariant → Bool
+holds_off inv = holds inv.least inv.greatest (pos 0, pos 0)
+
+-- It holds what is seen while the source is still left: the acts init, run and halt in the source's mode.
+abbrev pub holds_leaving : Parts → Invariant → Option Place → Bool
+holds_leaving spec inv None = holds_off inv
+holds_leaving spec inv (Some place) =
+    holds_during spec inv 4 place.mode.0 && holds_during spec inv 1 place.mode.0 && holds_during spec inv 2 place.mode.0
+
+-- It holds what is seen while a target is reached, and left again for another.
+abbrev pub holds_reaching : Parts → Invariant → Option Place → Bool
+holds_reaching spec inv None = holds_off inv
+holds_reaching spec inv (Some place) = holds_during spec inv 3 place.mode.0 && holds_leaving spec inv (Some place)
+
+-- It holds what is seen on the way from i to j, if j is a possible target.
+abbrev pub holds_on_way : Parts → Invariant → ConfId → ℕ → Bool
+holds_on_way spec inv i j = not (is_target spec i j) || holds_reaching spec inv (place_of spec (conf j) inv.app.0)
+
+abbrev pub holds_reached : Parts → Invariant → ConfId → Bool
+holds_reached spec inv i = all_below (holds_on_way spec inv i) (length spec.confs)
+
+-- Invariant inv holds throughout whatever reconfigurations leave configuration i.
+abbrev pub holds_from : Parts → Invariant → ConfId → Bool
+holds_from spec inv i = holds_leaving spec inv (place_of spec i inv.app.0) && holds_reached spec inv i
+
+-- An invariant speaks of configuration i, and may not hold while it is left.
+abbrev pub breaks_from : Parts → Invariant → ConfId → Bool
+breaks_from spec inv i = has_source inv.from i && not (holds_from spec inv i)
+
+abbrev pub invariant_refusal_of : Parts → ℕ → Invariant → Option Shown
+invariant_refusal_of spec k inv = first_below (λ i. shown_if (breaks_from spec inv (conf i)) (shown_at 11 i (other.Item k))) (length spec.confs)
+
+abbrev pub invariant_refusal_at : Parts → ℕ → Option Shown
+invariant_refusal_at spec k = option_map_or (invariant_refusal_of spec k) (slice_get spec.invariants k) None
+
+abbrev pub invariant_refusal : Parts → Option Shown
+invariant_refusal spec = first_below (invariant_refusal_at spec) (length spec.invariants)
+
+-- A precondition's interval holds what its application has after its init phase, and zeros where it is off.
+abbrev pub holds_entering : Parts → Precondition → Option Place → Bool
+holds_entering spec pre None = holds pre.least pre.greatest (pos 0, pos 0)
+holds_entering spec pre (Some place) = holds pre.least pre.greatest (after_init (kind_of spec pre.app.0) place.mode.0 pre.variable)
+
+abbrev pub breaks_entering : Parts → Precondition → Bool
+breaks_entering spec pre = not (holds_entering spec pre (place_of spec pre.conf pre.app.0))
+
+abbrev pub precondition_refusal_of : Parts → ℕ → Precondition → Option Shown
+precondition_refusal_of spec k pre = shown_if (breaks_entering spec pre) (shown_at 12 pre.conf.0 (other.Item k))
+
+abbrev pub precondition_refusal_at : Parts → ℕ → Option Shown
+precondition_refusal_at spec k = option_map_or (precondition_refusal_of spec k) (slice_get spec.preconditions k) None
+
+abbrev pub precondition_refusal : Parts → Option Shown
+precondition_refusal spec = first_below (precondition_refusal_at spec) (length spec.preconditions)

@@ -1,0 +1,21 @@
+-- What a mission's environments keep.
+use Rattle.std.specs.Prelude.{◌≡◌, ℕ, ◌≤◌, true}
+use Rattle.scram_types.specs.Specification.{IsSpec, Parts}
+use Rattle.scram_types.specs.Scripts.{ScriptParts}
+use Rattle.choice_table.specs.Environments.{IsEnv, in_scope}
+use Rattle.fault_script.specs.Environments.{env_at}
+use Rattle.coverage_check.specs.Choosing.{opening_env}
+use Rattle.coverage_check.specs.Missions.{IsMission, MissionParts}
+
+-- The environment of frame f belongs to the specification and is in scope.
+pub record StaysInScope (spec : Parts) (script : ScriptParts) (f : ℕ) : Type 0 where
+  pub belongs : IsEnv spec (env_at spec script f)
+  pub scope : in_scope spec (env_at spec script f) ≡ true
+
+-- So does every frame's up to the number of frames, and the first one's is that which a flight opens in.
+pub record KeepsScope (spec : Parts) (script : ScriptParts) : Type 0 where
+  pub opens : env_at spec script 0 ≡ opening_env spec
+  pub stays : (f : ℕ) → f ≤ script.frames → StaysInScope spec script f
+
+abbrev pub MissionsKeepScope : Type 0
+MissionsKeepScope = (mission : MissionParts) → IsSpec mission.spec → IsMission mission → KeepsScope mission.spec mission.script

@@ -1,0 +1,12 @@
+pub mod Search
+pub mod Showing
+pub mod Form
+pub mod Choosing
+pub mod Timing
+pub mod TargetSets
+pub mod Holding
+pub mod Acceptance
+pub mod Answers
+pub mod Missions
+pub mod Refusals
+pub mod Keeping

@@ -1,0 +1,76 @@
+-- How long reconfigurations may take.
+use Rattle.std.specs.Prelude.{◌≡◌, ℕ, suc, ◌+◌, ◌*◌, ◌<◌, max, Bool, true, false, not, ◌&&◌, ◌||◌, ◌==◌, nat_le, nat_lt, List, [], ◌∷◌, length, Option, Some, None}
+use Rattle.std.specs.Option.{option_map_or}
+use Rattle.scram_types.specs.declared.ids.ConfId.{ConfId}
+use Rattle.scram_types.specs.declared.specification.Bound.{Bound}
+use Rattle.scram_types.specs.declared.specification.Policy.{Policy}
+use Rattle.scram_types.specs.declared.specification.Policy.TheVariants as policy
+use Rattle.scram_types.specs.Specification.{Parts, bound_in}
+use Rattle.choice_table.specs.Choices.{choose}
+use Rattle.choice_table.specs.Numbering.{bits_below, environments, is_number_in_scope, numbered}
+use Rattle.dep_order.specs.Chains.{greatest}
+use Rattle.dep_order.specs.Timetables.{halting_time, initialising_time, preparing_time}
+use Rattle.coverage_check.specs.declared.shown.Shown.{Shown}
+use Rattle.coverage_check.specs.declared.shown.Other.TheVariants as other
+use Rattle.coverage_check.specs.Search.{any_below, first_below, shown_if}
+use Rattle.coverage_check.specs.Showing.{conf, shown_at, shown_nowhere}
+
+-- Configuration j is chosen from i in environment number n, which is in scope.
+abbrev pub is_chosen_in : Parts → ConfId → ℕ → ℕ → Bool
+is_chosen_in spec i j n = is_number_in_scope spec n && (choose spec i (numbered spec n)).0 == j
+
+-- Configuration j is a possible target of i: chosen from i in some environment in scope.
+abbrev pub is_target : Parts → ConfId → ℕ → Bool
+is_target spec i j = any_below (is_chosen_in spec i j) (environments spec)
+
+-- The possible targets of configuration i, as bits.
+abbrev pub targets : Parts → ConfId → ℕ
+targets spec i = bits_below (is_target spec i) (length spec.confs)
+
+-- How many changes beyond the first a reconfiguration may see.
+abbrev pub further : Policy → ℕ → ℕ
+further policy.Retarget changes = changes
+further policy.Settle changes = suc changes
+
+-- The longest way from one target's choice to the next one's, over all configurations.
+abbrev pub slowest : Parts → ℕ
+slowest spec =
+    greatest (λ k. preparing_time spec (conf k) + initialising_time spec (conf k) + 1 + halting_time spec (conf k)) (length spec.confs)
+
+-- The least bound that serves a reconfiguration from i to j, in frames.
+abbrev pub least : Parts → ConfId → ConfId → ℕ
+least spec i j = 1 + halting_time spec i + further spec.policy spec.changes * slowest spec + preparing_time spec j + initialising_time spec j
+
+-- A reconfiguration that ends where it began can come, where anything changes further.
+abbrev pub can_return : Parts → Bool
+can_return spec = nat_lt 0 (further spec.policy spec.changes)
+
+-- A bound from i to j is given and serves.
+abbrev pub is_bounded : Parts → ConfId → ConfId → Bool
+is_bounded spec i j = option_map_or (λ (t : ℕ). nat_le (least spec i j) t) (bound_in spec.bounds i.0 j.0) false
+
+-- Where j is a possible target of i, a bound is asked for, but from i to i only where i can be returned to.
+abbrev pub lacks_bound_to : Parts → ConfId → ConfId → Bool
+lacks_bound_to spec i j = (not (i.0 == j.0) || can_return spec) && not (is_bounded spec i j)
+
+abbrev pub lacks_bound : Parts → ConfId → ℕ → Bool
+lacks_bound spec i j = is_target spec i j && lacks_bound_to spec i (conf j)
+
+abbrev pub bound_refusal_of : Parts → ℕ → Option Shown
+bound_refusal_of spec i =
+    first_below (λ j. shown_if (lacks_bound spec (conf i) j) (shown_at 9 i (other.Least (conf j) (least spec (conf i) (conf j))))) (length spec.confs)
+
+abbrev pub bound_refusal : Parts → Option Shown
+bound_refusal spec = first_below (bound_refusal_of spec) (length spec.confs)
+
+-- The greatest bound that is given, and 0 where none is.
+abbrev pub greatest_bound : List Bound → ℕ
+greatest_bound [] = 0
+greatest_bound (bound ∷ bounds) = max bound.frames (greatest_bound bounds)
+
+-- The window of the failure assumption does not hold the longest reconfiguration and the frame after it.
+abbrev pub has_short_window : Parts → Bool
+has_short_window spec = nat_lt spec.window (greatest_bound spec.bounds + 1)
+
+abbrev pub window_refusal : Parts → Option Shown
+window_refusal spec = shown_if (has_short_window spec) (shown_nowhere 10 (other.Count (greatest_bound spec.bounds)))

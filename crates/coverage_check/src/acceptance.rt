@@ -1,0 +1,146 @@
+//! Acceptance: all conditions in their order.
+
+ghost use Rattle.std.specs.Prelude.{◌≡◌, IfErr, IfOk, None, OnOk};
+ghost use Rattle.coverage_check.specs.Acceptance.{AcceptsWhereUnrefused, ShownIsBroken, choice_refusal, first_refusal, form_refusal, range_refusal, time_refusal};
+ghost use Rattle.coverage_check.specs.Answers.{IsRefusal};
+ghost use Rattle.coverage_check.specs.TargetSets.{HasAllTargets};
+
+use crate::choosing::{Demand, refuse_demand, refuse_start};
+use crate::form::{refuse_load, refuse_need, refuse_shape, refuse_states};
+use crate::holding::{refuse_invariant, refuse_precondition};
+use crate::shown::Shown;
+use crate::target_sets::{TargetSet, find_all_targets};
+use crate::timing::{refuse_bound, refuse_window};
+use scram_types::Spec;
+use std::alloc::Global;
+
+/// A specification that is accepted: all twelve conditions hold of it.
+#[derive(Drop)]
+pub struct Accepted {
+    spec: Spec,
+}
+
+impl std::marker::Model for Accepted {
+    ghost use Rattle.scram_types.specs.Specification.{Parts};
+    ghost use Rattle.coverage_check.specs.Acceptance.{Accepts};
+
+    ghost Value = { Parts };
+
+    ghost view = { λ a. a.spec };
+
+    ghost invariant = { λ a. Accepts a.spec };
+}
+
+impl Accepted {
+    ghost use Rattle.std.specs.Prelude.{◌≡◌};
+
+    /// The specification. It takes no memory.
+    pub fn spec(&self) -> &Spec
+        ensures { result.now ≡ self.now }
+    {
+        &self.spec
+    }
+}
+
+/// Why a specification does not come back accepted; it comes back as it was.
+#[derive(Drop)]
+pub enum AcceptError {
+    /// A condition does not hold; what is shown is the first place of the first such condition.
+    NotAccepted(Spec, Shown),
+    NoMemory(Spec),
+}
+
+/// Accepts a specification where all twelve conditions hold.
+///
+/// # Errors
+///
+/// The first condition that does not hold, at its least configuration, then its least environment by
+/// number, then its least other value; of invariants and preconditions the first one, and then the least
+/// configuration. Or want of memory. The specification comes back in both.
+#[tactic(auto, using(crate::proofs::Accepting::accepted))]
+pub fn accept(_alloc: Global, spec: Spec) -> Result<Accepted, AcceptError>
+    ensures accepted { IfOk result (λ accepted. accepted ≡ spec) }
+    ensures holds { OnOk result (first_refusal spec ≡ None) }
+    ensures refused { IfErr result (λ refusal. IsRefusal spec refusal) }
+{
+    match first_refusal(&spec) {
+        None => Ok(Accepted { spec }),
+        Some(shown) => Err(AcceptError::NotAccepted(spec, shown)),
+    }
+}
+
+fn first_refusal(spec: &Spec) -> Option<Shown>
+    ensures { result ≡ first_refusal spec.now }
+{
+    if let Some(shown) = refuse_form(spec) {
+        return Some(shown);
+    }
+    if let Some(shown) = refuse_choice(spec) {
+        return Some(shown);
+    }
+    let sets = find_all_targets(spec);
+    if let Some(shown) = refuse_time(spec, &sets) {
+        return Some(shown);
+    }
+    refuse_ranges(spec, &sets)
+}
+
+fn refuse_form(spec: &Spec) -> Option<Shown>
+    ensures { result ≡ form_refusal spec.now }
+{
+    if let Some(shown) = refuse_need(spec) {
+        return Some(shown);
+    }
+    if let Some(shown) = refuse_states(spec) {
+        return Some(shown);
+    }
+    if let Some(shown) = refuse_shape(spec) {
+        return Some(shown);
+    }
+    refuse_load(spec)
+}
+
+fn refuse_choice(spec: &Spec) -> Option<Shown>
+    ensures { result ≡ choice_refusal spec.now }
+{
+    if let Some(shown) = refuse_demand(spec, Demand::HasRule) {
+        return Some(shown);
+    }
+    if let Some(shown) = refuse_demand(spec, Demand::CanRun) {
+        return Some(shown);
+    }
+    if let Some(shown) = refuse_demand(spec, Demand::Stays) {
+        return Some(shown);
+    }
+    refuse_start(spec)
+}
+
+fn refuse_time(spec: &Spec, sets: &[TargetSet; 12]) -> Option<Shown>
+    requires { HasAllTargets spec.now sets.now }
+    ensures { result ≡ time_refusal spec.now }
+{
+    if let Some(shown) = refuse_bound(spec, sets) {
+        return Some(shown);
+    }
+    refuse_window(spec)
+}
+
+fn refuse_ranges(spec: &Spec, sets: &[TargetSet; 12]) -> Option<Shown>
+    requires { HasAllTargets spec.now sets.now }
+    ensures { result ≡ range_refusal spec.now }
+{
+    if let Some(shown) = refuse_invariant(spec, sets) {
+        return Some(shown);
+    }
+    refuse_precondition(spec)
+}
+
+/// A specification has nothing to refuse exactly where all conditions hold.
+pub fn accepts_where_unrefused()
+    ensures { AcceptsWhereUnrefused }
+{}
+
+/// What a refusal shows exists in the specification, and the condition is false there.
+pub fn shown_is_broken()
+    ensures { ShownIsBroken }
+{}

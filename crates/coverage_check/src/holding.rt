@@ -1,0 +1,203 @@
+//! What invariants and preconditions have to hold.
+
+ghost use Rattle.std.specs.Prelude.{◌≡◌, ◌<◌, length};
+ghost use Rattle.choice_table.specs.Choices.{has_source};
+ghost use Rattle.coverage_check.specs.Holding.{breaks_entering, breaks_from, holds, holds_during, holds_from, holds_leaving, holds_off, holds_on_way, holds_reached, holds_reaching, invariant_refusal, invariant_refusal_at, invariant_refusal_of, kind_of, precondition_refusal, precondition_refusal_at, precondition_refusal_of};
+ghost use Rattle.coverage_check.specs.TargetSets.{HasAllTargets, HasTargets};
+
+use crate::places::{count_confs, place_of};
+use crate::shown::{Other, Shown};
+use crate::target_sets::TargetSet;
+use app_model::{after_init, during};
+use scram_types::{AppId, ConfId, Invariant, KindId, Mode, Place, Precondition, Spec};
+
+// The first invariant that may not hold throughout a reconfiguration, with its least source.
+pub(crate) fn refuse_invariant(spec: &Spec, sets: &[TargetSet; 12]) -> Option<Shown>
+    requires { HasAllTargets spec.now sets.now }
+    ensures { result ≡ invariant_refusal spec.now }
+{
+    for k in 0..spec.invariants.items().len() as u32 {
+        let shown = refuse_invariant_at(spec, sets, k);
+        if shown.is_some() {
+            return shown;
+        }
+    }
+    None
+}
+
+fn refuse_invariant_at(spec: &Spec, sets: &[TargetSet; 12], k: u32) -> Option<Shown>
+    requires { HasAllTargets spec.now sets.now }
+    ensures { result ≡ invariant_refusal_at spec.now k }
+{
+    match spec.invariants.items().get(k as usize) {
+        Some(inv) => refuse_invariant_of(spec, sets, k, inv),
+        None => None,
+    }
+}
+
+fn refuse_invariant_of(
+    spec: &Spec,
+    sets: &[TargetSet; 12],
+    k: u32,
+    inv: &Invariant,
+) -> Option<Shown>
+    requires { HasAllTargets spec.now sets.now }
+    ensures { result ≡ invariant_refusal_of spec.now k inv.now }
+{
+    for i in 0..count_confs(spec) {
+        if breaks_from(spec, &sets[usize::from(i)], inv, i) {
+            return Some(Shown::at(11, i, Other::Item(k)));
+        }
+    }
+    None
+}
+
+fn breaks_from(spec: &Spec, set: &TargetSet, inv: &Invariant, i: u8) -> bool
+    requires { HasTargets spec.now i set.now }
+    ensures { result ≡ breaks_from spec.now inv.now (record { 0 = i }) }
+{
+    speaks_of(inv.from, i) && !holds_from(spec, set, inv, i)
+}
+
+fn speaks_of(from: Option<ConfId>, i: u8) -> bool
+    ensures { result ≡ has_source from (record { 0 = i }) }
+{
+    match from {
+        Some(from) => from.0 == i,
+        None => true,
+    }
+}
+
+fn holds_from(spec: &Spec, set: &TargetSet, inv: &Invariant, i: u8) -> bool
+    requires { HasTargets spec.now i set.now }
+    ensures { result ≡ holds_from spec.now inv.now (record { 0 = i }) }
+{
+    holds_leaving(spec, inv, place_of(spec, ConfId(i), inv.app)) && holds_reached(spec, set, inv, i)
+}
+
+// Whether the interval holds what is seen on the way to each possible target.
+fn holds_reached(spec: &Spec, set: &TargetSet, inv: &Invariant, i: u8) -> bool
+    requires { HasTargets spec.now i set.now }
+    ensures { result ≡ holds_reached spec.now inv.now (record { 0 = i }) }
+{
+    for j in 0..count_confs(spec) {
+        if !holds_on_way(spec, set, inv, i, j) {
+            return false;
+        }
+    }
+    true
+}
+
+fn holds_on_way(spec: &Spec, set: &TargetSet, inv: &Invariant, i: u8, j: u8) -> bool
+    requires set { HasTargets spec.now i set.now }
+    requires inside { j < length spec.now.confs }
+    ensures { result ≡ holds_on_way spec.now inv.now (record { 0 = i }) j }
+{
+    !set.has(j) || holds_reaching(spec, inv, place_of(spec, ConfId(j), inv.app))
+}
+
+// Whether it holds what is seen while the application leaves its mode, or zeros where it is off.
+fn holds_leaving(spec: &Spec, inv: &Invariant, place: Option<Place>) -> bool
+    ensures { result ≡ holds_leaving spec.now inv.now place }
+{
+    match place {
+        Some(place) => {
+            holds_during(spec, inv, 4, place.mode)
+                && holds_during(spec, inv, 1, place.mode)
+                && holds_during(spec, inv, 2, place.mode)
+        }
+        None => holds_off(inv),
+    }
+}
+
+// Whether it holds what is seen while the application reaches its mode, and leaves it again.
+fn holds_reaching(spec: &Spec, inv: &Invariant, place: Option<Place>) -> bool
+    ensures { result ≡ holds_reaching spec.now inv.now place }
+{
+    match place {
+        Some(reached) => holds_during(spec, inv, 3, reached.mode)
+            && holds_leaving(spec, inv, place),
+        None => holds_off(inv),
+    }
+}
+
+// Whether it holds the range of its variable during an act, by the act's status number, in a mode.
+fn holds_during(spec: &Spec, inv: &Invariant, act: u8, mode: Mode) -> bool
+    ensures { result ≡ holds_during spec.now inv.now act mode.0 }
+{
+    holds(
+        inv.least,
+        inv.greatest,
+        during(kind_of(spec, inv.app), act, mode, inv.variable),
+    )
+}
+
+fn holds_off(inv: &Invariant) -> bool
+    ensures { result ≡ holds_off inv.now }
+{
+    holds(inv.least, inv.greatest, (0, 0))
+}
+
+// Whether an interval from `low` to `high` holds a range.
+fn holds(low: i64, high: i64, range: (i64, i64)) -> bool
+    ensures { result ≡ holds low high range }
+{
+    low <= range.0 && range.1 <= high
+}
+
+fn kind_of(spec: &Spec, a: AppId) -> KindId
+    ensures { result.0 ≡ kind_of spec.now a.0 }
+{
+    match spec.apps.items().get(usize::from(a.0)) {
+        Some(app) => app.kind,
+        None => KindId(0),
+    }
+}
+
+// The first precondition that may not hold as its configuration begins to run.
+pub(crate) fn refuse_precondition(spec: &Spec) -> Option<Shown>
+    ensures { result ≡ precondition_refusal spec.now }
+{
+    for k in 0..spec.preconditions.items().len() as u32 {
+        let shown = refuse_precondition_at(spec, k);
+        if shown.is_some() {
+            return shown;
+        }
+    }
+    None
+}
+
+fn refuse_precondition_at(spec: &Spec, k: u32) -> Option<Shown>
+    ensures { result ≡ precondition_refusal_at spec.now k }
+{
+    match spec.preconditions.items().get(k as usize) {
+        Some(pre) => refuse_precondition_of(spec, k, pre),
+        None => None,
+    }
+}
+
+fn refuse_precondition_of(spec: &Spec, k: u32, pre: &Precondition) -> Option<Shown>
+    ensures { result ≡ precondition_refusal_of spec.now k pre.now }
+{
+    if breaks_entering(spec, pre) {
+        Some(Shown::at(12, pre.conf.0, Other::Item(k)))
+    } else {
+        None
+    }
+}
+
+fn breaks_entering(spec: &Spec, pre: &Precondition) -> bool
+    ensures { result ≡ breaks_entering spec.now pre.now }
+{
+    match place_of(spec, pre.conf, pre.app) {
+        Some(place) => {
+            let kind = kind_of(spec, pre.app);
+            !holds(
+                pre.least,
+                pre.greatest,
+                after_init(kind, place.mode, pre.variable),
+            )
+        }
+        None => !holds(pre.least, pre.greatest, (0, 0)),
+    }
+}

@@ -1,0 +1,82 @@
+//! Missions: an accepted specification with a script that keeps to its failure assumption.
+
+ghost use Rattle.coverage_check.specs.Keeping.{MissionsKeepScope};
+
+use crate::acceptance::Accepted;
+use fault_script::{Outside, within};
+use scram_types::{Script, Spec};
+
+/// An accepted specification, and a script that fits it and keeps to its failure assumption.
+#[derive(Drop)]
+pub struct Mission {
+    accepted: Accepted,
+    script: Script,
+}
+
+impl std::marker::Model for Mission {
+    ghost use Rattle.coverage_check.specs.Missions.{IsMission, MissionParts};
+
+    ghost Value = { MissionParts };
+
+    ghost view = { λ m. record { spec = m.accepted; script = m.script } };
+
+    ghost invariant = { λ m. IsMission (record { spec = m.accepted; script = m.script }) };
+}
+
+/// Why there is no mission: the first frame with which the script leaves the failure assumption. What was
+/// handed in comes back.
+#[derive(Drop)]
+pub struct NotWithin {
+    pub accepted: Accepted,
+    pub script: Script,
+    pub outside: Outside,
+}
+
+impl Mission {
+    ghost use Rattle.std.specs.Prelude.{◌≡◌, IfErr, IfOk, None, OnOk};
+    ghost use Rattle.fault_script.specs.Assumption.{first_outside};
+    ghost use Rattle.fault_script.specs.Fits.{Fits};
+    ghost use Rattle.coverage_check.specs.Missions.{mission_of};
+    ghost use Rattle.coverage_check.specs.Refusals.{IsNotWithin};
+
+    /// The mission of an accepted specification and a script that fits it. It takes no memory.
+    ///
+    /// # Errors
+    ///
+    /// What `within` refuses; both come back.
+    pub fn new(accepted: Accepted, script: Script) -> Result<Mission, NotWithin>
+        requires { Fits accepted script }
+        ensures mission { IfOk result (λ mission. mission ≡ mission_of accepted script) }
+        ensures within { OnOk result (first_outside accepted script ≡ None) }
+        ensures outside { IfErr result (λ refused. IsNotWithin accepted script refused) }
+    {
+        match within(accepted.spec(), &script) {
+            Ok(()) => Ok(Mission { accepted, script }),
+            Err(outside) => Err(NotWithin {
+                accepted,
+                script,
+                outside,
+            }),
+        }
+    }
+
+    /// The specification. It takes no memory.
+    pub fn spec(&self) -> &Spec
+        ensures { result.now ≡ self.now.spec }
+    {
+        self.accepted.spec()
+    }
+
+    /// The script. It takes no memory.
+    pub fn script(&self) -> &Script
+        ensures { result.now ≡ self.now.script }
+    {
+        &self.script
+    }
+}
+
+/// In each frame of a mission, that after the last one included, the environment is one of the
+/// specification's and in scope; the first frame's is that which acceptance asks the start for.
+pub fn missions_keep_scope()
+    ensures { MissionsKeepScope }
+{}

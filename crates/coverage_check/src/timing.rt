@@ -1,0 +1,124 @@
+//! How long reconfigurations may take.
+
+ghost use Rattle.std.specs.Prelude.{◌≡◌, ◌≤◌, ◌+◌};
+ghost use Rattle.dep_order.specs.Timetables.{halting_time, initialising_time, preparing_time};
+ghost use Rattle.coverage_check.specs.TargetSets.{HasAllTargets, HasTargets};
+ghost use Rattle.coverage_check.specs.Timing.{bound_refusal, bound_refusal_of, can_return, further, greatest_bound, is_bounded, lacks_bound_to, least, slowest, window_refusal};
+
+use crate::places::count_confs;
+use crate::shown::{Other, Shown};
+use crate::target_sets::TargetSet;
+use dep_order::timetable;
+use scram_types::{Bound, ConfId, Policy, Spec};
+
+/// The least bound, in frames, that serves a reconfiguration from configuration `i` to `j`: one frame, what
+/// `i` takes to halt, what `j` takes to prepare and to initialise, and for each further change of the
+/// environment the longest way from one target's choice to the next one's. It takes no memory.
+pub fn least(spec: &Spec, i: ConfId, j: ConfId) -> u32
+    ensures { result ≡ least spec.now i j }
+{
+    let target = timetable(spec, j);
+    let before = 1 + u32::from(timetable(spec, i).h) + further(spec) * slowest(spec);
+    before + u32::from(target.p) + u32::from(target.i)
+}
+
+// How many changes beyond the first a reconfiguration may see.
+fn further(spec: &Spec) -> u32
+    ensures value { result ≡ further spec.now.policy spec.now.changes }
+    ensures most { result ≤ 256 }
+{
+    match spec.policy {
+        Policy::Retarget => u32::from(spec.changes),
+        Policy::Settle => u32::from(spec.changes) + 1,
+    }
+}
+
+// The longest way from one target's choice to the next one's, in frames.
+fn slowest(spec: &Spec) -> u32
+    ensures value { result ≡ slowest spec.now }
+    ensures most { result ≤ 196606 }
+{
+    let mut slowest = 0;
+    for k in 0..count_confs(spec) {
+        slowest = way(spec, ConfId(k)).max(slowest);
+    }
+    slowest
+}
+
+fn way(spec: &Spec, k: ConfId) -> u32
+    ensures value { result ≡ preparing_time spec.now k + initialising_time spec.now k + 1 + halting_time spec.now k }
+    ensures most { result ≤ 196606 }
+{
+    let times = timetable(spec, k);
+    u32::from(times.p) + u32::from(times.i) + 1 + u32::from(times.h)
+}
+
+// A pair of configurations with too small a bound, or with none.
+pub(crate) fn refuse_bound(spec: &Spec, sets: &[TargetSet; 12]) -> Option<Shown>
+    requires { HasAllTargets spec.now sets.now }
+    ensures { result ≡ bound_refusal spec.now }
+{
+    for i in 0..count_confs(spec) {
+        let shown = refuse_bound_of(spec, &sets[usize::from(i)], i);
+        if shown.is_some() {
+            return shown;
+        }
+    }
+    None
+}
+
+fn refuse_bound_of(spec: &Spec, set: &TargetSet, i: u8) -> Option<Shown>
+    requires { HasTargets spec.now i set.now }
+    ensures { result ≡ bound_refusal_of spec.now i }
+{
+    for j in 0..count_confs(spec) {
+        if set.has(j) && lacks_bound_to(spec, ConfId(i), ConfId(j)) {
+            let frames = least(spec, ConfId(i), ConfId(j));
+            return Some(Shown::at(9, i, Other::Least(ConfId(j), frames)));
+        }
+    }
+    None
+}
+
+fn lacks_bound_to(spec: &Spec, i: ConfId, j: ConfId) -> bool
+    ensures { result ≡ lacks_bound_to spec.now i j }
+{
+    (i.0 != j.0 || can_return(spec)) && !is_bounded(spec, i, j)
+}
+
+fn can_return(spec: &Spec) -> bool
+    ensures { result ≡ can_return spec.now }
+{
+    0 < further(spec)
+}
+
+fn is_bounded(spec: &Spec, i: ConfId, j: ConfId) -> bool
+    ensures { result ≡ is_bounded spec.now i j }
+{
+    match spec.bound(i, j) {
+        Some(frames) => least(spec, i, j) <= frames,
+        None => false,
+    }
+}
+
+// A window that does not hold the longest reconfiguration and one frame more.
+pub(crate) fn refuse_window(spec: &Spec) -> Option<Shown>
+    ensures { result ≡ window_refusal spec.now }
+{
+    let greatest = greatest_bound(spec.bounds.items());
+    if u64::from(spec.window) < u64::from(greatest) + 1 {
+        Some(Shown::nowhere(10, Other::Count(greatest)))
+    } else {
+        None
+    }
+}
+
+fn greatest_bound(bounds: &[Bound]) -> u32
+    ensures { result ≡ greatest_bound bounds.now }
+{
+    let mut greatest = 0;
+    for bound in bounds {
+        greatest = bound.frames.max(greatest);
+    }
+    greatest
+}

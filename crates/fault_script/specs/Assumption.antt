@@ -1,0 +1,76 @@
+-- The failure assumption: how many processors are down, and how often the environment changes.
+use Rattle.std.specs.Prelude.{◌≡◌, ℕ, zero, suc, ◌+◌, ◌-◌, ◌<◌, ◌≤◌, Bool, true, false, not, ◌&&◌, ◌==◌, nat_lt, length, Option, Some, None, Result, Ok, Err, if◌then◌else◌}
+use Rattle.std.specs.Option.{option_or}
+use Rattle.std.specs.Str.{bytes_eq}
+use Rattle.scram_types.specs.declared.flights.Env.{Env}
+use Rattle.scram_types.specs.Scripts.{ScriptParts}
+use Rattle.scram_types.specs.Specification.{Parts}
+use Rattle.fault_script.specs.declared.assumption.Outside.{Outside}
+use Rattle.fault_script.specs.declared.assumption.OutsideKind.TheVariants as kind
+use Rattle.fault_script.specs.Times.{is_up}
+use Rattle.fault_script.specs.Environments.{env_at}
+use Rattle.fault_script.specs.Fits.{Fits}
+
+-- How many of the first n processors are down in frame f.
+abbrev pub down_below : ScriptParts → ℕ → ℕ → ℕ
+down_below script f zero = 0
+down_below script f (suc n) = down_below script f n + (if is_up script n f then 0 else 1)
+
+-- More processors are down in frame f than are assumed ever to be.
+abbrev pub has_too_many_down : Parts → ScriptParts → ℕ → Bool
+has_too_many_down spec script f = nat_lt spec.halts (down_below script f (length spec.procs))
+
+abbrev pub is_same_env : Env → Env → Bool
+is_same_env v w = v.up == w.up && bytes_eq v.factors w.factors
+
+-- The environment of frame f differs from that of the frame before; frame 0 has none before.
+abbrev pub is_change_frame : Parts → ScriptParts → ℕ → Bool
+is_change_frame spec script zero = false
+is_change_frame spec script (suc f) = not (is_same_env (env_at spec script f) (env_at spec script (suc f)))
+
+-- How many of the frames up to f are change frames.
+abbrev pub changes_upto : Parts → ScriptParts → ℕ → ℕ
+changes_upto spec script zero = 0
+changes_upto spec script (suc f) = changes_upto spec script f + (if is_change_frame spec script (suc f) then 1 else 0)
+
+-- How many change frames a window that ends with frame f holds. It may begin before the first frame.
+abbrev pub changes_in_window : Parts → ScriptParts → ℕ → ℕ
+changes_in_window spec script f = changes_upto spec script f - changes_upto spec script (f - spec.window)
+
+-- Frame f is a change frame, and one too many for the window that ends with it.
+abbrev pub is_change_too_many : Parts → ScriptParts → ℕ → Bool
+is_change_too_many spec script f = is_change_frame spec script f && nat_lt (spec.changes + 1) (changes_in_window spec script f)
+
+-- Too many processors are down in the frame after f, which is asked after up to the number of frames: what
+-- halts in frame f is down in the next one.
+abbrev pub brings_too_many_down : Parts → ScriptParts → ℕ → Bool
+brings_too_many_down spec script f = not (f == script.frames) && has_too_many_down spec script (f + 1)
+
+-- How frame f leaves the assumption.
+abbrev pub outside_at : Parts → ScriptParts → ℕ → Option Outside
+outside_at spec script f =
+    if brings_too_many_down spec script f then Some (record { frame = f; kind = kind.Halts })
+    else (if is_change_too_many spec script f then Some (record { frame = f; kind = kind.Changes }) else None)
+
+-- The first of the first n frames that leaves the assumption.
+abbrev pub outside_below : Parts → ScriptParts → ℕ → Option Outside
+outside_below spec script zero = None
+outside_below spec script (suc n) = option_or (outside_below spec script n) (outside_at spec script n)
+
+-- The first frame from 0 to the number of frames that leaves the assumption.
+abbrev pub first_outside : Parts → ScriptParts → Option Outside
+first_outside spec script = outside_below spec script (suc script.frames)
+
+-- A script keeps to the failure assumption. A window of frames holds at most one change and the changes
+-- that are assumed beyond it; it may stick out of the script at either end.
+pub record IsWithin (spec : Parts) (script : ScriptParts) : Type 0 where
+  pub scope : (f : ℕ) → f ≤ script.frames → down_below script f (length spec.procs) ≤ spec.halts
+  pub few : (f : ℕ) → f ≤ script.frames → changes_upto spec script f ≤ changes_upto spec script (f - spec.window) + spec.changes + 1
+
+-- A script is outside nowhere exactly where it is within.
+pub record LeavesNowhere (spec : Parts) (script : ScriptParts) : Type 0 where
+  pub within : first_outside spec script ≡ None → IsWithin spec script
+  pub nowhere : IsWithin spec script → first_outside spec script ≡ None
+
+abbrev pub WithinWhereNowhereOutside : Type 0
+WithinWhereNowhereOutside = (spec : Parts) (script : ScriptParts) → LeavesNowhere spec script

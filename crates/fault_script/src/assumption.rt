@@ -1,0 +1,112 @@
+//! The failure assumption: how much may go wrong at once, and how often the environment may change.
+
+ghost use Rattle.std.specs.Prelude.{◌≡◌, ◌≤◌, ◌+◌, ◌&&◌, nat_lt, None, Some, IfErr, OnOk};
+ghost use Rattle.fault_script.specs.Fits.{Fits};
+ghost use Rattle.fault_script.specs.Assumption.{WithinWhereNowhereOutside, brings_too_many_down, down_below, first_outside, has_too_many_down, outside_at};
+ghost use Rattle.fault_script.specs.Walks.{IsWindow};
+
+use crate::times::up_at;
+use crate::walks::{Window, next_window, opening_window};
+use scram_types::{ProcId, Script, Spec};
+
+/// In which way a script leaves the failure assumption: too many processors are down, or the
+/// environment changes too often.
+#[derive(Clone, Copy, Debug, PartialEq, Eq)]
+pub enum OutsideKind {
+    Halts,
+    Changes,
+}
+
+/// The first frame with which a script leaves the failure assumption.
+#[derive(Clone, Copy, Debug, PartialEq, Eq)]
+pub struct Outside {
+    pub frame: u32,
+    pub kind: OutsideKind,
+}
+
+/// Whether a script that fits the specification keeps to its failure assumption: in no frame, that
+/// after the last one included, are more than `halts` processors down, and any `window` consecutive
+/// frames hold at most `changes + 1` frames whose environment differs from that of the frame before.
+/// A window may begin before the first frame. It takes no memory.
+///
+/// # Errors
+///
+/// The first frame that leaves the assumption: one with a halt that brings too many processors down,
+/// or else one that changes the environment once too often for the window that ends with it.
+pub fn within(spec: &Spec, script: &Script) -> Result<(), Outside>
+    requires { Fits spec.now script.now }
+    ensures within { OnOk result (first_outside spec.now script.now ≡ None) }
+    ensures outside { IfErr result (λ outside. first_outside spec.now script.now ≡ Some outside) }
+{
+    let mut window = opening_window(spec, script);
+    for frame in 0..script.frames {
+        if let Some(outside) = outside_at(spec, script, &window, frame) {
+            return Err(outside);
+        }
+        window = next_window(spec, script, &window, frame);
+    }
+    match outside_at(spec, script, &window, script.frames) {
+        Some(outside) => Err(outside),
+        None => Ok(()),
+    }
+}
+
+// How a frame leaves the assumption, with the window that ends with it.
+fn outside_at(spec: &Spec, script: &Script, window: &Window, frame: u32) -> Option<Outside>
+    requires window { IsWindow spec.now script.now frame window.now }
+    requires frame { frame ≤ script.now.frames }
+    ensures { result ≡ outside_at spec.now script.now frame }
+{
+    if brings_too_many_down(spec, script, frame) {
+        return Some(Outside {
+            frame,
+            kind: OutsideKind::Halts,
+        });
+    }
+    if is_change_too_many(spec, window) {
+        return Some(Outside {
+            frame,
+            kind: OutsideKind::Changes,
+        });
+    }
+    None
+}
+
+// Whether too many processors are down in the frame after this one.
+fn brings_too_many_down(spec: &Spec, script: &Script, frame: u32) -> bool
+    requires { frame ≤ script.now.frames }
+    ensures { result ≡ brings_too_many_down spec.now script.now frame }
+{
+    frame != script.frames && has_too_many_down(spec, script, frame + 1)
+}
+
+fn has_too_many_down(spec: &Spec, script: &Script, frame: u32) -> bool
+    ensures { result ≡ has_too_many_down spec.now script.now frame }
+{
+    spec.halts < count_down(script, spec.procs.items().len() as u8, frame)
+}
+
+// How many of the first `processors` processors are down in a frame.
+fn count_down(script: &Script, processors: u8, frame: u32) -> u8
+    ensures value { result ≡ down_below script.now frame processors }
+    ensures most { result ≤ processors }
+{
+    let mut down = 0;
+    for p in 0..processors {
+        if !up_at(script, ProcId(p), frame) {
+            down += 1;
+        }
+    }
+    down
+}
+
+fn is_change_too_many(spec: &Spec, window: &Window) -> bool
+    ensures { result ≡ (window.now.changed && nat_lt (spec.now.changes + 1) window.now.changes) }
+{
+    window.changed && u32::from(spec.changes) + 1 < window.changes
+}
+
+/// A script keeps to the failure assumption exactly where no frame leaves it.
+pub fn within_where_nowhere_outside()
+    ensures { WithinWhereNowhereOutside }
+{}

@@ -1,0 +1,168 @@
+//! Going along the frames of a script once, with the changes of a window counted.
+
+ghost use Rattle.std.specs.Prelude.{◌≡◌, ◌+◌, ◌<◌, length, not};
+ghost use Rattle.fault_script.specs.Assumption.{is_same_env};
+ghost use Rattle.fault_script.specs.Environments.{bits_below};
+ghost use Rattle.fault_script.specs.Fits.{Fits};
+ghost use Rattle.fault_script.specs.Times.{is_up};
+ghost use Rattle.fault_script.specs.Walks.{IsTaken, IsWalk, IsWhole, IsWindow, changed_values, newest, values_taken};
+
+use crate::times::up_at;
+use scram_types::{Change, Env, ProcId, Script, Spec};
+
+// Where a walk stands: the environment of its frame, and how many changes came up to it.
+#[derive(Clone, Copy)]
+pub(crate) struct Walk {
+    taken: usize,
+    env: Env,
+}
+
+// A window that ends with a frame: how many frames in it changed the environment, and whether its last
+// frame did. Of its two walks one stands at that frame, the other at the frame before the window.
+#[derive(Clone, Copy)]
+pub(crate) struct Window {
+    lead: Walk,
+    trail: Walk,
+    pub(crate) changed: bool,
+    pub(crate) changes: u32,
+}
+
+pub(crate) fn opening_window(spec: &Spec, script: &Script) -> Window
+    requires { Fits spec.now script.now }
+    ensures { IsWindow spec.now script.now 0 result }
+{
+    let walk = opening_walk(spec, script);
+    Window {
+        lead: walk,
+        trail: walk,
+        changed: false,
+        changes: 0,
+    }
+}
+
+// The window that ends with the next frame.
+pub(crate) fn next_window(spec: &Spec, script: &Script, window: &Window, frame: u32) -> Window
+    requires fits { Fits spec.now script.now }
+    requires window { IsWindow spec.now script.now frame window.now }
+    requires frame { frame < script.now.frames }
+    ensures { IsWindow spec.now script.now (frame + 1) result }
+{
+    let lead = next_walk(spec, script, &window.lead, frame);
+    let changed = differs(&window.lead.env, &lead.env);
+    let changes = window.changes + u32::from(changed);
+    if frame < spec.window {
+        return Window {
+            lead,
+            trail: window.trail,
+            changed,
+            changes,
+        };
+    }
+    let trail = next_walk(spec, script, &window.trail, frame - spec.window);
+    let left = u32::from(differs(&window.trail.env, &trail.env));
+    Window {
+        lead,
+        trail,
+        changed,
+        changes: changes - left,
+    }
+}
+
+fn opening_walk(spec: &Spec, script: &Script) -> Walk
+    requires { Fits spec.now script.now }
+    ensures { IsWalk spec.now script.now 0 result }
+{
+    Walk {
+        taken: 0,
+        env: Env {
+            up: up_set_at(spec, script, 0),
+            factors: [0; 6],
+        },
+    }
+}
+
+// The walk that stands at the next frame.
+fn next_walk(spec: &Spec, script: &Script, walk: &Walk, frame: u32) -> Walk
+    requires fits { Fits spec.now script.now }
+    requires walk { IsWalk spec.now script.now frame walk.now }
+    requires frame { frame < script.now.frames }
+    ensures { IsWalk spec.now script.now (frame + 1) result }
+{
+    let (taken, factors) = take_changes(
+        script.changes.items(),
+        walk.taken,
+        walk.env.factors,
+        frame + 1,
+    );
+    Walk {
+        taken,
+        env: Env {
+            up: up_set_at(spec, script, frame + 1),
+            factors,
+        },
+    }
+}
+
+// How many changes come up to a frame, and the factors' values after them, by those of fewer changes.
+fn take_changes(
+    changes: &[Change],
+    before: usize,
+    values_before: [u8; 6],
+    frame: u32,
+) -> (usize, [u8; 6])
+    requires taken { IsTaken changes.now frame before }
+    requires values { values_before ≡ values_taken changes.now before }
+    ensures taken { IsTaken changes.now frame result.0 }
+    ensures values { result.1 ≡ values_taken changes.now result.0 }
+    ensures whole { IsWhole changes.now frame result.0 }
+{
+    let mut taken = before;
+    let mut values = values_before;
+    while taken < changes.len() && changes[taken].frame <= frame {
+        values = with_change(&values, &changes[taken]);
+        taken += 1;
+    }
+    (taken, values)
+}
+
+fn with_change(values: &[u8; 6], change: &Change) -> [u8; 6]
+    ensures { result ≡ changed_values change.now values.now }
+{
+    [
+        newest(change, 0, values[0]),
+        newest(change, 1, values[1]),
+        newest(change, 2, values[2]),
+        newest(change, 3, values[3]),
+        newest(change, 4, values[4]),
+        newest(change, 5, values[5]),
+    ]
+}
+
+fn newest(change: &Change, factor: u8, value: u8) -> u8
+    ensures { result ≡ newest change.now factor value }
+{
+    if change.factor.0 == factor {
+        change.value
+    } else {
+        value
+    }
+}
+
+fn differs(env: &Env, other: &Env) -> bool
+    ensures { result ≡ not (is_same_env env.now other.now) }
+{
+    !(env.up == other.up && env.factors == other.factors)
+}
+
+// The processors that are up in a frame, as bits.
+fn up_set_at(spec: &Spec, script: &Script, frame: u32) -> u8
+    ensures { result ≡ bits_below (λ p. is_up script.now p frame) (length spec.now.procs) }
+{
+    let mut up = 0;
+    for p in 0..spec.procs.items().len() as u8 {
+        if up_at(script, ProcId(p), frame) {
+            up += 1 << p;
+        }
+    }
+    up
+}

@@ -1,0 +1,146 @@
+-- Applications with their needs, and with their ranks.
+use Rattle.std.proofs.Common.{◌≡◌, ◌<◌, ◌≤◌, ◌+◌, ℕ, zero, suc, List, [], ◌∷◌, ◌++◌, drop, length, arith, refl, sym, ap, subst, ◌∙◌}
+use Rattle.std.specs.Prelude.{Option, Some, None, slice_get, slice_index, take, All}
+use Rattle.std.proofs.lemmas.List.Elements.{All-head, All-tail}
+use Rattle.std.proofs.Math.Seq.{take-append_seam}
+use Rattle.scram_types.specs.declared.ids.AppId.{AppId}
+use Rattle.scram_types.specs.declared.specification.AppSpec.{AppSpec}
+use Rattle.scram_types.specs.declared.specification.ModeSpec.{ModeSpec}
+use Rattle.scram_types.specs.Specification.{Each, HasLength, NamesDiffer, IsModeSpec, IsNeeded, IsAppSpec}
+use Rattle.dep_order.specs.Ranks.{RanksFall, NeedsInRange}
+use Rattle.reconf_spec.specs.Applications.{app_name}
+use Rattle.reconf_spec.specs.Needs.{with_needs, with_ranks}
+use Rattle.reconf_spec.specs.Facts.{AllAfter, IsNewApp, IsNewMode, IsNewNeed, AreNeeds}
+use Rattle.reconf_spec.specs.Kept.{AreApps}
+use Rattle.reconf_spec.specs.Unranked.{IsUnranked, AreUnranked}
+use Rattle.reconf_spec.proofs.Distinct.{each_of, new_differ}
+
+-- an application with its needs, and where both come from
+record Joined (apps : List AppSpec) (needs : List (List AppId)) (a : ℕ) (whole : AppSpec) : Type 0 where
+  app : AppSpec
+  named : List AppId
+  there : slice_get apps a ≡ Some app
+  given : slice_get needs a ≡ Some named
+  is : whole ≡ record { name = app.name; kind = app.kind; needs = named; modes = app.modes; rank = app.rank }
+
+some_same : (x y : AppSpec) → Some x ≡ Some y → y ≡ x
+some_same x y e = cc
+
+joined : (apps : List AppSpec) (needs : List (List AppId)) (a : ℕ) (whole : AppSpec) → length needs ≡ length apps → slice_get (with_needs apps needs) a ≡ Some whole → Joined apps needs a whole
+joined [] needs a whole same e = absurd (let none : None ≡ Some whole = e in cc)
+joined (app ∷ apps) [] a whole same e = absurd (omega (arith, same))
+joined (app ∷ apps) (named ∷ needs) zero whole same e = record { app = app; named = named; there = refl; given = refl; is = some_same _ whole e }
+joined (app ∷ apps) (named ∷ needs) (suc a) whole same e =
+    let rest = joined apps needs a whole (omega (arith, same)) e in
+    record { app = rest.app; named = rest.named; there = rest.there; given = rest.given; is = rest.is }
+
+pub joined_length : (apps : List AppSpec) (needs : List (List AppId)) → length (with_needs apps needs) ≡ length apps
+joined_length [] needs = refl
+joined_length (app ∷ apps) [] = refl
+joined_length (app ∷ apps) (named ∷ needs) = ap suc (joined_length apps needs)
+
+unranked : (apps : List AppSpec) (needs : List (List AppId)) (whole : AppSpec) (a : ℕ) (j : Joined apps needs a whole) → AllAfter IsNewApp apps → AllAfter (λ _. AreNeeds apps) needs → IsUnranked (length apps) whole
+unranked apps needs whole a j fits named =
+    let f = fits a j.app j.there in
+    let n = named a j.named j.given in
+    rw (j.is) (record {
+      kind = f.kind;
+      few_needs = n.few;
+      needs = each_of (IsNewNeed apps) _ j.named (λ done need g. g.there) n.each;
+      modes_count = f.count;
+      modes = each_of (IsNewMode j.app.kind.0) (IsModeSpec j.app.kind.0) j.app.modes (λ done mode g. g.is f.kind) f.modes;
+    })
+
+pub unranked_fit : (apps : List AppSpec) (needs : List (List AppId)) → 1 ≤ length apps → length apps ≤ 8 → length needs ≡ length apps → AllAfter IsNewApp apps → AllAfter (λ _. AreNeeds apps) needs → AreUnranked (with_needs apps needs)
+unranked_fit apps needs least most same fits named =
+    let names = new_differ app_name apps (λ i x e. (fits i x e).name) in
+    let count = joined_length apps needs in
+    record {
+      count = record { enough = omega (arith, least, count); few = omega (arith, most, count) };
+      differ = λ i j x y there too spelled.
+          let one = joined apps needs i x same there in
+          let two = joined apps needs j y same too in
+          let first : app_name x ≡ app_name one.app = ap app_name one.is in
+          let second : app_name y ≡ app_name two.app = ap app_name two.is in
+          names i j one.app two.app one.there two.there (sym first ∙ spelled ∙ second);
+      each = λ i x e. rw (count) (unranked apps needs x i (joined apps needs i x same e) fits named);
+    }
+
+-- an application with its rank, and where both come from
+record Graded (apps : List AppSpec) (ranks : List ℕ) (a : ℕ) (whole : AppSpec) : Type 0 where
+  app : AppSpec
+  there : slice_get apps a ≡ Some app
+  rank : slice_index ranks a ≡ whole.rank
+  is : whole ≡ record { name = app.name; kind = app.kind; needs = app.needs; modes = app.modes; rank = whole.rank }
+
+graded : (apps : List AppSpec) (ranks : List ℕ) (a : ℕ) (whole : AppSpec) → length ranks ≡ length apps → slice_get (with_ranks apps ranks) a ≡ Some whole → Graded apps ranks a whole
+graded [] ranks a whole same e = absurd (let none : None ≡ Some whole = e in cc)
+graded (app ∷ apps) [] a whole same e = absurd (omega (arith, same))
+graded (app ∷ apps) (rank ∷ ranks) zero whole same e =
+    let is = some_same _ whole e in
+    let of_rank : whole.rank ≡ rank = ap (λ (x : AppSpec). x.rank) is in
+    record { app = app; there = refl; rank = sym of_rank; is = subst (λ (n : ℕ). whole ≡ record { name = app.name; kind = app.kind; needs = app.needs; modes = app.modes; rank = n }) (sym of_rank) is }
+graded (app ∷ apps) (rank ∷ ranks) (suc a) whole same e =
+    let rest = graded apps ranks a whole (omega (arith, same)) e in
+    record { app = rest.app; there = rest.there; rank = rest.rank; is = rest.is }
+
+pub graded_length : (apps : List AppSpec) (ranks : List ℕ) → length (with_ranks apps ranks) ≡ length apps
+graded_length [] ranks = refl
+graded_length (app ∷ apps) [] = refl
+graded_length (app ∷ apps) (rank ∷ ranks) = ap suc (graded_length apps ranks)
+
+record There (apps : List AppSpec) (ranks : List ℕ) (a : ℕ) : Type 0 where
+  whole : AppSpec
+  there : slice_get (with_ranks apps ranks) a ≡ Some whole
+  rank : whole.rank ≡ slice_index ranks a
+
+there_is : (apps : List AppSpec) (ranks : List ℕ) (a : ℕ) → length ranks ≡ length apps → a < length apps → There apps ranks a
+there_is [] ranks a same below = absurd (omega (arith, below))
+there_is (app ∷ apps) [] a same below = absurd (omega (arith, same))
+there_is (app ∷ apps) (rank ∷ ranks) zero same below = record { whole = _; there = refl; rank = refl }
+there_is (app ∷ apps) (rank ∷ ranks) (suc a) same below =
+    let rest = there_is apps ranks a (omega (arith, same)) (omega (arith, below)) in
+    record { whole = rest.whole; there = rest.there; rank = rest.rank }
+
+small_at : (ranks : List ℕ) (a : ℕ) → All (λ (rank : ℕ). rank < 8) ranks → slice_index ranks a < 8
+small_at [] a small = omega arith
+small_at (r ∷ rs) zero small = All-head (λ (rank : ℕ). rank < 8) r rs small
+small_at (r ∷ rs) (suc a) small = small_at rs a (All-tail (λ (rank : ℕ). rank < 8) r rs small)
+
+ranked : (apps : List AppSpec) (ranks : List ℕ) (a : ℕ) (whole : AppSpec) → length ranks ≡ length apps → All (λ (rank : ℕ). rank < 8) ranks → RanksFall apps ranks
+    → AreUnranked apps → slice_get (with_ranks apps ranks) a ≡ Some whole → IsAppSpec (with_ranks apps ranks) whole
+ranked apps ranks a whole same small fall fits e =
+    let g = graded apps ranks a whole same e in
+    let f = fits.each a g.app g.there in
+    subst (λ (z : AppSpec). IsAppSpec (with_ranks apps ranks) z) (sym g.is) (record {
+      kind = f.kind;
+      rank = subst (λ (n : ℕ). n < 8) g.rank (small_at ranks a small);
+      few_needs = f.few_needs;
+      needs = λ k need named.
+          let t = there_is apps ranks need.0 same (f.needs k need named) in
+          let below = fall a k g.app need g.there named in
+          record { lower = t.whole; there = t.there; falls = omega (arith, below, t.rank, g.rank) };
+      count = f.modes_count;
+      modes = f.modes;
+    })
+
+pub ranked_fit : (apps : List AppSpec) (ranks : List ℕ) → length ranks ≡ length apps → All (λ (rank : ℕ). rank < 8) ranks → RanksFall apps ranks → AreUnranked apps → AreApps (with_ranks apps ranks)
+ranked_fit apps ranks same small fall fits =
+    let count = graded_length apps ranks in
+    record {
+      count = record { enough = omega (arith, fits.count.enough, count); few = omega (arith, fits.count.few, count) };
+      differ = λ i j x y there too spelled.
+          let one = graded apps ranks i x same there in
+          let two = graded apps ranks j y same too in
+          let first : app_name x ≡ app_name one.app = ap app_name one.is in
+          let second : app_name y ≡ app_name two.app = ap app_name two.is in
+          fits.differ i j one.app two.app one.there two.there (sym first ∙ spelled ∙ second);
+      each = λ i x e. ranked apps ranks i x same small fall fits e;
+    }
+
+pub needs_in_range : (apps : List AppSpec) → AreUnranked apps → NeedsInRange apps
+needs_in_range apps fits = λ a app e. (fits.each a app e).needs
+
+-- a whole list that was written in place
+pub written_whole : (len : ℕ) (new old : List AppSpec) → length new ≡ len → take len (new ++ drop (length new) old) ≡ new
+written_whole len new old same = rw (← same) (take-append_seam new (drop (length new) old))

@@ -1,0 +1,159 @@
+-- What the parts of a document keep makes a specification.
+use Rattle.std.proofs.Common.{◌≡◌, ◌<◌, ◌≤◌, ◌+◌, ℕ, ℤ, zero, suc, Bool, true, false, cond, List, [], ◌∷◌, length, arith, refl, ap, sym, subst, ◌∙◌}
+use Rattle.std.specs.Prelude.{Option, Some, None, slice_get, ◌≤ℤ◌, pos, ◌==◌, if◌then◌else◌}
+use Rattle.std.proofs.lemmas.Int.{ints}
+use Rattle.scram_types.specs.declared.ids.ConfId.{ConfId}
+use Rattle.scram_types.specs.declared.flights.Goal.{Goal}
+use Rattle.scram_types.specs.declared.specification.Proc.{Proc}
+use Rattle.scram_types.specs.declared.specification.AppSpec.{AppSpec}
+use Rattle.scram_types.specs.declared.specification.Conf.{Conf}
+use Rattle.scram_types.specs.declared.specification.Factor.{Factor}
+use Rattle.scram_types.specs.declared.specification.Want.{Want}
+use Rattle.scram_types.specs.declared.specification.Choice.{Choice}
+use Rattle.scram_types.specs.declared.specification.Bound.{Bound}
+use Rattle.scram_types.specs.declared.specification.Invariant.{Invariant}
+use Rattle.scram_types.specs.declared.specification.Precondition.{Precondition}
+use Rattle.scram_types.specs.Specification.{Parts, IsSpec, IsProc, IsConf, IsFactor, IsChoice, IsBound, IsGoal, IsInterval, IsInvariant, IsPrecondition, IsIn, HasLength}
+use Rattle.app_model.specs.Names.{variable_names, number_of, number_from, is_spelled}
+use Rattle.reconf_spec.specs.Processors.{proc_name}
+use Rattle.reconf_spec.specs.Configurations.{conf_name}
+use Rattle.reconf_spec.specs.Factors.{factor_name, own_name}
+use Rattle.reconf_spec.specs.Facts.{AllAfter, IsNewProc, IsNewConf, IsNewFactor, IsNewName, IsNewWant, FitsChoice, IsNewBound, FitsInvariant, FitsPrecondition, FitsInterval, IsVariable}
+use Rattle.reconf_spec.specs.Documents.{Names}
+use Rattle.scram_types.specs.declared.specification.Policy.{Policy}
+use Rattle.reconf_spec.specs.Kept.{IsNamed, FitsAssumption}
+use Rattle.reconf_spec.specs.declared.documents.Assumption.{Assumption}
+use Rattle.reconf_spec.proofs.Distinct.{each_of, new_differ}
+
+found_below : (b : Bool) (k m : ℕ) (n : ℕ) (o : Option ℕ) → k < m → (o ≡ Some n → n < m) → cond b (Some k) o ≡ Some n → n < m
+found_below true k m n o here rest e = let is : k ≡ n = cc in omega (arith, here, is)
+found_below false k m n o here rest e = rest e
+
+number_below : (k : ℕ) (names : List (Option (List ℕ))) (text : List ℕ) (n : ℕ) → number_from k names text ≡ Some n → n < k + length names
+number_below k [] text n e = absurd (let none : None ≡ Some n = e in cc)
+number_below k (name ∷ names) text n e =
+    found_below (is_spelled name text) k (k + suc (length names)) n (number_from (k + 1) names text) (omega arith)
+    (λ f. omega (arith, number_below (k + 1) names text n f)) e
+
+few_of : (b : Bool) (xs ys : List (Option (List ℕ))) → length xs ≤ 8 → length ys ≤ 8 → length (cond b xs ys) ≤ 8
+few_of true xs ys f g = f
+few_of false xs ys f g = g
+
+few_variables : (kind : ℕ) → length (variable_names kind) ≤ 8
+few_variables kind =
+    few_of (kind == 0) _ _ (omega arith) (few_of (kind == 1) _ _ (omega arith) (few_of (kind == 2) _ _ (omega arith)
+    (few_of (kind == 3) _ _ (omega arith) (few_of (kind == 4) _ _ (omega arith) (omega arith)))))
+
+variable_below : (found : Option AppSpec) (variable : ℕ) → IsVariable found variable → variable ≤ 7
+variable_below found variable is =
+    omega (arith, few_variables is.app.kind.0, number_below 0 (variable_names is.app.kind.0) is.text variable is.named)
+
+factor_fits : (done : List Factor) (factor : Factor) → IsNewFactor done factor → IsFactor factor
+factor_fits done factor fits = record { count = fits.count; differ = new_differ own_name factor.values fits.values }
+
+choice_fits : (procs : List Proc) (confs : List Conf) (factors : List Factor) (rule : Choice) → FitsChoice procs confs factors rule → IsChoice procs confs factors rule
+choice_fits procs confs factors rule fits = record {
+  from = fits.from;
+  few = fits.few;
+  wants = each_of (IsNewWant factors) _ rule.wants (λ done want f. f.is) fits.wants;
+  up = fits.up;
+  to = fits.to;
+}
+
+invariant_fits : (apps : List AppSpec) (confs : List Conf) (inv : Invariant) → FitsInvariant apps confs inv → IsInvariant apps confs inv
+invariant_fits apps confs inv fits = let i = fits.interval in record {
+  from = fits.from;
+  interval = record {
+    there = i.there;
+    is_variable = variable_below (slice_get apps inv.app.0) inv.variable i.is_variable;
+    low_least = i.ends_fit.low_least;
+    low_most = omega (arith, ints, i.ends_fit.in_order, i.ends_fit.high_most);
+    high_least = omega (arith, ints, i.ends_fit.in_order, i.ends_fit.low_least);
+    high_most = i.ends_fit.high_most;
+  };
+}
+
+precondition_fits : (apps : List AppSpec) (confs : List Conf) (pre : Precondition) → FitsPrecondition apps confs pre → IsPrecondition apps confs pre
+precondition_fits apps confs pre fits = let i = fits.interval in record {
+  conf = fits.conf;
+  interval = record {
+    there = i.there;
+    is_variable = variable_below (slice_get apps pre.app.0) pre.variable i.is_variable;
+    low_least = i.ends_fit.low_least;
+    low_most = omega (arith, ints, i.ends_fit.in_order, i.ends_fit.high_most);
+    high_least = omega (arith, ints, i.ends_fit.in_order, i.ends_fit.low_least);
+    high_most = i.ends_fit.high_most;
+  };
+}
+
+pub spec_fits : (spec : Parts) → IsNamed spec.procs spec.apps spec.confs spec.factors
+    → length spec.rules ≤ 64 → AllAfter (λ _. FitsChoice spec.procs spec.confs spec.factors) spec.rules
+    → length spec.bounds ≤ 144 → AllAfter (IsNewBound spec.confs) spec.bounds
+    → IsIn spec.confs spec.start → IsGoal spec.goal
+    → length spec.invariants ≤ 64 → AllAfter (λ _. FitsInvariant spec.apps spec.confs) spec.invariants
+    → length spec.preconditions ≤ 64 → AllAfter (λ _. FitsPrecondition spec.apps spec.confs) spec.preconditions
+    → FitsAssumption (record { halts = spec.halts; changes = spec.changes; window = spec.window })
+    → IsSpec spec
+spec_fits spec named few_rules rules few_bounds bounds start goal few_invariants invariants few_preconditions preconditions assumed = record {
+  procs_count = named.procs_count;
+  procs_differ = new_differ proc_name spec.procs (λ i x e. (named.procs_fit i x e).name);
+  procs = each_of IsNewProc IsProc spec.procs (λ done x f. f.is) named.procs_fit;
+  apps_count = named.apps_fit.count;
+  apps_differ = named.apps_fit.differ;
+  apps = named.apps_fit.each;
+  confs_count = named.confs_count;
+  confs_differ = new_differ conf_name spec.confs (λ i x e. (named.confs_fit i x e).name);
+  confs = each_of (IsNewConf spec.procs spec.apps) (IsConf spec.procs spec.apps) spec.confs (λ done x f. record { width = f.width; places = f.places }) named.confs_fit;
+  factors_count = named.factors_count.few;
+  factors_differ = new_differ factor_name spec.factors (λ i x e. (named.factors_fit i x e).name);
+  factors = each_of IsNewFactor IsFactor spec.factors factor_fits named.factors_fit;
+  rules_count = few_rules;
+  rules = each_of (λ _. FitsChoice spec.procs spec.confs spec.factors) (IsChoice spec.procs spec.confs spec.factors) spec.rules (λ done x f. choice_fits spec.procs spec.confs spec.factors x f) rules;
+  bounds_count = few_bounds;
+  bounds = each_of (IsNewBound spec.confs) (IsBound spec.confs) spec.bounds (λ done x f. f.is) bounds;
+  start = start;
+  goal = goal;
+  invariants_count = few_invariants;
+  invariants = each_of (λ _. FitsInvariant spec.apps spec.confs) (IsInvariant spec.apps spec.confs) spec.invariants (λ done x f. invariant_fits spec.apps spec.confs x f) invariants;
+  preconditions_count = few_preconditions;
+  preconditions = each_of (λ _. FitsPrecondition spec.apps spec.confs) (IsPrecondition spec.apps spec.confs) spec.preconditions (λ done x f. precondition_fits spec.apps spec.confs x f) preconditions;
+  halts = assumed.halts;
+  changes = assumed.changes;
+  window_least = assumed.window_least;
+  window_most = assumed.window_most;
+}
+
+abbrev pub parts : Names → List Choice → List Bound → ConfId → Goal → List Invariant → List Precondition → Policy → Assumption → Parts
+parts names rules bounds start goal invariants preconditions policy assumed = record {
+  procs = names.procs;
+  apps = names.apps;
+  confs = names.confs;
+  factors = names.factors;
+  rules = rules;
+  bounds = bounds;
+  start = start;
+  goal = goal;
+  invariants = invariants;
+  preconditions = preconditions;
+  policy = policy;
+  halts = assumed.halts;
+  changes = assumed.changes;
+  window = assumed.window;
+}
+
+-- the same, for what was read by names that are those of the specification
+pub rest_fits : (names own : Names) → names ≡ own
+    → (rules : List Choice) (bounds : List Bound) (start : ConfId) (goal : Goal) (invariants : List Invariant) (preconditions : List Precondition) (policy : Policy) (assumed : Assumption)
+    → IsNamed own.procs own.apps own.confs own.factors
+    → length rules ≤ 64 → AllAfter (λ _. FitsChoice names.procs names.confs names.factors) rules
+    → length bounds ≤ 144 → AllAfter (IsNewBound names.confs) bounds
+    → IsIn names.confs start → IsGoal goal
+    → length invariants ≤ 64 → AllAfter (λ _. FitsInvariant names.apps names.confs) invariants
+    → length preconditions ≤ 64 → AllAfter (λ _. FitsPrecondition names.apps names.confs) preconditions
+    → FitsAssumption assumed
+    → IsSpec (parts own rules bounds start goal invariants preconditions policy assumed)
+rest_fits names own same rules bounds start goal invariants preconditions policy assumed named few_rules r few_bounds b s g few_invariants i few_preconditions p a =
+    subst (λ (z : Names). IsSpec (parts z rules bounds start goal invariants preconditions policy assumed)) same
+    (spec_fits (parts names rules bounds start goal invariants preconditions policy assumed)
+    (subst (λ (z : Names). IsNamed z.procs z.apps z.confs z.factors) (sym same) named)
+    few_rules r few_bounds b s g few_invariants i few_preconditions p a)

@@ -1,0 +1,50 @@
+use Rattle.std.proofs.Common.{rules, ◌≡◌, ◌<◌, ◌++◌, ℕ, take, drop, length, refl, ap, sym, ◌∙◌}
+use Rattle.std.specs.Prelude.{All, Ok}
+use Rattle.scram_types.specs.declared.specification.AppSpec.{AppSpec}
+use Rattle.dep_order.specs.Ranks.{IsCycle, IsRanking, RanksFall}
+use Rattle.reconf_spec.specs.Needs.{with_ranks, are_ranked, longest_chains}
+use Rattle.reconf_spec.proofs.Joined.{graded_length, ranked_fit, written_whole}
+use Rattle.reconf_spec.proofs.LongestChains.{cycle_unranked, ranks_are, ranking_ranked}
+use Rattle.reconf_spec.proofs.needs.finish_apps.Goals as goal
+
+pub returns-in-Err-clause-value : goal.returns-in-Err-clause-value
+returns-in-Err-clause-value c =
+    let is : IsCycle c.args.apps.items c.in-Err.cycle.0.items = search rules in
+    rw (cycle_unranked c.args.apps.items c.in-Err.cycle.0.items is, c.copy.ensures) refl
+
+pub returns-in-Err-clause-cycle : goal.returns-in-Err-clause-cycle
+returns-in-Err-clause-cycle c =
+    let is : IsCycle c.args.apps.items c.in-Err.cycle.0.items = search rules in
+    rw (cycle_unranked c.args.apps.items c.in-Err.cycle.0.items is) is
+
+given : (c : goal.After-of) → c.of.result ≡ with_ranks c.args.apps.items c.in-Ok.ranks.items
+given c =
+    let ranks : c.set_ranks.new.apps ≡ with_ranks c.args.apps.items c.in-Ok.ranks.items = search rules in
+    let all : length c.args.apps.items ≡ c.args.apps.len = search rules in
+    let long : length c.set_ranks.new.apps ≡ c.args.apps.len = rw (ranks) (graded_length c.args.apps.items c.in-Ok.ranks.items ∙ all) in
+    c.of.ensures ∙ (written_whole c.args.apps.len c.set_ranks.new.apps c.args.apps.items long ∙ ranks)
+
+pub returns-in-Ok-clause-value : goal.returns-in-Ok-clause-value
+returns-in-Ok-clause-value c =
+    let apps = c.args.apps.items in
+    let ranks = c.in-Ok.ranks.items in
+    let is : IsRanking apps ranks = search rules in
+    let small : All (λ (rank : ℕ). rank < 8) ranks = search rules in
+    rw (ranking_ranked apps ranks is small, ranks_are apps ranks is small) (ap (λ xs. Ok xs) (sym (given c)))
+
+pub returns-in-Ok-clause-fits : goal.returns-in-Ok-clause-fits
+returns-in-Ok-clause-fits c =
+    let apps = c.args.apps.items in
+    let ranks = c.in-Ok.ranks.items in
+    let is : IsRanking apps ranks = search rules in
+    let small : All (λ (rank : ℕ). rank < 8) ranks = search rules in
+    let falls : RanksFall apps ranks = search rules in
+    rw (given c) (ranked_fit apps ranks is.count small falls c.requires.fits)
+
+pub returns-in-Ok-clause-no_cycle : goal.returns-in-Ok-clause-no_cycle
+returns-in-Ok-clause-no_cycle c =
+    let apps = c.args.apps.items in
+    let ranks = c.in-Ok.ranks.items in
+    let is : IsRanking apps ranks = search rules in
+    let small : All (λ (rank : ℕ). rank < 8) ranks = search rules in
+    ranking_ranked apps ranks is small

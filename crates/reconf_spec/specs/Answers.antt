@@ -1,0 +1,39 @@
+-- What an answer says of a reading.
+use Rattle.std.specs.Prelude.{◌≡◌, List, [], Result, Ok, Err, ⊤, Bool, true, false}
+use Rattle.scram_types.specs.declared.ids.AppId.{AppId}
+use Rattle.scram_types.specs.declared.specification.AppSpec.{AppSpec}
+use Rattle.scram_doc.specs.declared.fault.DocFault.{DocFault}
+use Rattle.scram_doc.specs.declared.fault.DocError.{DocError}
+use Rattle.scram_doc.specs.declared.fault.DocError.TheVariants as doc
+use Rattle.dep_order.specs.Ranks.{IsCycle}
+use Rattle.reconf_spec.specs.declared.fault.SpecError.{SpecError}
+use Rattle.reconf_spec.specs.declared.fault.SpecError.TheVariants.{Fault, NoMemory}
+use Rattle.reconf_spec.specs.Needs.{are_ranked}
+
+-- the answer is that of the reading, unless memory is wanting
+abbrev pub Tells : {A : Type 0} → Result A DocFault → Result A SpecError → Type 0
+Tells reading (Ok a) = reading ≡ Ok a
+Tells reading (Err (Fault fault)) = reading ≡ Err (record { rule = fault.rule; path = fault.path })
+Tells reading (Err NoMemory) = ⊤
+
+-- A cycle is that of applications that cannot be ranked, and else there is none.
+abbrev pub CycleIf : Bool → List AppSpec → List AppId → Type 0
+CycleIf true apps cycle = cycle ≡ []
+CycleIf false apps cycle = IsCycle apps cycle
+
+abbrev pub CycleAmong : Result (List AppSpec) DocFault → List AppId → Type 0
+CycleAmong (Err fault) cycle = cycle ≡ []
+CycleAmong (Ok apps) cycle = CycleIf (are_ranked apps) apps cycle
+
+-- The fault's cycle is one of the applications as they were read, where these are read and have a cycle.
+abbrev pub ShowsCycle : Result (List AppSpec) DocFault → SpecError → Type 0
+ShowsCycle unranked (Fault fault) = CycleAmong unranked fault.cycle.items
+ShowsCycle unranked NoMemory = ⊤
+
+-- a broken rule, with no cycle
+abbrev pub plain_fault : DocFault → SpecError
+plain_fault fault = Fault (record { rule = fault.rule; path = fault.path; cycle = record { items = [] } })
+
+abbrev pub plain_error : DocError → SpecError
+plain_error (doc.Fault fault) = plain_fault fault
+plain_error doc.NoMemory = NoMemory

@@ -1,0 +1,78 @@
+-- How the applications are read, before the names of their needs are looked up.
+use Rattle.std.specs.Prelude.{ℕ, List, [], ◌∷◌, ◌++◌, codes, is_some, Result, Ok, ⊤, if◌then◌else◌}
+use Rattle.serde_json.specs.Data.{Data, Items}
+use Rattle.scram_types.specs.declared.ids.Mode.{Mode}
+use Rattle.scram_types.specs.declared.ids.KindId.{KindId}
+use Rattle.scram_types.specs.declared.specification.ModeSpec.{ModeSpec}
+use Rattle.scram_types.specs.declared.specification.AppSpec.{AppSpec}
+use Rattle.scram_types.specs.Specification.{mode_in}
+use Rattle.app_model.specs.Names.{kind_names, mode_names, number_of}
+use Rattle.scram_doc.specs.declared.fault.DocFault.{DocFault}
+use Rattle.scram_doc.specs.Chain.{chain}
+use Rattle.scram_doc.specs.Faults.{broken, or_broken}
+use Rattle.scram_doc.specs.Paths.{member_path}
+use Rattle.scram_doc.specs.Members.{object_at, needed, no_more_than}
+use Rattle.scram_doc.specs.Values.{list_at, text_at, whole_at}
+use Rattle.reconf_spec.specs.declared.rule.TheConstants.{UNKNOWN_KIND, UNKNOWN_MODE, MODE_TWICE}
+use Rattle.reconf_spec.specs.Lists.{elements_at, folded_from}
+use Rattle.reconf_spec.specs.Names.{new_name_at}
+
+abbrev pub app_name : AppSpec → List ℕ
+app_name app = app.name
+
+-- a mode of a kind
+abbrev pub kind_mode_at : ℕ → List ℕ → Data → Result ℕ DocFault
+kind_mode_at kind at d = chain (text_at at d) (λ (text : List ℕ). or_broken UNKNOWN_MODE at (number_of (mode_names kind) text))
+
+-- a mode of a kind that is not listed yet
+abbrev pub new_mode_at : ℕ → List ModeSpec → List ℕ → Data → Result ℕ DocFault
+new_mode_at kind done at d =
+    chain (kind_mode_at kind at d) (λ (mode : ℕ). if is_some (mode_in done mode) then broken MODE_TWICE at else Ok mode)
+
+-- how many frames a phase takes
+abbrev pub phase_at : List ℕ → Data → Result ℕ DocFault
+phase_at at d = whole_at 1 17 at d
+
+abbrev pub mode_at : ℕ → List ℕ → List ModeSpec → Data → Result ModeSpec DocFault
+mode_at kind at done d =
+    chain (object_at at d) (λ (_ : ⊤).
+    chain (needed (codes "mode") at d) (λ (mode : Data).
+    chain (needed (codes "load") at d) (λ (load : Data).
+    chain (needed (codes "halt") at d) (λ (halt : Data).
+    chain (needed (codes "prepare") at d) (λ (prepare : Data).
+    chain (needed (codes "init") at d) (λ (init : Data).
+    chain (no_more_than 5 at d) (λ (_ : ⊤).
+    chain (new_mode_at kind done (member_path at (codes "mode")) mode) (λ (mode : ℕ).
+    chain (whole_at 0 1000001 (member_path at (codes "load")) load) (λ (load : ℕ).
+    chain (phase_at (member_path at (codes "halt")) halt) (λ (halt : ℕ).
+    chain (phase_at (member_path at (codes "prepare")) prepare) (λ (prepare : ℕ).
+    chain (phase_at (member_path at (codes "init")) init) (λ (init : ℕ).
+    Ok (record { mode = record { 0 = mode }; load = load; halt = halt; prepare = prepare; init = init })))))))))))))
+
+abbrev pub modes_at : ℕ → List ℕ → Data → Result (List ModeSpec) DocFault
+modes_at kind at d = elements_at (mode_at kind) 1 3 at d
+
+abbrev pub kind_at : List ℕ → Data → Result ℕ DocFault
+kind_at at d = chain (text_at at d) (λ (text : List ℕ). or_broken UNKNOWN_KIND at (number_of kind_names text))
+
+-- A list of 0 to 8 texts; what they name is looked up later.
+abbrev pub text_after : List ℕ → ⊤ → Data → Result ⊤ DocFault
+text_after at made d = chain (text_at at d) (λ (_ : List ℕ). Ok tt)
+
+abbrev pub texts_at : List ℕ → Data → Result ⊤ DocFault
+texts_at at d = chain (list_at 0 8 at d) (λ (ds : Items). folded_from text_after at 0 tt ds)
+
+-- an application, without its needs and its rank
+abbrev pub app_at : List ℕ → List AppSpec → Data → Result AppSpec DocFault
+app_at at done d =
+    chain (object_at at d) (λ (_ : ⊤).
+    chain (needed (codes "name") at d) (λ (name : Data).
+    chain (needed (codes "kind") at d) (λ (kind : Data).
+    chain (needed (codes "needs") at d) (λ (needs : Data).
+    chain (needed (codes "modes") at d) (λ (modes : Data).
+    chain (no_more_than 4 at d) (λ (_ : ⊤).
+    chain (new_name_at app_name done (member_path at (codes "name")) name) (λ (name : List ℕ).
+    chain (kind_at (member_path at (codes "kind")) kind) (λ (kind : ℕ).
+    chain (texts_at (member_path at (codes "needs")) needs) (λ (_ : ⊤).
+    chain (modes_at kind (member_path at (codes "modes")) modes) (λ (modes : List ModeSpec).
+    Ok (record { name = name; kind = record { 0 = kind }; needs = []; modes = modes; rank = 0 })))))))))))

@@ -1,0 +1,141 @@
+-- What the elements of the lists keep that are read.
+use Rattle.std.specs.Prelude.{◌≡◌, ◌<◌, ◌≤◌, ◌≤ℤ◌, ◌^◌, ℕ, ℤ, pos, Bool, false, List, [], take, length, set, slice_get, Option, Some, None, IsSome, option_and_then}
+use Rattle.scram_types.specs.declared.ids.AppId.{AppId}
+use Rattle.scram_types.specs.declared.specification.Proc.{Proc}
+use Rattle.scram_types.specs.declared.specification.ModeSpec.{ModeSpec}
+use Rattle.scram_types.specs.declared.specification.AppSpec.{AppSpec}
+use Rattle.scram_types.specs.declared.specification.Place.{Place}
+use Rattle.scram_types.specs.declared.specification.Conf.{Conf}
+use Rattle.scram_types.specs.declared.specification.Factor.{Factor}
+use Rattle.scram_types.specs.declared.specification.Want.{Want}
+use Rattle.scram_types.specs.declared.specification.Choice.{Choice}
+use Rattle.scram_types.specs.declared.specification.Bound.{Bound}
+use Rattle.scram_types.specs.declared.specification.Invariant.{Invariant}
+use Rattle.scram_types.specs.declared.specification.Precondition.{Precondition}
+use Rattle.scram_types.specs.Specification.{IsProc, IsModeSpec, IsPlace, IsConf, IsFactor, IsWant, IsBound, IsInvariant, IsPrecondition, IsIn, IsInIfNamed, HasLength, mode_in, bound_in}
+use Rattle.scram_types.specs.Numbers.{minus}
+use Rattle.app_model.specs.Names.{variable_names, number_of}
+use Rattle.reconf_spec.specs.declared.intervals.Ends.{Ends}
+use Rattle.reconf_spec.specs.declared.intervals.Interval.{Interval}
+use Rattle.reconf_spec.specs.Names.{found}
+use Rattle.reconf_spec.specs.Processors.{proc_name}
+use Rattle.reconf_spec.specs.Applications.{app_name}
+use Rattle.reconf_spec.specs.Configurations.{conf_name}
+use Rattle.reconf_spec.specs.Factors.{factor_name, own_name}
+use Rattle.reconf_spec.specs.Needs.{has_app}
+use Rattle.reconf_spec.specs.Choices.{has_factor}
+
+-- Each element keeps a fact with the elements before it.
+abbrev pub AllAfter : {A : Type 0} → (List A → A → Type 0) → List A → Type 0
+AllAfter {A} Fact xs = (i : ℕ) (x : A) → slice_get xs i ≡ Some x → Fact (take i xs) x
+
+-- A number is what some text is found to be.
+pub record IsListed (find : List ℕ → Option ℕ) (number : ℕ) : Type 0 where
+  pub text : List ℕ
+  pub there : find text ≡ Some number
+
+pub record IsNewProc (done : List Proc) (proc : Proc) : Type 0 where
+  pub name : found proc_name done proc.name ≡ None
+  pub is : IsProc proc
+
+pub record IsNewMode (kind : ℕ) (done : List ModeSpec) (mode : ModeSpec) : Type 0 where
+  pub new : mode_in done mode.mode.0 ≡ None
+  pub is : kind < 5 → IsModeSpec kind mode
+
+pub record IsNewApp (done : List AppSpec) (app : AppSpec) : Type 0 where
+  pub name : found app_name done app.name ≡ None
+  pub kind : app.kind.0 < 5
+  pub count : HasLength 1 3 app.modes
+  pub modes : AllAfter (IsNewMode app.kind.0) app.modes
+
+abbrev pub IsNewName : List (List ℕ) → List ℕ → Type 0
+IsNewName done name = found own_name done name ≡ None
+
+pub record IsNewFactor (done : List Factor) (factor : Factor) : Type 0 where
+  pub name : found factor_name done factor.name ≡ None
+  pub count : HasLength 2 4 factor.values
+  pub values : AllAfter IsNewName factor.values
+
+-- an application that does not yet stand among the needs
+pub record IsNewNeed (apps : List AppSpec) (done : List AppId) (need : AppId) : Type 0 where
+  pub new : has_app done need.0 ≡ false
+  pub there : need.0 < length apps
+
+pub record AreNeeds (apps : List AppSpec) (needs : List AppId) : Type 0 where
+  pub few : length needs ≤ 8
+  pub each : AllAfter (IsNewNeed apps) needs
+
+-- There is an application, which lists the mode.
+pub record ListsMode (found : Option AppSpec) (mode : ℕ) : Type 0 where
+  pub app : AppSpec
+  pub there : found ≡ Some app
+  pub listed : IsSome (mode_in app.modes mode)
+
+-- One more application has its place.
+pub record IsPlacedAfter (procs : List Proc) (apps : List AppSpec) (places more : List (Option Place)) : Type 0 where
+  pub app : ℕ
+  pub place : Place
+  pub is : IsPlace procs apps app place
+  pub set : more ≡ set places app (Some place)
+
+abbrev pub placed : List (Option Place) → ℕ → Option Place
+placed places a = option_and_then (λ (place : Option Place). place) (slice_get places a)
+
+abbrev pub ArePlaces : List Proc → List AppSpec → List (Option Place) → Type 0
+ArePlaces procs apps places = (a : ℕ) (place : Place) → placed places a ≡ Some place → IsPlace procs apps a place
+
+pub record IsNewConf (procs : List Proc) (apps : List AppSpec) (done : List Conf) (conf : Conf) : Type 0 where
+  pub name : found conf_name done conf.name ≡ None
+  pub width : length conf.places ≡ 8
+  pub places : ArePlaces procs apps conf.places
+
+pub record IsNewWant (factors : List Factor) (done : List Want) (want : Want) : Type 0 where
+  pub new : has_factor done want.factor.0 ≡ false
+  pub is : IsWant factors want
+
+pub record FitsChoice (procs : List Proc) (confs : List Conf) (factors : List Factor) (rule : Choice) : Type 0 where
+  pub from : IsInIfNamed confs rule.from
+  pub few : length rule.wants ≤ 6
+  pub wants : AllAfter (IsNewWant factors) rule.wants
+  pub up : rule.up < 2 ^ length procs
+  pub to : IsIn confs rule.to
+
+pub record IsNewBound (confs : List Conf) (done : List Bound) (bound : Bound) : Type 0 where
+  pub new : bound_in done bound.from.0 bound.to.0 ≡ None
+  pub is : IsBound confs bound
+
+-- There is a factor, which has a value of this number.
+pub record HasValue (found : Option Factor) (value : ℕ) : Type 0 where
+  pub factor : Factor
+  pub there : found ≡ Some factor
+  pub below : value < length factor.values
+
+-- There is an application, whose kind has a variable of this number.
+pub record IsVariable (found : Option AppSpec) (variable : ℕ) : Type 0 where
+  pub app : AppSpec
+  pub there : found ≡ Some app
+  pub text : List ℕ
+  pub named : number_of (variable_names app.kind.0) text ≡ Some variable
+
+pub record FitsEnds (ends : Ends) : Type 0 where
+  pub low_least : minus 1000000000 ≤ℤ ends.least
+  pub in_order : ends.least ≤ℤ ends.greatest
+  pub high_most : ends.greatest ≤ℤ pos 1000000000
+
+-- An interval that is not empty, for a variable that the application's kind has.
+pub record FitsInterval (apps : List AppSpec) (interval : Interval) : Type 0 where
+  pub there : interval.app.0 < length apps
+  pub is_variable : IsVariable (slice_get apps interval.app.0) interval.variable
+  pub ends_fit : FitsEnds interval.ends
+
+pub record FitsInvariant (apps : List AppSpec) (confs : List Conf) (inv : Invariant) : Type 0 where
+  pub from : IsInIfNamed confs inv.from
+  pub interval : FitsInterval apps (record { app = inv.app; variable = inv.variable; ends = record { least = inv.least; greatest = inv.greatest } })
+
+pub record FitsPrecondition (apps : List AppSpec) (confs : List Conf) (pre : Precondition) : Type 0 where
+  pub conf : IsIn confs pre.conf
+  pub interval : FitsInterval apps (record { app = pre.app; variable = pre.variable; ends = record { least = pre.least; greatest = pre.greatest } })
+
+-- Each factor has few values.
+abbrev pub FewValues : List Factor → Type 0
+FewValues factors = (f : ℕ) (factor : Factor) → slice_get factors f ≡ Some factor → length factor.values ≤ 4

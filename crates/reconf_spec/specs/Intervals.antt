@@ -1,0 +1,84 @@
+-- How invariants and preconditions are read: intervals for a variable of an application.
+use Rattle.std.specs.Prelude.{ℕ, ℤ, pos, int_le, List, codes, Option, Some, None, slice_get, Result, Ok, ⊤, if◌then◌else◌}
+use Rattle.serde_json.specs.Data.{Data}
+use Rattle.scram_types.specs.Numbers.{minus}
+use Rattle.scram_types.specs.declared.ids.AppId.{AppId}
+use Rattle.scram_types.specs.declared.ids.ConfId.{ConfId}
+use Rattle.scram_types.specs.declared.specification.AppSpec.{AppSpec}
+use Rattle.scram_types.specs.declared.specification.Conf.{Conf}
+use Rattle.scram_types.specs.declared.specification.Invariant.{Invariant}
+use Rattle.scram_types.specs.declared.specification.Precondition.{Precondition}
+use Rattle.app_model.specs.Names.{variable_names, number_of}
+use Rattle.scram_doc.specs.declared.fault.DocFault.{DocFault}
+use Rattle.scram_doc.specs.Chain.{chain, ok_map}
+use Rattle.scram_doc.specs.Faults.{broken, or_broken}
+use Rattle.scram_doc.specs.Paths.{member_path}
+use Rattle.scram_doc.specs.Members.{object_at, needed, no_more_than}
+use Rattle.scram_doc.specs.Values.{text_at, int_at}
+use Rattle.reconf_spec.specs.declared.rule.TheConstants.{UNKNOWN_APPLICATION, UNKNOWN_VARIABLE, EMPTY_INTERVAL}
+use Rattle.reconf_spec.specs.declared.intervals.Ends.{Ends}
+use Rattle.reconf_spec.specs.declared.intervals.Interval.{Interval}
+use Rattle.reconf_spec.specs.Lists.{elements_at}
+use Rattle.reconf_spec.specs.Names.{named_at}
+use Rattle.reconf_spec.specs.Applications.{app_name}
+use Rattle.reconf_spec.specs.Choices.{conf_id_at, source_at}
+
+abbrev pub app_id_at : List AppSpec → List ℕ → Data → Result AppId DocFault
+app_id_at apps at d = ok_map (λ (a : ℕ). record { 0 = a }) (named_at app_name apps UNKNOWN_APPLICATION at d)
+
+-- a variable of the application's kind
+abbrev pub variable_at : Option AppSpec → List ℕ → Data → Result ℕ DocFault
+variable_at None at d = broken UNKNOWN_VARIABLE at
+variable_at (Some app) at d =
+    chain (text_at at d) (λ (text : List ℕ). or_broken UNKNOWN_VARIABLE at (number_of (variable_names app.kind.0) text))
+
+-- an end of an interval
+abbrev pub end_at : List ℕ → Data → Result ℤ DocFault
+end_at at d = int_at (minus 1000000000) (pos 1000000000) at d
+
+-- the ends of the interval of an object at a path, by its members
+abbrev pub ends_at : List ℕ → Data → Data → Result Ends DocFault
+ends_at at least greatest =
+    chain (end_at (member_path at (codes "least")) least) (λ (low : ℤ).
+    chain (end_at (member_path at (codes "greatest")) greatest) (λ (high : ℤ).
+    if int_le low high then Ok (record { least = low; greatest = high }) else broken EMPTY_INTERVAL (member_path at (codes "greatest"))))
+
+-- the interval of an object at a path, by its members
+abbrev pub interval_at : List AppSpec → List ℕ → Data → Data → Data → Data → Result Interval DocFault
+interval_at apps at app variable least greatest =
+    chain (app_id_at apps (member_path at (codes "app")) app) (λ (app : AppId).
+    chain (variable_at (slice_get apps app.0) (member_path at (codes "variable")) variable) (λ (variable : ℕ).
+    chain (ends_at at least greatest) (λ (ends : Ends).
+    Ok (record { app = app; variable = variable; ends = ends }))))
+
+abbrev pub invariant_at : List AppSpec → List Conf → List ℕ → List Invariant → Data → Result Invariant DocFault
+invariant_at apps confs at done d =
+    chain (object_at at d) (λ (_ : ⊤).
+    chain (needed (codes "from") at d) (λ (from : Data).
+    chain (needed (codes "app") at d) (λ (app : Data).
+    chain (needed (codes "variable") at d) (λ (variable : Data).
+    chain (needed (codes "least") at d) (λ (least : Data).
+    chain (needed (codes "greatest") at d) (λ (greatest : Data).
+    chain (no_more_than 5 at d) (λ (_ : ⊤).
+    chain (source_at confs (member_path at (codes "from")) from) (λ (from : Option ConfId).
+    chain (interval_at apps at app variable least greatest) (λ (i : Interval).
+    Ok (record { from = from; app = i.app; variable = i.variable; least = i.ends.least; greatest = i.ends.greatest }))))))))))
+
+abbrev pub invariants_at : List AppSpec → List Conf → List ℕ → Data → Result (List Invariant) DocFault
+invariants_at apps confs at d = elements_at (invariant_at apps confs) 0 64 at d
+
+abbrev pub precondition_at : List AppSpec → List Conf → List ℕ → List Precondition → Data → Result Precondition DocFault
+precondition_at apps confs at done d =
+    chain (object_at at d) (λ (_ : ⊤).
+    chain (needed (codes "configuration") at d) (λ (conf : Data).
+    chain (needed (codes "app") at d) (λ (app : Data).
+    chain (needed (codes "variable") at d) (λ (variable : Data).
+    chain (needed (codes "least") at d) (λ (least : Data).
+    chain (needed (codes "greatest") at d) (λ (greatest : Data).
+    chain (no_more_than 5 at d) (λ (_ : ⊤).
+    chain (conf_id_at confs (member_path at (codes "configuration")) conf) (λ (conf : ConfId).
+    chain (interval_at apps at app variable least greatest) (λ (i : Interval).
+    Ok (record { conf = conf; app = i.app; variable = i.variable; least = i.ends.least; greatest = i.ends.greatest }))))))))))
+
+abbrev pub preconditions_at : List AppSpec → List Conf → List ℕ → Data → Result (List Precondition) DocFault
+preconditions_at apps confs at d = elements_at (precondition_at apps confs) 0 64 at d

@@ -1,0 +1,31 @@
+-- What the processors, applications, configurations and factors of a document keep.
+use Rattle.std.specs.Prelude.{◌≤◌, List}
+use Rattle.scram_types.specs.declared.specification.Proc.{Proc}
+use Rattle.scram_types.specs.declared.specification.AppSpec.{AppSpec}
+use Rattle.scram_types.specs.declared.specification.Conf.{Conf}
+use Rattle.scram_types.specs.declared.specification.Factor.{Factor}
+use Rattle.scram_types.specs.Specification.{HasLength, Each, NamesDiffer, IsAppSpec}
+use Rattle.reconf_spec.specs.declared.documents.Assumption.{Assumption}
+use Rattle.reconf_spec.specs.Applications.{app_name}
+use Rattle.reconf_spec.specs.Facts.{AllAfter, IsNewProc, IsNewConf, IsNewFactor, FewValues}
+
+pub record AreApps (apps : List AppSpec) : Type 0 where
+  pub count : HasLength 1 8 apps
+  pub differ : NamesDiffer app_name apps
+  pub each : Each (IsAppSpec apps) apps
+
+pub record IsNamed (procs : List Proc) (apps : List AppSpec) (confs : List Conf) (factors : List Factor) : Type 0 where
+  pub procs_count : HasLength 1 8 procs
+  pub procs_fit : AllAfter IsNewProc procs
+  pub apps_fit : AreApps apps
+  pub confs_count : HasLength 1 12 confs
+  pub confs_fit : AllAfter (IsNewConf procs apps) confs
+  pub factors_count : HasLength 0 6 factors
+  pub factors_fit : AllAfter IsNewFactor factors
+  pub few_values : FewValues factors
+
+pub record FitsAssumption (assumed : Assumption) : Type 0 where
+  pub halts : assumed.halts ≤ 8
+  pub changes : assumed.changes ≤ 16
+  pub window_least : 1 ≤ assumed.window
+  pub window_most : assumed.window ≤ 1000

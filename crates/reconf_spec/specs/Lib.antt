@@ -1,0 +1,16 @@
+pub mod Facts
+pub mod Kept
+pub mod Unranked
+pub mod Lists
+pub mod Names
+pub mod Members
+pub mod Processors
+pub mod Applications
+pub mod Needs
+pub mod Configurations
+pub mod Factors
+pub mod Choices
+pub mod Bounds
+pub mod Intervals
+pub mod Documents
+pub mod Answers

@@ -1,0 +1,19 @@
+-- What applications keep that are not ranked yet.
+use Rattle.std.specs.Prelude.{◌<◌, ◌≤◌, ℕ, List, length}
+use Rattle.scram_types.specs.declared.ids.AppId.{AppId}
+use Rattle.scram_types.specs.declared.specification.AppSpec.{AppSpec}
+use Rattle.scram_types.specs.Specification.{HasLength, Each, NamesDiffer, IsModeSpec}
+use Rattle.reconf_spec.specs.Applications.{app_name}
+
+-- an application whose needs are not ranked yet, among so many applications
+pub record IsUnranked (count : ℕ) (app : AppSpec) : Type 0 where
+  pub kind : app.kind.0 < 5
+  pub few_needs : length app.needs ≤ 8
+  pub needs : Each (λ (need : AppId). need.0 < count) app.needs
+  pub modes_count : HasLength 1 3 app.modes
+  pub modes : Each (IsModeSpec app.kind.0) app.modes
+
+pub record AreUnranked (apps : List AppSpec) : Type 0 where
+  pub count : HasLength 1 8 apps
+  pub differ : NamesDiffer app_name apps
+  pub each : Each (IsUnranked (length apps)) apps

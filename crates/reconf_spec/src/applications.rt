@@ -1,0 +1,192 @@
+//! Applications and their modes, before the names of their needs are looked up.
+
+ghost use Rattle.std.specs.Prelude.{◌≡◌, ◌≤◌, ◌<◌, None, length, is_some, IfOk};
+ghost use Rattle.serde_json.specs.View.{view, items_view};
+ghost use Rattle.app_model.specs.Names.{mode_names, number_of};
+ghost use Rattle.scram_types.specs.Specification.{mode_in};
+ghost use Rattle.scram_doc.specs.Chain.{ok_map};
+ghost use Rattle.scram_doc.specs.Faults.{Answers};
+ghost use Rattle.reconf_spec.specs.Lists.{folded_from};
+ghost use Rattle.reconf_spec.specs.Applications.{kind_mode_at, new_mode_at, phase_at, mode_at, modes_at, kind_at, text_after, texts_at, app_at};
+ghost use Rattle.reconf_spec.specs.Facts.{AllAfter, IsListed, IsNewMode, IsNewApp};
+
+use crate::elements::{Elements, read_list};
+use crate::names::read_new_name;
+use crate::rule;
+use app_model::{kind_named, mode_named};
+use scram_doc::{DocError, DocFault, Path, list, need, no_more, object, text, whole_in};
+use scram_types::limits::{MAX_LOAD, MAX_MODES, MAX_PHASE};
+use scram_types::{AppSpec, KindId, List, Mode, ModeSpec};
+use serde_json::Value;
+use std::alloc::Global;
+
+/// The mode of the kind that the value names.
+pub(crate) fn read_kind_mode(kind: KindId, v: &Value, at: &Path) -> Result<Mode, DocFault>
+    ensures value { ok_map (λ mode. mode.0) result ≡ kind_mode_at kind.0 at.now (view v.now) }
+    ensures of_kind { IfOk result (λ mode. IsListed (number_of (mode_names kind.0)) mode.0) }
+{
+    mode_named(kind, text(v, at)?).ok_or_else(|| DocFault::new(rule::UNKNOWN_MODE, at))
+}
+
+fn is_listed(modes: &[ModeSpec], mode: Mode) -> bool
+    ensures { result ≡ is_some (mode_in modes.now mode.0) }
+{
+    for listed in modes {
+        if listed.mode.0 == mode.0 {
+            return true;
+        }
+    }
+    false
+}
+
+fn read_new_mode(kind: KindId, done: &[ModeSpec], v: &Value, at: &Path) -> Result<Mode, DocFault>
+    ensures value { ok_map (λ mode. mode.0) result ≡ new_mode_at kind.0 done.now at.now (view v.now) }
+    ensures of_kind { IfOk result (λ mode. IsListed (number_of (mode_names kind.0)) mode.0) }
+    ensures new { IfOk result (λ mode. mode_in done.now mode.0 ≡ None) }
+{
+    let mode = read_kind_mode(kind, v, at)?;
+    if is_listed(done, mode) {
+        Err(DocFault::new(rule::MODE_TWICE, at))
+    } else {
+        Ok(mode)
+    }
+}
+
+fn read_phase(v: &Value, at: &Path) -> Result<u8, DocFault>
+    ensures value { result ≡ phase_at at.now (view v.now) }
+    ensures least { IfOk result (λ frames. 1 ≤ frames) }
+    ensures most { IfOk result (λ frames. frames ≤ 16) }
+{
+    let frames = whole_in(v, 1, u32::from(MAX_PHASE) + 1, at)?;
+    Ok(frames as u8)
+}
+
+fn read_mode(kind: KindId, done: &[ModeSpec], v: &Value, at: &Path) -> Result<ModeSpec, DocFault>
+    requires room { length at.now ≤ 40 }
+    ensures value { result ≡ mode_at kind.0 at.now done.now (view v.now) }
+    ensures fits { IfOk result (λ mode. IsNewMode kind.0 done.now mode) }
+{
+    object(v, at)?;
+    let mode = need(v, "mode", at)?;
+    let load = need(v, "load", at)?;
+    let halt = need(v, "halt", at)?;
+    let prepare = need(v, "prepare", at)?;
+    let init = need(v, "init", at)?;
+    no_more(v, 5, at)?;
+    let mode = read_new_mode(kind, done, mode, &at.member("mode"))?;
+    let load = whole_in(load, 0, MAX_LOAD + 1, &at.member("load"))?;
+    let halt = read_phase(halt, &at.member("halt"))?;
+    let prepare = read_phase(prepare, &at.member("prepare"))?;
+    let init = read_phase(init, &at.member("init"))?;
+    Ok(ModeSpec {
+        mode,
+        load,
+        halt,
+        prepare,
+        init,
+    })
+}
+
+#[derive(Clone, Copy)]
+struct Modes {
+    kind: KindId,
+}
+
+impl Elements<ModeSpec> for Modes {
+    ghost room = { 40 };
+
+    ghost reading = { λ modes. mode_at modes.kind.0 };
+
+    ghost Fits = { λ modes. IsNewMode modes.kind.0 };
+
+    fn read(
+        &self,
+        _alloc: Global,
+        done: &[ModeSpec],
+        v: &Value,
+        at: &Path,
+    ) -> Result<ModeSpec, DocError> {
+        read_mode(self.kind, done, v, at).map_err(DocError::Fault)
+    }
+}
+
+fn read_modes(alloc: Global, kind: KindId, v: &Value, at: &Path) -> Result<List<ModeSpec>, DocError>
+    requires room { length at.now ≤ 34 }
+    ensures value { Answers (modes_at kind.0 at.now (view v.now)) (λ l. l) result }
+    ensures least { IfOk result (λ l. 1 ≤ length l) }
+    ensures most { IfOk result (λ l. length l ≤ 3) }
+    ensures fits { IfOk result (λ l. AllAfter (IsNewMode kind.0) l) }
+{
+    read_list(alloc, &Modes { kind }, v, 1, MAX_MODES, at)
+}
+
+fn read_kind(v: &Value, at: &Path) -> Result<KindId, DocFault>
+    ensures value { ok_map (λ kind. kind.0) result ≡ kind_at at.now (view v.now) }
+    ensures built { IfOk result (λ kind. kind.0 < 5) }
+{
+    kind_named(text(v, at)?).ok_or_else(|| DocFault::new(rule::UNKNOWN_KIND, at))
+}
+
+fn check_texts(items: &[Value], at: &Path) -> Result<(), DocFault>
+    requires room { length at.now ≤ 40 }
+    requires few { length items.now ≤ 8 }
+    ensures { result ≡ folded_from text_after at.now 0 tt (items_view items.now) }
+{
+    for (i, v) in items.iter().enumerate() {
+        text(v, &at.item(i))?;
+    }
+    Ok(())
+}
+
+/// Tests that the value is a list of 0 to 8 texts.
+fn check_text_list(v: &Value, at: &Path) -> Result<(), DocFault>
+    requires room { length at.now ≤ 40 }
+    ensures { result ≡ texts_at at.now (view v.now) }
+{
+    check_texts(list(v, 0, 8, at)?, at)
+}
+
+fn read_app(alloc: Global, done: &[AppSpec], v: &Value, at: &Path) -> Result<AppSpec, DocError>
+    requires room { length at.now ≤ 24 }
+    ensures value { Answers (app_at at.now done.now (view v.now)) (λ app. app) result }
+    ensures fits { IfOk result (λ app. IsNewApp done.now app) }
+{
+    object(v, at).map_err(DocError::Fault)?;
+    let name = need(v, "name", at).map_err(DocError::Fault)?;
+    let kind = need(v, "kind", at).map_err(DocError::Fault)?;
+    let needs = need(v, "needs", at).map_err(DocError::Fault)?;
+    let modes = need(v, "modes", at).map_err(DocError::Fault)?;
+    no_more(v, 4, at).map_err(DocError::Fault)?;
+    let name = read_new_name(done, name, &at.member("name")).map_err(DocError::Fault)?;
+    let kind = read_kind(kind, &at.member("kind")).map_err(DocError::Fault)?;
+    check_text_list(needs, &at.member("needs")).map_err(DocError::Fault)?;
+    let modes = read_modes(alloc, kind, modes, &at.member("modes"))?;
+    Ok(AppSpec {
+        name,
+        kind,
+        needs: List::of(Vec::new(alloc)),
+        modes,
+        rank: 0,
+    })
+}
+
+/// Applications, without their needs and their ranks.
+pub(crate) struct Apps;
+
+impl Elements<AppSpec> for Apps {
+    ghost room = { 24 };
+
+    ghost reading = { λ _. app_at };
+
+    ghost Fits = { λ _. IsNewApp };
+
+    fn read(
+        &self,
+        alloc: Global,
+        done: &[AppSpec],
+        v: &Value,
+        at: &Path,
+    ) -> Result<AppSpec, DocError> {
+        read_app(alloc, done, v, at)
+    }
+}

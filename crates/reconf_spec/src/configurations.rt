@@ -1,0 +1,178 @@
+//! Configurations and the places of applications in them.
+
+ghost use Rattle.std.specs.Prelude.{◌≡◌, ◌≤◌, ◌<◌, None, codes, length, is_some, replicate, slice_get, IfOk};
+ghost use Rattle.std.specs.Option.{option_copied};
+ghost use Rattle.serde_json.specs.View.{view, items_view};
+ghost use Rattle.scram_types.specs.Specification.{mode_in, IsPlace};
+ghost use Rattle.scram_doc.specs.Chain.{ok_map};
+ghost use Rattle.scram_doc.specs.Faults.{Answers};
+ghost use Rattle.reconf_spec.specs.Lists.{folded_from};
+ghost use Rattle.reconf_spec.specs.Configurations.{is_placed, unplaced_at, listed_mode_at, places_after, places_at, conf_at, confs_at};
+ghost use Rattle.reconf_spec.specs.Members.{member_in};
+ghost use Rattle.reconf_spec.specs.Facts.{AllAfter, ListsMode, IsPlacedAfter, ArePlaces, IsNewConf};
+
+use crate::applications::read_kind_mode;
+use crate::elements::{Elements, read_list};
+use crate::names::{read_named, read_new_name};
+use crate::rule;
+use scram_doc::{DocError, DocFault, Path, list, need, no_more, object};
+use scram_types::limits::{MAX_APPLICATIONS, MAX_CONFIGURATIONS};
+use scram_types::{AppId, AppSpec, Conf, List, Mode, Place, Proc, ProcId};
+use serde_json::Value;
+use std::alloc::Global;
+
+type Places = [Option<Place>; 8];
+
+fn has_place(places: &Places, app: AppId) -> bool
+    ensures { result ≡ is_placed places.now app.0 }
+{
+    match places.get(usize::from(app.0)) {
+        Some(Some(_)) => true,
+        Some(None) | None => false,
+    }
+}
+
+fn read_unplaced(apps: &[AppSpec], places: &Places, v: &Value, at: &Path) -> Result<AppId, DocFault>
+    requires few { length apps.now ≤ 8 }
+    ensures value { ok_map (λ app. app.0) result ≡ unplaced_at apps.now places.now at.now (view v.now) }
+    ensures there { IfOk result (λ app. app.0 < length apps.now) }
+{
+    let app = AppId(read_named(apps, rule::UNKNOWN_APPLICATION, v, at)?);
+    if has_place(places, app) {
+        Err(DocFault::new(rule::TWICE_IN_LIST, at))
+    } else {
+        Ok(app)
+    }
+}
+
+fn read_listed_mode(app: Option<&AppSpec>, v: &Value, at: &Path) -> Result<Mode, DocFault>
+    ensures value { ok_map (λ mode. mode.0) result ≡ listed_mode_at (option_copied app.entry) at.now (view v.now) }
+    ensures listed { IfOk result (λ mode. ListsMode (option_copied app.entry) mode.0) }
+{
+    let Some(app) = app else {
+        return Err(DocFault::new(rule::MODE_NOT_LISTED, at));
+    };
+    let mode = read_kind_mode(app.kind, v, at)?;
+    match app.mode(mode) {
+        Some(_) => Ok(mode),
+        None => Err(DocFault::new(rule::MODE_NOT_LISTED, at)),
+    }
+}
+
+/// The places with the one that the value adds.
+fn read_place(
+    procs: &[Proc],
+    apps: &[AppSpec],
+    places: Places,
+    v: &Value,
+    at: &Path,
+) -> Result<Places, DocFault>
+    requires room { length at.now ≤ 40 }
+    requires procs { length procs.now ≤ 8 }
+    requires apps { length apps.now ≤ 8 }
+    ensures value { result ≡ places_after procs.now apps.now at.now places (view v.now) }
+    ensures fits { IfOk result (λ more. IsPlacedAfter procs.now apps.now places more) }
+{
+    object(v, at)?;
+    let app = need(v, "app", at)?;
+    let mode = need(v, "mode", at)?;
+    let on = need(v, "on", at)?;
+    no_more(v, 3, at)?;
+    let app = read_unplaced(apps, &places, app, &at.member("app"))?;
+    let mode = read_listed_mode(apps.get(usize::from(app.0)), mode, &at.member("mode"))?;
+    let proc = ProcId(read_named(procs, rule::UNKNOWN_PROCESSOR, on, &at.member("on"))?);
+    let mut places = places;
+    places[usize::from(app.0)] = Some(Place { mode, proc });
+    Ok(places)
+}
+
+fn read_places(
+    procs: &[Proc],
+    apps: &[AppSpec],
+    items: &[Value],
+    at: &Path,
+) -> Result<Places, DocFault>
+    requires room { length at.now ≤ 34 }
+    requires few { length items.now ≤ 8 }
+    requires procs { length procs.now ≤ 8 }
+    requires apps { length apps.now ≤ 8 }
+    ensures value { result ≡ folded_from (places_after procs.now apps.now) at.now 0 (replicate 8 None) (items_view items.now) }
+    ensures fits { IfOk result (λ places. ArePlaces procs.now apps.now places) }
+{
+    let mut places = [None; 8];
+    for (i, v) in items.iter().enumerate() {
+        places = read_place(procs, apps, places, v, &at.item(i))?;
+    }
+    Ok(places)
+}
+
+fn read_conf(
+    procs: &[Proc],
+    apps: &[AppSpec],
+    done: &[Conf],
+    v: &Value,
+    at: &Path,
+) -> Result<Conf, DocFault>
+    requires room { length at.now ≤ 24 }
+    requires procs { length procs.now ≤ 8 }
+    requires apps { length apps.now ≤ 8 }
+    ensures value { result ≡ conf_at procs.now apps.now at.now done.now (view v.now) }
+    ensures fits { IfOk result (λ conf. IsNewConf procs.now apps.now done.now conf) }
+{
+    object(v, at)?;
+    let name = need(v, "name", at)?;
+    let places = need(v, "apps", at)?;
+    no_more(v, 2, at)?;
+    let name = read_new_name(done, name, &at.member("name"))?;
+    let at = at.member("apps");
+    let places = read_places(procs, apps, list(places, 0, MAX_APPLICATIONS, &at)?, &at)?;
+    Ok(Conf { name, places })
+}
+
+#[derive(Clone, Copy)]
+struct Confs<'a> {
+    procs: &'a [Proc],
+    apps: &'a [AppSpec],
+
+    ghost few_procs: { length procs.now ≤ 8 },
+    ghost few_apps: { length apps.now ≤ 8 },
+}
+
+impl Elements<Conf> for Confs<'_> {
+    ghost room = { 24 };
+
+    ghost reading = { λ confs. conf_at confs.procs.now confs.apps.now };
+
+    ghost Fits = { λ confs. IsNewConf confs.procs.now confs.apps.now };
+
+    fn read(&self, _alloc: Global, done: &[Conf], v: &Value, at: &Path) -> Result<Conf, DocError> {
+        read_conf(self.procs, self.apps, done, v, at).map_err(DocError::Fault)
+    }
+}
+
+/// The configurations of a document, 1 to 12 of them.
+pub(crate) fn read_confs(
+    alloc: Global,
+    procs: &[Proc],
+    apps: &[AppSpec],
+    document: &Value,
+) -> Result<List<Conf>, DocError>
+    requires procs { length procs.now ≤ 8 }
+    requires apps { length apps.now ≤ 8 }
+    ensures value { Answers (member_in (codes "configurations") (confs_at procs.now apps.now) (view document.now)) (λ l. l) result }
+    ensures least { IfOk result (λ l. 1 ≤ length l) }
+    ensures few { IfOk result (λ l. length l ≤ 12) }
+    ensures fits { IfOk result (λ l. AllAfter (IsNewConf procs.now apps.now) l) }
+{
+    let root = Path::root();
+    let confs = need(document, "configurations", &root).map_err(DocError::Fault)?;
+    let at = root.member("configurations");
+    read_list(
+        alloc,
+        &Confs { procs, apps },
+        confs,
+        1,
+        MAX_CONFIGURATIONS,
+        &at,
+    )
+}

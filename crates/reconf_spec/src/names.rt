@@ -1,0 +1,113 @@
+//! Names, and what they name.
+
+ghost use Rattle.std.specs.Prelude.{◌≡◌, ◌<◌, ◌≤◌, None, length, is_some, IfSome, IfOk};
+ghost use Rattle.serde_json.specs.View.{view};
+ghost use Rattle.reconf_spec.specs.Names.{found, name_at, new_name_at, named_at};
+ghost use Rattle.reconf_spec.specs.Processors.{proc_name};
+ghost use Rattle.reconf_spec.specs.Applications.{app_name};
+ghost use Rattle.reconf_spec.specs.Configurations.{conf_name};
+ghost use Rattle.reconf_spec.specs.Factors.{factor_name, own_name};
+
+use crate::rule;
+use scram_doc::{DocFault, Path, text};
+use scram_types::{AppSpec, Conf, Factor, Name, Proc};
+use serde_json::Value;
+
+/// What has a name.
+pub(crate) trait Named {
+    ghost use Rattle.std.specs.Prelude.{List, ℕ};
+
+    ghost spelling: { Self → List ℕ };
+
+    /// Its name.
+    fn name(&self) -> &Name
+        ensures { result.now ≡ spelling self.now };
+}
+
+impl Named for Proc {
+    ghost spelling = { proc_name };
+
+    fn name(&self) -> &Name {
+        &self.name
+    }
+}
+
+impl Named for AppSpec {
+    ghost spelling = { app_name };
+
+    fn name(&self) -> &Name {
+        &self.name
+    }
+}
+
+impl Named for Conf {
+    ghost spelling = { conf_name };
+
+    fn name(&self) -> &Name {
+        &self.name
+    }
+}
+
+impl Named for Factor {
+    ghost spelling = { factor_name };
+
+    fn name(&self) -> &Name {
+        &self.name
+    }
+}
+
+impl Named for Name {
+    ghost spelling = { own_name };
+
+    fn name(&self) -> &Name {
+        self
+    }
+}
+
+fn find<T: Named>(items: &[T], text: &str) -> Option<usize>
+    ensures number { result ≡ found T.spelling items.now text.now }
+    ensures below { IfSome result (λ number. number < length items.now) }
+{
+    for (i, item) in items.iter().enumerate() {
+        if item.name().as_str() == text {
+            return Some(i);
+        }
+    }
+    None
+}
+
+/// The name that the value is.
+fn read_name(v: &Value, at: &Path) -> Result<Name, DocFault>
+    ensures { result ≡ name_at at.now (view v.now) }
+{
+    Name::of(text(v, at)?).ok_or_else(|| DocFault::new(rule::NO_NAME, at))
+}
+
+/// The name that the value is, if no item has it yet.
+pub(crate) fn read_new_name<T: Named>(items: &[T], v: &Value, at: &Path) -> Result<Name, DocFault>
+    ensures value { result ≡ new_name_at T.spelling items.now at.now (view v.now) }
+    ensures new { IfOk result (λ name. found T.spelling items.now name ≡ None) }
+{
+    let name = read_name(v, at)?;
+    match find(items, name.as_str()) {
+        Some(_) => Err(DocFault::new(rule::NAME_TWICE, at)),
+        None => Ok(name),
+    }
+}
+
+/// The number of the item that the value names, or else the rule is broken.
+pub(crate) fn read_named<T: Named>(
+    items: &[T],
+    unknown: u8,
+    v: &Value,
+    at: &Path,
+) -> Result<u8, DocFault>
+    requires few { length items.now ≤ 255 }
+    ensures value { result ≡ named_at T.spelling items.now unknown at.now (view v.now) }
+    ensures below { IfOk result (λ number. number < length items.now) }
+{
+    match find(items, text(v, at)?) {
+        Some(number) => Ok(number as u8),
+        None => Err(DocFault::new(unknown, at)),
+    }
+}

@@ -1,0 +1,198 @@
+//! What applications need.
+
+ghost use Rattle.std.specs.Prelude.{◌≡◌, ◌≤◌, ◌<◌, ◌+◌, ℕ, [], false, length, All, Ok, codes, IfErr, IfOk, OnOk, true};
+ghost use Rattle.serde_json.specs.View.{view, items_view};
+ghost use Rattle.scram_types.specs.Specification.{Each};
+ghost use Rattle.scram_doc.specs.Chain.{ok_map};
+ghost use Rattle.scram_doc.specs.Faults.{Answers};
+ghost use Rattle.reconf_spec.specs.Lists.{elements_from, elements_at};
+ghost use Rattle.reconf_spec.specs.Members.{member_in};
+ghost use Rattle.reconf_spec.specs.Needs.{apps_in, are_ranked, has_app, need_at, needs_at, with_needs, with_ranks, ranked_at, unranked_at};
+ghost use Rattle.reconf_spec.specs.Facts.{AllAfter, IsNewNeed, AreNeeds};
+ghost use Rattle.dep_order.specs.Ranks.{IsCycle, IsRanking, RanksFall};
+ghost use Rattle.reconf_spec.specs.Answers.{Tells, ShowsCycle, CycleAmong};
+ghost use Rattle.reconf_spec.specs.Kept.{AreApps};
+ghost use Rattle.reconf_spec.specs.Unranked.{AreUnranked};
+
+use crate::applications::Apps;
+use crate::elements::{Elements, read_items, read_list};
+use crate::names::read_named;
+use crate::{SpecError, SpecFault, rule};
+use arrayvec::ArrayVec;
+use dep_order::{Cycle, rank};
+use scram_doc::{DocError, DocFault, Path, list, need};
+use scram_types::limits::MAX_APPLICATIONS;
+use scram_types::{AppId, AppSpec, List};
+use serde_json::Value;
+use std::alloc::Global;
+
+fn is_needed(needs: &[AppId], app: AppId) -> bool
+    ensures { result ≡ has_app needs.now app.0 }
+{
+    needs.iter().any(|needed| needed.0 == app.0)
+}
+
+fn read_need(apps: &[AppSpec], done: &[AppId], v: &Value, at: &Path) -> Result<AppId, DocFault>
+    requires few { length apps.now ≤ 8 }
+    ensures value { result ≡ need_at apps.now at.now done.now (view v.now) }
+    ensures fits { IfOk result (λ need. IsNewNeed apps.now done.now need) }
+{
+    let app = AppId(read_named(apps, rule::UNKNOWN_APPLICATION, v, at)?);
+    if is_needed(done, app) {
+        Err(DocFault::new(rule::TWICE_IN_LIST, at))
+    } else {
+        Ok(app)
+    }
+}
+
+/// Needs, among these applications.
+#[derive(Clone, Copy)]
+struct Needs<'a> {
+    apps: &'a [AppSpec],
+
+    ghost few: { length apps.now ≤ 8 },
+}
+
+impl Elements<AppId> for Needs<'_> {
+    ghost room = { 40 };
+
+    ghost reading = { λ needs. need_at needs.apps.now };
+
+    ghost Fits = { λ needs. IsNewNeed needs.apps.now };
+
+    fn read(
+        &self,
+        _alloc: Global,
+        done: &[AppId],
+        v: &Value,
+        at: &Path,
+    ) -> Result<AppId, DocError> {
+        read_need(self.apps, done, v, at).map_err(DocError::Fault)
+    }
+}
+
+fn read_needs(
+    alloc: Global,
+    apps: &[AppSpec],
+    v: &Value,
+    at: &Path,
+) -> Result<List<AppId>, DocError>
+    requires room { length at.now ≤ 24 }
+    requires few { length apps.now ≤ 8 }
+    ensures value { Answers (needs_at apps.now at.now [] (view v.now)) (λ l. l) result }
+    ensures fits { IfOk result (λ l. AreNeeds apps.now l) }
+{
+    let needs = need(v, "needs", at).map_err(DocError::Fault)?;
+    let at = at.member("needs");
+    read_list(alloc, &Needs { apps }, needs, 0, MAX_APPLICATIONS, &at)
+}
+
+impl Elements<List<AppId>> for Needs<'_> {
+    ghost room = { 24 };
+
+    ghost reading = { λ needs. needs_at needs.apps.now };
+
+    ghost Fits = { λ needs _. AreNeeds needs.apps.now };
+
+    fn read(
+        &self,
+        alloc: Global,
+        _done: &[List<AppId>],
+        v: &Value,
+        at: &Path,
+    ) -> Result<List<AppId>, DocError> {
+        read_needs(alloc, self.apps, v, at)
+    }
+}
+
+/// Gives each application its needs.
+fn set_needs(apps: &mut [AppSpec], needs: Vec<List<AppId>>)
+    requires { length needs.items ≤ length apps.old }
+    ensures { apps.new ≡ with_needs apps.old needs.items }
+{
+    let mut needs = needs;
+    while let Some(named) = needs.pop() {
+        apps[needs.len()].needs = named;
+    }
+}
+
+/// Gives each application its rank.
+fn set_ranks(apps: &mut [AppSpec], ranks: ArrayVec<u8, 8>)
+    requires { length ranks.items ≤ length apps.old }
+    ensures { apps.new ≡ with_ranks apps.old ranks.items }
+{
+    let mut ranks = ranks;
+    while let Some(rank) = ranks.pop() {
+        apps[ranks.len()].rank = rank;
+    }
+}
+
+/// The applications with their needs, not ranked yet.
+fn read_unranked(alloc: Global, v: &Value, at: &Path) -> Result<Vec<AppSpec>, DocError>
+    requires room { length at.now ≤ 18 }
+    ensures value { Answers (unranked_at at.now (view v.now)) (λ apps. apps.items) result }
+    ensures fits { IfOk result (λ apps. AreUnranked apps.items) }
+{
+    let items = list(v, 1, MAX_APPLICATIONS, at).map_err(DocError::Fault)?;
+    let apps: List<AppSpec> = read_items(alloc, &Apps, items, at)?;
+    let known = Needs { apps: apps.items() };
+    let needs: List<List<AppId>> = read_items(alloc, &known, items, at)?;
+    let mut apps = apps.into_items();
+    set_needs(&mut apps, needs.into_items());
+    Ok(apps)
+}
+
+/// The applications with their ranks, or the cycle that keeps them from having any.
+fn finish_apps(
+    apps: Vec<AppSpec>,
+    ranked: Result<ArrayVec<u8, 8>, Cycle>,
+    at: &Path,
+) -> Result<List<AppSpec>, SpecError>
+    requires fits { AreUnranked apps.items }
+    requires ranks { IfOk ranked (λ ranks. IsRanking apps.items ranks.items) }
+    requires falls { IfOk ranked (λ ranks. RanksFall apps.items ranks.items) }
+    requires small { IfOk ranked (λ ranks. All (λ (rank : ℕ). rank < 8) ranks.items) }
+    requires cycle { IfErr ranked (λ cycle. IsCycle apps.items cycle.0.items) }
+    ensures value { Tells (ranked_at at.now apps.items) result }
+    ensures cycle { IfErr result (λ error. ShowsCycle (Ok apps.items) error) }
+    ensures no_cycle { OnOk result (are_ranked apps.items ≡ true) }
+    ensures fits { IfOk result (λ l. AreApps l) }
+{
+    match ranked {
+        Ok(ranks) => {
+            let mut apps = apps;
+            set_ranks(&mut apps, ranks);
+            Ok(List::of(apps))
+        }
+        Err(cycle) => Err(SpecError::Fault(SpecFault {
+            rule: rule::CYCLE_OF_NEEDS,
+            path: at.copy(),
+            cycle: cycle.0,
+        })),
+    }
+}
+
+fn read_unranked_of(alloc: Global, document: &Value) -> Result<Vec<AppSpec>, DocError>
+    ensures value { Answers (member_in (codes "apps") unranked_at (view document.now)) (λ apps. apps.items) result }
+    ensures fits { IfOk result (λ apps. AreUnranked apps.items) }
+{
+    let root = Path::root();
+    let apps = need(document, "apps", &root).map_err(DocError::Fault)?;
+    read_unranked(alloc, apps, &root.member("apps"))
+}
+
+/// The applications of a document, 1 to 8 of them, ranked by what they need.
+pub(crate) fn read_apps(alloc: Global, document: &Value) -> Result<List<AppSpec>, SpecError>
+    ensures value { Tells (apps_in (view document.now)) result }
+    ensures cycle { IfErr result (λ error. ShowsCycle (member_in (codes "apps") unranked_at (view document.now)) error) }
+    ensures no_cycle { OnOk result (CycleAmong (member_in (codes "apps") unranked_at (view document.now)) []) }
+    ensures fits { IfOk result (λ l. AreApps l) }
+{
+    match read_unranked_of(alloc, document) {
+        Ok(apps) => {
+            let ranked = rank(&apps);
+            finish_apps(apps, ranked, &Path::root().member("apps"))
+        }
+        Err(error) => Err(SpecError::unread(error)),
+    }
+}

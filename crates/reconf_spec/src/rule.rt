@@ -1,0 +1,53 @@
+//! The numbers of the rules that a specification keeps beside those of every document. A fault shows its
+//! number, so they never change.
+
+/// The version is neither 1 nor 2.
+pub const UNKNOWN_VERSION: u8 = 9;
+
+/// A text that gives a name is no name.
+pub const NO_NAME: u8 = 10;
+
+/// A name is given twice in its list.
+pub const NAME_TWICE: u8 = 11;
+
+/// No kind of application has this name.
+pub const UNKNOWN_KIND: u8 = 12;
+
+/// The kind has no mode of this name.
+pub const UNKNOWN_MODE: u8 = 13;
+
+/// An application lists a mode twice.
+pub const MODE_TWICE: u8 = 14;
+
+/// No processor has this name.
+pub const UNKNOWN_PROCESSOR: u8 = 15;
+
+/// No application has this name.
+pub const UNKNOWN_APPLICATION: u8 = 16;
+
+/// No configuration has this name.
+pub const UNKNOWN_CONFIGURATION: u8 = 17;
+
+/// No factor has this name, or the factor has no value of this name.
+pub const UNKNOWN_FACTOR_OR_VALUE: u8 = 18;
+
+/// The application's kind has no variable of this name.
+pub const UNKNOWN_VARIABLE: u8 = 19;
+
+/// The same application, processor, factor or pair of configurations stands twice in one list.
+pub const TWICE_IN_LIST: u8 = 20;
+
+/// The needs have a cycle.
+pub const CYCLE_OF_NEEDS: u8 = 21;
+
+/// The application does not list the mode.
+pub const MODE_NOT_LISTED: u8 = 22;
+
+/// The least value of an interval is above its greatest.
+pub const EMPTY_INTERVAL: u8 = 23;
+
+/// The document has more than 1,048,576 bytes.
+pub const TOO_LONG: u8 = 24;
+
+/// The policy is neither `retarget` nor `settle`.
+pub const UNKNOWN_POLICY: u8 = 25;

@@ -1,0 +1,157 @@
+-- The rows of a script are those of a run of the law, and a script within its assumption is within the law's.
+use Rattle.std.proofs.Common.{◌≡◌, ℕ, zero, suc, ◌+◌, ◌-◌, ◌*◌, ◌<◌, ◌≤◌, Bool, true, false, not, refl, arith, ◌⊎◌, ap, sym, ◌∙◌, List, [], ◌∷◌, length}
+use mathlib.Core.Logic.{inl, inr}
+use Rattle.std.specs.Prelude.{Option, Some, None, slice_get, nat_lt, nat_le, nat_eq, ◌&&◌, ◌==◌, ◌^◌, if◌then◌else◌}
+use Rattle.std.specs.Int.{bit_at}
+use Rattle.std.specs.Option.{option_map_or}
+use Rattle.std.proofs.lemmas.Bool.Decides.{nat_tests}
+use Rattle.std.proofs.lemmas.Option.{slice_get_within}
+use Rattle.scram_types.specs.declared.flights.Env.{Env}
+use Rattle.scram_types.specs.declared.scripts.Change.{Change}
+use Rattle.scram_types.specs.declared.specification.Factor.{Factor}
+use Rattle.scram_types.specs.Scripts.{ScriptParts}
+use Rattle.scram_types.specs.Specification.{IsSpec, Parts}
+use Rattle.choice_table.specs.Environments.{count_below, factor_in, has_bit, in_scope, is_up_in}
+use Rattle.fault_script.specs.Assumption as assumption
+use Rattle.fault_script.specs.Environments.{bits_below, env_at}
+use Rattle.fault_script.specs.Fits.{Fits}
+use Rattle.fault_script.specs.Laws.{EnvironmentsShow, LossesShow, Shows}
+use Rattle.fault_script.specs.Times.{commits, factor_at, factors_at, is_up, value_after}
+use Rattle.fault_script.proofs.Bits.{no_bit}
+use Rattle.frame_model.specs.Runs.{all_below}
+use Rattle.coverage_check.specs.Choosing.{opening_env}
+use Rattle.trace_props.specs.Courses as courses
+use Rattle.trace_props.specs.Courses.{IsWithin}
+use Rattle.trace_props.specs.Builds.{IsRun}
+use Rattle.trace_props.proofs.Tests.{by_test, and_left, and_right, lt_true, le_true}
+use Rattle.trace_props.proofs.Products.{build_of, flight_of, has_value, is_env, plan_of}
+use Rattle.trace_props.proofs.Acting.{committed, runs_same}
+
+lt_is : (a b : ℕ) → a < b → nat_lt a b ≡ true
+lt_is a b h = grind (arith, nat_tests)
+
+le_is : (a b : ℕ) → a ≤ b → nat_le a b ≡ true
+le_is a b h = grind (arith, nat_tests)
+
+low_or_high : (a b : ℕ) → (a < b) ⊎ (b ≤ a)
+low_or_high a b = grind arith
+
+-- every flight opens with all processors up and each factor at its first value
+all_bits : (n : ℕ) → suc (bits_below (λ p. true) n) ≡ 2 ^ n
+all_bits zero = refl
+all_bits (suc n) = let before = all_bits n in grind (arith, before)
+
+first_value : (x : ℕ) (changes : List Change) (value : ℕ) → ((k : ℕ) (change : Change) → slice_get changes k ≡ Some change → 1 ≤ change.frame) → value_after changes x 0 value ≡ value
+first_value x [] value later = refl
+first_value x (change ∷ changes) value later =
+    by_test (λ v. value_after changes x 0 v ≡ value) (change.factor.0 == x && nat_le change.frame 0) _ _
+    (λ e. let early = le_true change.frame 0 (and_right (change.factor.0 == x) _ e) in let least = later 0 change refl in absurd (omega arith))
+    (λ e. first_value x changes value (λ k other there. later (suc k) other there))
+
+opens : (spec : Parts) (script : ScriptParts) → Fits spec script → env_at spec script 0 ≡ opening_env spec
+opens spec script fits = made _ _ _ _ (let all = all_bits (length spec.procs) in omega arith) (sixth (at 0) (at 1) (at 2) (at 3) (at 4) (at 5))
+  where
+    made : (a b : ℕ) (xs ys : List ℕ) → a ≡ b → xs ≡ ys → ◌≡◌ {A = Env} (record { up = a; factors = xs }) (record { up = b; factors = ys })
+    made a b xs ys e k = rw (e, k) refl
+
+    at : (x : ℕ) → factor_at script x 0 ≡ 0
+    at x = first_value x script.changes 0 (λ k change there. (fits.changes k change there).least)
+
+    sixth : {a b c d e f : ℕ} → a ≡ 0 → b ≡ 0 → c ≡ 0 → d ≡ 0 → e ≡ 0 → f ≡ 0 → ◌≡◌ {A = List ℕ} (a ∷ b ∷ c ∷ d ∷ e ∷ f ∷ []) (0 ∷ 0 ∷ 0 ∷ 0 ∷ 0 ∷ 0 ∷ [])
+    sixth p q r s t u = rw (p, q, r, s, t, u) refl
+
+-- every environment of a script belongs to the specification
+all_pass : (test : ℕ → Bool) (n : ℕ) → ((a : ℕ) → a < n → test a ≡ true) → all_below test n ≡ true
+all_pass test zero h = refl
+all_pass test (suc n) h =
+    let before = all_pass test n (λ a below. h a (omega arith)) in
+    let here = h n (omega arith) in
+    rw (here, before) refl
+
+six_at : (spec : Parts) (script : ScriptParts) (f x : ℕ) → x < 6 → factor_in (env_at spec script f) x ≡ factor_at script x f
+six_at spec script f zero h = refl
+six_at spec script f (suc zero) h = refl
+six_at spec script f (suc (suc zero)) h = refl
+six_at spec script f (suc (suc (suc zero))) h = refl
+six_at spec script f (suc (suc (suc (suc zero)))) h = refl
+six_at spec script f (suc (suc (suc (suc (suc zero))))) h = refl
+six_at spec script f (suc (suc (suc (suc (suc (suc x)))))) h = absurd (omega arith)
+
+none_or_some : (o : Option Factor) → (o ≡ None) ⊎ ((factor : Factor) × (o ≡ Some factor))
+none_or_some None = inl refl
+none_or_some (Some factor) = inr (factor, refl)
+
+past_factors : (xs : List Factor) (x : ℕ) → slice_get xs x ≡ None → length xs ≤ x
+past_factors [] x h = omega arith
+past_factors (y ∷ ys) zero h = cc
+past_factors (y ∷ ys) (suc x) h = let before = past_factors ys x h in omega arith
+
+belongs : (spec : Parts) (script : ScriptParts) (f : ℕ) → Shows spec script f → is_env spec (env_at spec script f) ≡ true
+belongs spec script f shows =
+    let low = lt_is (env_at spec script f).up (2 ^ length spec.procs) shows.past in
+    let each = all_pass (has_value spec (env_at spec script f)) 6 (λ x below. has x below (none_or_some (slice_get spec.factors x))) in
+    rw (low, each) refl
+  where
+    has : (x : ℕ) → x < 6 → (slice_get spec.factors x ≡ None) ⊎ ((factor : Factor) × (slice_get spec.factors x ≡ Some factor)) → has_value spec (env_at spec script f) x ≡ true
+    has x below (inl none) =
+        let zero_there = six_at spec script f x below ∙ shows.rest x (past_factors spec.factors x none) in
+        rw (none, zero_there) refl
+    has x below (inr some) =
+        let there = six_at spec script f x below in
+        rw (some.1, there) (lt_is (factor_at script x f) (length some.0.values) (shows.values x some.0 some.1))
+
+-- who is down in an environment is who is not up
+bit_up : (v : Env) (p : ℕ) → bit_at v.up p ≡ 1 → is_up_in v p ≡ true
+bit_up v p h = rw h refl
+
+pub bit_down : (v : Env) (p : ℕ) → bit_at v.up p ≡ 0 → is_up_in v p ≡ false
+bit_down v p h = rw h refl
+
+down_in : (spec : Parts) (script : ScriptParts) (f : ℕ) → Shows spec script f → (p : ℕ) → is_up script p f ≡ false → is_up_in (env_at spec script f) p ≡ false
+down_in spec script f shows p down = elim (low_or_high p (length spec.procs)) [
+  | inl low ↦ bit_down (env_at spec script f) p (shows.down p low down)
+  | inr high ↦ bit_down (env_at spec script f) p (no_bit (env_at spec script f).up (length spec.procs) p shows.past high)
+]
+
+up_as : (spec : Parts) (script : ScriptParts) (f : ℕ) → Shows spec script f → (p : ℕ) → p < length spec.procs → (b : Bool) → is_up script p f ≡ b → is_up_in (env_at spec script f) p ≡ b
+up_as spec script f shows p low true up = bit_up (env_at spec script f) p (shows.up p low up)
+up_as spec script f shows p low false down = bit_down (env_at spec script f) p (shows.down p low down)
+
+one_down : (b : Bool) → ◌≡◌ {A = ℕ} (if b then 0 else 1) (if not b then 1 else 0)
+one_down true = refl
+one_down false = refl
+
+counted_down : (spec : Parts) (script : ScriptParts) (f : ℕ) → Shows spec script f → (n : ℕ) → n ≤ length spec.procs
+    → assumption.down_below script f n ≡ count_below (λ p. not (is_up_in (env_at spec script f) p)) n
+counted_down spec script f shows zero few = refl
+counted_down spec script f shows (suc n) few =
+    let before = counted_down spec script f shows n (omega arith) in
+    let here = up_as spec script f shows n (omega arith) (is_up script n f) refl in
+    rw (here, ← before) (ap (λ k. assumption.down_below script f n + k) (one_down (is_up script n f)))
+
+scope : (spec : Parts) (script : ScriptParts) (f : ℕ) → Shows spec script f → assumption.down_below script f (length spec.procs) ≤ spec.halts → in_scope spec (env_at spec script f) ≡ true
+scope spec script f shows few = le_is _ spec.halts (rw (counted_down spec script f shows (length spec.procs) (omega arith)) at few)
+
+both : (a b : Bool) → a ≡ true → b ≡ true → (a && b) ≡ true
+both a b p q = rw (p, q) refl
+
+pub counts_same : (spec : Parts) (script : ScriptParts) (f : ℕ) → courses.changes_upto (plan_of spec) (env_at spec script) f ≡ assumption.changes_upto spec script f
+counts_same spec script zero = refl
+counts_same spec script (suc f) = ap (λ n. n + (if assumption.is_change_frame spec script (suc f) then 1 else 0)) (counts_same spec script f)
+
+pub within_of : (spec : Parts) (script : ScriptParts) → IsSpec spec → Fits spec script → EnvironmentsShow → assumption.IsWithin spec script → IsWithin (plan_of spec) (flight_of spec script)
+within_of spec script sound fits show within = record {
+  opens = opens spec script fits;
+  scope = λ f inside. both _ _ (belongs spec script f (show spec script sound fits f)) (scope spec script f (show spec script sound fits f) (within.scope f inside));
+  few = λ f inside. rw (counts_same spec script f, counts_same spec script (f - spec.window)) (within.few f inside);
+}
+
+pub run_of : (spec : Parts) (script : ScriptParts) → IsSpec spec → Fits spec script → EnvironmentsShow → LossesShow → IsRun (plan_of spec) (build_of spec) (flight_of spec script) (committed spec script)
+run_of spec script sound fits show losses = record {
+  runs_is = λ f j inside. runs_same spec sound script f j;
+  running_is = λ f inside. refl;
+  loses = λ f p inside lost. elim (losses spec script fits p f lost) [
+    | inl down ↦ inl (down_in spec script f (show spec script sound fits f) p down)
+    | inr down ↦ inr (down_in spec script (suc f) (show spec script sound fits (suc f)) p down)
+  ];
+}

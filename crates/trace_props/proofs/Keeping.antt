@@ -1,0 +1,155 @@
+-- Each reconfiguration that the rows of a script show keeps the second, the third and the fifth property.
+use Rattle.std.proofs.Common.{◌≡◌, ℕ, zero, suc, ◌+◌, ◌<◌, ◌≤◌, Bool, true, false, not, refl, arith, ap, sym, ◌∙◌, List, [], ◌∷◌, ◌++◌, length, ◌⊎◌, ◌≢◌}
+use mathlib.Core.Logic.{inl, inr}
+use Rattle.std.specs.Prelude.{Option, Some, None, slice_get, option_map, nat_eq, ◌&&◌, ◌==◌}
+use Rattle.std.specs.Str.{bytes_eq}
+use Rattle.std.proofs.lemmas.Bool.Decides.{nat_tests}
+use Rattle.std.proofs.lemmas.Slice.Eq.{bytes_eq-Decides}
+use Rattle.scram_types.specs.declared.ids.ConfId.{ConfId}
+use Rattle.scram_types.specs.declared.flights.Env.{Env}
+use Rattle.scram_types.specs.declared.flights.Report as told_reports
+use Rattle.scram_types.specs.declared.flights.Row.{Row}
+use Rattle.scram_types.specs.declared.specification.Policy.{Policy}
+use Rattle.scram_types.specs.declared.specification.Policy.TheVariants.{Retarget, Settle}
+use Rattle.scram_types.specs.Scripts.{ScriptParts}
+use Rattle.scram_types.specs.Specification.{Each, Parts}
+use Rattle.choice_table.specs.Choices.{choose}
+use Rattle.fault_script.specs.Assumption.{is_same_env}
+use Rattle.fault_script.specs.Environments.{env_at}
+use Rattle.frame_model.specs.Flights.{row_at, rows_of}
+use Rattle.frame_model.specs.Laws.{ReadsRowByRow}
+use Rattle.frame_model.specs.Readings as readings
+use Rattle.frame_model.specs.Runs.{conf_of}
+use Rattle.trace_props.specs.Courses.{Reading, Reading.Steady, Reading.Leaving, Report, changes_at, reading_before, report_at}
+use Rattle.trace_props.specs.Assurances as assurances
+use Rattle.trace_props.specs.Assurances.{AllAssured, HasCause, IsAssured, IsCutOff}
+use Rattle.trace_props.specs.Properties.{ChangesIn, Follows, HoldsSp2, HoldsSp3, HoldsSp5, IsChosen, KeepsSp2, KeepsSp3, KeepsSp5, env_before, env_in}
+use Rattle.trace_props.proofs.Tests.{true_false}
+use Rattle.trace_props.proofs.Areas.{reported_of}
+use Rattle.trace_props.proofs.Bounding.{given_most}
+use Rattle.trace_props.proofs.Lists.{each_append, each_option, first_part, get-listed_below, length-listed_below}
+use Rattle.trace_props.proofs.Products.{flight_of, plan_of, settles_under}
+use Rattle.trace_props.proofs.Reporting.{IsEnded, ended_each, ended_place, reading_same, told_reading, told_report}
+
+conf_same : (c : ConfId) (n : ℕ) → c.0 ≡ n → c ≡ conf_of n
+conf_same c n e = ap conf_of e
+
+policy_settles : (policy : Policy) → settles_under policy ≡ true → policy ≡ Settle
+policy_settles Retarget h = absurd (true_false false h refl)
+policy_settles Settle h = refl
+
+same_self : (v : Env) → is_same_env v v ≡ true
+same_self v = both (v.up == v.up) (bytes_eq v.factors v.factors) (eq_self v.up) ((bytes_eq-Decides v.factors v.factors).1 refl)
+  where
+    eq_self : (n : ℕ) → (n == n) ≡ true
+    eq_self n = grind (arith, nat_tests)
+
+    both : (a b : Bool) → a ≡ true → b ≡ true → (a && b) ≡ true
+    both a b p q = rw (p, q) refl
+
+not_same : (v w : Env) → not (is_same_env v w) ≡ true → v ≡ w → ⊥
+not_same v w h e = true_false (not (is_same_env v w)) h (rw (e, same_self w) refl)
+
+some_same : (v w : Env) → Some v ≡ Some w → v ≡ w
+some_same v w h = cc
+
+module _ (spec : Parts) (script : ScriptParts) where
+  row_there : (f : ℕ) → f < script.frames → slice_get (rows_of spec script) f ≡ Some (row_at spec script f)
+  row_there f inside = get-listed_below (row_at spec script) script.frames f inside
+
+  env_there : (f : ℕ) → f < script.frames → env_in (rows_of spec script) f ≡ Some (env_at spec script f)
+  env_there f inside = ap (option_map (λ (row : Row). row.env)) (row_there f inside)
+
+  row_count : length (rows_of spec script) ≡ script.frames
+  row_count = length-listed_below (row_at spec script) script.frames
+
+  change_there : (f : ℕ) → f < script.frames → changes_at (plan_of spec) (env_at spec script) f ≡ true → ChangesIn spec (rows_of spec script) f
+  change_there zero inside h = absurd (true_false false h refl)
+  change_there (suc f) inside h = record {
+    inside = rw row_count inside;
+    differ = λ same. not_same (env_at spec script f) (env_at spec script (suc f)) h
+        (some_same (env_at spec script f) (env_at spec script (suc f)) (sym (env_there f (omega arith)) ∙ sym same ∙ env_there (suc f) inside));
+  }
+
+  module _ (by_row : ReadsRowByRow) where
+    follows_there : (r : told_reports.Report) → r.begin < script.frames → assurances.Follows (plan_of spec) (flight_of spec script) r.begin → Follows spec (rows_of spec script) r
+    follows_there r inside h =
+        let last = h.last in
+        let up_to = h.up_to in
+        let at = ended_place spec script by_row script.frames h.before.end h.before (omega arith) h.reported in
+        record {
+          settles = policy_settles spec.policy h.settles;
+          before = told_report h.before;
+          place = at.0;
+          there = first_part (readings.ended spec (rows_of spec script)) _ at.0 (told_report h.before) at.1;
+          last = h.last;
+          change = h.change;
+          after = h.after;
+          up_to = h.up_to;
+          changes = change_there h.change (omega arith) h.changed;
+        }
+
+    cause_there : (r : told_reports.Report) → HasCause (plan_of spec) (flight_of spec script) r.begin → KeepsSp5 spec (rows_of spec script) r
+    cause_there r cause soon =
+        let early : suc r.begin < script.frames = rw row_count at soon in
+        elim cause [
+          | inl now ↦ inl (change_there r.begin (omega arith) now)
+          | inr other ↦ elim other [
+            | inl next ↦ inr (inl (change_there (suc r.begin) early next))
+            | inr before ↦ inr (inr (follows_there r (omega arith) before))
+          ]
+        ]
+
+    -- what all properties say of a reconfiguration
+    pub record KeepsTimes (r : told_reports.Report) : Type 0 where
+      pub sp2 : KeepsSp2 spec (rows_of spec script) r
+      pub sp3 : KeepsSp3 spec r
+      pub sp5 : KeepsSp5 spec (rows_of spec script) r
+
+    ended_keeps : AllAssured (plan_of spec) (flight_of spec script) → (x : told_reports.Report) → IsEnded spec script by_row script.frames x → KeepsTimes x
+    ended_keeps assured x h = rw h.is (keeps h.frame h.report h.inside h.reported)
+      where
+        keeps : (f : ℕ) (r : Report) → f < script.frames → report_at (plan_of spec) (flight_of spec script) f ≡ Some r → KeepsTimes (told_report r)
+        keeps f r inside reported =
+            let a = assured.finished f r inside reported in
+            let end = (reported_of (flight_of spec script) f (reading_before (plan_of spec) (flight_of spec script) f) r reported).end in
+            let up_to = a.chosen_to in
+            record {
+              sp2 = λ j is. record {
+                frame = a.chosen_at;
+                from = a.chosen_from;
+                up_to = a.chosen_to;
+                seen = env_at spec script a.chosen_at;
+                stands = env_there a.chosen_at (omega arith);
+                chosen = conf_same (choose spec (conf_of r.from) (env_at spec script a.chosen_at)) r.to a.chosen ∙ (let same : conf_of r.to ≡ j = cc in same);
+              };
+              sp3 = record { bound = a.bound; given = a.given; in_time = a.in_time };
+              sp5 = cause_there (told_report r) a.cause;
+            }
+
+    cut_off_keeps : (c s n : ℕ) → n ≡ script.frames → IsCutOff (plan_of spec) (flight_of spec script) c s → KeepsTimes (record { from = conf_of c; to = None; begin = s; end = n })
+    cut_off_keeps c s n all cut =
+        let most = given_most spec.bounds c cut.to cut.bound cut.given in
+        let in_time = cut.in_time in
+        let enough = most.enough in
+        record {
+          sp2 = λ j is. cc;
+          sp3 = record { bound = most.bound; given = most.is; in_time = omega arith };
+          sp5 = cause_there (record { from = conf_of c; to = None; begin = s; end = n }) cut.cause;
+        }
+
+    closed_keeps : AllAssured (plan_of spec) (flight_of spec script) → (rd : Reading) → reading_before (plan_of spec) (flight_of spec script) script.frames ≡ rd
+        → (x : told_reports.Report) → readings.close (told_reading rd) (length (rows_of spec script)) ≡ Some x → KeepsTimes x
+    closed_keeps assured (Steady c) e x h = cc
+    closed_keeps assured (Leaving c s) e x h =
+        let same : ◌≡◌ {A = told_reports.Report} (record { from = conf_of c; to = None; begin = s; end = length (rows_of spec script) }) x = cc in
+        rw (← same) (cut_off_keeps c s (length (rows_of spec script)) row_count (assured.unfinished c s e))
+
+    pub each_keeps : AllAssured (plan_of spec) (flight_of spec script) → (k : ℕ) (x : told_reports.Report) → slice_get (readings.reports spec (rows_of spec script)) k ≡ Some x → KeepsTimes x
+    each_keeps assured k x h =
+        each_append KeepsTimes (readings.ended spec (rows_of spec script)) (readings.as_list (readings.close (readings.reading_of spec (rows_of spec script)) (length (rows_of spec script))))
+        (λ i y there. ended_keeps assured y (ended_each spec script by_row script.frames script.frames (omega arith) i y there))
+        (each_option KeepsTimes (readings.close (readings.reading_of spec (rows_of spec script)) (length (rows_of spec script)))
+        (λ y e. closed_keeps assured (reading_before (plan_of spec) (flight_of spec script) script.frames) refl y
+        (ap (λ rd. readings.close rd (length (rows_of spec script))) (sym (reading_same spec script by_row script.frames)) ∙ e)))
+        k x h

@@ -1,0 +1,43 @@
+-- Facts of each item of a list, and places in lists.
+use Rattle.std.proofs.Common.{◌≡◌, ℕ, zero, suc, ◌+◌, ◌<◌, ◌≤◌, Bool, true, false, refl, arith, ap, sym, ◌∙◌, List, [], ◌∷◌, ◌++◌, length, ◌⊎◌}
+use mathlib.Core.Logic.{inl, inr}
+use Rattle.std.specs.Prelude.{Option, Some, None, slice_get, option_map}
+use Rattle.std.proofs.lemmas.Option.{slice_get_within}
+use Rattle.std.proofs.Math.ListN.{length-append}
+use Rattle.scram_types.specs.Specification.{Each}
+use Rattle.frame_model.specs.Flights.{listed_below}
+use Rattle.frame_model.specs.Readings.{as_list}
+
+pub each_append : {A : Type 0} (P : A → Type 0) (xs ys : List A) → Each P xs → Each P ys → (k : ℕ) (y : A) → slice_get (xs ++ ys) k ≡ Some y → P y
+each_append P [] ys e f k y h = f k y h
+each_append P (x ∷ xs) ys e f zero y h = e 0 y h
+each_append P (x ∷ xs) ys e f (suc k) y h = each_append P xs ys (λ i z there. e (suc i) z there) f k y h
+
+pub each_option : {A : Type 0} (P : A → Type 0) (o : Option A) → ((x : A) → o ≡ Some x → P x) → (k : ℕ) (x : A) → slice_get (as_list o) k ≡ Some x → P x
+each_option {A} P None h k x e = let past = slice_get_within {A = A} [] k x e in absurd (omega arith)
+each_option P (Some y) h zero x e = h x e
+each_option {A} P (Some y) h (suc k) x e = let past = slice_get_within {A = A} [] k x e in absurd (omega arith)
+
+-- an item stays at its place where more is appended, and what is appended comes next
+pub first_part : {A : Type 0} (xs ys : List A) (k : ℕ) (x : A) → slice_get xs k ≡ Some x → slice_get (xs ++ ys) k ≡ Some x
+first_part {A} [] ys k x h = let past = slice_get_within {A = A} [] k x h in absurd (omega arith)
+first_part (y ∷ xs) ys zero x h = h
+first_part (y ∷ xs) ys (suc k) x h = first_part xs ys k x h
+
+pub next_part : {A : Type 0} (xs ys : List A) (y : A) → slice_get (xs ++ y ∷ ys) (length xs) ≡ Some y
+next_part [] ys y = refl
+next_part (x ∷ xs) ys y = next_part xs ys y
+
+pub length-listed_below : {A : Type 0} (value : ℕ → A) (n : ℕ) → length (listed_below value n) ≡ n
+length-listed_below value zero = refl
+length-listed_below value (suc n) = length-append (listed_below value n) (value n ∷ []) ∙ (let before = length-listed_below value n in omega arith)
+
+below_or_last : (k n : ℕ) → k < suc n → (k < n) ⊎ (k ≡ n)
+below_or_last k n h = grind arith
+
+pub get-listed_below : {A : Type 0} (value : ℕ → A) (n k : ℕ) → k < n → slice_get (listed_below value n) k ≡ Some (value k)
+get-listed_below value zero k h = absurd (omega arith)
+get-listed_below value (suc n) k h = elim (below_or_last k n h) [
+  | inl low ↦ first_part (listed_below value n) (value n ∷ []) k (value k) (get-listed_below value n k low)
+  | inr last ↦ rw last (ap (slice_get (listed_below value n ++ value n ∷ [])) (sym (length-listed_below value n)) ∙ next_part (listed_below value n) [] (value n))
+]

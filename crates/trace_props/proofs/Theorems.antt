@@ -1,0 +1,147 @@
+-- The theorem: all properties hold of every mission, and the central facts in each of its moving frames.
+use Rattle.std.proofs.Common.{◌≡◌, ℕ, zero, suc, ◌+◌, ◌-◌, ◌*◌, ◌≤◌, Bool, true, false, refl, arith, ap, sym, ◌∙◌, subst}
+use Rattle.std.specs.Prelude.{Option, Some, None}
+use Rattle.scram_types.specs.declared.ids.ConfId.{ConfId}
+use Rattle.scram_types.specs.declared.orders.KMode.{KMode}
+use Rattle.scram_types.specs.declared.orders.KMode.TheVariants as kmode
+use Rattle.scram_types.specs.declared.specification.Policy.{Policy}
+use Rattle.scram_types.specs.declared.specification.Policy.TheVariants.{Retarget, Settle}
+use Rattle.scram_types.specs.Scripts.{ScriptParts}
+use Rattle.scram_types.specs.Specification.{IsSpec, Parts}
+use Rattle.choice_table.specs.Choices.{choose}
+use Rattle.choice_table.specs.Laws.{RunsWherePlacesAreUp}
+use Rattle.dep_order.specs.Timetables.{PhasesEndInTime}
+use Rattle.app_model.specs.Areas.{AllTablesNarrow, LawLiesAfterInit, LawLiesDuring, StartLiesAfterInit}
+use Rattle.fault_script.specs.Environments.{env_at}
+use Rattle.fault_script.specs.Laws.{EnvironmentsShow, LossesShow}
+use Rattle.frame_model.specs.Flights.{decided, reports_of, rows_of}
+use Rattle.frame_model.specs.Laws.{ReadsRowByRow}
+use Rattle.frame_model.specs.Phases.{halting_frames}
+use Rattle.frame_model.specs.Runs.{conf_of}
+use Rattle.trace_props.specs.Plans.{Accepted, halting_of}
+use Rattle.trace_props.specs.Modes.{Mode.Moving}
+use Rattle.trace_props.specs.Courses.{IsFlown, IsWithin, Reading, Reading.Steady, Reading.Leaving, mode_at, reading_before}
+use Rattle.trace_props.specs.Assurances as assurances
+use Rattle.trace_props.specs.Builds.{IsBuilt, IsRun}
+use Rattle.trace_props.specs.Known.{IsKnown}
+use Rattle.trace_props.specs.Properties.{HoldsAll}
+use Rattle.coverage_check.specs.Missions.{IsMission, mission_of}
+use Rattle.trace_props.specs.Missions.{IsTargetChosen, FurtherChangesAreFew, HaltingEndsInTime, HaltsInTime, SeesFewChanges, SettlesInTime, PhasesArePastInTime, ReconfigurationsAreAssured, TargetsAreChosen, begin_at, begin_in, changes_since, first_moving, first_moving_in}
+use Rattle.trace_props.proofs.Assurances as law
+use Rattle.trace_props.proofs.Builds.{flown, reconfigures_built}
+use Rattle.trace_props.proofs.Areas.{keeps_areas}
+use Rattle.trace_props.proofs.Accepting.{accepted_of, further_same}
+use Rattle.trace_props.proofs.Acting.{committed}
+use Rattle.trace_props.proofs.Building.{built_of}
+use Rattle.trace_props.proofs.Flying.{counts_same, run_of, within_of}
+use Rattle.trace_props.proofs.Holding.{each_holds}
+use Rattle.trace_props.proofs.Keeping.{each_keeps}
+use Rattle.trace_props.proofs.Moding.{frames_same, same_mode}
+use Rattle.trace_props.proofs.Products.{build_of, flight_of, mode_of, number_of, plan_of, settles_under}
+use Rattle.trace_props.proofs.Ranging.{KindsLie, area, filled_of, laws_of}
+use Rattle.trace_props.proofs.Reporting.{reading_same, told_reading}
+
+retargets : (policy : Policy) → policy ≡ Retarget → settles_under policy ≡ false
+retargets policy h = rw h refl
+
+moved : {a b m n d e : ℕ} (h q : ℕ) → a ≡ b → m ≡ n → d ≡ e → a ≤ m + h + d * q → b ≤ n + h + e * q
+moved h k p q r t = rw (← p, ← q, ← r) t
+
+begin_same : (rd : Reading) (f : ℕ) → begin_in (told_reading rd) f ≡ assurances.begin_of rd f
+begin_same (Steady c) f = refl
+begin_same (Leaving c s) f = refl
+
+first_same : (m : KMode) (s : ℕ) → first_moving_in m s ≡ assurances.first_moving_in (mode_of m) s
+first_same (kmode.Stable c) s = refl
+first_same (kmode.Moving from halting to since) s = refl
+
+module _ (known : IsKnown) (spec : Parts) (script : ScriptParts) (sound : IsSpec spec) (mission : IsMission (mission_of spec script)) where
+  accepted : Accepted (plan_of spec)
+  accepted = accepted_of spec sound mission.accepts (known.timed spec sound)
+
+  built : IsBuilt (plan_of spec) (build_of spec)
+  built = built_of spec sound mission.accepts (known.timed spec sound) known.runs_up
+
+  within : IsWithin (plan_of spec) (flight_of spec script)
+  within = within_of spec script sound mission.fits known.show mission.within
+
+  run : IsRun (plan_of spec) (build_of spec) (flight_of spec script) (committed spec script)
+  run = run_of spec script sound mission.fits known.show known.losses
+
+  kinds : KindsLie
+  kinds = record { during = known.during; initialised = known.initialised; starts = known.starts; narrow = known.narrow }
+
+  assured : assurances.AllAssured (plan_of spec) (flight_of spec script)
+  assured = reconfigures_built (plan_of spec) (build_of spec) (flight_of spec script) (committed spec script) accepted built within run
+
+  pub holds_all : HoldsAll spec (rows_of spec script) (reports_of spec script)
+  holds_all = record {
+    sp1 = refl;
+    sp2 = λ k r there. (each_keeps spec script known.by_row assured k r there).sp2;
+    sp3 = λ k r there. (each_keeps spec script known.by_row assured k r there).sp3;
+    sp4 = each_holds spec sound mission.accepts kinds script known.by_row
+        (keeps_areas (plan_of spec) (build_of spec) (flight_of spec script) (committed spec script) (laws_of spec) (area spec sound kinds script)
+        accepted built within run (filled_of spec sound kinds script));
+    sp5 = λ k r there. (each_keeps spec script known.by_row assured k r there).sp5;
+  }
+
+  is_flown : IsFlown (plan_of spec) (flight_of spec script)
+  is_flown = flown (plan_of spec) (flight_of spec script) accepted (build_of spec) (committed spec script) built run
+
+  begin_is : (f : ℕ) → begin_at spec script f ≡ assurances.begin_of (reading_before (plan_of spec) (flight_of spec script) f) f
+  begin_is f = ap (λ rd. begin_in rd f) (reading_same spec script known.by_row f) ∙ begin_same (reading_before (plan_of spec) (flight_of spec script) f) f
+
+  first_is : (f : ℕ) → first_moving spec script f ≡ assurances.first_moving (plan_of spec) (flight_of spec script) (begin_at spec script f)
+  first_is f =
+      first_same (decided spec script (begin_at spec script f)) (begin_at spec script f)
+      ∙ ap (λ m. assurances.first_moving_in m (begin_at spec script f)) (same_mode spec script (begin_at spec script f))
+
+  since_is : (f : ℕ) → assurances.further_changes (plan_of spec) (flight_of spec script) (begin_at spec script f) f ≡ changes_since spec script f
+  since_is f = rw (counts_same spec script f, ← first_is f, counts_same spec script (first_moving spec script f)) refl
+
+  central : (f : ℕ) (from : ConfId) (halting : Option ConfId) (to : ConfId) (since : ℕ) → f ≤ script.frames → decided spec script f ≡ kmode.Moving from halting to since
+      → assurances.CentralFacts (plan_of spec) (flight_of spec script) (begin_at spec script f) f from.0 (number_of halting) to.0 since
+  central f from halting to since inside moving =
+      rw (begin_is f) (law.central_facts (plan_of spec) (flight_of spec script) accepted within is_flown f from.0 (number_of halting) to.0 since inside
+      (sym (same_mode spec script f) ∙ ap mode_of moving))
+
+  pub target_chosen : (f : ℕ) (from : ConfId) (halting : Option ConfId) (to : ConfId) (since : ℕ) → f ≤ script.frames → decided spec script f ≡ kmode.Moving from halting to since
+      → IsTargetChosen spec script f from halting to since
+  target_chosen f from halting to since inside moving =
+      let c = central f from halting to since inside moving in
+      record {
+        can_run = c.runnable;
+        chosen_at = c.chosen_at;
+        chosen_from = rw (first_is f) c.chosen_from;
+        chosen_to = c.chosen_to;
+        chosen = ap conf_of c.chosen;
+        anew = λ anew. ap conf_of (c.prompt (retargets spec.policy anew));
+      }
+
+  pub halts_in_time : (f : ℕ) (from : ConfId) (halting : Option ConfId) (to : ConfId) (since : ℕ) → f ≤ script.frames → decided spec script f ≡ kmode.Moving from halting to since
+      → HaltsInTime spec script f from halting to since
+  halts_in_time f from halting to since inside moving =
+      moved _ _ (ap (λ n. since + n) (frames_same spec halting)) (sym (first_is f)) (since_is f) (central f from halting to since inside moving).halted
+
+  pub settles_in_time : (f : ℕ) (from : ConfId) (halting : Option ConfId) (to : ConfId) (since : ℕ) → f ≤ script.frames → decided spec script f ≡ kmode.Moving from halting to since
+      → SettlesInTime spec script f from halting to since
+  settles_in_time f from halting to since inside moving = rw (← frames_same spec halting) (central f from halting to since inside moving).settled
+
+  pub few_changes : (f : ℕ) (from : ConfId) (halting : Option ConfId) (to : ConfId) (since : ℕ) → f ≤ script.frames → decided spec script f ≡ kmode.Moving from halting to since
+      → SeesFewChanges spec script f from halting to since
+  few_changes f from halting to since inside moving = rw (← since_is f, ← further_same spec.policy spec.changes) (central f from halting to since inside moving).few
+
+pub all_hold : IsKnown → ReconfigurationsAreAssured
+all_hold known spec script sound mission = holds_all known spec script sound mission
+
+pub targets_are_chosen : IsKnown → TargetsAreChosen
+targets_are_chosen known spec script sound mission = target_chosen known spec script sound mission
+
+pub halting_ends_in_time : IsKnown → HaltingEndsInTime
+halting_ends_in_time known spec script sound mission = halts_in_time known spec script sound mission
+
+pub phases_are_past_in_time : IsKnown → PhasesArePastInTime
+phases_are_past_in_time known spec script sound mission = settles_in_time known spec script sound mission
+
+pub further_changes_are_few : IsKnown → FurtherChangesAreFew
+further_changes_are_few known spec script sound mission = few_changes known spec script sound mission

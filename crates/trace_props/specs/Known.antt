@@ -1,0 +1,17 @@
+-- What the theorem takes from the other crates.
+use Rattle.choice_table.specs.Laws.{RunsWherePlacesAreUp}
+use Rattle.dep_order.specs.Timetables.{PhasesEndInTime}
+use Rattle.app_model.specs.Areas.{AllTablesNarrow, LawLiesAfterInit, LawLiesDuring, StartLiesAfterInit}
+use Rattle.fault_script.specs.Laws.{EnvironmentsShow, LossesShow}
+use Rattle.frame_model.specs.Laws.{ReadsRowByRow}
+
+pub record IsKnown : Type 0 where
+  pub runs_up : RunsWherePlacesAreUp
+  pub timed : PhasesEndInTime
+  pub show : EnvironmentsShow
+  pub losses : LossesShow
+  pub by_row : ReadsRowByRow
+  pub during : LawLiesDuring
+  pub initialised : LawLiesAfterInit
+  pub starts : StartLiesAfterInit
+  pub narrow : AllTablesNarrow

@@ -1,0 +1,85 @@
+-- What missions keep: an accepted specification, and a script that fits it and keeps to its assumption.
+use Rattle.std.specs.Prelude.{◌≡◌, ℕ, suc, ◌+◌, ◌-◌, ◌*◌, ◌≤◌, true, List, Option}
+use Rattle.scram_types.specs.declared.ids.ConfId.{ConfId}
+use Rattle.scram_types.specs.declared.orders.KMode.{KMode}
+use Rattle.scram_types.specs.declared.orders.KMode.TheVariants.{Stable, Moving}
+use Rattle.scram_types.specs.declared.specification.Policy.TheVariants.{Retarget}
+use Rattle.scram_types.specs.Scripts.{ScriptParts}
+use Rattle.scram_types.specs.Specification.{IsSpec, Parts}
+use Rattle.choice_table.specs.Choices.{choose, is_runnable}
+use Rattle.dep_order.specs.Timetables.{halting_time, initialising_time, preparing_time}
+use Rattle.fault_script.specs.Assumption.{changes_upto}
+use Rattle.fault_script.specs.Environments.{env_at}
+use Rattle.frame_model.specs.declared.readings.Reading.{Reading}
+use Rattle.frame_model.specs.declared.readings.Reading.TheVariants.{Steady, Leaving}
+use Rattle.frame_model.specs.Flights.{decided, listed_below, reports_of, row_at, rows_of}
+use Rattle.frame_model.specs.Phases.{halting_frames}
+use Rattle.frame_model.specs.Readings.{reading_of}
+use Rattle.coverage_check.specs.Missions.{IsMission, mission_of}
+use Rattle.coverage_check.specs.Timing.{further, slowest}
+use Rattle.trace_props.specs.Properties.{HoldsAll}
+
+-- All five properties hold of a mission's rows and reports.
+abbrev pub ReconfigurationsAreAssured : Type 0
+ReconfigurationsAreAssured = (spec : Parts) (script : ScriptParts) → IsSpec spec → IsMission (mission_of spec script) → HoldsAll spec (rows_of spec script) (reports_of spec script)
+
+-- Where the reconfiguration began of which frame f is a part, by the rows before f.
+abbrev pub begin_in : Reading → ℕ → ℕ
+begin_in (Steady c) f = f
+begin_in (Leaving c begin) f = begin
+
+abbrev pub begin_at : Parts → ScriptParts → ℕ → ℕ
+begin_at spec script f = begin_in (reading_of spec (listed_below (row_at spec script) f)) f
+
+-- Its first moving frame: the begin or the frame after it.
+abbrev pub first_moving_in : KMode → ℕ → ℕ
+first_moving_in (Stable c) begin = suc begin
+first_moving_in (Moving from halting to since) begin = begin
+
+abbrev pub first_moving : Parts → ScriptParts → ℕ → ℕ
+first_moving spec script f = first_moving_in (decided spec script (begin_at spec script f)) (begin_at spec script f)
+
+-- How many change frames there are after the first moving one and up to f.
+abbrev pub changes_since : Parts → ScriptParts → ℕ → ℕ
+changes_since spec script f = changes_upto spec script f - changes_upto spec script (first_moving spec script f)
+
+-- A fact of each moving frame of a mission, the frame after the last one included.
+abbrev pub InMovingFrames : (Parts → ScriptParts → ℕ → ConfId → Option ConfId → ConfId → ℕ → Type 0) → Type 0
+InMovingFrames Fact = (spec : Parts) (script : ScriptParts) → IsSpec spec → IsMission (mission_of spec script)
+    → (f : ℕ) (from : ConfId) (halting : Option ConfId) (to : ConfId) (since : ℕ) → f ≤ script.frames → decided spec script f ≡ Moving from halting to since
+    → Fact spec script f from halting to since
+
+-- The target can run, and was chosen from the source in an environment seen since the first moving frame;
+-- where targets are chosen anew, in this frame's.
+pub record IsTargetChosen (spec : Parts) (script : ScriptParts) (f : ℕ) (from : ConfId) (halting : Option ConfId) (to : ConfId) (since : ℕ) : Type 0 where
+  pub can_run : is_runnable spec to (env_at spec script f) ≡ true
+  pub chosen_at : ℕ
+  pub chosen_from : first_moving spec script f ≤ chosen_at
+  pub chosen_to : chosen_at ≤ f
+  pub chosen : choose spec from (env_at spec script chosen_at) ≡ to
+  pub anew : spec.policy ≡ Retarget → choose spec from (env_at spec script f) ≡ to
+
+abbrev pub TargetsAreChosen : Type 0
+TargetsAreChosen = InMovingFrames IsTargetChosen
+
+-- The halting phase ends in time: each further change puts it off by at most the slowest turn.
+abbrev pub HaltsInTime : Parts → ScriptParts → ℕ → ConfId → Option ConfId → ConfId → ℕ → Type 0
+HaltsInTime spec script f from halting to since =
+    since + halting_frames spec halting ≤ first_moving spec script f + halting_time spec from + changes_since spec script f * slowest spec
+
+abbrev pub HaltingEndsInTime : Type 0
+HaltingEndsInTime = InMovingFrames HaltsInTime
+
+-- No frame is later than the one in which the phases are past.
+abbrev pub SettlesInTime : Parts → ScriptParts → ℕ → ConfId → Option ConfId → ConfId → ℕ → Type 0
+SettlesInTime spec script f from halting to since = f ≤ since + halting_frames spec halting + preparing_time spec to + initialising_time spec to
+
+abbrev pub PhasesArePastInTime : Type 0
+PhasesArePastInTime = InMovingFrames SettlesInTime
+
+-- There are no more further changes than the bounds allow for.
+abbrev pub SeesFewChanges : Parts → ScriptParts → ℕ → ConfId → Option ConfId → ConfId → ℕ → Type 0
+SeesFewChanges spec script f from halting to since = changes_since spec script f ≤ further spec.policy spec.changes
+
+abbrev pub FurtherChangesAreFew : Type 0
+FurtherChangesAreFew = InMovingFrames SeesFewChanges

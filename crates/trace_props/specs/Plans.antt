@@ -1,0 +1,52 @@
+-- What a plan says: which configuration is chosen in which environment, and how long phases last.
+use Rattle.std.specs.Prelude.{◌≡◌, ℕ, suc, ◌+◌, ◌*◌, ◌<◌, ◌≤◌, ◌⊎◌, ◌≢◌, Bool, true, false, List, Option, Some, None, if◌then◌else◌}
+use Rattle.scram_types.specs.declared.flights.Env.{Env}
+
+pub record Plan : Type 0 where
+  pub configurations : ℕ
+  pub start : ℕ
+  pub opening : Env
+  pub settles : Bool
+  pub changes : ℕ
+  pub window : ℕ
+  pub slowest : ℕ
+  pub halting : ℕ → ℕ
+  pub preparing : ℕ → ℕ
+  pub initialising : ℕ → ℕ
+  pub choose : ℕ → Env → ℕ
+  pub is_runnable : ℕ → Env → Bool
+  pub in_scope : Env → Bool
+  pub differ : Env → Env → Bool
+  pub bound : ℕ → ℕ → Option ℕ
+
+-- how many further changes a reconfiguration may see
+abbrev pub further : Plan → ℕ
+further plan = if plan.settles then suc plan.changes else plan.changes
+
+-- how long the halting phase of a configuration, or of none, lasts
+abbrev pub halting_of : Plan → Option ℕ → ℕ
+halting_of plan None = 0
+halting_of plan (Some c) = plan.halting c
+
+-- the least bound that serves a change from i to j
+abbrev pub least : Plan → ℕ → ℕ → ℕ
+least plan i j = 1 + plan.halting i + further plan * plan.slowest + plan.preparing j + plan.initialising j
+
+-- j is chosen from i in some environment in scope
+pub record IsTarget (plan : Plan) (i j : ℕ) : Type 0 where
+  pub seen : Env
+  pub scope : plan.in_scope seen ≡ true
+  pub chosen : plan.choose i seen ≡ j
+
+-- what is known of a plan that is accepted
+pub record Accepted (plan : Plan) : Type 0 where
+  pub start_in : plan.start < plan.configurations
+  pub choose_in : (c : ℕ) (v : Env) → c < plan.configurations → plan.choose c v < plan.configurations
+  pub runnable : (c : ℕ) (v : Env) → c < plan.configurations → plan.in_scope v ≡ true → plan.is_runnable (plan.choose c v) v ≡ true
+  pub stays : (c : ℕ) (v : Env) → c < plan.configurations → plan.in_scope v ≡ true → plan.choose (plan.choose c v) v ≡ plan.choose c v
+  pub starts : plan.choose plan.start plan.opening ≡ plan.start
+  pub lasts : (c : ℕ) → c < plan.configurations → 1 ≤ plan.initialising c
+  pub slow : (k : ℕ) → k < plan.configurations → plan.preparing k + plan.initialising k + 1 + plan.halting k ≤ plan.slowest
+  pub bounded : (i : ℕ) (v : Env) → i < plan.configurations → plan.in_scope v ≡ true → (plan.choose i v ≢ i) ⊎ (1 ≤ further plan) → (t : ℕ) × (plan.bound i (plan.choose i v) ≡ Some t) × (least plan i (plan.choose i v) ≤ t)
+  pub windowed : (i j t : ℕ) → plan.bound i j ≡ Some t → t + 1 ≤ plan.window
+  pub tells : (v w : Env) → plan.differ v w ≡ false → v ≡ w

@@ -1,0 +1,108 @@
+-- The five properties of rows, and of what is reported of them. They speak of the reconfigurations that
+-- are read off the rows, whatever is reported.
+use Rattle.std.specs.Prelude.{◌≡◌, ◌≢◌, ◌⊎◌, ℕ, zero, suc, ◌<◌, ◌≤◌, ◌+◌, true, List, length, slice_get, Option, Some, None, option_map}
+use Rattle.scram_types.specs.declared.ids.ConfId.{ConfId}
+use Rattle.scram_types.specs.declared.flights.Env.{Env}
+use Rattle.scram_types.specs.declared.flights.Report.{Report}
+use Rattle.scram_types.specs.declared.flights.Row.{Row}
+use Rattle.scram_types.specs.declared.specification.Invariant.{Invariant}
+use Rattle.scram_types.specs.declared.specification.Policy.TheVariants.{Settle}
+use Rattle.scram_types.specs.declared.specification.Precondition.{Precondition}
+use Rattle.scram_types.specs.Numbers.{word}
+use Rattle.scram_types.specs.Specification.{Each, Parts, bound_in, greatest_bound_in}
+use Rattle.choice_table.specs.Choices.{choose, has_source}
+use Rattle.app_model.specs.Areas.{Between}
+use Rattle.frame_model.specs.Readings.{reports}
+use Rattle.frame_model.specs.States.{area_at}
+use Rattle.coverage_check.specs.Choosing.{opening_env}
+
+-- The environment of row f, if there is such a row.
+abbrev pub env_in : List Row → ℕ → Option Env
+env_in rows f = option_map (λ (row : Row). row.env) (slice_get rows f)
+
+-- The environment before row f: before the first row that in which every flight opens.
+abbrev pub env_before : Parts → List Row → ℕ → Option Env
+env_before spec rows zero = Some (opening_env spec)
+env_before spec rows (suc f) = env_in rows f
+
+-- There is a row f, and its environment is another than the one before.
+pub record ChangesIn (spec : Parts) (rows : List Row) (f : ℕ) : Type 0 where
+  pub inside : f < length rows
+  pub differ : env_in rows f ≢ env_before spec rows f
+
+-- SP1: what is reported is exactly what is read off the rows.
+abbrev pub HoldsSp1 : Parts → List Row → List Report → Type 0
+HoldsSp1 spec rows told = told ≡ reports spec rows
+
+-- Configuration j was chosen from the source in the environment of some row from the begin to the end.
+pub record IsChosen (spec : Parts) (rows : List Row) (r : Report) (j : ConfId) : Type 0 where
+  pub frame : ℕ
+  pub from : r.begin ≤ frame
+  pub up_to : frame ≤ r.end
+  pub seen : Env
+  pub stands : env_in rows frame ≡ Some seen
+  pub chosen : choose spec r.from seen ≡ j
+
+-- SP2 of a reconfiguration: its target was chosen meanwhile. An unfinished one has none.
+abbrev pub KeepsSp2 : Parts → List Row → Report → Type 0
+KeepsSp2 spec rows r = (j : ConfId) → r.to ≡ Some j → IsChosen spec rows r j
+
+-- The bound on a reconfiguration; on an unfinished one the greatest that is given from its source.
+abbrev pub bound_on : Parts → ConfId → Option ConfId → Option ℕ
+bound_on spec from None = greatest_bound_in spec.bounds from.0
+bound_on spec from (Some j) = bound_in spec.bounds from.0 j.0
+
+-- SP3 of a reconfiguration: a bound is given, and it took no longer. An unfinished one ends with the rows.
+pub record KeepsSp3 (spec : Parts) (r : Report) : Type 0 where
+  pub bound : ℕ
+  pub given : bound_on spec r.from r.to ≡ Some bound
+  pub in_time : r.end ≤ r.begin + bound
+
+-- An invariant, or a precondition, holds in a row.
+abbrev pub InvariantHolds : Invariant → Row → Type 0
+InvariantHolds inv row = Between (inv.least, inv.greatest) (word (area_at row.areas inv.app.0) inv.variable)
+
+abbrev pub PreconditionHolds : Precondition → Row → Type 0
+PreconditionHolds pre row = Between (pre.least, pre.greatest) (word (area_at row.areas pre.app.0) pre.variable)
+
+-- SP4 of a reconfiguration: the invariants for its source hold in its rows, from the begin to the end or
+-- to the last row; the preconditions of its target hold in the row before its end.
+pub record KeepsSp4 (spec : Parts) (rows : List Row) (r : Report) : Type 0 where
+  pub throughout : Each (λ (inv : Invariant). has_source inv.from r.from ≡ true → (f : ℕ) (row : Row) → r.begin ≤ f → f ≤ r.end → slice_get rows f ≡ Some row → InvariantHolds inv row) spec.invariants
+  pub ready : Each (λ (pre : Precondition). r.to ≡ Some pre.conf → (f : ℕ) (row : Row) → suc f ≡ r.end → slice_get rows f ≡ Some row → PreconditionHolds pre row) spec.preconditions
+
+-- Another reconfiguration ended in the row before this one's begin, and saw a change after its own begin.
+pub record Follows (spec : Parts) (rows : List Row) (r : Report) : Type 0 where
+  pub settles : spec.policy ≡ Settle
+  pub before : Report
+  pub place : ℕ
+  pub there : slice_get (reports spec rows) place ≡ Some before
+  pub last : suc before.end ≡ r.begin
+  pub change : ℕ
+  pub after : before.begin < change
+  pub up_to : change ≤ before.end
+  pub changes : ChangesIn spec rows change
+
+-- SP5 of a reconfiguration: the environment changes as it begins, or in the row after; where targets are
+-- settled first, it may have changed during the reconfiguration just before. Not asked in the last row.
+abbrev pub KeepsSp5 : Parts → List Row → Report → Type 0
+KeepsSp5 spec rows r = suc r.begin < length rows → ChangesIn spec rows r.begin ⊎ ChangesIn spec rows (suc r.begin) ⊎ Follows spec rows r
+
+abbrev pub HoldsSp2 : Parts → List Row → Type 0
+HoldsSp2 spec rows = Each (KeepsSp2 spec rows) (reports spec rows)
+
+abbrev pub HoldsSp3 : Parts → List Row → Type 0
+HoldsSp3 spec rows = Each (KeepsSp3 spec) (reports spec rows)
+
+abbrev pub HoldsSp4 : Parts → List Row → Type 0
+HoldsSp4 spec rows = Each (KeepsSp4 spec rows) (reports spec rows)
+
+abbrev pub HoldsSp5 : Parts → List Row → Type 0
+HoldsSp5 spec rows = Each (KeepsSp5 spec rows) (reports spec rows)
+
+pub record HoldsAll (spec : Parts) (rows : List Row) (told : List Report) : Type 0 where
+  pub sp1 : HoldsSp1 spec rows told
+  pub sp2 : HoldsSp2 spec rows
+  pub sp3 : HoldsSp3 spec rows
+  pub sp4 : HoldsSp4 spec rows
+  pub sp5 : HoldsSp5 spec rows
