@@ -1,3 +1,4 @@
 pub mod Listing
 pub mod Printing
 mod Steps
+mod ModeNames
