@@ -1,4 +1,3 @@
-mod Parsed
-mod Ones
-mod ThinFacts
 mod Endings
+mod Loading
+mod Bounding

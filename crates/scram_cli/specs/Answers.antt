@@ -1,5 +1,5 @@
 -- What the command answers: a status and a text, by its words and by the files that they name.
-use Rattle.std.specs.Prelude.{◌≡◌, ◌⊎◌, ℕ, ◌≤◌, List, [], ◌∷◌, ◌++◌, length, All, Contains, Option, Some, None, IsSome, IfSome, Result, Ok, Err, codes, ⊤}
+use Rattle.std.specs.Prelude.{◌≡◌, ◌⊎◌, ℕ, ◌≤◌, List, [], ◌∷◌, ◌++◌, length, Contains, Option, Some, None, IsSome, IfSome, Result, Ok, Err, codes, ⊤}
 use Rattle.scram_types.specs.declared.ids.AppId.{AppId}
 use Rattle.scram_types.specs.declared.specification.AppSpec.{AppSpec}
 use Rattle.scram_types.specs.Scripts.{ScriptParts}
@@ -154,7 +154,8 @@ pub record Ends (Answers : ℕ → List ℕ → Type 0) (names : List (List ℕ)
 
 -- All these files are there.
 abbrev pub AreThere : FileMap → List (List ℕ) → Type 0
-AreThere files names = All (λ (name : List ℕ). IsSome (file_at name files)) names
+AreThere files [] = ⊤
+AreThere files (name ∷ names) = IsSome (file_at name files) × AreThere files names
 
 -- The sink tells that it surely takes as many bytes as any answer and as the memory line have.
 abbrev pub HasRoom : (ℕ → List ℕ → Type 0) → Option ℕ → Type 0

@@ -1,5 +1,5 @@
 -- The bounds that a specification has to give, and the text that tells them.
-use Rattle.std.specs.Prelude.{◌≡◌, ℕ, zero, suc, ◌<◌, Bool, not, ◌&&◌, ◌||◌, ◌==◌, List, [], ◌++◌, length, slice_index, if◌then◌else◌}
+use Rattle.std.specs.Prelude.{◌≡◌, ℕ, zero, suc, ◌<◌, Bool, not, ◌&&◌, ◌||◌, ◌==◌, List, [], ◌++◌, length, slice_get, Some, if◌then◌else◌}
 use Rattle.scram_types.specs.Specification.{Parts}
 use Rattle.coverage_check.specs.Showing.{conf}
 use Rattle.coverage_check.specs.Timing.{can_return, is_target, targets}
@@ -30,4 +30,4 @@ bounds_text spec = texts_below (bounds_text_from spec) (length spec.confs)
 
 -- The possible targets of each configuration, as bits.
 abbrev pub HasTargetSets : Parts → List ℕ → Type 0
-HasTargetSets spec sets = (i : ℕ) → i < length spec.confs → slice_index sets i ≡ targets spec (conf i)
+HasTargetSets spec sets = (i set : ℕ) → i < length spec.confs → slice_get sets i ≡ Some set → set ≡ targets spec (conf i)

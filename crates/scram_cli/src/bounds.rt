@@ -7,11 +7,11 @@ ghost use Rattle.coverage_check.specs.Timing.{can_return, targets};
 ghost use Rattle.scram_io.specs.Outside.{Rose};
 ghost use Rattle.trace_text.specs.Printing.{Prints};
 ghost use Rattle.scram_cli.specs.Answers.{Tells, bounds_answer};
-ghost use Rattle.scram_cli.specs.Bounds.{HasTargetSets, bound_text_of, bounds_text, bounds_text_from, is_asked};
+ghost use Rattle.scram_cli.specs.Bounds.{HasTargetSets, bound_text_of, bounds_text, bounds_text_from, is_asked, may_go};
 
-use crate::command::Status;
 use crate::lines::{make_bound_line, make_shown_line};
 use crate::refusals::{refuse_memory, tell_line};
+use crate::status::Status;
 use choice_table::states;
 use coverage_check::{Other, Shown, targets};
 use scram_io::{Sink, SinkFault};
@@ -129,17 +129,27 @@ fn put_bound<K: Sink>(
     ensures { Prints result (K.taken out.old) (K.taken out.new) (K.surely out.old) (K.surely out.new)
         (K.faults out.old) (K.faults out.new) (bound_text_of spec.now from.0 to.0) }
 {
-    if is_in_set(set, to.0) && may_go(spec, from, to) {
+    if is_asked(spec, set, from, to) {
         out.put(make_bound_line(spec, from, to).as_bytes())
     } else {
         Ok(())
     }
 }
 
+// Whether a bound is asked for, `set` being the possible targets of `from`.
+fn is_asked(spec: &Spec, set: u16, from: ConfId, to: ConfId) -> bool
+    requires set { set ≡ targets spec.now from }
+    requires to { to.0 < length spec.now.confs }
+    ensures { result ≡ is_asked spec.now from.0 to.0 }
+{
+    is_in_set(set, to.0) && may_go(spec, from, to)
+}
+
 fn is_in_set(set: u16, j: u8) -> bool
+    requires { j < 16 }
     ensures { result ≡ has_bit set j }
 {
-    j < 16 && set >> j & 1 == 1
+    set >> j & 1 == 1
 }
 
 // Whether a reconfiguration may end elsewhere, or where it began.

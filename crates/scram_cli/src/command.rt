@@ -1,11 +1,13 @@
 //! The top call.
 
-ghost use Rattle.std.specs.Prelude.{◌≡◌, ◌≢◌, ◌≤◌, ◌∷◌, [], IsSome, IfSome, Some, map, string_bytes};
+ghost use Rattle.std.specs.Prelude.{◌≡◌, ◌≤◌, ◌∷◌, [], IsSome, IfSome, Some, map, string_bytes};
 ghost use Rattle.app_model.specs.Racks.{RacksFit};
 ghost use Rattle.scram_io.specs.Outside.{Rose, Unrisen, file_at};
-ghost use Rattle.scram_cli.specs.Answers.{AreThere, Ends, Gives, HasRoom, IsAnswer, IsAnswerOf, request_answer, script_answer};
-ghost use Rattle.scram_cli.specs.Assurance.{AssuresForm, AssuresRequest, AssuresScript};
-ghost use Rattle.scram_cli.specs.Forms.{files_of, form_of, further_files, with_name, with_names};
+ghost use Rattle.scram_cli.specs.declared.forms.Form.TheVariants.{Specified};
+ghost use Rattle.scram_cli.specs.declared.forms.Request.TheVariants.{Run};
+ghost use Rattle.scram_cli.specs.Answers.{AreThere, Ends, Gives, HasRoom, IsAnswer, request_answer};
+ghost use Rattle.scram_cli.specs.Assurance.{AssuresForm, AssuresRequest, AssuresScript, AssuresSpec};
+ghost use Rattle.scram_cli.specs.Forms.{files_of, form_of, further_files, with_name};
 
 use crate::bounds::tell_bounds;
 use crate::flights::{check, fly};
@@ -13,18 +15,11 @@ use crate::forms::{Form, Request, form_of};
 use crate::lines::{make_script_line, make_specification_line};
 use crate::loads::{Loaded, load_script, load_spec};
 use crate::refusals::{refuse_memory, refuse_read, refuse_usage, tell_line};
+use crate::status::Status;
 use app_model::Rack;
 use scram_io::{Files, Sink};
 use scram_types::Spec;
 use std::alloc::{AllocGlobal, Global};
-
-/// How the command ended: 0 done, 2 usage, 3 a file was not read, 4 the output was not written,
-/// 5 the specification is refused, 6 it is not accepted, 7 the script is refused, 8 the script leaves
-/// the failure assumption, 9 memory was wanting.
-#[derive(Clone, Copy, Debug, PartialEq, Eq)]
-pub struct Status {
-    pub code: u8,
-}
 
 /// Does what the words after the program's name ask for: `run SPEC SCRIPT` flies a mission, `check SPEC`
 /// tells whether a specification is accepted, `bounds SPEC` which bounds it has to give.
@@ -37,10 +32,10 @@ pub fn scram<R: AllocGlobal, F: Files, K: Sink>(
     files: &mut F,
     out: &mut K,
     racks: Vec<Rack>,
-    _spares: Vec<Rack>,
+    spares: Vec<Rack>,
 ) -> Status
     requires racks { RacksFit (λ b. kind_of (b.vtable, b.value)) (λ r. r.boxes.items) racks.items }
-    requires spares { RacksFit (λ b. kind_of (b.vtable, b.value)) (λ r. r.boxes.items) _spares.items }
+    requires spares { RacksFit (λ b. kind_of (b.vtable, b.value)) (λ r. r.boxes.items) spares.items }
     ensures answer { IfSome (F.told files.old) (λ m. Ends (IsAnswer (form_of (map string_bytes words.now)) m)
         (files_of (form_of (map string_bytes words.now))) (F.faults files.old) (F.faults files.new)
         (K.taken out.old) (K.taken out.new) (K.surely out.old) (K.faults out.old) (K.faults out.new) result.code) }
@@ -70,6 +65,18 @@ fn answer_request<F: Files, K: Sink>(
     out: &mut K,
     racks: Vec<Rack>,
 ) -> Status
+    requires { RacksFit (λ b. kind_of (b.vtable, b.value)) (λ r. r.boxes.items) racks.items }
+    ensures ends { IfSome (F.told files.old) (λ m. Ends (IsAnswer (Some (Specified specification.now (with_name (λ name. name.now) request))) m)
+        (specification.now ∷ further_files (with_name (λ name. name.now) request)) (F.faults files.old) (F.faults files.new)
+        (K.taken out.old) (K.taken out.new) (K.surely out.old) (K.faults out.old) (K.faults out.new) result.code) }
+    ensures count { F.faults files.old ≤ F.faults files.new }
+    ensures read { result.code ≡ 3 → Rose (F.faults files.old) (F.faults files.new) }
+    ensures write { result.code ≡ 4 → Rose (K.faults out.old) (K.faults out.new) }
+    ensures quiet { IfSome (F.told files.old) (λ m. F.steady files.old
+        → AreThere m (specification.now ∷ further_files (with_name (λ name. name.now) request))
+        → Unrisen (F.faults files.old) (F.faults files.new)) }
+    ensures assured { result.code ≡ 0 → IfSome (F.told files.old) (λ m.
+        AssuresSpec m specification.now (with_name (λ name. name.now) request) (K.taken out.old) (K.taken out.new)) }
 {
     match load_spec(alloc, specification, files) {
         Loaded::Got(spec) => answer_read(alloc, spec, request, files, out, racks),
@@ -88,6 +95,18 @@ fn answer_read<F: Files, K: Sink>(
     out: &mut K,
     racks: Vec<Rack>,
 ) -> Status
+    requires { RacksFit (λ b. kind_of (b.vtable, b.value)) (λ r. r.boxes.items) racks.items }
+    ensures ends { IfSome (F.told files.old) (λ m. Ends (Gives (request_answer m (with_name (λ name. name.now) request) spec))
+        (further_files (with_name (λ name. name.now) request)) (F.faults files.old) (F.faults files.new)
+        (K.taken out.old) (K.taken out.new) (K.surely out.old) (K.faults out.old) (K.faults out.new) result.code) }
+    ensures count { F.faults files.old ≤ F.faults files.new }
+    ensures read { result.code ≡ 3 → Rose (F.faults files.old) (F.faults files.new) }
+    ensures write { result.code ≡ 4 → Rose (K.faults out.old) (K.faults out.new) }
+    ensures quiet { IfSome (F.told files.old) (λ m. F.steady files.old
+        → AreThere m (further_files (with_name (λ name. name.now) request))
+        → Unrisen (F.faults files.old) (F.faults files.new)) }
+    ensures assured { result.code ≡ 0 → IfSome (F.told files.old) (λ m.
+        AssuresRequest spec m (with_name (λ name. name.now) request) (K.taken out.old) (K.taken out.new)) }
 {
     match request {
         Request::Run { script } => run(alloc, spec, script, files, out, racks),
@@ -105,6 +124,17 @@ fn run<F: Files, K: Sink>(
     out: &mut K,
     racks: Vec<Rack>,
 ) -> Status
+    requires { RacksFit (λ b. kind_of (b.vtable, b.value)) (λ r. r.boxes.items) racks.items }
+    ensures ends { IfSome (F.told files.old) (λ m. Ends (Gives (request_answer m (Run script.now) spec))
+        (script.now ∷ []) (F.faults files.old) (F.faults files.new)
+        (K.taken out.old) (K.taken out.new) (K.surely out.old) (K.faults out.old) (K.faults out.new) result.code) }
+    ensures count { F.faults files.old ≤ F.faults files.new }
+    ensures read { result.code ≡ 3 → Rose (F.faults files.old) (F.faults files.new) }
+    ensures write { result.code ≡ 4 → Rose (K.faults out.old) (K.faults out.new) }
+    ensures quiet { IfSome (F.told files.old) (λ m. F.steady files.old → IsSome (file_at script.now m)
+        → Unrisen (F.faults files.old) (F.faults files.new)) }
+    ensures assured { result.code ≡ 0 → IfSome (F.told files.old) (λ m.
+        AssuresScript spec m script.now (K.taken out.old) (K.taken out.new)) }
 {
     match load_script(alloc, &spec, script, files) {
         Loaded::Got(script) => fly(alloc, spec, script, out, racks),

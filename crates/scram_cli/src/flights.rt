@@ -9,9 +9,9 @@ ghost use Rattle.scram_io.specs.Outside.{Rose};
 ghost use Rattle.scram_cli.specs.Answers.{Tells, check_answer, flight_answer, within_answer, trace_of};
 ghost use Rattle.scram_cli.specs.Assurance.{IsAssured};
 
-use crate::command::Status;
 use crate::lines::{make_accepted_line, make_outside_line, make_shown_line};
 use crate::refusals::{refuse_memory, tell_line};
+use crate::status::Status;
 use app_model::Rack;
 use coverage_check::{AcceptError, Accepted, Mission, accept};
 use scram_io::Sink;

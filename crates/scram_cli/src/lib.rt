@@ -9,5 +9,7 @@ mod forms;
 mod lines;
 mod loads;
 mod refusals;
+mod status;
 
-pub use command::{Status, scram};
+pub use command::scram;
+pub use status::Status;
