@@ -25,6 +25,10 @@ texts_rest text i (suc n) few = elim (within_or_last i n few) [
   | inr last ↦ ([], rw last (sym (append-nil (texts_below text (suc n)))))
 ]
 
+-- the texts of one number more
+pub texts_more : (text : ℕ → List ℕ) (i : ℕ) → texts_below text (i + 1) ≡ texts_below text i ++ text i
+texts_more text i = let next : i + 1 ≡ suc i = omega arith in rw next refl
+
 packed : (test : ℕ → Bool) (n : ℕ) → bits_below test n ≡ packed_below test n
 packed test zero = refl
 packed test (suc n) = ap (λ (set : ℕ). set + (if test n then 2 ^ n else 0)) (packed test n)

@@ -82,7 +82,7 @@ memory_ends Answers names unread reads old new room before now code says surely 
 
 unread_outcome : (Answers : ℕ → List ℕ → Type 0) (names : List (List ℕ)) (name : List ℕ) (unread reads status : ℕ) (text : List ℕ) →
     Contains names name → Rose unread reads →
-    ((status, text) ≡ (3, read_line name)) ⊎ ((status ≡ 9) × (text ≡ memory_line)) →
+    (◌≡◌ {A = ℕ × List ℕ} (status, text) (3, read_line name)) ⊎ ((status ≡ 9) × (text ≡ memory_line)) →
     Outcome Answers names unread reads status text
 unread_outcome Answers names name unread reads status text named rose (inl is) = inr (inr (record {
   code = ap (λ (a : ℕ × List ℕ). a.0) is;

@@ -126,6 +126,7 @@ fn put_bound<K: Sink>(
 ) -> Result<(), SinkFault>
     requires set { set ≡ targets spec.now from }
     requires to { to.0 < length spec.now.confs }
+    requires few { to.0 < 12 }
     ensures { Prints result (K.taken out.old) (K.taken out.new) (K.surely out.old) (K.surely out.new)
         (K.faults out.old) (K.faults out.new) (bound_text_of spec.now from.0 to.0) }
 {
@@ -140,6 +141,7 @@ fn put_bound<K: Sink>(
 fn is_asked(spec: &Spec, set: u16, from: ConfId, to: ConfId) -> bool
     requires set { set ≡ targets spec.now from }
     requires to { to.0 < length spec.now.confs }
+    requires few { to.0 < 12 }
     ensures { result ≡ is_asked spec.now from.0 to.0 }
 {
     is_in_set(set, to.0) && may_go(spec, from, to)
