@@ -1,3 +1,4 @@
+pub mod Pluses
 mod Parsed
 mod Ones
 mod ThinFacts

@@ -4,6 +4,7 @@
 
 mod command;
 mod documents;
+mod lines;
 mod loads;
 mod refusals;
 mod scripts;
