@@ -1,3 +1,4 @@
+mod LineExamples
 pub mod Pluses
 mod Parsed
 mod Ones
