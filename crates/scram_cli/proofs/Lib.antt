@@ -1,3 +1,5 @@
+mod LineExamples
+pub mod Pluses
 mod Endings
 mod Loading
 mod Bounding
