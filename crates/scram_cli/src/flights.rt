@@ -95,6 +95,7 @@ fn fly_mission<K: Sink>(
     ensures read { result.code ≢ 3 }
     ensures assured { result.code ≡ 0 → IsAssured mission.now.spec mission.now.script (K.taken out.old) (K.taken out.new) }
 {
+    mission.holds();
     match one_thread(alloc, mission, racks) {
         Ok(flown) => match put_trace(out, mission.spec(), flown.rows.items(), flown.reports.items()) {
             Ok(()) => Status { code: 0 },
