@@ -43,11 +43,6 @@ pub for_all : {A : Type 0} (P Q : A → Type 0) (o : Option A) → ((a : A) → 
 for_all P Q None turn known = tt
 for_all P Q (Some a) turn known = turn a known
 
--- two facts of the same
-pub for_both : {A : Type 0} (P Q R : A → Type 0) (o : Option A) → ((a : A) → P a → Q a → R a) → IfSome o P → IfSome o Q → IfSome o R
-for_both P Q R None turn first second = tt
-for_both P Q R (Some a) turn first second = turn a first second
-
 told_outcome : (Answers : ℕ → List ℕ → Type 0) (answered : ℕ × List ℕ) (names : List (List ℕ)) (unread reads status : ℕ) (text : List ℕ) →
     Answers answered.0 answered.1 →
     ((status, text) ≡ answered) ⊎ ((status ≡ 9) × (text ≡ memory_line)) → Outcome Answers names unread reads status text

@@ -7,7 +7,7 @@ ghost use Rattle.scram_cli.specs.declared.forms.Form.TheVariants.{Specified};
 ghost use Rattle.scram_cli.specs.declared.forms.Request.TheVariants.{Run};
 ghost use Rattle.scram_cli.specs.Answers.{AreThere, Ends, Gives, HasRoom, IsAnswer, request_answer};
 ghost use Rattle.scram_cli.specs.Assurance.{AssuresForm, AssuresRequest, AssuresScript, AssuresSpec};
-ghost use Rattle.scram_cli.specs.Forms.{files_of, form_of, further_files, with_name};
+ghost use Rattle.scram_cli.specs.Forms.{files_of, form_of, further_files, with_name, with_names};
 
 use crate::bounds::tell_bounds;
 use crate::flights::{check, fly};
@@ -48,11 +48,35 @@ pub fn scram<R: AllocGlobal, F: Files, K: Sink>(
         AssuresForm (form_of (map string_bytes words.now)) m (K.taken out.old) (K.taken out.new)) }
 {
     match form_of(words) {
-        Some(Form::Specified {
+        Some(form) => answer_form(rt.alloc(), form, files, out, racks),
+        None => refuse_usage(out),
+    }
+}
+
+fn answer_form<F: Files, K: Sink>(
+    alloc: Global,
+    form: Form<&str>,
+    files: &mut F,
+    out: &mut K,
+    racks: Vec<Rack>,
+) -> Status
+    requires { RacksFit (λ b. kind_of (b.vtable, b.value)) (λ r. r.boxes.items) racks.items }
+    ensures ends { IfSome (F.told files.old) (λ m. Ends (IsAnswer (Some (with_names (λ name. name.now) form.entry)) m)
+        (files_of (Some (with_names (λ name. name.now) form.entry))) (F.faults files.old) (F.faults files.new)
+        (K.taken out.old) (K.taken out.new) (K.surely out.old) (K.faults out.old) (K.faults out.new) result.code) }
+    ensures read { result.code ≡ 3 → Rose (F.faults files.old) (F.faults files.new) }
+    ensures write { result.code ≡ 4 → Rose (K.faults out.old) (K.faults out.new) }
+    ensures quiet { IfSome (F.told files.old) (λ m. F.steady files.old
+        → AreThere m (files_of (Some (with_names (λ name. name.now) form.entry)))
+        → Unrisen (F.faults files.old) (F.faults files.new)) }
+    ensures assured { result.code ≡ 0 → IfSome (F.told files.old) (λ m.
+        AssuresForm (Some (with_names (λ name. name.now) form.entry)) m (K.taken out.old) (K.taken out.new)) }
+{
+    match form {
+        Form::Specified {
             specification,
             request,
-        }) => answer_request(rt.alloc(), specification, request, files, out, racks),
-        None => refuse_usage(out),
+        } => answer_request(alloc, specification, request, files, out, racks),
     }
 }
 
@@ -66,17 +90,17 @@ fn answer_request<F: Files, K: Sink>(
     racks: Vec<Rack>,
 ) -> Status
     requires { RacksFit (λ b. kind_of (b.vtable, b.value)) (λ r. r.boxes.items) racks.items }
-    ensures ends { IfSome (F.told files.old) (λ m. Ends (IsAnswer (Some (Specified specification.now (with_name (λ name. name.now) request))) m)
-        (specification.now ∷ further_files (with_name (λ name. name.now) request)) (F.faults files.old) (F.faults files.new)
+    ensures ends { IfSome (F.told files.old) (λ m. Ends (IsAnswer (Some (Specified specification.now (with_name (λ name. name.now) request.entry))) m)
+        (specification.now ∷ further_files (with_name (λ name. name.now) request.entry)) (F.faults files.old) (F.faults files.new)
         (K.taken out.old) (K.taken out.new) (K.surely out.old) (K.faults out.old) (K.faults out.new) result.code) }
     ensures count { F.faults files.old ≤ F.faults files.new }
     ensures read { result.code ≡ 3 → Rose (F.faults files.old) (F.faults files.new) }
     ensures write { result.code ≡ 4 → Rose (K.faults out.old) (K.faults out.new) }
     ensures quiet { IfSome (F.told files.old) (λ m. F.steady files.old
-        → AreThere m (specification.now ∷ further_files (with_name (λ name. name.now) request))
+        → AreThere m (specification.now ∷ further_files (with_name (λ name. name.now) request.entry))
         → Unrisen (F.faults files.old) (F.faults files.new)) }
     ensures assured { result.code ≡ 0 → IfSome (F.told files.old) (λ m.
-        AssuresSpec m specification.now (with_name (λ name. name.now) request) (K.taken out.old) (K.taken out.new)) }
+        AssuresSpec m specification.now (with_name (λ name. name.now) request.entry) (K.taken out.old) (K.taken out.new)) }
 {
     match load_spec(alloc, specification, files) {
         Loaded::Got(spec) => answer_read(alloc, spec, request, files, out, racks),
@@ -96,17 +120,17 @@ fn answer_read<F: Files, K: Sink>(
     racks: Vec<Rack>,
 ) -> Status
     requires { RacksFit (λ b. kind_of (b.vtable, b.value)) (λ r. r.boxes.items) racks.items }
-    ensures ends { IfSome (F.told files.old) (λ m. Ends (Gives (request_answer m (with_name (λ name. name.now) request) spec))
-        (further_files (with_name (λ name. name.now) request)) (F.faults files.old) (F.faults files.new)
+    ensures ends { IfSome (F.told files.old) (λ m. Ends (Gives (request_answer m (with_name (λ name. name.now) request.entry) spec))
+        (further_files (with_name (λ name. name.now) request.entry)) (F.faults files.old) (F.faults files.new)
         (K.taken out.old) (K.taken out.new) (K.surely out.old) (K.faults out.old) (K.faults out.new) result.code) }
     ensures count { F.faults files.old ≤ F.faults files.new }
     ensures read { result.code ≡ 3 → Rose (F.faults files.old) (F.faults files.new) }
     ensures write { result.code ≡ 4 → Rose (K.faults out.old) (K.faults out.new) }
     ensures quiet { IfSome (F.told files.old) (λ m. F.steady files.old
-        → AreThere m (further_files (with_name (λ name. name.now) request))
+        → AreThere m (further_files (with_name (λ name. name.now) request.entry))
         → Unrisen (F.faults files.old) (F.faults files.new)) }
     ensures assured { result.code ≡ 0 → IfSome (F.told files.old) (λ m.
-        AssuresRequest spec m (with_name (λ name. name.now) request) (K.taken out.old) (K.taken out.new)) }
+        AssuresRequest spec m (with_name (λ name. name.now) request.entry) (K.taken out.old) (K.taken out.new)) }
 {
     match request {
         Request::Run { script } => run(alloc, spec, script, files, out, racks),

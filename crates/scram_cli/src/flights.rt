@@ -82,12 +82,7 @@ fn fly_accepted<K: Sink>(
     }
 }
 
-fn fly_mission<K: Sink>(
-    alloc: Global,
-    mission: &Mission,
-    out: &mut K,
-    racks: Vec<Rack>,
-) -> Status
+fn fly_mission<K: Sink>(alloc: Global, mission: &Mission, out: &mut K, racks: Vec<Rack>) -> Status
     requires racks { RacksFit (λ b. kind_of (b.vtable, b.value)) (λ r. r.boxes.items) racks.items }
     ensures tells { Tells (0, trace_of mission.now.spec mission.now.script) (K.taken out.old) (K.taken out.new)
         (K.surely out.old) (K.faults out.old) (K.faults out.new) result.code }
@@ -97,7 +92,12 @@ fn fly_mission<K: Sink>(
 {
     mission.holds();
     match one_thread(alloc, mission, racks) {
-        Ok(flown) => match put_trace(out, mission.spec(), flown.rows.items(), flown.reports.items()) {
+        Ok(flown) => match put_trace(
+            out,
+            mission.spec(),
+            flown.rows.items(),
+            flown.reports.items(),
+        ) {
             Ok(()) => Status { code: 0 },
             Err(_) => Status { code: 4 },
         },
