@@ -13,6 +13,7 @@ pub mod Acting
 pub mod Flying
 pub mod Lists
 pub mod Reporting
+mod Sizes
 pub mod Bounding
 pub mod Keeping
 pub mod Ranging

@@ -4,5 +4,8 @@
 //! and begins because the environment changed.
 #![tactic(auto)]
 
+pub mod flights;
 pub mod laws;
 pub mod missions;
+
+pub use flights::one_thread;
