@@ -14,4 +14,5 @@ pub mod Bounds
 pub mod Intervals
 pub mod Documents
 pub mod Texts
+pub mod Writable
 pub mod Answers

@@ -23,3 +23,8 @@ mod writing;
 pub use fault::{SpecError, SpecFault};
 pub use reading::read_spec;
 pub use writing::write_spec;
+
+#[cfg(test)]
+mod tests;
+#[cfg(test)]
+mod uav;

@@ -4,6 +4,8 @@ ghost use Rattle.std.specs.Prelude.{◌≡◌, ◌≤◌, Ok, Some, length, map,
 ghost use Rattle.serde_json.specs.Data.{put};
 ghost use Rattle.serde_json.specs.Read.{read};
 ghost use Rattle.serde_json.specs.View.{members_view, view};
+ghost use Rattle.reconf_spec.specs.Documents.{spec_of};
+ghost use Rattle.reconf_spec.specs.Writable.{IsWritable};
 ghost use Rattle.reconf_spec.specs.Texts.{app_data, assumption_data, bound_data, choice_data, conf_data, factor_data, goal_data, invariant_data, list_data, mode_data, need_data, place_data, places_data, precondition_data, proc_data, spec_data, spec_text, up_data, value_text, want_data, with_limits, with_named, with_table, with_version};
 
 use crate::choices::is_in_set;
@@ -353,7 +355,10 @@ fn make_spec(alloc: Global, spec: &Spec) -> Result<Value, AllocError>
 pub fn write_spec(alloc: Global, spec: &Spec) -> Result<Vec<u8>, NoMemory>
     ensures text { IfOk result (λ text. text.items ≡ spec_text spec.now) }
     ensures value { IfOk result (λ text. read text.items ≡ Some (spec_data spec.now)) }
+    ensures back { IfOk result (λ text. IsWritable spec.now → spec_of text.items ≡ Ok spec.now) }
 {
+    // Whoever uses a field of a specification knows that it keeps its invariant.
+    let _ = &spec.procs;
     let Ok(value) = make_spec(alloc, spec) else {
         return Err(NoMemory);
     };
