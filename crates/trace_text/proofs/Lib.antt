@@ -2,3 +2,7 @@ pub mod Listing
 pub mod Printing
 mod Steps
 mod ModeNames
+mod Splitting
+mod Spelling
+mod Values
+mod NameLists

@@ -2,9 +2,17 @@
 //! prefix.
 #![tactic(auto)]
 
+pub mod app_reading;
 pub mod lines;
+pub mod lookups;
+pub mod name_lists;
+pub mod numbers;
+pub mod pieces;
 pub mod puts;
 pub mod report_lines;
+pub mod report_reading;
 pub mod row_lines;
+pub mod row_reading;
+pub mod words;
 
 pub use puts::{put_end, put_report, put_row, put_trace};
