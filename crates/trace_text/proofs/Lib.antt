@@ -6,3 +6,4 @@ mod Splitting
 mod Spelling
 mod Values
 mod NameLists
+mod Walk

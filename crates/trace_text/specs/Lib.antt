@@ -9,3 +9,4 @@ pub mod Lookups
 pub mod RowReading
 pub mod ReportReading
 pub mod AppReading
+pub mod TraceReading
