@@ -7,3 +7,7 @@ mod Spelling
 mod Values
 mod NameLists
 mod Walk
+mod Shapes
+mod Inversion
+mod Found
+mod RowOnly
