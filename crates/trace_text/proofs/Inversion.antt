@@ -56,7 +56,14 @@ tab_from (suc n) k ws e = ap (λ (rest : List (List ℕ)). word ws k ∷ rest) (
 pub words_listed : (n : ℕ) (ws : List (List ℕ)) → (length ws == n) ≡ true → ws ≡ tab n 0 ws
 words_listed n ws e = let same : length ws ≡ n = eqb-true (length ws) n e in sym (tab_from n 0 ws (omega (arith, same)))
 
+-- lists of words, word by word
+pub both : {a b : List ℕ} {xs ys : List (List ℕ)} → a ≡ b → xs ≡ ys → a ∷ xs ≡ b ∷ ys
+both {a} {b} {xs} {ys} e f = ap (λ (x : List ℕ). x ∷ xs) e ∙ ap (λ (l : List (List ℕ)). b ∷ l) f
+
 pub line_joined : (line : List ℕ) (ws : List (List ℕ)) → words_in line ≡ Some ws → line ≡ join_with_byte 32 ws
 line_joined line ws h =
     let p = some_says (nat_le (length (words_of line)) 16 && list_all is_filled (words_of line)) (words_of line) ws h in
     sym (join_with_byte-slice_split 32 line) ∙ ap (join_with_byte 32) p.1
+
+pub words_are : (line : List ℕ) (ws : List (List ℕ)) → words_in line ≡ Some ws → words_of line ≡ ws
+words_are line ws h = (some_says (nat_le (length (words_of line)) 16 && list_all is_filled (words_of line)) (words_of line) ws h).1

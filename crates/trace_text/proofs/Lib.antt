@@ -11,3 +11,6 @@ mod Shapes
 mod Inversion
 mod Found
 mod RowOnly
+mod AppOnly
+mod ReportOnly
+mod TraceOnly

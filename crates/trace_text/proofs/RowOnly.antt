@@ -18,13 +18,14 @@ use Rattle.scram_types.specs.declared.specification.Factor.{Factor}
 use Rattle.scram_types.specs.declared.specification.Proc.{Proc}
 use Rattle.trace_text.specs.Lookups.{conf_named, conf_or_none, value_named}
 use Rattle.trace_text.specs.Names.{conf_name, conf_or_dash, further, joined, names_up, value_name, values_named}
-use Rattle.trace_text.specs.Pieces.{items_of, pieces_of, word, words_in, is_word}
+use Rattle.trace_text.specs.Pieces.{items_of, pieces_of, word, words_in, words_of, is_word}
 use Rattle.trace_text.specs.RowReading.{are_values, env_names, env_of, is_env_form, is_moving_form, is_next, is_proc, is_stable_form, left_behind, moving_row, row_begun, row_end, row_in, row_read, stable_row, up_from, up_in, values_from, values_in, with_bit, world_at}
 use Rattle.trace_text.specs.Rules.{unless}
 use Rattle.trace_text.specs.Spelling.{number_of, signed_of}
 use Rattle.trace_text.specs.Text.{row_line, up_text, values_text}
+use Rattle.trace_text.specs.TraceReading.{begins}
 use Rattle.trace_text.proofs.Found.{conf_found, conf_or_dash_found, value_found}
-use Rattle.trace_text.proofs.Inversion.{if_ok, is_text, kept_says, line_joined, map_some, same_text, tab, then_some, unless_ok, words_listed}
+use Rattle.trace_text.proofs.Inversion.{both, if_ok, is_text, kept_says, line_joined, map_some, same_text, tab, then_some, unless_ok, words_are, words_listed}
 use Rattle.trace_text.proofs.Shapes.{moving_shape, stable_shape}
 use Rattle.trace_text.proofs.Spelling.{number_spelled, signed_spelled}
 use Rattle.trace_text.proofs.Splitting.{some_piece}
@@ -156,15 +157,6 @@ world_words ws at world h =
       bank = signed_spelled d.0 _ d.1 ∙ ap (λ (w : World). signed_decimal w.bank) e;
     }
 
--- the words of an environment and a world from word `at` on
-record EnvWords (spec : Parts) (ws : List (List ℕ)) (at : ℕ) (values : List ℕ) (up : ℕ) (world : World) : Type 0 where
-  env : word ws at ≡ codes "env"
-  values_are : word ws (at + 1) ≡ values_text spec values
-  up_is : word ws (at + 2) ≡ codes "up"
-  names : word ws (at + 3) ≡ up_text spec up
-  world_is : word ws (at + 4) ≡ codes "world"
-  numbers : WorldWords ws (at + 5) world
-
 -- what the end of a row's reading tells
 record RowEnd (spec : Parts) (next : ℕ) (ws : List (List ℕ)) (at : ℕ) (mode : KMode) (values : List ℕ) (row : Row) : Type 0 where
   frame : ℕ
@@ -200,3 +192,115 @@ pub record RowRead (spec : Parts) (next : ℕ) (line : List ℕ) (row : Row) : T
   pub frame : row.frame ≡ next
   pub acts : row.acts ≡ replicate 8 Off
   pub areas : row.areas ≡ replicate 8 (replicate 8 (pos 0))
+
+record EnvForm (spec : Parts) (ws : List (List ℕ)) (at : ℕ) : Type 0 where
+  env : word ws at ≡ codes "env"
+  listed : are_values spec.factors (word ws (at + 1)) ≡ true
+  up_is : word ws (at + 2) ≡ codes "up"
+  world_is : word ws (at + 4) ≡ codes "world"
+
+env_form : (spec : Parts) (ws : List (List ℕ)) (at : ℕ) → is_env_form spec ws at ≡ true → EnvForm spec ws at
+env_form spec ws at h =
+    let a = and_parts (is_word ws at (codes "env") && are_values spec.factors (word ws (at + 1)) && is_word ws (at + 2) (codes "up")) (is_word ws (at + 4) (codes "world")) h in
+    let b = and_parts (is_word ws at (codes "env") && are_values spec.factors (word ws (at + 1))) (is_word ws (at + 2) (codes "up")) a.0 in
+    let c = and_parts (is_word ws at (codes "env")) (are_values spec.factors (word ws (at + 1))) b.0 in
+    record { env = is_text ws at _ c.0; listed = c.1; up_is = is_text ws (at + 2) _ b.1; world_is = is_text ws (at + 4) _ a.1 }
+
+env_values : (spec : Parts) (ws : List (List ℕ)) (at : ℕ) (values : List ℕ) → length spec.factors ≤ 6 → EnvForm spec ws at → env_names spec ws at ≡ Some values →
+    word ws (at + 1) ≡ values_text spec values
+env_values spec ws at values few form h =
+    let p = kept_says (list_all (is_proc spec) (items_of (word ws (at + 3)))) (values_in spec.factors (word ws (at + 1))) values h in
+    values_read spec.factors (word ws (at + 1)) values few form.listed p.1
+
+row_told : (spec : Parts) (next frame : ℕ) (line : List ℕ) (mode : KMode) (up : ℕ) (values : List ℕ) (world : World) (row : Row) →
+    row_begun frame mode (env_of up values) world ≡ row → frame ≡ next →
+    row_line spec (row_begun frame mode (env_of up values) world) ≡ line ++ codes "\n" → RowRead spec next line row
+row_told spec next frame line mode up values world row is same text = record {
+    text = ap (row_line spec) (sym is) ∙ text;
+    frame = ap (λ (r : Row). r.frame) (sym is) ∙ same;
+    acts = ap (λ (r : Row). r.acts) (sym is);
+    areas = ap (λ (r : Row). r.areas) (sym is);
+  }
+
+stable_read : (spec : Parts) (next : ℕ) (line : List ℕ) (ws : List (List ℕ)) (row : Row) → length spec.factors ≤ 6 → line ≡ join_with_byte 32 ws →
+    word ws 0 ≡ codes "frame" → is_stable_form spec ws ≡ true → stable_row spec next ws ≡ Ok row → RowRead spec next line row
+stable_read spec next line ws row few joined_is w0 form h =
+    let b = and_parts ((length ws == 13) && is_word ws 2 (codes "stable")) (is_env_form spec ws 4) form in
+    let a = and_parts (length ws == 13) (is_word ws 2 (codes "stable")) b.0 in
+    let env = env_form spec ws 4 b.1 in
+    let c = unless_ok 4 (conf_named spec (word ws 3)) _ row h in
+    let v = unless_ok 4 (env_names spec ws 4) _ row c.2 in
+    let told = row_ended spec next ws 4 (Stable c.0) v.0 row v.2 in
+    let w1 : word ws 1 ≡ decimal told.frame = told.spelled in
+    let w2 : word ws 2 ≡ codes "stable" = is_text ws 2 (codes "stable") a.1 in
+    let w3 : word ws 3 ≡ conf_name spec c.0.0 = conf_found spec (word ws 3) c.0 c.1 in
+    let w4 : word ws 4 ≡ codes "env" = env.env in
+    let w5 : word ws 5 ≡ values_text spec v.0 = env_values spec ws 4 v.0 few env v.1 in
+    let w6 : word ws 6 ≡ codes "up" = env.up_is in
+    let w7 : word ws 7 ≡ up_text spec told.up = told.listed in
+    let w8 : word ws 8 ≡ codes "world" = env.world_is in
+    let w9 : word ws 9 ≡ signed_decimal told.world.alt = told.numbers.alt in
+    let w10 : word ws 10 ≡ signed_decimal told.world.climb = told.numbers.climb in
+    let w11 : word ws 11 ≡ signed_decimal told.world.heading = told.numbers.heading in
+    let w12 : word ws 12 ≡ signed_decimal told.world.bank = told.numbers.bank in
+    let listed : ws ≡ codes "frame" ∷ decimal told.frame ∷ codes "stable" ∷ conf_name spec c.0.0 ∷ codes "env" ∷ values_text spec v.0 ∷ codes "up" ∷ up_text spec told.up ∷ codes "world"
+            ∷ signed_decimal told.world.alt ∷ signed_decimal told.world.climb ∷ signed_decimal told.world.heading ∷ signed_decimal told.world.bank ∷ []
+        = words_listed 13 ws a.0 ∙ both w0 (both w1 (both w2 (both w3 (both w4 (both w5 (both w6 (both w7 (both w8 (both w9 (both w10 (both w11 (both w12 refl)))))))))))) in
+    row_told spec next told.frame line (Stable c.0) told.up v.0 told.world row told.row_is told.is_next
+        (sym (stable_shape (decimal told.frame) (conf_name spec c.0.0) (values_text spec v.0) (up_text spec told.up)
+            (signed_decimal told.world.alt) (signed_decimal told.world.climb) (signed_decimal told.world.heading) (signed_decimal told.world.bank))
+        ∙ ap (λ (text : List ℕ). text ++ codes "\n") (sym (joined_is ∙ ap (join_with_byte 32) listed)))
+
+moving_read : (spec : Parts) (next : ℕ) (line : List ℕ) (ws : List (List ℕ)) (row : Row) → length spec.factors ≤ 6 → line ≡ join_with_byte 32 ws →
+    word ws 0 ≡ codes "frame" → is_moving_form spec ws ≡ true → moving_row spec next ws ≡ Ok row → RowRead spec next line row
+moving_read spec next line ws row few joined_is w0 form h =
+    let b = and_parts ((length ws == 16) && is_word ws 2 (codes "moving")) (is_env_form spec ws 7) form in
+    let a = and_parts (length ws == 16) (is_word ws 2 (codes "moving")) b.0 in
+    let env = env_form spec ws 7 b.1 in
+    let c = unless_ok 4 (conf_named spec (word ws 3)) _ row h in
+    let d = unless_ok 4 (conf_or_none spec (word ws 4)) _ row c.2 in
+    let e = unless_ok 4 (conf_named spec (word ws 5)) _ row d.2 in
+    let v = unless_ok 4 (env_names spec ws 7) _ row e.2 in
+    let s = unless_ok 5 (number_of 20000 (word ws 6)) _ row v.2 in
+    let told = row_ended spec next ws 7 (Moving c.0 d.0 e.0 s.0) v.0 row s.2 in
+    let w1 : word ws 1 ≡ decimal told.frame = told.spelled in
+    let w2 : word ws 2 ≡ codes "moving" = is_text ws 2 (codes "moving") a.1 in
+    let w3 : word ws 3 ≡ conf_name spec c.0.0 = conf_found spec (word ws 3) c.0 c.1 in
+    let w4 : word ws 4 ≡ conf_or_dash spec d.0 = conf_or_dash_found spec (word ws 4) d.0 d.1 in
+    let w5 : word ws 5 ≡ conf_name spec e.0.0 = conf_found spec (word ws 5) e.0 e.1 in
+    let w6 : word ws 6 ≡ decimal s.0 = (number_spelled 20000 s.0 (word ws 6) s.1).0 in
+    let w7 : word ws 7 ≡ codes "env" = env.env in
+    let w8 : word ws 8 ≡ values_text spec v.0 = env_values spec ws 7 v.0 few env v.1 in
+    let w9 : word ws 9 ≡ codes "up" = env.up_is in
+    let w10 : word ws 10 ≡ up_text spec told.up = told.listed in
+    let w11 : word ws 11 ≡ codes "world" = env.world_is in
+    let w12 : word ws 12 ≡ signed_decimal told.world.alt = told.numbers.alt in
+    let w13 : word ws 13 ≡ signed_decimal told.world.climb = told.numbers.climb in
+    let w14 : word ws 14 ≡ signed_decimal told.world.heading = told.numbers.heading in
+    let w15 : word ws 15 ≡ signed_decimal told.world.bank = told.numbers.bank in
+    let listed : ws ≡ codes "frame" ∷ decimal told.frame ∷ codes "moving" ∷ conf_name spec c.0.0 ∷ conf_or_dash spec d.0 ∷ conf_name spec e.0.0 ∷ decimal s.0
+            ∷ codes "env" ∷ values_text spec v.0 ∷ codes "up" ∷ up_text spec told.up ∷ codes "world"
+            ∷ signed_decimal told.world.alt ∷ signed_decimal told.world.climb ∷ signed_decimal told.world.heading ∷ signed_decimal told.world.bank ∷ []
+        = words_listed 16 ws a.0 ∙ both w0 (both w1 (both w2 (both w3 (both w4 (both w5 (both w6 (both w7 (both w8 (both w9 (both w10 (both w11 (both w12 (both w13 (both w14 (both w15 refl))))))))))))))) in
+    row_told spec next told.frame line (Moving c.0 d.0 e.0 s.0) told.up v.0 told.world row told.row_is told.is_next
+        (sym (moving_shape (decimal told.frame) (conf_name spec c.0.0) (conf_or_dash spec d.0) (conf_name spec e.0.0) (decimal s.0) (values_text spec v.0) (up_text spec told.up)
+            (signed_decimal told.world.alt) (signed_decimal told.world.climb) (signed_decimal told.world.heading) (signed_decimal told.world.bank))
+        ∙ ap (λ (text : List ℕ). text ++ codes "\n") (sym (joined_is ∙ ap (join_with_byte 32) listed)))
+
+forms_by : (s m : Bool) (spec : Parts) (next : ℕ) (line : List ℕ) (ws : List (List ℕ)) (row : Row) →
+    (s ≡ true → stable_row spec next ws ≡ Ok row → RowRead spec next line row) → (m ≡ true → moving_row spec next ws ≡ Ok row → RowRead spec next line row) →
+    cond s (stable_row spec next ws) (cond m (moving_row spec next ws) (Err 3)) ≡ Ok row → RowRead spec next line row
+forms_by true m spec next line ws row stable moving h = stable refl h
+forms_by false true spec next line ws row stable moving h = moving refl h
+forms_by false false spec next line ws row stable moving h = absurd (let e = h in cc)
+
+-- no second spelling of a row's line
+pub row_only : (spec : Parts) (next : ℕ) (line : List ℕ) (row : Row) → length spec.factors ≤ 6 → begins line (codes "frame") ≡ true → row_read spec next line ≡ Ok row →
+    RowRead spec next line row
+row_only spec next line row few first h =
+    let w = unless_ok 3 (words_in line) (row_in spec next) row h in
+    let same = words_are line w.0 w.1 in
+    let w0 : word w.0 0 ≡ codes "frame" = rw (← same) (is_text (words_of line) 0 (codes "frame") first) in
+    let text = line_joined line w.0 w.1 in
+    forms_by (is_stable_form spec w.0) (is_moving_form spec w.0) spec next line w.0 row
+        (λ form read. stable_read spec next line w.0 row few text w0 form read) (λ form read. moving_read spec next line w.0 row few text w0 form read) w.2
