@@ -57,10 +57,10 @@ pub record AppRead (spec : Parts) (a : ℕ) (line : List ℕ) (told : Done) : Ty
 app_told : (spec : Parts) (a : ℕ) (line : List ℕ) (told : Done) (app : AppSpec) (did : Act) (area : List ℤ) → slice_get spec.apps a ≡ Some app →
     done did area ≡ told → app_line spec app did area ≡ line ++ codes "\n" → AppRead spec a line told
 app_told spec a line told app did area there is text = record {
-    app = app;
-    there = there;
-    text = ap (λ (d : Done). app_line spec app d.act d.area) (sym is) ∙ text;
-  }
+  app = app;
+  there = there;
+  text = ap (λ (d : Done). app_line spec app d.act d.area) (sym is) ∙ text;
+}
 
 -- the application that a line names is the next
 the_next : (spec : Parts) (next a : ℕ) (text : List ℕ) → (a == next) ≡ true → app_named spec text ≡ Some a → Named (λ (app : AppSpec). app.name) spec.apps next text
@@ -82,10 +82,10 @@ ran_read spec next line ws told joined_is w0 count w5 w2 h =
     let w4 : word ws 4 ≡ proc_name spec p.0.0 = proc_found spec (word ws 4) p.0 p.1 in
     let w6 : tab 8 6 ws ≡ map signed_decimal v.0 = signed_words 8 6 ws v.0 v.1 in
     let listed : ws ≡ codes "app" ∷ named.0.name ∷ codes "ran" ∷ mode_text named.0.kind.0 m.0.0 ∷ proc_name spec p.0.0 ∷ codes ":" ∷ map signed_decimal v.0
-        = words_listed 14 ws count ∙ both w0 (both w1 (both w2 (both w3 (both w4 (both w5 w6))))) in
+    = words_listed 14 ws count ∙ both w0 (both w1 (both w2 (both w3 (both w4 (both w5 w6))))) in
     app_told spec next line told named.0 (act.Ran m.0 p.0) v.0 named.1 (let e : done (act.Ran m.0 p.0) v.0 ≡ told = cc in e)
-        (sym (ran_shape named.0.name (mode_text named.0.kind.0 m.0.0) (proc_name spec p.0.0) v.0)
-        ∙ ap (λ (text : List ℕ). text ++ codes "\n") (sym (joined_is ∙ ap (join_with_byte 32) listed)))
+    (sym (ran_shape named.0.name (mode_text named.0.kind.0 m.0.0) (proc_name spec p.0.0) v.0)
+    ∙ ap (λ (text : List ℕ). text ++ codes "\n") (sym (joined_is ∙ ap (join_with_byte 32) listed)))
 
 -- the word of a phase
 abbrev tag_of : Phase → List ℕ
@@ -125,14 +125,14 @@ phase_read spec next line ws told phase fraction joined_is w0 count w5 w2 w3 h =
     let named = the_next spec next a.0 (word ws 1) n.0 a.1 in
     let w1 : word ws 1 ≡ named.0.name = sym named.2 in
     let numbers : word ws 3 ≡ decimal k.0 ++ 47 ∷ decimal l.0
-        = w3 ∙ ap (λ (t : List ℕ). t ++ 47 ∷ fraction.1) (number_spelled 256 k.0 fraction.0 k.1).0 ∙ ap (λ (t : List ℕ). decimal k.0 ++ 47 ∷ t) (number_spelled 256 l.0 fraction.1 l.1).0 in
+    = w3 ∙ ap (λ (t : List ℕ). t ++ 47 ∷ fraction.1) (number_spelled 256 k.0 fraction.0 k.1).0 ∙ ap (λ (t : List ℕ). decimal k.0 ++ 47 ∷ t) (number_spelled 256 l.0 fraction.1 l.1).0 in
     let w4 : word ws 4 ≡ proc_name spec p.0.0 = proc_found spec (word ws 4) p.0 p.1 in
     let w6 : tab 8 6 ws ≡ map signed_decimal v.0 = signed_words 8 6 ws v.0 v.1 in
     let listed : ws ≡ codes "app" ∷ named.0.name ∷ tag_of phase ∷ (decimal k.0 ++ 47 ∷ decimal l.0) ∷ proc_name spec p.0.0 ∷ codes ":" ∷ map signed_decimal v.0
-        = words_listed 14 ws count ∙ both w0 (both w1 (both w2 (both numbers (both w4 (both w5 w6))))) in
+    = words_listed 14 ws count ∙ both w0 (both w1 (both w2 (both numbers (both w4 (both w5 w6))))) in
     app_told spec next line told named.0 (phase_act phase k.0 l.0 p.0) v.0 named.1 (let e : done (phase_act phase k.0 l.0 p.0) v.0 ≡ told = cc in e)
-        (sym (phase_line_text spec named.0 phase k.0 l.0 p.0 v.0)
-        ∙ ap (λ (text : List ℕ). text ++ codes "\n") (sym (joined_is ∙ ap (join_with_byte 32) listed)))
+    (sym (phase_line_text spec named.0 phase k.0 l.0 p.0 v.0)
+    ∙ ap (λ (text : List ℕ). text ++ codes "\n") (sym (joined_is ∙ ap (join_with_byte 32) listed)))
 
 bare_by : (a b c : Bool) (spec : Parts) (kind : ℕ) (text : List ℕ) (did : Act) → (a ≡ true → text ≡ codes "held") → (b ≡ true → text ≡ codes "off") → (c ≡ true → text ≡ codes "lost") →
     cond a (Some act.Held) (cond b (Some act.Off) (cond c (Some act.Lost) None)) ≡ Some did → text ≡ act_text spec kind did
@@ -156,10 +156,10 @@ bare_read spec next line ws told did joined_is w0 count w3 tag h =
     let w2 : word ws 2 ≡ act_text spec named.0.kind.0 did = bare_tag spec named.0.kind.0 (word ws 2) did tag in
     let w4 : tab 8 4 ws ≡ map signed_decimal v.0 = signed_words 8 4 ws v.0 v.1 in
     let listed : ws ≡ codes "app" ∷ named.0.name ∷ act_text spec named.0.kind.0 did ∷ codes ":" ∷ map signed_decimal v.0
-        = words_listed 12 ws count ∙ both w0 (both w1 (both w2 (both w3 w4))) in
+    = words_listed 12 ws count ∙ both w0 (both w1 (both w2 (both w3 w4))) in
     app_told spec next line told named.0 did v.0 named.1 (let e : done did v.0 ≡ told = cc in e)
-        (sym (bare_shape named.0.name (act_text spec named.0.kind.0 did) v.0)
-        ∙ ap (λ (text : List ℕ). text ++ codes "\n") (sym (joined_is ∙ ap (join_with_byte 32) listed)))
+    (sym (bare_shape named.0.name (act_text spec named.0.kind.0 did) v.0)
+    ∙ ap (λ (text : List ℕ). text ++ codes "\n") (sym (joined_is ∙ ap (join_with_byte 32) listed)))
 
 placed_by : (t : Bool) (spec : Parts) (next : ℕ) (line : List ℕ) (ws : List (List ℕ)) (told : Done) → (t ≡ true → word ws 2 ≡ codes "ran") → line ≡ join_with_byte 32 ws →
     word ws 0 ≡ codes "app" → (length ws == 14) ≡ true → word ws 5 ≡ codes ":" →
@@ -169,7 +169,7 @@ placed_by false spec next line ws told ran joined_is w0 count w5 h =
     let p = unless_ok 3 (phase_named (word ws 2)) (λ (phase : Phase). unless 3 (sides_of (word ws 3)) (phase_line spec next ws phase)) told h in
     let f = unless_ok 3 (sides_of (word ws 3)) (phase_line spec next ws p.0) told p.2 in
     phase_read spec next line ws told p.0 f.0 joined_is w0 count w5 (phase_tag (word ws 2) p.0 p.1)
-        (sides_text (word ws 3) f.0.0 f.0.1 (pieces_of 47 (word ws 3)) refl f.1) f.2
+    (sides_text (word ws 3) f.0.0 f.0.1 (pieces_of 47 (word ws 3)) refl f.1) f.2
 
 forms_by : (p b : Bool) (spec : Parts) (next : ℕ) (line : List ℕ) (ws : List (List ℕ)) (told : Done) → (p ≡ true → is_placed_form ws ≡ true) → (b ≡ true → is_bare_form ws ≡ true) →
     line ≡ join_with_byte 32 ws → word ws 0 ≡ codes "app" →

@@ -97,8 +97,8 @@ finished_read spec line ws report joined_is w0 form h =
     let w10 = form.w10 in
     let w11 = told.bound in
     let listed : ws ≡ codes "reconfiguration" ∷ conf_name spec f.0.0 ∷ codes ">" ∷ conf_name spec t.0.0 ∷ codes "begin" ∷ decimal told.begin ∷ codes "end" ∷ decimal e.0
-            ∷ codes "took" ∷ decimal (e.0 - told.begin) ∷ codes "of" ∷ bound_text (bound_in spec.bounds f.0.0 t.0.0) ∷ []
-        = words_listed 12 ws form.count ∙ both w0 (both w1 (both w2 (both w3 (both w4 (both w5 (both w6 (both w7 (both w8 (both w9 (both w10 (both w11 refl))))))))))) in
+    ∷ codes "took" ∷ decimal (e.0 - told.begin) ∷ codes "of" ∷ bound_text (bound_in spec.bounds f.0.0 t.0.0) ∷ []
+    = words_listed 12 ws form.count ∙ both w0 (both w1 (both w2 (both w3 (both w4 (both w5 (both w6 (both w7 (both w8 (both w9 (both w10 (both w11 refl))))))))))) in
     ap (report_line spec) (sym told.report_is)
     ∙ sym (finished_shape (conf_name spec f.0.0) (conf_name spec t.0.0) (decimal told.begin) (decimal e.0) (decimal (e.0 - told.begin)) (bound_text (bound_in spec.bounds f.0.0 t.0.0)))
     ∙ ap (λ (text : List ℕ). text ++ codes "\n") (sym (joined_is ∙ ap (join_with_byte 32) listed))
@@ -118,8 +118,8 @@ unfinished_read spec frames line ws report joined_is w0 form w3 w7 h =
     let w10 = form.w10 in
     let w11 = told.bound in
     let listed : ws ≡ codes "reconfiguration" ∷ conf_name spec f.0.0 ∷ codes ">" ∷ codes "-" ∷ codes "begin" ∷ decimal told.begin ∷ codes "end" ∷ codes "-"
-            ∷ codes "took" ∷ decimal (frames - told.begin) ∷ codes "of" ∷ bound_text (greatest_bound_in spec.bounds f.0.0) ∷ []
-        = words_listed 12 ws form.count ∙ both w0 (both w1 (both w2 (both w3 (both w4 (both w5 (both w6 (both w7 (both w8 (both w9 (both w10 (both w11 refl))))))))))) in
+    ∷ codes "took" ∷ decimal (frames - told.begin) ∷ codes "of" ∷ bound_text (greatest_bound_in spec.bounds f.0.0) ∷ []
+    = words_listed 12 ws form.count ∙ both w0 (both w1 (both w2 (both w3 (both w4 (both w5 (both w6 (both w7 (both w8 (both w9 (both w10 (both w11 refl))))))))))) in
     ap (report_line spec) (sym told.report_is)
     ∙ sym (unfinished_shape (conf_name spec f.0.0) (decimal told.begin) (decimal (frames - told.begin)) (bound_text (greatest_bound_in spec.bounds f.0.0)))
     ∙ ap (λ (text : List ℕ). text ++ codes "\n") (sym (joined_is ∙ ap (join_with_byte 32) listed))
@@ -141,7 +141,7 @@ report_only spec frames line report first h =
     let w0 : word w.0 0 ≡ codes "reconfiguration" = rw (← same) (is_text (words_of line) 0 (codes "reconfiguration") first) in
     let f = if_ok (is_report_form w.0) _ 3 report w.2 in
     dashes_by (is_word w.0 3 (codes "-")) (is_word w.0 7 (codes "-")) spec frames line w.0 report (is_text w.0 3 (codes "-")) (is_text w.0 7 (codes "-"))
-        (line_joined line w.0 w.1) w0 (report_form w.0 f.0) f.1
+    (line_joined line w.0 w.1) w0 (report_form w.0 f.0) f.1
 
 -- no second spelling of the end line
 pub end_only : (frames reports : ℕ) (line : List ℕ) (done : ⊤) → begins line (codes "end") ≡ true → end_read frames reports line ≡ Ok done →
@@ -163,5 +163,5 @@ end_only frames reports line done first h =
     let w3 : word ws 3 ≡ codes "reconfigurations" = is_text ws 3 _ a.1 in
     let w4 : word ws 4 ≡ decimal reports = (number_spelled (2 ^ 32) r.0 (word ws 4) r.1).0 ∙ ap decimal (eqb-true r.0 reports p.1) in
     let listed : ws ≡ codes "end" ∷ codes "frames" ∷ decimal frames ∷ codes "reconfigurations" ∷ decimal reports ∷ []
-        = words_listed 5 ws b.0 ∙ both w0 (both w1 (both w2 (both w3 (both w4 refl)))) in
+    = words_listed 5 ws b.0 ∙ both w0 (both w1 (both w2 (both w3 (both w4 refl)))) in
     sym (end_shape (decimal frames) (decimal reports)) ∙ ap (λ (text : List ℕ). text ++ codes "\n") (sym (line_joined line ws w.1 ∙ ap (join_with_byte 32) listed))

@@ -72,7 +72,7 @@ values_only (factor ∷ factors) (name ∷ names) i vs ws room count h =
     let kept : slice_index ws i ≡ p.0 = values_stay factors names (i + 1) i (slice_set vs i p.0) ws (omega arith) p.2 ∙ get_or-set_same vs i p.0 0 (omega (arith, room)) in
     let first : name ≡ value_name factor (slice_index ws i) = rw kept (value_found factor name p.0 p.1) in
     let rest : names ≡ values_named factors (i + 1) ws
-        = values_only factors names (i + 1) (slice_set vs i p.0) ws (rw (values_length vs i p.0) (omega (arith, room))) (omega (arith, count)) p.2 in
+    = values_only factors names (i + 1) (slice_set vs i p.0) ws (rw (values_length vs i p.0) (omega (arith, room))) (omega (arith, count)) p.2 in
     rw (← first, ← rest) refl
 
 values_read : (factors : List Factor) (list : List ℕ) (ws : List ℕ) → length factors ≤ 6 → are_values factors list ≡ true → values_in factors list ≡ Some ws →
@@ -140,14 +140,14 @@ record WorldWords (ws : List (List ℕ)) (at : ℕ) (world : World) : Type 0 whe
 world_words : (ws : List (List ℕ)) (at : ℕ) (world : World) → world_at ws at ≡ Some world → WorldWords ws at world
 world_words ws at world h =
     let a = then_some (λ (alt : ℤ). option_and_then (λ (climb : ℤ). option_and_then (λ (heading : ℤ). option_map (λ (bank : ℤ).
-        record { alt = alt; climb = climb; heading = heading; bank = bank })
-        (signed_of (word ws (at + 3)))) (signed_of (word ws (at + 2)))) (signed_of (word ws (at + 1)))) (signed_of (word ws at)) world h in
+    record { alt = alt; climb = climb; heading = heading; bank = bank })
+    (signed_of (word ws (at + 3)))) (signed_of (word ws (at + 2)))) (signed_of (word ws (at + 1)))) (signed_of (word ws at)) world h in
     let b = then_some (λ (climb : ℤ). option_and_then (λ (heading : ℤ). option_map (λ (bank : ℤ).
-        record { alt = a.0; climb = climb; heading = heading; bank = bank })
-        (signed_of (word ws (at + 3)))) (signed_of (word ws (at + 2)))) (signed_of (word ws (at + 1))) world a.2 in
+    record { alt = a.0; climb = climb; heading = heading; bank = bank })
+    (signed_of (word ws (at + 3)))) (signed_of (word ws (at + 2)))) (signed_of (word ws (at + 1))) world a.2 in
     let c = then_some (λ (heading : ℤ). option_map (λ (bank : ℤ).
-        record { alt = a.0; climb = b.0; heading = heading; bank = bank })
-        (signed_of (word ws (at + 3)))) (signed_of (word ws (at + 2))) world b.2 in
+    record { alt = a.0; climb = b.0; heading = heading; bank = bank })
+    (signed_of (word ws (at + 3)))) (signed_of (word ws (at + 2))) world b.2 in
     let d = map_some (λ (bank : ℤ). record { alt = a.0; climb = b.0; heading = c.0; bank = bank }) (signed_of (word ws (at + 3))) world c.2 in
     let e : record { alt = a.0; climb = b.0; heading = c.0; bank = d.0 } ≡ world = d.2 in
     record {
@@ -216,11 +216,11 @@ row_told : (spec : Parts) (next frame : ℕ) (line : List ℕ) (mode : KMode) (u
     row_begun frame mode (env_of up values) world ≡ row → frame ≡ next →
     row_line spec (row_begun frame mode (env_of up values) world) ≡ line ++ codes "\n" → RowRead spec next line row
 row_told spec next frame line mode up values world row is same text = record {
-    text = ap (row_line spec) (sym is) ∙ text;
-    frame = ap (λ (r : Row). r.frame) (sym is) ∙ same;
-    acts = ap (λ (r : Row). r.acts) (sym is);
-    areas = ap (λ (r : Row). r.areas) (sym is);
-  }
+  text = ap (row_line spec) (sym is) ∙ text;
+  frame = ap (λ (r : Row). r.frame) (sym is) ∙ same;
+  acts = ap (λ (r : Row). r.acts) (sym is);
+  areas = ap (λ (r : Row). r.areas) (sym is);
+}
 
 stable_read : (spec : Parts) (next : ℕ) (line : List ℕ) (ws : List (List ℕ)) (row : Row) → length spec.factors ≤ 6 → line ≡ join_with_byte 32 ws →
     word ws 0 ≡ codes "frame" → is_stable_form spec ws ≡ true → stable_row spec next ws ≡ Ok row → RowRead spec next line row
@@ -244,12 +244,12 @@ stable_read spec next line ws row few joined_is w0 form h =
     let w11 : word ws 11 ≡ signed_decimal told.world.heading = told.numbers.heading in
     let w12 : word ws 12 ≡ signed_decimal told.world.bank = told.numbers.bank in
     let listed : ws ≡ codes "frame" ∷ decimal told.frame ∷ codes "stable" ∷ conf_name spec c.0.0 ∷ codes "env" ∷ values_text spec v.0 ∷ codes "up" ∷ up_text spec told.up ∷ codes "world"
-            ∷ signed_decimal told.world.alt ∷ signed_decimal told.world.climb ∷ signed_decimal told.world.heading ∷ signed_decimal told.world.bank ∷ []
-        = words_listed 13 ws a.0 ∙ both w0 (both w1 (both w2 (both w3 (both w4 (both w5 (both w6 (both w7 (both w8 (both w9 (both w10 (both w11 (both w12 refl)))))))))))) in
+    ∷ signed_decimal told.world.alt ∷ signed_decimal told.world.climb ∷ signed_decimal told.world.heading ∷ signed_decimal told.world.bank ∷ []
+    = words_listed 13 ws a.0 ∙ both w0 (both w1 (both w2 (both w3 (both w4 (both w5 (both w6 (both w7 (both w8 (both w9 (both w10 (both w11 (both w12 refl)))))))))))) in
     row_told spec next told.frame line (Stable c.0) told.up v.0 told.world row told.row_is told.is_next
-        (sym (stable_shape (decimal told.frame) (conf_name spec c.0.0) (values_text spec v.0) (up_text spec told.up)
-            (signed_decimal told.world.alt) (signed_decimal told.world.climb) (signed_decimal told.world.heading) (signed_decimal told.world.bank))
-        ∙ ap (λ (text : List ℕ). text ++ codes "\n") (sym (joined_is ∙ ap (join_with_byte 32) listed)))
+    (sym (stable_shape (decimal told.frame) (conf_name spec c.0.0) (values_text spec v.0) (up_text spec told.up)
+    (signed_decimal told.world.alt) (signed_decimal told.world.climb) (signed_decimal told.world.heading) (signed_decimal told.world.bank))
+    ∙ ap (λ (text : List ℕ). text ++ codes "\n") (sym (joined_is ∙ ap (join_with_byte 32) listed)))
 
 moving_read : (spec : Parts) (next : ℕ) (line : List ℕ) (ws : List (List ℕ)) (row : Row) → length spec.factors ≤ 6 → line ≡ join_with_byte 32 ws →
     word ws 0 ≡ codes "frame" → is_moving_form spec ws ≡ true → moving_row spec next ws ≡ Ok row → RowRead spec next line row
@@ -279,13 +279,13 @@ moving_read spec next line ws row few joined_is w0 form h =
     let w14 : word ws 14 ≡ signed_decimal told.world.heading = told.numbers.heading in
     let w15 : word ws 15 ≡ signed_decimal told.world.bank = told.numbers.bank in
     let listed : ws ≡ codes "frame" ∷ decimal told.frame ∷ codes "moving" ∷ conf_name spec c.0.0 ∷ conf_or_dash spec d.0 ∷ conf_name spec e.0.0 ∷ decimal s.0
-            ∷ codes "env" ∷ values_text spec v.0 ∷ codes "up" ∷ up_text spec told.up ∷ codes "world"
-            ∷ signed_decimal told.world.alt ∷ signed_decimal told.world.climb ∷ signed_decimal told.world.heading ∷ signed_decimal told.world.bank ∷ []
-        = words_listed 16 ws a.0 ∙ both w0 (both w1 (both w2 (both w3 (both w4 (both w5 (both w6 (both w7 (both w8 (both w9 (both w10 (both w11 (both w12 (both w13 (both w14 (both w15 refl))))))))))))))) in
+    ∷ codes "env" ∷ values_text spec v.0 ∷ codes "up" ∷ up_text spec told.up ∷ codes "world"
+    ∷ signed_decimal told.world.alt ∷ signed_decimal told.world.climb ∷ signed_decimal told.world.heading ∷ signed_decimal told.world.bank ∷ []
+    = words_listed 16 ws a.0 ∙ both w0 (both w1 (both w2 (both w3 (both w4 (both w5 (both w6 (both w7 (both w8 (both w9 (both w10 (both w11 (both w12 (both w13 (both w14 (both w15 refl))))))))))))))) in
     row_told spec next told.frame line (Moving c.0 d.0 e.0 s.0) told.up v.0 told.world row told.row_is told.is_next
-        (sym (moving_shape (decimal told.frame) (conf_name spec c.0.0) (conf_or_dash spec d.0) (conf_name spec e.0.0) (decimal s.0) (values_text spec v.0) (up_text spec told.up)
-            (signed_decimal told.world.alt) (signed_decimal told.world.climb) (signed_decimal told.world.heading) (signed_decimal told.world.bank))
-        ∙ ap (λ (text : List ℕ). text ++ codes "\n") (sym (joined_is ∙ ap (join_with_byte 32) listed)))
+    (sym (moving_shape (decimal told.frame) (conf_name spec c.0.0) (conf_or_dash spec d.0) (conf_name spec e.0.0) (decimal s.0) (values_text spec v.0) (up_text spec told.up)
+    (signed_decimal told.world.alt) (signed_decimal told.world.climb) (signed_decimal told.world.heading) (signed_decimal told.world.bank))
+    ∙ ap (λ (text : List ℕ). text ++ codes "\n") (sym (joined_is ∙ ap (join_with_byte 32) listed)))
 
 forms_by : (s m : Bool) (spec : Parts) (next : ℕ) (line : List ℕ) (ws : List (List ℕ)) (row : Row) →
     (s ≡ true → stable_row spec next ws ≡ Ok row → RowRead spec next line row) → (m ≡ true → moving_row spec next ws ≡ Ok row → RowRead spec next line row) →
@@ -303,4 +303,4 @@ row_only spec next line row few first h =
     let w0 : word w.0 0 ≡ codes "frame" = rw (← same) (is_text (words_of line) 0 (codes "frame") first) in
     let text = line_joined line w.0 w.1 in
     forms_by (is_stable_form spec w.0) (is_moving_form spec w.0) spec next line w.0 row
-        (λ form read. stable_read spec next line w.0 row few text w0 form read) (λ form read. moving_read spec next line w.0 row few text w0 form read) w.2
+    (λ form read. stable_read spec next line w.0 row few text w0 form read) (λ form read. moving_read spec next line w.0 row few text w0 form read) w.2

@@ -47,22 +47,22 @@ ended_joined word (next ∷ words) =
 pub stable_shape : (f c v u a b h k : List ℕ) →
     join_with_byte 32 (codes "frame" ∷ f ∷ codes "stable" ∷ c ∷ codes "env" ∷ v ∷ codes "up" ∷ u ∷ codes "world" ∷ a ∷ b ∷ h ∷ k ∷ []) ++ codes "\n"
     ≡ codes "frame " ++ f ++ codes " " ++ (codes "stable " ++ c) ++ codes " env " ++ v ++ codes " up " ++ u ++ codes " world "
-        ++ (a ++ codes " " ++ b ++ codes " " ++ h ++ codes " " ++ k) ++ codes "\n"
+    ++ (a ++ codes " " ++ b ++ codes " " ++ h ++ codes " " ++ k) ++ codes "\n"
 stable_shape f c v u a b h k =
     ended_joined (codes "frame") (f ∷ codes "stable" ∷ c ∷ codes "env" ∷ v ∷ codes "up" ∷ u ∷ codes "world" ∷ a ∷ b ∷ h ∷ k ∷ [])
     ∙ flattened (chain (say (codes "frame ")) (say f ∷ say (codes " ") ∷ fork (say (codes "stable ")) (say c) ∷ say (codes " env ") ∷ say v ∷ say (codes " up ") ∷ say u ∷ say (codes " world ")
-        ∷ chain (say a) (say (codes " ") ∷ say b ∷ say (codes " ") ∷ say h ∷ say (codes " ") ∷ say k ∷ []) ∷ say (codes "\n") ∷ []))
+    ∷ chain (say a) (say (codes " ") ∷ say b ∷ say (codes " ") ∷ say h ∷ say (codes " ") ∷ say k ∷ []) ∷ say (codes "\n") ∷ []))
 
 pub moving_shape : (f c d e s v u a b h k : List ℕ) →
     join_with_byte 32 (codes "frame" ∷ f ∷ codes "moving" ∷ c ∷ d ∷ e ∷ s ∷ codes "env" ∷ v ∷ codes "up" ∷ u ∷ codes "world" ∷ a ∷ b ∷ h ∷ k ∷ []) ++ codes "\n"
     ≡ codes "frame " ++ f ++ codes " " ++ (codes "moving " ++ c ++ codes " " ++ d ++ codes " " ++ e ++ codes " " ++ s) ++ codes " env " ++ v ++ codes " up " ++ u ++ codes " world "
-        ++ (a ++ codes " " ++ b ++ codes " " ++ h ++ codes " " ++ k) ++ codes "\n"
+    ++ (a ++ codes " " ++ b ++ codes " " ++ h ++ codes " " ++ k) ++ codes "\n"
 moving_shape f c d e s v u a b h k =
     ended_joined (codes "frame") (f ∷ codes "moving" ∷ c ∷ d ∷ e ∷ s ∷ codes "env" ∷ v ∷ codes "up" ∷ u ∷ codes "world" ∷ a ∷ b ∷ h ∷ k ∷ [])
     ∙ flattened (chain (say (codes "frame ")) (say f ∷ say (codes " ")
-        ∷ chain (say (codes "moving ")) (say c ∷ say (codes " ") ∷ say d ∷ say (codes " ") ∷ say e ∷ say (codes " ") ∷ say s ∷ [])
-        ∷ say (codes " env ") ∷ say v ∷ say (codes " up ") ∷ say u ∷ say (codes " world ")
-        ∷ chain (say a) (say (codes " ") ∷ say b ∷ say (codes " ") ∷ say h ∷ say (codes " ") ∷ say k ∷ []) ∷ say (codes "\n") ∷ []))
+    ∷ chain (say (codes "moving ")) (say c ∷ say (codes " ") ∷ say d ∷ say (codes " ") ∷ say e ∷ say (codes " ") ∷ say s ∷ [])
+    ∷ say (codes " env ") ∷ say v ∷ say (codes " up ") ∷ say u ∷ say (codes " world ")
+    ∷ chain (say a) (say (codes " ") ∷ say b ∷ say (codes " ") ∷ say h ∷ say (codes " ") ∷ say k ∷ []) ∷ say (codes "\n") ∷ []))
 
 -- the words of an area behind another word
 abbrev area_ended : List ℤ → List ℕ
@@ -91,10 +91,10 @@ pub phase_shape : (n tag k l p : List ℕ) (area : List ℤ) →
 phase_shape n tag k l p area =
     ended_joined (codes "app") (n ∷ tag ∷ (k ++ 47 ∷ l) ∷ p ∷ codes ":" ∷ map signed_decimal area)
     ∙ ap (λ (rest : List ℕ). codes "app" ++ 32 ∷ (n ++ 32 ∷ (tag ++ 32 ∷ rest)))
-        (append_assoc k (47 ∷ l) (32 ∷ (p ++ 32 ∷ ended (codes ":") (map signed_decimal area)))
-        ∙ ap (λ (rest : List ℕ). k ++ 47 ∷ (l ++ 32 ∷ (p ++ 32 ∷ rest))) (ended_area (codes ":") area ∙ ap (λ (rest : List ℕ). 58 ∷ rest) (sym (area_before area))))
+    (append_assoc k (47 ∷ l) (32 ∷ (p ++ 32 ∷ ended (codes ":") (map signed_decimal area)))
+    ∙ ap (λ (rest : List ℕ). k ++ 47 ∷ (l ++ 32 ∷ (p ++ 32 ∷ rest))) (ended_area (codes ":") area ∙ ap (λ (rest : List ℕ). 58 ∷ rest) (sym (area_before area))))
     ∙ flattened (chain (say (codes "app ")) (say n ∷ say (codes " ")
-        ∷ fork (fork (say tag) (say (codes " "))) (chain (say k) (say (codes "/") ∷ say l ∷ say (codes " ") ∷ say p ∷ [])) ∷ say (codes " :") ∷ say (area_text area) ∷ say (codes "\n") ∷ []))
+    ∷ fork (fork (say tag) (say (codes " "))) (chain (say k) (say (codes "/") ∷ say l ∷ say (codes " ") ∷ say p ∷ [])) ∷ say (codes " :") ∷ say (area_text area) ∷ say (codes "\n") ∷ []))
 
 pub bare_shape : (n tag : List ℕ) (area : List ℤ) →
     join_with_byte 32 (codes "app" ∷ n ∷ tag ∷ codes ":" ∷ map signed_decimal area) ++ codes "\n"
@@ -110,7 +110,7 @@ pub finished_shape : (f c b e d g : List ℕ) →
 finished_shape f c b e d g =
     ended_joined (codes "reconfiguration") (f ∷ codes ">" ∷ c ∷ codes "begin" ∷ b ∷ codes "end" ∷ e ∷ codes "took" ∷ d ∷ codes "of" ∷ g ∷ [])
     ∙ flattened (chain (say (codes "reconfiguration ")) (say f ∷ chain (say (codes " > ")) (say c ∷ say (codes " begin ") ∷ say b ∷ say (codes " end ") ∷ say e
-        ∷ chain (say (codes " took ")) (say d ∷ say (codes " of ") ∷ say g ∷ []) ∷ []) ∷ say (codes "\n") ∷ []))
+    ∷ chain (say (codes " took ")) (say d ∷ say (codes " of ") ∷ say g ∷ []) ∷ []) ∷ say (codes "\n") ∷ []))
 
 pub unfinished_shape : (f b d g : List ℕ) →
     join_with_byte 32 (codes "reconfiguration" ∷ f ∷ codes ">" ∷ codes "-" ∷ codes "begin" ∷ b ∷ codes "end" ∷ codes "-" ∷ codes "took" ∷ d ∷ codes "of" ∷ g ∷ []) ++ codes "\n"
@@ -118,7 +118,7 @@ pub unfinished_shape : (f b d g : List ℕ) →
 unfinished_shape f b d g =
     ended_joined (codes "reconfiguration") (f ∷ codes ">" ∷ codes "-" ∷ codes "begin" ∷ b ∷ codes "end" ∷ codes "-" ∷ codes "took" ∷ d ∷ codes "of" ∷ g ∷ [])
     ∙ flattened (chain (say (codes "reconfiguration ")) (say f ∷ chain (say (codes " > - begin ")) (say b ∷ say (codes " end -")
-        ∷ chain (say (codes " took ")) (say d ∷ say (codes " of ") ∷ say g ∷ []) ∷ []) ∷ say (codes "\n") ∷ []))
+    ∷ chain (say (codes " took ")) (say d ∷ say (codes " of ") ∷ say g ∷ []) ∷ []) ∷ say (codes "\n") ∷ []))
 
 pub end_shape : (f r : List ℕ) →
     join_with_byte 32 (codes "end" ∷ codes "frames" ∷ f ∷ codes "reconfigurations" ∷ r ∷ []) ++ codes "\n"

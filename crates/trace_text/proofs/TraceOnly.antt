@@ -1,6 +1,6 @@
 -- Bytes that are read as rows and reports are the text of these.
 use Rattle.std.proofs.Common.{ℕ, ℤ, suc, zero, ◌≡◌, ◌<◌, ◌≤◌, ◌+◌, ◌∙◌, Bool, true, false, cond, List, [], ◌∷◌, ◌++◌, Option, Some, None, Result, Ok, Err, length, replicate, take, min, arith, refl, sym, ap, append_assoc, append-nil, length-set}
-use Rattle.std.specs.Prelude.{◌==◌, bytes_eq, codes, nat_le, nat_lt, slice_get, slice_index_or, slice_set, ⊤}
+use Rattle.std.specs.Prelude.{◌==◌, bytes_eq, codes, nat_le, nat_lt, slice_get, slice_index_or, slice_set, IfOk, ⊤}
 use Rattle.std.specs.List.{join_with_byte, list_all}
 use Rattle.std.proofs.lemmas.Bool.{ltb-false, lt-ltb}
 use Rattle.std.proofs.lemmas.List.{get_or-set_same, get_or-set_other, length-take, take_all}
@@ -15,13 +15,14 @@ use Rattle.scram_types.specs.declared.specification.AppSpec.{AppSpec}
 use Rattle.trace_text.specs.declared.app_reading.Done.{Done}
 use Rattle.trace_text.specs.declared.progress.Standing.{Standing}
 use Rattle.trace_text.specs.declared.progress.Standing.TheVariants.{Rows, Apps, Reports, Over}
+use Rattle.trace_text.specs.declared.trace_reading.TraceError.{TraceError}
 use Rattle.trace_text.specs.declared.trace_reading.TraceFault.{TraceFault}
 use Rattle.trace_text.specs.AppReading.{app_read}
 use Rattle.trace_text.specs.Pieces.{is_filled, pieces_of}
 use Rattle.trace_text.specs.ReportReading.{end_read, report_read}
 use Rattle.trace_text.specs.RowReading.{row_read}
 use Rattle.trace_text.specs.Text.{app_line, app_line_in, app_lines, end_line, report_line, reports_text, row_line, row_text, rows_text, text_of}
-use Rattle.trace_text.specs.TraceReading.{SoFar, after_app, after_line, at_end, at_last, before_first, begins, closing, fault_at, go_on, is_plain, standing_line, trace_from, trace_of, with_app, with_done, with_end, with_report, with_row}
+use Rattle.trace_text.specs.TraceReading.{SoFar, AnswersTrace, after_app, after_line, at_end, at_last, before_first, begins, closing, fault_at, go_on, is_plain, standing_line, trace_from, trace_of, with_app, with_done, with_end, with_report, with_row}
 use Rattle.trace_text.proofs.AppOnly.{app_only}
 use Rattle.trace_text.proofs.Inversion.{if_ok}
 use Rattle.trace_text.proofs.ReportOnly.{end_only, report_only}
@@ -100,7 +101,7 @@ lines_told spec row a app act area there few acts areas =
     let one : slice_index_or (slice_set row.acts a act) a Off ≡ act = get_or-set_same row.acts a act Off (omega (arith, below, few, acts)) in
     let two : slice_index_or (slice_set row.areas a area) a [] ≡ area = get_or-set_same row.areas a area [] (omega (arith, below, few, areas)) in
     let line : app_line_in spec (with_app row a act area) app (0 + a) ≡ app_line spec app act area
-        = ap (λ (n : ℕ). app_line_in spec (with_app row a act area) app n) (let z : 0 + a ≡ a = omega arith in z) ∙ rw (one, two) refl in
+    = ap (λ (n : ℕ). app_line_in spec (with_app row a act area) app n) (let z : 0 + a ≡ a = omega arith in z) ∙ rw (one, two) refl in
     ap (λ (n : ℕ). app_lines spec (with_app row a act area) (take n spec.apps) 0) next
     ∙ lines_more spec (with_app row a act area) spec.apps app a 0 there
     ∙ ap (λ (text : List ℕ). text ++ app_line_in spec (with_app row a act area) app (0 + a)) (lines_stay spec row a act area (take a spec.apps) 0 (omega (arith, length_take AppSpec a spec.apps)))
@@ -124,9 +125,9 @@ row_step spec s t line few stands none first (Ok row) is h =
     let told = row_only spec (length s.rows) line row few first is in
     let same : record { rows = s.rows; reports = s.reports; standing = Apps 0 row } ≡ t = cc in
     let text : rows_text spec s.rows ++ (row_line spec row ++ []) ≡ so_far spec s s.standing ++ (line ++ codes "\n")
-        = ap (λ (text : List ℕ). rows_text spec s.rows ++ text) (append-nil (row_line spec row) ∙ told.text) ∙ ap (λ (standing : Standing). so_far spec s standing ++ (line ++ codes "\n")) (sym stands) in
+    = ap (λ (text : List ℕ). rows_text spec s.rows ++ text) (append-nil (row_line spec row) ∙ told.text) ∙ ap (λ (standing : Standing). so_far spec s standing ++ (line ++ codes "\n")) (sym stands) in
     let made : Taken spec s (record { rows = s.rows; reports = s.reports; standing = Apps 0 row }) line
-        = record { sound = record { none = none; acts = ap length told.acts; areas = ap length told.areas }; text = text } in
+    = record { sound = record { none = none; acts = ap length told.acts; areas = ap length told.areas }; text = text } in
     rw (← same) made
 
 app_step : (spec : Parts) (s t : SoFar) (line : List ℕ) (a : ℕ) (row : Row) → length spec.apps ≤ 8 → s.standing ≡ Apps a row → RowOpen s row → begins line (codes "app") ≡ true →
@@ -137,12 +138,12 @@ app_step spec s t line a row few stands begun first (Ok told) is h =
     let same : after_app spec s a (with_app row a told.act told.area) ≡ t = cc in
     let lines = lines_told spec row a read.app told.act told.area read.there few begun.acts begun.areas in
     let text : so_far spec s (Apps (a + 1) (with_app row a told.act told.area)) ≡ so_far spec s s.standing ++ (line ++ codes "\n")
-        = ap (λ (text : List ℕ). rows_text spec s.rows ++ (row_line spec row ++ text)) (lines ∙ ap (λ (text : List ℕ). app_lines spec row (take a spec.apps) 0 ++ text) read.text)
-        ∙ ap (λ (text : List ℕ). rows_text spec s.rows ++ text) (sym (append_assoc (row_line spec row) (app_lines spec row (take a spec.apps) 0) (line ++ codes "\n")))
-        ∙ sym (append_assoc (rows_text spec s.rows) (row_line spec row ++ app_lines spec row (take a spec.apps) 0) (line ++ codes "\n"))
-        ∙ ap (λ (standing : Standing). so_far spec s standing ++ (line ++ codes "\n")) (sym stands) in
+    = ap (λ (text : List ℕ). rows_text spec s.rows ++ (row_line spec row ++ text)) (lines ∙ ap (λ (text : List ℕ). app_lines spec row (take a spec.apps) 0 ++ text) read.text)
+    ∙ ap (λ (text : List ℕ). rows_text spec s.rows ++ text) (sym (append_assoc (row_line spec row) (app_lines spec row (take a spec.apps) 0) (line ++ codes "\n")))
+    ∙ sym (append_assoc (rows_text spec s.rows) (row_line spec row ++ app_lines spec row (take a spec.apps) 0) (line ++ codes "\n"))
+    ∙ ap (λ (standing : Standing). so_far spec s standing ++ (line ++ codes "\n")) (sym stands) in
     rw (← same) (after_by (nat_lt (a + 1) (length spec.apps)) spec s a (with_app row a told.act told.area) line (ltb-false (a + 1) (length spec.apps))
-        (length-set row.acts a told.act ∙ begun.acts) (length-set row.areas a told.area ∙ begun.areas) begun.none text)
+    (length-set row.acts a told.act ∙ begun.acts) (length-set row.areas a told.area ∙ begun.areas) begun.none text)
 
 report_step : (spec : Parts) (s t : SoFar) (line : List ℕ) → so_far spec s s.standing ≡ rows_text spec s.rows ++ reports_text spec s.reports → begins line (codes "reconfiguration") ≡ true →
     (read : Result Report ℕ) → report_read spec (length s.rows) line ≡ read → with_report s read ≡ Ok t → Taken spec s t line
@@ -151,8 +152,8 @@ report_step spec s t line stood first (Ok report) is h =
     let told : report_line spec report ≡ line ++ codes "\n" = report_only spec (length s.rows) line report first is in
     let same : record { rows = s.rows; reports = s.reports ++ report ∷ []; standing = Reports } ≡ t = cc in
     let text : rows_text spec s.rows ++ reports_text spec (s.reports ++ report ∷ []) ≡ so_far spec s s.standing ++ (line ++ codes "\n")
-        = ap (λ (text : List ℕ). rows_text spec s.rows ++ text) (reports_end spec s.reports report ∙ ap (λ (text : List ℕ). reports_text spec s.reports ++ text) told)
-        ∙ sym (append_assoc (rows_text spec s.rows) (reports_text spec s.reports) (line ++ codes "\n")) ∙ ap (λ (text : List ℕ). text ++ (line ++ codes "\n")) (sym stood) in
+    = ap (λ (text : List ℕ). rows_text spec s.rows ++ text) (reports_end spec s.reports report ∙ ap (λ (text : List ℕ). reports_text spec s.reports ++ text) told)
+    ∙ sym (append_assoc (rows_text spec s.rows) (reports_text spec s.reports) (line ++ codes "\n")) ∙ ap (λ (text : List ℕ). text ++ (line ++ codes "\n")) (sym stood) in
     let made : Taken spec s (record { rows = s.rows; reports = s.reports ++ report ∷ []; standing = Reports }) line = record { sound = tt; text = text } in
     rw (← same) made
 
@@ -163,8 +164,8 @@ end_step spec s t line stood first (Ok done) is h =
     let told : end_line (length s.rows) (length s.reports) ≡ line ++ codes "\n" = end_only (length s.rows) (length s.reports) line done first is in
     let same : record { rows = s.rows; reports = s.reports; standing = Over } ≡ t = cc in
     let text : rows_text spec s.rows ++ (reports_text spec s.reports ++ end_line (length s.rows) (length s.reports)) ≡ so_far spec s s.standing ++ (line ++ codes "\n")
-        = ap (λ (text : List ℕ). rows_text spec s.rows ++ (reports_text spec s.reports ++ text)) told
-        ∙ sym (append_assoc (rows_text spec s.rows) (reports_text spec s.reports) (line ++ codes "\n")) ∙ ap (λ (text : List ℕ). text ++ (line ++ codes "\n")) (sym stood) in
+    = ap (λ (text : List ℕ). rows_text spec s.rows ++ (reports_text spec s.reports ++ text)) told
+    ∙ sym (append_assoc (rows_text spec s.rows) (reports_text spec s.reports) (line ++ codes "\n")) ∙ ap (λ (text : List ℕ). text ++ (line ++ codes "\n")) (sym stood) in
     let made : Taken spec s (record { rows = s.rows; reports = s.reports; standing = Over }) line = record { sound = tt; text = text } in
     rw (← same) made
 
@@ -238,3 +239,8 @@ pub trace_only : (spec : Parts) (bytes : List ℕ) (f : Flown) → length spec.f
 trace_only spec bytes f few small h =
     let read = not_long (nat_lt 33554432 (length bytes)) (fault_at 0 9) (trace_from spec 1 before_first (pieces_of 10 bytes)) f h in
     sym (join_with_byte-slice_split 10 bytes) ∙ lines_only spec 1 before_first (pieces_of 10 bytes) f few small refl (some_piece 10 bytes) read
+
+pub answered_text : (spec : Parts) (bytes : List ℕ) (answer : Result Flown TraceError) → length spec.factors ≤ 6 → length spec.apps ≤ 8 → AnswersTrace (trace_of spec bytes) answer →
+    IfOk answer (λ (f : Flown). bytes ≡ text_of spec f.rows f.reports)
+answered_text spec bytes (Ok f) few small h = trace_only spec bytes f few small h
+answered_text spec bytes (Err error) few small h = tt

@@ -1,6 +1,7 @@
 //! A trace read from its bytes.
 
-ghost use Rattle.std.specs.Prelude.{◌≡◌};
+ghost use Rattle.std.specs.Prelude.{◌≡◌, ◌≤◌, IfOk, length};
+ghost use Rattle.trace_text.specs.Text.{text_of};
 ghost use Rattle.trace_text.specs.TraceReading.{AnswersTrace, at_last, stopped, trace_of};
 
 use crate::pieces::split_once;
@@ -29,6 +30,22 @@ pub enum TraceError {
 /// The rows and reports of which the bytes are the text, or the first line that breaks a rule with the
 /// least rule that it breaks.
 pub fn read_trace(alloc: Global, bytes: &[u8], spec: &Spec) -> Result<Flown, TraceError>
+    ensures read { AnswersTrace (trace_of spec.now bytes.now) result }
+    ensures text { IfOk result (λ flown. bytes.now ≡ text_of spec.now flown.rows flown.reports) }
+{
+    lists_are_short(spec);
+    read_lines(alloc, bytes, spec)
+}
+
+// The limits of a specification that bound the lists of a row.
+fn lists_are_short(spec: &Spec)
+    ensures factors { length spec.now.factors ≤ 6 }
+    ensures apps { length spec.now.apps ≤ 8 }
+{
+    let _apps = spec.apps.items();
+}
+
+fn read_lines(alloc: Global, bytes: &[u8], spec: &Spec) -> Result<Flown, TraceError>
     ensures { AnswersTrace (trace_of spec.now bytes.now) result }
 {
     if bytes.len() > MAX_TRACE_BYTES {

@@ -1,7 +1,7 @@
 use Rattle.std.proofs.Common.{◌≡◌, ◌≤◌, ◌+◌, length}
 use Rattle.trace_text.specs.Pieces.{pieces_of}
 use Rattle.trace_text.specs.TraceReading.{trace_from, before_first}
-use Rattle.trace_text.proofs.trace_reading.read_trace.Given as goal
+use Rattle.trace_text.proofs.trace_reading.read_lines.Given as goal
 
 abbrev pub invariant-loop-text : goal.invariant-loop-text
 invariant-loop-text l = record {
