@@ -7,7 +7,7 @@ use scram_types::{ConfId, Report};
 
 /// How far two lists have been found to agree.
 #[derive(Clone, Copy, Debug, PartialEq, Eq)]
-pub enum Agreement {
+pub(crate) enum Agreement {
     /// So many reconfigurations are told as they are read.
     Alike(usize),
     /// The next one is not: the frame in which it began.

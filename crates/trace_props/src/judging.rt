@@ -41,7 +41,7 @@ pub fn holds_where_unbroken()
 
 /// What has been judged so far.
 #[derive(Clone, Copy, Debug, PartialEq, Eq)]
-pub struct Judgement {
+pub(crate) struct Judgement {
     /// How far what is told agrees with what is read.
     pub agreement: Agreement,
     /// The first break of SP2 to SP5.

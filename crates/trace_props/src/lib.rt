@@ -6,7 +6,7 @@
 
 pub mod breaks;
 mod causes;
-pub mod comparing;
+mod comparing;
 pub mod flights;
 pub mod judging;
 mod kept;
