@@ -36,7 +36,8 @@ impl Mission {
     ghost use Rattle.std.specs.Prelude.{◌≡◌, IfErr, IfOk, None, OnOk};
     ghost use Rattle.fault_script.specs.Assumption.{first_outside};
     ghost use Rattle.fault_script.specs.Fits.{Fits};
-    ghost use Rattle.coverage_check.specs.Missions.{mission_of};
+    ghost use Rattle.scram_types.specs.Specification.{IsSpec};
+    ghost use Rattle.coverage_check.specs.Missions.{IsMission, mission_of};
     ghost use Rattle.coverage_check.specs.Refusals.{IsNotWithin};
 
     /// The mission of an accepted specification and a script that fits it. It takes no memory.
@@ -72,6 +73,15 @@ impl Mission {
         ensures { result.now ≡ self.now.script }
     {
         &self.script
+    }
+
+    /// What whoever holds a mission knows: its specification is one and is accepted, and its script fits
+    /// it and keeps to its failure assumption. It does nothing.
+    pub fn holds(&self)
+        ensures spec { IsSpec self.now.spec }
+        ensures mission { IsMission self.now }
+    {
+        let _start = self.accepted.spec().start;
     }
 }
 

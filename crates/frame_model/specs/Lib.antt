@@ -9,5 +9,3 @@ pub mod Outcomes
 pub mod Inputs
 pub mod Flights
 pub mod Laws
-pub mod Power
-pub mod Quiet

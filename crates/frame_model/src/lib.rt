@@ -11,8 +11,6 @@ pub mod inputs;
 pub mod laws;
 mod outcomes;
 pub mod phases;
-pub mod power;
-pub mod quiet;
 pub mod readings;
 pub mod systems;
 pub mod tasks;

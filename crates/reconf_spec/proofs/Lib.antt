@@ -6,3 +6,14 @@ pub mod Joined
 pub mod LongestChains
 pub mod Cycles
 pub mod Specs
+pub mod Plain
+pub mod Written
+pub mod Lookups
+pub mod ListsBack
+pub mod Sets
+pub mod AppsBack
+pub mod ConfsBack
+pub mod RestBack
+pub mod SpecBack
+pub mod TextLengths
+pub mod TextSizes

@@ -112,7 +112,7 @@ cycle_unranked apps cycle is =
     let closed : NeedsInTurn apps (is.first ∷ is.others) is.first = subst (λ (xs : List AppId). NeedsInTurn apps xs is.first) is.is is.closed in
     not_all (longest_chains 8 apps) is.first.0 (All-head (IsLong 8 apps) is.first is.others (goes_on 8 apps is.first is.others closed))
 
-all_small : (ranks : List ℕ) → All (λ (rank : ℕ). rank < 8) ranks → list_all (λ (rank : ℕ). nat_lt rank 8) ranks ≡ true
+pub all_small : (ranks : List ℕ) → All (λ (rank : ℕ). rank < 8) ranks → list_all (λ (rank : ℕ). nat_lt rank 8) ranks ≡ true
 all_small [] small = refl
 all_small (r ∷ rs) small =
     let low : r < 8 = All-head (λ (rank : ℕ). rank < 8) r rs small in

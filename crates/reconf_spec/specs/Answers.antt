@@ -1,5 +1,5 @@
 -- What an answer says of a reading.
-use Rattle.std.specs.Prelude.{◌≡◌, List, [], Result, Ok, Err, ⊤, Bool, true, false}
+use Rattle.std.specs.Prelude.{◌≡◌, ℕ, List, [], map, Option, Some, option_map, slice_get, Result, Ok, Err, ⊤, Bool, true, false}
 use Rattle.scram_types.specs.declared.ids.AppId.{AppId}
 use Rattle.scram_types.specs.declared.specification.AppSpec.{AppSpec}
 use Rattle.scram_doc.specs.declared.fault.DocFault.{DocFault}
@@ -8,6 +8,7 @@ use Rattle.scram_doc.specs.declared.fault.DocError.TheVariants as doc
 use Rattle.dep_order.specs.Ranks.{IsCycle}
 use Rattle.reconf_spec.specs.declared.fault.SpecError.{SpecError}
 use Rattle.reconf_spec.specs.declared.fault.SpecError.TheVariants.{Fault, NoMemory}
+use Rattle.reconf_spec.specs.Applications.{app_name}
 use Rattle.reconf_spec.specs.Needs.{are_ranked}
 
 -- the answer is that of the reading, unless memory is wanting
@@ -25,14 +26,25 @@ abbrev pub CycleAmong : Result (List AppSpec) DocFault → List AppId → Type 0
 CycleAmong (Err fault) cycle = cycle ≡ []
 CycleAmong (Ok apps) cycle = CycleIf (are_ranked apps) apps cycle
 
--- The fault's cycle is one of the applications as they were read, where these are read and have a cycle.
+-- Each name is that of the application that stands at its place in a list.
+abbrev pub AreNamed : List AppSpec → List AppId → List (List ℕ) → Type 0
+AreNamed apps named names =
+    map (λ (a : AppId). option_map app_name (slice_get apps a.0)) named ≡ map (λ (name : List ℕ). Some name) names
+
+abbrev pub NamedAmong : Result (List AppSpec) DocFault → List AppId → List (List ℕ) → Type 0
+NamedAmong (Err fault) named names = names ≡ []
+NamedAmong (Ok apps) named names = AreNamed apps named names
+
+-- The fault's cycle is one of the applications as they were read, where these are read and have a cycle, and
+-- its names are theirs.
 abbrev pub ShowsCycle : Result (List AppSpec) DocFault → SpecError → Type 0
-ShowsCycle unranked (Fault fault) = CycleAmong unranked fault.cycle.items
+ShowsCycle unranked (Fault fault) =
+    CycleAmong unranked fault.cycle.items × NamedAmong unranked fault.cycle.items fault.names.items
 ShowsCycle unranked NoMemory = ⊤
 
 -- a broken rule, with no cycle
 abbrev pub plain_fault : DocFault → SpecError
-plain_fault fault = Fault (record { rule = fault.rule; path = fault.path; cycle = record { items = [] } })
+plain_fault fault = Fault (record { rule = fault.rule; path = fault.path; cycle = record { items = [] }; names = record { items = [] } })
 
 abbrev pub plain_error : DocError → SpecError
 plain_error (doc.Fault fault) = plain_fault fault

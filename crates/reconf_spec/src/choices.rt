@@ -111,7 +111,7 @@ impl Elements<Want> for Wants<'_> {
     }
 }
 
-fn is_in_set(set: u8, proc: u8) -> bool
+pub(crate) fn is_in_set(set: u8, proc: u8) -> bool
     requires { proc < 8 }
     ensures { result ≡ has_proc set proc }
 {

@@ -5,15 +5,16 @@ ghost use Rattle.reconf_spec.specs.Answers.{plain_fault, plain_error};
 
 use arrayvec::ArrayVec;
 use scram_doc::{DocError, DocFault, Path};
-use scram_types::AppId;
+use scram_types::{AppId, Name};
 
 /// The first rule that a document breaks, with the path of the value where it is broken. `cycle` is a cycle
-/// of needs where there is one, and empty otherwise.
+/// of needs where there is one, and empty otherwise; `names` are the names of its applications, in its order.
 #[derive(Debug, Drop)]
 pub struct SpecFault {
     pub rule: u8,
     pub path: Path,
     pub cycle: ArrayVec<AppId, 8>,
+    pub names: ArrayVec<Name, 8>,
 }
 
 /// Why a specification was not read.
@@ -35,6 +36,7 @@ impl SpecError {
             rule: fault.rule,
             path: fault.path,
             cycle: ArrayVec::new(),
+            names: ArrayVec::new(),
         })
     }
 

@@ -1,16 +1,18 @@
 //! What applications need.
 
-ghost use Rattle.std.specs.Prelude.{◌≡◌, ◌≤◌, ◌<◌, ◌+◌, ℕ, [], false, length, All, Ok, codes, IfErr, IfOk, OnOk, true};
+ghost use Rattle.std.specs.Prelude.{◌≡◌, ◌≤◌, ◌<◌, ◌+◌, ℕ, [], false, length, All, Ok, Some, codes, option_map, slice_get, IfErr, IfOk, OnOk, true};
 ghost use Rattle.serde_json.specs.View.{view, items_view};
+ghost use Rattle.scram_types.specs.declared.ids.AppId.{AppId};
 ghost use Rattle.scram_types.specs.Specification.{Each};
 ghost use Rattle.scram_doc.specs.Chain.{ok_map};
 ghost use Rattle.scram_doc.specs.Faults.{Answers};
 ghost use Rattle.reconf_spec.specs.Lists.{elements_from, elements_at};
 ghost use Rattle.reconf_spec.specs.Members.{member_in};
+ghost use Rattle.reconf_spec.specs.Applications.{app_name};
 ghost use Rattle.reconf_spec.specs.Needs.{apps_in, are_ranked, has_app, need_at, needs_at, with_needs, with_ranks, ranked_at, unranked_at};
 ghost use Rattle.reconf_spec.specs.Facts.{AllAfter, IsNewNeed, AreNeeds};
 ghost use Rattle.dep_order.specs.Ranks.{IsCycle, IsRanking, RanksFall};
-ghost use Rattle.reconf_spec.specs.Answers.{Tells, ShowsCycle, CycleAmong};
+ghost use Rattle.reconf_spec.specs.Answers.{AreNamed, Tells, ShowsCycle, CycleAmong};
 ghost use Rattle.reconf_spec.specs.Kept.{AreApps};
 ghost use Rattle.reconf_spec.specs.Unranked.{AreUnranked};
 
@@ -22,7 +24,7 @@ use arrayvec::ArrayVec;
 use dep_order::{Cycle, rank};
 use scram_doc::{DocError, DocFault, Path, list, need};
 use scram_types::limits::MAX_APPLICATIONS;
-use scram_types::{AppId, AppSpec, List};
+use scram_types::{AppId, AppSpec, List, Name};
 use serde_json::Value;
 use std::alloc::Global;
 
@@ -142,6 +144,26 @@ fn read_unranked(alloc: Global, v: &Value, at: &Path) -> Result<Vec<AppSpec>, Do
     Ok(apps)
 }
 
+fn name_of(apps: &[AppSpec], app: AppId) -> Name
+    requires { app.0 < length apps.now }
+    ensures { option_map app_name (slice_get apps.now app.0) ≡ Some result }
+{
+    apps[usize::from(app.0)].name.copy()
+}
+
+/// The names of applications, in the order in which these are listed.
+fn names_of(apps: &[AppSpec], listed: &[AppId]) -> ArrayVec<Name, 8>
+    requires there { Each (λ (app : AppId). app.0 < length apps.now) listed.now }
+    requires few { length listed.now ≤ 8 }
+    ensures { AreNamed apps.now listed.now result.items }
+{
+    let mut names = ArrayVec::new();
+    for app in listed {
+        names.push(name_of(apps, *app));
+    }
+    names
+}
+
 /// The applications with their ranks, or the cycle that keeps them from having any.
 fn finish_apps(
     apps: Vec<AppSpec>,
@@ -164,11 +186,15 @@ fn finish_apps(
             set_ranks(&mut apps, ranks);
             Ok(List::of(apps))
         }
-        Err(cycle) => Err(SpecError::Fault(SpecFault {
-            rule: rule::CYCLE_OF_NEEDS,
-            path: at.copy(),
-            cycle: cycle.0,
-        })),
+        Err(cycle) => {
+            let names = names_of(&apps, &cycle.0);
+            Err(SpecError::Fault(SpecFault {
+                rule: rule::CYCLE_OF_NEEDS,
+                path: at.copy(),
+                cycle: cycle.0,
+                names,
+            }))
+        }
     }
 }
 

@@ -1,4 +1,5 @@
-mod Parsed
-mod Ones
-mod ThinFacts
+mod LineExamples
+pub mod Pluses
 mod Endings
+mod Loading
+mod Bounding

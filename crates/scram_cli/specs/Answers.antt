@@ -1,23 +1,31 @@
 -- What the command answers: a status and a text, by its words and by the files that they name.
-use Rattle.std.specs.Prelude.{◌≡◌, ◌⊎◌, ℕ, ◌≤◌, nat_le, List, [], ◌∷◌, ◌++◌, length, Contains, Option, Some, None, IsSome, IfSome, codes, option_and_then, if◌then◌else◌, ⊤}
-use Rattle.std.specs.Str.{bytes_eq}
+use Rattle.std.specs.Prelude.{◌≡◌, ◌⊎◌, ℕ, ◌≤◌, List, [], ◌∷◌, ◌++◌, length, Contains, Option, Some, None, IsSome, IfSome, Result, Ok, Err, codes, ⊤}
+use Rattle.scram_types.specs.declared.ids.AppId.{AppId}
+use Rattle.scram_types.specs.declared.specification.AppSpec.{AppSpec}
 use Rattle.scram_types.specs.Scripts.{ScriptParts}
 use Rattle.scram_types.specs.Specification.{Parts}
+use Rattle.scram_doc.specs.declared.fault.DocFault.{DocFault}
 use Rattle.scram_io.specs.Outside.{FileMap, file_at, Rose, Unrisen, Took, TookPrefix}
-use Rattle.frame_model.specs.Quiet.{rows_of}
+use Rattle.reconf_spec.specs.declared.fault.SpecFault.{SpecFault}
+use Rattle.reconf_spec.specs.Answers.{CycleAmong, NamedAmong}
+use Rattle.reconf_spec.specs.Documents.{spec_of, unranked_of}
+use Rattle.fault_script.specs.declared.assumption.Outside.{Outside}
+use Rattle.fault_script.specs.Assumption.{first_outside}
+use Rattle.fault_script.specs.Reading.{script_of}
+use Rattle.coverage_check.specs.declared.shown.Shown.{Shown}
+use Rattle.coverage_check.specs.Acceptance.{first_refusal}
+use Rattle.coverage_check.specs.Form.{state_refusal}
+use Rattle.frame_model.specs.Flights.{reports_of, rows_of}
 use Rattle.trace_text.specs.Text.{text_of}
-use Rattle.scram_cli.specs.Documents.{chain}
-use Rattle.scram_cli.specs.ThinScript.{script_in}
-use Rattle.scram_cli.specs.ThinSpecification.{spec_in}
+use Rattle.scram_cli.specs.declared.forms.Form.{Form}
+use Rattle.scram_cli.specs.declared.forms.Form.TheVariants.{Specified}
+use Rattle.scram_cli.specs.declared.forms.Request.{Request}
+use Rattle.scram_cli.specs.declared.forms.Request.TheVariants.{Run, Check, Bounds}
+use Rattle.scram_cli.specs.Bounds.{bounds_text}
+use Rattle.scram_cli.specs.Lines.{accepted_line, outside_line, script_line, shown_line, specification_line}
 
 abbrev pub usage_line : List ℕ
 usage_line = codes "refused: usage\n"
-
-abbrev pub specification_line : List ℕ
-specification_line = codes "refused: specification not built\n"
-
-abbrev pub script_line : List ℕ
-script_line = codes "refused: script not built\n"
 
 abbrev pub memory_line : List ℕ
 memory_line = codes "refused: memory\n"
@@ -25,42 +33,84 @@ memory_line = codes "refused: memory\n"
 abbrev pub read_line : List ℕ → List ℕ
 read_line name = codes "refused: read " ++ name ++ codes "\n"
 
--- the names of the two files after the word `run`; other words have no form
-abbrev pub form_of : List (List ℕ) → Option (List ℕ × List ℕ)
-form_of [] = None
-form_of (command ∷ []) = None
-form_of (command ∷ specification ∷ []) = None
-form_of (command ∷ specification ∷ script ∷ []) = if bytes_eq command (codes "run") then Some (specification, script) else None
-form_of (command ∷ specification ∷ script ∷ further ∷ words) = None
-
--- the specification and the script of a file's bytes, which have a greatest length
-abbrev pub spec_of : List ℕ → Option Parts
-spec_of bytes = if nat_le (length bytes) 1048576 then spec_in bytes else None
-
-abbrev pub script_of : List ℕ → Option ScriptParts
-script_of bytes = if nat_le (length bytes) 2097152 then script_in bytes else None
+-- first a value, then what is answered of it
+abbrev pub chain : {A B : Type 0} → Option A → (A → Option B) → Option B
+chain None rest = None
+chain (Some value) rest = rest value
 
 -- the text of the one-thread trace
 abbrev pub trace_of : Parts → ScriptParts → List ℕ
-trace_of spec script = text_of spec (rows_of spec script.frames) []
+trace_of spec script = text_of spec (rows_of spec script) (reports_of spec script)
 
-abbrev pub flight_answer : Parts → Option ScriptParts → ℕ × List ℕ
-flight_answer spec None = (7, script_line)
-flight_answer spec (Some script) = (0, trace_of spec script)
+-- the answer where the specification is accepted, by how the script leaves the failure assumption
+abbrev pub within_answer : Parts → ScriptParts → Option Outside → ℕ × List ℕ
+within_answer spec script (Some outside) = (8, outside_line outside)
+within_answer spec script None = (0, trace_of spec script)
 
-abbrev pub script_answer : FileMap → List ℕ → Option Parts → Option (ℕ × List ℕ)
-script_answer files script None = Some (5, specification_line)
-script_answer files script (Some spec) = chain (file_at script files) (λ (bytes : List ℕ). Some (flight_answer spec (script_of bytes)))
+-- the answer to `run` where both files are read, by why the specification is not accepted
+abbrev pub flight_answer : Parts → ScriptParts → Option Shown → ℕ × List ℕ
+flight_answer spec script (Some shown) = (6, shown_line spec shown)
+flight_answer spec script None = within_answer spec script (first_outside spec script)
 
-abbrev pub run_answer : FileMap → Option (List ℕ × List ℕ) → Option (ℕ × List ℕ)
-run_answer files None = Some (2, usage_line)
-run_answer files (Some names) = chain (file_at names.0 files) (λ (bytes : List ℕ). script_answer files names.1 (spec_of bytes))
+abbrev pub script_answer : Parts → Result ScriptParts DocFault → ℕ × List ℕ
+script_answer spec (Err fault) = (7, script_line fault)
+script_answer spec (Ok script) = flight_answer spec script (first_refusal spec)
 
--- The answer; there is none where a file that is wanted is not there.
-abbrev pub answer : List (List ℕ) → FileMap → Option (ℕ × List ℕ)
-answer words files = run_answer files (form_of words)
+-- the answer to `check`, by why the specification is not accepted
+abbrev pub check_answer : Parts → Option Shown → ℕ × List ℕ
+check_answer spec (Some shown) = (6, shown_line spec shown)
+check_answer spec None = (0, accepted_line spec)
 
--- A file that the words name was not read, and the count of the files' faults rose.
+-- the answer to `bounds`, which asks nothing but that environments be few
+abbrev pub bounds_answer : Parts → Option Shown → ℕ × List ℕ
+bounds_answer spec (Some shown) = (6, shown_line spec shown)
+bounds_answer spec None = (0, bounds_text spec)
+
+-- the answer to what is asked of a specification that is read
+abbrev pub request_answer : FileMap → Request (List ℕ) → Parts → Option (ℕ × List ℕ)
+request_answer files (Run script) spec = chain (file_at script files) (λ (bytes : List ℕ). Some (script_answer spec (script_of spec bytes)))
+request_answer files Check spec = Some (check_answer spec (first_refusal spec))
+request_answer files Bounds spec = Some (bounds_answer spec (state_refusal spec))
+
+-- a fault of a specification that shows these names of a cycle of needs
+abbrev pub showing : List (List ℕ) → DocFault → SpecFault
+showing cycle fault = record { rule = fault.rule; path = fault.path; cycle = record { items = [] }; names = record { items = cycle } }
+
+abbrev pub read_answer : List (List ℕ) → FileMap → Request (List ℕ) → Result Parts DocFault → Option (ℕ × List ℕ)
+read_answer cycle files request (Err fault) = Some (5, specification_line (showing cycle fault))
+read_answer cycle files request (Ok spec) = request_answer files request spec
+
+-- The answer, by the names of the cycle of needs that a refusal shows. There is none where a file that is
+-- wanted is not there.
+abbrev pub answer : List (List ℕ) → Option (Form (List ℕ)) → FileMap → Option (ℕ × List ℕ)
+answer cycle None files = Some (2, usage_line)
+answer cycle (Some (Specified specification request)) files =
+    chain (file_at specification files) (λ (bytes : List ℕ). read_answer cycle files request (spec_of bytes))
+
+-- the names are those of a cycle of the needs as they were read, where these have one
+abbrev pub NamesCycle : Result (List AppSpec) DocFault → List (List ℕ) → Type 0
+NamesCycle unranked names = (cycle : List AppId) × CycleAmong unranked cycle × NamedAmong unranked cycle names
+
+abbrev pub ShowsWhereRefused : Result Parts DocFault → Result (List AppSpec) DocFault → List (List ℕ) → Type 0
+ShowsWhereRefused (Ok spec) unranked cycle = cycle ≡ []
+ShowsWhereRefused (Err fault) unranked cycle = NamesCycle unranked cycle
+
+abbrev pub ShowsCycleOf : Option (Form (List ℕ)) → FileMap → List (List ℕ) → Type 0
+ShowsCycleOf None files cycle = cycle ≡ []
+ShowsCycleOf (Some (Specified specification request)) files cycle =
+    IfSome (file_at specification files) (λ bytes. ShowsWhereRefused (spec_of bytes) (unranked_of bytes) cycle)
+
+-- Status and text are an answer: that by some cycle of needs, where there are several.
+pub record IsAnswer (form : Option (Form (List ℕ))) (files : FileMap) (status : ℕ) (text : List ℕ) : Type 0 where
+  pub cycle : List (List ℕ)
+  pub shows : ShowsCycleOf form files cycle
+  pub gives : answer cycle form files ≡ Some (status, text)
+
+-- status and text are what is answered
+abbrev pub Gives : Option (ℕ × List ℕ) → ℕ → List ℕ → Type 0
+Gives answered status text = answered ≡ Some (status, text)
+
+-- One of these files was not read, and the count of the files' faults rose.
 pub record IsUnread (names : List (List ℕ)) (before now status : ℕ) (text : List ℕ) : Type 0 where
   pub code : status ≡ 3
   pub name : List ℕ
@@ -68,10 +118,10 @@ pub record IsUnread (names : List (List ℕ)) (before now status : ℕ) (text : 
   pub line : text ≡ read_line name
   pub rose : Rose before now
 
--- Status and text are the answer's, or memory was wanting, or a file was not read.
-abbrev pub Outcome : Option (ℕ × List ℕ) → List (List ℕ) → ℕ → ℕ → ℕ → List ℕ → Type 0
-Outcome answered names before now status text =
-    (answered ≡ Some (status, text)) ⊎ ((status ≡ 9) × (text ≡ memory_line)) ⊎ IsUnread names before now status text
+-- Status and text are an answer's, or memory was wanting, or a file was not read.
+abbrev pub Outcome : (ℕ → List ℕ → Type 0) → List (List ℕ) → ℕ → ℕ → ℕ → List ℕ → Type 0
+Outcome Answers names before now status text =
+    Answers status text ⊎ ((status ≡ 9) × (text ≡ memory_line)) ⊎ IsUnread names before now status text
 
 -- The text went out whole and the code is the status, or the sink's count rose, a prefix went out, and the
 -- code is 4.
@@ -85,29 +135,29 @@ Surely room before now text = IfSome room (λ bytes. length text ≤ bytes → U
 
 -- A text went out with its status, or the memory line with status 9. What the sink took, the bytes that it
 -- surely takes and its count of faults, before and after.
-pub record Tells (status : ℕ) (text : List ℕ) (old new : Option (List ℕ)) (room : Option ℕ) (before now : ℕ) (code : ℕ) : Type 0 where
-  pub told : ℕ
-  pub line : List ℕ
-  pub is : ((told ≡ status) × (line ≡ text)) ⊎ ((told ≡ 9) × (line ≡ memory_line))
-  pub says : Says old new before now told line code
-  pub surely : Surely room before now line
-
--- How a command ends: with an outcome, and a code that says what went out. The counts of the files' faults,
--- then what the sink took, the bytes that it surely takes and its count, before and after.
-pub record Ends (answered : Option (ℕ × List ℕ)) (names : List (List ℕ)) (unread reads : ℕ)
-    (old new : Option (List ℕ)) (room : Option ℕ) (before now : ℕ) (code : ℕ) : Type 0 where
+pub record Tells (answered : ℕ × List ℕ) (old new : Option (List ℕ)) (room : Option ℕ) (before now : ℕ) (code : ℕ) : Type 0 where
   pub status : ℕ
   pub text : List ℕ
-  pub outcome : Outcome answered names unread reads status text
+  pub is : ((status, text) ≡ answered) ⊎ ((status ≡ 9) × (text ≡ memory_line))
   pub says : Says old new before now status text code
   pub surely : Surely room before now text
 
--- The files that the words name are there.
-abbrev pub HasFiles : Option (List ℕ × List ℕ) → FileMap → Type 0
-HasFiles None files = ⊤
-HasFiles (Some names) files = IsSome (file_at names.0 files) × IsSome (file_at names.1 files)
+-- How a command ends: with an outcome, and a code that says what went out. The counts of the files' faults,
+-- then what the sink took, the bytes that it surely takes and its count, before and after.
+pub record Ends (Answers : ℕ → List ℕ → Type 0) (names : List (List ℕ)) (unread reads : ℕ)
+    (old new : Option (List ℕ)) (room : Option ℕ) (before now : ℕ) (code : ℕ) : Type 0 where
+  pub status : ℕ
+  pub text : List ℕ
+  pub outcome : Outcome Answers names unread reads status text
+  pub says : Says old new before now status text code
+  pub surely : Surely room before now text
 
--- The sink tells that it surely takes as many bytes as the answer and the memory line have.
-abbrev pub HasRoom : Option (ℕ × List ℕ) → Option ℕ → Type 0
-HasRoom answered None = ⊥
-HasRoom answered (Some room) = IfSome answered (λ a. length a.1 ≤ room) × (length memory_line ≤ room)
+-- All these files are there.
+abbrev pub AreThere : FileMap → List (List ℕ) → Type 0
+AreThere files [] = ⊤
+AreThere files (name ∷ names) = IsSome (file_at name files) × AreThere files names
+
+-- The sink tells that it surely takes as many bytes as any answer and as the memory line have.
+abbrev pub HasRoom : (ℕ → List ℕ → Type 0) → Option ℕ → Type 0
+HasRoom Answers None = ⊥
+HasRoom Answers (Some room) = ((status : ℕ) (text : List ℕ) → Answers status text → length text ≤ room) × (length memory_line ≤ room)

@@ -1,5 +1,6 @@
 pub mod Answers
-pub mod Documents
+pub mod Assurance
+pub mod Bounds
+pub mod Forms
+pub mod Lines
 pub mod Loads
-pub mod ThinScript
-pub mod ThinSpecification

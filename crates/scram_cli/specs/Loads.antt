@@ -1,24 +1,55 @@
 -- What the loading of a file says of its bytes.
-use Rattle.std.specs.Prelude.{◌≡◌, ℕ, List, Option, Some, None, ⊤}
+use Rattle.std.specs.Prelude.{◌≡◌, ℕ, List, Option, Some, Result, Ok, Err, ⊤}
+use Rattle.scram_types.specs.Scripts.{ScriptParts}
+use Rattle.scram_types.specs.Specification.{Parts}
+use Rattle.scram_doc.specs.declared.fault.DocFault.{DocFault}
 use Rattle.scram_io.specs.Outside.{FileMap, file_at}
+use Rattle.fault_script.specs.Fits.{Fits}
+use Rattle.fault_script.specs.Reading.{script_of}
+use Rattle.reconf_spec.specs.declared.fault.SpecFault.{SpecFault}
+use Rattle.reconf_spec.specs.declared.fault.SpecError.TheVariants.{Fault}
+use Rattle.reconf_spec.specs.Answers.{ShowsCycle}
+use Rattle.reconf_spec.specs.Documents.{spec_of, unranked_of}
 use Rattle.scram_cli.specs.declared.loads.Loaded.{Loaded}
 use Rattle.scram_cli.specs.declared.loads.Loaded.TheVariants.{Got, Refused, Failed, NoMemory}
 
--- the file is there, and its bytes are read so
-pub record Reads {A : Type 0} (reading : List ℕ → Option A) (files : FileMap) (name : List ℕ) (value : Option A) : Type 0 where
+-- the file is there, with bytes of which this holds
+pub record HasBytes (files : FileMap) (name : List ℕ) (Fact : List ℕ → Type 0) : Type 0 where
   pub bytes : List ℕ
   pub there : file_at name files ≡ Some bytes
-  pub gives : reading bytes ≡ value
+  pub fact : Fact bytes
 
-abbrev pub Loads : {A : Type 0} → (List ℕ → Option A) → FileMap → List ℕ → Loaded A → Type 0
-Loads reading files name (Got value) = Reads reading files name (Some value)
-Loads reading files name Refused = Reads reading files name None
-Loads reading files name Failed = ⊤
-Loads reading files name NoMemory = ⊤
+abbrev pub Loads : {A E : Type 0} → (A → List ℕ → Type 0) → (E → List ℕ → Type 0) → FileMap → List ℕ → Loaded A E → Type 0
+Loads Reads Refuses files name (Got value) = HasBytes files name (Reads value)
+Loads Reads Refuses files name (Refused fault) = HasBytes files name (Refuses fault)
+Loads Reads Refuses files name Failed = ⊤
+Loads Reads Refuses files name NoMemory = ⊤
+
+-- the bytes are this specification, or are refused with this fault, which shows a cycle of needs where there is one
+abbrev pub ReadsAsSpec : Parts → List ℕ → Type 0
+ReadsAsSpec spec bytes = spec_of bytes ≡ Ok spec
+
+pub record RefusesAsSpec (fault : SpecFault) (bytes : List ℕ) : Type 0 where
+  pub refuses : spec_of bytes ≡ Err (record { rule = fault.rule; path = fault.path })
+  pub shows : ShowsCycle (unranked_of bytes) (Fault fault)
+
+-- the bytes are this script, or are refused with this fault
+abbrev pub ReadsAsScript : Parts → ScriptParts → List ℕ → Type 0
+ReadsAsScript spec script bytes = script_of spec bytes ≡ Ok script
+
+abbrev pub RefusesAsScript : Parts → DocFault → List ℕ → Type 0
+RefusesAsScript spec fault bytes = script_of spec bytes ≡ Err fault
+
+-- a script that was read fits the specification
+abbrev pub FitsWhereGot : Parts → Loaded ScriptParts DocFault → Type 0
+FitsWhereGot spec (Got script) = Fits spec script
+FitsWhereGot spec (Refused fault) = ⊤
+FitsWhereGot spec Failed = ⊤
+FitsWhereGot spec NoMemory = ⊤
 
 -- the file was not read
-abbrev pub IsFailed : {A : Type 0} → Loaded A → Type 0
+abbrev pub IsFailed : {A E : Type 0} → Loaded A E → Type 0
 IsFailed (Got value) = ⊥
-IsFailed Refused = ⊥
+IsFailed (Refused fault) = ⊥
 IsFailed Failed = ⊤
 IsFailed NoMemory = ⊥

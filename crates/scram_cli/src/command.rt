@@ -1,90 +1,155 @@
 //! The top call.
 
-ghost use Rattle.std.specs.Prelude.{◌≡◌, ◌≢◌, ◌≤◌, ◌∷◌, [], IsSome, IfSome, Some, map, string_bytes, option_map};
+ghost use Rattle.std.specs.Prelude.{◌≡◌, ◌≤◌, ◌∷◌, [], IsSome, IfSome, Some, map, string_bytes};
+ghost use Rattle.app_model.specs.Racks.{RacksFit};
 ghost use Rattle.scram_io.specs.Outside.{Rose, Unrisen, file_at};
-ghost use Rattle.scram_cli.specs.Answers.{Ends, HasFiles, HasRoom, Tells, answer, form_of, run_answer, script_answer, trace_of};
+ghost use Rattle.scram_cli.specs.declared.forms.Form.TheVariants.{Specified};
+ghost use Rattle.scram_cli.specs.declared.forms.Request.TheVariants.{Run};
+ghost use Rattle.scram_cli.specs.Answers.{AreThere, Ends, Gives, HasRoom, IsAnswer, request_answer};
+ghost use Rattle.scram_cli.specs.Assurance.{AssuresForm, AssuresRequest, AssuresScript, AssuresSpec};
+ghost use Rattle.scram_cli.specs.Forms.{files_of, form_of, further_files, with_name, with_names};
 
+use crate::bounds::tell_bounds;
+use crate::flights::{check, fly};
+use crate::forms::{Form, Request, form_of};
+use crate::lines::{make_script_line, make_specification_line};
 use crate::loads::{Loaded, load_script, load_spec};
-use crate::refusals::{refuse, refuse_memory, refuse_read};
-use frame_model::quiet::rows;
+use crate::refusals::{refuse_memory, refuse_read, refuse_usage, tell_line};
+use crate::status::Status;
+use app_model::Rack;
 use scram_io::{Files, Sink};
-use scram_types::{Script, Spec};
+use scram_types::Spec;
 use std::alloc::{AllocGlobal, Global};
-use trace_text::put_trace;
 
-/// How the command ended: 0 done, 2 usage, 3 a file was not read, 4 the output was not written,
-/// 5 the specification is refused, 7 the script is refused, 9 memory was wanting.
-#[derive(Clone, Copy, Debug, PartialEq, Eq)]
-pub struct Status {
-    pub code: u8,
-}
-
-/// Flies the mission that the words name: `run SPEC SCRIPT`, the words after the program's name.
+/// Does what the words after the program's name ask for: `run SPEC SCRIPT` flies a mission, `check SPEC`
+/// tells whether a specification is accepted, `bounds SPEC` which bounds it has to give.
+///
+/// `racks` are the boxes of the processors, and `spares` those of processors that restart. One thread
+/// needs no spares.
 pub fn scram<R: AllocGlobal, F: Files, K: Sink>(
     rt: &R,
     words: &[String],
     files: &mut F,
     out: &mut K,
+    racks: Vec<Rack>,
+    spares: Vec<Rack>,
 ) -> Status
-    ensures answer { IfSome (F.told files.old) (λ m. Ends (answer (map string_bytes words.now) m) (map string_bytes words.now)
-        (F.faults files.old) (F.faults files.new)
+    requires racks { RacksFit (λ b. kind_of (b.vtable, b.value)) (λ r. r.boxes.items) racks.items }
+    requires spares { RacksFit (λ b. kind_of (b.vtable, b.value)) (λ r. r.boxes.items) spares.items }
+    ensures answer { IfSome (F.told files.old) (λ m. Ends (IsAnswer (form_of (map string_bytes words.now)) m)
+        (files_of (form_of (map string_bytes words.now))) (F.faults files.old) (F.faults files.new)
         (K.taken out.old) (K.taken out.new) (K.surely out.old) (K.faults out.old) (K.faults out.new) result.code) }
     ensures read { result.code ≡ 3 → Rose (F.faults files.old) (F.faults files.new) }
     ensures write { result.code ≡ 4 → Rose (K.faults out.old) (K.faults out.new) }
-    ensures complete { IfSome (F.told files.old) (λ m. F.steady files.old → HasFiles (form_of (map string_bytes words.now)) m
-        → HasRoom (answer (map string_bytes words.now) m) (K.surely out.old)
+    ensures complete { IfSome (F.told files.old) (λ m. F.steady files.old → AreThere m (files_of (form_of (map string_bytes words.now)))
+        → HasRoom (IsAnswer (form_of (map string_bytes words.now)) m) (K.surely out.old)
         → Unrisen (F.faults files.old) (F.faults files.new) × Unrisen (K.faults out.old) (K.faults out.new)) }
+    ensures assured { result.code ≡ 0 → IfSome (F.told files.old) (λ m.
+        AssuresForm (form_of (map string_bytes words.now)) m (K.taken out.old) (K.taken out.new)) }
 {
-    match names_of(words) {
-        Some((specification, script)) => run(rt.alloc(), specification, script, files, out),
-        None => refuse(out, 2, b"refused: usage\n"),
+    match form_of(words) {
+        Some(form) => answer_form(rt.alloc(), form, files, out, racks),
+        None => refuse_usage(out),
     }
 }
 
-/// The names of the two files after the word `run`.
-fn names_of(words: &[String]) -> Option<(&str, &str)>
-    ensures { option_map (λ names. (names.0.now, names.1.now)) result ≡ form_of (map string_bytes words.now) }
-{
-    match words {
-        [command, specification, script] if command.as_str() == "run" => Some((
-            specification.as_str(),
-            script.as_str(),
-        )),
-        _ => None,
-    }
-}
-
-fn run<F: Files, K: Sink>(
+fn answer_form<F: Files, K: Sink>(
     alloc: Global,
-    specification: &str,
-    script: &str,
+    form: Form<&str>,
     files: &mut F,
     out: &mut K,
+    racks: Vec<Rack>,
 ) -> Status
-    ensures ends { IfSome (F.told files.old) (λ m. Ends (run_answer m (Some (specification.now, script.now)))
-        (specification.now ∷ script.now ∷ []) (F.faults files.old) (F.faults files.new)
+    requires { RacksFit (λ b. kind_of (b.vtable, b.value)) (λ r. r.boxes.items) racks.items }
+    ensures ends { IfSome (F.told files.old) (λ m. Ends (IsAnswer (Some (with_names (λ name. name.now) form.entry)) m)
+        (files_of (Some (with_names (λ name. name.now) form.entry))) (F.faults files.old) (F.faults files.new)
         (K.taken out.old) (K.taken out.new) (K.surely out.old) (K.faults out.old) (K.faults out.new) result.code) }
     ensures read { result.code ≡ 3 → Rose (F.faults files.old) (F.faults files.new) }
     ensures write { result.code ≡ 4 → Rose (K.faults out.old) (K.faults out.new) }
-    ensures quiet { IfSome (F.told files.old) (λ m. F.steady files.old → HasFiles (Some (specification.now, script.now)) m
+    ensures quiet { IfSome (F.told files.old) (λ m. F.steady files.old
+        → AreThere m (files_of (Some (with_names (λ name. name.now) form.entry)))
         → Unrisen (F.faults files.old) (F.faults files.new)) }
+    ensures assured { result.code ≡ 0 → IfSome (F.told files.old) (λ m.
+        AssuresForm (Some (with_names (λ name. name.now) form.entry)) m (K.taken out.old) (K.taken out.new)) }
+{
+    match form {
+        Form::Specified {
+            specification,
+            request,
+        } => answer_request(alloc, specification, request, files, out, racks),
+    }
+}
+
+/// Loads the specification, and answers what is asked of it.
+fn answer_request<F: Files, K: Sink>(
+    alloc: Global,
+    specification: &str,
+    request: Request<&str>,
+    files: &mut F,
+    out: &mut K,
+    racks: Vec<Rack>,
+) -> Status
+    requires { RacksFit (λ b. kind_of (b.vtable, b.value)) (λ r. r.boxes.items) racks.items }
+    ensures ends { IfSome (F.told files.old) (λ m. Ends (IsAnswer (Some (Specified specification.now (with_name (λ name. name.now) request.entry))) m)
+        (specification.now ∷ further_files (with_name (λ name. name.now) request.entry)) (F.faults files.old) (F.faults files.new)
+        (K.taken out.old) (K.taken out.new) (K.surely out.old) (K.faults out.old) (K.faults out.new) result.code) }
+    ensures count { F.faults files.old ≤ F.faults files.new }
+    ensures read { result.code ≡ 3 → Rose (F.faults files.old) (F.faults files.new) }
+    ensures write { result.code ≡ 4 → Rose (K.faults out.old) (K.faults out.new) }
+    ensures quiet { IfSome (F.told files.old) (λ m. F.steady files.old
+        → AreThere m (specification.now ∷ further_files (with_name (λ name. name.now) request.entry))
+        → Unrisen (F.faults files.old) (F.faults files.new)) }
+    ensures assured { result.code ≡ 0 → IfSome (F.told files.old) (λ m.
+        AssuresSpec m specification.now (with_name (λ name. name.now) request.entry) (K.taken out.old) (K.taken out.new)) }
 {
     match load_spec(alloc, specification, files) {
-        Loaded::Got(spec) => run_script(alloc, &spec, script, files, out),
-        Loaded::Refused => refuse(out, 5, b"refused: specification not built\n"),
+        Loaded::Got(spec) => answer_read(alloc, spec, request, files, out, racks),
+        Loaded::Refused(fault) => tell_line(out, 5, &make_specification_line(&fault)),
         Loaded::Failed => refuse_read(alloc, out, specification),
         Loaded::NoMemory => refuse_memory(out),
     }
 }
 
-fn run_script<F: Files, K: Sink>(
+/// Answers what is asked of a specification that was read.
+fn answer_read<F: Files, K: Sink>(
     alloc: Global,
-    spec: &Spec,
+    spec: Spec,
+    request: Request<&str>,
+    files: &mut F,
+    out: &mut K,
+    racks: Vec<Rack>,
+) -> Status
+    requires { RacksFit (λ b. kind_of (b.vtable, b.value)) (λ r. r.boxes.items) racks.items }
+    ensures ends { IfSome (F.told files.old) (λ m. Ends (Gives (request_answer m (with_name (λ name. name.now) request.entry) spec))
+        (further_files (with_name (λ name. name.now) request.entry)) (F.faults files.old) (F.faults files.new)
+        (K.taken out.old) (K.taken out.new) (K.surely out.old) (K.faults out.old) (K.faults out.new) result.code) }
+    ensures count { F.faults files.old ≤ F.faults files.new }
+    ensures read { result.code ≡ 3 → Rose (F.faults files.old) (F.faults files.new) }
+    ensures write { result.code ≡ 4 → Rose (K.faults out.old) (K.faults out.new) }
+    ensures quiet { IfSome (F.told files.old) (λ m. F.steady files.old
+        → AreThere m (further_files (with_name (λ name. name.now) request.entry))
+        → Unrisen (F.faults files.old) (F.faults files.new)) }
+    ensures assured { result.code ≡ 0 → IfSome (F.told files.old) (λ m.
+        AssuresRequest spec m (with_name (λ name. name.now) request.entry) (K.taken out.old) (K.taken out.new)) }
+{
+    match request {
+        Request::Run { script } => run(alloc, spec, script, files, out, racks),
+        Request::Check => check(alloc, spec, out),
+        Request::Bounds => tell_bounds(alloc, &spec, out),
+    }
+}
+
+/// Loads the script, and flies it.
+fn run<F: Files, K: Sink>(
+    alloc: Global,
+    spec: Spec,
     script: &str,
     files: &mut F,
     out: &mut K,
+    racks: Vec<Rack>,
 ) -> Status
-    ensures ends { IfSome (F.told files.old) (λ m. Ends (script_answer m script.now (Some spec.now))
+    requires { RacksFit (λ b. kind_of (b.vtable, b.value)) (λ r. r.boxes.items) racks.items }
+    ensures ends { IfSome (F.told files.old) (λ m. Ends (Gives (request_answer m (Run script.now) spec))
         (script.now ∷ []) (F.faults files.old) (F.faults files.new)
         (K.taken out.old) (K.taken out.new) (K.surely out.old) (K.faults out.old) (K.faults out.new) result.code) }
     ensures count { F.faults files.old ≤ F.faults files.new }
@@ -92,26 +157,13 @@ fn run_script<F: Files, K: Sink>(
     ensures write { result.code ≡ 4 → Rose (K.faults out.old) (K.faults out.new) }
     ensures quiet { IfSome (F.told files.old) (λ m. F.steady files.old → IsSome (file_at script.now m)
         → Unrisen (F.faults files.old) (F.faults files.new)) }
+    ensures assured { result.code ≡ 0 → IfSome (F.told files.old) (λ m.
+        AssuresScript spec m script.now (K.taken out.old) (K.taken out.new)) }
 {
-    match load_script(alloc, script, files) {
-        Loaded::Got(script) => fly(alloc, spec, &script, out),
-        Loaded::Refused => refuse(out, 7, b"refused: script not built\n"),
+    match load_script(alloc, &spec, script, files) {
+        Loaded::Got(script) => fly(alloc, spec, script, out, racks),
+        Loaded::Refused(fault) => tell_line(out, 7, &make_script_line(&fault)),
         Loaded::Failed => refuse_read(alloc, out, script),
         Loaded::NoMemory => refuse_memory(out),
-    }
-}
-
-fn fly<K: Sink>(alloc: Global, spec: &Spec, script: &Script, out: &mut K) -> Status
-    ensures tells { Tells 0 (trace_of spec.now script.now) (K.taken out.old) (K.taken out.new)
-        (K.surely out.old) (K.faults out.old) (K.faults out.new) result.code }
-    ensures write { result.code ≡ 4 → Rose (K.faults out.old) (K.faults out.new) }
-    ensures read { result.code ≢ 3 }
-{
-    match rows(alloc, spec, script) {
-        Ok(rows) => match put_trace(out, spec, &rows, &[]) {
-            Ok(()) => Status { code: 0 },
-            Err(_) => Status { code: 4 },
-        },
-        Err(_) => refuse_memory(out),
     }
 }

@@ -1,14 +1,15 @@
 //! The command: what it answers, and with which bytes, is a function of its words and of the files
-//! that they name.
+//! that they name, but for which cycle of needs is shown where there are several.
 #![tactic(auto)]
 
+mod bounds;
 mod command;
-mod documents;
+mod flights;
+mod forms;
+mod lines;
 mod loads;
 mod refusals;
-mod scripts;
-mod specifications;
-#[cfg(test)]
-mod tests;
+mod status;
 
-pub use command::{Status, scram};
+pub use command::scram;
+pub use status::Status;

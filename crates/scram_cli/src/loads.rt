@@ -1,12 +1,14 @@
 //! Reading the files that the words name.
 
 ghost use Rattle.std.specs.Prelude.{◌≡◌, ◌≤◌, IfSome};
+ghost use Rattle.fault_script.specs.Fits.{Fits};
 ghost use Rattle.scram_io.specs.Outside.{Rose, StaysSteady};
-ghost use Rattle.scram_cli.specs.Answers.{script_of, spec_of};
-ghost use Rattle.scram_cli.specs.Loads.{IsFailed, Loads};
+ghost use Rattle.scram_cli.specs.Loads.{FitsWhereGot, IsFailed, Loads, ReadsAsScript, ReadsAsSpec, RefusesAsScript, RefusesAsSpec};
 
-use crate::scripts::read_script;
-use crate::specifications::read_spec;
+use arrayvec::ArrayVec;
+use fault_script::{ScriptError, ScriptFault, read_script};
+use reconf_spec::{SpecError, SpecFault, read_spec};
+use scram_doc::Path;
 use scram_io::{Files, ReadFault};
 use scram_types::{Script, Spec};
 use std::alloc::Global;
@@ -19,11 +21,11 @@ const MAX_SCRIPT_BYTES: usize = 2_097_152;
 
 /// What came of loading a file.
 #[derive(Drop)]
-pub enum Loaded<T> {
+pub enum Loaded<T, E> {
     /// The value of its bytes.
     Got(T),
-    /// The bytes have no value, or are too many.
-    Refused,
+    /// The rule that the bytes break.
+    Refused(E),
     /// The file was not read.
     Failed,
     /// Memory was wanting.
@@ -31,8 +33,8 @@ pub enum Loaded<T> {
 }
 
 /// Loads a specification.
-pub fn load_spec<F: Files>(alloc: Global, name: &str, files: &mut F) -> Loaded<Spec>
-    ensures value { IfSome (F.told files.old) (λ m. Loads spec_of m name.now result) }
+pub fn load_spec<F: Files>(alloc: Global, name: &str, files: &mut F) -> Loaded<Spec, SpecFault>
+    ensures value { IfSome (F.told files.old) (λ m. Loads ReadsAsSpec RefusesAsSpec m name.now result) }
     ensures map { F.told files.new ≡ F.told files.old }
     ensures count { F.faults files.old ≤ F.faults files.new }
     ensures failed { IsFailed result → Rose (F.faults files.old) (F.faults files.new) }
@@ -41,19 +43,30 @@ pub fn load_spec<F: Files>(alloc: Global, name: &str, files: &mut F) -> Loaded<S
 {
     match files.read(alloc, name, MAX_SPECIFICATION_BYTES) {
         Ok(bytes) => match read_spec(alloc, &bytes) {
-            Ok(Some(spec)) => Loaded::Got(spec),
-            Ok(None) => Loaded::Refused,
-            Err(_) => Loaded::NoMemory,
+            Ok(spec) => Loaded::Got(spec),
+            Err(SpecError::Fault(fault)) => Loaded::Refused(fault),
+            Err(SpecError::NoMemory) => Loaded::NoMemory,
         },
         Err(ReadFault::Failed) => Loaded::Failed,
-        Err(ReadFault::TooLong) => Loaded::Refused,
+        Err(ReadFault::TooLong) => Loaded::Refused(SpecFault {
+            rule: reconf_spec::rule::TOO_LONG,
+            path: Path::root(),
+            cycle: ArrayVec::new(),
+            names: ArrayVec::new(),
+        }),
         Err(ReadFault::NoMemory) => Loaded::NoMemory,
     }
 }
 
-/// Loads a script.
-pub fn load_script<F: Files>(alloc: Global, name: &str, files: &mut F) -> Loaded<Script>
-    ensures value { IfSome (F.told files.old) (λ m. Loads script_of m name.now result) }
+/// Loads a script for a specification.
+pub fn load_script<F: Files>(
+    alloc: Global,
+    spec: &Spec,
+    name: &str,
+    files: &mut F,
+) -> Loaded<Script, ScriptFault>
+    ensures value { IfSome (F.told files.old) (λ m. Loads (ReadsAsScript spec.now) (RefusesAsScript spec.now) m name.now result) }
+    ensures fits { FitsWhereGot spec.now result }
     ensures map { F.told files.new ≡ F.told files.old }
     ensures count { F.faults files.old ≤ F.faults files.new }
     ensures failed { IsFailed result → Rose (F.faults files.old) (F.faults files.new) }
@@ -61,13 +74,15 @@ pub fn load_script<F: Files>(alloc: Global, name: &str, files: &mut F) -> Loaded
         (F.faults files.old) (F.faults files.new) }
 {
     match files.read(alloc, name, MAX_SCRIPT_BYTES) {
-        Ok(bytes) => match read_script(alloc, &bytes) {
-            Ok(Some(script)) => Loaded::Got(script),
-            Ok(None) => Loaded::Refused,
-            Err(_) => Loaded::NoMemory,
+        Ok(bytes) => match read_script(alloc, &bytes, spec) {
+            Ok(script) => Loaded::Got(script),
+            Err(ScriptError::Fault(fault)) => Loaded::Refused(fault),
+            Err(ScriptError::NoMemory) => Loaded::NoMemory,
         },
         Err(ReadFault::Failed) => Loaded::Failed,
-        Err(ReadFault::TooLong) => Loaded::Refused,
+        Err(ReadFault::TooLong) => {
+            Loaded::Refused(ScriptFault::new(fault_script::rule::TOO_LONG, &Path::root()))
+        }
         Err(ReadFault::NoMemory) => Loaded::NoMemory,
     }
 }

@@ -1,19 +1,21 @@
 //! Refusals: one line each, and the status that goes with it.
 
-ghost use Rattle.std.specs.Prelude.{◌≡◌, ◌≢◌};
+ghost use Rattle.std.specs.Prelude.{◌≡◌, ◌≢◌, ◌⊎◌};
 ghost use Rattle.scram_io.specs.Outside.{Rose};
-ghost use Rattle.scram_cli.specs.Answers.{Says, Surely, Tells, memory_line, read_line};
+ghost use Rattle.scram_cli.specs.Answers.{Says, Surely, Tells, memory_line, read_line, usage_line};
 
-use crate::command::Status;
+use crate::status::Status;
 use scram_io::Sink;
 use std::alloc::Global;
+use trace_text::lines::Line;
 
-/// Puts a line of refusal. The status is `code`, or 4 where the sink fails.
-pub fn refuse<K: Sink>(out: &mut K, code: u8, line: &[u8]) -> Status
+/// Puts one line, and it is all that is put. The status is `code`, or 4 where the sink fails.
+pub fn tell<K: Sink>(out: &mut K, code: u8, line: &[u8]) -> Status
     requires { code ≢ 4 }
     ensures says { Says (K.taken out.old) (K.taken out.new) (K.faults out.old) (K.faults out.new) code line.now result.code }
     ensures surely { Surely (K.surely out.old) (K.faults out.old) (K.faults out.new) line.now }
     ensures write { result.code ≡ 4 → Rose (K.faults out.old) (K.faults out.new) }
+    ensures told { (result.code ≡ code) ⊎ (result.code ≡ 4) }
 {
     match out.put(line) {
         Ok(()) => Status { code },
@@ -21,23 +23,46 @@ pub fn refuse<K: Sink>(out: &mut K, code: u8, line: &[u8]) -> Status
     }
 }
 
+/// Puts a line that was made without memory, with its status.
+pub fn tell_line<K: Sink>(out: &mut K, code: u8, line: &Line) -> Status
+    requires { code ≢ 4 }
+    ensures tells { Tells (code, line.now) (K.taken out.old) (K.taken out.new) (K.surely out.old)
+        (K.faults out.old) (K.faults out.new) result.code }
+    ensures write { result.code ≡ 4 → Rose (K.faults out.old) (K.faults out.new) }
+    ensures told { (result.code ≡ code) ⊎ (result.code ≡ 4) }
+{
+    tell(out, code, line.as_bytes())
+}
+
+/// Puts the line that the words have no form.
+pub fn refuse_usage<K: Sink>(out: &mut K) -> Status
+    ensures says { Says (K.taken out.old) (K.taken out.new) (K.faults out.old) (K.faults out.new) 2 usage_line result.code }
+    ensures surely { Surely (K.surely out.old) (K.faults out.old) (K.faults out.new) usage_line }
+    ensures write { result.code ≡ 4 → Rose (K.faults out.old) (K.faults out.new) }
+    ensures refused { result.code ≢ 0 }
+{
+    tell(out, 2, b"refused: usage\n")
+}
+
 /// Puts the line that memory is wanting.
 pub fn refuse_memory<K: Sink>(out: &mut K) -> Status
     ensures says { Says (K.taken out.old) (K.taken out.new) (K.faults out.old) (K.faults out.new) 9 memory_line result.code }
     ensures surely { Surely (K.surely out.old) (K.faults out.old) (K.faults out.new) memory_line }
     ensures write { result.code ≡ 4 → Rose (K.faults out.old) (K.faults out.new) }
+    ensures refused { result.code ≢ 0 }
 {
-    refuse(out, 9, b"refused: memory\n")
+    tell(out, 9, b"refused: memory\n")
 }
 
 /// Puts the line that a file was not read, or, where there is no memory for it, that memory is wanting.
 pub fn refuse_read<K: Sink>(alloc: Global, out: &mut K, name: &str) -> Status
-    ensures tells { Tells 3 (read_line name.now) (K.taken out.old) (K.taken out.new) (K.surely out.old)
+    ensures tells { Tells (3, read_line name.now) (K.taken out.old) (K.taken out.new) (K.surely out.old)
         (K.faults out.old) (K.faults out.new) result.code }
     ensures write { result.code ≡ 4 → Rose (K.faults out.old) (K.faults out.new) }
+    ensures refused { result.code ≢ 0 }
 {
     match format!(in alloc; "refused: read {name}\n") {
-        Ok(line) => refuse(out, 3, line.as_str().as_bytes()),
+        Ok(line) => tell(out, 3, line.as_str().as_bytes()),
         Err(_) => refuse_memory(out),
     }
 }

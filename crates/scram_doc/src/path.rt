@@ -62,7 +62,8 @@ impl Path {
 
     /// The path as it is shown.
     pub fn as_str(&self) -> &str
-        ensures { result.now ≡ shown self.now }
+        ensures text { result.now ≡ shown self.now }
+        ensures short { length result.now ≤ 64 }
     {
         let text = self.text.as_str();
         if text.is_empty() { "." } else { text }

@@ -8,7 +8,7 @@ use arrayvec::ArrayString;
 use std::fmt;
 
 /// A name: 1 to 16 bytes, a lower-case letter first and then lower-case letters, digits or `_`.
-#[derive(Drop)]
+#[derive(Debug, Drop)]
 pub struct Name {
     text: ArrayString<16>,
 }
@@ -51,6 +51,15 @@ impl Name {
         ensures { result ≡ self.now }
     {
         Name { text: self.text }
+    }
+}
+
+impl Default for Name {
+    /// The name `a`, which stands in the unused places of a list of fixed length.
+    fn default() -> Name {
+        let mut text = ArrayString::new();
+        text.push('a');
+        Name { text }
     }
 }
 

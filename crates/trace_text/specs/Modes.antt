@@ -1,8 +1,7 @@
--- How the modes of a power monitor are called.
-use Rattle.std.specs.Prelude.{ℕ, ◌==◌, ◌&&◌, List, [], codes, if◌then◌else◌}
+-- How the modes of an application are called; nothing for a mode that its kind does not have.
+use Rattle.std.specs.Prelude.{ℕ, List, []}
+use Rattle.std.specs.Option.{option_map_or}
+use Rattle.app_model.specs.Names.{mode_names, name_at}
 
 abbrev pub mode_text : ℕ → ℕ → List ℕ
-mode_text kind mode =
-    if kind == 2 && mode == 1 then codes "normal" else
-    (if kind == 2 && mode == 2 then codes "saver" else
-    (if kind == 2 && mode == 3 then codes "essential" else []))
+mode_text kind mode = option_map_or (λ (name : List ℕ). name) (name_at (mode_names kind) mode) []

@@ -6,6 +6,7 @@ ghost use Rattle.trace_text.specs.Names.{conf_name, proc_name, value_name, conf_
 ghost use Rattle.trace_text.specs.Text.{kernel_mode_text, values_text, up_text, world_text, row_line, phase_text, act_text, area_text, app_line};
 
 use crate::lines::Line;
+use app_model::mode_name;
 use scram_types::{
     Act, AppSpec, Area, ConfId, Factor, KMode, KindId, Mode, Name, ProcId, Row, Spec, World,
 };
@@ -75,15 +76,14 @@ fn name_of_value(factor: &Factor, value: u8) -> &str
     }
 }
 
-fn name_of_mode(kind: KindId, mode: Mode) -> &'static str
+#[tactic(auto, using(crate::proofs::ModeNames::short_mode))]
+pub fn name_of_mode(kind: KindId, mode: Mode) -> &'static str
     ensures name { result.now ≡ mode_text kind.0 mode.0 }
     ensures short { length result.now ≤ 16 }
 {
-    match (kind.0, mode.0) {
-        (2, 1) => "normal",
-        (2, 2) => "saver",
-        (2, 3) => "essential",
-        _ => "",
+    match mode_name(kind, mode) {
+        Some(name) => name,
+        None => "",
     }
 }
 

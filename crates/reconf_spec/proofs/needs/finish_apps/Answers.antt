@@ -1,11 +1,22 @@
-use Rattle.std.proofs.Common.{rules, ◌≡◌, ◌<◌, ◌++◌, ℕ, take, drop, length, refl, ap, sym, ◌∙◌}
+use Rattle.std.proofs.Common.{rules, ◌≡◌, ◌<◌, ◌++◌, ℕ, List, take, drop, length, refl, ap, sym, subst, ◌∙◌}
 use Rattle.std.specs.Prelude.{All, Ok}
+use Rattle.scram_types.specs.declared.ids.AppId.{AppId}
 use Rattle.scram_types.specs.declared.specification.AppSpec.{AppSpec}
+use Rattle.scram_types.specs.Specification.{Each}
 use Rattle.dep_order.specs.Ranks.{IsCycle, IsRanking, RanksFall}
 use Rattle.reconf_spec.specs.Needs.{with_ranks, are_ranked, longest_chains}
+use Rattle.reconf_spec.proofs.Cycles.{cycle_there}
 use Rattle.reconf_spec.proofs.Joined.{graded_length, ranked_fit, written_whole}
 use Rattle.reconf_spec.proofs.LongestChains.{cycle_unranked, ranks_are, ranking_ranked}
 use Rattle.reconf_spec.proofs.needs.finish_apps.Goals as goal
+
+pub names_of-names-requires-clause-there : goal.names_of-names-requires-clause-there
+names_of-names-requires-clause-there c =
+    let is : IsCycle c.args.apps.items c.in-Err.cycle.0.items = search rules in
+    let listed : c.in-Err.cycle.0.items ≡ c.deref-in-Err.result.now = search rules in
+    let apps : c.args.apps.items ≡ c.deref.result.now = search rules in
+    subst (λ (xs : List AppId). Each (λ (a : AppId). a.0 < length c.deref.result.now) xs) listed
+    (subst (λ (xs : List AppSpec). Each (λ (a : AppId). a.0 < length xs) c.in-Err.cycle.0.items) apps (cycle_there c.args.apps.items c.in-Err.cycle.0.items is))
 
 pub returns-in-Err-clause-value : goal.returns-in-Err-clause-value
 returns-in-Err-clause-value c =
@@ -15,7 +26,7 @@ returns-in-Err-clause-value c =
 pub returns-in-Err-clause-cycle : goal.returns-in-Err-clause-cycle
 returns-in-Err-clause-cycle c =
     let is : IsCycle c.args.apps.items c.in-Err.cycle.0.items = search rules in
-    rw (cycle_unranked c.args.apps.items c.in-Err.cycle.0.items is) is
+    (rw (cycle_unranked c.args.apps.items c.in-Err.cycle.0.items is) is, search rules)
 
 given : (c : goal.After-of) → c.of.result ≡ with_ranks c.args.apps.items c.in-Ok.ranks.items
 given c =

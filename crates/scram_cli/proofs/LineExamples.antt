@@ -1,0 +1,136 @@
+-- Worked lines: computed, and compared with what is printed.
+use Rattle.std.proofs.Common.{◌≡◌, refl, ℕ, List, [], ◌∷◌, pos}
+use Rattle.std.specs.Prelude.{Option, Some, None, codes, replicate}
+use Rattle.std.specs.Fmt.{digits}
+use Rattle.scram_types.specs.declared.ids.ConfId.{ConfId}
+use Rattle.scram_types.specs.declared.specification.AppSpec.{AppSpec}
+use Rattle.scram_types.specs.declared.specification.Bound.{Bound}
+use Rattle.scram_types.specs.declared.specification.Conf.{Conf}
+use Rattle.scram_types.specs.declared.specification.Factor.{Factor}
+use Rattle.scram_types.specs.declared.specification.Policy.TheVariants as policy
+use Rattle.scram_types.specs.declared.specification.Proc.{Proc}
+use Rattle.scram_types.specs.Specification.{Parts}
+use Rattle.fault_script.specs.declared.assumption.OutsideKind.TheVariants as kind
+use Rattle.coverage_check.specs.declared.shown.Other.TheVariants as other
+use Rattle.scram_cli.specs.Lines.{accepted_line, outside_line, script_line, shown_line, specification_line}
+
+abbrev conf : List ℕ → Conf
+conf name = record { name = name; places = replicate 8 None }
+
+abbrev two_valued : List ℕ → Factor
+two_valued name = record { name = name; values = codes "ok" ∷ codes "failed" ∷ [] }
+
+abbrev proc : List ℕ → Proc
+proc name = record { name = name; capacity = 100 }
+
+abbrev numbered : ℕ → ConfId
+numbered c = record { 0 = c }
+
+-- the names of a mission, and what its failure assumption is
+abbrev named : List Factor → List Bound → Parts
+named factors bounds = record {
+  procs = proc (codes "p0") ∷ proc (codes "p1") ∷ [];
+  apps = record { name = codes "autopilot"; kind = record { 0 = 0 }; needs = []; modes = []; rank = 0 } ∷ [];
+  confs = conf (codes "full") ∷ conf (codes "reduced_a") ∷ [];
+  factors = factors;
+  rules = [];
+  bounds = bounds;
+  start = record { 0 = 0 };
+  goal = record { altitude = pos 5000; heading = pos 900 };
+  invariants = [];
+  preconditions = [];
+  policy = policy.Retarget;
+  halts = 1;
+  changes = 1;
+  window = 40;
+}
+
+abbrev alternators : Parts
+alternators = named (two_valued (codes "alternator1") ∷ two_valued (codes "alternator2") ∷ []) []
+
+-- a cycle of needs
+cycle : specification_line (record {
+  rule = 21;
+  path = codes ".apps";
+  cycle = record { items = [] };
+  names = record { items = codes "autopilot" ∷ codes "flight_control" ∷ [] };
+}) ≡ codes "refused: specification rule 21 at .apps cycle autopilot,flight_control\n"
+unfolding digits
+cycle = refl
+
+-- the whole document
+whole : specification_line (record { rule = 1; path = []; cycle = record { items = [] }; names = record { items = [] } })
+    ≡ codes "refused: specification rule 1 at .\n"
+unfolding digits
+whole = refl
+
+script : script_line (record { rule = 11; path = codes ".changes.1" }) ≡ codes "refused: script rule 11 at .changes.1\n"
+unfolding digits
+script = refl
+
+-- a processor is down, and nothing else is shown
+down : shown_line alternators (record {
+  condition = 5;
+  conf = Some (numbered 0);
+  env = Some (record { up = 2; factors = replicate 6 0 });
+  other = other.Nothing;
+}) ≡ codes "refused: A5 full alternator1=ok,alternator2=ok,down=p0 -\n"
+unfolding digits
+down = refl
+
+-- an alternator has failed, and a further configuration is shown
+failed : shown_line alternators (record {
+  condition = 7;
+  conf = Some (numbered 0);
+  env = Some (record { up = 3; factors = 1 ∷ 0 ∷ 0 ∷ 0 ∷ 0 ∷ 0 ∷ [] });
+  other = other.Conf (numbered 1);
+}) ≡ codes "refused: A7 full alternator1=failed,alternator2=ok,down=- reduced_a\n"
+unfolding digits
+failed = refl
+
+-- without factors, with both processors down
+both_down : shown_line (named [] []) (record {
+  condition = 5;
+  conf = Some (numbered 1);
+  env = Some (record { up = 0; factors = replicate 6 0 });
+  other = other.Nothing;
+}) ≡ codes "refused: A5 reduced_a down=p0+p1 -\n"
+unfolding digits
+both_down = refl
+
+states : shown_line alternators (record { condition = 2; conf = None; env = None; other = other.Count 16385 }) ≡ codes "refused: A2 - - 16385\n"
+unfolding digits
+states = refl
+
+bound : shown_line alternators (record { condition = 9; conf = Some (numbered 0); env = None; other = other.Least (numbered 1) 12 })
+    ≡ codes "refused: A9 full - reduced_a:12\n"
+unfolding digits
+bound = refl
+
+place : shown_line alternators (record { condition = 12; conf = Some (numbered 1); env = None; other = other.Item 3 })
+    ≡ codes "refused: A12 reduced_a - 3\n"
+unfolding digits
+place = refl
+
+need : shown_line alternators (record { condition = 1; conf = Some (numbered 0); env = None; other = other.App (record { 0 = 0 }) })
+    ≡ codes "refused: A1 full - autopilot\n"
+unfolding digits
+need = refl
+
+load : shown_line alternators (record { condition = 4; conf = Some (numbered 0); env = None; other = other.Proc (record { 0 = 1 }) })
+    ≡ codes "refused: A4 full - p1\n"
+unfolding digits
+load = refl
+
+changes : outside_line (record { frame = 16; kind = kind.Changes }) ≡ codes "refused: outside at frame 16: changes\n"
+unfolding digits
+changes = refl
+
+halts : outside_line (record { frame = 30; kind = kind.Halts }) ≡ codes "refused: outside at frame 30: halts\n"
+unfolding digits
+halts = refl
+
+-- four sets of values, with nobody down or one of two processors
+accepted : accepted_line alternators ≡ codes "accepted: configurations 2 states 12 bounds 0\n"
+unfolding digits
+accepted = refl

@@ -1,0 +1,79 @@
+-- What is answered of the files that were loaded.
+use Rattle.std.proofs.Common.{◌≡◌, ℕ, ◌≤◌, List, [], ◌∷◌, refl}
+use Rattle.std.specs.Prelude.{Option, Some, None, IfSome}
+use Rattle.scram_types.specs.Scripts.{ScriptParts}
+use Rattle.scram_types.specs.Specification.{Parts}
+use Rattle.scram_doc.specs.declared.fault.DocFault.{DocFault}
+use Rattle.scram_io.specs.Outside.{FileMap, Unrisen}
+use Rattle.coverage_check.specs.Acceptance.{first_refusal}
+use Rattle.reconf_spec.specs.declared.fault.SpecFault.{SpecFault}
+use Rattle.scram_cli.specs.declared.forms.Form.{Form}
+use Rattle.scram_cli.specs.declared.forms.Form.TheVariants.{Specified}
+use Rattle.scram_cli.specs.declared.forms.Request.{Request}
+use Rattle.scram_cli.specs.declared.forms.Request.TheVariants.{Run}
+use Rattle.scram_cli.specs.Answers.{AreThere, Ends, Gives, HasRoom, IsAnswer, flight_answer, request_answer}
+use Rattle.scram_cli.specs.Forms.{files_of, further_files}
+use Rattle.scram_cli.specs.Lines.{script_line, specification_line}
+use Rattle.scram_cli.proofs.Endings.{quiet_ends, wider_ends}
+use Rattle.scram_cli.specs.Loads.{HasBytes, ReadsAsScript, ReadsAsSpec, RefusesAsScript, RefusesAsSpec}
+
+-- the script was read
+pub script_answered : (files : FileMap) (spec : Parts) (name : List ℕ) (script : ScriptParts) → HasBytes files name (ReadsAsScript spec script) →
+    request_answer files (Run name) spec ≡ Some (flight_answer spec script (first_refusal spec))
+script_answered files spec name script has = rw (has.there, has.fact) refl
+
+-- the script was refused
+pub script_refused : (files : FileMap) (spec : Parts) (name : List ℕ) (fault : DocFault) → HasBytes files name (RefusesAsScript spec fault) →
+    request_answer files (Run name) spec ≡ Some (7, script_line fault)
+script_refused files spec name fault has = rw (has.there, has.fact) refl
+
+-- the specification was read
+pub spec_answered : (files : FileMap) (name : List ℕ) (request : Request (List ℕ)) (spec : Parts) → HasBytes files name (ReadsAsSpec spec) →
+    (status : ℕ) (text : List ℕ) → Gives (request_answer files request spec) status text →
+    IsAnswer (Some (Specified name request)) files status text
+spec_answered files name request spec has status text gives = record {
+  cycle = [];
+  shows = rw (has.there, has.fact) refl;
+  gives = rw (has.there, has.fact) gives;
+}
+
+-- the specification was refused
+pub spec_refused : (files : FileMap) (name : List ℕ) (request : Request (List ℕ)) (fault : SpecFault) → HasBytes files name (RefusesAsSpec fault) →
+    IsAnswer (Some (Specified name request)) files 5 (specification_line fault)
+spec_refused files name request fault has = record {
+  cycle = fault.names.items;
+  shows = rw (has.there, has.fact.refuses) (fault.cycle.items, has.fact.shows.0, has.fact.shows.1);
+  gives = rw (has.there, has.fact.refuses) refl;
+}
+
+-- the specification was read, and then what is asked of it was answered
+pub got_ends : (told mid : Option FileMap) (name : List ℕ) (request : Request (List ℕ)) (spec : Parts) (unread between reads : ℕ)
+    (old new : Option (List ℕ)) (room : Option ℕ) (before now code : ℕ) → mid ≡ told → unread ≤ between →
+    IfSome told (λ m. HasBytes m name (ReadsAsSpec spec)) →
+    IfSome mid (λ m. Ends (Gives (request_answer m request spec)) (further_files request) between reads old new room before now code) →
+    IfSome told (λ m. Ends (IsAnswer (Some (Specified name request)) m) (name ∷ further_files request) unread reads old new room before now code)
+got_ends None mid name request spec unread between reads old new room before now code same kept loads ends = tt
+got_ends (Some m) mid name request spec unread between reads old new room before now code same kept loads ends =
+    let known : Ends (Gives (request_answer m request spec)) (further_files request) between reads old new room before now code = rw same at ends in
+    wider_ends (Gives (request_answer m request spec)) (IsAnswer (Some (Specified name request)) m) (further_files request) name unread between reads
+    old new room before now code kept (spec_answered m name request spec loads) known
+
+complete_in : (m : FileMap) (form : Option (Form (List ℕ))) (asked : Form (List ℕ)) (steady : Type 0) (unread reads : ℕ)
+    (old new : Option (List ℕ)) (room : Option ℕ) (before now code : ℕ) → form ≡ Some asked →
+    (steady → AreThere m (files_of (Some asked)) → Unrisen unread reads) →
+    Ends (IsAnswer (Some asked) m) (files_of (Some asked)) unread reads old new room before now code →
+    steady → AreThere m (files_of form) → HasRoom (IsAnswer form m) room → Unrisen unread reads × Unrisen before now
+complete_in m form asked steady unread reads old new room before now code same quiet ends still there space =
+    let files : Unrisen unread reads = quiet still (rw same at there) in
+    let wide : HasRoom (IsAnswer (Some asked) m) room = rw same at space in
+    (files, quiet_ends (IsAnswer (Some asked) m) (files_of (Some asked)) unread reads old new room before now code ends files wide)
+
+-- where the files are steady and there, and the sink has room, no count rose
+pub complete_form : (told : Option FileMap) (form : Option (Form (List ℕ))) (asked : Form (List ℕ)) (steady : Type 0) (unread reads : ℕ)
+    (old new : Option (List ℕ)) (room : Option ℕ) (before now code : ℕ) → form ≡ Some asked →
+    IfSome told (λ m. steady → AreThere m (files_of (Some asked)) → Unrisen unread reads) →
+    IfSome told (λ m. Ends (IsAnswer (Some asked) m) (files_of (Some asked)) unread reads old new room before now code) →
+    IfSome told (λ m. steady → AreThere m (files_of form) → HasRoom (IsAnswer form m) room → Unrisen unread reads × Unrisen before now)
+complete_form None form asked steady unread reads old new room before now code same quiet ends = tt
+complete_form (Some m) form asked steady unread reads old new room before now code same quiet ends =
+    complete_in m form asked steady unread reads old new room before now code same quiet ends

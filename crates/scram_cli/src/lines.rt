@@ -1,0 +1,290 @@
+//! The lines in which the command answers, made without memory.
+
+ghost use Rattle.std.specs.Prelude.{◌≡◌, ◌+◌, ◌*◌, ◌≤◌, ◌++◌, [], length, codes, if◌then◌else◌};
+ghost use Rattle.trace_text.specs.Names.{conf_or_dash, further, proc_name, value_name};
+ghost use Rattle.trace_text.specs.Text.{bound_text};
+ghost use Rattle.scram_cli.specs.Lines.{accepted_line, added, app_name, bound_line, cycle_text, env_or_dash, env_text, factors_text, kind_text, names_down, other_text, outside_line, rule_text, script_line, shown_line, specification_line};
+
+use choice_table::states;
+use coverage_check::timing::least;
+use coverage_check::{Other, Shown};
+use fault_script::{Outside, OutsideKind, ScriptFault};
+use reconf_spec::SpecFault;
+use scram_doc::Path;
+use scram_types::{AppId, ConfId, Env, Factor, Name, ProcId, Spec};
+use trace_text::lines::Line;
+use trace_text::row_lines::name_of_conf;
+
+/// A specification document breaks a rule. Where its needs go in a cycle, the line has the names of the
+/// applications in it.
+pub fn make_specification_line(fault: &SpecFault) -> Line
+    ensures { result ≡ specification_line fault.now }
+{
+    let mut line = Line::new();
+    line.text(b"refused: specification");
+    add_rule(&mut line, fault.rule, &fault.path);
+    add_cycle(&mut line, fault.names.as_slice());
+    line.text(b"\n");
+    line
+}
+
+/// A script document breaks a rule.
+pub fn make_script_line(fault: &ScriptFault) -> Line
+    ensures { result ≡ script_line fault.now }
+{
+    let mut line = Line::new();
+    line.text(b"refused: script");
+    add_rule(&mut line, fault.rule, &fault.path);
+    line.text(b"\n");
+    line
+}
+
+/// A specification is not accepted: the condition, and the configuration, the environment and what else it
+/// is broken at.
+pub fn make_shown_line(spec: &Spec, shown: &Shown) -> Line
+    ensures { result ≡ shown_line spec.now shown.now }
+{
+    let mut line = Line::new();
+    line.text(b"refused: A");
+    line.number(u32::from(shown.condition));
+    line.text(b" ");
+    add_conf_or_dash(&mut line, spec, shown.conf);
+    line.text(b" ");
+    add_env_or_dash(&mut line, spec, &shown.env);
+    line.text(b" ");
+    add_other(&mut line, spec, &shown.other);
+    line.text(b"\n");
+    line
+}
+
+/// A script leaves the failure assumption: the frame, and in which way.
+pub fn make_outside_line(outside: &Outside) -> Line
+    ensures { result ≡ outside_line outside.now }
+{
+    let mut line = Line::new();
+    line.text(b"refused: outside at frame ");
+    line.number(outside.frame);
+    line.text(b": ");
+    add_kind(&mut line, outside.kind);
+    line.text(b"\n");
+    line
+}
+
+/// A specification is accepted: the numbers of its configurations, of its environments in scope and of the
+/// bounds that it gives.
+pub fn make_accepted_line(spec: &Spec) -> Line
+    ensures { result ≡ accepted_line spec.now }
+{
+    let mut line = Line::new();
+    line.text(b"accepted: configurations ");
+    line.number(spec.confs.items().len() as u32);
+    line.text(b" states ");
+    line.number(states(spec));
+    line.text(b" bounds ");
+    line.number(spec.bounds.items().len() as u32);
+    line.text(b"\n");
+    line
+}
+
+/// The least bound, in frames, that serves a pair of configurations, and the one that is given for it.
+pub fn make_bound_line(spec: &Spec, from: ConfId, to: ConfId) -> Line
+    ensures { result ≡ bound_line spec.now from to }
+{
+    let mut line = Line::new();
+    line.text(b"bound ");
+    line.text(name_of_conf(spec, from).as_bytes());
+    line.text(b" ");
+    line.text(name_of_conf(spec, to).as_bytes());
+    line.text(b" least ");
+    line.number(least(spec, from, to));
+    line.text(b" given ");
+    add_bound(&mut line, spec.bound(from, to));
+    line.text(b"\n");
+    line
+}
+
+fn add_rule(line: &mut Line, rule: u8, path: &Path)
+    requires { length line.old + 84 ≤ 512 }
+    ensures text { line.new ≡ line.old ++ rule_text rule path.now }
+    ensures short { length line.new ≤ length line.old + 84 }
+{
+    line.text(b" rule ");
+    line.number(u32::from(rule));
+    line.text(b" at ");
+    line.text(path.as_str().as_bytes());
+}
+
+fn add_cycle(line: &mut Line, names: &[Name])
+    requires room { length line.old + 150 ≤ 512 }
+    requires few { length names.now ≤ 8 }
+    ensures text { line.new ≡ line.old ++ cycle_text names.now }
+    ensures short { length line.new ≤ length line.old + 150 }
+{
+    match names {
+        [] => {}
+        [first, rest @ ..] => {
+            line.text(b" cycle ");
+            line.text(first.as_str().as_bytes());
+            add_further(line, rest);
+        }
+    }
+}
+
+fn add_further(line: &mut Line, names: &[Name])
+    requires { length line.old + 17 * length names.now ≤ 512 }
+    ensures text { line.new ≡ line.old ++ further names.now }
+    ensures short { length line.new ≤ length line.old + 17 * length names.now }
+{
+    for name in names {
+        line.text(b",");
+        line.text(name.as_str().as_bytes());
+    }
+}
+
+fn add_conf_or_dash(line: &mut Line, spec: &Spec, conf: Option<ConfId>)
+    requires { length line.old + 16 ≤ 512 }
+    ensures text { line.new ≡ line.old ++ conf_or_dash spec.now conf }
+    ensures short { length line.new ≤ length line.old + 16 }
+{
+    match conf {
+        Some(conf) => line.text(name_of_conf(spec, conf).as_bytes()),
+        None => line.text(b"-"),
+    }
+}
+
+fn add_env_or_dash(line: &mut Line, spec: &Spec, env: &Option<Env>)
+    requires { length line.old + 346 ≤ 512 }
+    ensures text { line.new ≡ line.old ++ env_or_dash spec.now env.now }
+    ensures short { length line.new ≤ length line.old + 346 }
+{
+    match env {
+        Some(env) => add_env(line, spec, env),
+        None => line.text(b"-"),
+    }
+}
+
+fn add_env(line: &mut Line, spec: &Spec, env: &Env)
+    requires { length line.old + 346 ≤ 512 }
+    ensures text { line.new ≡ line.old ++ env_text spec.now env.now }
+    ensures short { length line.new ≤ length line.old + 346 }
+{
+    add_factors(line, spec.factors.items(), &env.factors);
+    line.text(b"down=");
+    add_down(line, spec, env.up);
+}
+
+fn add_factors(line: &mut Line, factors: &[Factor], values: &[u8; 6])
+    requires room { length line.old + 34 * length factors.now ≤ 512 }
+    requires few { length factors.now ≤ 6 }
+    ensures text { line.new ≡ line.old ++ factors_text factors.now 0 values.now }
+    ensures short { length line.new ≤ length line.old + 34 * length factors.now }
+{
+    for (i, factor) in factors.iter().enumerate() {
+        line.text(factor.name.as_str().as_bytes());
+        line.text(b"=");
+        line.text(name_of_value(factor, values[i]).as_bytes());
+        line.text(b",");
+    }
+}
+
+fn add_down(line: &mut Line, spec: &Spec, up: u8)
+    requires { length line.old + 137 ≤ 512 }
+    ensures text { line.new ≡ line.old ++ added (names_down spec.now.procs up) }
+    ensures short { length line.new ≤ length line.old + 137 }
+{
+    let mut left = up;
+    let mut shown = false;
+    for proc in spec.procs.items() {
+        if left % 2 == 0 {
+            add_joined(line, shown, &proc.name);
+            shown = true;
+        }
+        left /= 2;
+    }
+    if !shown {
+        line.text(b"-");
+    }
+}
+
+fn add_joined(line: &mut Line, further: bool, name: &Name)
+    requires { length line.old + 17 ≤ 512 }
+    ensures text { line.new ≡ line.old ++ (if further then codes "+" else []) ++ name.now }
+    ensures short { length line.new ≤ length line.old + 17 }
+{
+    if further {
+        line.text(b"+");
+    }
+    line.text(name.as_str().as_bytes());
+}
+
+fn add_other(line: &mut Line, spec: &Spec, other: &Other)
+    requires { length line.old + 27 ≤ 512 }
+    ensures text { line.new ≡ line.old ++ other_text spec.now other.now }
+    ensures short { length line.new ≤ length line.old + 27 }
+{
+    match other {
+        Other::Nothing => line.text(b"-"),
+        Other::App(app) => line.text(name_of_app(spec, *app).as_bytes()),
+        Other::Proc(proc) => line.text(name_of_proc(spec, *proc).as_bytes()),
+        Other::Conf(conf) => line.text(name_of_conf(spec, *conf).as_bytes()),
+        Other::Count(count) => line.number(*count),
+        Other::Least(target, frames) => {
+            line.text(name_of_conf(spec, *target).as_bytes());
+            line.text(b":");
+            line.number(*frames);
+        }
+        Other::Item(place) => line.number(*place),
+    }
+}
+
+fn add_kind(line: &mut Line, kind: OutsideKind)
+    requires { length line.old + 7 ≤ 512 }
+    ensures text { line.new ≡ line.old ++ kind_text kind }
+    ensures short { length line.new ≤ length line.old + 7 }
+{
+    match kind {
+        OutsideKind::Halts => line.text(b"halts"),
+        OutsideKind::Changes => line.text(b"changes"),
+    }
+}
+
+fn add_bound(line: &mut Line, bound: Option<u32>)
+    requires { length line.old + 10 ≤ 512 }
+    ensures text { line.new ≡ line.old ++ bound_text bound }
+    ensures short { length line.new ≤ length line.old + 10 }
+{
+    match bound {
+        Some(frames) => line.number(frames),
+        None => line.text(b"-"),
+    }
+}
+
+fn name_of_app(spec: &Spec, app: AppId) -> &str
+    ensures name { result.now ≡ app_name spec.now app.0 }
+    ensures short { length result.now ≤ 16 }
+{
+    match spec.app(app) {
+        Some(app) => app.name.as_str(),
+        None => "",
+    }
+}
+
+fn name_of_proc(spec: &Spec, proc: ProcId) -> &str
+    ensures name { result.now ≡ proc_name spec.now proc.0 }
+    ensures short { length result.now ≤ 16 }
+{
+    match spec.proc(proc) {
+        Some(proc) => proc.name.as_str(),
+        None => "",
+    }
+}
+
+fn name_of_value(factor: &Factor, value: u8) -> &str
+    ensures name { result.now ≡ value_name factor.now value }
+    ensures short { length result.now ≤ 16 }
+{
+    match factor.values.items().get(usize::from(value)) {
+        Some(name) => name.as_str(),
+        None => "",
+    }
+}

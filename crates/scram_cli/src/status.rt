@@ -1,0 +1,9 @@
+//! How the command ends.
+
+/// How the command ended: 0 done, 2 usage, 3 a file was not read, 4 the output was not written,
+/// 5 the specification is refused, 6 it is not accepted, 7 the script is refused, 8 the script leaves
+/// the failure assumption, 9 memory was wanting.
+#[derive(Clone, Copy, Debug, PartialEq, Eq)]
+pub struct Status {
+    pub code: u8,
+}
