@@ -1,5 +1,5 @@
-//! The files of a row. The first is a file of the data folder, in which the piece after each `- ` is changed to the
-//! one after the next `+ `. The second is what stands after `= `.
+//! The files of a row. The first is a file of the data folder, changed as each line `~ PIECE => OTHER PIECE` says. The
+//! second is what stands after `= `.
 
 use scram_io::MemFiles;
 use std::alloc::Global;
@@ -43,15 +43,16 @@ fn second_file(row: &str) -> &str {
 
 fn change(alloc: Global, text: String, row: &str) -> io::Result<String> {
     let mut text = text;
-    let mut piece = "";
     for line in row.split('\n') {
-        if let Some(old) = line.strip_prefix("- ") {
-            piece = old;
-        } else if let Some(new) = line.strip_prefix("+ ") {
+        if let Some((piece, new)) = change_of(line) {
             text = change_piece(alloc, text.as_str(), piece, new)?;
         }
     }
     Ok(text)
+}
+
+fn change_of(line: &str) -> Option<(&str, &str)> {
+    line.strip_prefix("~ ")?.split_once(" => ")
 }
 
 fn change_piece(alloc: Global, text: &str, piece: &str, new: &str) -> io::Result<String> {
