@@ -1,5 +1,6 @@
 //! What the command answers to the words of a row.
 
+use crate::files::numbers;
 use app_model::{App, Rack, racks_fit};
 use autopilot::Autopilot;
 use flight_control::FlightControl;
@@ -11,7 +12,7 @@ use std::io::{self, ErrorKind};
 use std::rt::HostRuntime;
 
 /// More bytes than any row puts.
-const ROOM: usize = 200_000;
+const ROOM: u32 = 200_000;
 
 /// Racks for all processors, each with a box of every kind.
 macro_rules! racks {
@@ -31,26 +32,41 @@ macro_rules! racks {
 }
 
 /// Makes the boxes and calls the command: the status, and what was put.
-pub fn answer(rt: &HostRuntime, words: &[String], files: MemFiles) -> io::Result<(u8, MemSink)> {
+pub fn answer(
+    rt: &HostRuntime,
+    words: &[String],
+    files: MemFiles,
+    sink: MemSink,
+) -> io::Result<(u8, MemSink)> {
     let racks = racks!(rt);
     let spares = racks!(rt);
-    call(rt, words, files, racks, spares)
+    call(rt, words, files, sink, racks, spares)
+}
+
+/// The sink of a row, which fails where the row says so.
+pub fn make_sink(rt: &HostRuntime, row: &str) -> io::Result<MemSink> {
+    let failing = numbers(rt.alloc(), row, "! put ")?;
+    let rooms = numbers(rt.alloc(), row, "! room ")?;
+    let room = rooms.first().copied().unwrap_or(ROOM);
+    match MemSink::new(rt.alloc(), room as usize, failing) {
+        Ok(sink) => Ok(sink),
+        Err(_) => Err(ErrorKind::OutOfMemory.into()),
+    }
 }
 
 fn call(
     rt: &HostRuntime,
     words: &[String],
     files: MemFiles,
+    sink: MemSink,
     racks: Vec<Rack>,
     spares: Vec<Rack>,
 ) -> io::Result<(u8, MemSink)> {
     if !racks_fit(&racks) || !racks_fit(&spares) {
         return Err(ErrorKind::InvalidInput.into());
     }
-    let Ok(mut sink) = MemSink::new(rt.alloc(), ROOM, Vec::new(rt.alloc())) else {
-        return Err(ErrorKind::OutOfMemory.into());
-    };
     let mut files = files;
+    let mut sink = sink;
     let status = scram(rt, words, &mut files, &mut sink, racks, spares);
     Ok((status.code, sink))
 }

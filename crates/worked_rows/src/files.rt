@@ -1,5 +1,6 @@
 //! The files of a row. The first is a file of the data folder, changed as each line `~ PIECE => OTHER PIECE` says. The
-//! second is what stands after `= `.
+//! second is what stands after `= `, and is not there where nothing does. Of lines `! read N`, `! put N` and `! room N`
+//! the first two name a call that fails, from 0, and the last the bytes that the sink has room for.
 
 use scram_io::MemFiles;
 use std::alloc::Global;
@@ -20,25 +21,42 @@ pub fn list_words(alloc: Global, line: &str) -> io::Result<Vec<String>> {
 pub fn make_files(rt: &HostRuntime, words: &[String], row: &str) -> io::Result<MemFiles> {
     let mut entries = Vec::new(rt.alloc());
     for (i, word) in words.iter().enumerate() {
+        if i == 0 {
+            continue;
+        }
         if i == 1 {
             let text = fs::read_to_string(rt, word.as_str())?;
             let text = change(rt.alloc(), text, row)?;
             entries.push((word.as_str().to_string(rt.alloc())?, text.into_bytes()))?;
-        } else if i == 2 {
-            let text = second_file(row).to_string(rt.alloc())?;
+        } else if let Some(text) = second_file(row) {
+            let text = text.to_string(rt.alloc())?;
             entries.push((word.as_str().to_string(rt.alloc())?, text.into_bytes()))?;
         }
     }
-    Ok(MemFiles::new(entries, Vec::new(rt.alloc())))
+    Ok(MemFiles::new(entries, numbers(rt.alloc(), row, "! read ")?))
 }
 
-fn second_file(row: &str) -> &str {
+/// The numbers that stand in a row's lines after these words.
+pub fn numbers(alloc: Global, row: &str, words: &str) -> io::Result<Vec<u32>> {
+    let mut numbers = Vec::new(alloc);
     for line in row.split('\n') {
-        if let Some(text) = line.strip_prefix("= ") {
-            return text;
+        if let Some(digits) = line.strip_prefix(words) {
+            let Ok(number) = digits.parse::<u32>() else {
+                return Err(ErrorKind::InvalidInput.into());
+            };
+            numbers.push(number)?;
         }
     }
-    ""
+    Ok(numbers)
+}
+
+fn second_file(row: &str) -> Option<&str> {
+    for line in row.split('\n') {
+        if let Some(text) = line.strip_prefix("= ") {
+            return Some(text);
+        }
+    }
+    None
 }
 
 fn change(alloc: Global, text: String, row: &str) -> io::Result<String> {

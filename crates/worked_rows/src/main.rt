@@ -5,7 +5,7 @@
 mod answers;
 mod files;
 
-use crate::answers::{answer, print_answer};
+use crate::answers::{answer, make_sink, print_answer};
 use crate::files::{list_words, make_files};
 use std::{fs, io};
 
@@ -24,7 +24,8 @@ fn answer_row(rt: &HostRuntime, row: &str) -> io::Result<()> {
     println!(rt; "> {words}")?;
     let words = list_words(rt.alloc(), words)?;
     let files = make_files(rt, &words, rest)?;
-    let (status, sink) = answer(rt, &words, files)?;
+    let sink = make_sink(rt, rest)?;
+    let (status, sink) = answer(rt, &words, files, sink)?;
     print_answer(rt, sink.bytes(), frames)?;
     println!(rt; "status {status}\n")
 }
