@@ -2,3 +2,11 @@ pub mod Modes
 pub mod Names
 pub mod Text
 pub mod Printing
+pub mod Pieces
+pub mod Spelling
+pub mod Rules
+pub mod Lookups
+pub mod RowReading
+pub mod ReportReading
+pub mod AppReading
+pub mod TraceReading

@@ -2,9 +2,20 @@
 //! prefix.
 #![tactic(auto)]
 
+pub mod app_reading;
 pub mod lines;
+pub mod lookups;
+pub mod name_lists;
+pub mod numbers;
+pub mod pieces;
+pub mod progress;
 pub mod puts;
 pub mod report_lines;
+pub mod report_reading;
 pub mod row_lines;
+pub mod row_reading;
+pub mod trace_reading;
+pub mod words;
 
 pub use puts::{put_end, put_report, put_row, put_trace};
+pub use trace_reading::{MAX_TRACE_BYTES, TraceError, TraceFault, read_trace};

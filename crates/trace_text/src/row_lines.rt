@@ -77,7 +77,7 @@ fn name_of_value(factor: &Factor, value: u8) -> &str
 }
 
 #[tactic(auto, using(crate::proofs::ModeNames::short_mode))]
-fn name_of_mode(kind: KindId, mode: Mode) -> &'static str
+pub fn name_of_mode(kind: KindId, mode: Mode) -> &'static str
     ensures name { result.now ≡ mode_text kind.0 mode.0 }
     ensures short { length result.now ≤ 16 }
 {

@@ -1,0 +1,62 @@
+-- What an answer Ok tells of the tests before it.
+use Rattle.std.proofs.Common.{ℕ, suc, zero, ◌≡◌, ◌<◌, ◌≤◌, ◌+◌, ◌∙◌, Bool, true, false, cond, List, [], ◌∷◌, Option, Some, None, Result, Ok, Err, drop, length, arith, refl, sym, ap}
+use Rattle.std.specs.Prelude.{◌==◌, ◌&&◌, nat_le, bytes_eq, option_map, option_and_then}
+use Rattle.std.specs.List.{join_with_byte, list_all}
+use Rattle.std.proofs.lemmas.Bool.{eqb-true}
+use Rattle.std.proofs.lemmas.List.{drop_all, drop_more}
+use Rattle.std.proofs.lemmas.List.Splits.{join_with_byte-slice_split}
+use Rattle.std.proofs.lemmas.Slice.Eq.{bytes_eq-Decides}
+use Rattle.trace_text.specs.Pieces.{word, words_of, words_in, is_word, is_filled}
+use Rattle.trace_text.specs.Rules.{unless}
+
+pub unless_ok : {A B : Type 0} (rule : ℕ) (o : Option A) (next : A → Result B ℕ) (b : B) → unless rule o next ≡ Ok b →
+    (a : A) × (o ≡ Some a) × (next a ≡ Ok b)
+unless_ok rule None next b h = absurd (let e = h in cc)
+unless_ok rule (Some a) next b h = (a, refl, h)
+
+pub if_ok : {B : Type 0} (t : Bool) (r : Result B ℕ) (rule : ℕ) (b : B) → cond t r (Err rule) ≡ Ok b → (t ≡ true) × (r ≡ Ok b)
+if_ok true r rule b h = (refl, h)
+if_ok false r rule b h = absurd (let e = h in cc)
+
+pub unless_not : {B : Type 0} (t : Bool) (r : Result B ℕ) (rule : ℕ) (b : B) → cond t (Err rule) r ≡ Ok b → r ≡ Ok b
+unless_not true r rule b h = absurd (let e = h in cc)
+unless_not false r rule b h = h
+
+pub some_says : {A : Type 0} (b : Bool) (x y : A) → cond b (Some x) None ≡ Some y → (b ≡ true) × (x ≡ y)
+some_says true x y h = (refl, cc)
+some_says false x y h = absurd (let e = h in cc)
+
+pub kept_says : {A : Type 0} (b : Bool) (o : Option A) (y : A) → cond b o None ≡ Some y → (b ≡ true) × (o ≡ Some y)
+kept_says true o y h = (refl, h)
+kept_says false o y h = absurd (let e = h in cc)
+
+pub map_some : {A B : Type 0} (f : A → B) (o : Option A) (b : B) → option_map f o ≡ Some b → (a : A) × (o ≡ Some a) × (f a ≡ b)
+map_some f None b h = absurd (let e = h in cc)
+map_some f (Some a) b h = (a, refl, let e : f a ≡ b = cc in e)
+
+pub then_some : {A B : Type 0} (f : A → Option B) (o : Option A) (b : B) → option_and_then f o ≡ Some b → (a : A) × (o ≡ Some a) × (f a ≡ Some b)
+then_some f None b h = absurd (let e = h in cc)
+then_some f (Some a) b h = (a, refl, h)
+
+pub same_text : (a b : List ℕ) → bytes_eq a b ≡ true → a ≡ b
+same_text a b h = (bytes_eq-Decides a b).0 h
+
+pub is_text : (ws : List (List ℕ)) (k : ℕ) (text : List ℕ) → is_word ws k text ≡ true → word ws k ≡ text
+is_text ws k text h = same_text (word ws k) text h
+
+-- so many words from word k on
+abbrev pub tab : ℕ → ℕ → List (List ℕ) → List (List ℕ)
+tab zero k ws = []
+tab (suc n) k ws = word ws k ∷ tab n (k + 1) ws
+
+tab_from : (n k : ℕ) (ws : List (List ℕ)) → length ws ≡ k + n → tab n k ws ≡ drop k ws
+tab_from zero k ws e = sym (drop_all k ws (omega (arith, e)))
+tab_from (suc n) k ws e = ap (λ (rest : List (List ℕ)). word ws k ∷ rest) (tab_from n (k + 1) ws (omega (arith, e))) ∙ sym (drop_more ws k [] (omega (arith, e)))
+
+pub words_listed : (n : ℕ) (ws : List (List ℕ)) → (length ws == n) ≡ true → ws ≡ tab n 0 ws
+words_listed n ws e = let same : length ws ≡ n = eqb-true (length ws) n e in sym (tab_from n 0 ws (omega (arith, same)))
+
+pub line_joined : (line : List ℕ) (ws : List (List ℕ)) → words_in line ≡ Some ws → line ≡ join_with_byte 32 ws
+line_joined line ws h =
+    let p = some_says (nat_le (length (words_of line)) 16 && list_all is_filled (words_of line)) (words_of line) ws h in
+    sym (join_with_byte-slice_split 32 line) ∙ ap (join_with_byte 32) p.1

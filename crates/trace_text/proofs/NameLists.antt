@@ -1,0 +1,31 @@
+-- Lists of names, read to their end.
+use Rattle.std.proofs.Common.{ℕ, ◌≡◌, ◌<◌, ◌≤◌, ◌+◌, ◌∙◌, Bool, true, false, List, [], ◌∷◌, Option, Some, None, drop, length, arith, refl, sym, ap, Bor}
+use Rattle.std.specs.Prelude.{◌==◌, option_map}
+use Rattle.std.proofs.lemmas.Bool.{ne_eqb}
+use Rattle.std.proofs.lemmas.List.{drop_all}
+use Rattle.scram_types.specs.declared.specification.Proc.{Proc}
+use Rattle.trace_text.specs.Pieces.{pieces_of, pieces_behind}
+use Rattle.trace_text.specs.RowReading.{up_from}
+use Rattle.trace_text.proofs.Splitting.{some_piece}
+
+none_left : (names : List (List ℕ)) (bit up : ℕ) → 0 < length names → up_from [] names bit up ≡ None
+none_left [] bit up h = absurd (omega arith)
+none_left (name ∷ names) bit up h = refl
+
+-- names that are left behind the last processor
+pub names_over : (procs : List Proc) (i : ℕ) (left : Option (Bor (List ℕ))) (names : Bor (List ℕ)) (bit up : ℕ) (read : Option ℕ) →
+    length procs ≤ i → left ≡ Some names →
+    up_from (drop i procs) (pieces_behind 44 (option_map (λ (b : Bor (List ℕ)). b.now) left)) bit up ≡ read → None ≡ read
+names_over procs i left names bit up read end is rest =
+    let d : drop i procs ≡ [] = drop_all i procs end in
+    let e : up_from [] (pieces_of 44 names.now) bit up ≡ read = rw (d, is) at rest in
+    sym (none_left (pieces_of 44 names.now) bit up (some_piece 44 names.now)) ∙ e
+
+-- more names than were wanted
+pub too_many : (list : List ℕ) (left : Option (Bor (List ℕ))) (names : Bor (List ℕ)) (wanted count : ℕ) → left ≡ Some names → wanted ≡ 0 →
+    length (pieces_behind 44 (option_map (λ (b : Bor (List ℕ)). b.now) left)) + count ≡ length (pieces_of 44 list) + wanted →
+    false ≡ (length (pieces_of 44 list) == count)
+too_many list left names wanted count is none rest =
+    let e : length (pieces_of 44 names.now) + count ≡ length (pieces_of 44 list) + wanted = rw is at rest in
+    let more : 0 < length (pieces_of 44 names.now) = some_piece 44 names.now in
+    sym (ne_eqb (length (pieces_of 44 list)) count (λ same. omega (arith, more, e, none, same)))

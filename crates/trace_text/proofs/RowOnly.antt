@@ -1,0 +1,202 @@
+-- A line that is read as a row's is the text of that row.
+use Rattle.std.proofs.Common.{ℕ, ℤ, pos, suc, zero, ◌≡◌, ◌<◌, ◌≤◌, ◌+◌, ◌*◌, ◌∙◌, Bool, true, false, cond, List, [], ◌∷◌, ◌++◌, Option, Some, None, Result, Ok, Err, length, decimal, replicate, arith, refl, sym, ap, rules, append-nil, length-set}
+use Rattle.std.specs.Prelude.{◌==◌, ◌&&◌, ◌/◌, ◌%◌, bytes_eq, codes, option_map, option_and_then, slice_index, slice_index_or, slice_set}
+use Rattle.std.specs.Fmt.{signed_decimal}
+use Rattle.std.specs.List.{join_with_byte, list_all}
+use Rattle.std.proofs.lemmas.Bool.{and_parts, eqb-true}
+use Rattle.std.proofs.lemmas.List.{get_or-set_same, get_or-set_other}
+use Rattle.std.proofs.lemmas.List.Splits.{join_with_byte-slice_split}
+use native.Mathlib.Nat.{mul-add, mul_assoc}
+use Rattle.scram_types.specs.Specification.{Parts}
+use Rattle.scram_types.specs.declared.ids.ConfId.{ConfId}
+use Rattle.scram_types.specs.declared.flights.Row.{Row}
+use Rattle.scram_types.specs.declared.flights.World.{World}
+use Rattle.scram_types.specs.declared.orders.Act.TheVariants.{Off}
+use Rattle.scram_types.specs.declared.orders.KMode.{KMode}
+use Rattle.scram_types.specs.declared.orders.KMode.TheVariants.{Stable, Moving}
+use Rattle.scram_types.specs.declared.specification.Factor.{Factor}
+use Rattle.scram_types.specs.declared.specification.Proc.{Proc}
+use Rattle.trace_text.specs.Lookups.{conf_named, conf_or_none, value_named}
+use Rattle.trace_text.specs.Names.{conf_name, conf_or_dash, further, joined, names_up, value_name, values_named}
+use Rattle.trace_text.specs.Pieces.{items_of, pieces_of, word, words_in, is_word}
+use Rattle.trace_text.specs.RowReading.{are_values, env_names, env_of, is_env_form, is_moving_form, is_next, is_proc, is_stable_form, left_behind, moving_row, row_begun, row_end, row_in, row_read, stable_row, up_from, up_in, values_from, values_in, with_bit, world_at}
+use Rattle.trace_text.specs.Rules.{unless}
+use Rattle.trace_text.specs.Spelling.{number_of, signed_of}
+use Rattle.trace_text.specs.Text.{row_line, up_text, values_text}
+use Rattle.trace_text.proofs.Found.{conf_found, conf_or_dash_found, value_found}
+use Rattle.trace_text.proofs.Inversion.{if_ok, is_text, kept_says, line_joined, map_some, same_text, tab, then_some, unless_ok, words_listed}
+use Rattle.trace_text.proofs.Shapes.{moving_shape, stable_shape}
+use Rattle.trace_text.proofs.Spelling.{number_spelled, signed_spelled}
+use Rattle.trace_text.proofs.Splitting.{some_piece}
+
+-- names joined by commas
+further_join : (name : List ℕ) (names : List (List ℕ)) → join_with_byte 44 (name ∷ names) ≡ name ++ further names
+further_join name [] = sym (append-nil name)
+further_join name (next ∷ names) = ap (λ (rest : List ℕ). name ++ 44 ∷ rest) (further_join next names)
+
+joined_some : (names : List (List ℕ)) → 0 < length names → joined names ≡ join_with_byte 44 names
+joined_some [] h = absurd (omega arith)
+joined_some (name ∷ names) h = sym (further_join name names)
+
+pub joined_pieces : (list : List ℕ) → joined (pieces_of 44 list) ≡ list
+joined_pieces list = joined_some (pieces_of 44 list) (some_piece 44 list) ∙ join_with_byte-slice_split 44 list
+
+items_by : (t : Bool) (list : List ℕ) → (t ≡ true → list ≡ codes "-") → joined (cond t [] (pieces_of 44 list)) ≡ list
+items_by true list same = sym (same refl)
+items_by false list same = joined_pieces list
+
+pub joined_items : (list : List ℕ) → joined (items_of list) ≡ list
+joined_items list = items_by (bytes_eq list (codes "-")) list (same_text list (codes "-"))
+
+-- values that are set later leave those before them
+values_stay : (factors : List Factor) (names : List (List ℕ)) (i j : ℕ) (vs ws : List ℕ) → j < i → values_from factors names i vs ≡ Some ws →
+    slice_index ws j ≡ slice_index vs j
+values_stay [] names i j vs ws below h = let e : vs ≡ ws = cc in rw e refl
+values_stay (factor ∷ factors) [] i j vs ws below h = absurd (let e = h in cc)
+values_stay (factor ∷ factors) (name ∷ names) i j vs ws below h =
+    let p = then_some (λ (v : ℕ). values_from factors names (i + 1) (slice_set vs i v)) (value_named factor name) ws h in
+    values_stay factors names (i + 1) j (slice_set vs i p.0) ws (omega arith) p.2
+    ∙ get_or-set_other vs i j p.0 0 (λ same. omega (arith, same))
+
+values_length : (vs : List ℕ) (i v : ℕ) → length (slice_set vs i v) ≡ length vs
+values_length vs i v = length-set vs i v
+
+values_only : (factors : List Factor) (names : List (List ℕ)) (i : ℕ) (vs ws : List ℕ) → i + length factors ≤ length vs → length names ≡ length factors →
+    values_from factors names i vs ≡ Some ws → names ≡ values_named factors i ws
+values_only [] [] i vs ws room count h = refl
+values_only [] (name ∷ names) i vs ws room count h = absurd (omega (arith, count))
+values_only (factor ∷ factors) [] i vs ws room count h = absurd (omega (arith, count))
+values_only (factor ∷ factors) (name ∷ names) i vs ws room count h =
+    let p = then_some (λ (v : ℕ). values_from factors names (i + 1) (slice_set vs i v)) (value_named factor name) ws h in
+    let kept : slice_index ws i ≡ p.0 = values_stay factors names (i + 1) i (slice_set vs i p.0) ws (omega arith) p.2 ∙ get_or-set_same vs i p.0 0 (omega (arith, room)) in
+    let first : name ≡ value_name factor (slice_index ws i) = rw kept (value_found factor name p.0 p.1) in
+    let rest : names ≡ values_named factors (i + 1) ws
+        = values_only factors names (i + 1) (slice_set vs i p.0) ws (rw (values_length vs i p.0) (omega (arith, room))) (omega (arith, count)) p.2 in
+    rw (← first, ← rest) refl
+
+values_read : (factors : List Factor) (list : List ℕ) (ws : List ℕ) → length factors ≤ 6 → are_values factors list ≡ true → values_in factors list ≡ Some ws →
+    list ≡ joined (values_named factors 0 ws)
+values_read [] list ws few form h = same_text list (codes "-") form
+values_read (factor ∷ factors) list ws few form h =
+    sym (joined_pieces list)
+    ∙ ap joined (values_only (factor ∷ factors) (pieces_of 44 list) 0 (replicate 6 0) ws (omega (arith, few)) (eqb-true _ _ form) h)
+
+-- bits: one more below the others
+twice_more : (bit up m : ℕ) → (up + bit) + (bit * 2) * m ≡ up + bit * (1 + 2 * m)
+twice_more bit up m = let a : bit * (1 + 2 * m) ≡ bit * 1 + bit * (2 * m) = mul-add bit 1 (2 * m) in let b : (bit * 2) * m ≡ bit * (2 * m) = mul_assoc bit 2 m in omega (arith, a, b)
+
+twice : (bit up m : ℕ) → up + (bit * 2) * m ≡ up + bit * (2 * m)
+twice bit up m = ap (λ (k : ℕ). up + k) (mul_assoc bit 2 m)
+
+abbrev UpOnly : List Proc → List (List ℕ) → ℕ → ℕ → ℕ → Type 0
+UpOnly procs names bit up u = (m : ℕ) × (u ≡ up + bit * m) × (names ≡ names_up procs m)
+
+even_names : (proc : Proc) (procs : List Proc) (m : ℕ) → names_up (proc ∷ procs) (2 * m) ≡ names_up procs m
+even_names proc procs m =
+    let rest : (2 * m) % 2 ≡ 0 = omega arith in
+    let half : (2 * m) / 2 ≡ m = omega arith in
+    rw (rest, half) refl
+
+odd_names : (proc : Proc) (procs : List Proc) (m : ℕ) → names_up (proc ∷ procs) (1 + 2 * m) ≡ proc.name ∷ names_up procs m
+odd_names proc procs m =
+    let rest : (1 + 2 * m) % 2 ≡ 1 = omega arith in
+    let half : (1 + 2 * m) / 2 ≡ m = omega arith in
+    rw (rest, half) refl
+
+up_even : (proc : Proc) (procs : List Proc) (names : List (List ℕ)) (bit up u : ℕ) → UpOnly procs names (bit * 2) up u → UpOnly (proc ∷ procs) names bit up u
+up_even proc procs names bit up u p = (2 * p.0, p.1 ∙ twice bit up p.0, p.2 ∙ sym (even_names proc procs p.0))
+
+up_odd : (proc : Proc) (procs : List Proc) (name : List ℕ) (names : List (List ℕ)) (bit up u : ℕ) → proc.name ≡ name → UpOnly procs names (bit * 2) (up + bit) u →
+    UpOnly (proc ∷ procs) (name ∷ names) bit up u
+up_odd proc procs name names bit up u same p =
+    (1 + 2 * p.0, p.1 ∙ twice_more bit up p.0, rw (odd_names proc procs p.0, same, ← p.2) refl)
+
+up_by : (t : Bool) (proc : Proc) (procs : List Proc) (name : List ℕ) (names : List (List ℕ)) (bit up u : ℕ) → (t ≡ true → proc.name ≡ name) →
+    ((left : List (List ℕ)) (k : ℕ) → up_from procs left (bit * 2) k ≡ Some u → UpOnly procs left (bit * 2) k u) →
+    up_from procs (cond t names (name ∷ names)) (bit * 2) (with_bit t bit up) ≡ Some u → UpOnly (proc ∷ procs) (name ∷ names) bit up u
+up_by true proc procs name names bit up u same more h = up_odd proc procs name names bit up u (same refl) (more names (up + bit) h)
+up_by false proc procs name names bit up u same more h = up_even proc procs (name ∷ names) bit up u (more (name ∷ names) up h)
+
+up_only : (procs : List Proc) (names : List (List ℕ)) (bit up u : ℕ) → up_from procs names bit up ≡ Some u → UpOnly procs names bit up u
+up_only [] [] bit up u h = let e : up ≡ u = cc in (0, omega (arith, e), refl)
+up_only [] (name ∷ names) bit up u h = absurd (let e = h in cc)
+up_only (proc ∷ procs) [] bit up u h = up_even proc procs [] bit up u (up_only procs [] (bit * 2) up u h)
+up_only (proc ∷ procs) (name ∷ names) bit up u h =
+    up_by (bytes_eq proc.name name) proc procs name names bit up u (same_text proc.name name) (λ left k. up_only procs left (bit * 2) k u) h
+
+up_read : (procs : List Proc) (list : List ℕ) (u : ℕ) → up_in procs list ≡ Some u → list ≡ joined (names_up procs u)
+up_read procs list u h =
+    let p = up_only procs (items_of list) 1 0 u h in
+    let e : u ≡ p.0 = omega (arith, p.1) in
+    sym (joined_items list) ∙ ap joined p.2 ∙ ap (λ (m : ℕ). joined (names_up procs m)) (sym e)
+
+record WorldWords (ws : List (List ℕ)) (at : ℕ) (world : World) : Type 0 where
+  alt : word ws at ≡ signed_decimal world.alt
+  climb : word ws (at + 1) ≡ signed_decimal world.climb
+  heading : word ws (at + 2) ≡ signed_decimal world.heading
+  bank : word ws (at + 3) ≡ signed_decimal world.bank
+
+world_words : (ws : List (List ℕ)) (at : ℕ) (world : World) → world_at ws at ≡ Some world → WorldWords ws at world
+world_words ws at world h =
+    let a = then_some (λ (alt : ℤ). option_and_then (λ (climb : ℤ). option_and_then (λ (heading : ℤ). option_map (λ (bank : ℤ).
+        record { alt = alt; climb = climb; heading = heading; bank = bank })
+        (signed_of (word ws (at + 3)))) (signed_of (word ws (at + 2)))) (signed_of (word ws (at + 1)))) (signed_of (word ws at)) world h in
+    let b = then_some (λ (climb : ℤ). option_and_then (λ (heading : ℤ). option_map (λ (bank : ℤ).
+        record { alt = a.0; climb = climb; heading = heading; bank = bank })
+        (signed_of (word ws (at + 3)))) (signed_of (word ws (at + 2)))) (signed_of (word ws (at + 1))) world a.2 in
+    let c = then_some (λ (heading : ℤ). option_map (λ (bank : ℤ).
+        record { alt = a.0; climb = b.0; heading = heading; bank = bank })
+        (signed_of (word ws (at + 3)))) (signed_of (word ws (at + 2))) world b.2 in
+    let d = map_some (λ (bank : ℤ). record { alt = a.0; climb = b.0; heading = c.0; bank = bank }) (signed_of (word ws (at + 3))) world c.2 in
+    let e : record { alt = a.0; climb = b.0; heading = c.0; bank = d.0 } ≡ world = d.2 in
+    record {
+      alt = signed_spelled a.0 _ a.1 ∙ ap (λ (w : World). signed_decimal w.alt) e;
+      climb = signed_spelled b.0 _ b.1 ∙ ap (λ (w : World). signed_decimal w.climb) e;
+      heading = signed_spelled c.0 _ c.1 ∙ ap (λ (w : World). signed_decimal w.heading) e;
+      bank = signed_spelled d.0 _ d.1 ∙ ap (λ (w : World). signed_decimal w.bank) e;
+    }
+
+-- the words of an environment and a world from word `at` on
+record EnvWords (spec : Parts) (ws : List (List ℕ)) (at : ℕ) (values : List ℕ) (up : ℕ) (world : World) : Type 0 where
+  env : word ws at ≡ codes "env"
+  values_are : word ws (at + 1) ≡ values_text spec values
+  up_is : word ws (at + 2) ≡ codes "up"
+  names : word ws (at + 3) ≡ up_text spec up
+  world_is : word ws (at + 4) ≡ codes "world"
+  numbers : WorldWords ws (at + 5) world
+
+-- what the end of a row's reading tells
+record RowEnd (spec : Parts) (next : ℕ) (ws : List (List ℕ)) (at : ℕ) (mode : KMode) (values : List ℕ) (row : Row) : Type 0 where
+  frame : ℕ
+  world : World
+  up : ℕ
+  spelled : word ws 1 ≡ decimal frame
+  numbers : WorldWords ws (at + 5) world
+  is_next : frame ≡ next
+  listed : word ws (at + 3) ≡ up_text spec up
+  row_is : row_begun frame mode (env_of up values) world ≡ row
+
+row_ended : (spec : Parts) (next : ℕ) (ws : List (List ℕ)) (at : ℕ) (mode : KMode) (values : List ℕ) (row : Row) → row_end spec next ws at mode values ≡ Ok row →
+    RowEnd spec next ws at mode values row
+row_ended spec next ws at mode values row h =
+    let f = unless_ok 5 (number_of 20000 (word ws 1)) _ row h in
+    let w = unless_ok 5 (world_at ws (at + 5)) _ row f.2 in
+    let n = if_ok (f.0 == next) _ 6 row w.2 in
+    let u = unless_ok 7 (up_in spec.procs (word ws (at + 3))) _ row n.1 in
+    record {
+      frame = f.0;
+      world = w.0;
+      up = u.0;
+      spelled = (number_spelled 20000 f.0 (word ws 1) f.1).0;
+      numbers = world_words ws (at + 5) w.0 w.1;
+      is_next = eqb-true f.0 next n.0;
+      listed = up_read spec.procs (word ws (at + 3)) u.0 u.1;
+      row_is = let e : row_begun f.0 mode (env_of u.0 values) w.0 ≡ row = cc in e;
+    }
+
+-- what is told of a line that is read as a row's: it is the row's text, and the row is still empty of acts
+pub record RowRead (spec : Parts) (next : ℕ) (line : List ℕ) (row : Row) : Type 0 where
+  pub text : row_line spec row ≡ line ++ codes "\n"
+  pub frame : row.frame ≡ next
+  pub acts : row.acts ≡ replicate 8 Off
+  pub areas : row.areas ≡ replicate 8 (replicate 8 (pos 0))

@@ -1,0 +1,82 @@
+-- What the line of an application says.
+use Rattle.std.specs.Prelude.{ℕ, ℤ, ◌==◌, ◌&&◌, Bool, List, codes, length, nat_le, nat_lt, Option, Some, None, Result, Ok, Err, bytes_eq, if◌then◌else◌}
+use Rattle.scram_types.specs.Specification.{Parts}
+use Rattle.scram_types.specs.declared.ids.Mode.{Mode}
+use Rattle.scram_types.specs.declared.ids.ProcId.{ProcId}
+use Rattle.scram_types.specs.declared.orders.Act.{Act}
+use Rattle.scram_types.specs.declared.orders.Act.TheVariants as act
+use Rattle.trace_text.specs.declared.app_reading.Done.{Done}
+use Rattle.trace_text.specs.declared.app_reading.Phase.{Phase}
+use Rattle.trace_text.specs.declared.app_reading.Phase.TheVariants.{Halting, Preparing, Initialising}
+use Rattle.trace_text.specs.Lookups.{app_named, mode_named, proc_named}
+use Rattle.trace_text.specs.Pieces.{words_in, word, is_word, sides_of}
+use Rattle.trace_text.specs.Rules.{unless}
+use Rattle.trace_text.specs.Spelling.{number_of, signed_from}
+
+abbrev pub done : Act → List ℤ → Done
+done act area = record { act = act; area = area }
+
+abbrev pub is_placed_form : List (List ℕ) → Bool
+is_placed_form words = (length words == 14) && is_word words 5 (codes ":")
+
+abbrev pub is_bare_form : List (List ℕ) → Bool
+is_bare_form words = (length words == 12) && is_word words 3 (codes ":")
+
+abbrev pub phase_named : List ℕ → Option Phase
+phase_named tag =
+    if bytes_eq tag (codes "halting") then Some Halting
+    else (if bytes_eq tag (codes "preparing") then Some Preparing
+    else (if bytes_eq tag (codes "initialising") then Some Initialising else None))
+
+abbrev pub phase_act : Phase → ℕ → ℕ → ProcId → Act
+phase_act Halting k n proc = act.Halting k n proc
+phase_act Preparing k n proc = act.Preparing k n proc
+phase_act Initialising k n proc = act.Initialising k n proc
+
+-- an act that names no processor
+abbrev pub bare_act : List ℕ → Option Act
+bare_act tag =
+    if bytes_eq tag (codes "held") then Some act.Held
+    else (if bytes_eq tag (codes "off") then Some act.Off
+    else (if bytes_eq tag (codes "lost") then Some act.Lost else None))
+
+abbrev pub ran_line : Parts → ℕ → List (List ℕ) → Result Done ℕ
+ran_line spec next words =
+    unless 4 (app_named spec (word words 1)) (λ (app : ℕ).
+    unless 4 (mode_named spec app (word words 3)) (λ (mode : Mode).
+    unless 4 (proc_named spec (word words 4)) (λ (proc : ProcId).
+    unless 5 (signed_from 8 6 words) (λ (area : List ℤ).
+    if app == next then Ok (done (act.Ran mode proc) area) else Err 6))))
+
+abbrev pub phase_line : Parts → ℕ → List (List ℕ) → Phase → List ℕ × List ℕ → Result Done ℕ
+phase_line spec next words phase fraction =
+    unless 4 (app_named spec (word words 1)) (λ (app : ℕ).
+    unless 4 (proc_named spec (word words 4)) (λ (proc : ProcId).
+    unless 5 (number_of 256 fraction.0) (λ (k : ℕ).
+    unless 5 (number_of 256 fraction.1) (λ (n : ℕ).
+    unless 5 (signed_from 8 6 words) (λ (area : List ℤ).
+    if app == next then
+    (if nat_lt k n && nat_le n 16 then Ok (done (phase_act phase k n proc) area) else Err 7)
+    else Err 6)))))
+
+abbrev pub bare_line : Parts → ℕ → List (List ℕ) → Act → Result Done ℕ
+bare_line spec next words told =
+    unless 4 (app_named spec (word words 1)) (λ (app : ℕ).
+    unless 5 (signed_from 8 4 words) (λ (area : List ℤ).
+    if app == next then Ok (done told area) else Err 6))
+
+abbrev pub placed_line : Parts → ℕ → List (List ℕ) → Result Done ℕ
+placed_line spec next words =
+    if is_word words 2 (codes "ran") then ran_line spec next words
+    else
+    unless 3 (phase_named (word words 2)) (λ (phase : Phase).
+    unless 3 (sides_of (word words 3)) (phase_line spec next words phase))
+
+abbrev pub app_in : Parts → ℕ → List (List ℕ) → Result Done ℕ
+app_in spec next words =
+    if is_placed_form words then placed_line spec next words
+    else (if is_bare_form words then unless 3 (bare_act (word words 2)) (bare_line spec next words) else Err 3)
+
+-- what a line says that is to be the one of application `next`
+abbrev pub app_read : Parts → ℕ → List ℕ → Result Done ℕ
+app_read spec next line = unless 3 (words_in line) (app_in spec next)

@@ -1,0 +1,124 @@
+-- What the first line of a row says.
+use Rattle.std.specs.Prelude.{ℕ, ℤ, pos, ◌==◌, ◌+◌, ◌*◌, ◌&&◌, Bool, true, false, List, [], ◌∷◌, replicate, length, codes, slice_set, option_and_then, option_map, Option, Some, None, Result, Ok, Err, bytes_eq, if◌then◌else◌}
+use Rattle.std.specs.List.{list_all}
+use Rattle.std.specs.Option.{option_map_or}
+use Rattle.scram_types.specs.Specification.{Parts}
+use Rattle.scram_types.specs.declared.ids.ConfId.{ConfId}
+use Rattle.scram_types.specs.declared.ids.ProcId.{ProcId}
+use Rattle.scram_types.specs.declared.flights.Env.{Env}
+use Rattle.scram_types.specs.declared.flights.Row.{Row}
+use Rattle.scram_types.specs.declared.flights.World.{World}
+use Rattle.scram_types.specs.declared.orders.Act.TheVariants.{Off}
+use Rattle.scram_types.specs.declared.orders.KMode.{KMode}
+use Rattle.scram_types.specs.declared.orders.KMode.TheVariants.{Stable, Moving}
+use Rattle.scram_types.specs.declared.specification.Factor.{Factor}
+use Rattle.scram_types.specs.declared.specification.Proc.{Proc}
+use Rattle.trace_text.specs.Lookups.{conf_named, conf_or_none, proc_named, value_named}
+use Rattle.trace_text.specs.Pieces.{pieces_of, items_of, words_in, word, is_word}
+use Rattle.trace_text.specs.Rules.{unless}
+use Rattle.trace_text.specs.Spelling.{number_of, signed_of}
+
+-- as many values as there are factors; `-` without factors
+abbrev pub are_values : List Factor → List ℕ → Bool
+are_values [] list = bytes_eq list (codes "-")
+are_values (factor ∷ factors) list = length (pieces_of 44 list) == length (factor ∷ factors)
+
+-- the environment from word `at` on
+abbrev pub is_env_form : Parts → List (List ℕ) → ℕ → Bool
+is_env_form spec words at =
+    is_word words at (codes "env") && are_values spec.factors (word words (at + 1)) && is_word words (at + 2) (codes "up") && is_word words (at + 4) (codes "world")
+
+abbrev pub is_stable_form : Parts → List (List ℕ) → Bool
+is_stable_form spec words = (length words == 13) && is_word words 2 (codes "stable") && is_env_form spec words 4
+
+abbrev pub is_moving_form : Parts → List (List ℕ) → Bool
+is_moving_form spec words = (length words == 16) && is_word words 2 (codes "moving") && is_env_form spec words 7
+
+-- `values` with the numbers of the named values, from factor i on
+abbrev pub values_from : List Factor → List (List ℕ) → ℕ → List ℕ → Option (List ℕ)
+values_from [] names i values = Some values
+values_from (factor ∷ factors) [] i values = None
+values_from (factor ∷ factors) (name ∷ names) i values =
+    option_and_then (λ (v : ℕ). values_from factors names (i + 1) (slice_set values i v)) (value_named factor name)
+
+abbrev pub values_in : List Factor → List ℕ → Option (List ℕ)
+values_in factors list = values_from factors (pieces_of 44 list) 0 (replicate 6 0)
+
+abbrev pub is_proc : Parts → List ℕ → Bool
+is_proc spec name = option_map_or (λ (p : ProcId). true) (proc_named spec name) false
+
+-- the values of an environment that has no unknown name
+abbrev pub env_names : Parts → List (List ℕ) → ℕ → Option (List ℕ)
+env_names spec words at =
+    if list_all (is_proc spec) (items_of (word words (at + 3))) then values_in spec.factors (word words (at + 1)) else None
+
+-- whether the next name is this processor's
+abbrev pub is_next : Proc → List (List ℕ) → Bool
+is_next proc [] = false
+is_next proc (name ∷ names) = bytes_eq proc.name name
+
+-- the names that are left when the processor has had its turn
+abbrev pub left_behind : Proc → List (List ℕ) → List (List ℕ)
+left_behind proc [] = []
+left_behind proc (name ∷ names) = if bytes_eq proc.name name then names else name ∷ names
+
+abbrev pub with_bit : Bool → ℕ → ℕ → ℕ
+with_bit named bit up = if named then up + bit else up
+
+-- the bits of the named processors, where the names stand in the order of the processors: `bit` is that of the first
+-- processor, and `up` those of the processors before it
+abbrev pub up_from : List Proc → List (List ℕ) → ℕ → ℕ → Option ℕ
+up_from [] [] bit up = Some up
+up_from [] (name ∷ names) bit up = None
+up_from (proc ∷ procs) names bit up =
+    up_from procs (left_behind proc names) (bit * 2) (with_bit (is_next proc names) bit up)
+
+abbrev pub up_in : List Proc → List ℕ → Option ℕ
+up_in procs list = up_from procs (items_of list) 1 0
+
+abbrev pub world_at : List (List ℕ) → ℕ → Option World
+world_at words at =
+    option_and_then (λ (alt : ℤ). option_and_then (λ (climb : ℤ). option_and_then (λ (heading : ℤ). option_map (λ (bank : ℤ).
+    record { alt = alt; climb = climb; heading = heading; bank = bank })
+    (signed_of (word words (at + 3)))) (signed_of (word words (at + 2)))) (signed_of (word words (at + 1)))) (signed_of (word words at))
+
+abbrev pub env_of : ℕ → List ℕ → Env
+env_of up values = record { up = up; factors = values }
+
+-- a row before the lines of its applications
+abbrev pub row_begun : ℕ → KMode → Env → World → Row
+row_begun frame mode env world =
+    record { frame = frame; env = env; mode = mode; acts = replicate 8 Off; areas = replicate 8 (replicate 8 (pos 0)); world = world }
+
+-- rules 5 to 7, but for `since`
+abbrev pub row_end : Parts → ℕ → List (List ℕ) → ℕ → KMode → List ℕ → Result Row ℕ
+row_end spec next words at mode values =
+    unless 5 (number_of 20000 (word words 1)) (λ (frame : ℕ).
+    unless 5 (world_at words (at + 5)) (λ (world : World).
+    if frame == next then
+    unless 7 (up_in spec.procs (word words (at + 3))) (λ (up : ℕ). Ok (row_begun frame mode (env_of up values) world))
+    else Err 6))
+
+abbrev pub stable_row : Parts → ℕ → List (List ℕ) → Result Row ℕ
+stable_row spec next words =
+    unless 4 (conf_named spec (word words 3)) (λ (conf : ConfId).
+    unless 4 (env_names spec words 4) (λ (values : List ℕ).
+    row_end spec next words 4 (Stable conf) values))
+
+abbrev pub moving_row : Parts → ℕ → List (List ℕ) → Result Row ℕ
+moving_row spec next words =
+    unless 4 (conf_named spec (word words 3)) (λ (from : ConfId).
+    unless 4 (conf_or_none spec (word words 4)) (λ (halting : Option ConfId).
+    unless 4 (conf_named spec (word words 5)) (λ (to : ConfId).
+    unless 4 (env_names spec words 7) (λ (values : List ℕ).
+    unless 5 (number_of 20000 (word words 6)) (λ (since : ℕ).
+    row_end spec next words 7 (Moving from halting to since) values)))))
+
+abbrev pub row_in : Parts → ℕ → List (List ℕ) → Result Row ℕ
+row_in spec next words =
+    if is_stable_form spec words then stable_row spec next words
+    else (if is_moving_form spec words then moving_row spec next words else Err 3)
+
+-- the row that a line begins, where its frame is to be `next`
+abbrev pub row_read : Parts → ℕ → List ℕ → Result Row ℕ
+row_read spec next line = unless 3 (words_in line) (row_in spec next)

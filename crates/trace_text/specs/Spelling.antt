@@ -1,0 +1,27 @@
+-- How a number is spelled: the bytes are just what is printed of the number that they stand for. So there are no zeros
+-- in front, no `-0` and no `+`.
+use Rattle.std.specs.Prelude.{ℕ, ℤ, suc, zero, ◌+◌, ◌^◌, ◌&&◌, List, [], ◌∷◌, Option, Some, None, decimal, nat_lt, option_map, option_and_then, bytes_eq, if◌then◌else◌}
+use Rattle.std.specs.Fmt.{signed_decimal}
+use Rattle.std.specs.Str.Parse.{digits_value, signed_digits_value}
+use lib.Signed.{mag}
+use Rattle.trace_text.specs.Pieces.{word}
+
+abbrev pub spelled : ℕ → ℕ → List ℕ → Option ℕ
+spelled limit n text = if nat_lt n limit && bytes_eq (decimal n) text then Some n else None
+
+-- the number below `limit` that a text spells
+unfoldable pub number_of : ℕ → List ℕ → Option ℕ
+number_of limit text = spelled limit (digits_value 10 text) text
+
+abbrev pub spelled_signed : ℤ → List ℕ → Option ℤ
+spelled_signed z text = if nat_lt (mag z) (2 ^ 63) && bytes_eq (signed_decimal z) text then Some z else None
+
+-- the signed number of 64 bits that a text spells
+unfoldable pub signed_of : List ℕ → Option ℤ
+signed_of text = spelled_signed (signed_digits_value 10 text) text
+
+-- so many signed numbers from word k on
+abbrev pub signed_from : ℕ → ℕ → List (List ℕ) → Option (List ℤ)
+signed_from zero k words = Some []
+signed_from (suc n) k words =
+    option_and_then (λ (z : ℤ). option_map (λ (zs : List ℤ). z ∷ zs) (signed_from n (k + 1) words)) (signed_of (word words k))

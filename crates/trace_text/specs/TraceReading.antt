@@ -1,0 +1,138 @@
+-- The trace that bytes are, or the first line that breaks a rule, with the least rule that it breaks.
+use Rattle.std.specs.Prelude.{ℕ, ℤ, ◌≡◌, ◌==◌, ◌+◌, ◌&&◌, Bool, List, [], ◌∷◌, ◌++◌, length, codes, nat_le, nat_lt, slice_set, slice_index_or, ⊤, Result, Ok, Err, bytes_eq, if◌then◌else◌}
+use Rattle.std.specs.List.{list_all}
+use Rattle.scram_types.specs.Specification.{Parts}
+use Rattle.scram_types.specs.declared.flights.Flown.{Flown}
+use Rattle.scram_types.specs.declared.flights.Report.{Report}
+use Rattle.scram_types.specs.declared.flights.Row.{Row}
+use Rattle.scram_types.specs.declared.orders.Act.{Act}
+use Rattle.trace_text.specs.declared.app_reading.Done.{Done}
+use Rattle.trace_text.specs.declared.progress.Standing.{Standing}
+use Rattle.trace_text.specs.declared.progress.Standing.TheVariants.{Rows, Apps, Reports, Over}
+use Rattle.trace_text.specs.declared.progress.Stop.{Stop}
+use Rattle.trace_text.specs.declared.progress.Stop.TheVariants as stop
+use Rattle.trace_text.specs.declared.trace_reading.TraceFault.{TraceFault}
+use Rattle.trace_text.specs.declared.trace_reading.TraceError.{TraceError}
+use Rattle.trace_text.specs.declared.trace_reading.TraceError.TheVariants.{Fault, NoMemory}
+use Rattle.trace_text.specs.AppReading.{app_read}
+use Rattle.trace_text.specs.Pieces.{pieces_of, words_of, word, is_filled}
+use Rattle.trace_text.specs.ReportReading.{report_read, end_read}
+use Rattle.trace_text.specs.RowReading.{row_read}
+
+-- what the lines so far say, and what may stand next
+pub record SoFar : Type 0 where
+  pub rows : List Row
+  pub reports : List Report
+  pub standing : Standing
+
+-- so many rows at most have been read, frames being below 20,000
+abbrev pub rows_before : Standing → ℕ
+rows_before Rows = 20000
+rows_before (Apps a row) = 19999
+rows_before Reports = 20000
+rows_before Over = 20000
+
+abbrev pub before_first : SoFar
+before_first = record { rows = []; reports = []; standing = Rows }
+
+abbrev pub is_printable : ℕ → Bool
+is_printable b = nat_le 32 b && nat_le b 126
+
+-- rule 1 of a line that has its line feed
+abbrev pub is_plain : List ℕ → Bool
+is_plain line = nat_le (length line) 512 && list_all is_printable line
+
+-- whether this is the first word of a line
+abbrev pub begins : List ℕ → List ℕ → Bool
+begins line text = bytes_eq (word (words_of line) 0) text
+
+-- a row with what application a did
+abbrev pub with_app : Row → ℕ → Act → List ℤ → Row
+with_app row a act area =
+    record { frame = row.frame; env = row.env; mode = row.mode; acts = slice_set row.acts a act; areas = slice_set row.areas a area; world = row.world }
+
+-- a row is whole after its last application
+abbrev pub after_app : Parts → SoFar → ℕ → Row → SoFar
+after_app spec s a row =
+    if nat_lt (a + 1) (length spec.apps) then record { rows = s.rows; reports = s.reports; standing = Apps (a + 1) row }
+    else record { rows = s.rows ++ row ∷ []; reports = s.reports; standing = Rows }
+
+abbrev pub with_row : SoFar → Result Row ℕ → Result SoFar ℕ
+with_row s (Ok row) = Ok (record { rows = s.rows; reports = s.reports; standing = Apps 0 row })
+with_row s (Err rule) = Err rule
+
+abbrev pub with_done : Parts → SoFar → ℕ → Row → Result Done ℕ → Result SoFar ℕ
+with_done spec s a row (Ok done) = Ok (after_app spec s a (with_app row a done.act done.area))
+with_done spec s a row (Err rule) = Err rule
+
+abbrev pub with_report : SoFar → Result Report ℕ → Result SoFar ℕ
+with_report s (Ok report) = Ok (record { rows = s.rows; reports = s.reports ++ report ∷ []; standing = Reports })
+with_report s (Err rule) = Err rule
+
+abbrev pub with_end : SoFar → Result ⊤ ℕ → Result SoFar ℕ
+with_end s (Ok done) = Ok (record { rows = s.rows; reports = s.reports; standing = Over })
+with_end s (Err rule) = Err rule
+
+-- a report or the end line
+abbrev pub closing : Parts → SoFar → List ℕ → Result SoFar ℕ
+closing spec s line =
+    if begins line (codes "reconfiguration") then with_report s (report_read spec (length s.rows) line)
+    else (if begins line (codes "end") then with_end s (end_read (length s.rows) (length s.reports) line) else Err 2)
+
+abbrev pub standing_line : Parts → SoFar → Standing → List ℕ → Result SoFar ℕ
+standing_line spec s Rows line =
+    if begins line (codes "frame") then with_row s (row_read spec (length s.rows) line) else closing spec s line
+standing_line spec s (Apps a row) line =
+    if begins line (codes "app") then with_done spec s a row (app_read spec a line) else Err 2
+standing_line spec s Reports line = closing spec s line
+standing_line spec s Over line = Err 9
+
+-- what is read after one more line, or the least rule that the line breaks
+abbrev pub after_line : Parts → SoFar → List ℕ → Result SoFar ℕ
+after_line spec s line = if is_plain line then standing_line spec s s.standing line else Err 1
+
+abbrev pub fault_at : ℕ → ℕ → TraceFault
+fault_at line rule = record { line = line; rule = rule }
+
+-- rule 9: the end line is missing
+abbrev pub at_end : ℕ → SoFar → Standing → Result Flown TraceFault
+at_end k s Over = Ok (record { rows = s.rows; reports = s.reports })
+at_end k s Rows = Err (fault_at k 9)
+at_end k s (Apps a row) = Err (fault_at k 9)
+at_end k s Reports = Err (fault_at k 9)
+
+-- rule 1: the last line lacks its line feed
+abbrev pub at_last : ℕ → SoFar → List ℕ → Result Flown TraceFault
+at_last k s last = if is_filled last then Err (fault_at k 1) else at_end k s s.standing
+
+abbrev pub go_on : ℕ → Result SoFar ℕ → (SoFar → Result Flown TraceFault) → Result Flown TraceFault
+go_on k (Ok s) next = next s
+go_on k (Err rule) next = Err (fault_at k rule)
+
+-- from line k on: the lines and what follows the last line feed
+abbrev pub trace_from : Parts → ℕ → SoFar → List (List ℕ) → Result Flown TraceFault
+trace_from spec k s [] = at_end k s s.standing
+trace_from spec k s (last ∷ []) = at_last k s last
+trace_from spec k s (line ∷ next ∷ lines) =
+    go_on k (after_line spec s line) (λ (t : SoFar). trace_from spec (k + 1) t (next ∷ lines))
+
+-- a file that is too long breaks rule 9 at line 0
+abbrev pub trace_of : Parts → List ℕ → Result Flown TraceFault
+trace_of spec bytes =
+    if nat_lt 33554432 (length bytes) then Err (fault_at 0 9) else trace_from spec 1 before_first (pieces_of 10 bytes)
+
+-- where a line was not taken
+abbrev pub stopped : ℕ → Stop → TraceError
+stopped line (stop.Rule rule) = Fault (fault_at line rule)
+stopped line stop.NoMemory = NoMemory
+
+-- An answer of the reader: it is the reading's, or memory was wanting.
+abbrev pub AnswersLine : Result SoFar ℕ → Result SoFar Stop → Type 0
+AnswersLine reading (Ok s) = reading ≡ Ok s
+AnswersLine reading (Err (stop.Rule rule)) = reading ≡ Err rule
+AnswersLine reading (Err stop.NoMemory) = ⊤
+
+abbrev pub AnswersTrace : Result Flown TraceFault → Result Flown TraceError → Type 0
+AnswersTrace reading (Ok flown) = reading ≡ Ok flown
+AnswersTrace reading (Err (Fault fault)) = reading ≡ Err fault
+AnswersTrace reading (Err NoMemory) = ⊤

@@ -1,0 +1,214 @@
+//! What the line of an application says, or the least rule that it breaks.
+
+ghost use Rattle.std.specs.Prelude.{◌≡◌, ◌<◌, ◌≤◌, IfOk, length};
+ghost use Rattle.trace_text.specs.AppReading.{app_in, app_read, bare_act, bare_line, is_bare_form, is_placed_form, phase_act, phase_line, phase_named, placed_line, ran_line};
+ghost use Rattle.trace_text.specs.Spelling.{signed_from};
+
+use crate::lookups::{find_app, find_mode, find_proc};
+use crate::numbers::{read_eight, read_number};
+use crate::pieces::slash_sides;
+use crate::words::Words;
+use scram_types::{Act, Area, ProcId, Spec};
+
+/// What an application did in a frame, and its area.
+#[derive(Clone, Copy, Debug, PartialEq, Eq)]
+pub struct Done {
+    pub act: Act,
+    pub area: Area,
+}
+
+/// A phase whose frames are counted.
+#[derive(Clone, Copy, Debug, PartialEq, Eq)]
+pub enum Phase {
+    Halting,
+    Preparing,
+    Initialising,
+}
+
+// The numbers of a phase's frames lie below this.
+const PHASE_LIMIT: u64 = 256;
+
+/// What a line says, which is to be that of application `next`.
+pub fn read_app(spec: &Spec, next: u8, line: &[u8]) -> Result<Done, u8>
+    ensures done { result ≡ app_read spec.now next line.now }
+    ensures below { IfOk result (λ done. next < length spec.now.apps) }
+{
+    match Words::of(line) {
+        Some(words) => read_app_words(spec, next, &words),
+        None => Err(3),
+    }
+}
+
+fn read_app_words(spec: &Spec, next: u8, words: &Words<'_>) -> Result<Done, u8>
+    ensures done { result ≡ app_in spec.now next words.now }
+    ensures below { IfOk result (λ done. next < length spec.now.apps) }
+{
+    if is_placed(words) {
+        return read_placed(spec, next, words);
+    }
+    if !is_bare(words) {
+        return Err(3);
+    }
+    match find_bare(words.word(2)) {
+        Some(act) => read_bare(spec, next, words, act),
+        None => Err(3),
+    }
+}
+
+fn is_placed(words: &Words<'_>) -> bool
+    ensures { result ≡ is_placed_form words.now }
+{
+    words.len() == 14 && words.is(5, b":")
+}
+
+fn is_bare(words: &Words<'_>) -> bool
+    ensures { result ≡ is_bare_form words.now }
+{
+    words.len() == 12 && words.is(3, b":")
+}
+
+// The act that a word tells without a processor.
+fn find_bare(tag: &[u8]) -> Option<Act>
+    ensures { result ≡ bare_act tag.now }
+{
+    if tag == b"held".as_slice() {
+        Some(Act::Held)
+    } else if tag == b"off".as_slice() {
+        Some(Act::Off)
+    } else if tag == b"lost".as_slice() {
+        Some(Act::Lost)
+    } else {
+        None
+    }
+}
+
+fn find_phase(tag: &[u8]) -> Option<Phase>
+    ensures { result ≡ phase_named tag.now }
+{
+    if tag == b"halting".as_slice() {
+        Some(Phase::Halting)
+    } else if tag == b"preparing".as_slice() {
+        Some(Phase::Preparing)
+    } else if tag == b"initialising".as_slice() {
+        Some(Phase::Initialising)
+    } else {
+        None
+    }
+}
+
+fn act_of(phase: Phase, k: u8, n: u8, proc: ProcId) -> Act
+    ensures { result ≡ phase_act phase k n proc }
+{
+    match phase {
+        Phase::Halting => Act::Halting(k, n, proc),
+        Phase::Preparing => Act::Preparing(k, n, proc),
+        Phase::Initialising => Act::Initialising(k, n, proc),
+    }
+}
+
+// A line of an act on a processor.
+fn read_placed(spec: &Spec, next: u8, words: &Words<'_>) -> Result<Done, u8>
+    ensures done { result ≡ placed_line spec.now next words.now }
+    ensures below { IfOk result (λ done. next < length spec.now.apps) }
+{
+    if words.is(2, b"ran") {
+        return read_ran(spec, next, words);
+    }
+    let Some(phase) = find_phase(words.word(2)) else {
+        return Err(3);
+    };
+    match slash_sides(words.word(3)) {
+        Some((k, n)) => read_phase(spec, next, words, phase, k, n),
+        None => Err(3),
+    }
+}
+
+fn read_ran(spec: &Spec, next: u8, words: &Words<'_>) -> Result<Done, u8>
+    ensures done { result ≡ ran_line spec.now next words.now }
+    ensures below { IfOk result (λ done. next < length spec.now.apps) }
+{
+    let Some(app) = find_app(spec, words.word(1)) else {
+        return Err(4);
+    };
+    let Some(mode) = find_mode(spec, app, words.word(3)) else {
+        return Err(4);
+    };
+    let Some(proc) = find_proc(spec, words.word(4)) else {
+        return Err(4);
+    };
+    let Some(area) = read_area(words, 6) else {
+        return Err(5);
+    };
+    if app != usize::from(next) {
+        return Err(6);
+    }
+    Ok(Done {
+        act: Act::Ran(mode, proc),
+        area,
+    })
+}
+
+fn read_phase(
+    spec: &Spec,
+    next: u8,
+    words: &Words<'_>,
+    phase: Phase,
+    k: &[u8],
+    n: &[u8],
+) -> Result<Done, u8>
+    ensures done { result ≡ phase_line spec.now next words.now phase (k.now, n.now) }
+    ensures below { IfOk result (λ done. next < length spec.now.apps) }
+{
+    let Some(app) = find_app(spec, words.word(1)) else {
+        return Err(4);
+    };
+    let Some(proc) = find_proc(spec, words.word(4)) else {
+        return Err(4);
+    };
+    let Some(k) = read_number(k, PHASE_LIMIT) else {
+        return Err(5);
+    };
+    let Some(n) = read_number(n, PHASE_LIMIT) else {
+        return Err(5);
+    };
+    let Some(area) = read_area(words, 6) else {
+        return Err(5);
+    };
+    if app != usize::from(next) {
+        return Err(6);
+    }
+    if !(k < n && n <= 16) {
+        return Err(7);
+    }
+    Ok(Done {
+        act: act_of(phase, k as u8, n as u8, proc),
+        area,
+    })
+}
+
+// A line of an act without a processor.
+fn read_bare(spec: &Spec, next: u8, words: &Words<'_>, act: Act) -> Result<Done, u8>
+    ensures done { result ≡ bare_line spec.now next words.now act }
+    ensures below { IfOk result (λ done. next < length spec.now.apps) }
+{
+    let Some(app) = find_app(spec, words.word(1)) else {
+        return Err(4);
+    };
+    let Some(area) = read_area(words, 4) else {
+        return Err(5);
+    };
+    if app != usize::from(next) {
+        return Err(6);
+    }
+    Ok(Done { act, area })
+}
+
+fn read_area(words: &Words<'_>, from: usize) -> Option<Area>
+    requires { from ≤ 6 }
+    ensures { result ≡ signed_from 8 from words.now }
+{
+    match read_eight(words, from) {
+        Some(values) => values.into_inner().ok(),
+        None => None,
+    }
+}

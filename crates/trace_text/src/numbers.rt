@@ -1,0 +1,61 @@
+//! Numbers as a trace spells them.
+
+ghost use Rattle.std.specs.Prelude.{◌≡◌, ◌<◌, ◌≤◌, ◌+◌, IfSome, option_map};
+ghost use Rattle.trace_text.specs.Spelling.{number_of, signed_of, signed_from};
+
+use crate::words::Words;
+use arrayvec::ArrayVec;
+use itoa::Buffer;
+
+/// The number below `limit` that a text spells.
+pub fn read_number(text: &[u8], limit: u64) -> Option<u64>
+    ensures value { result ≡ number_of limit text.now }
+    ensures below { IfSome result (λ n. n < limit) }
+{
+    let Ok(digits) = std::str::from_utf8(text) else {
+        return None;
+    };
+    let Ok(number) = digits.parse::<u64>() else {
+        return None;
+    };
+    if number >= limit {
+        return None;
+    }
+    let mut buffer = Buffer::new();
+    if buffer.format(number).as_bytes() != text {
+        return None;
+    }
+    Some(number)
+}
+
+/// The signed number of 64 bits that a text spells.
+pub fn read_signed(text: &[u8]) -> Option<i64>
+    ensures { result ≡ signed_of text.now }
+{
+    let Ok(digits) = std::str::from_utf8(text) else {
+        return None;
+    };
+    let Ok(number) = digits.parse::<i64>() else {
+        return None;
+    };
+    let mut buffer = Buffer::new();
+    if buffer.format(number).as_bytes() != text {
+        return None;
+    }
+    Some(number)
+}
+
+/// The signed numbers of the eight words from a place on.
+pub fn read_eight(words: &Words<'_>, from: usize) -> Option<ArrayVec<i64, 8>>
+    requires { from ≤ 6 }
+    ensures { option_map (λ v. v.items) result ≡ signed_from 8 from words.now }
+{
+    let mut values = ArrayVec::new();
+    let mut k: usize = 0;
+    while k < 8 {
+        let value = read_signed(words.word(from + k))?;
+        let _fits = values.try_push(value);
+        k += 1;
+    }
+    Some(values)
+}

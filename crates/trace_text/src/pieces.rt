@@ -1,0 +1,69 @@
+//! Bytes in pieces: a file in lines, a line in words, a list in names.
+
+ghost use Rattle.std.specs.Prelude.{◌≡◌, ◌<◌, ◌+◌, ◌==◌, ◌∷◌, [], IfSome, MatchOption, bytes_eq, codes, drop, length, option_map, take};
+ghost use Rattle.std.specs.List.{position};
+ghost use Rattle.trace_text.specs.Pieces.{pieces_of, pieces_behind, sides_of};
+
+// Where the first separator stands.
+fn separator_place(bytes: &[u8], separator: u8) -> Option<usize>
+    ensures { result ≡ position (λ b. b == separator) bytes.now }
+{
+    bytes.iter().position(|byte| *byte == separator)
+}
+
+fn before(bytes: &[u8], at: usize) -> &[u8]
+    requires { at < length bytes.now }
+    ensures { result.now ≡ take at bytes.now }
+{
+    &bytes[..at]
+}
+
+fn behind(bytes: &[u8], at: usize) -> &[u8]
+    requires { at < length bytes.now }
+    ensures value { result.now ≡ drop (at + 1) bytes.now }
+    ensures shorter { length result.now < length bytes.now }
+{
+    &bytes[at + 1..]
+}
+
+/// The bytes before the first separator and those behind it, or `None` where there is no separator.
+#[tactic(auto, using(crate::proofs::Splitting::no_separator, crate::proofs::Splitting::first_piece, crate::proofs::Splitting::place_below))]
+pub fn split_once(bytes: &[u8], separator: u8) -> Option<(&[u8], &[u8])>
+    ensures pieces { MatchOption result (pieces_of separator bytes.now ≡ bytes.now ∷ [])
+        (λ halves. pieces_of separator bytes.now ≡ halves.0.now ∷ pieces_of separator halves.1.now) }
+    ensures shorter { IfSome result (λ halves. length halves.1.now < length bytes.now) }
+{
+    match separator_place(bytes, separator) {
+        Some(at) => Some((before(bytes, at), behind(bytes, at))),
+        None => None,
+    }
+}
+
+/// The first piece, and the bytes behind its separator where there is one.
+pub fn first_piece(bytes: &[u8], separator: u8) -> (&[u8], Option<&[u8]>)
+    ensures pieces { pieces_of separator bytes.now ≡ result.0.now ∷ pieces_behind separator (option_map (λ b. b.now) result.1) }
+    ensures shorter { IfSome result.1 (λ behind. length behind.now < length bytes.now) }
+{
+    match split_once(bytes, separator) {
+        Some((piece, behind)) => (piece, Some(behind)),
+        None => (bytes, None),
+    }
+}
+
+/// Whether a word is the dash, which stands for none.
+pub fn is_dash(word: &[u8]) -> bool
+    ensures { result ≡ bytes_eq word.now (codes "-") }
+{
+    word == b"-".as_slice()
+}
+
+/// The two sides of the one slash of a word, or `None` where it has none or several.
+pub fn slash_sides(word: &[u8]) -> Option<(&[u8], &[u8])>
+    ensures { option_map (λ halves. (halves.0.now, halves.1.now)) result ≡ sides_of word.now }
+{
+    let (left, right) = split_once(word, b'/')?;
+    match split_once(right, b'/') {
+        Some(_) => None,
+        None => Some((left, right)),
+    }
+}

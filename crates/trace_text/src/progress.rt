@@ -1,0 +1,206 @@
+//! What the lines of a trace say so far, and what may stand next.
+
+ghost use Rattle.std.specs.Prelude.{◌≡◌, ◌≤◌, ◌<◌, Ok, length};
+ghost use Rattle.std.specs.List.{list_all};
+ghost use Rattle.trace_text.specs.ReportReading.{report_read};
+ghost use Rattle.trace_text.specs.TraceReading.{AnswersLine, after_app, after_line, before_first, begins, closing, is_plain, is_printable, standing_line, with_app, with_report};
+ghost use Rattle.trace_text.specs.declared.progress.Standing.TheVariants.{Apps, Rows};
+
+use crate::app_reading::{Done, read_app};
+use crate::report_reading::{read_end, read_report};
+use crate::row_reading::read_row;
+use crate::words::first_word;
+use scram_types::{Report, Row, Spec};
+use std::alloc::Global;
+
+/// What may stand next.
+#[derive(Clone, Copy, Debug, PartialEq, Eq)]
+pub enum Standing {
+    /// The first line of a row, a reconfiguration or the end line.
+    Rows,
+    /// The line of the application of this number, in a row that has begun.
+    Apps(u8, Row),
+    /// A reconfiguration or the end line.
+    Reports,
+    /// Nothing: the end line has been read.
+    Over,
+}
+
+/// Why a line was not taken.
+#[derive(Clone, Copy, Debug, PartialEq, Eq)]
+pub enum Stop {
+    /// The least rule that it breaks.
+    Rule(u8),
+    /// No memory was to be had for a row or a report.
+    NoMemory,
+}
+
+/// The rows and reports of the lines so far.
+#[derive(Drop)]
+pub struct Progress {
+    pub rows: Vec<Row>,
+    pub reports: Vec<Report>,
+    pub standing: Standing,
+}
+
+impl std::marker::Model for Progress {
+    ghost use Rattle.std.specs.Prelude.{◌≤◌, length};
+    ghost use Rattle.trace_text.specs.TraceReading.{SoFar, rows_before};
+
+    ghost Value = { SoFar };
+
+    ghost view = { λ p. record { rows = p.rows.items; reports = p.reports.items; standing = p.standing } };
+
+    ghost invariant = { λ p. length p.rows.items ≤ rows_before p.standing };
+}
+
+impl Progress {
+    /// Before the first line.
+    pub fn new(alloc: Global) -> Progress
+        ensures { result ≡ before_first }
+    {
+        Progress {
+            rows: Vec::new(alloc),
+            reports: Vec::new(alloc),
+            standing: Standing::Rows,
+        }
+    }
+
+    /// What is read after one more line, which stands here without its line feed.
+    pub fn read_line(self, spec: &Spec, line: &[u8]) -> Result<Progress, Stop>
+        ensures { AnswersLine (after_line spec.now self line.now) result }
+    {
+        if !is_printable_line(line) {
+            return Err(Stop::Rule(1));
+        }
+        match self.standing {
+            Standing::Rows => self.read_open(spec, line),
+            Standing::Apps(a, row) => self.read_app_line(spec, a, row, line),
+            Standing::Reports => self.read_closing(spec, line),
+            Standing::Over => Err(Stop::Rule(9)),
+        }
+    }
+
+    // A line where a row may begin.
+    fn read_open(self, spec: &Spec, line: &[u8]) -> Result<Progress, Stop>
+        requires { self.standing ≡ Rows }
+        ensures { AnswersLine (standing_line spec.now self Rows line.now) result }
+    {
+        if !is_begun(line, b"frame") {
+            return self.read_closing(spec, line);
+        }
+        match read_row(spec, self.rows.len(), line) {
+            Ok(row) => Ok(Progress {
+                rows: self.rows,
+                reports: self.reports,
+                standing: Standing::Apps(0, row),
+            }),
+            Err(rule) => Err(Stop::Rule(rule)),
+        }
+    }
+
+    // A line where that of application `a` is to stand.
+    fn read_app_line(self, spec: &Spec, a: u8, row: Row, line: &[u8]) -> Result<Progress, Stop>
+        requires { length self.rows < 20000 }
+        ensures { AnswersLine (standing_line spec.now self (Apps a row) line.now) result }
+    {
+        if !is_begun(line, b"app") {
+            return Err(Stop::Rule(2));
+        }
+        match read_app(spec, a, line) {
+            Ok(done) => self.take_done(spec, a, row, &done),
+            Err(rule) => Err(Stop::Rule(rule)),
+        }
+    }
+
+    // Takes what application `a` did into the row, which is whole after its last application.
+    fn take_done(mut self, spec: &Spec, a: u8, row: Row, done: &Done) -> Result<Progress, Stop>
+        requires rows { length self.rows < 20000 }
+        requires app { a < length spec.now.apps }
+        ensures { AnswersLine (Ok (after_app spec.now self a (with_app row a done.now.act done.now.area))) result }
+    {
+        let count = spec.apps.items().len();
+        let row = row_with(row, a, done);
+        if usize::from(a) + 1 < count {
+            self.standing = Standing::Apps(a + 1, row);
+            return Ok(self);
+        }
+        match self.rows.push(row) {
+            Ok(()) => {}
+            Err(_) => return Err(Stop::NoMemory),
+        }
+        self.standing = Standing::Rows;
+        Ok(self)
+    }
+
+    // A line where a report or the end line may stand.
+    fn read_closing(self, spec: &Spec, line: &[u8]) -> Result<Progress, Stop>
+        requires { length self.rows ≤ 20000 }
+        ensures { AnswersLine (closing spec.now self line.now) result }
+    {
+        if is_begun(line, b"reconfiguration") {
+            return self.read_report_line(spec, line);
+        }
+        if !is_begun(line, b"end") {
+            return Err(Stop::Rule(2));
+        }
+        match read_end(self.rows.len(), self.reports.len(), line) {
+            Ok(()) => Ok(Progress {
+                rows: self.rows,
+                reports: self.reports,
+                standing: Standing::Over,
+            }),
+            Err(rule) => Err(Stop::Rule(rule)),
+        }
+    }
+
+    fn read_report_line(mut self, spec: &Spec, line: &[u8]) -> Result<Progress, Stop>
+        requires { length self.rows ≤ 20000 }
+        ensures { AnswersLine (with_report self (report_read spec.now (length self.rows) line.now)) result }
+    {
+        match read_report(spec, self.rows.len() as u32, line) {
+            Ok(report) => match self.reports.push(report) {
+                Ok(()) => {}
+                Err(_) => return Err(Stop::NoMemory),
+            },
+            Err(rule) => return Err(Stop::Rule(rule)),
+        }
+        self.standing = Standing::Reports;
+        Ok(self)
+    }
+}
+
+// The row with what application `a` did.
+fn row_with(row: Row, a: u8, done: &Done) -> Row
+    requires { a < 8 }
+    ensures { result ≡ with_app row a done.now.act done.now.area }
+{
+    let mut row = row;
+    row.acts[usize::from(a)] = done.act;
+    row.areas[usize::from(a)] = done.area;
+    row
+}
+
+fn is_begun(line: &[u8], text: &[u8]) -> bool
+    ensures { result ≡ begins line.now text.now }
+{
+    first_word(line) == text
+}
+
+fn is_printable_line(line: &[u8]) -> bool
+    ensures { result ≡ is_plain line.now }
+{
+    line.len() <= 512 && is_printable_text(line)
+}
+
+fn is_printable_text(text: &[u8]) -> bool
+    ensures { result ≡ list_all is_printable text.now }
+{
+    text.iter().all(|&byte| is_printable_byte(byte))
+}
+
+fn is_printable_byte(byte: u8) -> bool
+    ensures { result ≡ is_printable byte }
+{
+    32 <= byte && byte <= 126
+}

@@ -1,0 +1,163 @@
+//! What the line of a reconfiguration says, and the end line, or the least rule that they break.
+
+ghost use Rattle.std.specs.Prelude.{◌≡◌, ◌<◌, ◌≤◌, ◌^◌, IfOk, length};
+ghost use Rattle.trace_text.specs.ReportReading.{bound_or_none, end_in, end_read, finished_report, is_end_form, is_report_form, report_end, report_in, report_read, same_bound, unfinished_report};
+
+use crate::lookups::find_conf;
+use crate::numbers::read_number;
+use crate::pieces::is_dash;
+use crate::row_reading::FRAME_LIMIT;
+use crate::words::Words;
+use scram_types::{ConfId, Report, Spec};
+
+// Numbers of 32 bits lie below this.
+const COUNT_LIMIT: u64 = 4_294_967_296;
+
+/// The reconfiguration that a line tells of a flight of so many frames.
+pub fn read_report(spec: &Spec, frames: u32, line: &[u8]) -> Result<Report, u8>
+    ensures { result ≡ report_read spec.now frames line.now }
+{
+    match Words::of(line) {
+        Some(words) => read_report_words(spec, frames, &words),
+        None => Err(3),
+    }
+}
+
+fn read_report_words(spec: &Spec, frames: u32, words: &Words<'_>) -> Result<Report, u8>
+    ensures { result ≡ report_in spec.now frames words.now }
+{
+    if !is_report(words) {
+        return Err(3);
+    }
+    match (words.is(3, b"-"), words.is(7, b"-")) {
+        (true, true) => read_unfinished(spec, frames, words),
+        (false, false) => read_finished(spec, words),
+        (true, false) => Err(3),
+        (false, true) => Err(3),
+    }
+}
+
+fn is_report(words: &Words<'_>) -> bool
+    ensures { result ≡ is_report_form words.now }
+{
+    words.len() == 12
+        && words.is(2, b">")
+        && words.is(4, b"begin")
+        && words.is(6, b"end")
+        && words.is(8, b"took")
+        && words.is(10, b"of")
+}
+
+fn read_finished(spec: &Spec, words: &Words<'_>) -> Result<Report, u8>
+    ensures { result ≡ finished_report spec.now words.now }
+{
+    let Some(from) = find_conf(spec, words.word(1)) else {
+        return Err(4);
+    };
+    let Some(to) = find_conf(spec, words.word(3)) else {
+        return Err(4);
+    };
+    let Some(end) = read_number(words.word(7), FRAME_LIMIT) else {
+        return Err(5);
+    };
+    read_report_end(words, from, Some(to), end as u32, spec.bound(from, to))
+}
+
+fn read_unfinished(spec: &Spec, frames: u32, words: &Words<'_>) -> Result<Report, u8>
+    ensures { result ≡ unfinished_report spec.now frames words.now }
+{
+    let Some(from) = find_conf(spec, words.word(1)) else {
+        return Err(4);
+    };
+    read_report_end(words, from, None, frames, spec.greatest_bound(from))
+}
+
+fn read_report_end(
+    words: &Words<'_>,
+    from: ConfId,
+    to: Option<ConfId>,
+    end: u32,
+    given: Option<u32>,
+) -> Result<Report, u8>
+    ensures { result ≡ report_end words.now from to end given }
+{
+    let Some(begin) = read_number(words.word(5), FRAME_LIMIT) else {
+        return Err(5);
+    };
+    let Some(took) = read_number(words.word(9), COUNT_LIMIT) else {
+        return Err(5);
+    };
+    let Some(bound) = read_bound(words.word(11)) else {
+        return Err(5);
+    };
+    let begin = begin as u32;
+    if begin <= end && took as u32 == end - begin && is_same_bound(bound, given) {
+        Ok(Report {
+            from,
+            to,
+            begin,
+            end,
+        })
+    } else {
+        Err(8)
+    }
+}
+
+// The number of frames that a bound is spelled as, or none for `-`.
+fn read_bound(text: &[u8]) -> Option<Option<u32>>
+    ensures { result ≡ bound_or_none text.now }
+{
+    if is_dash(text) {
+        return Some(None);
+    }
+    match read_number(text, COUNT_LIMIT) {
+        Some(frames) => Some(Some(frames as u32)),
+        None => None,
+    }
+}
+
+fn is_same_bound(one: Option<u32>, other: Option<u32>) -> bool
+    ensures { result ≡ same_bound one other }
+{
+    match (one, other) {
+        (None, None) => true,
+        (None, Some(_)) => false,
+        (Some(_), None) => false,
+        (Some(a), Some(b)) => a == b,
+    }
+}
+
+/// Whether a line ends a trace of so many rows and reports.
+pub fn read_end(frames: usize, reports: usize, line: &[u8]) -> Result<(), u8>
+    ensures { result ≡ end_read frames reports line.now }
+{
+    match Words::of(line) {
+        Some(words) => read_end_words(frames, reports, &words),
+        None => Err(3),
+    }
+}
+
+fn read_end_words(frames: usize, reports: usize, words: &Words<'_>) -> Result<(), u8>
+    ensures { result ≡ end_in frames reports words.now }
+{
+    if !is_end(words) {
+        return Err(3);
+    }
+    let Some(counted) = read_number(words.word(2), COUNT_LIMIT) else {
+        return Err(5);
+    };
+    let Some(told) = read_number(words.word(4), COUNT_LIMIT) else {
+        return Err(5);
+    };
+    if counted == frames as u64 && told == reports as u64 {
+        Ok(())
+    } else {
+        Err(8)
+    }
+}
+
+fn is_end(words: &Words<'_>) -> bool
+    ensures { result ≡ is_end_form words.now }
+{
+    words.len() == 5 && words.is(1, b"frames") && words.is(3, b"reconfigurations")
+}

@@ -1,0 +1,185 @@
+//! What the first line of a row says, or the least rule that it breaks.
+
+ghost use Rattle.std.specs.Prelude.{◌≡◌, ◌≤◌, ◌<◌, IfOk};
+ghost use Rattle.trace_text.specs.RowReading.{are_values, env_names, is_env_form, is_moving_form, is_stable_form, moving_row, row_end, row_in, row_read, stable_row, world_at};
+
+use crate::lookups::{find_conf, find_conf_or_none};
+use crate::name_lists::{are_procs, find_values, has_names, read_up};
+use crate::numbers::{read_number, read_signed};
+use crate::pieces::is_dash;
+use crate::words::Words;
+use scram_types::{Act, Env, Factor, KMode, Row, Spec, World};
+
+/// The frame numbers of a trace lie below this.
+pub const FRAME_LIMIT: u64 = 20_000;
+
+/// The row that a line begins, its frame being `next`; its applications are still to come.
+pub fn read_row(spec: &Spec, next: usize, line: &[u8]) -> Result<Row, u8>
+    ensures row { result ≡ row_read spec.now next line.now }
+    ensures below { IfOk result (λ row. next < 20000) }
+{
+    match Words::of(line) {
+        Some(words) => read_row_words(spec, next, &words),
+        None => Err(3),
+    }
+}
+
+fn read_row_words(spec: &Spec, next: usize, words: &Words<'_>) -> Result<Row, u8>
+    ensures row { result ≡ row_in spec.now next words.now }
+    ensures below { IfOk result (λ row. next < 20000) }
+{
+    if is_stable(spec, words) {
+        read_stable(spec, next, words)
+    } else if is_moving(spec, words) {
+        read_moving(spec, next, words)
+    } else {
+        Err(3)
+    }
+}
+
+fn is_stable(spec: &Spec, words: &Words<'_>) -> bool
+    ensures { result ≡ is_stable_form spec.now words.now }
+{
+    words.len() == 13 && words.is(2, b"stable") && is_environment(spec, words, 4)
+}
+
+fn is_moving(spec: &Spec, words: &Words<'_>) -> bool
+    ensures { result ≡ is_moving_form spec.now words.now }
+{
+    words.len() == 16 && words.is(2, b"moving") && is_environment(spec, words, 7)
+}
+
+fn is_environment(spec: &Spec, words: &Words<'_>, at: usize) -> bool
+    requires { at ≤ 7 }
+    ensures { result ≡ is_env_form spec.now words.now at }
+{
+    words.is(at, b"env")
+        && has_values(spec.factors.items(), words.word(at + 1))
+        && words.is(at + 2, b"up")
+        && words.is(at + 4, b"world")
+}
+
+fn has_values(factors: &[Factor], list: &[u8]) -> bool
+    ensures { result ≡ are_values factors.now list.now }
+{
+    if factors.is_empty() {
+        is_dash(list)
+    } else {
+        has_names(list, factors.len())
+    }
+}
+
+fn read_stable(spec: &Spec, next: usize, words: &Words<'_>) -> Result<Row, u8>
+    ensures row { result ≡ stable_row spec.now next words.now }
+    ensures below { IfOk result (λ row. next < 20000) }
+{
+    let Some(conf) = find_conf(spec, words.word(3)) else {
+        return Err(4);
+    };
+    let Some(values) = find_environment(spec, words, 4) else {
+        return Err(4);
+    };
+    read_row_end(spec, next, words, 4, KMode::Stable(conf), values)
+}
+
+fn read_moving(spec: &Spec, next: usize, words: &Words<'_>) -> Result<Row, u8>
+    ensures row { result ≡ moving_row spec.now next words.now }
+    ensures below { IfOk result (λ row. next < 20000) }
+{
+    let Some(from) = find_conf(spec, words.word(3)) else {
+        return Err(4);
+    };
+    let Some(halting) = find_conf_or_none(spec, words.word(4)) else {
+        return Err(4);
+    };
+    let Some(to) = find_conf(spec, words.word(5)) else {
+        return Err(4);
+    };
+    let Some(values) = find_environment(spec, words, 7) else {
+        return Err(4);
+    };
+    let Some(since) = read_number(words.word(6), FRAME_LIMIT) else {
+        return Err(5);
+    };
+    let since = since as u32;
+    read_row_end(
+        spec,
+        next,
+        words,
+        7,
+        KMode::Moving {
+            from,
+            halting,
+            to,
+            since,
+        },
+        values,
+    )
+}
+
+// The values of an environment whose words begin at a place, where it has no unknown name.
+fn find_environment(spec: &Spec, words: &Words<'_>, at: usize) -> Option<[u8; 6]>
+    requires { at ≤ 7 }
+    ensures { result ≡ env_names spec.now words.now at }
+{
+    if !are_procs(spec, words.word(at + 3)) {
+        return None;
+    }
+    find_values(spec, words.word(at + 1))
+}
+
+fn read_row_end(
+    spec: &Spec,
+    next: usize,
+    words: &Words<'_>,
+    at: usize,
+    mode: KMode,
+    values: [u8; 6],
+) -> Result<Row, u8>
+    requires { at ≤ 7 }
+    ensures row { result ≡ row_end spec.now next words.now at mode values }
+    ensures below { IfOk result (λ row. next < 20000) }
+{
+    let Some(frame) = read_number(words.word(1), FRAME_LIMIT) else {
+        return Err(5);
+    };
+    let Some(world) = read_world(words, at + 5) else {
+        return Err(5);
+    };
+    if frame != next as u64 {
+        return Err(6);
+    }
+    let Some(up) = read_up(spec.procs.items(), words.word(at + 3)) else {
+        return Err(7);
+    };
+    let env = Env {
+        up,
+        factors: values,
+    };
+    let acts = [Act::Off; 8];
+    let areas = [[0; 8]; 8];
+    Ok(Row {
+        frame: frame as u32,
+        env,
+        mode,
+        acts,
+        areas,
+        world,
+    })
+}
+
+fn read_world(words: &Words<'_>, at: usize) -> Option<World>
+    requires { at ≤ 12 }
+    ensures { result ≡ world_at words.now at }
+{
+    let alt = read_signed(words.word(at))?;
+    let climb = read_signed(words.word(at + 1))?;
+    let heading = read_signed(words.word(at + 2))?;
+    let bank = read_signed(words.word(at + 3))?;
+    Some(World {
+        alt,
+        climb,
+        heading,
+        bank,
+    })
+}

@@ -1,0 +1,76 @@
+//! A trace read from its bytes.
+
+ghost use Rattle.std.specs.Prelude.{◌≡◌};
+ghost use Rattle.trace_text.specs.TraceReading.{AnswersTrace, at_last, stopped, trace_of};
+
+use crate::pieces::split_once;
+use crate::progress::{Progress, Standing, Stop};
+use scram_types::{Flown, List, Spec};
+use std::alloc::Global;
+
+/// The most bytes that a trace may have.
+pub const MAX_TRACE_BYTES: usize = 33_554_432;
+
+/// The first line, counted from 1, that breaks a rule, with the least rule, 1 to 9, that it breaks. A
+/// trace that is too long breaks rule 9 at line 0.
+#[derive(Clone, Copy, Debug, PartialEq, Eq)]
+pub struct TraceFault {
+    pub line: u32,
+    pub rule: u8,
+}
+
+/// Why bytes were not read as a trace.
+#[derive(Clone, Copy, Debug, PartialEq, Eq)]
+pub enum TraceError {
+    Fault(TraceFault),
+    NoMemory,
+}
+
+/// The rows and reports of which the bytes are the text, or the first line that breaks a rule with the
+/// least rule that it breaks.
+pub fn read_trace(alloc: Global, bytes: &[u8], spec: &Spec) -> Result<Flown, TraceError>
+    ensures { AnswersTrace (trace_of spec.now bytes.now) result }
+{
+    if bytes.len() > MAX_TRACE_BYTES {
+        return Err(TraceError::Fault(TraceFault { line: 0, rule: 9 }));
+    }
+    let mut progress = Progress::new(alloc);
+    let mut line: u32 = 1;
+    let mut rest = bytes;
+    while let Some((text, behind)) = split_once(rest, b'\n') {
+        match progress.read_line(spec, text) {
+            Ok(next) => progress = next,
+            Err(stop) => return Err(stopped_at(line, stop)),
+        }
+        rest = behind;
+        line += 1;
+    }
+    finish(progress, line, rest)
+}
+
+fn stopped_at(line: u32, stop: Stop) -> TraceError
+    ensures { result ≡ stopped line stop }
+{
+    match stop {
+        Stop::Rule(rule) => TraceError::Fault(TraceFault { line, rule }),
+        Stop::NoMemory => TraceError::NoMemory,
+    }
+}
+
+// What was read, where the end line has been and nothing follows the last line feed.
+fn finish(progress: Progress, line: u32, last: &[u8]) -> Result<Flown, TraceError>
+    ensures { AnswersTrace (at_last line progress last.now) result }
+{
+    if !last.is_empty() {
+        return Err(TraceError::Fault(TraceFault { line, rule: 1 }));
+    }
+    match progress.standing {
+        Standing::Over => Ok(Flown {
+            rows: List::of(progress.rows),
+            reports: List::of(progress.reports),
+        }),
+        Standing::Rows => Err(TraceError::Fault(TraceFault { line, rule: 9 })),
+        Standing::Apps(_, _) => Err(TraceError::Fault(TraceFault { line, rule: 9 })),
+        Standing::Reports => Err(TraceError::Fault(TraceFault { line, rule: 9 })),
+    }
+}
