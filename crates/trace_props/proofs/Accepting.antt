@@ -126,7 +126,7 @@ env_of_test spec sound v h =
     past_end (y ∷ ys) zero h = absurd (omega arith)
     past_end (y ∷ ys) (suc x) h = past_end ys x (omega arith)
 
-same_env : (v w : Env) → is_same_env v w ≡ true → v ≡ w
+pub same_env : (v w : Env) → is_same_env v w ≡ true → v ≡ w
 same_env v w h = made v.up w.up v.factors w.factors (eq_true v.up w.up (and_left (v.up == w.up) _ h)) (texts v.factors w.factors (and_right (v.up == w.up) _ h))
   where
     made : (a b : ℕ) (xs ys : List ℕ) → a ≡ b → xs ≡ ys → ◌≡◌ {A = Env} (record { up = a; factors = xs }) (record { up = b; factors = ys })

@@ -47,7 +47,7 @@ same_self v = both (v.up == v.up) (bytes_eq v.factors v.factors) (eq_self v.up) 
     both : (a b : Bool) → a ≡ true → b ≡ true → (a && b) ≡ true
     both a b p q = rw (p, q) refl
 
-not_same : (v w : Env) → not (is_same_env v w) ≡ true → v ≡ w → ⊥
+pub not_same : (v w : Env) → not (is_same_env v w) ≡ true → v ≡ w → ⊥
 not_same v w h e = true_false (not (is_same_env v w)) h (rw (e, same_self w) refl)
 
 some_same : (v w : Env) → Some v ≡ Some w → v ≡ w

@@ -14,6 +14,15 @@ pub mod Flying
 pub mod Lists
 pub mod Reporting
 mod Sizes
+mod Firsts
+mod Words
+mod Differing
+mod Refusing
+mod Ordering
+mod Going
+mod Judged
+mod Examples
+mod Worked
 pub mod Bounding
 pub mod Keeping
 pub mod Ranging

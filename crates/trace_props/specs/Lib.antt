@@ -7,3 +7,5 @@ pub mod Areas
 pub mod Properties
 pub mod Known
 pub mod Missions
+pub mod Breaks
+pub mod Judging

@@ -1,11 +1,19 @@
 //! What reconfigurations keep: for every accepted specification and every script within its assumption,
 //! each reconfiguration that the rows show goes to a target that the table chose meanwhile, ends within
 //! the table's frames, keeps its invariants throughout and meets the target's preconditions at its end,
-//! and begins because the environment changed.
+//! and begins because the environment changed. A finished trace is judged by the same properties.
 #![tactic(auto)]
 
+pub mod breaks;
+mod causes;
+mod comparing;
 pub mod flights;
+pub mod judging;
+mod kept;
 pub mod laws;
 pub mod missions;
+mod targets;
 
+pub use breaks::{Broken, Property};
 pub use flights::one_thread;
+pub use judging::props;

@@ -1,0 +1,238 @@
+-- Worked examples: a mission that meets the theorem's premises, and traces that break each property.
+use Rattle.std.proofs.Common.{◌≡◌, refl, ℕ, zero, suc, List, [], ◌∷◌, pos, arith, rules, ℤ, subst, ap}
+use mathlib.Core.Logic.{inl, inr}
+use Rattle.std.specs.Prelude.{Option, Some, None, replicate, slice_get}
+use Rattle.std.proofs.lemmas.Option.{same_Some}
+use Rattle.scram_types.specs.declared.ids.ConfId.{ConfId}
+use Rattle.scram_types.specs.declared.ids.ProcId.{ProcId}
+use Rattle.scram_types.specs.declared.flights.Env.{Env}
+use Rattle.scram_types.specs.declared.flights.Report.{Report}
+use Rattle.scram_types.specs.declared.flights.Row.{Row}
+use Rattle.scram_types.specs.declared.orders.Act.{Act}
+use Rattle.scram_types.specs.declared.orders.Act.TheVariants as act
+use Rattle.scram_types.specs.declared.orders.KMode.TheVariants as kmode
+use Rattle.scram_types.specs.declared.scripts.Change.{Change}
+use Rattle.scram_types.specs.declared.scripts.HaltAt.{HaltAt}
+use Rattle.scram_types.specs.declared.scripts.RestartAt.{RestartAt}
+use Rattle.scram_types.specs.declared.specification.AppSpec.{AppSpec}
+use Rattle.scram_types.specs.declared.specification.Bound.{Bound}
+use Rattle.scram_types.specs.declared.specification.Choice.{Choice}
+use Rattle.scram_types.specs.declared.specification.Conf.{Conf}
+use Rattle.scram_types.specs.declared.specification.Factor.{Factor}
+use Rattle.scram_types.specs.declared.specification.Invariant.{Invariant}
+use Rattle.scram_types.specs.declared.specification.ModeSpec.{ModeSpec}
+use Rattle.scram_types.specs.declared.specification.Policy.{Policy}
+use Rattle.scram_types.specs.declared.specification.Policy.TheVariants.{Retarget, Settle}
+use Rattle.scram_types.specs.declared.specification.Precondition.{Precondition}
+use Rattle.scram_types.specs.declared.specification.Proc.{Proc}
+use Rattle.scram_types.specs.Numbers.{word}
+use Rattle.scram_types.specs.Scripts.{ScriptParts}
+use Rattle.scram_types.specs.Specification.{Parts}
+use Rattle.frame_model.specs.Runs.{conf_of}
+use Rattle.trace_props.specs.declared.breaks.Broken.{Broken}
+use Rattle.trace_props.specs.declared.breaks.Property.{Property}
+use Rattle.trace_props.specs.declared.breaks.Property.TheVariants.{Sp1, Sp2, Sp3, Sp4, Sp5}
+use Rattle.trace_props.specs.Judging.{first_break}
+
+abbrev pub mode : ℕ → ModeSpec
+mode m = record { mode = record { 0 = m }; load = 20; halt = 1; prepare = 1; init = 1 }
+
+-- a power monitor with two modes, and a configuration for each
+abbrev pub monitor : AppSpec
+monitor = record { name = 1 ∷ []; kind = record { 0 = 2 }; needs = []; modes = mode 1 ∷ mode 2 ∷ []; rank = 0 }
+
+abbrev pub placed : ℕ → Conf
+placed m = record { name = m ∷ []; places = Some (record { mode = record { 0 = m }; proc = record { 0 = 0 } }) ∷ replicate 7 None }
+
+abbrev pub bound : ℕ → ℕ → ℕ → Bound
+bound i j frames = record { from = conf_of i; to = conf_of j; frames = frames }
+
+-- configuration 0 while the factor has its first value, then configuration 1
+abbrev pub to_first : Choice
+to_first = record { from = None; wants = record { factor = record { 0 = 0 }; value = 0 } ∷ []; up = 0; to = conf_of 0 }
+
+abbrev pub to_second : Choice
+to_second = record { from = None; wants = []; up = 0; to = conf_of 1 }
+
+abbrev spec_of : List Bound → Policy → List Invariant → List Precondition → Parts
+spec_of bounds policy invariants preconditions = record {
+  procs = record { name = []; capacity = 100 } ∷ [];
+  apps = monitor ∷ [];
+  confs = placed 1 ∷ placed 2 ∷ [];
+  factors = record { name = []; values = (1 ∷ []) ∷ (2 ∷ []) ∷ [] } ∷ [];
+  rules = to_first ∷ to_second ∷ [];
+  bounds = bounds;
+  start = conf_of 0;
+  goal = record { altitude = pos 0; heading = pos 0 };
+  invariants = invariants;
+  preconditions = preconditions;
+  policy = policy;
+  halts = 0;
+  changes = 1;
+  window = 40;
+}
+
+abbrev pub spec : Parts
+spec = spec_of (bound 0 0 8 ∷ bound 0 1 8 ∷ bound 1 0 8 ∷ bound 1 1 8 ∷ []) Retarget [] []
+
+-- rows in the order of their frames: the environment, what the monitor did, and its first two words
+abbrev env : ℕ → ℕ → Env
+env up value = record { up = up; factors = value ∷ replicate 5 0 }
+
+abbrev row : Env → Act → ℕ → ℕ → Row
+row v done status charge = record {
+  frame = 0;
+  env = v;
+  mode = kmode.Stable (conf_of 0);
+  acts = done ∷ replicate 7 act.Off;
+  areas = (pos status ∷ pos charge ∷ replicate 6 (pos 0)) ∷ replicate 7 (replicate 8 (pos 0));
+  world = record { alt = pos 0; climb = pos 0; heading = pos 0; bank = pos 0 };
+}
+
+abbrev ran : ℕ → Act
+ran m = act.Ran (record { 0 = m }) (record { 0 = 0 })
+
+abbrev before : Env
+before = env 1 0
+
+abbrev after : Env
+after = env 1 1
+
+-- a quiet change of the environment: another processor set, by which the table does not choose
+abbrev other : Env
+other = env 0 0
+
+abbrev pub moved : ℕ → ℕ → ℕ → Report
+moved to begin end = record { from = conf_of 0; to = Some (conf_of to); begin = begin; end = end }
+
+abbrev cut_off : ℕ → ℕ → Report
+cut_off begin end = record { from = conf_of 0; to = None; begin = begin; end = end }
+
+abbrev broken : Property → ℕ → Option Broken
+broken property frame = Some (record { property = property; frame = frame })
+
+-- left in frame 2, in which the environment changes, and run in frame 4
+abbrev good : List Row
+good = row before (ran 1) 1 10 ∷ row before (ran 1) 1 10 ∷ row after act.Held 1 10 ∷ row after act.Held 4 10 ∷ row after (ran 2) 1 10 ∷ []
+
+holds : first_break spec good (moved 1 2 4 ∷ []) ≡ None
+holds = refl
+
+holds_of_no_rows : first_break spec [] [] ≡ None
+holds_of_no_rows = refl
+
+-- SP1
+not_told : first_break spec good [] ≡ broken Sp1 2
+not_told = refl
+
+told_earlier : first_break spec good (moved 1 1 4 ∷ []) ≡ broken Sp1 1
+told_earlier = refl
+
+told_later : first_break spec good (moved 1 3 4 ∷ []) ≡ broken Sp1 2
+told_later = refl
+
+told_otherwise : first_break spec good (moved 0 2 4 ∷ []) ≡ broken Sp1 2
+told_otherwise = refl
+
+told_beyond : first_break spec good (moved 1 2 4 ∷ moved 1 9 12 ∷ []) ≡ broken Sp1 9
+told_beyond = refl
+
+-- SP2, in the end
+abbrev unchosen : List Row
+unchosen = row before (ran 1) 1 10 ∷ row before (ran 1) 1 10 ∷ row other act.Held 1 10 ∷ row other act.Held 4 10 ∷ row other (ran 2) 1 10 ∷ []
+
+not_chosen : first_break spec unchosen (moved 1 2 4 ∷ []) ≡ broken Sp2 4
+not_chosen = refl
+
+-- SP3, in the end or in the last row
+late : first_break (spec_of (bound 0 1 1 ∷ []) Retarget [] []) good (moved 1 2 4 ∷ []) ≡ broken Sp3 4
+late = refl
+
+just_in_time : first_break (spec_of (bound 0 1 2 ∷ []) Retarget [] []) good (moved 1 2 4 ∷ []) ≡ None
+just_in_time = refl
+
+no_bound : first_break (spec_of (bound 1 0 8 ∷ []) Retarget [] []) good (moved 1 2 4 ∷ []) ≡ broken Sp3 4
+no_bound = refl
+
+abbrev unfinished : List Row
+unfinished = row before (ran 1) 1 10 ∷ row before (ran 1) 1 10 ∷ row after act.Held 1 10 ∷ row after act.Held 4 10 ∷ []
+
+cut_late : first_break (spec_of (bound 0 1 1 ∷ bound 1 0 8 ∷ []) Retarget [] []) unfinished (cut_off 2 4 ∷ []) ≡ broken Sp3 3
+cut_late = refl
+
+cut_in_time : first_break (spec_of (bound 0 1 1 ∷ bound 0 0 2 ∷ []) Retarget [] []) unfinished (cut_off 2 4 ∷ []) ≡ None
+cut_in_time = refl
+
+-- SP4, in the row
+abbrev charged : Option ConfId → ℕ → Invariant
+charged from greatest = record { from = from; app = record { 0 = 0 }; variable = 1; least = pos 0; greatest = pos greatest }
+
+abbrev begun : ℕ → Precondition
+begun status = record { conf = conf_of 1; app = record { 0 = 0 }; variable = 0; least = pos status; greatest = pos status }
+
+abbrev spec_with : List Invariant → List Precondition → Parts
+spec_with invariants preconditions = spec_of (bound 0 1 8 ∷ []) Retarget invariants preconditions
+
+abbrev discharged : List Row
+discharged = row before (ran 1) 1 10 ∷ row before (ran 1) 1 99 ∷ row after act.Held 1 10 ∷ row after act.Held 4 50 ∷ row after (ran 2) 1 60 ∷ []
+
+unkept : first_break (spec_with (charged (Some (conf_of 0)) 40 ∷ []) []) discharged (moved 1 2 4 ∷ []) ≡ broken Sp4 3
+unfolding word
+unkept = refl
+
+unkept_first : first_break (spec_with (charged None 55 ∷ charged None 40 ∷ []) []) discharged (moved 1 2 4 ∷ []) ≡ broken Sp4 3
+unfolding word
+unkept_first = refl
+
+of_another_source : first_break (spec_with (charged (Some (conf_of 1)) 40 ∷ []) []) discharged (moved 1 2 4 ∷ []) ≡ None
+unfolding word
+of_another_source = refl
+
+met : first_break (spec_with [] (begun 4 ∷ [])) good (moved 1 2 4 ∷ []) ≡ None
+unfolding word
+met = refl
+
+unmet : first_break (spec_with [] (begun 1 ∷ [])) good (moved 1 2 4 ∷ []) ≡ broken Sp4 3
+unfolding word
+unmet = refl
+
+-- SP5, in the begin
+abbrev causeless : List Row
+causeless = row after (ran 1) 1 10 ∷ row after (ran 1) 1 10 ∷ row after act.Held 1 10 ∷ row after act.Held 4 10 ∷ row after (ran 2) 1 10 ∷ []
+
+no_cause : first_break spec causeless (moved 1 2 4 ∷ []) ≡ broken Sp5 2
+no_cause = refl
+
+-- frame 0 is compared with the environment in which a flight opens, and a change in the next row will do
+at_once : first_break spec (row before act.Held 1 10 ∷ row before act.Held 1 10 ∷ []) (cut_off 0 2 ∷ []) ≡ broken Sp5 0
+at_once = refl
+
+caused_at_once : first_break spec (row after act.Held 1 10 ∷ row after act.Held 1 10 ∷ []) (cut_off 0 2 ∷ []) ≡ None
+caused_at_once = refl
+
+caused_next : first_break spec (row before act.Lost 1 10 ∷ row after act.Held 1 10 ∷ []) (cut_off 0 2 ∷ []) ≡ None
+caused_next = refl
+
+not_asked : first_break spec (row before (ran 1) 1 10 ∷ row before act.Lost 1 10 ∷ []) (cut_off 1 2 ∷ []) ≡ None
+not_asked = refl
+
+-- a reconfiguration that begins as another one ends, which saw a change; settled targets may be left so
+abbrev followed : List Row
+followed =
+    row before (ran 1) 1 10 ∷ row after act.Held 1 10 ∷ row before act.Held 4 10 ∷ row before (ran 2) 1 10 ∷ row before act.Held 1 10 ∷ row before act.Held 4 10 ∷ row before (ran 1) 1 10 ∷ []
+
+abbrev back : Report
+back = record { from = conf_of 1; to = Some (conf_of 0); begin = 4; end = 6 }
+
+settled : first_break (spec_of (bound 0 1 8 ∷ bound 1 0 8 ∷ []) Settle [] []) followed (moved 1 1 3 ∷ back ∷ []) ≡ None
+settled = refl
+
+chosen_anew : first_break (spec_of (bound 0 1 8 ∷ bound 1 0 8 ∷ []) Retarget [] []) followed (moved 1 1 3 ∷ back ∷ []) ≡ broken Sp5 4
+chosen_anew = refl
+
+-- the least frame comes first, and in one frame the least number
+earlier_frame : first_break spec (row before (ran 1) 1 10 ∷ row before act.Held 1 10 ∷ row before act.Held 4 10 ∷ row before (ran 2) 1 10 ∷ []) (moved 1 1 3 ∷ []) ≡ broken Sp5 1
+earlier_frame = refl
+
+lesser_number : first_break (spec_of [] Retarget [] []) unchosen (moved 1 2 4 ∷ []) ≡ broken Sp2 4
+lesser_number = refl

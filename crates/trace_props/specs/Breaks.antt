@@ -1,0 +1,105 @@
+-- Where the five properties are broken.
+use Rattle.std.specs.Prelude.{◌≡◌, ◌≢◌, ◌⊎◌, ◌↔◌, ℕ, suc, ◌<◌, ◌≤◌, ◌-◌, min, true, List, slice_get, Option, Some, None}
+use Rattle.scram_types.specs.declared.ids.ConfId.{ConfId}
+use Rattle.scram_types.specs.declared.flights.Report.{Report}
+use Rattle.scram_types.specs.declared.flights.Row.{Row}
+use Rattle.scram_types.specs.declared.specification.Invariant.{Invariant}
+use Rattle.scram_types.specs.declared.specification.Precondition.{Precondition}
+use Rattle.scram_types.specs.Specification.{Parts}
+use Rattle.choice_table.specs.Choices.{has_source}
+use Rattle.frame_model.specs.Readings.{reports}
+use Rattle.trace_props.specs.declared.breaks.Property.{Property}
+use Rattle.trace_props.specs.declared.breaks.Property.TheVariants.{Sp1, Sp2, Sp3, Sp4, Sp5}
+use Rattle.trace_props.specs.Properties.{HoldsAll, InvariantHolds, KeepsSp2, KeepsSp3, KeepsSp5, PreconditionHolds}
+
+abbrev pub number_of : Property → ℕ
+number_of Sp1 = 1
+number_of Sp2 = 2
+number_of Sp3 = 3
+number_of Sp4 = 4
+number_of Sp5 = 5
+
+abbrev pub Fails : Type 0 → Type 0
+Fails Fact = Fact → ⊥
+
+-- The lesser begin of two reconfigurations, or the begin of the one that is there.
+abbrev pub lesser_begin : Option Report → Option Report → Option ℕ
+lesser_begin None None = None
+lesser_begin (Some one) None = Some one.begin
+lesser_begin None (Some other) = Some other.begin
+lesser_begin (Some one) (Some other) = Some (min one.begin other.begin)
+
+-- SP1 is broken at the first place where what is told and what is read off the rows differ, in the lesser
+-- begin of the two; where one list has ended there, in the begin of the other.
+pub record BreaksSp1 (told read : List Report) (frame : ℕ) : Type 0 where
+  pub place : ℕ
+  pub alike : (k : ℕ) → k < place → slice_get told k ≡ slice_get read k
+  pub differ : slice_get told place ≢ slice_get read place
+  pub began : lesser_begin (slice_get told place) (slice_get read place) ≡ Some frame
+
+-- The last frame of a reconfiguration: its end, or the last row of one that is unfinished.
+abbrev pub last_frame_to : Option ConfId → ℕ → ℕ
+last_frame_to None end = end - 1
+last_frame_to (Some j) end = end
+
+abbrev pub last_frame : Report → ℕ
+last_frame r = last_frame_to r.to r.end
+
+-- SP4 is broken in each row in which an invariant for the source does not hold, and in the row before the
+-- end if it does not meet a precondition of the target.
+pub record BreaksInvariant (spec : Parts) (rows : List Row) (r : Report) (frame : ℕ) : Type 0 where
+  pub place : ℕ
+  pub inv : Invariant
+  pub there : slice_get spec.invariants place ≡ Some inv
+  pub speaks : has_source inv.from r.from ≡ true
+  pub from : r.begin ≤ frame
+  pub up_to : frame ≤ r.end
+  pub row : Row
+  pub stands : slice_get rows frame ≡ Some row
+  pub broken : Fails (InvariantHolds inv row)
+
+pub record BreaksPrecondition (spec : Parts) (rows : List Row) (r : Report) (frame : ℕ) : Type 0 where
+  pub place : ℕ
+  pub pre : Precondition
+  pub there : slice_get spec.preconditions place ≡ Some pre
+  pub aimed : r.to ≡ Some pre.conf
+  pub before_end : suc frame ≡ r.end
+  pub row : Row
+  pub stands : slice_get rows frame ≡ Some row
+  pub broken : Fails (PreconditionHolds pre row)
+
+-- A reconfiguration that is read off the rows breaks a property in a frame: SP2 in its end, SP3 in its
+-- last frame, SP4 in the row that breaks it, SP5 in its begin. SP1 speaks of no single one.
+abbrev pub BreaksIn : Parts → List Row → Report → Property → ℕ → Type 0
+BreaksIn spec rows r Sp1 frame = ⊥
+BreaksIn spec rows r Sp2 frame = Fails (KeepsSp2 spec rows r) × (frame ≡ r.end)
+BreaksIn spec rows r Sp3 frame = Fails (KeepsSp3 spec r) × (frame ≡ last_frame r)
+BreaksIn spec rows r Sp4 frame = BreaksInvariant spec rows r frame ⊎ BreaksPrecondition spec rows r frame
+BreaksIn spec rows r Sp5 frame = Fails (KeepsSp5 spec rows r) × (frame ≡ r.begin)
+
+pub record BreaksSomewhere (spec : Parts) (rows : List Row) (property : Property) (frame : ℕ) : Type 0 where
+  pub place : ℕ
+  pub reconfiguration : Report
+  pub there : slice_get (reports spec rows) place ≡ Some reconfiguration
+  pub broken : BreaksIn spec rows reconfiguration property frame
+
+-- A property is broken in a frame.
+abbrev pub BreaksAt : Parts → List Row → List Report → Property → ℕ → Type 0
+BreaksAt spec rows told Sp1 frame = BreaksSp1 told (reports spec rows) frame
+BreaksAt spec rows told Sp2 frame = BreaksSomewhere spec rows Sp2 frame
+BreaksAt spec rows told Sp3 frame = BreaksSomewhere spec rows Sp3 frame
+BreaksAt spec rows told Sp4 frame = BreaksSomewhere spec rows Sp4 frame
+BreaksAt spec rows told Sp5 frame = BreaksSomewhere spec rows Sp5 frame
+
+-- A break in an earlier frame comes first, and of the breaks in one frame that of the lesser number.
+abbrev pub ComesBefore : Property → ℕ → Property → ℕ → Type 0
+ComesBefore one f other g = (f < g) ⊎ ((f ≡ g) × (number_of one ≤ number_of other))
+
+pub record IsFirstBreak (spec : Parts) (rows : List Row) (told : List Report) (property : Property) (frame : ℕ) : Type 0 where
+  pub broken : BreaksAt spec rows told property frame
+  pub first : (other : Property) (g : ℕ) → BreaksAt spec rows told other g → ComesBefore property frame other g
+
+-- All five properties hold exactly where none is broken in any frame.
+abbrev pub HoldsWhereUnbroken : Type 0
+HoldsWhereUnbroken = (spec : Parts) (rows : List Row) (told : List Report)
+    → HoldsAll spec rows told ↔ ((property : Property) (frame : ℕ) → Fails (BreaksAt spec rows told property frame))

@@ -1,0 +1,193 @@
+-- How the first break is found.
+use Rattle.std.specs.Prelude.{ℕ, zero, suc, ◌+◌, ◌-◌, ℤ, int_le, min, Bool, true, false, not, ◌&&◌, ◌||◌, ◌==◌, nat_le, nat_lt, List, [], ◌∷◌, length, slice_get, Option, Some, None, is_some, option_and_then, if◌then◌else◌}
+use Rattle.std.specs.Option.{option_map_or}
+use Rattle.std.specs.List.{list_any}
+use Rattle.scram_types.specs.declared.ids.ConfId.{ConfId}
+use Rattle.scram_types.specs.declared.flights.Env.{Env}
+use Rattle.scram_types.specs.declared.flights.Report.{Report}
+use Rattle.scram_types.specs.declared.flights.Row.{Row}
+use Rattle.scram_types.specs.declared.specification.Invariant.{Invariant}
+use Rattle.scram_types.specs.declared.specification.Policy.{Policy}
+use Rattle.scram_types.specs.declared.specification.Policy.TheVariants.{Retarget, Settle}
+use Rattle.scram_types.specs.declared.specification.Precondition.{Precondition}
+use Rattle.scram_types.specs.Numbers.{word}
+use Rattle.scram_types.specs.Specification.{Parts}
+use Rattle.choice_table.specs.Choices.{choose, has_source}
+use Rattle.fault_script.specs.Assumption.{is_same_env}
+use Rattle.frame_model.specs.Readings.{reports}
+use Rattle.frame_model.specs.Runs.{least_from}
+use Rattle.frame_model.specs.States.{area_at}
+use Rattle.trace_props.specs.declared.breaks.Broken.{Broken}
+use Rattle.trace_props.specs.declared.breaks.Property.{Property}
+use Rattle.trace_props.specs.declared.breaks.Property.TheVariants.{Sp1, Sp2, Sp3, Sp4, Sp5}
+use Rattle.trace_props.specs.declared.comparing.Agreement.{Agreement}
+use Rattle.trace_props.specs.declared.comparing.Agreement.TheVariants.{Alike, Apart}
+use Rattle.trace_props.specs.declared.judging.Judgement.{Judgement}
+use Rattle.trace_props.specs.Breaks.{last_frame, number_of}
+use Rattle.trace_props.specs.Properties.{bound_on, env_before, env_in}
+
+abbrev pub comes_before : Broken → Broken → Bool
+comes_before one other = nat_lt one.frame other.frame || (one.frame == other.frame && nat_lt (number_of one.property) (number_of other.property))
+
+abbrev pub earlier : Option Broken → Option Broken → Option Broken
+earlier None other = other
+earlier (Some one) None = Some one
+earlier (Some one) (Some other) = if comes_before other one then Some other else Some one
+
+abbrev pub broken_at : Property → Option ℕ → Option Broken
+broken_at property None = None
+broken_at property (Some frame) = Some (record { property = property; frame = frame })
+
+-- SP1: how far what is told agrees with what is read.
+abbrev pub is_same_target : Option ConfId → Option ConfId → Bool
+is_same_target None None = true
+is_same_target None (Some other) = false
+is_same_target (Some one) None = false
+is_same_target (Some one) (Some other) = one.0 == other.0
+
+abbrev pub is_same_report : Report → Report → Bool
+is_same_report one other = one.from.0 == other.from.0 && is_same_target one.to other.to && one.begin == other.begin && one.end == other.end
+
+abbrev pub compare_next : ℕ → Option Report → Report → Agreement
+compare_next place None read = Apart read.begin
+compare_next place (Some one) read = if is_same_report one read then Alike (place + 1) else Apart (min one.begin read.begin)
+
+abbrev pub compare : List Report → Agreement → Report → Agreement
+compare told (Alike place) read = compare_next place (slice_get told place) read
+compare told (Apart frame) read = Apart frame
+
+abbrev pub begin_of : Option Report → Option ℕ
+begin_of None = None
+begin_of (Some one) = Some one.begin
+
+abbrev pub difference : List Report → Agreement → Option ℕ
+difference told (Alike place) = begin_of (slice_get told place)
+difference told (Apart frame) = Some frame
+
+-- SP2: the table chooses a configuration in the environment of row f.
+abbrev pub chooses_in : Parts → ConfId → ConfId → Option Row → Bool
+chooses_in spec from to None = false
+chooses_in spec from to (Some row) = (choose spec from row.env).0 == to.0
+
+abbrev pub chooses : Parts → List Row → ConfId → ConfId → ℕ → Bool
+chooses spec rows from to f = chooses_in spec from to (slice_get rows f)
+
+abbrev pub unless_chosen : Option ℕ → ℕ → Option ℕ
+unless_chosen None end = Some end
+unless_chosen (Some f) end = None
+
+abbrev pub unchosen_to : Parts → List Row → Report → Option ConfId → Option ℕ
+unchosen_to spec rows r None = None
+unchosen_to spec rows r (Some to) = unless_chosen (least_from (chooses spec rows r.from to) r.begin (r.end + 1 - r.begin)) r.end
+
+abbrev pub unchosen_at : Parts → List Row → Report → Option ℕ
+unchosen_at spec rows r = unchosen_to spec rows r r.to
+
+-- SP3
+abbrev pub late_by : Report → Option ℕ → Option ℕ
+late_by r None = Some (last_frame r)
+late_by r (Some bound) = if nat_le (r.end - r.begin) bound then None else Some (last_frame r)
+
+abbrev pub late_at : Parts → Report → Option ℕ
+late_at spec r = late_by r (bound_on spec r.from r.to)
+
+-- SP4
+abbrev pub lies_in : ℤ → ℤ → ℤ → Bool
+lies_in low high x = int_le low x && int_le x high
+
+abbrev pub is_broken : Row → Invariant → Bool
+is_broken row inv = not (lies_in inv.least inv.greatest (word (area_at row.areas inv.app.0) inv.variable))
+
+abbrev pub breaks_in : Invariant → Option Row → Bool
+breaks_in inv None = false
+breaks_in inv (Some row) = is_broken row inv
+
+abbrev pub breaks : List Row → Invariant → ℕ → Bool
+breaks rows inv f = breaks_in inv (slice_get rows f)
+
+abbrev pub unkept_from : List Row → Report → Invariant → Option ℕ
+unkept_from rows r inv = if has_source inv.from r.from then least_from (breaks rows inv) r.begin (r.end + 1 - r.begin) else None
+
+abbrev pub lesser : Option ℕ → Option ℕ → Option ℕ
+lesser None other = other
+lesser (Some one) None = Some one
+lesser (Some one) (Some other) = Some (min one other)
+
+abbrev pub least_unkept : List Row → Report → Option ℕ → List Invariant → Option ℕ
+least_unkept rows r least [] = least
+least_unkept rows r least (inv ∷ invs) = least_unkept rows r (lesser least (unkept_from rows r inv)) invs
+
+abbrev pub is_target : Option ConfId → ConfId → Bool
+is_target None conf = false
+is_target (Some to) conf = to.0 == conf.0
+
+abbrev pub is_unmet : Row → Precondition → Bool
+is_unmet row pre = not (lies_in pre.least pre.greatest (word (area_at row.areas pre.app.0) pre.variable))
+
+abbrev pub breaks_aimed : Row → Option ConfId → Precondition → Bool
+breaks_aimed row to pre = is_target to pre.conf && is_unmet row pre
+
+abbrev pub unmet_in : Parts → Row → Option ConfId → Bool
+unmet_in spec row to = list_any (breaks_aimed row to) spec.preconditions
+
+abbrev pub unmet_before : Parts → List Row → Option ConfId → ℕ → Option ℕ
+unmet_before spec rows to zero = None
+unmet_before spec rows to (suc f) = option_and_then (λ (row : Row). if unmet_in spec row to then Some f else None) (slice_get rows f)
+
+abbrev pub unmet_at : Parts → List Row → Report → Option ℕ
+unmet_at spec rows r = unmet_before spec rows r.to r.end
+
+abbrev pub unkept_at : Parts → List Row → Report → Option ℕ
+unkept_at spec rows r = least_unkept rows r (unmet_at spec rows r) spec.invariants
+
+-- SP5
+abbrev pub is_other : Option Env → Option Env → Bool
+is_other None before = false
+is_other (Some env) None = true
+is_other (Some env) (Some before) = not (is_same_env env before)
+
+abbrev pub changes_in : Parts → List Row → ℕ → Bool
+changes_in spec rows f = is_other (env_in rows f) (env_before spec rows f)
+
+abbrev pub settles : Policy → Bool
+settles Retarget = false
+settles Settle = true
+
+abbrev pub follows : Parts → List Row → Option Report → Report → Bool
+follows spec rows None r = false
+follows spec rows (Some before) r =
+    settles spec.policy && before.end + 1 == r.begin && is_some (least_from (changes_in spec rows) (before.begin + 1) (before.end + 1 - (before.begin + 1)))
+
+abbrev pub has_cause : Parts → List Row → Option Report → Report → Bool
+has_cause spec rows before r = changes_in spec rows r.begin || changes_in spec rows (r.begin + 1) || follows spec rows before r
+
+abbrev pub causeless_at : Parts → List Row → Option Report → Report → Option ℕ
+causeless_at spec rows before r = if nat_le (length rows) (r.begin + 1) || has_cause spec rows before r then None else Some r.begin
+
+-- The first break by a reconfiguration, where `before` was read just before it.
+abbrev pub broken_in : Parts → List Row → Option Report → Report → Option Broken
+broken_in spec rows before r = earlier
+    (earlier (broken_at Sp2 (unchosen_at spec rows r)) (broken_at Sp3 (late_at spec r)))
+    (earlier (broken_at Sp4 (unkept_at spec rows r)) (broken_at Sp5 (causeless_at spec rows before r)))
+
+-- The reconfigurations are judged in their order.
+abbrev pub judge : Parts → List Row → List Report → Judgement → Option Report → Judgement
+judge spec rows told so_far None = so_far
+judge spec rows told so_far (Some r) = record {
+  agreement = compare told so_far.agreement r;
+  broken = earlier so_far.broken (broken_in spec rows so_far.before r);
+  before = Some r;
+}
+
+abbrev pub judge_all : Parts → List Row → List Report → Judgement → List Report → Judgement
+judge_all spec rows told so_far [] = so_far
+judge_all spec rows told so_far (r ∷ read) = judge_all spec rows told (judge spec rows told so_far (Some r)) read
+
+abbrev pub opening : Judgement
+opening = record { agreement = Alike 0; broken = None; before = None }
+
+abbrev pub conclusion : List Report → Judgement → Option Broken
+conclusion told judgement = earlier (broken_at Sp1 (difference told judgement.agreement)) judgement.broken
+
+abbrev pub first_break : Parts → List Row → List Report → Option Broken
+first_break spec rows told = conclusion told (judge_all spec rows told opening (reports spec rows))

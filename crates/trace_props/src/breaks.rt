@@ -1,0 +1,79 @@
+//! Which property is broken, and where.
+
+ghost use Rattle.std.specs.Prelude.{◌≡◌};
+ghost use Rattle.trace_props.specs.Breaks.{number_of};
+ghost use Rattle.trace_props.specs.Judging.{broken_at, comes_before, earlier};
+
+/// One of the five properties of reconfigurations.
+#[derive(Clone, Copy, Debug, PartialEq, Eq)]
+pub enum Property {
+    /// What is reported is exactly what is read off the rows.
+    Sp1,
+    /// The target was chosen in the environment of some row of the reconfiguration.
+    Sp2,
+    /// A bound is given, and the reconfiguration took no longer.
+    Sp3,
+    /// The invariants for the source hold throughout, the target's preconditions before the end.
+    Sp4,
+    /// The reconfiguration begins because the environment changed.
+    Sp5,
+}
+
+impl Property {
+    ghost use Rattle.std.specs.Prelude.{◌≡◌};
+    ghost use Rattle.trace_props.specs.Breaks.{number_of};
+
+    /// The property's number, 1 to 5.
+    pub fn number(self) -> u8
+        ensures { result ≡ number_of self }
+    {
+        match self {
+            Property::Sp1 => 1,
+            Property::Sp2 => 2,
+            Property::Sp3 => 3,
+            Property::Sp4 => 4,
+            Property::Sp5 => 5,
+        }
+    }
+}
+
+/// A property that does not hold, and a frame in which it is broken.
+#[derive(Clone, Copy, Debug, PartialEq, Eq)]
+pub struct Broken {
+    pub property: Property,
+    pub frame: u32,
+}
+
+// A break of a property, if there is a frame in which it is broken.
+pub(crate) fn broken_at(property: Property, frame: Option<u32>) -> Option<Broken>
+    ensures { result ≡ broken_at property frame }
+{
+    match frame {
+        Some(frame) => Some(Broken { property, frame }),
+        None => None,
+    }
+}
+
+// The one of two breaks that comes first.
+pub(crate) fn earlier(one: Option<Broken>, other: Option<Broken>) -> Option<Broken>
+    ensures { result ≡ earlier one other }
+{
+    match (one, other) {
+        (Some(one), Some(other)) => {
+            if comes_before(other, one) {
+                Some(other)
+            } else {
+                Some(one)
+            }
+        }
+        (Some(one), None) => Some(one),
+        (None, other) => other,
+    }
+}
+
+fn comes_before(one: Broken, other: Broken) -> bool
+    ensures { result ≡ comes_before one other }
+{
+    one.frame < other.frame
+        || (one.frame == other.frame && one.property.number() < other.property.number())
+}

@@ -1,0 +1,124 @@
+//! Whether a reconfiguration began because the environment changed.
+
+ghost use Rattle.std.specs.Prelude.{◌≡◌, ◌+◌, ◌-◌};
+ghost use Rattle.coverage_check.specs.Choosing.{opening_env};
+ghost use Rattle.fault_script.specs.Assumption.{is_same_env};
+ghost use Rattle.frame_model.specs.Runs.{least_from};
+ghost use Rattle.trace_props.specs.Judging.{causeless_at, changes_in, follows, has_cause, is_other, settles};
+ghost use Rattle.trace_props.specs.Properties.{env_before, env_in};
+
+use scram_types::{Env, Policy, Report, Row, Spec};
+
+// The frame in which SP5 is broken: the begin, where the environment changed neither in it nor in the
+// next, and not in a reconfiguration just before either. It is not asked in the last row.
+pub(crate) fn causeless_at(
+    spec: &Spec,
+    rows: &[Row],
+    before: Option<Report>,
+    read: Report,
+) -> Option<u32>
+    ensures { result ≡ causeless_at spec.now rows.now before read }
+{
+    let next = read.begin as usize + 1;
+    if next >= rows.len() || has_cause(spec, rows, before, read) {
+        None
+    } else {
+        Some(read.begin)
+    }
+}
+
+fn has_cause(spec: &Spec, rows: &[Row], before: Option<Report>, read: Report) -> bool
+    ensures { result ≡ has_cause spec.now rows.now before read }
+{
+    let begin = read.begin as usize;
+    changes_in(spec, rows, begin)
+        || changes_in(spec, rows, begin + 1)
+        || follows(spec, rows, before, read)
+}
+
+// Whether the targets are settled, and another reconfiguration ended in the row before and saw a change
+// after its begin.
+fn follows(spec: &Spec, rows: &[Row], before: Option<Report>, read: Report) -> bool
+    ensures { result ≡ follows spec.now rows.now before read }
+{
+    match before {
+        Some(before) => {
+            settles(spec.policy)
+                && before.end as usize + 1 == read.begin as usize
+                && first_change(spec, rows, before).is_some()
+        }
+        None => false,
+    }
+}
+
+fn settles(policy: Policy) -> bool
+    ensures { result ≡ settles policy }
+{
+    match policy {
+        Policy::Settle => true,
+        Policy::Retarget => false,
+    }
+}
+
+// The first row of a reconfiguration after its begin in which the environment changes.
+fn first_change(spec: &Spec, rows: &[Row], read: Report) -> Option<usize>
+    ensures { result ≡ least_from (changes_in spec.now rows.now) (read.begin + 1) (read.end + 1 - (read.begin + 1)) }
+{
+    for frame in read.begin as usize + 1..read.end as usize + 1 {
+        if changes_in(spec, rows, frame) {
+            return Some(frame);
+        }
+    }
+    None
+}
+
+// Whether there is a row of this frame, and its environment is another than the one before.
+fn changes_in(spec: &Spec, rows: &[Row], frame: usize) -> bool
+    ensures { result ≡ changes_in spec.now rows.now frame }
+{
+    is_other(env_in(rows, frame), env_before(spec, rows, frame))
+}
+
+fn env_in(rows: &[Row], frame: usize) -> Option<Env>
+    ensures { result ≡ env_in rows.now frame }
+{
+    match rows.get(frame) {
+        Some(row) => Some(row.env),
+        None => None,
+    }
+}
+
+fn env_before(spec: &Spec, rows: &[Row], frame: usize) -> Option<Env>
+    ensures { result ≡ env_before spec.now rows.now frame }
+{
+    match frame.checked_sub(1) {
+        Some(before) => env_in(rows, before),
+        None => Some(opening_env(spec)),
+    }
+}
+
+// The environment that every flight opens in.
+fn opening_env(spec: &Spec) -> Env
+    ensures { result ≡ opening_env spec.now }
+{
+    Env {
+        up: ((1u16 << spec.procs.items().len()) - 1) as u8,
+        factors: [0; 6],
+    }
+}
+
+fn is_other(env: Option<Env>, before: Option<Env>) -> bool
+    ensures { result ≡ is_other env before }
+{
+    match (env, before) {
+        (Some(env), Some(before)) => !is_same_env(&env, &before),
+        (Some(_), None) => true,
+        (None, _) => false,
+    }
+}
+
+fn is_same_env(env: &Env, other: &Env) -> bool
+    ensures { result ≡ is_same_env env.now other.now }
+{
+    env.up == other.up && env.factors == other.factors
+}

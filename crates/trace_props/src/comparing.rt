@@ -1,0 +1,67 @@
+//! What is told, compared with what is read off the rows.
+
+ghost use Rattle.std.specs.Prelude.{◌≡◌, slice_get};
+ghost use Rattle.trace_props.specs.Judging.{compare, difference, is_same_report, is_same_target};
+
+use scram_types::{ConfId, Report};
+
+/// How far two lists have been found to agree.
+#[derive(Clone, Copy, Debug, PartialEq, Eq)]
+pub(crate) enum Agreement {
+    /// So many reconfigurations are told as they are read.
+    Alike(usize),
+    /// The next one is not: the frame in which it began.
+    Apart(u32),
+}
+
+// Compares the next reconfiguration that is read with what is told of it.
+pub(crate) fn compare(told: &[Report], so_far: Agreement, read: Report) -> Agreement
+    ensures { result ≡ compare told.now so_far read }
+{
+    match so_far {
+        Agreement::Alike(place) => match told.get(place) {
+            Some(one) => {
+                if is_same_report(*one, read) {
+                    Agreement::Alike(place + 1)
+                } else {
+                    Agreement::Apart(one.begin.min(read.begin))
+                }
+            }
+            None => Agreement::Apart(read.begin),
+        },
+        Agreement::Apart(frame) => Agreement::Apart(frame),
+    }
+}
+
+// Where the lists differ once all is read: what is told beyond is not as it is read either.
+pub(crate) fn difference(told: &[Report], so_far: Agreement) -> Option<u32>
+    ensures { result ≡ difference told.now so_far }
+{
+    match so_far {
+        Agreement::Alike(place) => match told.get(place) {
+            Some(one) => Some(one.begin),
+            None => None,
+        },
+        Agreement::Apart(frame) => Some(frame),
+    }
+}
+
+fn is_same_report(one: Report, other: Report) -> bool
+    ensures { result ≡ is_same_report one other }
+{
+    one.from.0 == other.from.0
+        && is_same_target(one.to, other.to)
+        && one.begin == other.begin
+        && one.end == other.end
+}
+
+fn is_same_target(one: Option<ConfId>, other: Option<ConfId>) -> bool
+    ensures { result ≡ is_same_target one other }
+{
+    match (one, other) {
+        (Some(one), Some(other)) => one.0 == other.0,
+        (None, None) => true,
+        (Some(_), None) => false,
+        (None, Some(_)) => false,
+    }
+}

@@ -1,0 +1,114 @@
+//! A finished trace, judged by the five properties.
+
+ghost use Rattle.std.specs.Prelude.{◌≡◌, ◌<◌, ◌^◌, ◌↔◌, IfErr, IsOk, length};
+ghost use Rattle.frame_model.specs.Readings.{reports};
+ghost use Rattle.trace_props.specs.Breaks.{HoldsWhereUnbroken, IsFirstBreak};
+ghost use Rattle.trace_props.specs.Judging.{broken_in, conclusion, first_break, judge};
+ghost use Rattle.trace_props.specs.Properties.{HoldsAll};
+
+use crate::breaks::{Broken, Property, broken_at, earlier};
+use crate::causes::causeless_at;
+use crate::comparing::{Agreement, compare, difference};
+use crate::kept::unkept_at;
+use crate::targets::{late_at, unchosen_at};
+use frame_model::{Reading, close, read_row};
+use scram_types::{Report, Row, Spec};
+
+/// Judges rows, the first of which is that of frame 0, and what is reported of them, by SP1 to SP5. It
+/// judges by any specification, also by one that is not accepted, and takes no memory.
+///
+/// # Errors
+///
+/// The first break: the least frame in which a property is broken, and of several that are broken in it
+/// the one with the least number. SP1 is broken in the lesser begin at the first place where what is
+/// reported and what is read differ, SP2 in the end of a reconfiguration, SP3 in the end or the last row,
+/// SP4 in a row, SP5 in the begin.
+pub fn props(spec: &Spec, rows: &[Row], told: &[Report]) -> Result<(), Broken>
+    requires { length rows.now < 2 ^ 32 }
+    ensures holds { IsOk result ↔ HoldsAll spec.now rows.now told.now }
+    ensures broken { IfErr result (λ broken. IsFirstBreak spec.now rows.now told.now broken.property broken.frame) }
+{
+    match first_break(spec, rows, told) {
+        Some(broken) => Err(broken),
+        None => Ok(()),
+    }
+}
+
+/// SP1 to SP5 hold exactly where none of them is broken in any frame.
+pub fn holds_where_unbroken()
+    ensures { HoldsWhereUnbroken }
+{}
+
+/// What has been judged so far.
+#[derive(Clone, Copy, Debug, PartialEq, Eq)]
+pub(crate) struct Judgement {
+    /// How far what is told agrees with what is read.
+    pub agreement: Agreement,
+    /// The first break of SP2 to SP5.
+    pub broken: Option<Broken>,
+    /// The reconfiguration that was read last.
+    pub before: Option<Report>,
+}
+
+fn first_break(spec: &Spec, rows: &[Row], told: &[Report]) -> Option<Broken>
+    requires { length rows.now < 2 ^ 32 }
+    ensures { result ≡ first_break spec.now rows.now told.now }
+{
+    let mut judgement = Judgement {
+        agreement: Agreement::Alike(0),
+        broken: None,
+        before: None,
+    };
+    let mut reading = Reading::Steady(spec.start);
+    let mut frame = 0;
+    for row in rows {
+        let (next, report) = read_row(spec, reading, frame, &row.acts);
+        judgement = judge(spec, rows, told, judgement, report);
+        reading = next;
+        frame += 1;
+    }
+    conclude(
+        told,
+        judge(spec, rows, told, judgement, close(reading, frame)),
+    )
+}
+
+// Judges the reconfiguration that is read next, if there is one.
+fn judge(
+    spec: &Spec,
+    rows: &[Row],
+    told: &[Report],
+    so_far: Judgement,
+    read: Option<Report>,
+) -> Judgement
+    ensures { result ≡ judge spec.now rows.now told.now so_far read }
+{
+    match read {
+        Some(read) => Judgement {
+            agreement: compare(told, so_far.agreement, read),
+            broken: earlier(so_far.broken, broken_in(spec, rows, so_far.before, read)),
+            before: Some(read),
+        },
+        None => so_far,
+    }
+}
+
+// The first break of SP2 to SP5 by a reconfiguration, where `before` was read just before it.
+fn broken_in(spec: &Spec, rows: &[Row], before: Option<Report>, read: Report) -> Option<Broken>
+    ensures { result ≡ broken_in spec.now rows.now before read }
+{
+    let target = broken_at(Property::Sp2, unchosen_at(spec, rows, read));
+    let time = broken_at(Property::Sp3, late_at(spec, read));
+    let areas = broken_at(Property::Sp4, unkept_at(spec, rows, read));
+    let cause = broken_at(Property::Sp5, causeless_at(spec, rows, before, read));
+    earlier(earlier(target, time), earlier(areas, cause))
+}
+
+fn conclude(told: &[Report], judgement: Judgement) -> Option<Broken>
+    ensures { result ≡ conclusion told.now judgement }
+{
+    earlier(
+        broken_at(Property::Sp1, difference(told, judgement.agreement)),
+        judgement.broken,
+    )
+}

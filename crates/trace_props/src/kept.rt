@@ -1,0 +1,151 @@
+//! Whether a reconfiguration's rows keep the invariants for its source and meet its target's preconditions.
+
+ghost use Rattle.std.specs.Prelude.{◌≡◌, ◌+◌, ◌-◌};
+ghost use Rattle.choice_table.specs.Choices.{has_source};
+ghost use Rattle.frame_model.specs.Runs.{least_from};
+ghost use Rattle.frame_model.specs.States.{area_at};
+ghost use Rattle.scram_types.specs.Numbers.{word};
+ghost use Rattle.trace_props.specs.Judging.{breaks, breaks_aimed, is_broken, is_target, is_unmet, least_unkept, lesser, lies_in, unkept_at, unkept_from, unmet_at, unmet_in};
+
+use scram_types::{AppId, Area, ConfId, Invariant, Precondition, Report, Row, Spec};
+
+// The least frame in which SP4 is broken: that of a row that does not keep an invariant, or the one
+// before the end, where a precondition of the target is not met.
+pub(crate) fn unkept_at(spec: &Spec, rows: &[Row], read: Report) -> Option<u32>
+    ensures { result ≡ unkept_at spec.now rows.now read }
+{
+    let mut least = unmet_at(spec, rows, read);
+    for inv in spec.invariants.items() {
+        least = lesser(least, unkept_from(rows, read, inv));
+    }
+    least
+}
+
+// The least frame in which an invariant is broken, if it speaks of the source.
+fn unkept_from(rows: &[Row], read: Report, inv: &Invariant) -> Option<u32>
+    ensures { result ≡ unkept_from rows.now read inv.now }
+{
+    if has_source(inv.from, read.from) {
+        first_breach(rows, read, inv)
+    } else {
+        None
+    }
+}
+
+fn first_breach(rows: &[Row], read: Report, inv: &Invariant) -> Option<u32>
+    ensures { result ≡ least_from (breaks rows.now inv.now) read.begin (read.end + 1 - read.begin) }
+{
+    for frame in read.begin as usize..read.end as usize + 1 {
+        if breaks(rows, inv, frame) {
+            return Some(frame as u32);
+        }
+    }
+    None
+}
+
+fn breaks(rows: &[Row], inv: &Invariant, frame: usize) -> bool
+    ensures { result ≡ breaks rows.now inv.now frame }
+{
+    match rows.get(frame) {
+        Some(row) => is_broken(row, inv),
+        None => false,
+    }
+}
+
+fn is_broken(row: &Row, inv: &Invariant) -> bool
+    ensures { result ≡ is_broken row.now inv.now }
+{
+    !lies_in(inv.least, inv.greatest, word_in(row, inv.app, inv.variable))
+}
+
+// The frame before the end, where its row does not meet some precondition of the target.
+fn unmet_at(spec: &Spec, rows: &[Row], read: Report) -> Option<u32>
+    ensures { result ≡ unmet_at spec.now rows.now read }
+{
+    let frame = read.end.checked_sub(1)?;
+    let row = rows.get(frame as usize)?;
+    if unmet_in(spec, row, read.to) {
+        Some(frame)
+    } else {
+        None
+    }
+}
+
+fn unmet_in(spec: &Spec, row: &Row, to: Option<ConfId>) -> bool
+    ensures { result ≡ unmet_in spec.now row.now to }
+{
+    spec.preconditions
+        .items()
+        .iter()
+        .any(|pre| breaks_aimed(row, to, pre))
+}
+
+fn breaks_aimed(row: &Row, to: Option<ConfId>, pre: &Precondition) -> bool
+    ensures { result ≡ breaks_aimed row.now to pre.now }
+{
+    is_target(to, pre.conf) && is_unmet(row, pre)
+}
+
+fn is_unmet(row: &Row, pre: &Precondition) -> bool
+    ensures { result ≡ is_unmet row.now pre.now }
+{
+    !lies_in(pre.least, pre.greatest, word_in(row, pre.app, pre.variable))
+}
+
+fn has_source(wanted: Option<ConfId>, from: ConfId) -> bool
+    ensures { result ≡ has_source wanted from }
+{
+    match wanted {
+        Some(wanted) => wanted.0 == from.0,
+        None => true,
+    }
+}
+
+fn is_target(to: Option<ConfId>, conf: ConfId) -> bool
+    ensures { result ≡ is_target to conf }
+{
+    match to {
+        Some(to) => to.0 == conf.0,
+        None => false,
+    }
+}
+
+// A word of an application's area, 0 where there is none.
+fn word_in(row: &Row, app: AppId, variable: u8) -> i64
+    ensures { result ≡ word (area_at row.now.areas app.0) variable }
+{
+    word_of(&area_of(row, app), usize::from(variable))
+}
+
+fn area_of(row: &Row, app: AppId) -> Area
+    ensures { result ≡ area_at row.now.areas app.0 }
+{
+    match row.areas.get(usize::from(app.0)) {
+        Some(area) => *area,
+        None => [0; 8],
+    }
+}
+
+#[tactic(auto, using(crate::proofs::Words::word_past), unfolding(scram_types::specs::Numbers::word))]
+fn word_of(area: &Area, variable: usize) -> i64
+    ensures { result ≡ word area.now variable }
+{
+    if variable < 8 { area[variable] } else { 0 }
+}
+
+fn lies_in(low: i64, high: i64, word: i64) -> bool
+    ensures { result ≡ lies_in low high word }
+{
+    low <= word && word <= high
+}
+
+// The lesser of two frames, or the one that is there.
+fn lesser(one: Option<u32>, other: Option<u32>) -> Option<u32>
+    ensures { result ≡ lesser one other }
+{
+    match (one, other) {
+        (Some(one), Some(other)) => Some(one.min(other)),
+        (Some(one), None) => Some(one),
+        (None, other) => other,
+    }
+}

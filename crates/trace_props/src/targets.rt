@@ -1,0 +1,78 @@
+//! Whether a reconfiguration's target was chosen meanwhile, and whether it ended in time.
+
+ghost use Rattle.std.specs.Prelude.{◌≡◌, ◌+◌, ◌-◌};
+ghost use Rattle.frame_model.specs.Runs.{least_from};
+ghost use Rattle.trace_props.specs.Breaks.{last_frame};
+ghost use Rattle.trace_props.specs.Judging.{chooses, late_at, unchosen_at};
+ghost use Rattle.trace_props.specs.Properties.{bound_on};
+
+use choice_table::choose;
+use scram_types::{ConfId, Report, Row, Spec};
+
+// The frame in which SP2 is broken: the end, where no row's environment chooses the target.
+pub(crate) fn unchosen_at(spec: &Spec, rows: &[Row], read: Report) -> Option<u32>
+    ensures { result ≡ unchosen_at spec.now rows.now read }
+{
+    match read.to {
+        Some(to) => match first_choice(spec, rows, read, to) {
+            Some(_) => None,
+            None => Some(read.end),
+        },
+        None => None,
+    }
+}
+
+// The first frame of a reconfiguration in whose environment the table chooses a configuration.
+fn first_choice(spec: &Spec, rows: &[Row], read: Report, to: ConfId) -> Option<usize>
+    ensures { result ≡ least_from (chooses spec.now rows.now read.from to) read.begin (read.end + 1 - read.begin) }
+{
+    for frame in read.begin as usize..read.end as usize + 1 {
+        if chooses(spec, rows, read.from, to, frame) {
+            return Some(frame);
+        }
+    }
+    None
+}
+
+fn chooses(spec: &Spec, rows: &[Row], from: ConfId, to: ConfId, frame: usize) -> bool
+    ensures { result ≡ chooses spec.now rows.now from to frame }
+{
+    match rows.get(frame) {
+        Some(row) => choose(spec, from, &row.env).0 == to.0,
+        None => false,
+    }
+}
+
+// The frame in which SP3 is broken: the last one, where no bound is given or it took longer.
+pub(crate) fn late_at(spec: &Spec, read: Report) -> Option<u32>
+    ensures { result ≡ late_at spec.now read }
+{
+    match bound_on(spec, read) {
+        Some(bound) => {
+            if read.end.saturating_sub(read.begin) <= bound {
+                None
+            } else {
+                Some(last_frame(read))
+            }
+        }
+        None => Some(last_frame(read)),
+    }
+}
+
+fn bound_on(spec: &Spec, read: Report) -> Option<u32>
+    ensures { result ≡ bound_on spec.now read.from read.to }
+{
+    match read.to {
+        Some(to) => spec.bound(read.from, to),
+        None => spec.greatest_bound(read.from),
+    }
+}
+
+fn last_frame(read: Report) -> u32
+    ensures { result ≡ last_frame read }
+{
+    match read.to {
+        Some(_) => read.end,
+        None => read.end.saturating_sub(1),
+    }
+}
