@@ -6,3 +6,5 @@ pub mod Joined
 pub mod LongestChains
 pub mod Cycles
 pub mod Specs
+pub mod Plain
+pub mod Written

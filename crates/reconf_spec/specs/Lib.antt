@@ -13,4 +13,5 @@ pub mod Choices
 pub mod Bounds
 pub mod Intervals
 pub mod Documents
+pub mod Texts
 pub mod Answers

@@ -17,6 +17,9 @@ mod needs;
 mod processors;
 mod reading;
 pub mod rule;
+mod values;
+mod writing;
 
 pub use fault::{SpecError, SpecFault};
 pub use reading::read_spec;
+pub use writing::write_spec;

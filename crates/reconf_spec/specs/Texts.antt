@@ -1,0 +1,234 @@
+-- The canonical value of a specification. Its text is the compact JSON text of this value, in which the members
+-- of an object stand in the order of their bytes.
+use Rattle.std.specs.Prelude.{ℕ, suc, ℤ, List, [], ◌∷◌, codes, map, Option, Some, None, slice_get, if◌then◌else◌}
+use Rattle.std.specs.Option.{option_map_or}
+use Rattle.serde_json.specs.Data.{Data, put, number, string, array, object, unsigned, Items, no_items, item, Members, no_members, member}
+use Rattle.serde_json.specs.Find.{of_integer}
+use Rattle.serde_json.specs.View.{items_of}
+use Rattle.serde_json.specs.Written.{compact_text}
+use Rattle.scram_types.specs.declared.ids.AppId.{AppId}
+use Rattle.scram_types.specs.declared.ids.ConfId.{ConfId}
+use Rattle.scram_types.specs.declared.flights.Goal.{Goal}
+use Rattle.scram_types.specs.declared.specification.Proc.{Proc}
+use Rattle.scram_types.specs.declared.specification.ModeSpec.{ModeSpec}
+use Rattle.scram_types.specs.declared.specification.AppSpec.{AppSpec}
+use Rattle.scram_types.specs.declared.specification.Place.{Place}
+use Rattle.scram_types.specs.declared.specification.Conf.{Conf}
+use Rattle.scram_types.specs.declared.specification.Factor.{Factor}
+use Rattle.scram_types.specs.declared.specification.Want.{Want}
+use Rattle.scram_types.specs.declared.specification.Choice.{Choice}
+use Rattle.scram_types.specs.declared.specification.Bound.{Bound}
+use Rattle.scram_types.specs.declared.specification.Invariant.{Invariant}
+use Rattle.scram_types.specs.declared.specification.Precondition.{Precondition}
+use Rattle.scram_types.specs.declared.specification.Policy.{Policy}
+use Rattle.scram_types.specs.declared.specification.Policy.TheVariants.{Retarget, Settle}
+use Rattle.scram_types.specs.Specification.{Parts}
+use Rattle.app_model.specs.Names.{kind_names, mode_names, variable_names, name_at}
+use Rattle.reconf_spec.specs.Processors.{proc_name}
+use Rattle.reconf_spec.specs.Applications.{app_name}
+use Rattle.reconf_spec.specs.Configurations.{conf_name}
+use Rattle.reconf_spec.specs.Factors.{factor_name, own_name}
+use Rattle.reconf_spec.specs.Choices.{has_proc}
+
+abbrev pub count_data : ℕ → Data
+count_data n = number (unsigned n)
+
+abbrev pub integer_data : ℤ → Data
+integer_data n = number (of_integer n)
+
+abbrev pub list_data : {A : Type 0} → (A → Data) → List A → Data
+list_data f xs = array (items_of (map f xs))
+
+-- the name of the item of this number
+abbrev pub name_of_item : {A : Type 0} → (A → List ℕ) → List A → ℕ → List ℕ
+name_of_item name xs n = option_map_or name (slice_get xs n) []
+
+-- what has no name is spelled by no byte
+abbrev pub spelled : Option (List ℕ) → List ℕ
+spelled None = []
+spelled (Some name) = name
+
+abbrev pub kind_text : ℕ → List ℕ
+kind_text kind = spelled (name_at kind_names kind)
+
+abbrev pub mode_text : ℕ → ℕ → List ℕ
+mode_text kind mode = spelled (name_at (mode_names kind) mode)
+
+abbrev pub variable_of_kind : ℕ → ℕ → List ℕ
+variable_of_kind kind variable = spelled (name_at (variable_names kind) variable)
+
+-- the name of a mode, and of a variable, of the kind of application a
+abbrev pub app_mode_text : List AppSpec → ℕ → ℕ → List ℕ
+app_mode_text apps a mode = option_map_or (λ (app : AppSpec). mode_text app.kind.0 mode) (slice_get apps a) []
+
+abbrev pub variable_text : List AppSpec → ℕ → ℕ → List ℕ
+variable_text apps a variable = option_map_or (λ (app : AppSpec). variable_of_kind app.kind.0 variable) (slice_get apps a) []
+
+abbrev pub proc_data : Proc → Data
+proc_data proc = object (member (codes "capacity") (count_data proc.capacity) (member (codes "name") (string proc.name) no_members))
+
+abbrev pub mode_data : ℕ → ModeSpec → Data
+mode_data kind listed = object (
+    member (codes "halt") (count_data listed.halt) (
+    member (codes "init") (count_data listed.init) (
+    member (codes "load") (count_data listed.load) (
+    member (codes "mode") (string (mode_text kind listed.mode.0)) (
+    member (codes "prepare") (count_data listed.prepare) no_members)))))
+
+abbrev pub need_data : List AppSpec → AppId → Data
+need_data apps need = string (name_of_item app_name apps need.0)
+
+abbrev pub app_data : List AppSpec → AppSpec → Data
+app_data apps app = object (
+    member (codes "kind") (string (kind_text app.kind.0)) (
+    member (codes "modes") (list_data (mode_data app.kind.0) app.modes) (
+    member (codes "name") (string app.name) (
+    member (codes "needs") (list_data (need_data apps) app.needs) no_members))))
+
+abbrev pub place_data : Parts → ℕ → Place → Data
+place_data spec a place = object (
+    member (codes "app") (string (name_of_item app_name spec.apps a)) (
+    member (codes "mode") (string (app_mode_text spec.apps a place.mode.0)) (
+    member (codes "on") (string (name_of_item proc_name spec.procs place.proc.0)) no_members)))
+
+-- the places that are given, in the order of applications
+abbrev pub places_data : Parts → ℕ → List (Option Place) → List Data
+places_data spec a [] = []
+places_data spec a (None ∷ places) = places_data spec (suc a) places
+places_data spec a (Some place ∷ places) = place_data spec a place ∷ places_data spec (suc a) places
+
+abbrev pub conf_data : Parts → Conf → Data
+conf_data spec conf = object (
+    member (codes "apps") (array (items_of (places_data spec 0 conf.places))) (
+    member (codes "name") (string conf.name) no_members))
+
+abbrev pub factor_data : Factor → Data
+factor_data factor = object (
+    member (codes "name") (string factor.name) (
+    member (codes "values") (list_data (λ (name : List ℕ). string name) factor.values) no_members))
+
+abbrev pub source_text : List Conf → Option ConfId → List ℕ
+source_text confs None = codes "*"
+source_text confs (Some c) = name_of_item conf_name confs c.0
+
+abbrev pub value_text : List Factor → ℕ → ℕ → List ℕ
+value_text factors f value = option_map_or (λ (factor : Factor). name_of_item own_name factor.values value) (slice_get factors f) []
+
+abbrev pub want_data : List Factor → Want → Data
+want_data factors want = object (
+    member (codes "factor") (string (name_of_item factor_name factors want.factor.0)) (
+    member (codes "value") (string (value_text factors want.factor.0 want.value)) no_members))
+
+-- the names of the processors of a set, in order
+abbrev pub up_data : ℕ → ℕ → List Proc → List Data
+up_data set p [] = []
+up_data set p (proc ∷ procs) = if has_proc set p then string proc.name ∷ up_data set (suc p) procs else up_data set (suc p) procs
+
+abbrev pub choice_data : Parts → Choice → Data
+choice_data spec rule = object (
+    member (codes "from") (string (source_text spec.confs rule.from)) (
+    member (codes "to") (string (name_of_item conf_name spec.confs rule.to.0)) (
+    member (codes "up") (array (items_of (up_data rule.up 0 spec.procs))) (
+    member (codes "when") (list_data (want_data spec.factors) rule.wants) no_members))))
+
+abbrev pub bound_data : List Conf → Bound → Data
+bound_data confs bound = object (
+    member (codes "frames") (count_data bound.frames) (
+    member (codes "from") (string (name_of_item conf_name confs bound.from.0)) (
+    member (codes "to") (string (name_of_item conf_name confs bound.to.0)) no_members)))
+
+abbrev pub goal_data : Goal → Data
+goal_data goal = object (member (codes "altitude") (integer_data goal.altitude) (member (codes "heading") (integer_data goal.heading) no_members))
+
+abbrev pub invariant_data : Parts → Invariant → Data
+invariant_data spec inv = object (
+    member (codes "app") (string (name_of_item app_name spec.apps inv.app.0)) (
+    member (codes "from") (string (source_text spec.confs inv.from)) (
+    member (codes "greatest") (integer_data inv.greatest) (
+    member (codes "least") (integer_data inv.least) (
+    member (codes "variable") (string (variable_text spec.apps inv.app.0 inv.variable)) no_members)))))
+
+abbrev pub precondition_data : Parts → Precondition → Data
+precondition_data spec pre = object (
+    member (codes "app") (string (name_of_item app_name spec.apps pre.app.0)) (
+    member (codes "configuration") (string (name_of_item conf_name spec.confs pre.conf.0)) (
+    member (codes "greatest") (integer_data pre.greatest) (
+    member (codes "least") (integer_data pre.least) (
+    member (codes "variable") (string (variable_text spec.apps pre.app.0 pre.variable)) no_members)))))
+
+abbrev pub assumption_data : Parts → Data
+assumption_data spec = object (
+    member (codes "changes") (count_data spec.changes) (
+    member (codes "halts") (count_data spec.halts) (
+    member (codes "window") (count_data spec.window) no_members)))
+
+abbrev pub start_data : Parts → Data
+start_data spec = string (name_of_item conf_name spec.confs spec.start.0)
+
+abbrev pub first_data : Parts → Data
+first_data spec = object (
+    member (codes "apps") (list_data (app_data spec.apps) spec.apps) (
+    member (codes "assumption") (assumption_data spec) (
+    member (codes "bounds") (list_data (bound_data spec.confs) spec.bounds) (
+    member (codes "configurations") (list_data (conf_data spec) spec.confs) (
+    member (codes "factors") (list_data factor_data spec.factors) (
+    member (codes "goal") (goal_data spec.goal) (
+    member (codes "invariants") (list_data (invariant_data spec) spec.invariants) (
+    member (codes "preconditions") (list_data (precondition_data spec) spec.preconditions) (
+    member (codes "processors") (list_data proc_data spec.procs) (
+    member (codes "rules") (list_data (choice_data spec) spec.rules) (
+    member (codes "scram") (count_data 1) (
+    member (codes "start") (start_data spec) no_members))))))))))))
+
+abbrev pub second_data : Parts → Data
+second_data spec = object (
+    member (codes "apps") (list_data (app_data spec.apps) spec.apps) (
+    member (codes "assumption") (assumption_data spec) (
+    member (codes "bounds") (list_data (bound_data spec.confs) spec.bounds) (
+    member (codes "configurations") (list_data (conf_data spec) spec.confs) (
+    member (codes "factors") (list_data factor_data spec.factors) (
+    member (codes "goal") (goal_data spec.goal) (
+    member (codes "invariants") (list_data (invariant_data spec) spec.invariants) (
+    member (codes "policy") (string (codes "settle")) (
+    member (codes "preconditions") (list_data (precondition_data spec) spec.preconditions) (
+    member (codes "processors") (list_data proc_data spec.procs) (
+    member (codes "rules") (list_data (choice_data spec) spec.rules) (
+    member (codes "scram") (count_data 2) (
+    member (codes "start") (start_data spec) no_members)))))))))))))
+
+-- the first version where the policy is to retarget, and else the second
+abbrev pub data_by : Policy → Parts → Data
+data_by Retarget spec = first_data spec
+data_by Settle spec = second_data spec
+
+abbrev pub spec_data : Parts → Data
+spec_data spec = data_by spec.policy spec
+
+-- the canonical text
+abbrev pub spec_text : Parts → List ℕ
+spec_text spec = compact_text (spec_data spec)
+
+-- Members of a document as they are put, each at its place in byte order.
+abbrev pub with_named : Parts → Members → Members
+with_named spec ms =
+    put (codes "factors") (list_data factor_data spec.factors) (
+    put (codes "configurations") (list_data (conf_data spec) spec.confs) (
+    put (codes "apps") (list_data (app_data spec.apps) spec.apps) (
+    put (codes "processors") (list_data proc_data spec.procs) ms)))
+
+abbrev pub with_table : Parts → Members → Members
+with_table spec ms =
+    put (codes "goal") (goal_data spec.goal) (
+    put (codes "start") (start_data spec) (
+    put (codes "bounds") (list_data (bound_data spec.confs) spec.bounds) (
+    put (codes "rules") (list_data (choice_data spec) spec.rules) ms)))
+
+abbrev pub with_limits : Parts → Members → Members
+with_limits spec ms =
+    put (codes "assumption") (assumption_data spec) (
+    put (codes "preconditions") (list_data (precondition_data spec) spec.preconditions) (
+    put (codes "invariants") (list_data (invariant_data spec) spec.invariants) ms))
+
+abbrev pub with_version : Policy → Members → Members
+with_version Retarget ms = put (codes "scram") (count_data 1) ms
+with_version Settle ms = put (codes "scram") (count_data 2) (put (codes "policy") (string (codes "settle")) ms)
