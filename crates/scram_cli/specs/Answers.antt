@@ -1,5 +1,6 @@
 -- What the command answers: a status and a text, by its words and by the files that they name.
 use Rattle.std.specs.Prelude.{◌≡◌, ◌⊎◌, ℕ, ◌≤◌, List, [], ◌∷◌, ◌++◌, length, Contains, Option, Some, None, IsSome, IfSome, Result, Ok, Err, codes, ⊤}
+use Rattle.scram_types.specs.declared.flights.Flown.{Flown}
 use Rattle.scram_types.specs.declared.ids.AppId.{AppId}
 use Rattle.scram_types.specs.declared.specification.AppSpec.{AppSpec}
 use Rattle.scram_types.specs.Scripts.{ScriptParts}
@@ -16,13 +17,18 @@ use Rattle.coverage_check.specs.declared.shown.Shown.{Shown}
 use Rattle.coverage_check.specs.Acceptance.{first_refusal}
 use Rattle.coverage_check.specs.Form.{state_refusal}
 use Rattle.frame_model.specs.Flights.{reports_of, rows_of}
+use Rattle.trace_props.specs.declared.breaks.Broken.{Broken}
+use Rattle.trace_props.specs.Breaks.{IsFirstBreak}
+use Rattle.trace_props.specs.Properties.{HoldsAll}
+use Rattle.trace_text.specs.declared.trace_reading.TraceFault.{TraceFault}
 use Rattle.trace_text.specs.Text.{text_of}
+use Rattle.trace_text.specs.TraceReading.{trace_of as trace_in}
 use Rattle.scram_cli.specs.declared.forms.Form.{Form}
 use Rattle.scram_cli.specs.declared.forms.Form.TheVariants.{Specified}
 use Rattle.scram_cli.specs.declared.forms.Request.{Request}
-use Rattle.scram_cli.specs.declared.forms.Request.TheVariants.{Run, Check, Bounds}
+use Rattle.scram_cli.specs.declared.forms.Request.TheVariants.{Run, Check, Bounds, Props}
 use Rattle.scram_cli.specs.Bounds.{bounds_text}
-use Rattle.scram_cli.specs.Lines.{accepted_line, outside_line, script_line, shown_line, specification_line}
+use Rattle.scram_cli.specs.Lines.{accepted_line, broken_line, holds_line, outside_line, script_line, shown_line, specification_line, trace_line}
 
 abbrev pub usage_line : List ℕ
 usage_line = codes "refused: usage\n"
@@ -33,10 +39,14 @@ memory_line = codes "refused: memory\n"
 abbrev pub read_line : List ℕ → List ℕ
 read_line name = codes "refused: read " ++ name ++ codes "\n"
 
--- first a value, then what is answered of it
-abbrev pub chain : {A B : Type 0} → Option A → (A → Option B) → Option B
-chain None rest = None
-chain (Some value) rest = rest value
+-- status and text are what is answered
+abbrev pub Gives : ℕ × List ℕ → ℕ → List ℕ → Type 0
+Gives answered status text = answered ≡ (status, text)
+
+-- Status and text are answered of the bytes of a file. Nothing is where the file is not there.
+abbrev pub AnswersOf : Option (List ℕ) → (List ℕ → ℕ → List ℕ → Type 0) → ℕ → List ℕ → Type 0
+AnswersOf None Answers status text = ⊥
+AnswersOf (Some bytes) Answers status text = Answers bytes status text
 
 -- the text of the one-thread trace
 abbrev pub trace_of : Parts → ScriptParts → List ℕ
@@ -66,26 +76,47 @@ abbrev pub bounds_answer : Parts → Option Shown → ℕ × List ℕ
 bounds_answer spec (Some shown) = (6, shown_line spec shown)
 bounds_answer spec None = (0, bounds_text spec)
 
+-- the first break of a property by a trace, or none where all five hold of it
+abbrev pub Judges : Parts → Flown → Option Broken → Type 0
+Judges spec flown None = HoldsAll spec flown.rows flown.reports
+Judges spec flown (Some broken) = IsFirstBreak spec flown.rows flown.reports broken.property broken.frame
+
+abbrev pub judged_answer : Flown → Option Broken → ℕ × List ℕ
+judged_answer flown (Some broken) = (10, broken_line broken)
+judged_answer flown None = (0, holds_line flown)
+
+-- Status and text tell how a trace is judged.
+pub record IsJudgement (spec : Parts) (flown : Flown) (status : ℕ) (text : List ℕ) : Type 0 where
+  pub judged : Option Broken
+  pub judges : Judges spec flown judged
+  pub gives : Gives (judged_answer flown judged) status text
+
+-- the answer to `props` where both files are read; the specification need not be accepted
+abbrev pub TraceAnswers : Parts → Result Flown TraceFault → ℕ → List ℕ → Type 0
+TraceAnswers spec (Err fault) = Gives (11, trace_line fault)
+TraceAnswers spec (Ok flown) = IsJudgement spec flown
+
 -- the answer to what is asked of a specification that is read
-abbrev pub request_answer : FileMap → Request (List ℕ) → Parts → Option (ℕ × List ℕ)
-request_answer files (Run script) spec = chain (file_at script files) (λ (bytes : List ℕ). Some (script_answer spec (script_of spec bytes)))
-request_answer files Check spec = Some (check_answer spec (first_refusal spec))
-request_answer files Bounds spec = Some (bounds_answer spec (state_refusal spec))
+abbrev pub RequestAnswers : FileMap → Request (List ℕ) → Parts → ℕ → List ℕ → Type 0
+RequestAnswers files (Run script) spec = AnswersOf (file_at script files) (λ (bytes : List ℕ). Gives (script_answer spec (script_of spec bytes)))
+RequestAnswers files Check spec = Gives (check_answer spec (first_refusal spec))
+RequestAnswers files Bounds spec = Gives (bounds_answer spec (state_refusal spec))
+RequestAnswers files (Props trace) spec = AnswersOf (file_at trace files) (λ (bytes : List ℕ). TraceAnswers spec (trace_in spec bytes))
 
 -- a fault of a specification that shows these names of a cycle of needs
 abbrev pub showing : List (List ℕ) → DocFault → SpecFault
 showing cycle fault = record { rule = fault.rule; path = fault.path; cycle = record { items = [] }; names = record { items = cycle } }
 
-abbrev pub read_answer : List (List ℕ) → FileMap → Request (List ℕ) → Result Parts DocFault → Option (ℕ × List ℕ)
-read_answer cycle files request (Err fault) = Some (5, specification_line (showing cycle fault))
-read_answer cycle files request (Ok spec) = request_answer files request spec
+abbrev pub ReadAnswers : List (List ℕ) → FileMap → Request (List ℕ) → Result Parts DocFault → ℕ → List ℕ → Type 0
+ReadAnswers cycle files request (Err fault) = Gives (5, specification_line (showing cycle fault))
+ReadAnswers cycle files request (Ok spec) = RequestAnswers files request spec
 
 -- The answer, by the names of the cycle of needs that a refusal shows. There is none where a file that is
 -- wanted is not there.
-abbrev pub answer : List (List ℕ) → Option (Form (List ℕ)) → FileMap → Option (ℕ × List ℕ)
-answer cycle None files = Some (2, usage_line)
-answer cycle (Some (Specified specification request)) files =
-    chain (file_at specification files) (λ (bytes : List ℕ). read_answer cycle files request (spec_of bytes))
+abbrev pub FormAnswers : List (List ℕ) → Option (Form (List ℕ)) → FileMap → ℕ → List ℕ → Type 0
+FormAnswers cycle None files = Gives (2, usage_line)
+FormAnswers cycle (Some (Specified specification request)) files =
+    AnswersOf (file_at specification files) (λ (bytes : List ℕ). ReadAnswers cycle files request (spec_of bytes))
 
 -- the names are those of a cycle of the needs as they were read, where these have one
 abbrev pub NamesCycle : Result (List AppSpec) DocFault → List (List ℕ) → Type 0
@@ -104,11 +135,7 @@ ShowsCycleOf (Some (Specified specification request)) files cycle =
 pub record IsAnswer (form : Option (Form (List ℕ))) (files : FileMap) (status : ℕ) (text : List ℕ) : Type 0 where
   pub cycle : List (List ℕ)
   pub shows : ShowsCycleOf form files cycle
-  pub gives : answer cycle form files ≡ Some (status, text)
-
--- status and text are what is answered
-abbrev pub Gives : Option (ℕ × List ℕ) → ℕ → List ℕ → Type 0
-Gives answered status text = answered ≡ Some (status, text)
+  pub gives : FormAnswers cycle form files status text
 
 -- One of these files was not read, and the count of the files' faults rose.
 pub record IsUnread (names : List (List ℕ)) (before now status : ℕ) (text : List ℕ) : Type 0 where
@@ -141,6 +168,12 @@ pub record Tells (answered : ℕ × List ℕ) (old new : Option (List ℕ)) (roo
   pub is : ((status, text) ≡ answered) ⊎ ((status ≡ 9) × (text ≡ memory_line))
   pub says : Says old new before now status text code
   pub surely : Surely room before now text
+
+-- How a trace is judged went out.
+pub record TellsJudgement (spec : Parts) (flown : Flown) (old new : Option (List ℕ)) (room : Option ℕ) (before now : ℕ) (code : ℕ) : Type 0 where
+  pub judged : Option Broken
+  pub judges : Judges spec flown judged
+  pub tells : Tells (judged_answer flown judged) old new room before now code
 
 -- How a command ends: with an outcome, and a code that says what went out. The counts of the files' faults,
 -- then what the sink took, the bytes that it surely takes and its count, before and after.

@@ -12,7 +12,7 @@ use Rattle.trace_props.specs.Properties.{HoldsAll}
 use Rattle.scram_cli.specs.declared.forms.Form.{Form}
 use Rattle.scram_cli.specs.declared.forms.Form.TheVariants.{Specified}
 use Rattle.scram_cli.specs.declared.forms.Request.{Request}
-use Rattle.scram_cli.specs.declared.forms.Request.TheVariants.{Run, Check, Bounds}
+use Rattle.scram_cli.specs.declared.forms.Request.TheVariants.{Run, Check, Bounds, Props}
 use Rattle.scram_cli.specs.Answers.{trace_of}
 use Rattle.scram_cli.specs.Loads.{HasBytes, ReadsAsScript, ReadsAsSpec}
 
@@ -33,6 +33,7 @@ abbrev pub AssuresRequest : Parts → FileMap → Request (List ℕ) → Option 
 AssuresRequest spec files (Run script) old new = AssuresScript spec files script old new
 AssuresRequest spec files Check old new = ⊤
 AssuresRequest spec files Bounds old new = ⊤
+AssuresRequest spec files (Props trace) old new = ⊤
 
 -- The same of the specification that a file has.
 pub record AssuresSpec (files : FileMap) (name : List ℕ) (request : Request (List ℕ)) (old new : Option (List ℕ)) : Type 0 where

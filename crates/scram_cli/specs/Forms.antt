@@ -4,7 +4,7 @@ use Rattle.std.specs.Str.{bytes_eq}
 use Rattle.scram_cli.specs.declared.forms.Form.{Form}
 use Rattle.scram_cli.specs.declared.forms.Form.TheVariants.{Specified}
 use Rattle.scram_cli.specs.declared.forms.Request.{Request}
-use Rattle.scram_cli.specs.declared.forms.Request.TheVariants.{Run, Check, Bounds}
+use Rattle.scram_cli.specs.declared.forms.Request.TheVariants.{Run, Check, Bounds, Props}
 
 abbrev pub form_of_two : List ℕ → List ℕ → Option (Form (List ℕ))
 form_of_two command specification =
@@ -12,8 +12,9 @@ form_of_two command specification =
     else (if bytes_eq command (codes "bounds") then Some (Specified specification Bounds) else None)
 
 abbrev pub form_of_three : List ℕ → List ℕ → List ℕ → Option (Form (List ℕ))
-form_of_three command specification script =
-    if bytes_eq command (codes "run") then Some (Specified specification (Run script)) else None
+form_of_three command specification further =
+    if bytes_eq command (codes "run") then Some (Specified specification (Run further))
+    else (if bytes_eq command (codes "props") then Some (Specified specification (Props further)) else None)
 
 -- the form that words have, if they have one; a file stands in it by its name
 abbrev pub form_of : List (List ℕ) → Option (Form (List ℕ))
@@ -28,6 +29,7 @@ abbrev pub with_name : {A B : Type 0} → (A → B) → Request A → Request B
 with_name name (Run script) = Run (name script)
 with_name name Check = Check
 with_name name Bounds = Bounds
+with_name name (Props trace) = Props (name trace)
 
 abbrev pub with_names : {A B : Type 0} → (A → B) → Form A → Form B
 with_names name (Specified specification request) = Specified (name specification) (with_name name request)
@@ -37,6 +39,7 @@ abbrev pub further_files : Request (List ℕ) → List (List ℕ)
 further_files (Run script) = script ∷ []
 further_files Check = []
 further_files Bounds = []
+further_files (Props trace) = trace ∷ []
 
 -- the files that a form names, in the order in which they are read
 abbrev pub files_of : Option (Form (List ℕ)) → List (List ℕ)

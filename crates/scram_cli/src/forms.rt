@@ -22,6 +22,8 @@ pub enum Request<N> {
     Check,
     /// Which bounds it has to give.
     Bounds,
+    /// Whether the properties of reconfigurations hold of the trace in a file.
+    Props { trace: N },
 }
 
 /// The form that the words after the program's name have.
@@ -60,14 +62,19 @@ fn form_of_two<'a>(command: &str, specification: &'a str) -> Option<Form<&'a str
 fn form_of_three<'a>(
     command: &str,
     specification: &'a str,
-    script: &'a str,
+    further: &'a str,
 ) -> Option<Form<&'a str>>
-    ensures { option_map (with_names (λ name. name.now)) result ≡ form_of_three command.now specification.now script.now }
+    ensures { option_map (with_names (λ name. name.now)) result ≡ form_of_three command.now specification.now further.now }
 {
     if command == "run" {
         Some(Form::Specified {
             specification,
-            request: Request::Run { script },
+            request: Request::Run { script: further },
+        })
+    } else if command == "props" {
+        Some(Form::Specified {
+            specification,
+            request: Request::Props { trace: further },
         })
     } else {
         None

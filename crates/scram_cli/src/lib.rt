@@ -6,6 +6,7 @@ mod bounds;
 mod command;
 mod flights;
 mod forms;
+mod judgements;
 mod lines;
 mod loads;
 mod refusals;
