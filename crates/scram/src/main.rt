@@ -35,6 +35,9 @@ macro_rules! racks {
     }};
 }
 
+#[cfg(test)]
+mod tests;
+
 fn main(rt: HostRuntime) -> ExitCode {
     let words = match words(&rt) {
         Ok(words) => words,

@@ -6,6 +6,7 @@ use Rattle.scram_doc.specs.declared.fault.DocFault.{DocFault}
 use Rattle.scram_io.specs.Outside.{FileMap, Took}
 use Rattle.reconf_spec.specs.Documents.{spec_of}
 use Rattle.fault_script.specs.Reading.{script_of}
+use Rattle.coverage_check.specs.Acceptance.{Accepts}
 use Rattle.coverage_check.specs.Missions.{IsMission, mission_of}
 use Rattle.frame_model.specs.Flights.{reports_of, rows_of}
 use Rattle.trace_props.specs.Properties.{HoldsAll}
@@ -29,9 +30,10 @@ pub record AssuresScript (spec : Parts) (files : FileMap) (name : List ℕ) (old
   pub reads : HasBytes files name (ReadsAsScript spec script)
   pub assured : IsAssured spec script old new
 
+-- What is assured of what was asked, where it was answered with status 0.
 abbrev pub AssuresRequest : Parts → FileMap → Request (List ℕ) → Option (List ℕ) → Option (List ℕ) → Type 0
 AssuresRequest spec files (Run script) old new = AssuresScript spec files script old new
-AssuresRequest spec files Check old new = ⊤
+AssuresRequest spec files Check old new = Accepts spec
 AssuresRequest spec files Bounds old new = ⊤
 AssuresRequest spec files (Props trace) old new = ⊤
 

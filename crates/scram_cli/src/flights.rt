@@ -2,7 +2,7 @@
 
 ghost use Rattle.std.specs.Prelude.{◌≡◌, ◌≢◌};
 ghost use Rattle.app_model.specs.Racks.{RacksFit};
-ghost use Rattle.coverage_check.specs.Acceptance.{first_refusal};
+ghost use Rattle.coverage_check.specs.Acceptance.{Accepts, first_refusal};
 ghost use Rattle.fault_script.specs.Assumption.{first_outside};
 ghost use Rattle.fault_script.specs.Fits.{Fits};
 ghost use Rattle.scram_io.specs.Outside.{Rose};
@@ -26,6 +26,7 @@ pub fn check<K: Sink>(alloc: Global, spec: Spec, out: &mut K) -> Status
         (K.surely out.old) (K.faults out.old) (K.faults out.new) result.code }
     ensures write { result.code ≡ 4 → Rose (K.faults out.old) (K.faults out.new) }
     ensures read { result.code ≢ 3 }
+    ensures accepted { result.code ≡ 0 → Accepts spec }
 {
     match accept(alloc, spec) {
         Ok(accepted) => tell_line(out, 0, &make_accepted_line(accepted.spec())),
@@ -54,8 +55,8 @@ pub fn fly<K: Sink>(
 {
     match accept(alloc, spec) {
         Ok(accepted) => fly_accepted(alloc, accepted, script, out, racks),
-        Err(AcceptError::NotAccepted(spec, shown)) => {
-            tell_line(out, 6, &make_shown_line(&spec, &shown))
+        Err(AcceptError::NotAccepted(refused, shown)) => {
+            tell_line(out, 6, &make_shown_line(&refused, &shown))
         }
         Err(AcceptError::NoMemory(_)) => refuse_memory(out),
     }
