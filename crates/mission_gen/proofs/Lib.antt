@@ -1,0 +1,4 @@
+mod Fitting
+mod Ordering
+mod Reading
+pub mod Walking
