@@ -6,12 +6,13 @@ ghost use Rattle.scram_io.specs.Outside.{Rose, Unrisen, file_at};
 ghost use Rattle.scram_cli.specs.declared.forms.Form.TheVariants.{Specified};
 ghost use Rattle.scram_cli.specs.declared.forms.Request.TheVariants.{Props, Run};
 ghost use Rattle.scram_cli.specs.Answers.{AreThere, Ends, HasRoom, IsAnswer, RequestAnswers};
-ghost use Rattle.scram_cli.specs.Assurance.{AssuresForm, AssuresRequest, AssuresScript, AssuresSpec};
+ghost use Rattle.scram_cli.specs.Assurance.{AssuresForm, AssuresRequest, AssuresScript, AssuresSpec, AssuresTrace};
 ghost use Rattle.scram_cli.specs.Forms.{files_of, form_of, further_files, with_name, with_names};
 
 use crate::bounds::tell_bounds;
-use crate::flights::{check, fly};
+use crate::flights::{Telling, check, fly};
 use crate::forms::{Form, Request, form_of};
+use crate::generated::answer_generated;
 use crate::judgements::judge;
 use crate::lines::{make_script_line, make_specification_line, make_trace_line};
 use crate::loads::{Loaded, load_script, load_spec, load_trace};
@@ -24,7 +25,7 @@ use std::alloc::{AllocGlobal, Global};
 
 /// Does what the words after the program's name ask for: `run SPEC SCRIPT` flies a mission, `check SPEC`
 /// tells whether a specification is accepted, `bounds SPEC` which bounds it has to give, `props SPEC TRACE`
-/// judges a trace, by any specification.
+/// judges a trace, by any specification, `gen N` prints the mission of a number, and `fly N` flies it.
 ///
 /// `racks` are the boxes of the processors, and `spares` those of processors that restart. One thread
 /// needs no spares.
@@ -79,6 +80,7 @@ fn answer_form<F: Files, K: Sink>(
             specification,
             request,
         } => answer_request(alloc, specification, request, files, out, racks),
+        Form::Generated { number, purpose } => answer_generated(alloc, number, purpose, out, racks),
     }
 }
 
@@ -164,7 +166,7 @@ fn run<F: Files, K: Sink>(
         AssuresScript spec m script.now (K.taken out.old) (K.taken out.new)) }
 {
     match load_script(alloc, &spec, script, files) {
-        Loaded::Got(script) => fly(alloc, spec, script, out, racks),
+        Loaded::Got(script) => fly(alloc, spec, script, Telling::Trace, out, racks),
         Loaded::Refused(fault) => tell_line(out, 7, &make_script_line(&fault)),
         Loaded::Failed => refuse_read(alloc, out, script),
         Loaded::NoMemory => refuse_memory(out),
@@ -187,6 +189,7 @@ fn props<F: Files, K: Sink>(
     ensures write { result.code ≡ 4 → Rose (K.faults out.old) (K.faults out.new) }
     ensures quiet { IfSome (F.told files.old) (λ m. F.steady files.old → IsSome (file_at trace.now m)
         → Unrisen (F.faults files.old) (F.faults files.new)) }
+    ensures assured { result.code ≡ 0 → IfSome (F.told files.old) (λ m. AssuresTrace spec.now m trace.now) }
 {
     match load_trace(alloc, spec, trace, files) {
         Loaded::Got(flown) => judge(spec, &flown, out),

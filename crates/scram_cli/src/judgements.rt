@@ -2,6 +2,7 @@
 
 ghost use Rattle.std.specs.Prelude.{◌≡◌, ◌≢◌};
 ghost use Rattle.scram_io.specs.Outside.{Rose};
+ghost use Rattle.trace_props.specs.Properties.{HoldsAll};
 ghost use Rattle.scram_cli.specs.Answers.{TellsJudgement};
 ghost use Rattle.scram_cli.specs.Loads.{IsCounted};
 
@@ -19,6 +20,7 @@ pub fn judge<K: Sink>(spec: &Spec, flown: &Flown, out: &mut K) -> Status
         (K.faults out.old) (K.faults out.new) result.code }
     ensures write { result.code ≡ 4 → Rose (K.faults out.old) (K.faults out.new) }
     ensures read { result.code ≢ 3 }
+    ensures holds { result.code ≡ 0 → HoldsAll spec.now flown.now.rows flown.now.reports }
 {
     match props(spec, flown.rows.items(), flown.reports.items()) {
         Ok(()) => tell_line(out, 0, &make_holds_line(flown)),
