@@ -1,6 +1,7 @@
 -- The texts of the specifications are read by computing.
 use Rattle.std.proofs.Common.{◌≡◌, refl, ap, sym, ◌∙◌, ℕ, List, [], ◌∷◌, length}
-use Rattle.std.specs.Prelude.{Bool, true, false, ◌&&◌, drop, slice_index, nat_le, nat_lt, Option, Some, None, Result, Ok, Err, map}
+use Rattle.std.specs.Prelude.{Bool, true, false, ◌&&◌, drop, slice_index, nat_le, nat_lt, Option, Some, None, Result, Ok, Err, IfOk, map}
+use Rattle.std.specs.Fmt.{digits}
 use Rattle.std.specs.List.{list_all}
 use Rattle.std.specs.Str.{IsAscii}
 use Rattle.std.proofs.lemmas.Bool.{ltb-true}
@@ -9,6 +10,7 @@ use Rattle.std.proofs.lemmas.Str.{IsUtf8-from_ascii, is_utf8-from_IsUtf8}
 use Rattle.std.proofs.lemmas.Str.Ascii.{IsAscii-cons, IsAscii-nil}
 use Rattle.json.specs.Json.{value}
 use Rattle.json.specs.Lex.{lex, punctuate}
+use Rattle.json.specs.Print.{escape_byte}
 use Rattle.json.specs.Text.{content}
 use Rattle.json.specs.Word.{word, after_number}
 use Rattle.fast_float.specs.Text.{scan}
@@ -18,11 +20,12 @@ use Rattle.scram_types.specs.declared.specification.Factor.{Factor}
 use Rattle.scram_types.specs.Specification.{Parts}
 use Rattle.scram_doc.specs.declared.fault.DocFault.{DocFault}
 use Rattle.scram_doc.specs.declared.rule.TheConstants.{NO_JSON_TEXT}
-use Rattle.scram_doc.specs.Chain.{chain}
+use Rattle.scram_doc.specs.Chain.{chain, ok_map}
 use Rattle.scram_doc.specs.Faults.{or_broken}
+use Rattle.reconf_spec.specs.Texts.{spec_text}
 use Rattle.reconf_spec.specs.Documents.{spec_in, spec_of}
 use Rattle.fault_script.proofs.Halts.{and_left, and_right}
-use Rattle.mission_gen.specs.Specifications.{GivesSpecification, generated_text, uav_text}
+use Rattle.mission_gen.specs.Specifications.{GivesSpecification, generated_text, uav_text, with_further_factors}
 use Rattle.mission_gen.proofs.Fitting.{HasCounts}
 
 -- the reading of a text that is known to be short and UTF-8
@@ -98,3 +101,34 @@ generated_counts spec given =
     let read : counts (Ok spec) ≡ counts (reading generated_text) = ap counts (sym given ∙ plain_read generated_text generated_is_plain) in
     let known = counts_of spec _ (read ∙ generated_reads) in
     record { procs = known.0; apps = known.1; values = known.2 }
+
+-- the canonical text of what was read
+abbrev canonical : Result Parts DocFault → List ℕ
+canonical (Ok spec) = spec_text spec
+canonical (Err fault) = []
+
+uav_written : canonical (reading uav_text) ≡ uav_text
+unfolding uav_text value lex punctuate content word after_number number_of scan escape_byte digits
+uav_written = refl
+
+generated_written : canonical (reading generated_text) ≡ generated_text
+unfolding generated_text value lex punctuate content word after_number number_of scan escape_byte digits
+generated_written = refl
+
+pub uav_canonical : (spec : Parts) → spec_of uav_text ≡ Ok spec → spec_text spec ≡ uav_text
+uav_canonical spec given = ap canonical (sym given ∙ plain_read uav_text uav_is_plain) ∙ uav_written
+
+pub generated_canonical : (spec : Parts) → spec_of generated_text ≡ Ok spec → spec_text spec ≡ generated_text
+generated_canonical spec given = ap canonical (sym given ∙ plain_read generated_text generated_is_plain) ∙ generated_written
+
+generated_further : reading generated_text ≡ ok_map with_further_factors (reading uav_text)
+unfolding generated_text uav_text value lex punctuate content word after_number number_of scan
+generated_further = refl
+
+pub generated_from_uav : (spec : Parts) → spec_of generated_text ≡ Ok spec → ok_map with_further_factors (spec_of uav_text) ≡ Ok spec
+generated_from_uav spec given =
+    ap (ok_map with_further_factors) (plain_read uav_text uav_is_plain) ∙ sym generated_further ∙ sym (plain_read generated_text generated_is_plain) ∙ given
+
+pub if_ok_more : {A E : Type 0} (P Q : A → Type 0) (r : Result A E) → ((a : A) → P a → Q a) → IfOk r P → IfOk r Q
+if_ok_more P Q (Ok a) more known = more a known
+if_ok_more P Q (Err e) more known = tt

@@ -4,6 +4,8 @@
 
 mod missions;
 mod random;
+#[cfg(test)]
+mod tests;
 mod texts;
 mod walks;
 

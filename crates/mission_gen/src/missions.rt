@@ -1,10 +1,12 @@
 //! The aircraft's specification, and missions from a number.
 
 ghost use Rattle.std.specs.Prelude.{◌≡◌, Ok, IfOk};
+ghost use Rattle.scram_doc.specs.Chain.{ok_map};
 ghost use Rattle.fault_script.specs.Fits.{Fits};
 ghost use Rattle.reconf_spec.specs.Documents.{spec_of};
+ghost use Rattle.reconf_spec.specs.Texts.{spec_text};
 ghost use Rattle.mission_gen.specs.Changes.{frames_of, generated_script, halt_of};
-ghost use Rattle.mission_gen.specs.Specifications.{GivesSpecification, generated_text, uav_text};
+ghost use Rattle.mission_gen.specs.Specifications.{GivesSpecification, generated_text, uav_text, with_further_factors};
 
 use crate::random::{first_frame, random};
 use crate::texts;
@@ -32,7 +34,8 @@ fn read_text(alloc: Global, text: &str) -> Result<Spec, NoMemory>
 ///
 /// Want of memory.
 pub fn uav(alloc: Global) -> Result<Spec, NoMemory>
-    ensures { IfOk result (λ spec. spec_of uav_text ≡ Ok spec) }
+    ensures text { IfOk result (λ spec. spec_of uav_text ≡ Ok spec) }
+    ensures canonical { IfOk result (λ spec. spec_text spec ≡ uav_text) }
 {
     read_text(alloc, texts::uav())
 }
@@ -77,7 +80,9 @@ fn make_script(alloc: Global, n: u32) -> Result<Script, NoMemory>
 ///
 /// Want of memory.
 pub fn generate(alloc: Global, n: u32) -> Result<(Spec, Script), NoMemory>
-    ensures specification { IfOk result (λ made. spec_of generated_text ≡ Ok made.0) }
+    ensures specification { IfOk result (λ made. ok_map with_further_factors (spec_of uav_text) ≡ Ok made.0) }
+    ensures text { IfOk result (λ made. spec_of generated_text ≡ Ok made.0) }
+    ensures canonical { IfOk result (λ made. spec_text made.0 ≡ generated_text) }
     ensures script { IfOk result (λ made. made.1 ≡ generated_script n) }
     ensures fits { IfOk result (λ made. Fits made.0 made.1) }
 {
