@@ -4,7 +4,7 @@ use Rattle.std.specs.Prelude.{Option, Some, None, IfSome, ◌⊎◌, Contains}
 use Rattle.scram_io.specs.Outside.{Rose, Unrisen, TakesSurely}
 use Rattle.scram_io.proofs.Puts.{rose_since, risen}
 use Rattle.trace_text.specs.Printing.{Printed, CutOff}
-use Rattle.scram_cli.specs.Answers.{Ends, Gives, HasRoom, IsUnread, Outcome, Says, Surely, Tells, memory_line, read_line}
+use Rattle.scram_cli.specs.Answers.{Ends, HasRoom, IsUnread, Outcome, Says, Surely, Tells, memory_line, read_line}
 
 pub surely_of : (room left : Option ℕ) (before now : ℕ) (text : List ℕ) →
     TakesSurely room left before now text → Surely room before now text

@@ -3,3 +3,4 @@ pub mod Pluses
 mod Endings
 mod Loading
 mod Bounding
+mod Counted

@@ -1,5 +1,8 @@
 -- What the command answers: a status and a text, by its words and by the files that they name.
 use Rattle.std.specs.Prelude.{◌≡◌, ◌⊎◌, ℕ, ◌≤◌, List, [], ◌∷◌, ◌++◌, length, Contains, Option, Some, None, IsSome, IfSome, Result, Ok, Err, codes, ⊤}
+use Rattle.scram_types.specs.declared.flights.Flown.{Flown}
+use Rattle.scram_types.specs.declared.flights.Report.{Report}
+use Rattle.scram_types.specs.declared.flights.Row.{Row}
 use Rattle.scram_types.specs.declared.ids.AppId.{AppId}
 use Rattle.scram_types.specs.declared.specification.AppSpec.{AppSpec}
 use Rattle.scram_types.specs.Scripts.{ScriptParts}
@@ -9,20 +12,33 @@ use Rattle.scram_io.specs.Outside.{FileMap, file_at, Rose, Unrisen, Took, TookPr
 use Rattle.reconf_spec.specs.declared.fault.SpecFault.{SpecFault}
 use Rattle.reconf_spec.specs.Answers.{CycleAmong, NamedAmong}
 use Rattle.reconf_spec.specs.Documents.{spec_of, unranked_of}
+use Rattle.reconf_spec.specs.Texts.{spec_text}
 use Rattle.fault_script.specs.declared.assumption.Outside.{Outside}
 use Rattle.fault_script.specs.Assumption.{first_outside}
 use Rattle.fault_script.specs.Reading.{script_of}
+use Rattle.fault_script.specs.Texts.{script_text}
+use Rattle.mission_gen.specs.Changes.{generated_script}
+use Rattle.mission_gen.specs.Specifications.{generated_text}
 use Rattle.coverage_check.specs.declared.shown.Shown.{Shown}
 use Rattle.coverage_check.specs.Acceptance.{first_refusal}
 use Rattle.coverage_check.specs.Form.{state_refusal}
 use Rattle.frame_model.specs.Flights.{reports_of, rows_of}
+use Rattle.trace_props.specs.declared.breaks.Broken.{Broken}
+use Rattle.trace_props.specs.Breaks.{IsFirstBreak}
+use Rattle.trace_props.specs.Properties.{HoldsAll}
+use Rattle.trace_text.specs.declared.trace_reading.TraceFault.{TraceFault}
 use Rattle.trace_text.specs.Text.{text_of}
+use Rattle.trace_text.specs.TraceReading.{trace_of as trace_in}
 use Rattle.scram_cli.specs.declared.forms.Form.{Form}
-use Rattle.scram_cli.specs.declared.forms.Form.TheVariants.{Specified}
+use Rattle.scram_cli.specs.declared.forms.Form.TheVariants.{Specified, Generated}
+use Rattle.scram_cli.specs.declared.flights.Telling.{Telling}
+use Rattle.scram_cli.specs.declared.flights.Telling.TheVariants.{Trace, Summary}
+use Rattle.scram_cli.specs.declared.forms.Purpose.{Purpose}
+use Rattle.scram_cli.specs.declared.forms.Purpose.TheVariants.{Print, Fly}
 use Rattle.scram_cli.specs.declared.forms.Request.{Request}
-use Rattle.scram_cli.specs.declared.forms.Request.TheVariants.{Run, Check, Bounds}
+use Rattle.scram_cli.specs.declared.forms.Request.TheVariants.{Run, Check, Bounds, Props}
 use Rattle.scram_cli.specs.Bounds.{bounds_text}
-use Rattle.scram_cli.specs.Lines.{accepted_line, outside_line, script_line, shown_line, specification_line}
+use Rattle.scram_cli.specs.Lines.{accepted_line, broken_line, fly_line, holds_line, outside_line, script_line, shown_line, specification_line, trace_line}
 
 abbrev pub usage_line : List ℕ
 usage_line = codes "refused: usage\n"
@@ -33,28 +49,37 @@ memory_line = codes "refused: memory\n"
 abbrev pub read_line : List ℕ → List ℕ
 read_line name = codes "refused: read " ++ name ++ codes "\n"
 
--- first a value, then what is answered of it
-abbrev pub chain : {A B : Type 0} → Option A → (A → Option B) → Option B
-chain None rest = None
-chain (Some value) rest = rest value
+-- status and text are what is answered
+abbrev pub Gives : ℕ × List ℕ → ℕ → List ℕ → Type 0
+Gives answered status text = answered ≡ (status, text)
 
--- the text of the one-thread trace
-abbrev pub trace_of : Parts → ScriptParts → List ℕ
-trace_of spec script = text_of spec (rows_of spec script) (reports_of spec script)
+-- Status and text are answered of the bytes of a file. Nothing is where the file is not there.
+abbrev pub AnswersOf : Option (List ℕ) → (List ℕ → ℕ → List ℕ → Type 0) → ℕ → List ℕ → Type 0
+AnswersOf None Answers status text = ⊥
+AnswersOf (Some bytes) Answers status text = Answers bytes status text
+
+-- what is told of rows and reports
+abbrev pub flown_text : Telling → Parts → List Row → List Report → List ℕ
+flown_text Trace spec rows reports = text_of spec rows reports
+flown_text (Summary number) spec rows reports = fly_line number spec rows reports
+
+-- what is told of the one-thread flight
+abbrev pub told_of : Telling → Parts → ScriptParts → List ℕ
+told_of telling spec script = flown_text telling spec (rows_of spec script) (reports_of spec script)
 
 -- the answer where the specification is accepted, by how the script leaves the failure assumption
-abbrev pub within_answer : Parts → ScriptParts → Option Outside → ℕ × List ℕ
-within_answer spec script (Some outside) = (8, outside_line outside)
-within_answer spec script None = (0, trace_of spec script)
+abbrev pub within_answer : Telling → Parts → ScriptParts → Option Outside → ℕ × List ℕ
+within_answer telling spec script (Some outside) = (8, outside_line outside)
+within_answer telling spec script None = (0, told_of telling spec script)
 
--- the answer to `run` where both files are read, by why the specification is not accepted
-abbrev pub flight_answer : Parts → ScriptParts → Option Shown → ℕ × List ℕ
-flight_answer spec script (Some shown) = (6, shown_line spec shown)
-flight_answer spec script None = within_answer spec script (first_outside spec script)
+-- the answer of a flight, by why the specification is not accepted
+abbrev pub flight_answer : Telling → Parts → ScriptParts → Option Shown → ℕ × List ℕ
+flight_answer telling spec script (Some shown) = (6, shown_line spec shown)
+flight_answer telling spec script None = within_answer telling spec script (first_outside spec script)
 
 abbrev pub script_answer : Parts → Result ScriptParts DocFault → ℕ × List ℕ
 script_answer spec (Err fault) = (7, script_line fault)
-script_answer spec (Ok script) = flight_answer spec script (first_refusal spec)
+script_answer spec (Ok script) = flight_answer Trace spec script (first_refusal spec)
 
 -- the answer to `check`, by why the specification is not accepted
 abbrev pub check_answer : Parts → Option Shown → ℕ × List ℕ
@@ -66,26 +91,67 @@ abbrev pub bounds_answer : Parts → Option Shown → ℕ × List ℕ
 bounds_answer spec (Some shown) = (6, shown_line spec shown)
 bounds_answer spec None = (0, bounds_text spec)
 
+-- the first break of a property by a trace, or none where all five hold of it
+abbrev pub Judges : Parts → Flown → Option Broken → Type 0
+Judges spec flown None = HoldsAll spec flown.rows flown.reports
+Judges spec flown (Some broken) = IsFirstBreak spec flown.rows flown.reports broken.property broken.frame
+
+abbrev pub judged_answer : Flown → Option Broken → ℕ × List ℕ
+judged_answer flown (Some broken) = (10, broken_line broken)
+judged_answer flown None = (0, holds_line flown)
+
+-- Status and text tell how a trace is judged.
+pub record IsJudgement (spec : Parts) (flown : Flown) (status : ℕ) (text : List ℕ) : Type 0 where
+  pub judged : Option Broken
+  pub judges : Judges spec flown judged
+  pub gives : Gives (judged_answer flown judged) status text
+
+-- the answer to `props` where both files are read; the specification need not be accepted
+abbrev pub TraceAnswers : Parts → Result Flown TraceFault → ℕ → List ℕ → Type 0
+TraceAnswers spec (Err fault) = Gives (11, trace_line fault)
+TraceAnswers spec (Ok flown) = IsJudgement spec flown
+
 -- the answer to what is asked of a specification that is read
-abbrev pub request_answer : FileMap → Request (List ℕ) → Parts → Option (ℕ × List ℕ)
-request_answer files (Run script) spec = chain (file_at script files) (λ (bytes : List ℕ). Some (script_answer spec (script_of spec bytes)))
-request_answer files Check spec = Some (check_answer spec (first_refusal spec))
-request_answer files Bounds spec = Some (bounds_answer spec (state_refusal spec))
+abbrev pub RequestAnswers : FileMap → Request (List ℕ) → Parts → ℕ → List ℕ → Type 0
+RequestAnswers files (Run script) spec = AnswersOf (file_at script files) (λ (bytes : List ℕ). Gives (script_answer spec (script_of spec bytes)))
+RequestAnswers files Check spec = Gives (check_answer spec (first_refusal spec))
+RequestAnswers files Bounds spec = Gives (bounds_answer spec (state_refusal spec))
+RequestAnswers files (Props trace) spec = AnswersOf (file_at trace files) (λ (bytes : List ℕ). TraceAnswers spec (trace_in spec bytes))
 
 -- a fault of a specification that shows these names of a cycle of needs
 abbrev pub showing : List (List ℕ) → DocFault → SpecFault
 showing cycle fault = record { rule = fault.rule; path = fault.path; cycle = record { items = [] }; names = record { items = cycle } }
 
-abbrev pub read_answer : List (List ℕ) → FileMap → Request (List ℕ) → Result Parts DocFault → Option (ℕ × List ℕ)
-read_answer cycle files request (Err fault) = Some (5, specification_line (showing cycle fault))
-read_answer cycle files request (Ok spec) = request_answer files request spec
+abbrev pub ReadAnswers : List (List ℕ) → FileMap → Request (List ℕ) → Result Parts DocFault → ℕ → List ℕ → Type 0
+ReadAnswers cycle files request (Err fault) = Gives (5, specification_line (showing cycle fault))
+ReadAnswers cycle files request (Ok spec) = RequestAnswers files request spec
+
+-- the canonical specification and the canonical script, a line each
+abbrev pub mission_text : Parts → ScriptParts → List ℕ
+mission_text spec script = spec_text spec ++ codes "\n" ++ script_text spec script ++ codes "\n"
+
+-- the answer for the mission of a number
+abbrev pub mission_answer : ℕ → Purpose → Parts → ScriptParts → ℕ × List ℕ
+mission_answer number Print spec script = (0, mission_text spec script)
+mission_answer number Fly spec script = flight_answer (Summary number) spec script (first_refusal spec)
+
+-- The specification of generated missions: the value of its text.
+pub record IsGenerated (spec : Parts) : Type 0 where
+  pub reads : spec_of generated_text ≡ Ok spec
+
+-- Status and text are the answer for the mission of a number.
+pub record IsMissionAnswer (number : ℕ) (purpose : Purpose) (status : ℕ) (text : List ℕ) : Type 0 where
+  pub spec : Parts
+  pub generated : IsGenerated spec
+  pub gives : Gives (mission_answer number purpose spec (generated_script number)) status text
 
 -- The answer, by the names of the cycle of needs that a refusal shows. There is none where a file that is
 -- wanted is not there.
-abbrev pub answer : List (List ℕ) → Option (Form (List ℕ)) → FileMap → Option (ℕ × List ℕ)
-answer cycle None files = Some (2, usage_line)
-answer cycle (Some (Specified specification request)) files =
-    chain (file_at specification files) (λ (bytes : List ℕ). read_answer cycle files request (spec_of bytes))
+abbrev pub FormAnswers : List (List ℕ) → Option (Form (List ℕ)) → FileMap → ℕ → List ℕ → Type 0
+FormAnswers cycle None files = Gives (2, usage_line)
+FormAnswers cycle (Some (Specified specification request)) files =
+    AnswersOf (file_at specification files) (λ (bytes : List ℕ). ReadAnswers cycle files request (spec_of bytes))
+FormAnswers cycle (Some (Generated number purpose)) files = IsMissionAnswer number purpose
 
 -- the names are those of a cycle of the needs as they were read, where these have one
 abbrev pub NamesCycle : Result (List AppSpec) DocFault → List (List ℕ) → Type 0
@@ -99,16 +165,13 @@ abbrev pub ShowsCycleOf : Option (Form (List ℕ)) → FileMap → List (List �
 ShowsCycleOf None files cycle = cycle ≡ []
 ShowsCycleOf (Some (Specified specification request)) files cycle =
     IfSome (file_at specification files) (λ bytes. ShowsWhereRefused (spec_of bytes) (unranked_of bytes) cycle)
+ShowsCycleOf (Some (Generated number purpose)) files cycle = cycle ≡ []
 
 -- Status and text are an answer: that by some cycle of needs, where there are several.
 pub record IsAnswer (form : Option (Form (List ℕ))) (files : FileMap) (status : ℕ) (text : List ℕ) : Type 0 where
   pub cycle : List (List ℕ)
   pub shows : ShowsCycleOf form files cycle
-  pub gives : answer cycle form files ≡ Some (status, text)
-
--- status and text are what is answered
-abbrev pub Gives : Option (ℕ × List ℕ) → ℕ → List ℕ → Type 0
-Gives answered status text = answered ≡ Some (status, text)
+  pub gives : FormAnswers cycle form files status text
 
 -- One of these files was not read, and the count of the files' faults rose.
 pub record IsUnread (names : List (List ℕ)) (before now status : ℕ) (text : List ℕ) : Type 0 where
@@ -139,6 +202,20 @@ pub record Tells (answered : ℕ × List ℕ) (old new : Option (List ℕ)) (roo
   pub status : ℕ
   pub text : List ℕ
   pub is : ((status, text) ≡ answered) ⊎ ((status ≡ 9) × (text ≡ memory_line))
+  pub says : Says old new before now status text code
+  pub surely : Surely room before now text
+
+-- How a trace is judged went out.
+pub record TellsJudgement (spec : Parts) (flown : Flown) (old new : Option (List ℕ)) (room : Option ℕ) (before now : ℕ) (code : ℕ) : Type 0 where
+  pub judged : Option Broken
+  pub judges : Judges spec flown judged
+  pub tells : Tells (judged_answer flown judged) old new room before now code
+
+-- The answer for the mission of a number went out.
+pub record TellsMission (number : ℕ) (purpose : Purpose) (old new : Option (List ℕ)) (room : Option ℕ) (before now : ℕ) (code : ℕ) : Type 0 where
+  pub status : ℕ
+  pub text : List ℕ
+  pub is : IsMissionAnswer number purpose status text ⊎ ((status ≡ 9) × (text ≡ memory_line))
   pub says : Says old new before now status text code
   pub surely : Surely room before now text
 

@@ -4,3 +4,4 @@ pub mod Bounds
 pub mod Forms
 pub mod Lines
 pub mod Loads
+pub mod Summaries

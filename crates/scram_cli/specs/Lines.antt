@@ -4,6 +4,9 @@ use Rattle.std.specs.Option.{option_map_or}
 use Rattle.scram_types.specs.Specification.{Parts, bound_in}
 use Rattle.scram_types.specs.declared.ids.ConfId.{ConfId}
 use Rattle.scram_types.specs.declared.flights.Env.{Env}
+use Rattle.scram_types.specs.declared.flights.Flown.{Flown}
+use Rattle.scram_types.specs.declared.flights.Report.{Report}
+use Rattle.scram_types.specs.declared.flights.Row.{Row}
 use Rattle.scram_types.specs.declared.specification.AppSpec.{AppSpec}
 use Rattle.scram_types.specs.declared.specification.Factor.{Factor}
 use Rattle.scram_types.specs.declared.specification.Proc.{Proc}
@@ -18,8 +21,12 @@ use Rattle.coverage_check.specs.declared.shown.Shown.{Shown}
 use Rattle.coverage_check.specs.declared.shown.Other.{Other}
 use Rattle.coverage_check.specs.declared.shown.Other.TheVariants as other
 use Rattle.coverage_check.specs.Timing.{least}
+use Rattle.trace_props.specs.declared.breaks.Broken.{Broken}
+use Rattle.trace_props.specs.Breaks.{number_of}
+use Rattle.trace_text.specs.declared.trace_reading.TraceFault.{TraceFault}
 use Rattle.trace_text.specs.Names.{conf_name, conf_or_dash, further, proc_name, value_name}
 use Rattle.trace_text.specs.Text.{bound_text}
+use Rattle.scram_cli.specs.Summaries.{last_run, longest}
 
 -- a broken rule of a document, and where it is broken
 abbrev pub rule_text : ℕ → List ℕ → List ℕ
@@ -103,3 +110,25 @@ abbrev pub bound_line : Parts → ConfId → ConfId → List ℕ
 bound_line spec from to =
     codes "bound " ++ conf_name spec from.0 ++ codes " " ++ conf_name spec to.0 ++ codes " least " ++ decimal (least spec from to)
     ++ codes " given " ++ bound_text (bound_in spec.bounds from.0 to.0) ++ codes "\n"
+
+-- a trace breaks a rule in a line
+abbrev pub trace_line : TraceFault → List ℕ
+trace_line fault = codes "refused: trace rule " ++ decimal fault.rule ++ codes " at line " ++ decimal fault.line ++ codes "\n"
+
+-- the numbers of frames and of reconfigurations, an unfinished one too
+abbrev pub counts_text : List Row → List Report → List ℕ
+counts_text rows reports = codes " frames " ++ decimal (length rows) ++ codes " reconfigurations " ++ decimal (length reports)
+
+-- the five properties hold of a trace
+abbrev pub holds_line : Flown → List ℕ
+holds_line flown = codes "holds:" ++ counts_text flown.rows flown.reports ++ codes "\n"
+
+-- the property that a trace breaks first, and where
+abbrev pub broken_line : Broken → List ℕ
+broken_line broken = codes "broken: SP" ++ decimal (number_of broken.property) ++ codes " at frame " ++ decimal broken.frame ++ codes "\n"
+
+-- the flight of a mission's number: its frames and its reconfigurations, how many frames the longest
+-- finished one took, and the configuration that was run last
+abbrev pub fly_line : ℕ → Parts → List Row → List Report → List ℕ
+fly_line number spec rows reports =
+    codes "fly " ++ decimal number ++ counts_text rows reports ++ codes " longest " ++ decimal (longest reports) ++ codes " final " ++ conf_name spec (last_run spec rows).0 ++ codes "\n"

@@ -1,5 +1,6 @@
 -- What the loading of a file says of its bytes.
-use Rattle.std.specs.Prelude.{◌≡◌, ℕ, List, Option, Some, Result, Ok, Err, ⊤}
+use Rattle.std.specs.Prelude.{◌≡◌, ◌<◌, ◌^◌, ℕ, List, length, Option, Some, Result, Ok, Err, ⊤}
+use Rattle.scram_types.specs.declared.flights.Flown.{Flown}
 use Rattle.scram_types.specs.Scripts.{ScriptParts}
 use Rattle.scram_types.specs.Specification.{Parts}
 use Rattle.scram_doc.specs.declared.fault.DocFault.{DocFault}
@@ -10,6 +11,8 @@ use Rattle.reconf_spec.specs.declared.fault.SpecFault.{SpecFault}
 use Rattle.reconf_spec.specs.declared.fault.SpecError.TheVariants.{Fault}
 use Rattle.reconf_spec.specs.Answers.{ShowsCycle}
 use Rattle.reconf_spec.specs.Documents.{spec_of, unranked_of}
+use Rattle.trace_text.specs.declared.trace_reading.TraceFault.{TraceFault}
+use Rattle.trace_text.specs.TraceReading.{trace_of}
 use Rattle.scram_cli.specs.declared.loads.Loaded.{Loaded}
 use Rattle.scram_cli.specs.declared.loads.Loaded.TheVariants.{Got, Refused, Failed, NoMemory}
 
@@ -46,6 +49,23 @@ FitsWhereGot spec (Got script) = Fits spec script
 FitsWhereGot spec (Refused fault) = ⊤
 FitsWhereGot spec Failed = ⊤
 FitsWhereGot spec NoMemory = ⊤
+
+-- the bytes are this trace of a specification's missions, or are refused with this fault
+abbrev pub ReadsAsTrace : Parts → Flown → List ℕ → Type 0
+ReadsAsTrace spec flown bytes = trace_of spec bytes ≡ Ok flown
+
+abbrev pub RefusesAsTrace : Parts → TraceFault → List ℕ → Type 0
+RefusesAsTrace spec fault bytes = trace_of spec bytes ≡ Err fault
+
+-- rows and reports of a trace can be counted with 32 bits
+abbrev pub IsCounted : Flown → Type 0
+IsCounted flown = (length flown.rows < 2 ^ 32) × (length flown.reports < 2 ^ 32)
+
+abbrev pub IsCountedWhereGot : Loaded Flown TraceFault → Type 0
+IsCountedWhereGot (Got flown) = IsCounted flown
+IsCountedWhereGot (Refused fault) = ⊤
+IsCountedWhereGot Failed = ⊤
+IsCountedWhereGot NoMemory = ⊤
 
 -- the file was not read
 abbrev pub IsFailed : {A E : Type 0} → Loaded A E → Type 0

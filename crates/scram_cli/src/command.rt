@@ -4,16 +4,18 @@ ghost use Rattle.std.specs.Prelude.{◌≡◌, ◌≤◌, ◌∷◌, [], IsSome,
 ghost use Rattle.app_model.specs.Racks.{RacksFit};
 ghost use Rattle.scram_io.specs.Outside.{Rose, Unrisen, file_at};
 ghost use Rattle.scram_cli.specs.declared.forms.Form.TheVariants.{Specified};
-ghost use Rattle.scram_cli.specs.declared.forms.Request.TheVariants.{Run};
-ghost use Rattle.scram_cli.specs.Answers.{AreThere, Ends, Gives, HasRoom, IsAnswer, request_answer};
-ghost use Rattle.scram_cli.specs.Assurance.{AssuresForm, AssuresRequest, AssuresScript, AssuresSpec};
+ghost use Rattle.scram_cli.specs.declared.forms.Request.TheVariants.{Props, Run};
+ghost use Rattle.scram_cli.specs.Answers.{AreThere, Ends, HasRoom, IsAnswer, RequestAnswers};
+ghost use Rattle.scram_cli.specs.Assurance.{AssuresForm, AssuresRequest, AssuresScript, AssuresSpec, AssuresTrace};
 ghost use Rattle.scram_cli.specs.Forms.{files_of, form_of, further_files, with_name, with_names};
 
 use crate::bounds::tell_bounds;
-use crate::flights::{check, fly};
+use crate::flights::{Telling, check, fly};
 use crate::forms::{Form, Request, form_of};
-use crate::lines::{make_script_line, make_specification_line};
-use crate::loads::{Loaded, load_script, load_spec};
+use crate::generated::answer_generated;
+use crate::judgements::judge;
+use crate::lines::{make_script_line, make_specification_line, make_trace_line};
+use crate::loads::{Loaded, load_script, load_spec, load_trace};
 use crate::refusals::{refuse_memory, refuse_read, refuse_usage, tell_line};
 use crate::status::Status;
 use app_model::Rack;
@@ -22,7 +24,8 @@ use scram_types::Spec;
 use std::alloc::{AllocGlobal, Global};
 
 /// Does what the words after the program's name ask for: `run SPEC SCRIPT` flies a mission, `check SPEC`
-/// tells whether a specification is accepted, `bounds SPEC` which bounds it has to give.
+/// tells whether a specification is accepted, `bounds SPEC` which bounds it has to give, `props SPEC TRACE`
+/// judges a trace, by any specification, `gen N` prints the mission of a number, and `fly N` flies it.
 ///
 /// `racks` are the boxes of the processors, and `spares` those of processors that restart. One thread
 /// needs no spares.
@@ -77,6 +80,7 @@ fn answer_form<F: Files, K: Sink>(
             specification,
             request,
         } => answer_request(alloc, specification, request, files, out, racks),
+        Form::Generated { number, purpose } => answer_generated(alloc, number, purpose, out, racks),
     }
 }
 
@@ -120,7 +124,7 @@ fn answer_read<F: Files, K: Sink>(
     racks: Vec<Rack>,
 ) -> Status
     requires { RacksFit (λ b. kind_of (b.vtable, b.value)) (λ r. r.boxes.items) racks.items }
-    ensures ends { IfSome (F.told files.old) (λ m. Ends (Gives (request_answer m (with_name (λ name. name.now) request.entry) spec))
+    ensures ends { IfSome (F.told files.old) (λ m. Ends (RequestAnswers m (with_name (λ name. name.now) request.entry) spec)
         (further_files (with_name (λ name. name.now) request.entry)) (F.faults files.old) (F.faults files.new)
         (K.taken out.old) (K.taken out.new) (K.surely out.old) (K.faults out.old) (K.faults out.new) result.code) }
     ensures count { F.faults files.old ≤ F.faults files.new }
@@ -136,6 +140,7 @@ fn answer_read<F: Files, K: Sink>(
         Request::Run { script } => run(alloc, spec, script, files, out, racks),
         Request::Check => check(alloc, spec, out),
         Request::Bounds => tell_bounds(alloc, &spec, out),
+        Request::Props { trace } => props(alloc, &spec, trace, files, out),
     }
 }
 
@@ -149,7 +154,7 @@ fn run<F: Files, K: Sink>(
     racks: Vec<Rack>,
 ) -> Status
     requires { RacksFit (λ b. kind_of (b.vtable, b.value)) (λ r. r.boxes.items) racks.items }
-    ensures ends { IfSome (F.told files.old) (λ m. Ends (Gives (request_answer m (Run script.now) spec))
+    ensures ends { IfSome (F.told files.old) (λ m. Ends (RequestAnswers m (Run script.now) spec)
         (script.now ∷ []) (F.faults files.old) (F.faults files.new)
         (K.taken out.old) (K.taken out.new) (K.surely out.old) (K.faults out.old) (K.faults out.new) result.code) }
     ensures count { F.faults files.old ≤ F.faults files.new }
@@ -161,9 +166,35 @@ fn run<F: Files, K: Sink>(
         AssuresScript spec m script.now (K.taken out.old) (K.taken out.new)) }
 {
     match load_script(alloc, &spec, script, files) {
-        Loaded::Got(script) => fly(alloc, spec, script, out, racks),
+        Loaded::Got(script) => fly(alloc, spec, script, Telling::Trace, out, racks),
         Loaded::Refused(fault) => tell_line(out, 7, &make_script_line(&fault)),
         Loaded::Failed => refuse_read(alloc, out, script),
+        Loaded::NoMemory => refuse_memory(out),
+    }
+}
+
+/// Loads the trace, and judges it.
+fn props<F: Files, K: Sink>(
+    alloc: Global,
+    spec: &Spec,
+    trace: &str,
+    files: &mut F,
+    out: &mut K,
+) -> Status
+    ensures ends { IfSome (F.told files.old) (λ m. Ends (RequestAnswers m (Props trace.now) spec.now)
+        (trace.now ∷ []) (F.faults files.old) (F.faults files.new)
+        (K.taken out.old) (K.taken out.new) (K.surely out.old) (K.faults out.old) (K.faults out.new) result.code) }
+    ensures count { F.faults files.old ≤ F.faults files.new }
+    ensures read { result.code ≡ 3 → Rose (F.faults files.old) (F.faults files.new) }
+    ensures write { result.code ≡ 4 → Rose (K.faults out.old) (K.faults out.new) }
+    ensures quiet { IfSome (F.told files.old) (λ m. F.steady files.old → IsSome (file_at trace.now m)
+        → Unrisen (F.faults files.old) (F.faults files.new)) }
+    ensures assured { result.code ≡ 0 → IfSome (F.told files.old) (λ m. AssuresTrace spec.now m trace.now) }
+{
+    match load_trace(alloc, spec, trace, files) {
+        Loaded::Got(flown) => judge(spec, &flown, out),
+        Loaded::Refused(fault) => tell_line(out, 11, &make_trace_line(fault)),
+        Loaded::Failed => refuse_read(alloc, out, trace),
         Loaded::NoMemory => refuse_memory(out),
     }
 }

@@ -1,21 +1,22 @@
 //! What is answered of a specification, and of a script for it, once both are read.
 
-ghost use Rattle.std.specs.Prelude.{◌≡◌, ◌≢◌};
+ghost use Rattle.std.specs.Prelude.{◌≡◌, ◌≢◌, ◌<◌, ◌^◌, length};
 ghost use Rattle.app_model.specs.Racks.{RacksFit};
 ghost use Rattle.coverage_check.specs.Acceptance.{Accepts, first_refusal};
 ghost use Rattle.fault_script.specs.Assumption.{first_outside};
 ghost use Rattle.fault_script.specs.Fits.{Fits};
 ghost use Rattle.scram_io.specs.Outside.{Rose};
-ghost use Rattle.scram_cli.specs.Answers.{Tells, check_answer, flight_answer, within_answer, trace_of};
+ghost use Rattle.trace_text.specs.Printing.{Prints};
+ghost use Rattle.scram_cli.specs.Answers.{Tells, check_answer, flight_answer, flown_text, told_of, within_answer};
 ghost use Rattle.scram_cli.specs.Assurance.{IsAssured};
 
-use crate::lines::{make_accepted_line, make_outside_line, make_shown_line};
+use crate::lines::{make_accepted_line, make_fly_line, make_outside_line, make_shown_line};
 use crate::refusals::{refuse_memory, tell_line};
 use crate::status::Status;
 use app_model::Rack;
 use coverage_check::{AcceptError, Accepted, Mission, accept};
-use scram_io::Sink;
-use scram_types::{Script, Spec};
+use scram_io::{Sink, SinkFault};
+use scram_types::{Flown, Script, Spec};
 use std::alloc::Global;
 use trace_props::one_thread;
 use trace_text::put_trace;
@@ -37,24 +38,34 @@ pub fn check<K: Sink>(alloc: Global, spec: Spec, out: &mut K) -> Status
     }
 }
 
+/// What is told of a flight.
+#[derive(Clone, Copy, Debug, PartialEq, Eq)]
+pub enum Telling {
+    /// Its whole trace.
+    Trace,
+    /// One line for the mission of this number.
+    Summary(u32),
+}
+
 /// Flies a script, where its specification is accepted and it keeps to the failure assumption.
 pub fn fly<K: Sink>(
     alloc: Global,
     spec: Spec,
     script: Script,
+    telling: Telling,
     out: &mut K,
     racks: Vec<Rack>,
 ) -> Status
     requires script { Fits spec script }
     requires racks { RacksFit (λ b. kind_of (b.vtable, b.value)) (λ r. r.boxes.items) racks.items }
-    ensures tells { Tells (flight_answer spec script (first_refusal spec)) (K.taken out.old) (K.taken out.new)
+    ensures tells { Tells (flight_answer telling spec script (first_refusal spec)) (K.taken out.old) (K.taken out.new)
         (K.surely out.old) (K.faults out.old) (K.faults out.new) result.code }
     ensures write { result.code ≡ 4 → Rose (K.faults out.old) (K.faults out.new) }
     ensures read { result.code ≢ 3 }
-    ensures assured { result.code ≡ 0 → IsAssured spec script (K.taken out.old) (K.taken out.new) }
+    ensures assured { result.code ≡ 0 → IsAssured telling spec script (K.taken out.old) (K.taken out.new) }
 {
     match accept(alloc, spec) {
-        Ok(accepted) => fly_accepted(alloc, accepted, script, out, racks),
+        Ok(accepted) => fly_accepted(alloc, accepted, script, telling, out, racks),
         Err(AcceptError::NotAccepted(refused, shown)) => {
             tell_line(out, 6, &make_shown_line(&refused, &shown))
         }
@@ -66,42 +77,61 @@ fn fly_accepted<K: Sink>(
     alloc: Global,
     accepted: Accepted,
     script: Script,
+    telling: Telling,
     out: &mut K,
     racks: Vec<Rack>,
 ) -> Status
     requires script { Fits accepted script }
     requires racks { RacksFit (λ b. kind_of (b.vtable, b.value)) (λ r. r.boxes.items) racks.items }
-    ensures tells { Tells (within_answer accepted script (first_outside accepted script)) (K.taken out.old) (K.taken out.new)
+    ensures tells { Tells (within_answer telling accepted script (first_outside accepted script)) (K.taken out.old) (K.taken out.new)
         (K.surely out.old) (K.faults out.old) (K.faults out.new) result.code }
     ensures write { result.code ≡ 4 → Rose (K.faults out.old) (K.faults out.new) }
     ensures read { result.code ≢ 3 }
-    ensures assured { result.code ≡ 0 → IsAssured accepted script (K.taken out.old) (K.taken out.new) }
+    ensures assured { result.code ≡ 0 → IsAssured telling accepted script (K.taken out.old) (K.taken out.new) }
 {
     match Mission::new(accepted, script) {
-        Ok(mission) => fly_mission(alloc, &mission, out, racks),
+        Ok(mission) => fly_mission(alloc, &mission, telling, out, racks),
         Err(refused) => tell_line(out, 8, &make_outside_line(&refused.outside)),
     }
 }
 
-fn fly_mission<K: Sink>(alloc: Global, mission: &Mission, out: &mut K, racks: Vec<Rack>) -> Status
+fn fly_mission<K: Sink>(
+    alloc: Global,
+    mission: &Mission,
+    telling: Telling,
+    out: &mut K,
+    racks: Vec<Rack>,
+) -> Status
     requires racks { RacksFit (λ b. kind_of (b.vtable, b.value)) (λ r. r.boxes.items) racks.items }
-    ensures tells { Tells (0, trace_of mission.now.spec mission.now.script) (K.taken out.old) (K.taken out.new)
+    ensures tells { Tells (0, told_of telling mission.now.spec mission.now.script) (K.taken out.old) (K.taken out.new)
         (K.surely out.old) (K.faults out.old) (K.faults out.new) result.code }
     ensures write { result.code ≡ 4 → Rose (K.faults out.old) (K.faults out.new) }
     ensures read { result.code ≢ 3 }
-    ensures assured { result.code ≡ 0 → IsAssured mission.now.spec mission.now.script (K.taken out.old) (K.taken out.new) }
+    ensures assured { result.code ≡ 0 → IsAssured telling mission.now.spec mission.now.script (K.taken out.old) (K.taken out.new) }
 {
     mission.holds();
     match one_thread(alloc, mission, racks) {
-        Ok(flown) => match put_trace(
-            out,
-            mission.spec(),
-            flown.rows.items(),
-            flown.reports.items(),
-        ) {
+        Ok(flown) => match put_flown(out, mission.spec(), &flown, telling) {
             Ok(()) => Status { code: 0 },
             Err(_) => Status { code: 4 },
         },
         Err(_) => refuse_memory(out),
+    }
+}
+
+fn put_flown<K: Sink>(
+    out: &mut K,
+    spec: &Spec,
+    flown: &Flown,
+    telling: Telling,
+) -> Result<(), SinkFault>
+    requires rows { length flown.now.rows < 2 ^ 32 }
+    requires reports { length flown.now.reports < 2 ^ 32 }
+    ensures { Prints result (K.taken out.old) (K.taken out.new) (K.surely out.old) (K.surely out.new)
+        (K.faults out.old) (K.faults out.new) (flown_text telling spec.now flown.now.rows flown.now.reports) }
+{
+    match telling {
+        Telling::Trace => put_trace(out, spec, flown.rows.items(), flown.reports.items()),
+        Telling::Summary(number) => out.put(make_fly_line(number, spec, flown).as_bytes()),
     }
 }

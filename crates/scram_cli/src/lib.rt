@@ -6,10 +6,13 @@ mod bounds;
 mod command;
 mod flights;
 mod forms;
+mod generated;
+mod judgements;
 mod lines;
 mod loads;
 mod refusals;
 mod status;
+mod summaries;
 
 pub use command::scram;
 pub use status::Status;

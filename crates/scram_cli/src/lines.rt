@@ -1,17 +1,20 @@
 //! The lines in which the command answers, made without memory.
 
-ghost use Rattle.std.specs.Prelude.{◌≡◌, ◌+◌, ◌*◌, ◌≤◌, ◌++◌, [], length, codes, if◌then◌else◌};
+ghost use Rattle.std.specs.Prelude.{◌≡◌, ◌+◌, ◌*◌, ◌≤◌, ◌++◌, [], ◌<◌, ◌^◌, length, codes, if◌then◌else◌};
 ghost use Rattle.trace_text.specs.Names.{conf_or_dash, further, proc_name, value_name};
 ghost use Rattle.trace_text.specs.Text.{bound_text};
-ghost use Rattle.scram_cli.specs.Lines.{accepted_line, added, app_name, bound_line, cycle_text, env_or_dash, env_text, factors_text, kind_text, names_down, other_text, outside_line, rule_text, script_line, shown_line, specification_line};
+ghost use Rattle.scram_cli.specs.Lines.{accepted_line, added, app_name, bound_line, broken_line, counts_text, cycle_text, env_or_dash, env_text, factors_text, fly_line, holds_line, kind_text, names_down, other_text, outside_line, rule_text, script_line, shown_line, specification_line, trace_line};
 
+use crate::summaries::{last_run, longest};
 use choice_table::states;
 use coverage_check::timing::least;
 use coverage_check::{Other, Shown};
 use fault_script::{Outside, OutsideKind, ScriptFault};
 use reconf_spec::SpecFault;
 use scram_doc::Path;
-use scram_types::{AppId, ConfId, Env, Factor, Name, ProcId, Spec};
+use scram_types::{AppId, ConfId, Env, Factor, Flown, Name, ProcId, Spec};
+use trace_props::Broken;
+use trace_text::TraceFault;
 use trace_text::lines::Line;
 use trace_text::row_lines::name_of_conf;
 
@@ -101,6 +104,77 @@ pub fn make_bound_line(spec: &Spec, from: ConfId, to: ConfId) -> Line
     add_bound(&mut line, spec.bound(from, to));
     line.text(b"\n");
     line
+}
+
+/// A trace breaks a rule in a line.
+pub fn make_trace_line(fault: TraceFault) -> Line
+    ensures { result ≡ trace_line fault }
+{
+    let mut line = Line::new();
+    line.text(b"refused: trace rule ");
+    line.number(u32::from(fault.rule));
+    line.text(b" at line ");
+    line.number(fault.line);
+    line.text(b"\n");
+    line
+}
+
+/// The five properties hold of a trace: the numbers of its frames and of its reconfigurations.
+pub fn make_holds_line(flown: &Flown) -> Line
+    requires rows { length flown.now.rows < 2 ^ 32 }
+    requires reports { length flown.now.reports < 2 ^ 32 }
+    ensures { result ≡ holds_line flown.now }
+{
+    let mut line = Line::new();
+    line.text(b"holds:");
+    add_counts(&mut line, flown);
+    line.text(b"\n");
+    line
+}
+
+/// A trace breaks a property: which one first, and in which frame.
+pub fn make_broken_line(broken: Broken) -> Line
+    ensures { result ≡ broken_line broken }
+{
+    let mut line = Line::new();
+    line.text(b"broken: SP");
+    line.number(u32::from(broken.property.number()));
+    line.text(b" at frame ");
+    line.number(broken.frame);
+    line.text(b"\n");
+    line
+}
+
+/// The mission of a number was flown: the numbers of its frames and of its reconfigurations, how many frames
+/// the longest finished one took, and the configuration that was run last.
+pub fn make_fly_line(number: u32, spec: &Spec, flown: &Flown) -> Line
+    requires rows { length flown.now.rows < 2 ^ 32 }
+    requires reports { length flown.now.reports < 2 ^ 32 }
+    ensures { result ≡ fly_line number spec.now flown.now.rows flown.now.reports }
+{
+    let mut line = Line::new();
+    line.text(b"fly ");
+    line.number(number);
+    add_counts(&mut line, flown);
+    line.text(b" longest ");
+    line.number(longest(flown.reports.items()));
+    line.text(b" final ");
+    line.text(name_of_conf(spec, last_run(spec, flown.rows.items())).as_bytes());
+    line.text(b"\n");
+    line
+}
+
+fn add_counts(line: &mut Line, flown: &Flown)
+    requires room { length line.old + 46 ≤ 512 }
+    requires rows { length flown.now.rows < 2 ^ 32 }
+    requires reports { length flown.now.reports < 2 ^ 32 }
+    ensures text { line.new ≡ line.old ++ counts_text flown.now.rows flown.now.reports }
+    ensures short { length line.new ≤ length line.old + 46 }
+{
+    line.text(b" frames ");
+    line.number(flown.rows.items().len() as u32);
+    line.text(b" reconfigurations ");
+    line.number(flown.reports.items().len() as u32);
 }
 
 fn add_rule(line: &mut Line, rule: u8, path: &Path)

@@ -3,15 +3,16 @@
 ghost use Rattle.std.specs.Prelude.{◌≡◌, ◌≤◌, IfSome};
 ghost use Rattle.fault_script.specs.Fits.{Fits};
 ghost use Rattle.scram_io.specs.Outside.{Rose, StaysSteady};
-ghost use Rattle.scram_cli.specs.Loads.{FitsWhereGot, IsFailed, Loads, ReadsAsScript, ReadsAsSpec, RefusesAsScript, RefusesAsSpec};
+ghost use Rattle.scram_cli.specs.Loads.{FitsWhereGot, IsCountedWhereGot, IsFailed, Loads, ReadsAsScript, ReadsAsSpec, ReadsAsTrace, RefusesAsScript, RefusesAsSpec, RefusesAsTrace};
 
 use arrayvec::ArrayVec;
 use fault_script::{ScriptError, ScriptFault, read_script};
 use reconf_spec::{SpecError, SpecFault, read_spec};
 use scram_doc::Path;
 use scram_io::{Files, ReadFault};
-use scram_types::{Script, Spec};
+use scram_types::{Flown, Script, Spec};
 use std::alloc::Global;
+use trace_text::{MAX_TRACE_BYTES, TraceError, TraceFault, read_trace};
 
 /// The most bytes that a specification has.
 const MAX_SPECIFICATION_BYTES: usize = 1_048_576;
@@ -83,6 +84,33 @@ pub fn load_script<F: Files>(
         Err(ReadFault::TooLong) => {
             Loaded::Refused(ScriptFault::new(fault_script::rule::TOO_LONG, &Path::root()))
         }
+        Err(ReadFault::NoMemory) => Loaded::NoMemory,
+    }
+}
+
+/// Loads a trace of a specification's missions.
+pub fn load_trace<F: Files>(
+    alloc: Global,
+    spec: &Spec,
+    name: &str,
+    files: &mut F,
+) -> Loaded<Flown, TraceFault>
+    ensures value { IfSome (F.told files.old) (λ m. Loads (ReadsAsTrace spec.now) (RefusesAsTrace spec.now) m name.now result) }
+    ensures counted { IsCountedWhereGot result }
+    ensures map { F.told files.new ≡ F.told files.old }
+    ensures count { F.faults files.old ≤ F.faults files.new }
+    ensures failed { IsFailed result → Rose (F.faults files.old) (F.faults files.new) }
+    ensures steady { StaysSteady (F.told files.old) name.now (F.steady files.old) (F.steady files.new)
+        (F.faults files.old) (F.faults files.new) }
+{
+    match files.read(alloc, name, MAX_TRACE_BYTES) {
+        Ok(bytes) => match read_trace(alloc, &bytes, spec) {
+            Ok(flown) => Loaded::Got(flown),
+            Err(TraceError::Fault(fault)) => Loaded::Refused(fault),
+            Err(TraceError::NoMemory) => Loaded::NoMemory,
+        },
+        Err(ReadFault::Failed) => Loaded::Failed,
+        Err(ReadFault::TooLong) => Loaded::Refused(TraceFault { line: 0, rule: 9 }),
         Err(ReadFault::NoMemory) => Loaded::NoMemory,
     }
 }

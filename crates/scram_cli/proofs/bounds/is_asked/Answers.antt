@@ -1,4 +1,4 @@
-use Rattle.std.proofs.Common.{◌≡◌, ℕ, Bool, true, false, ap, sym, ◌∙◌}
+use Rattle.std.proofs.Common.{◌≡◌, ℕ, true, false, ap, sym, ◌∙◌}
 use Rattle.choice_table.specs.Environments.{has_bit}
 use Rattle.coverage_check.specs.Timing.{is_target}
 use Rattle.scram_cli.proofs.Bounding.{target_bit}

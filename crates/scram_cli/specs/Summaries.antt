@@ -1,0 +1,35 @@
+-- What the line of a flight tells of its rows and reports.
+use Rattle.std.specs.Prelude.{ℕ, ◌-◌, max, List, [], ◌∷◌, Option, Some, None}
+use Rattle.scram_types.specs.declared.flights.Report.{Report}
+use Rattle.scram_types.specs.declared.flights.Row.{Row}
+use Rattle.scram_types.specs.declared.ids.ConfId.{ConfId}
+use Rattle.scram_types.specs.Specification.{Parts}
+use Rattle.frame_model.specs.Runs.{running}
+
+-- the frames from the begin to the end of a finished reconfiguration; an unfinished one has no target, and
+-- counts nothing
+abbrev pub duration_to : Option ConfId → Report → ℕ
+duration_to None report = 0
+duration_to (Some to) report = report.end - report.begin
+
+abbrev pub duration : Report → ℕ
+duration report = duration_to report.to report
+
+-- the greatest duration of a finished reconfiguration, 0 without one
+abbrev pub longest : List Report → ℕ
+longest [] = 0
+longest (report ∷ reports) = max (duration report) (longest reports)
+
+-- a configuration, or the one before it where there is none
+abbrev pub or_before : Option ConfId → ConfId → ConfId
+or_before None before = before
+or_before (Some c) before = c
+
+-- the last configuration that one of the rows runs, or the one before them where none runs one
+abbrev pub last_run_from : Parts → ConfId → List Row → ConfId
+last_run_from spec before [] = before
+last_run_from spec before (row ∷ rows) = last_run_from spec (or_before (running spec row.acts) before) rows
+
+-- the last configuration that a row runs, or the start configuration where none runs one
+abbrev pub last_run : Parts → List Row → ConfId
+last_run spec rows = last_run_from spec spec.start rows

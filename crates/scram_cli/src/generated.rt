@@ -1,0 +1,88 @@
+//! Missions from a number: printed, or flown.
+
+ghost use Rattle.std.specs.Prelude.{◌≡◌, ◌≢◌, IfOk};
+ghost use Rattle.app_model.specs.Racks.{RacksFit};
+ghost use Rattle.fault_script.specs.Fits.{Fits};
+ghost use Rattle.scram_io.specs.Outside.{Rose};
+ghost use Rattle.scram_cli.specs.Answers.{Tells, TellsMission, mission_answer, mission_text};
+ghost use Rattle.scram_cli.specs.Assurance.{AssuresMission, AssuresPurpose};
+
+use crate::flights::{Telling, fly};
+use crate::forms::Purpose;
+use crate::refusals::{refuse_memory, tell};
+use crate::status::Status;
+use app_model::Rack;
+use fault_script::write_script;
+use mission_gen::generate;
+use reconf_spec::write_spec;
+use scram_io::Sink;
+use scram_types::{NoMemory, Script, Spec};
+use std::alloc::Global;
+
+/// Generates the mission of a number, and does with it what it is for.
+pub fn answer_generated<K: Sink>(
+    alloc: Global,
+    number: u32,
+    purpose: Purpose,
+    out: &mut K,
+    racks: Vec<Rack>,
+) -> Status
+    requires { RacksFit (λ b. kind_of (b.vtable, b.value)) (λ r. r.boxes.items) racks.items }
+    ensures tells { TellsMission number purpose (K.taken out.old) (K.taken out.new)
+        (K.surely out.old) (K.faults out.old) (K.faults out.new) result.code }
+    ensures write { result.code ≡ 4 → Rose (K.faults out.old) (K.faults out.new) }
+    ensures read { result.code ≢ 3 }
+    ensures assured { result.code ≡ 0 → AssuresMission number purpose (K.taken out.old) (K.taken out.new) }
+{
+    match generate(alloc, number) {
+        Ok((spec, script)) => answer_mission(alloc, number, purpose, spec, script, out, racks),
+        Err(_) => refuse_memory(out),
+    }
+}
+
+fn answer_mission<K: Sink>(
+    alloc: Global,
+    number: u32,
+    purpose: Purpose,
+    spec: Spec,
+    script: Script,
+    out: &mut K,
+    racks: Vec<Rack>,
+) -> Status
+    requires script { Fits spec script }
+    requires racks { RacksFit (λ b. kind_of (b.vtable, b.value)) (λ r. r.boxes.items) racks.items }
+    ensures tells { Tells (mission_answer number purpose spec script) (K.taken out.old) (K.taken out.new)
+        (K.surely out.old) (K.faults out.old) (K.faults out.new) result.code }
+    ensures write { result.code ≡ 4 → Rose (K.faults out.old) (K.faults out.new) }
+    ensures read { result.code ≢ 3 }
+    ensures assured { result.code ≡ 0 → AssuresPurpose number purpose spec script (K.taken out.old) (K.taken out.new) }
+{
+    match purpose {
+        Purpose::Print => print_mission(alloc, &spec, &script, out),
+        Purpose::Fly => fly(alloc, spec, script, Telling::Summary(number), out, racks),
+    }
+}
+
+fn print_mission<K: Sink>(alloc: Global, spec: &Spec, script: &Script, out: &mut K) -> Status
+    ensures tells { Tells (0, mission_text spec.now script.now) (K.taken out.old) (K.taken out.new)
+        (K.surely out.old) (K.faults out.old) (K.faults out.new) result.code }
+    ensures write { result.code ≡ 4 → Rose (K.faults out.old) (K.faults out.new) }
+    ensures read { result.code ≢ 3 }
+{
+    match write_mission(alloc, spec, script) {
+        Ok(text) => tell(out, 0, &text),
+        Err(_) => refuse_memory(out),
+    }
+}
+
+// The canonical specification and the canonical script, a line each.
+fn write_mission(alloc: Global, spec: &Spec, script: &Script) -> Result<Vec<u8>, NoMemory>
+    ensures { IfOk result (λ text. text.items ≡ mission_text spec.now script.now) }
+{
+    let mut text = write_spec(alloc, spec)?;
+    text.push(b'\n')?;
+    let line = write_script(alloc, script, spec)?;
+    text.extend_from_slice(&line)?;
+    text.push(b'\n')?;
+    Ok(text)
+}
