@@ -13,11 +13,14 @@ use Rattle.mission_gen.specs.Changes.{change_by, changes_by, count_of_values, fr
 use Rattle.mission_gen.specs.Turns.{Turn, turns_to}
 use Rattle.mission_gen.proofs.Ordering.{AreTurns, IsTurn, Precedes, Sorted, turns_kept}
 
--- What a generated script asks of a specification: two processors, three applications, two factors of two
--- values and four of four.
+-- What a generated script asks of a specification: two processors, three applications, a failure assumption, and two
+-- factors of two values and four of four.
 pub record HasCounts (spec : Parts) : Type 0 where
   pub procs : length spec.procs ≡ 2
   pub apps : length spec.apps ≡ 3
+  pub halts : spec.halts ≡ 1
+  pub changes : spec.changes ≡ 1
+  pub window : spec.window ≡ 40
   pub values : map (λ (factor : Factor). length factor.values) spec.factors ≡ 2 ∷ 2 ∷ 4 ∷ 4 ∷ 4 ∷ 4 ∷ []
 
 record HasFactor (spec : Parts) (x : ℕ) : Type 0 where

@@ -3,3 +3,4 @@ mod Fitting
 mod Ordering
 mod Reading
 pub mod Walking
+mod Windows

@@ -36,9 +36,9 @@ abbrev pub is_ok : {A E : Type 0} → Result A E → Bool
 is_ok (Ok a) = true
 is_ok (Err e) = false
 
--- how many processors, applications, and values of each factor there are
+-- how many processors and applications there are, what the failure assumption is, and how many values each factor has
 abbrev pub counts_in : Parts → List ℕ
-counts_in spec = length spec.procs ∷ length spec.apps ∷ map (λ (factor : Factor). length factor.values) spec.factors
+counts_in spec = length spec.procs ∷ length spec.apps ∷ spec.halts ∷ spec.changes ∷ spec.window ∷ map (λ (factor : Factor). length factor.values) spec.factors
 
 abbrev pub counts : Result Parts DocFault → Option (List ℕ)
 counts (Ok spec) = Some (counts_in spec)
@@ -48,7 +48,7 @@ uav_reads : is_ok (reading uav_text) ≡ true
 unfolding uav_text value lex punctuate content word after_number number_of scan
 uav_reads = refl
 
-generated_reads : counts (reading generated_text) ≡ Some (2 ∷ 3 ∷ 2 ∷ 2 ∷ 4 ∷ 4 ∷ 4 ∷ 4 ∷ [])
+generated_reads : counts (reading generated_text) ≡ Some (2 ∷ 3 ∷ 1 ∷ 1 ∷ 40 ∷ 2 ∷ 2 ∷ 4 ∷ 4 ∷ 4 ∷ 4 ∷ [])
 unfolding generated_text value lex punctuate content word after_number number_of scan
 generated_reads = refl
 
@@ -91,16 +91,20 @@ ok_if (Err fault) ns known = absurd cc
 pub generated_given : GivesSpecification generated_text
 generated_given = gives generated_text generated_is_plain (ok_if (reading generated_text) _ generated_reads)
 
-counts_of : (spec : Parts) (ns : List ℕ) → Some (counts_in spec) ≡ Some (2 ∷ 3 ∷ ns) → (length spec.procs ≡ 2) × (length spec.apps ≡ 3) × (map (λ (factor : Factor). length factor.values) spec.factors ≡ ns)
-counts_of spec ns known =
-    let same = same_Some _ _ known in
-    (ap (λ (xs : List ℕ). slice_index xs 0) same, ap (λ (xs : List ℕ). slice_index xs 1) same, ap (λ (xs : List ℕ). drop 2 xs) same)
+has_counts : (spec : Parts) → counts_in spec ≡ 2 ∷ 3 ∷ 1 ∷ 1 ∷ 40 ∷ 2 ∷ 2 ∷ 4 ∷ 4 ∷ 4 ∷ 4 ∷ [] → HasCounts spec
+has_counts spec known = record {
+  procs = ap (λ (xs : List ℕ). slice_index xs 0) known;
+  apps = ap (λ (xs : List ℕ). slice_index xs 1) known;
+  halts = ap (λ (xs : List ℕ). slice_index xs 2) known;
+  changes = ap (λ (xs : List ℕ). slice_index xs 3) known;
+  window = ap (λ (xs : List ℕ). slice_index xs 4) known;
+  values = ap (λ (xs : List ℕ). drop 5 xs) known;
+}
 
 pub generated_counts : (spec : Parts) → spec_of generated_text ≡ Ok spec → HasCounts spec
 generated_counts spec given =
     let read : counts (Ok spec) ≡ counts (reading generated_text) = ap counts (sym given ∙ plain_read generated_text generated_is_plain) in
-    let known = counts_of spec _ (read ∙ generated_reads) in
-    record { procs = known.0; apps = known.1; values = known.2 }
+    has_counts spec (same_Some _ _ (read ∙ generated_reads))
 
 -- the canonical text of what was read
 abbrev canonical : Result Parts DocFault → List ℕ

@@ -1,5 +1,5 @@
-//! Missions made from a number: one specification for all of them, and a script whose frames, changes and halt
-//! follow from the number alone and fit that specification.
+//! Missions made from a number: one specification for all of them, and a script that follows from the number alone,
+//! fits that specification and keeps to its failure assumption.
 #![tactic(auto)]
 
 mod missions;

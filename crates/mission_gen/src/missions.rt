@@ -2,6 +2,7 @@
 
 ghost use Rattle.std.specs.Prelude.{◌≡◌, Ok, IfOk};
 ghost use Rattle.scram_doc.specs.Chain.{ok_map};
+ghost use Rattle.fault_script.specs.Assumption.{IsWithin};
 ghost use Rattle.fault_script.specs.Fits.{Fits};
 ghost use Rattle.reconf_spec.specs.Documents.{spec_of};
 ghost use Rattle.reconf_spec.specs.Texts.{spec_text};
@@ -73,8 +74,8 @@ fn make_script(alloc: Global, n: u32) -> Result<Script, NoMemory>
     })
 }
 
-/// The mission of a number: the aircraft with four further factors, and a script of 1,000 to 19,000 frames. The
-/// script fits the specification.
+/// The mission of a number: the aircraft with four further factors, and a script of 1,000 to 19,000 frames, which
+/// fits that specification and keeps to its failure assumption.
 ///
 /// # Errors
 ///
@@ -85,6 +86,7 @@ pub fn generate(alloc: Global, n: u32) -> Result<(Spec, Script), NoMemory>
     ensures canonical { IfOk result (λ made. spec_text made.0 ≡ generated_text) }
     ensures script { IfOk result (λ made. made.1 ≡ generated_script n) }
     ensures fits { IfOk result (λ made. Fits made.0 made.1) }
+    ensures within { IfOk result (λ made. IsWithin made.0 made.1) }
 {
     let spec = read_text(alloc, texts::generated())?;
     let script = make_script(alloc, n)?;

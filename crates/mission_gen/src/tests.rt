@@ -38,14 +38,30 @@ const SCRIPT: &str = concat!(
     r#""frames":1000,"halts":[{"frame":306,"processor":"p0","step":25}],"scram":1}"#,
 );
 
-/// A change's frame, the number of its factor, and the number of its value.
-fn change_of(change: &Change) -> (u32, u8, u8) {
-    (change.frame, change.factor.0, change.value)
+fn script_text() -> &'static str {
+    SCRIPT
 }
 
-/// A halt's processor, frame and step.
-fn halt_of(halt: &HaltAt) -> (u8, u32, u8) {
-    (halt.proc.0, halt.frame, halt.step)
+/// Whether a change is in this frame, of the factor of this number, to the value of this number.
+fn is_change(change: &Change, worked: &(u32, u8, u8)) -> bool {
+    change.frame == worked.0 && change.factor.0 == worked.1 && change.value == worked.2
+}
+
+/// Whether the changes begin with these.
+fn begin_with(changes: &[Change], worked: &[(u32, u8, u8)]) -> bool {
+    worked.len() <= changes.len()
+        && changes
+            .iter()
+            .zip(worked.iter())
+            .all(|(change, worked)| is_change(change, worked))
+}
+
+/// Whether the only halt is of this processor, in this frame, at this step.
+fn is_only_halt(halts: &[HaltAt], proc: u8, frame: u32, step: u8) -> bool {
+    match halts {
+        [halt] => halt.proc.0 == proc && halt.frame == frame && halt.step == step,
+        _ => false,
+    }
 }
 
 #[test]
@@ -61,13 +77,8 @@ fn the_first_mission_is_the_worked_one(rt: HostRuntime) -> Result<(), Fail> {
     assert_eq!(rt; spec.factors.items().len(), 6);
     assert_eq!(rt; script.frames, 1000);
     assert_eq!(rt; script.changes.items().len(), 27);
-    for (change, worked) in script.changes.items().iter().zip(first.iter()) {
-        assert_eq!(rt; change_of(change), *worked);
-    }
-    for halt in script.halts.items() {
-        assert_eq!(rt; halt_of(halt), (0, 306, 25));
-    }
-    assert_eq!(rt; script.halts.items().len(), 1);
+    assert!(rt; begin_with(script.changes.items(), &first));
+    assert!(rt; is_only_halt(script.halts.items(), 0, 306, 25));
     Ok(())
 }
 
@@ -75,7 +86,7 @@ fn the_first_mission_is_the_worked_one(rt: HostRuntime) -> Result<(), Fail> {
 fn missions_are_written_as_another_program_writes_them(rt: HostRuntime) -> Result<(), Fail> {
     let (spec, script) = generate(rt.alloc(), 344_128)?;
     let text = write_script(rt.alloc(), &script, &spec)?;
-    assert!(rt; text.as_slice() == SCRIPT.as_bytes());
+    assert!(rt; text.as_slice() == script_text().as_bytes());
     let text = write_spec(rt.alloc(), &spec)?;
     assert!(rt; text.as_slice() == crate::texts::generated().as_bytes());
     Ok(())

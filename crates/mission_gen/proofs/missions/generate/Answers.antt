@@ -1,6 +1,6 @@
-use Rattle.fault_script.specs.Fits.{Fits}
 use Rattle.mission_gen.proofs.Fitting.{script_fits}
 use Rattle.mission_gen.proofs.Reading.{generated_canonical, generated_counts, generated_from_uav, generated_given}
+use Rattle.mission_gen.proofs.Windows.{script_is_within}
 use Rattle.mission_gen.proofs.missions.generate.Goals as goal
 
 pub read_text-requires : goal.read_text-requires
@@ -15,3 +15,7 @@ returns-clause-canonical c = generated_canonical c.in_ok-spec.spec (rw (← c.ge
 pub returns-clause-fits : goal.returns-clause-fits
 returns-clause-fits c =
     rw c.in_ok-script.ensures (script_fits c.in_ok-spec.spec c.args.n (generated_counts c.in_ok-spec.spec (rw (← c.generated.ensures) c.in_ok-spec.ensures)))
+
+pub returns-clause-within : goal.returns-clause-within
+returns-clause-within c =
+    rw c.in_ok-script.ensures (script_is_within c.in_ok-spec.spec c.args.n (generated_counts c.in_ok-spec.spec (rw (← c.generated.ensures) c.in_ok-spec.ensures)))
