@@ -7,11 +7,12 @@ use more_apps::{Datalink, Navigator};
 use power_monitor::PowerMonitor;
 use scram_cli::scram;
 use scram_io::{MemFiles, MemSink};
-use std::alloc::Global;
+use std::alloc::{AllocError, Global};
 use std::test::Fail;
 
 /// The mission `uav`.
-const UAV: &str = r#"{"scram":1,
+fn uav() -> &'static str {
+    r#"{"scram":1,
 "processors":[{"name":"p0","capacity":100},{"name":"p1","capacity":100}],
 "apps":[
 {"name":"autopilot","kind":"autopilot","needs":["flight_control"],"modes":[
@@ -62,13 +63,17 @@ const UAV: &str = r#"{"scram":1,
 {"configuration":"full","app":"flight_control","variable":"elevator","least":-50,"greatest":50},
 {"configuration":"reduced_a","app":"flight_control","variable":"elevator","least":-50,"greatest":50},
 {"configuration":"reduced_b","app":"flight_control","variable":"elevator","least":-50,"greatest":50}],
-"assumption":{"halts":1,"changes":1,"window":40}}"#;
+"assumption":{"halts":1,"changes":1,"window":40}}"#
+}
 
 /// A script of three frames in which nothing happens.
-const THREE_FRAMES: &str = r#"{"scram":1,"frames":3,"changes":[],"halts":[]}"#;
+fn three_frames() -> &'static str {
+    r#"{"scram":1,"frames":3,"changes":[],"halts":[]}"#
+}
 
 /// The text of that flight, in 13 lines.
-const TRACE: &str = "frame 0 stable full env ok,ok up p0,p1 world 5000 0 900 0\n\
+fn trace() -> &'static str {
+    "frame 0 stable full env ok,ok up p0,p1 world 5000 0 900 0\n\
 app autopilot ran navigate p0 : 1 0 0 5000 900 0 1 0\n\
 app flight_control ran augmented p1 : 1 0 0 0 0 0 1 0\n\
 app power_monitor ran normal p0 : 1 8020 120 100 0 0 1 0\n\
@@ -80,7 +85,8 @@ frame 2 stable full env ok,ok up p0,p1 world 5000 0 900 0\n\
 app autopilot ran navigate p0 : 1 0 0 5000 900 0 3 0\n\
 app flight_control ran augmented p1 : 1 0 0 0 0 0 3 0\n\
 app power_monitor ran normal p0 : 1 8060 120 100 0 0 3 0\n\
-end frames 3 reconfigurations 0\n";
+end frames 3 reconfigurations 0\n"
+}
 
 /// A text in which one piece is changed.
 fn changed(alloc: Global, text: &str, piece: &str, new: &str) -> Result<String, Fail> {
@@ -99,62 +105,66 @@ fn padded(alloc: Global, text: &str, bytes: usize) -> Result<String, Fail> {
     Ok(padded)
 }
 
-/// Two files in memory, the reads and puts that are to fail, and the room of the sink.
-#[derive(Clone, Copy)]
-struct Setting<'a> {
-    specification: &'a str,
-    script: &'a str,
-    failing_reads: &'a [u32],
-    failing_puts: &'a [u32],
-    room: usize,
-}
-
-const fn make_setting<'a>(specification: &'a str, script: &'a str) -> Setting<'a> {
-    Setting {
-        specification,
-        script,
-        failing_reads: &[],
-        failing_puts: &[],
-        room: 100_000,
-    }
-}
-
-/// Calls the command with these words on the files `uav.json` and `s.json`: the status, and what was put.
-fn call(rt: &HostRuntime, setting: &Setting, given: &[&str]) -> Result<(u8, MemSink), Fail> {
-    let alloc = rt.alloc();
+fn words_of(alloc: Global, given: &[&str]) -> Result<Vec<String>, Fail> {
     let mut words = Vec::new(alloc);
     for word in given {
         words.push(word.to_string(alloc)?)?;
     }
+    Ok(words)
+}
+
+/// The files `uav.json` and `s.json`, and the reads that fail.
+fn files_of(
+    alloc: Global,
+    specification: &str,
+    script: &str,
+    failing: &[u32],
+) -> Result<MemFiles, Fail> {
     let mut entries = Vec::new(alloc);
-    for (name, text) in [
-        ("uav.json", setting.specification),
-        ("s.json", setting.script),
-    ] {
+    for (name, text) in [("uav.json", specification), ("s.json", script)] {
         entries.push((name.to_string(alloc)?, text.as_bytes().to_vec(alloc)?))?;
     }
-    let mut files = MemFiles::new(entries, setting.failing_reads.to_vec(alloc)?);
-    let mut sink = MemSink::new(alloc, setting.room, setting.failing_puts.to_vec(alloc)?)?;
+    Ok(MemFiles::new(entries, failing.to_vec(alloc)?))
+}
+
+/// Calls the command with all boxes; the status.
+fn call(
+    rt: &HostRuntime,
+    words: &[String],
+    files: &mut MemFiles,
+    out: &mut MemSink,
+) -> Result<u8, AllocError> {
     let racks = racks!(rt);
     let spares = racks!(rt);
     if !racks_fit(&racks) || !racks_fit(&spares) {
-        return Err(Fail::new("the racks do not fit"));
+        return Ok(u8::MAX);
     }
-    let status = scram(rt, &words, &mut files, &mut sink, racks, spares);
-    Ok((status.code, sink))
+    Ok(scram(rt, words, files, out, racks, spares).code)
 }
 
-const RUN: &[&str] = &["run", "uav.json", "s.json"];
+/// What is put with these words on the files `uav.json` and `s.json`, and the status.
+fn answer_on(
+    rt: &HostRuntime,
+    given: &[&str],
+    specification: &str,
+    script: &str,
+) -> Result<(u8, MemSink), Fail> {
+    let words = words_of(rt.alloc(), given)?;
+    let mut files = files_of(rt.alloc(), specification, script, &[])?;
+    let mut out = MemSink::new(rt.alloc(), 100_000, Vec::new(rt.alloc()))?;
+    let status = call(rt, &words, &mut files, &mut out)?;
+    Ok((status, out))
+}
 
-const CHECK: &[&str] = &["check", "uav.json"];
-
-const BOUNDS: &[&str] = &["bounds", "uav.json"];
+/// Whether this is answered to the words, on the mission `uav` and the script of three frames.
+fn answers(rt: &HostRuntime, given: &[&str], status: u8, text: &str) -> Result<bool, Fail> {
+    let (code, out) = answer_on(rt, given, uav(), three_frames())?;
+    Ok(code == status && out.bytes() == text.as_bytes())
+}
 
 #[test]
 fn flies_a_mission(rt: HostRuntime) -> Result<(), Fail> {
-    let (code, sink) = call(&rt, &make_setting(UAV, THREE_FRAMES), RUN)?;
-    assert_eq!(rt; code, 0);
-    assert_eq!(rt; sink.bytes(), TRACE.as_bytes());
+    assert!(rt; answers(&rt, &["run", "uav.json", "s.json"], 0, trace())?);
     Ok(())
 }
 
@@ -170,210 +180,229 @@ fn refuses_words(rt: HostRuntime) -> Result<(), Fail> {
         &["bounds"],
         &["bounds", "uav.json", "s.json"],
         &["land", "uav.json"],
-        &["Run", "uav.json", "s.json"],
         &["--help"],
     ] {
-        let (code, sink) = call(&rt, &make_setting(UAV, THREE_FRAMES), given)?;
-        assert_eq!(rt; code, 2);
-        assert_eq!(rt; sink.bytes(), b"refused: usage\n".as_slice());
+        assert!(rt; answers(&rt, given, 2, "refused: usage\n")?);
     }
     Ok(())
 }
 
-/// What is changed in the mission `uav`, the script, the words, and the status and the text that are answered.
-type Case<'a> = ((&'a str, &'a str), &'a str, &'a [&'a str], u8, &'a str);
-
 #[test]
-fn answers_in_the_order_of_tests(rt: HostRuntime) -> Result<(), Fail> {
-    let same = ("p0", "p0");
-    let short = (
-        r#""to":"reduced_a","frames":12"#,
-        r#""to":"reduced_a","frames":11"#,
-    );
-    let unordered =
-        r#"{"scram":1,"frames":20,"changes":[{"frame":13,"factor":"alternator1","value":"failed"},{"frame":10,"factor":"alternator1","value":"ok"}],"halts":[]}"#;
-    let changing =
-        r#"{"scram":1,"frames":30,"changes":[{"frame":10,"factor":"alternator1","value":"failed"},{"frame":13,"factor":"alternator2","value":"failed"},{"frame":16,"factor":"alternator1","value":"ok"}],"halts":[]}"#;
-    let halting =
-        r#"{"scram":1,"frames":60,"changes":[],"halts":[{"processor":"p1","frame":5,"step":0},{"processor":"p0","frame":30,"step":0}]}"#;
-    let cases: [Case; 13] = [
+fn refuses_files_that_are_not_there(rt: HostRuntime) -> Result<(), Fail> {
+    for (given, line) in [
         (
-            same,
-            r#"{"scram":1,"frames":0,"changes":[],"halts":[]}"#,
-            RUN,
-            0,
-            "end frames 0 reconfigurations 0\n",
+            ["run", "t.json", "s.json"].as_slice(),
+            "refused: read t.json\n",
         ),
-        (
-            same,
-            "",
-            CHECK,
-            0,
-            "accepted: configurations 5 states 12 bounds 25\n",
-        ),
-        (
-            short,
-            THREE_FRAMES,
-            RUN,
-            6,
-            "refused: A9 full - reduced_a:12\n",
-        ),
-        (short, "", CHECK, 6, "refused: A9 full - reduced_a:12\n"),
-        (
-            (
-                r#"{"from":"*","when":[],"up":["p1"],"to":"reduced_b"}"#,
-                r#"{"from":"*","when":[],"up":["p0"],"to":"reduced_a"}"#,
-            ),
-            "",
-            CHECK,
-            6,
-            "refused: A5 full alternator1=ok,alternator2=ok,down=p0 -\n",
-        ),
-        (
-            (
-                r#""kind":"flight_control","needs":[]"#,
-                r#""kind":"flight_control","needs":["autopilot"]"#,
-            ),
-            "",
-            RUN,
-            5,
-            "refused: specification rule 21 at .apps cycle autopilot,flight_control\n",
-        ),
-        (
-            (r#"{"scram":1,"#, r#"{"scram":3,"#),
-            "",
-            BOUNDS,
-            5,
-            "refused: specification rule 9 at .scram\n",
-        ),
-        (
-            same,
-            unordered,
-            RUN,
-            7,
-            "refused: script rule 11 at .changes.1\n",
-        ),
-        (same, "", RUN, 7, "refused: script rule 1 at .\n"),
-        (
-            short,
-            unordered,
-            RUN,
-            7,
-            "refused: script rule 11 at .changes.1\n",
-        ),
-        (short, changing, RUN, 6, "refused: A9 full - reduced_a:12\n"),
-        (
-            same,
-            changing,
-            RUN,
-            8,
-            "refused: outside at frame 16: changes\n",
-        ),
-        (
-            same,
-            halting,
-            RUN,
-            8,
-            "refused: outside at frame 30: halts\n",
-        ),
-    ];
-    for ((piece, new), script, given, status, text) in cases {
-        let specification = changed(rt.alloc(), UAV, piece, new)?;
-        let (code, sink) = call(&rt, &make_setting(specification.as_str(), script), given)?;
-        assert_eq!(rt; sink.bytes(), text.as_bytes());
-        assert_eq!(rt; code, status);
+        (&["run", "uav.json", "t.json"], "refused: read t.json\n"),
+        (&["check", ""], "refused: read \n"),
+        (&["bounds", "t.json"], "refused: read t.json\n"),
+    ] {
+        assert!(rt; answers(&rt, given, 3, line)?);
     }
     Ok(())
+}
+
+/// The script that is refused: its second change is in an earlier frame than its first.
+fn unordered() -> &'static str {
+    r#"{"scram":1,"frames":20,"changes":[{"frame":13,"factor":"alternator1","value":"failed"},{"frame":10,"factor":"alternator1","value":"ok"}],"halts":[]}"#
+}
+
+/// A script with three changes in one window.
+fn changing() -> &'static str {
+    r#"{"scram":1,"frames":30,"changes":[{"frame":10,"factor":"alternator1","value":"failed"},{"frame":13,"factor":"alternator2","value":"failed"},{"frame":16,"factor":"alternator1","value":"ok"}],"halts":[]}"#
+}
+
+/// A script in which both processors are down at last.
+fn halting() -> &'static str {
+    r#"{"scram":1,"frames":60,"changes":[],"halts":[{"processor":"p1","frame":5,"step":0},{"processor":"p0","frame":30,"step":0}]}"#
+}
+
+/// Whether this is answered on the mission `uav` and a script.
+fn answers_script(
+    rt: &HostRuntime,
+    given: &[&str],
+    script: &str,
+    status: u8,
+    text: &str,
+) -> Result<bool, Fail> {
+    let (code, out) = answer_on(rt, given, uav(), script)?;
+    Ok(code == status && out.bytes() == text.as_bytes())
+}
+
+#[test]
+fn answers_scripts(rt: HostRuntime) -> Result<(), Fail> {
+    let run = ["run", "uav.json", "s.json"];
+    let none = r#"{"scram":1,"frames":0,"changes":[],"halts":[]}"#;
+    assert!(rt; answers_script(&rt, &run, none, 0, "end frames 0 reconfigurations 0\n")?);
+    assert!(rt; answers_script(&rt, &run, "", 7, "refused: script rule 1 at .\n")?);
+    assert!(rt;
+        answers_script(
+            &rt,
+            &run,
+            unordered(),
+            7,
+            "refused: script rule 11 at .changes.1\n"
+        )?
+    );
+    assert!(rt;
+        answers_script(
+            &rt,
+            &run,
+            changing(),
+            8,
+            "refused: outside at frame 16: changes\n"
+        )?
+    );
+    assert!(rt;
+        answers_script(
+            &rt,
+            &run,
+            halting(),
+            8,
+            "refused: outside at frame 30: halts\n"
+        )?
+    );
+    Ok(())
+}
+
+/// Whether this is answered on the mission `uav` with one piece changed, and on a script that is refused.
+fn answers_change(
+    rt: &HostRuntime,
+    given: &[&str],
+    piece: &str,
+    new: &str,
+    status: u8,
+    text: &str,
+) -> Result<bool, Fail> {
+    let specification = changed(rt.alloc(), uav(), piece, new)?;
+    let (code, out) = answer_on(rt, given, specification.as_str(), unordered())?;
+    Ok(code == status && out.bytes() == text.as_bytes())
+}
+
+#[test]
+fn answers_specifications(rt: HostRuntime) -> Result<(), Fail> {
+    let run = ["run", "uav.json", "s.json"];
+    let check = ["check", "uav.json"];
+    let accepted = "accepted: configurations 5 states 12 bounds 25\n";
+    assert!(rt; answers_change(&rt, &check, "p0", "p0", 0, accepted)?);
+    let version = "refused: specification rule 9 at .scram\n";
+    assert!(rt; answers_change(&rt, &run, r#""scram":1"#, r#""scram":3"#, 5, version)?);
+    let cycle = "refused: specification rule 21 at .apps cycle autopilot,flight_control\n";
+    let needs = r#""flight_control","needs":["autopilot"]"#;
+    assert!(rt; answers_change(&rt, &run, r#""flight_control","needs":[]"#, needs, 5, cycle)?);
+    let bound = r#""to":"reduced_a","frames":12"#;
+    let short = r#""to":"reduced_a","frames":11"#;
+    let refused = "refused: A9 full - reduced_a:12\n";
+    assert!(rt; answers_change(&rt, &check, bound, short, 6, refused)?);
+    let script = "refused: script rule 11 at .changes.1\n";
+    assert!(rt; answers_change(&rt, &run, bound, short, 7, script)?);
+    Ok(())
+}
+
+#[test]
+fn accepts_before_it_looks_at_the_assumption(rt: HostRuntime) -> Result<(), Fail> {
+    let bound = r#""to":"reduced_a","frames":12"#;
+    let short = r#""to":"reduced_a","frames":11"#;
+    let specification = changed(rt.alloc(), uav(), bound, short)?;
+    let run = ["run", "uav.json", "s.json"];
+    let (code, out) = answer_on(&rt, &run, specification.as_str(), changing())?;
+    assert_eq!(rt; code, 6);
+    assert_eq!(rt;
+        out.bytes(),
+        b"refused: A9 full - reduced_a:12\n".as_slice()
+    );
+    Ok(())
+}
+
+/// The line of a bound, where the configurations before the third are not minimal.
+fn bound_line(alloc: Global, i: u32, from: &str, j: u32, to: &str) -> Result<String, Fail> {
+    let frames = match (i < 3, j < 3) {
+        (true, true) => 12,
+        (false, false) => 10,
+        _ => 11,
+    };
+    Ok(format!(in alloc; "bound {from} {to} least {frames} given {frames}\n")?)
 }
 
 #[test]
 fn tells_bounds(rt: HostRuntime) -> Result<(), Fail> {
     let names = ["full", "reduced_a", "reduced_b", "minimal_a", "minimal_b"];
     let mut text = String::new(rt.alloc());
-    for (i, from) in names.iter().enumerate() {
-        for (j, to) in names.iter().enumerate() {
-            let frames = match (i < 3, j < 3) {
-                (true, true) => 12,
-                (false, false) => 10,
-                _ => 11,
-            };
-            let line = format!(in rt.alloc(); "bound {from} {to} least {frames} given {frames}\n")?;
-            text.push_str(line.as_str())?;
+    for (i, from) in (0u32..).zip(names) {
+        for (j, to) in (0u32..).zip(names) {
+            text.push_str(bound_line(rt.alloc(), i, from, j, to)?.as_str())?;
         }
     }
-    let (code, sink) = call(&rt, &make_setting(UAV, ""), BOUNDS)?;
-    assert_eq!(rt; code, 0);
-    assert_eq!(rt; sink.bytes(), text.as_bytes());
+    assert!(rt; answers(&rt, &["bounds", "uav.json"], 0, text.as_str())?);
     Ok(())
+}
+
+/// What is answered to `run` on documents of so many bytes, and the status.
+fn answer_padded(
+    rt: &HostRuntime,
+    specification: usize,
+    script: usize,
+) -> Result<(u8, MemSink), Fail> {
+    let specification = padded(rt.alloc(), uav(), specification)?;
+    let script = padded(rt.alloc(), three_frames(), script)?;
+    let run = ["run", "uav.json", "s.json"];
+    answer_on(rt, &run, specification.as_str(), script.as_str())
 }
 
 #[test]
 fn reads_documents_up_to_their_limits(rt: HostRuntime) -> Result<(), Fail> {
-    for (specification, script, status) in [
-        (1_048_576, 2_097_152, 0),
-        (1_048_577, 2_097_152, 5),
-        (1_048_576, 2_097_153, 7),
+    for (specification, script, status, text) in [
+        (1_048_576, 2_097_152, 0, trace()),
+        (
+            1_048_577,
+            2_097_152,
+            5,
+            "refused: specification rule 24 at .\n",
+        ),
+        (1_048_576, 2_097_153, 7, "refused: script rule 12 at .\n"),
     ] {
-        let specification = padded(rt.alloc(), UAV, specification)?;
-        let script = padded(rt.alloc(), THREE_FRAMES, script)?;
-        let (code, sink) = call(
-            &rt,
-            &make_setting(specification.as_str(), script.as_str()),
-            RUN,
-        )?;
+        let (code, out) = answer_padded(&rt, specification, script)?;
         assert_eq!(rt; code, status);
-        let text = match status {
-            5 => "refused: specification rule 24 at .\n",
-            7 => "refused: script rule 12 at .\n",
-            _ => TRACE,
-        };
-        assert_eq!(rt; sink.bytes(), text.as_bytes());
+        assert_eq!(rt; out.bytes(), text.as_bytes());
     }
     Ok(())
 }
 
+/// What is put by `run` where these reads and puts fail, and the sink has so much room; and the status.
+fn answer_failing(
+    rt: &HostRuntime,
+    reads: &[u32],
+    puts: &[u32],
+    room: usize,
+) -> Result<(u8, MemSink), Fail> {
+    let words = words_of(rt.alloc(), &["run", "uav.json", "s.json"])?;
+    let mut files = files_of(rt.alloc(), uav(), three_frames(), reads)?;
+    let mut out = MemSink::new(rt.alloc(), room, puts.to_vec(rt.alloc())?)?;
+    let status = call(rt, &words, &mut files, &mut out)?;
+    Ok((status, out))
+}
+
 #[test]
-fn names_the_file_that_was_not_read(rt: HostRuntime) -> Result<(), Fail> {
-    for (failing_reads, given, line) in [
-        ([0].as_slice(), RUN, "refused: read uav.json\n"),
-        (&[1], RUN, "refused: read s.json\n"),
-        (&[0], CHECK, "refused: read uav.json\n"),
-        (&[0], BOUNDS, "refused: read uav.json\n"),
-        (
-            &[],
-            &["run", "uav.json", "t.json"],
-            "refused: read t.json\n",
-        ),
-        (&[], &["check", ""], "refused: read \n"),
+fn names_the_file_whose_read_failed(rt: HostRuntime) -> Result<(), Fail> {
+    for (read, line) in [
+        (0, "refused: read uav.json\n"),
+        (1, "refused: read s.json\n"),
     ] {
-        let missing = Setting {
-            failing_reads,
-            ..make_setting(UAV, THREE_FRAMES)
-        };
-        let (code, sink) = call(&rt, &missing, given)?;
+        let (code, out) = answer_failing(&rt, &[read], &[], 1_000)?;
         assert_eq!(rt; code, 3);
-        assert_eq!(rt; sink.bytes(), line.as_bytes());
+        assert_eq!(rt; out.bytes(), line.as_bytes());
     }
     Ok(())
 }
 
 #[test]
 fn keeps_the_lines_before_a_failing_put(rt: HostRuntime) -> Result<(), Fail> {
-    let mut put = 0;
     let mut length = 0;
-    for line in TRACE.split('\n') {
-        if line.is_empty() {
-            continue;
-        }
-        let failing_puts = [put];
-        let failing = Setting {
-            failing_puts: &failing_puts,
-            ..make_setting(UAV, THREE_FRAMES)
-        };
-        let (code, sink) = call(&rt, &failing, RUN)?;
+    for (put, line) in (0u32..13).zip(trace().split('\n')) {
+        let (code, out) = answer_failing(&rt, &[], &[put], 1_000)?;
         assert_eq!(rt; code, 4);
-        assert_eq!(rt; Some(sink.bytes()), TRACE.as_bytes().get(..length));
-        put += 1;
+        assert_eq!(rt; Some(out.bytes()), trace().as_bytes().get(..length));
         length += line.len() + 1;
     }
     Ok(())
@@ -381,12 +410,9 @@ fn keeps_the_lines_before_a_failing_put(rt: HostRuntime) -> Result<(), Fail> {
 
 #[test]
 fn needs_as_much_room_as_the_text(rt: HostRuntime) -> Result<(), Fail> {
-    for (room, status) in [(TRACE.len(), 0), (TRACE.len() - 1, 4), (0, 4)] {
-        let narrow = Setting {
-            room,
-            ..make_setting(UAV, THREE_FRAMES)
-        };
-        let (code, _) = call(&rt, &narrow, RUN)?;
+    let length = trace().len();
+    for (room, status) in [(length, 0), (length - 1, 4), (0, 4)] {
+        let (code, _) = answer_failing(&rt, &[], &[], room)?;
         assert_eq!(rt; code, status);
     }
     Ok(())
