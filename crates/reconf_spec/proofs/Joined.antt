@@ -1,17 +1,18 @@
 -- Applications with their needs, and with their ranks.
-use Rattle.std.proofs.Common.{◌≡◌, ◌<◌, ◌≤◌, ◌+◌, ℕ, zero, suc, List, [], ◌∷◌, ◌++◌, drop, length, arith, refl, sym, ap, subst, ◌∙◌}
-use Rattle.std.specs.Prelude.{Option, Some, None, slice_get, slice_index, take, All}
+use Rattle.std.proofs.Common.{◌≡◌, ◌<◌, ◌≤◌, ◌+◌, ℕ, zero, suc, List, [], ◌∷◌, ◌++◌, drop, length, map, arith, refl, sym, ap, subst, ◌∙◌}
+use Rattle.std.specs.Prelude.{Option, Some, None, is_some, slice_get, slice_index, take, All}
 use Rattle.std.proofs.lemmas.List.Elements.{All-head, All-tail}
 use Rattle.std.proofs.Math.Seq.{take-append_seam}
 use Rattle.scram_types.specs.declared.ids.AppId.{AppId}
 use Rattle.scram_types.specs.declared.specification.AppSpec.{AppSpec}
 use Rattle.scram_types.specs.declared.specification.ModeSpec.{ModeSpec}
 use Rattle.scram_types.specs.Specification.{Each, HasLength, NamesDiffer, IsModeSpec, IsNeeded, IsAppSpec}
-use Rattle.dep_order.specs.Ranks.{RanksFall, NeedsInRange}
+use Rattle.dep_order.specs.Ranks.{IsRanking, RanksFall, NeedsInRange, rank_after}
 use Rattle.reconf_spec.specs.Applications.{app_name}
 use Rattle.reconf_spec.specs.Needs.{with_needs, with_ranks}
 use Rattle.reconf_spec.specs.Facts.{AllAfter, IsNewApp, IsNewMode, IsNewNeed, AreNeeds}
 use Rattle.reconf_spec.specs.Kept.{AreApps}
+use Rattle.reconf_spec.specs.Writable.{IsWritableApp, rank_of}
 use Rattle.reconf_spec.specs.Unranked.{IsUnranked, AreUnranked}
 use Rattle.reconf_spec.proofs.Distinct.{each_of, new_differ}
 
@@ -49,11 +50,16 @@ unranked apps needs whole a j fits named =
       needs = each_of (IsNewNeed apps) _ j.named (λ done need g. g.there) n.each;
       modes_count = f.count;
       modes = each_of (IsNewMode j.app.kind.0) (IsModeSpec j.app.kind.0) j.app.modes (λ done mode g. g.is f.kind) f.modes;
+      writable = record {
+        name = f.name.spelled;
+        needs = λ i need e. (n.each i need e).new;
+        modes = λ i mode e. ap (λ (o : Option ModeSpec). is_some o) (f.modes i mode e).new;
+      };
     })
 
 pub unranked_fit : (apps : List AppSpec) (needs : List (List AppId)) → 1 ≤ length apps → length apps ≤ 8 → length needs ≡ length apps → AllAfter IsNewApp apps → AllAfter (λ _. AreNeeds apps) needs → AreUnranked (with_needs apps needs)
 unranked_fit apps needs least most same fits named =
-    let names = new_differ app_name apps (λ i x e. (fits i x e).name) in
+    let names = new_differ app_name apps (λ i x e. (fits i x e).name.new) in
     let count = joined_length apps needs in
     record {
       count = record { enough = omega (arith, least, count); few = omega (arith, most, count) };
@@ -124,8 +130,23 @@ ranked apps ranks a whole same small fall fits e =
       modes = f.modes;
     })
 
-pub ranked_fit : (apps : List AppSpec) (ranks : List ℕ) → length ranks ≡ length apps → All (λ (rank : ℕ). rank < 8) ranks → RanksFall apps ranks → AreUnranked apps → AreApps (with_ranks apps ranks)
-ranked_fit apps ranks same small fall fits =
+ranks_given : (apps : List AppSpec) (ranks : List ℕ) → length ranks ≡ length apps → map rank_of (with_ranks apps ranks) ≡ ranks
+ranks_given [] [] same = refl
+ranks_given [] (rank ∷ ranks) same = absurd (omega (arith, same))
+ranks_given (app ∷ apps) [] same = absurd (omega (arith, same))
+ranks_given (app ∷ apps) (rank ∷ ranks) same = ap (λ (rs : List ℕ). rank ∷ rs) (ranks_given apps ranks (omega (arith, same)))
+
+still_ranking : (apps : List AppSpec) (ranks : List ℕ) → IsRanking apps ranks → IsRanking (with_ranks apps ranks) ranks
+still_ranking apps ranks is = record {
+  count = is.count ∙ sym (graded_length apps ranks);
+  ranked = λ a whole e.
+      let g = graded apps ranks a whole is.count e in
+      is.ranked a g.app g.there ∙ ap (λ (x : AppSpec). Some (rank_after ranks x.needs)) (sym g.is);
+}
+
+pub ranked_fit : (apps : List AppSpec) (ranks : List ℕ) → IsRanking apps ranks → All (λ (rank : ℕ). rank < 8) ranks → RanksFall apps ranks → AreUnranked apps → AreApps (with_ranks apps ranks)
+ranked_fit apps ranks is small fall fits =
+    let same = is.count in
     let count = graded_length apps ranks in
     record {
       count = record { enough = omega (arith, fits.count.enough, count); few = omega (arith, fits.count.few, count) };
@@ -136,6 +157,11 @@ ranked_fit apps ranks same small fall fits =
           let second : app_name y ≡ app_name two.app = ap app_name two.is in
           fits.differ i j one.app two.app one.there two.there (sym first ∙ spelled ∙ second);
       each = λ i x e. ranked apps ranks i x same small fall fits e;
+      writable = λ i x e.
+          let g = graded apps ranks i x same e in
+          let w = (fits.each i g.app g.there).writable in
+          subst IsWritableApp (sym g.is) (record { name = w.name; needs = w.needs; modes = w.modes });
+      ranks = subst (λ (rs : List ℕ). IsRanking (with_ranks apps ranks) rs) (sym (ranks_given apps ranks same)) (still_ranking apps ranks is);
     }
 
 pub needs_in_range : (apps : List AppSpec) → AreUnranked apps → NeedsInRange apps

@@ -17,3 +17,4 @@ pub mod RestBack
 pub mod SpecBack
 pub mod TextLengths
 pub mod TextSizes
+pub mod Spelled

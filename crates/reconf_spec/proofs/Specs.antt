@@ -1,6 +1,6 @@
 -- What the parts of a document keep makes a specification.
 use Rattle.std.proofs.Common.{◌≡◌, ◌<◌, ◌≤◌, ◌+◌, ℕ, ℤ, zero, suc, Bool, true, false, cond, List, [], ◌∷◌, length, arith, refl, ap, sym, subst, ◌∙◌}
-use Rattle.std.specs.Prelude.{Option, Some, None, slice_get, ◌≤ℤ◌, pos, ◌==◌, if◌then◌else◌}
+use Rattle.std.specs.Prelude.{Option, Some, None, is_some, slice_get, ◌≤ℤ◌, pos, ◌==◌, if◌then◌else◌}
 use Rattle.std.proofs.lemmas.Int.{ints}
 use Rattle.scram_types.specs.declared.ids.ConfId.{ConfId}
 use Rattle.scram_types.specs.declared.flights.Goal.{Goal}
@@ -21,6 +21,7 @@ use Rattle.reconf_spec.specs.Factors.{factor_name, own_name}
 use Rattle.reconf_spec.specs.Facts.{AllAfter, IsNewProc, IsNewConf, IsNewFactor, IsNewName, IsNewWant, FitsChoice, IsNewBound, FitsInvariant, FitsPrecondition, FitsInterval, IsVariable}
 use Rattle.reconf_spec.specs.Documents.{Names}
 use Rattle.scram_types.specs.declared.specification.Policy.{Policy}
+use Rattle.reconf_spec.specs.Writable.{IsWritable}
 use Rattle.reconf_spec.specs.Kept.{IsNamed, FitsAssumption}
 use Rattle.reconf_spec.specs.declared.documents.Assumption.{Assumption}
 use Rattle.reconf_spec.proofs.Distinct.{each_of, new_differ}
@@ -49,7 +50,7 @@ variable_below found variable is =
     omega (arith, few_variables is.app.kind.0, number_below 0 (variable_names is.app.kind.0) is.text variable is.named)
 
 factor_fits : (done : List Factor) (factor : Factor) → IsNewFactor done factor → IsFactor factor
-factor_fits done factor fits = record { count = fits.count; differ = new_differ own_name factor.values fits.values }
+factor_fits done factor fits = record { count = fits.count; differ = new_differ own_name factor.values (λ i x e. (fits.values i x e).new) }
 
 choice_fits : (procs : List Proc) (confs : List Conf) (factors : List Factor) (rule : Choice) → FitsChoice procs confs factors rule → IsChoice procs confs factors rule
 choice_fits procs confs factors rule fits = record {
@@ -96,16 +97,16 @@ pub spec_fits : (spec : Parts) → IsNamed spec.procs spec.apps spec.confs spec.
     → IsSpec spec
 spec_fits spec named few_rules rules few_bounds bounds start goal few_invariants invariants few_preconditions preconditions assumed = record {
   procs_count = named.procs_count;
-  procs_differ = new_differ proc_name spec.procs (λ i x e. (named.procs_fit i x e).name);
+  procs_differ = new_differ proc_name spec.procs (λ i x e. (named.procs_fit i x e).name.new);
   procs = each_of IsNewProc IsProc spec.procs (λ done x f. f.is) named.procs_fit;
   apps_count = named.apps_fit.count;
   apps_differ = named.apps_fit.differ;
   apps = named.apps_fit.each;
   confs_count = named.confs_count;
-  confs_differ = new_differ conf_name spec.confs (λ i x e. (named.confs_fit i x e).name);
+  confs_differ = new_differ conf_name spec.confs (λ i x e. (named.confs_fit i x e).name.new);
   confs = each_of (IsNewConf spec.procs spec.apps) (IsConf spec.procs spec.apps) spec.confs (λ done x f. record { width = f.width; places = f.places }) named.confs_fit;
   factors_count = named.factors_count.few;
-  factors_differ = new_differ factor_name spec.factors (λ i x e. (named.factors_fit i x e).name);
+  factors_differ = new_differ factor_name spec.factors (λ i x e. (named.factors_fit i x e).name.new);
   factors = each_of IsNewFactor IsFactor spec.factors factor_fits named.factors_fit;
   rules_count = few_rules;
   rules = each_of (λ _. FitsChoice spec.procs spec.confs spec.factors) (IsChoice spec.procs spec.confs spec.factors) spec.rules (λ done x f. choice_fits spec.procs spec.confs spec.factors x f) rules;
@@ -157,3 +158,34 @@ rest_fits names own same rules bounds start goal invariants preconditions policy
     (spec_fits (parts names rules bounds start goal invariants preconditions policy assumed)
     (subst (λ (z : Names). IsNamed z.procs z.apps z.confs z.factors) (sym same) named)
     few_rules r few_bounds b s g few_invariants i few_preconditions p a)
+
+spec_writable : (spec : Parts) → IsNamed spec.procs spec.apps spec.confs spec.factors
+    → AllAfter (λ _. FitsChoice spec.procs spec.confs spec.factors) spec.rules
+    → AllAfter (IsNewBound spec.confs) spec.bounds
+    → AllAfter (λ _. FitsInvariant spec.apps spec.confs) spec.invariants
+    → AllAfter (λ _. FitsPrecondition spec.apps spec.confs) spec.preconditions
+    → IsWritable spec
+spec_writable spec named rules bounds invariants preconditions = record {
+  procs = λ i x e. (named.procs_fit i x e).name.spelled;
+  apps = named.apps_fit.writable;
+  ranks = named.apps_fit.ranks;
+  confs = λ i x e. (named.confs_fit i x e).name.spelled;
+  factors = λ i x e. record { name = (named.factors_fit i x e).name.spelled; values = λ j y f. ((named.factors_fit i x e).values j y f).spelled };
+  rules = λ i x e j y f. ((rules i x e).wants j y f).new;
+  bounds = λ i x e. ap (λ (o : Option ℕ). is_some o) (bounds i x e).new;
+  invariants = λ i x e. record { named = (invariants i x e).interval.is_variable; in_order = (invariants i x e).interval.ends_fit.in_order };
+  preconditions = λ i x e. record { named = (preconditions i x e).interval.is_variable; in_order = (preconditions i x e).interval.ends_fit.in_order };
+}
+
+pub rest_writable : (names own : Names) → names ≡ own
+    → (rules : List Choice) (bounds : List Bound) (start : ConfId) (goal : Goal) (invariants : List Invariant) (preconditions : List Precondition) (policy : Policy) (assumed : Assumption)
+    → IsNamed own.procs own.apps own.confs own.factors
+    → AllAfter (λ _. FitsChoice names.procs names.confs names.factors) rules
+    → AllAfter (IsNewBound names.confs) bounds
+    → AllAfter (λ _. FitsInvariant names.apps names.confs) invariants
+    → AllAfter (λ _. FitsPrecondition names.apps names.confs) preconditions
+    → IsWritable (parts own rules bounds start goal invariants preconditions policy assumed)
+rest_writable names own same rules bounds start goal invariants preconditions policy assumed named r b i p =
+    subst (λ (z : Names). IsWritable (parts z rules bounds start goal invariants preconditions policy assumed)) same
+    (spec_writable (parts names rules bounds start goal invariants preconditions policy assumed)
+    (subst (λ (z : Names). IsNamed z.procs z.apps z.confs z.factors) (sym same) named) r b i p)

@@ -1,5 +1,5 @@
 -- What the elements of the lists keep that are read.
-use Rattle.std.specs.Prelude.{◌≡◌, ◌<◌, ◌≤◌, ◌≤ℤ◌, ◌^◌, ℕ, ℤ, pos, Bool, false, List, [], take, length, set, slice_get, Option, Some, None, IsSome, option_and_then}
+use Rattle.std.specs.Prelude.{◌≡◌, ◌<◌, ◌≤◌, ◌≤ℤ◌, ◌^◌, ℕ, ℤ, pos, Bool, false, List, [], take, length, set, slice_get, Option, Some, None, IsSome, IsTrue, option_and_then}
 use Rattle.scram_types.specs.declared.ids.AppId.{AppId}
 use Rattle.scram_types.specs.declared.specification.Proc.{Proc}
 use Rattle.scram_types.specs.declared.specification.ModeSpec.{ModeSpec}
@@ -13,6 +13,7 @@ use Rattle.scram_types.specs.declared.specification.Bound.{Bound}
 use Rattle.scram_types.specs.declared.specification.Invariant.{Invariant}
 use Rattle.scram_types.specs.declared.specification.Precondition.{Precondition}
 use Rattle.scram_types.specs.Specification.{IsProc, IsModeSpec, IsPlace, IsConf, IsFactor, IsWant, IsBound, IsInvariant, IsPrecondition, IsIn, IsInIfNamed, HasLength, mode_in, bound_in}
+use Rattle.scram_types.specs.Names.{is_name}
 use Rattle.scram_types.specs.Numbers.{minus}
 use Rattle.app_model.specs.Names.{variable_names, number_of}
 use Rattle.reconf_spec.specs.declared.intervals.Ends.{Ends}
@@ -29,13 +30,18 @@ use Rattle.reconf_spec.specs.Choices.{has_factor}
 abbrev pub AllAfter : {A : Type 0} → (List A → A → Type 0) → List A → Type 0
 AllAfter {A} Fact xs = (i : ℕ) (x : A) → slice_get xs i ≡ Some x → Fact (take i xs) x
 
+-- A text is a name, which no item has yet.
+pub record IsFresh {A : Type 0} (name : A → List ℕ) (items : List A) (text : List ℕ) : Type 0 where
+  pub new : found name items text ≡ None
+  pub spelled : IsTrue (is_name text)
+
 -- A number is what some text is found to be.
 pub record IsListed (find : List ℕ → Option ℕ) (number : ℕ) : Type 0 where
   pub text : List ℕ
   pub there : find text ≡ Some number
 
 pub record IsNewProc (done : List Proc) (proc : Proc) : Type 0 where
-  pub name : found proc_name done proc.name ≡ None
+  pub name : IsFresh proc_name done proc.name
   pub is : IsProc proc
 
 pub record IsNewMode (kind : ℕ) (done : List ModeSpec) (mode : ModeSpec) : Type 0 where
@@ -43,16 +49,16 @@ pub record IsNewMode (kind : ℕ) (done : List ModeSpec) (mode : ModeSpec) : Typ
   pub is : kind < 5 → IsModeSpec kind mode
 
 pub record IsNewApp (done : List AppSpec) (app : AppSpec) : Type 0 where
-  pub name : found app_name done app.name ≡ None
+  pub name : IsFresh app_name done app.name
   pub kind : app.kind.0 < 5
   pub count : HasLength 1 3 app.modes
   pub modes : AllAfter (IsNewMode app.kind.0) app.modes
 
 abbrev pub IsNewName : List (List ℕ) → List ℕ → Type 0
-IsNewName done name = found own_name done name ≡ None
+IsNewName done name = IsFresh own_name done name
 
 pub record IsNewFactor (done : List Factor) (factor : Factor) : Type 0 where
-  pub name : found factor_name done factor.name ≡ None
+  pub name : IsFresh factor_name done factor.name
   pub count : HasLength 2 4 factor.values
   pub values : AllAfter IsNewName factor.values
 
@@ -85,7 +91,7 @@ abbrev pub ArePlaces : List Proc → List AppSpec → List (Option Place) → Ty
 ArePlaces procs apps places = (a : ℕ) (place : Place) → placed places a ≡ Some place → IsPlace procs apps a place
 
 pub record IsNewConf (procs : List Proc) (apps : List AppSpec) (done : List Conf) (conf : Conf) : Type 0 where
-  pub name : found conf_name done conf.name ≡ None
+  pub name : IsFresh conf_name done conf.name
   pub width : length conf.places ≡ 8
   pub places : ArePlaces procs apps conf.places
 

@@ -1,18 +1,22 @@
 -- What the processors, applications, configurations and factors of a document keep.
-use Rattle.std.specs.Prelude.{◌≤◌, List}
+use Rattle.std.specs.Prelude.{◌≤◌, List, map}
 use Rattle.scram_types.specs.declared.specification.Proc.{Proc}
 use Rattle.scram_types.specs.declared.specification.AppSpec.{AppSpec}
 use Rattle.scram_types.specs.declared.specification.Conf.{Conf}
 use Rattle.scram_types.specs.declared.specification.Factor.{Factor}
 use Rattle.scram_types.specs.Specification.{HasLength, Each, NamesDiffer, IsAppSpec}
+use Rattle.dep_order.specs.Ranks.{IsRanking}
 use Rattle.reconf_spec.specs.declared.documents.Assumption.{Assumption}
 use Rattle.reconf_spec.specs.Applications.{app_name}
+use Rattle.reconf_spec.specs.Writable.{IsWritableApp, rank_of}
 use Rattle.reconf_spec.specs.Facts.{AllAfter, IsNewProc, IsNewConf, IsNewFactor, FewValues}
 
 pub record AreApps (apps : List AppSpec) : Type 0 where
   pub count : HasLength 1 8 apps
   pub differ : NamesDiffer app_name apps
   pub each : Each (IsAppSpec apps) apps
+  pub writable : Each IsWritableApp apps
+  pub ranks : IsRanking apps (map rank_of apps)
 
 pub record IsNamed (procs : List Proc) (apps : List AppSpec) (confs : List Conf) (factors : List Factor) : Type 0 where
   pub procs_count : HasLength 1 8 procs

@@ -4,6 +4,7 @@ use Rattle.scram_types.specs.declared.ids.AppId.{AppId}
 use Rattle.scram_types.specs.declared.specification.AppSpec.{AppSpec}
 use Rattle.scram_types.specs.Specification.{HasLength, Each, NamesDiffer, IsModeSpec}
 use Rattle.reconf_spec.specs.Applications.{app_name}
+use Rattle.reconf_spec.specs.Writable.{IsWritableApp}
 
 -- an application whose needs are not ranked yet, among so many applications
 pub record IsUnranked (count : ℕ) (app : AppSpec) : Type 0 where
@@ -12,6 +13,7 @@ pub record IsUnranked (count : ℕ) (app : AppSpec) : Type 0 where
   pub needs : Each (λ (need : AppId). need.0 < count) app.needs
   pub modes_count : HasLength 1 3 app.modes
   pub modes : Each (IsModeSpec app.kind.0) app.modes
+  pub writable : IsWritableApp app
 
 pub record AreUnranked (apps : List AppSpec) : Type 0 where
   pub count : HasLength 1 8 apps

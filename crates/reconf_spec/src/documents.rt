@@ -5,6 +5,7 @@ ghost use Rattle.serde_json.specs.View.{view};
 ghost use Rattle.scram_types.specs.Specification.{IsGoal, IsIn};
 ghost use Rattle.reconf_spec.specs.Choices.{conf_id_at};
 ghost use Rattle.reconf_spec.specs.Kept.{FitsAssumption};
+ghost use Rattle.reconf_spec.specs.Writable.{IsWritable};
 ghost use Rattle.scram_doc.specs.Chain.{ok_map};
 ghost use Rattle.scram_doc.specs.Faults.{Answers};
 ghost use Rattle.reconf_spec.specs.Members.{has_members, members_at, member_in};
@@ -213,7 +214,8 @@ fn read_policy_of(document: &Value) -> Result<Policy, DocFault>
 
 /// The specification, once the names are known.
 pub(crate) fn read_rest(alloc: Global, named: Named, document: &Value) -> Result<Spec, DocError>
-    ensures { Answers (rest_in named (view document.now)) (λ spec. spec) result }
+    ensures value { Answers (rest_in named (view document.now)) (λ spec. spec) result }
+    ensures writable { IfOk result IsWritable }
 {
     let rules = read_choices(alloc, &named, document)?;
     let bounds = read_bounds(alloc, &named, document)?;

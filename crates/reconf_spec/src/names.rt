@@ -1,8 +1,10 @@
 //! Names, and what they name.
 
-ghost use Rattle.std.specs.Prelude.{◌≡◌, ◌<◌, ◌≤◌, None, length, is_some, IfSome, IfOk};
+ghost use Rattle.std.specs.Prelude.{◌≡◌, ◌<◌, ◌≤◌, None, length, is_some, IfSome, IfOk, IsTrue};
 ghost use Rattle.serde_json.specs.View.{view};
+ghost use Rattle.scram_types.specs.Names.{is_name};
 ghost use Rattle.reconf_spec.specs.Names.{found, name_at, new_name_at, named_at};
+ghost use Rattle.reconf_spec.specs.Facts.{IsFresh};
 ghost use Rattle.reconf_spec.specs.Processors.{proc_name};
 ghost use Rattle.reconf_spec.specs.Applications.{app_name};
 ghost use Rattle.reconf_spec.specs.Configurations.{conf_name};
@@ -77,16 +79,21 @@ fn find<T: Named>(items: &[T], text: &str) -> Option<usize>
 }
 
 /// The name that the value is.
+#[tactic(auto, using(crate::proofs::Spelled::name_spelled))]
 fn read_name(v: &Value, at: &Path) -> Result<Name, DocFault>
-    ensures { result ≡ name_at at.now (view v.now) }
+    ensures value { result ≡ name_at at.now (view v.now) }
+    ensures spelled { IfOk result (λ name. IsTrue (is_name name)) }
 {
-    Name::of(text(v, at)?).ok_or_else(|| DocFault::new(rule::NO_NAME, at))
+    match Name::of(text(v, at)?) {
+        Some(name) => Ok(name),
+        None => Err(DocFault::new(rule::NO_NAME, at)),
+    }
 }
 
 /// The name that the value is, if no item has it yet.
 pub(crate) fn read_new_name<T: Named>(items: &[T], v: &Value, at: &Path) -> Result<Name, DocFault>
     ensures value { result ≡ new_name_at T.spelling items.now at.now (view v.now) }
-    ensures new { IfOk result (λ name. found T.spelling items.now name ≡ None) }
+    ensures fresh { IfOk result (λ name. IsFresh T.spelling items.now name) }
 {
     let name = read_name(v, at)?;
     match find(items, name.as_str()) {

@@ -1,8 +1,9 @@
 //! Specifications, as they are read.
 
-ghost use Rattle.std.specs.Prelude.{◌≡◌, [], IfErr, OnOk};
+ghost use Rattle.std.specs.Prelude.{◌≡◌, [], IfErr, IfOk, OnOk};
 ghost use Rattle.serde_json.specs.View.{view};
 ghost use Rattle.reconf_spec.specs.Documents.{names_in, spec_in, spec_of, unranked_in, unranked_names_in, unranked_of};
+ghost use Rattle.reconf_spec.specs.Writable.{IsWritable};
 ghost use Rattle.reconf_spec.specs.Answers.{Tells, ShowsCycle, CycleAmong};
 
 use crate::configurations::read_confs;
@@ -43,6 +44,7 @@ fn read_names(alloc: Global, document: &Value) -> Result<Named, SpecError>
 fn read_document(alloc: Global, document: &Value) -> Result<Spec, SpecError>
     ensures value { Tells (spec_in (view document.now)) result }
     ensures cycle { IfErr result (λ error. ShowsCycle (unranked_in (view document.now)) error) }
+    ensures writable { IfOk result IsWritable }
 {
     check_members(document).map_err(SpecError::broken)?;
     let named = read_names(alloc, document)?;
@@ -53,10 +55,12 @@ fn read_document(alloc: Global, document: &Value) -> Result<Spec, SpecError>
 }
 
 /// The specification that the bytes are, or the first rule that they break with the path where it is broken.
-/// A fault carries a cycle of needs exactly where the applications are read and their needs have one.
+/// A fault carries a cycle of needs exactly where the applications are read and their needs have one. What is read
+/// can be written again.
 pub fn read_spec(alloc: Global, bytes: &[u8]) -> Result<Spec, SpecError>
     ensures value { Tells (spec_of bytes.now) result }
     ensures cycle { IfErr result (λ error. ShowsCycle (unranked_of bytes.now) error) }
+    ensures writable { IfOk result IsWritable }
 {
     if bytes.len() > MAX_BYTES {
         return Err(SpecError::broken(DocFault::new(rule::TOO_LONG, &Path::root())));

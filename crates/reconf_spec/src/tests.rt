@@ -407,6 +407,28 @@ fn rewritten(alloc: Global, bytes: &[u8]) -> Result<Vec<u8>, NoMemory> {
     }
 }
 
+/// The example of the documents' format, as a person writes it.
+const EXAMPLE: &str = r#"{"scram":1,
+"processors":[{"name":"p0","capacity":100}],
+"apps":[{"name":"link","kind":"datalink","needs":[],"modes":[{"mode":"fast","load":20,"halt":1,"prepare":1,"init":1}]}],
+"configurations":[{"name":"full","apps":[{"app":"link","mode":"fast","on":"p0"}]}],
+"factors":[],"rules":[{"from":"*","when":[],"up":["p0"],"to":"full"}],
+"bounds":[{"from":"full","to":"full","frames":10}],"start":"full",
+"goal":{"altitude":5000,"heading":900},"invariants":[],
+"preconditions":[{"configuration":"full","app":"link","variable":"queued","least":0,"greatest":8}],
+"assumption":{"halts":0,"changes":1,"window":40}}"#;
+
+/// Its canonical text.
+const CANONICAL: &str =
+    r#"{"apps":[{"kind":"datalink","modes":[{"halt":1,"init":1,"load":20,"mode":"fast","prepare":1}],"name":"link","needs":[]}],"assumption":{"changes":1,"halts":0,"window":40},"bounds":[{"frames":10,"from":"full","to":"full"}],"configurations":[{"apps":[{"app":"link","mode":"fast","on":"p0"}],"name":"full"}],"factors":[],"goal":{"altitude":5000,"heading":900},"invariants":[],"preconditions":[{"app":"link","configuration":"full","greatest":8,"least":0,"variable":"queued"}],"processors":[{"capacity":100,"name":"p0"}],"rules":[{"from":"*","to":"full","up":["p0"],"when":[]}],"scram":1,"start":"full"}"#;
+
+#[test]
+fn the_example_is_written_in_its_canonical_text(rt: HostRuntime) -> Result<(), Fail> {
+    let written = rewritten(rt.alloc(), EXAMPLE.as_bytes())?;
+    assert!(rt; written.as_slice() == CANONICAL.as_bytes());
+    Ok(())
+}
+
 #[test]
 fn the_mission_is_written_as_it_was_read(rt: HostRuntime) -> Result<(), Fail> {
     let alloc = rt.alloc();

@@ -1,15 +1,13 @@
 -- An accepted specification gives the law an accepted plan.
-use Rattle.std.proofs.Common.{◌≡◌, ℕ, zero, suc, ◌+◌, ◌<◌, ◌≤◌, Bool, true, false, refl, arith, ◌⊎◌, ◌≢◌, ap, sym, ◌∙◌, List, [], ◌∷◌, length, not}
+use Rattle.std.proofs.Common.{◌≡◌, ℕ, zero, suc, ◌+◌, ◌<◌, ◌≤◌, Bool, true, false, refl, arith, ◌⊎◌, ◌≢◌, ap, sym, List, [], ◌∷◌, length, not}
 use mathlib.Core.Logic.{inl, inr}
-use Rattle.std.specs.Prelude.{Option, Some, None, slice_get, is_some, option_and_then, nat_eq, nat_lt, nat_le, ◌&&◌, ◌==◌, ◌^◌, if◌then◌else◌}
+use Rattle.std.specs.Prelude.{Option, Some, None, slice_get, is_some, option_and_then, nat_lt, ◌&&◌, ◌==◌, ◌^◌, if◌then◌else◌}
 use Rattle.std.specs.Option.{option_map_or}
 use Rattle.std.specs.Str.{bytes_eq}
-use Rattle.std.proofs.lemmas.Bool.Decides.{nat_tests}
 use Rattle.std.proofs.lemmas.Option.{slice_get_within, slice_get_past}
 use Rattle.std.proofs.lemmas.Slice.Eq.{bytes_eq-Decides}
 use Rattle.scram_types.specs.declared.ids.ConfId.{ConfId}
 use Rattle.scram_types.specs.declared.flights.Env.{Env}
-use Rattle.scram_types.specs.declared.specification.AppSpec.{AppSpec}
 use Rattle.scram_types.specs.declared.specification.Bound.{Bound}
 use Rattle.scram_types.specs.declared.specification.Choice.{Choice}
 use Rattle.scram_types.specs.declared.specification.Conf.{Conf}
@@ -17,18 +15,16 @@ use Rattle.scram_types.specs.declared.specification.Factor.{Factor}
 use Rattle.scram_types.specs.declared.specification.Place.{Place}
 use Rattle.scram_types.specs.declared.specification.Policy.{Policy}
 use Rattle.scram_types.specs.declared.specification.Policy.TheVariants.{Retarget, Settle}
-use Rattle.scram_types.specs.Specification.{Each, IsSpec, Parts, bound_in, place_in}
+use Rattle.scram_types.specs.Specification.{IsSpec, Parts, bound_in, place_in}
 use Rattle.choice_table.specs.Choices.{IsTarget, choose, rule_fits, target_among}
 use Rattle.choice_table.specs.Environments.{IsEnv, factor_in, in_scope}
-use Rattle.dep_order.specs.Chains.{greatest}
 use Rattle.dep_order.specs.Timetables.{IsInTime, halting_time, initialising_time, is_on, place_of, preparing_time}
 use Rattle.dep_order.proofs.Charts.{greatest_most}
 use Rattle.fault_script.specs.Assumption.{is_same_env}
-use Rattle.frame_model.specs.Runs.{all_below, conf_of}
-use Rattle.coverage_check.specs.Acceptance.{Accepts, IsServed}
-use Rattle.coverage_check.specs.Form.{is_empty}
+use Rattle.frame_model.specs.Runs.{conf_of}
+use Rattle.coverage_check.specs.Acceptance.{Accepts}
 use Rattle.coverage_check.specs.Search as search
-use Rattle.coverage_check.specs.Timing.{further, least, slowest}
+use Rattle.coverage_check.specs.Timing.{further}
 use Rattle.trace_props.specs.Plans as plans
 use Rattle.trace_props.specs.Plans.{Accepted}
 use Rattle.trace_props.proofs.Tests.{by_test, eq_true, lt_true, and_left, and_right, true_false}

@@ -1,9 +1,7 @@
 -- The acts of rows are the law's.
-use Rattle.std.proofs.Common.{◌≡◌, ℕ, zero, suc, ◌+◌, ◌-◌, ◌<◌, ◌≤◌, Bool, true, false, refl, arith, ap, sym, ◌∙◌, List, length}
-use Rattle.std.specs.Prelude.{Option, Some, None, nat_lt, nat_eq, ◌&&◌, ◌==◌, if◌then◌else◌}
+use Rattle.std.proofs.Common.{◌≡◌, ℕ, zero, suc, ◌-◌, ◌<◌, Bool, true, false, refl, arith, ap, sym, ◌∙◌, length}
+use Rattle.std.specs.Prelude.{Option, Some, None, nat_lt, if◌then◌else◌}
 use Rattle.scram_types.specs.declared.ids.ConfId.{ConfId}
-use Rattle.scram_types.specs.declared.ids.Mode.{Mode}
-use Rattle.scram_types.specs.declared.ids.ProcId.{ProcId}
 use Rattle.scram_types.specs.declared.orders.Act as told_acts
 use Rattle.scram_types.specs.declared.orders.Act.TheVariants as act
 use Rattle.scram_types.specs.declared.orders.KMode.{KMode}
@@ -22,9 +20,7 @@ use Rattle.frame_model.specs.Phases as phases
 use Rattle.frame_model.specs.Runs.{act_at, all_below, conf_of, is_run_by}
 use Rattle.frame_model.specs.States.{act_after, act_of_order, for_eight}
 use Rattle.frame_model.specs.Tasks as tasks
-use Rattle.trace_props.specs.Modes as modes
-use Rattle.trace_props.specs.Courses.{mode_at}
-use Rattle.trace_props.specs.Builds.{Phase, Phase.Running, Phase.Halting, Phase.Preparing, Phase.Initialising, Order, Order.Run, Order.Halt, Order.Hold, Order.Prepare, Order.Init, Order.Off, Act, Act.Ran, Act.Halted, Act.Held, Act.Prepared, Act.Initialised, Act.WasOff, Act.Lost, after_halting, phase, running_order, halting_order, preparing_order, init_order, order_in, act_of, fits_place, runs, acts_at}
+use Rattle.trace_props.specs.Builds.{Phase, Order, Act, Act.Ran, Act.Halted, Act.Held, Act.Prepared, Act.Initialised, Act.WasOff, Act.Lost, after_halting, phase, running_order, halting_order, preparing_order, init_order, order_in, act_of, fits_place, runs, acts_at}
 use Rattle.trace_props.proofs.Products.{build_of, flight_of, mode_of, phase_of, plan_of, runs_in_row}
 use Rattle.trace_props.proofs.Moding.{same_mode}
 

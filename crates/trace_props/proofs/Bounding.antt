@@ -1,6 +1,6 @@
 -- The greatest bound that is given from a configuration is at least each that is given.
-use Rattle.std.proofs.Common.{◌≡◌, ℕ, zero, suc, ◌+◌, ◌<◌, ◌≤◌, Bool, true, false, refl, arith, ap, sym, ◌∙◌, List, [], ◌∷◌}
-use Rattle.std.specs.Prelude.{Option, Some, None, nat_lt, nat_eq, ◌&&◌, ◌==◌, if◌then◌else◌}
+use Rattle.std.proofs.Common.{◌≡◌, ℕ, ◌≤◌, true, refl, arith, List, [], ◌∷◌}
+use Rattle.std.specs.Prelude.{Option, Some, None, nat_lt, ◌&&◌, ◌==◌, if◌then◌else◌}
 use Rattle.scram_types.specs.declared.specification.Bound.{Bound}
 use Rattle.scram_types.specs.Specification.{bound_in, greater_of, greatest_bound_from, greatest_bound_in}
 use Rattle.trace_props.proofs.Tests.{by_test, lt_true, lt_false, and_left}

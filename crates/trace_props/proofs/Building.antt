@@ -1,18 +1,17 @@
 -- An accepted specification gives the law a build of which it is true.
-use Rattle.std.proofs.Common.{◌≡◌, ℕ, zero, suc, ◌+◌, ◌<◌, ◌≤◌, Bool, true, false, refl, arith, ◌⊎◌, ap, sym, ◌∙◌, length}
+use Rattle.std.proofs.Common.{◌≡◌, ℕ, zero, suc, ◌<◌, ◌≤◌, Bool, true, refl, arith, ◌⊎◌, ap, sym, length}
 use mathlib.Core.Logic.{inl, inr}
-use Rattle.std.specs.Prelude.{Option, Some, None, slice_get, is_some, option_and_then, nat_eq, ◌&&◌, ◌==◌}
-use Rattle.std.specs.Option.{option_map_or}
+use Rattle.std.specs.Prelude.{Option, Some, None, slice_get, option_and_then, ◌==◌}
 use Rattle.std.proofs.lemmas.Bool.Decides.{nat_tests}
 use Rattle.scram_types.specs.declared.ids.ConfId.{ConfId}
 use Rattle.scram_types.specs.declared.flights.Env.{Env}
 use Rattle.scram_types.specs.declared.specification.Conf.{Conf}
 use Rattle.scram_types.specs.declared.specification.Place.{Place}
-use Rattle.scram_types.specs.Specification.{IsSpec, Parts, place_in}
+use Rattle.scram_types.specs.Specification.{IsSpec, Parts}
 use Rattle.choice_table.specs.Choices.{is_runnable, places_of}
 use Rattle.choice_table.specs.Environments.{is_up_in}
 use Rattle.choice_table.specs.Laws.{RunsWherePlacesAreUp}
-use Rattle.dep_order.specs.Timetables.{IsInTime, halt_offset, init_offset, init_time, initialising_time, is_on, place_of}
+use Rattle.dep_order.specs.Timetables.{IsInTime, halt_offset, is_on, place_of}
 use Rattle.frame_model.specs.Runs.{conf_of}
 use Rattle.coverage_check.specs.Acceptance.{Accepts}
 use Rattle.coverage_check.specs.Form.{is_same, is_same_place}
@@ -20,7 +19,7 @@ use Rattle.coverage_check.specs.Search as search
 use Rattle.trace_props.specs.Builds.{IsBuilt}
 use Rattle.trace_props.proofs.Tests.{true_false}
 use Rattle.trace_props.proofs.Products.{build_of, plan_of}
-use Rattle.trace_props.proofs.Accepting.{IsThere, app_known, conf_known, is_there, placed, some_on}
+use Rattle.trace_props.proofs.Accepting.{app_known, conf_known, is_there, placed, some_on}
 
 -- where a test holds of each number below n
 pub all_pass : (test : ℕ → Bool) (n : ℕ) → ((a : ℕ) → a < n → test a ≡ true) → search.all_below test n ≡ true

@@ -1,32 +1,23 @@
 -- Worked examples: a mission that meets the theorem's premises, and traces that break each property.
-use Rattle.std.proofs.Common.{◌≡◌, refl, ℕ, zero, suc, List, [], ◌∷◌, pos, arith, rules, ℤ, subst, ap}
-use mathlib.Core.Logic.{inl, inr}
-use Rattle.std.specs.Prelude.{Option, Some, None, replicate, slice_get}
-use Rattle.std.proofs.lemmas.Option.{same_Some}
+use Rattle.std.proofs.Common.{◌≡◌, refl, ℕ, List, [], ◌∷◌, pos}
+use Rattle.std.specs.Prelude.{Option, Some, None, replicate}
 use Rattle.scram_types.specs.declared.ids.ConfId.{ConfId}
-use Rattle.scram_types.specs.declared.ids.ProcId.{ProcId}
 use Rattle.scram_types.specs.declared.flights.Env.{Env}
 use Rattle.scram_types.specs.declared.flights.Report.{Report}
 use Rattle.scram_types.specs.declared.flights.Row.{Row}
 use Rattle.scram_types.specs.declared.orders.Act.{Act}
 use Rattle.scram_types.specs.declared.orders.Act.TheVariants as act
 use Rattle.scram_types.specs.declared.orders.KMode.TheVariants as kmode
-use Rattle.scram_types.specs.declared.scripts.Change.{Change}
-use Rattle.scram_types.specs.declared.scripts.HaltAt.{HaltAt}
-use Rattle.scram_types.specs.declared.scripts.RestartAt.{RestartAt}
 use Rattle.scram_types.specs.declared.specification.AppSpec.{AppSpec}
 use Rattle.scram_types.specs.declared.specification.Bound.{Bound}
 use Rattle.scram_types.specs.declared.specification.Choice.{Choice}
 use Rattle.scram_types.specs.declared.specification.Conf.{Conf}
-use Rattle.scram_types.specs.declared.specification.Factor.{Factor}
 use Rattle.scram_types.specs.declared.specification.Invariant.{Invariant}
 use Rattle.scram_types.specs.declared.specification.ModeSpec.{ModeSpec}
 use Rattle.scram_types.specs.declared.specification.Policy.{Policy}
 use Rattle.scram_types.specs.declared.specification.Policy.TheVariants.{Retarget, Settle}
 use Rattle.scram_types.specs.declared.specification.Precondition.{Precondition}
-use Rattle.scram_types.specs.declared.specification.Proc.{Proc}
 use Rattle.scram_types.specs.Numbers.{word}
-use Rattle.scram_types.specs.Scripts.{ScriptParts}
 use Rattle.scram_types.specs.Specification.{Parts}
 use Rattle.frame_model.specs.Runs.{conf_of}
 use Rattle.trace_props.specs.declared.breaks.Broken.{Broken}

@@ -1,13 +1,13 @@
 -- The least of the frames, and the first of the breaks, of which a fact holds.
 use Rattle.std.proofs.Common.{◌≡◌, ℕ, zero, suc, ◌+◌, ◌-◌, ◌<◌, ◌≤◌, Bool, true, false, refl, arith, ap, sym, ◌∙◌, ◌⊎◌, subst}
 use mathlib.Core.Logic.{inl, inr}
-use Rattle.std.specs.Prelude.{Option, Some, None, min, nat_eq, nat_lt, ◌&&◌, ◌||◌, if◌then◌else◌}
+use Rattle.std.specs.Prelude.{Option, Some, None, min, nat_eq, nat_lt, ◌&&◌, ◌||◌}
 use Rattle.std.proofs.Math.Nat.{min-le_left, min-le_right, min-eq_left, min-eq_right}
 use Rattle.std.proofs.lemmas.Bool.Decides.{nat_tests}
 use Rattle.frame_model.specs.Runs.{least_from}
 use Rattle.trace_props.specs.declared.breaks.Broken.{Broken}
 use Rattle.trace_props.specs.declared.breaks.Property.{Property}
-use Rattle.trace_props.specs.Breaks.{ComesBefore, Fails, number_of}
+use Rattle.trace_props.specs.Breaks.{ComesBefore, number_of}
 use Rattle.trace_props.specs.Judging.{broken_at, comes_before, earlier, lesser}
 use Rattle.trace_props.proofs.Tests.{and_left, and_right, by_test, eq_true, lt_false, lt_true, true_false}
 

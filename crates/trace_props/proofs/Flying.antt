@@ -1,29 +1,27 @@
 -- The rows of a script are those of a run of the law, and a script within its assumption is within the law's.
-use Rattle.std.proofs.Common.{◌≡◌, ℕ, zero, suc, ◌+◌, ◌-◌, ◌*◌, ◌<◌, ◌≤◌, Bool, true, false, not, refl, arith, ◌⊎◌, ap, sym, ◌∙◌, List, [], ◌∷◌, length}
+use Rattle.std.proofs.Common.{◌≡◌, ℕ, zero, suc, ◌+◌, ◌-◌, ◌<◌, ◌≤◌, Bool, true, false, not, refl, arith, ◌⊎◌, ap, ◌∙◌, List, [], ◌∷◌, length}
 use mathlib.Core.Logic.{inl, inr}
-use Rattle.std.specs.Prelude.{Option, Some, None, slice_get, nat_lt, nat_le, nat_eq, ◌&&◌, ◌==◌, ◌^◌, if◌then◌else◌}
+use Rattle.std.specs.Prelude.{Option, Some, None, slice_get, nat_lt, nat_le, ◌&&◌, ◌==◌, ◌^◌, if◌then◌else◌}
 use Rattle.std.specs.Int.{bit_at}
-use Rattle.std.specs.Option.{option_map_or}
 use Rattle.std.proofs.lemmas.Bool.Decides.{nat_tests}
-use Rattle.std.proofs.lemmas.Option.{slice_get_within}
 use Rattle.scram_types.specs.declared.flights.Env.{Env}
 use Rattle.scram_types.specs.declared.scripts.Change.{Change}
 use Rattle.scram_types.specs.declared.specification.Factor.{Factor}
 use Rattle.scram_types.specs.Scripts.{ScriptParts}
 use Rattle.scram_types.specs.Specification.{IsSpec, Parts}
-use Rattle.choice_table.specs.Environments.{count_below, factor_in, has_bit, in_scope, is_up_in}
+use Rattle.choice_table.specs.Environments.{count_below, factor_in, in_scope, is_up_in}
 use Rattle.fault_script.specs.Assumption as assumption
 use Rattle.fault_script.specs.Environments.{bits_below, env_at}
 use Rattle.fault_script.specs.Fits.{Fits}
 use Rattle.fault_script.specs.Laws.{EnvironmentsShow, LossesShow, Shows}
-use Rattle.fault_script.specs.Times.{commits, factor_at, factors_at, is_up, value_after}
+use Rattle.fault_script.specs.Times.{factor_at, is_up, value_after}
 use Rattle.fault_script.proofs.Bits.{no_bit}
 use Rattle.frame_model.specs.Runs.{all_below}
 use Rattle.coverage_check.specs.Choosing.{opening_env}
 use Rattle.trace_props.specs.Courses as courses
 use Rattle.trace_props.specs.Courses.{IsWithin}
 use Rattle.trace_props.specs.Builds.{IsRun}
-use Rattle.trace_props.proofs.Tests.{by_test, and_left, and_right, lt_true, le_true}
+use Rattle.trace_props.proofs.Tests.{by_test, and_right, le_true}
 use Rattle.trace_props.proofs.Products.{build_of, flight_of, has_value, is_env, plan_of}
 use Rattle.trace_props.proofs.Acting.{committed, runs_same}
 

@@ -1,30 +1,26 @@
 -- Each reconfiguration that the rows of a script show keeps its invariants, and its target's preconditions hold before its end.
-use Rattle.std.proofs.Common.{◌≡◌, ℕ, zero, suc, ◌+◌, ◌<◌, ◌≤◌, Bool, true, false, refl, arith, ap, sym, ◌∙◌, subst, List, length}
-use Rattle.std.specs.Prelude.{Option, Some, None, ℤ, slice_get}
+use Rattle.std.proofs.Common.{◌≡◌, ℕ, suc, ◌<◌, true, refl, arith, ap, sym, ◌∙◌, subst, length}
+use Rattle.std.specs.Prelude.{Some, None, slice_get}
 use Rattle.std.proofs.lemmas.Option.{slice_get_within}
 use Rattle.scram_types.specs.declared.ids.ConfId.{ConfId}
 use Rattle.scram_types.specs.declared.flights.Report as told_reports
 use Rattle.scram_types.specs.declared.flights.Row.{Row}
-use Rattle.scram_types.specs.declared.specification.Invariant.{Invariant}
-use Rattle.scram_types.specs.declared.specification.Precondition.{Precondition}
 use Rattle.scram_types.specs.Numbers.{word}
 use Rattle.scram_types.specs.Scripts.{ScriptParts}
 use Rattle.scram_types.specs.Specification.{IsSpec, Parts}
-use Rattle.choice_table.specs.Choices.{has_source}
 use Rattle.frame_model.specs.Flights.{row_at, rows_of}
 use Rattle.frame_model.specs.Laws.{ReadsRowByRow}
 use Rattle.frame_model.specs.Readings as readings
 use Rattle.frame_model.specs.Runs.{conf_of}
-use Rattle.frame_model.specs.States.{area_at}
 use Rattle.coverage_check.specs.Acceptance.{Accepts}
 use Rattle.trace_props.specs.Courses.{Reading, Reading.Steady, Reading.Leaving, Report, reading_before, report_at}
 use Rattle.trace_props.specs.Areas.{AreasKept}
-use Rattle.trace_props.specs.Properties.{InvariantHolds, KeepsSp4, PreconditionHolds}
-use Rattle.trace_props.proofs.Areas.{reported_of}
+use Rattle.trace_props.specs.Properties.{KeepsSp4}
 use Rattle.trace_props.proofs.Lists.{each_append, each_option, get-listed_below, length-listed_below}
 use Rattle.trace_props.proofs.Intervals.{kept_of, ready_of, invariant_of, precondition_of, speaks_in}
 use Rattle.trace_props.proofs.Products.{build_of, flight_of, plan_of}
-use Rattle.trace_props.proofs.Ranging.{KindsLie, area, laws_of, lies_in, lies_of}
+use Rattle.trace_props.specs.Judging.{lies_in}
+use Rattle.trace_props.proofs.Ranging.{KindsLie, area, laws_of, lies_of}
 use Rattle.trace_props.proofs.Reporting.{IsEnded, ended_each, reading_same, told_reading, told_report}
 
 module _ (spec : Parts) (sound : IsSpec spec) (accepts : Accepts spec) (kinds : KindsLie) (script : ScriptParts) (by_row : ReadsRowByRow)

@@ -1,7 +1,7 @@
 -- Invariants and preconditions of an accepted specification hold what the law asks of them.
-use Rattle.std.proofs.Common.{◌≡◌, ℕ, zero, suc, ◌+◌, ◌<◌, ◌≤◌, Bool, true, false, refl, arith, ap, sym, ◌∙◌, List, length, ◌⊎◌}
+use Rattle.std.proofs.Common.{◌≡◌, ℕ, ◌<◌, true, refl, arith, ap, List, length}
 use mathlib.Core.Logic.{inl, inr}
-use Rattle.std.specs.Prelude.{Option, Some, None, ℤ, pos, slice_get, nat_eq, ◌&&◌, ◌==◌}
+use Rattle.std.specs.Prelude.{Option, Some, None, ℤ, pos, slice_get, ◌&&◌, ◌==◌}
 use Rattle.std.proofs.lemmas.Bool.Decides.{nat_tests}
 use Rattle.scram_types.specs.declared.ids.ConfId.{ConfId}
 use Rattle.scram_types.specs.declared.specification.Invariant as told_invariants
@@ -11,20 +11,19 @@ use Rattle.scram_types.specs.Numbers.{word}
 use Rattle.scram_types.specs.Specification.{IsSpec, Parts}
 use Rattle.choice_table.specs.Choices as choices
 use Rattle.choice_table.specs.Choices.{has_source}
-use Rattle.choice_table.specs.Environments.{in_scope}
-use Rattle.dep_order.specs.Timetables.{place_of}
 use Rattle.app_model.specs.Bounds.{after_init, during}
 use Rattle.frame_model.specs.Runs.{conf_of}
 use Rattle.frame_model.specs.States.{kind_of_app}
 use Rattle.coverage_check.specs.Acceptance as acceptance
 use Rattle.coverage_check.specs.Acceptance.{Accepts}
-use Rattle.coverage_check.specs.Holding.{holds_during, holds_entering, holds_leaving, holds_off, holds_reaching}
+use Rattle.coverage_check.specs.Holding.{holds_during, holds_leaving, holds_off, holds_reaching}
 use Rattle.trace_props.specs.Plans as plans
 use Rattle.trace_props.specs.Areas.{Written, Written.DidRun, Written.DidHalt, Written.DidPrepare, Written.DidInit, Written.Zeros, Invariant, Precondition, IsKept, IsReady, Listed, SpeaksIn, There, HereOrThere}
 use Rattle.trace_props.proofs.Tests.{and_left, and_right, eq_true}
 use Rattle.trace_props.proofs.Accepting.{env_of_test}
 use Rattle.trace_props.proofs.Products.{build_of, is_env, number_of, plan_of}
-use Rattle.trace_props.proofs.Ranging.{area_of, area_test, laws_of, lies_held, lies_in, range_of}
+use Rattle.trace_props.specs.Judging.{lies_in}
+use Rattle.trace_props.proofs.Ranging.{area_of, area_test, laws_of, lies_held, range_of}
 
 -- an invariant, and a precondition, in the words of the law
 abbrev pub invariant_of : told_invariants.Invariant → Invariant

@@ -1,5 +1,5 @@
 -- What is found of all reconfigurations is the first break, or that all five properties hold.
-use Rattle.std.proofs.Common.{◌≡◌, ℕ, zero, suc, ◌+◌, ◌-◌, ◌<◌, ◌≤◌, Bool, true, false, refl, arith, ap, sym, ◌∙◌, List, [], ◌∷◌, length, ◌⊎◌, subst}
+use Rattle.std.proofs.Common.{◌≡◌, ℕ, suc, ◌+◌, ◌-◌, ◌<◌, ◌≤◌, refl, arith, ap, sym, ◌∙◌, List, [], ◌∷◌, ◌⊎◌, subst}
 use mathlib.Core.Logic.{inl, inr}
 use Rattle.std.specs.Prelude.{Option, Some, None, slice_get, ◌↔◌}
 use Rattle.std.proofs.lemmas.Option.{slice_get_past}
@@ -10,10 +10,9 @@ use Rattle.frame_model.specs.Readings.{reports}
 use Rattle.trace_props.specs.declared.breaks.Broken.{Broken}
 use Rattle.trace_props.specs.declared.breaks.Property.{Property}
 use Rattle.trace_props.specs.declared.breaks.Property.TheVariants.{Sp1, Sp2, Sp3, Sp4, Sp5}
-use Rattle.trace_props.specs.declared.comparing.Agreement.TheVariants.{Alike}
 use Rattle.trace_props.specs.declared.judging.Judgement.{Judgement}
 use Rattle.trace_props.specs.Breaks.{BreaksAt, BreaksIn, BreaksSomewhere, BreaksSp1, Fails, HoldsWhereUnbroken, IsFirstBreak, last_frame}
-use Rattle.trace_props.specs.Judging.{broken_at, broken_in, causeless_at, conclusion, difference, earlier, first_break, judge, judge_all, late_at, opening, unchosen_at, unkept_at}
+use Rattle.trace_props.specs.Judging.{broken_at, broken_in, causeless_at, difference, earlier, first_break, judge, judge_all, late_at, opening, unchosen_at, unkept_at}
 use Rattle.trace_props.specs.Properties.{HoldsAll, KeepsSp2, KeepsSp3, KeepsSp4, KeepsSp5}
 use Rattle.trace_props.proofs.Differing.{agrees_all, told_least}
 use Rattle.trace_props.proofs.Firsts.{IsFirstOf, IsLeastOf, first_earlier, first_moved, first_one, none_at, none_left, none_right}

@@ -1,7 +1,7 @@
 -- Each reconfiguration that the rows of a script show keeps the second, the third and the fifth property.
-use Rattle.std.proofs.Common.{◌≡◌, ℕ, zero, suc, ◌+◌, ◌<◌, ◌≤◌, Bool, true, false, not, refl, arith, ap, sym, ◌∙◌, List, [], ◌∷◌, ◌++◌, length, ◌⊎◌, ◌≢◌}
+use Rattle.std.proofs.Common.{◌≡◌, ℕ, zero, suc, ◌<◌, Bool, true, false, not, refl, arith, ap, sym, ◌∙◌, length}
 use mathlib.Core.Logic.{inl, inr}
-use Rattle.std.specs.Prelude.{Option, Some, None, slice_get, option_map, nat_eq, ◌&&◌, ◌==◌}
+use Rattle.std.specs.Prelude.{Some, None, slice_get, option_map, ◌&&◌, ◌==◌}
 use Rattle.std.specs.Str.{bytes_eq}
 use Rattle.std.proofs.lemmas.Bool.Decides.{nat_tests}
 use Rattle.std.proofs.lemmas.Slice.Eq.{bytes_eq-Decides}
@@ -12,7 +12,7 @@ use Rattle.scram_types.specs.declared.flights.Row.{Row}
 use Rattle.scram_types.specs.declared.specification.Policy.{Policy}
 use Rattle.scram_types.specs.declared.specification.Policy.TheVariants.{Retarget, Settle}
 use Rattle.scram_types.specs.Scripts.{ScriptParts}
-use Rattle.scram_types.specs.Specification.{Each, Parts}
+use Rattle.scram_types.specs.Specification.{Parts}
 use Rattle.choice_table.specs.Choices.{choose}
 use Rattle.fault_script.specs.Assumption.{is_same_env}
 use Rattle.fault_script.specs.Environments.{env_at}
@@ -23,7 +23,7 @@ use Rattle.frame_model.specs.Runs.{conf_of}
 use Rattle.trace_props.specs.Courses.{Reading, Reading.Steady, Reading.Leaving, Report, changes_at, reading_before, report_at}
 use Rattle.trace_props.specs.Assurances as assurances
 use Rattle.trace_props.specs.Assurances.{AllAssured, HasCause, IsAssured, IsCutOff}
-use Rattle.trace_props.specs.Properties.{ChangesIn, Follows, HoldsSp2, HoldsSp3, HoldsSp5, IsChosen, KeepsSp2, KeepsSp3, KeepsSp5, env_before, env_in}
+use Rattle.trace_props.specs.Properties.{ChangesIn, Follows, KeepsSp2, KeepsSp3, KeepsSp5, env_in}
 use Rattle.trace_props.proofs.Tests.{true_false}
 use Rattle.trace_props.proofs.Areas.{reported_of}
 use Rattle.trace_props.proofs.Bounding.{given_most}

@@ -1,6 +1,6 @@
 -- The modes that are decided are the law's.
-use Rattle.std.proofs.Common.{◌≡◌, ℕ, zero, suc, ◌+◌, ◌-◌, Bool, true, false, refl, arith, ap, sym, ◌∙◌}
-use Rattle.std.specs.Prelude.{Option, Some, None, nat_lt, nat_le, nat_eq, ◌&&◌, ◌==◌, if◌then◌else◌}
+use Rattle.std.proofs.Common.{◌≡◌, ℕ, zero, suc, ◌-◌, Bool, true, false, refl, arith, ap, sym, ◌∙◌}
+use Rattle.std.specs.Prelude.{Option, Some, None, nat_lt, ◌&&◌, ◌==◌, if◌then◌else◌}
 use Rattle.scram_types.specs.declared.ids.ConfId.{ConfId}
 use Rattle.scram_types.specs.declared.flights.Env.{Env}
 use Rattle.scram_types.specs.declared.orders.KMode.{KMode}
@@ -10,14 +10,13 @@ use Rattle.scram_types.specs.declared.specification.Policy.TheVariants.{Retarget
 use Rattle.scram_types.specs.Scripts.{ScriptParts}
 use Rattle.scram_types.specs.Specification.{Parts}
 use Rattle.choice_table.specs.Choices.{choose, is_runnable}
-use Rattle.dep_order.specs.Timetables.{halting_time, initialising_time, preparing_time}
 use Rattle.fault_script.specs.Environments.{env_at}
 use Rattle.frame_model.specs.Decisions as told
 use Rattle.frame_model.specs.Flights.{decided}
 use Rattle.frame_model.specs.Phases as phases
-use Rattle.trace_props.specs.Plans.{Plan, halting_of}
-use Rattle.trace_props.specs.Modes.{Mode, Mode.Stable, Mode.Moving, target, is_running, stable_decision, wanted, retarget, decide}
-use Rattle.trace_props.specs.Courses.{Flight, decide_after, mode_at}
+use Rattle.trace_props.specs.Plans.{halting_of}
+use Rattle.trace_props.specs.Modes.{Mode, Mode.Moving, target, is_running, stable_decision, retarget, decide}
+use Rattle.trace_props.specs.Courses.{decide_after, mode_at}
 use Rattle.trace_props.proofs.Products.{flight_of, mode_of, number_of, plan_of, runs_in_row, settles_under}
 
 mode_if : (b : Bool) (x y : KMode) → mode_of (if b then x else y) ≡ (if b then mode_of x else mode_of y)

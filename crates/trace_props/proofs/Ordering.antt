@@ -1,6 +1,6 @@
 -- The reconfigurations that are read off rows come one after another.
-use Rattle.std.proofs.Common.{◌≡◌, ℕ, zero, suc, ◌+◌, ◌-◌, ◌<◌, ◌≤◌, Bool, true, false, refl, arith, ap, sym, ◌∙◌, List, [], ◌∷◌, ◌++◌, length}
-use Rattle.std.specs.Prelude.{Option, Some, None, slice_get, if◌then◌else◌}
+use Rattle.std.proofs.Common.{◌≡◌, ℕ, zero, suc, ◌+◌, ◌≤◌, arith, sym, ◌∙◌, List, [], ◌∷◌, ◌++◌, length}
+use Rattle.std.specs.Prelude.{Option, Some, None, slice_get}
 use Rattle.std.proofs.lemmas.Option.{slice_get_past}
 use Rattle.scram_types.specs.declared.ids.ConfId.{ConfId}
 use Rattle.scram_types.specs.declared.flights.Report.{Report}
@@ -8,7 +8,7 @@ use Rattle.scram_types.specs.declared.flights.Row.{Row}
 use Rattle.scram_types.specs.Specification.{Parts}
 use Rattle.frame_model.specs.declared.readings.Reading.{Reading}
 use Rattle.frame_model.specs.declared.readings.Reading.TheVariants.{Steady, Leaving}
-use Rattle.frame_model.specs.Readings.{arrival, arrive, as_list, close, ended_in, read_row, reading_after, report_of, reports}
+use Rattle.frame_model.specs.Readings.{arrival, arrive, as_list, close, ended_in, reading_after, reports}
 use Rattle.frame_model.specs.Runs.{running, runs}
 use Rattle.trace_props.proofs.Tests.{by_test}
 

@@ -1,5 +1,5 @@
 -- Areas lie in the ranges of the acts that wrote them: what the laws of the kinds give the law of areas.
-use Rattle.std.proofs.Common.{◌≡◌, ℕ, zero, suc, ◌+◌, ◌-◌, ◌<◌, ◌≤◌, Bool, true, false, refl, arith, ap, sym, ◌∙◌, subst, List, length}
+use Rattle.std.proofs.Common.{◌≡◌, ℕ, zero, suc, ◌+◌, ◌-◌, ◌<◌, Bool, true, false, refl, arith, ap, sym, ◌∙◌, subst, List}
 use Rattle.std.specs.Prelude.{Option, Some, None, ℤ, pos, ◌≤ℤ◌, int_le, slice_get, slice_index_or, nat_lt, ◌&&◌, if◌then◌else◌}
 use Rattle.std.specs.Option.{option_map_or}
 use Rattle.std.proofs.lemmas.Int.{ints}
@@ -16,7 +16,6 @@ use Rattle.scram_types.specs.Specification.{IsSpec, Parts}
 use Rattle.dep_order.specs.Timetables.{halt_offset, halt_time, init_offset, init_time, place_of, prepare_time}
 use Rattle.app_model.specs.Areas.{AllTablesNarrow, AreaLies, Between, LawLiesAfterInit, LawLiesDuring, StartLiesAfterInit}
 use Rattle.app_model.specs.Bounds.{after_init, during}
-use Rattle.app_model.specs.Law.{law}
 use Rattle.app_model.specs.Starts.{start_of}
 use Rattle.fault_script.specs.Environments.{env_at}
 use Rattle.frame_model.specs.declared.phases.Phase as told_phases
@@ -24,11 +23,12 @@ use Rattle.frame_model.specs.declared.phases.Phase.TheVariants as told
 use Rattle.frame_model.specs.declared.tasks.Task.{Task}
 use Rattle.frame_model.specs.Flights.{decided, state_after}
 use Rattle.frame_model.specs.Phases.{phase_at}
-use Rattle.frame_model.specs.Runs.{all_below, conf_of}
+use Rattle.frame_model.specs.Runs.{all_below}
 use Rattle.frame_model.specs.States.{State, area_after, area_at, for_eight, kind_of_app, law_of, seen_by, start_area_at, start_area_of, zeros}
 use Rattle.frame_model.specs.Tasks as tasks
 use Rattle.trace_props.specs.Courses.{mode_at}
-use Rattle.trace_props.specs.Builds.{Phase, Order, Order.Run, Order.Halt, Order.Hold, Order.Prepare, Order.Init, Order.Off, Act, Act.Ran, Act.Halted, Act.Held, Act.Prepared, Act.Initialised, Act.WasOff, Act.Lost, phase, running_order, halting_order, preparing_order, init_order, order_in, act_of, acts_at}
+use Rattle.trace_props.specs.Builds.{Order, Order.Run, Order.Halt, Order.Hold, Order.Prepare, Order.Init, Order.Off, Act.Ran, Act.Halted, Act.Held, Act.Prepared, Act.Initialised, Act.Lost, phase, running_order, halting_order, preparing_order, init_order, order_in, act_of, acts_at}
+use Rattle.trace_props.specs.Judging.{lies_in}
 use Rattle.trace_props.specs.Areas.{Written, Written.DidRun, Written.DidHalt, Written.DidPrepare, Written.DidInit, Written.Zeros, opening_written, Laws, Filled, IsFilled}
 use Rattle.trace_props.proofs.Tests.{and_left, and_right}
 use Rattle.trace_props.proofs.Builds.{all_at}
@@ -54,9 +54,6 @@ pub int_trans : (a b c : ℤ) → a ≤ℤ b → b ≤ℤ c → a ≤ℤ c
 int_trans a b c h k = omega (arith, ints)
 
 -- x lies in an interval
-abbrev pub lies_in : ℤ → ℤ → ℤ → Bool
-lies_in low high x = int_le low x && int_le x high
-
 pub lies_is : (low high x : ℤ) → Between (low, high) x → lies_in low high x ≡ true
 lies_is low high x h = both (int_le low x) (int_le x high) (int_is low x h.least) (int_is x high h.greatest)
 

@@ -1,5 +1,5 @@
 -- What is found of one reconfiguration: the frame in which it breaks a property, or that it keeps it.
-use Rattle.std.proofs.Common.{◌≡◌, ℕ, zero, suc, ◌+◌, ◌-◌, ◌<◌, ◌≤◌, ◌≢◌, Bool, true, false, refl, arith, ap, sym, ◌∙◌, List, [], ◌∷◌, length, ◌⊎◌, subst}
+use Rattle.std.proofs.Common.{◌≡◌, ℕ, zero, suc, ◌+◌, ◌-◌, ◌<◌, ◌≤◌, Bool, true, false, refl, arith, ap, sym, ◌∙◌, List, [], ◌∷◌, length, ◌⊎◌, subst}
 use mathlib.Core.Logic.{inl, inr}
 use Rattle.std.specs.Prelude.{Option, Some, None, ℤ, slice_get, not, ◌==◌, ◌&&◌, ◌||◌, nat_le, is_some, option_map, option_and_then, if◌then◌else◌}
 use Rattle.std.specs.List.{list_any}
@@ -23,9 +23,9 @@ use Rattle.app_model.specs.Areas.{Between}
 use Rattle.trace_props.specs.declared.breaks.Property.TheVariants.{Sp4}
 use Rattle.trace_props.specs.Breaks.{BreaksIn, BreaksInvariant, BreaksPrecondition, Fails, last_frame}
 use Rattle.trace_props.specs.Judging.{breaks, breaks_aimed, breaks_in, causeless_at, changes_in, chooses, chooses_in, follows, has_cause, is_other, is_target, late_at, late_by, least_unkept, lesser, lies_in, settles, unchosen_at, unchosen_to, unkept_at, unkept_from, unless_chosen, unmet_at, unmet_before, unmet_in}
-use Rattle.trace_props.specs.Properties.{ChangesIn, Follows, InvariantHolds, IsChosen, KeepsSp2, KeepsSp3, KeepsSp4, KeepsSp5, PreconditionHolds, bound_on, env_before, env_in}
+use Rattle.trace_props.specs.Properties.{ChangesIn, Follows, InvariantHolds, KeepsSp2, KeepsSp3, KeepsSp4, KeepsSp5, PreconditionHolds, bound_on, env_before, env_in}
 use Rattle.trace_props.proofs.Firsts.{InSpan, IsLeastOf, least_lesser, least_moved, least_span}
-use Rattle.trace_props.proofs.Tests.{and_left, and_right, by_test, eq_true, le_false, le_true, not_false, true_false}
+use Rattle.trace_props.proofs.Tests.{and_left, and_right, by_test, eq_true, le_false, le_true, true_false}
 use Rattle.trace_props.proofs.Accepting.{same_env}
 use Rattle.trace_props.proofs.Differing.{both, eq_self, same_id}
 use Rattle.trace_props.proofs.Keeping.{not_same}

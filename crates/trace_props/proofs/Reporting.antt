@@ -1,18 +1,18 @@
 -- The reconfigurations that are read off the rows are those of the law.
-use Rattle.std.proofs.Common.{◌≡◌, ℕ, zero, suc, ◌+◌, ◌<◌, ◌≤◌, Bool, true, false, refl, arith, ap, sym, ◌∙◌, List, [], ◌∷◌, ◌++◌, length, ◌⊎◌}
+use Rattle.std.proofs.Common.{◌≡◌, ℕ, zero, suc, ◌<◌, ◌≤◌, Bool, true, false, refl, arith, ap, sym, ◌∙◌, List, [], ◌++◌, length, ◌⊎◌}
 use mathlib.Core.Logic.{inl, inr}
 use Rattle.std.specs.Prelude.{Option, Some, None, slice_get, option_map, if◌then◌else◌}
 use Rattle.scram_types.specs.declared.flights.Report as told_reports
 use Rattle.scram_types.specs.declared.flights.Row.{Row}
 use Rattle.scram_types.specs.Scripts.{ScriptParts}
-use Rattle.scram_types.specs.Specification.{Each, Parts}
+use Rattle.scram_types.specs.Specification.{Parts}
 use Rattle.frame_model.specs.declared.readings.Reading as told_readings
 use Rattle.frame_model.specs.declared.readings.Reading.TheVariants as told
 use Rattle.frame_model.specs.Flights.{listed_below, row_at}
 use Rattle.frame_model.specs.Laws.{ReadsRowByRow}
 use Rattle.frame_model.specs.Readings as readings
 use Rattle.frame_model.specs.Runs.{conf_of}
-use Rattle.trace_props.specs.Courses.{Flight, Reading, Reading.Steady, Reading.Leaving, Report, arrive, read_row, reading_before, arrival, report_of, report_at}
+use Rattle.trace_props.specs.Courses.{Reading, Reading.Steady, Reading.Leaving, Report, arrive, read_row, reading_before, arrival, report_of, report_at}
 use Rattle.trace_props.proofs.Lists.{each_append, each_option, first_part, next_part, length-listed_below}
 use Rattle.trace_props.proofs.Products.{flight_of, plan_of, runs_in_row}
 

@@ -1,26 +1,17 @@
 -- The theorem: all properties hold of every mission, and the central facts in each of its moving frames.
-use Rattle.std.proofs.Common.{◌≡◌, ℕ, zero, suc, ◌+◌, ◌-◌, ◌*◌, ◌≤◌, Bool, true, false, refl, arith, ap, sym, ◌∙◌, subst}
-use Rattle.std.specs.Prelude.{Option, Some, None}
+use Rattle.std.proofs.Common.{◌≡◌, ℕ, ◌+◌, ◌*◌, ◌≤◌, false, refl, ap, sym, ◌∙◌}
+use Rattle.std.specs.Prelude.{Option}
 use Rattle.scram_types.specs.declared.ids.ConfId.{ConfId}
 use Rattle.scram_types.specs.declared.orders.KMode.{KMode}
 use Rattle.scram_types.specs.declared.orders.KMode.TheVariants as kmode
 use Rattle.scram_types.specs.declared.specification.Policy.{Policy}
-use Rattle.scram_types.specs.declared.specification.Policy.TheVariants.{Retarget, Settle}
+use Rattle.scram_types.specs.declared.specification.Policy.TheVariants.{Retarget}
 use Rattle.scram_types.specs.Scripts.{ScriptParts}
 use Rattle.scram_types.specs.Specification.{IsSpec, Parts}
-use Rattle.choice_table.specs.Choices.{choose}
-use Rattle.choice_table.specs.Laws.{RunsWherePlacesAreUp}
-use Rattle.dep_order.specs.Timetables.{PhasesEndInTime}
-use Rattle.app_model.specs.Areas.{AllTablesNarrow, LawLiesAfterInit, LawLiesDuring, StartLiesAfterInit}
-use Rattle.fault_script.specs.Environments.{env_at}
-use Rattle.fault_script.specs.Laws.{EnvironmentsShow, LossesShow}
 use Rattle.frame_model.specs.Flights.{decided, reports_of, rows_of}
-use Rattle.frame_model.specs.Laws.{ReadsRowByRow}
-use Rattle.frame_model.specs.Phases.{halting_frames}
 use Rattle.frame_model.specs.Runs.{conf_of}
-use Rattle.trace_props.specs.Plans.{Accepted, halting_of}
-use Rattle.trace_props.specs.Modes.{Mode.Moving}
-use Rattle.trace_props.specs.Courses.{IsFlown, IsWithin, Reading, Reading.Steady, Reading.Leaving, mode_at, reading_before}
+use Rattle.trace_props.specs.Plans.{Accepted}
+use Rattle.trace_props.specs.Courses.{IsFlown, IsWithin, Reading, Reading.Steady, Reading.Leaving, reading_before}
 use Rattle.trace_props.specs.Assurances as assurances
 use Rattle.trace_props.specs.Builds.{IsBuilt, IsRun}
 use Rattle.trace_props.specs.Known.{IsKnown}

@@ -1,5 +1,5 @@
 -- Phases, orders, acts and rows, and what ties a flight's rows to its modes.
-use Rattle.std.specs.Prelude.{◌≡◌, ℕ, zero, suc, ◌+◌, ◌-◌, ◌<◌, ◌≤◌, ◌⊎◌, Bool, true, false, ◌&&◌, Option, Some, None, if◌then◌else◌, nat_eq, nat_lt}
+use Rattle.std.specs.Prelude.{◌≡◌, ℕ, suc, ◌+◌, ◌-◌, ◌<◌, ◌≤◌, ◌⊎◌, Bool, true, false, ◌&&◌, Option, Some, None, if◌then◌else◌, nat_eq, nat_lt}
 use Rattle.scram_types.specs.declared.flights.Env.{Env}
 use Rattle.trace_props.specs.Plans.{Plan, Accepted}
 use Rattle.trace_props.specs.Modes.{Mode, Mode.Stable, Mode.Moving}

@@ -1,5 +1,5 @@
 -- What a plan says: which configuration is chosen in which environment, and how long phases last.
-use Rattle.std.specs.Prelude.{◌≡◌, ℕ, suc, ◌+◌, ◌*◌, ◌<◌, ◌≤◌, ◌⊎◌, ◌≢◌, Bool, true, false, List, Option, Some, None, if◌then◌else◌}
+use Rattle.std.specs.Prelude.{◌≡◌, ℕ, suc, ◌+◌, ◌*◌, ◌<◌, ◌≤◌, ◌⊎◌, ◌≢◌, Bool, true, false, Option, Some, None, if◌then◌else◌}
 use Rattle.scram_types.specs.declared.flights.Env.{Env}
 
 pub record Plan : Type 0 where

@@ -50,7 +50,7 @@ returns-in-Ok-clause-fits c =
     let is : IsRanking apps ranks = search rules in
     let small : All (λ (rank : ℕ). rank < 8) ranks = search rules in
     let falls : RanksFall apps ranks = search rules in
-    rw (given c) (ranked_fit apps ranks is.count small falls c.requires.fits)
+    rw (given c) (ranked_fit apps ranks is small falls c.requires.fits)
 
 pub returns-in-Ok-clause-no_cycle : goal.returns-in-Ok-clause-no_cycle
 returns-in-Ok-clause-no_cycle c =

@@ -1,10 +1,7 @@
 use Rattle.std.proofs.Common.{◌≡◌, ◌∙◌, ap, arith, length, refl, sym}
-use Rattle.scram_types.specs.declared.flights.Report.{Report}
-use Rattle.scram_types.specs.declared.flights.Row.{Row}
 use Rattle.scram_types.specs.Scripts.{ScriptParts}
 use Rattle.frame_model.specs.Flights.{reports_of, rows_of}
 use Rattle.frame_model.specs.Readings.{reports}
-use Rattle.trace_props.specs.Properties.{HoldsAll}
 use Rattle.trace_props.proofs.Sizes.{few_reports}
 use Rattle.trace_props.proofs.flights.one_thread.Goals as goal
 

@@ -1,5 +1,5 @@
-use Rattle.std.proofs.Common.{◌≡◌, ◌∙◌, refl, sym, true, false}
-use Rattle.std.specs.Prelude.{None, Some}
+use Rattle.std.proofs.Common.{◌≡◌, ◌∙◌, refl, sym, true}
+use Rattle.std.specs.Prelude.{Some}
 use Rattle.trace_props.specs.Judging.{first_break}
 use Rattle.trace_props.proofs.Judged.{first_broken, holds_if, unbroken_of}
 use Rattle.trace_props.proofs.Tests.{true_false}

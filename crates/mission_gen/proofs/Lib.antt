@@ -1,0 +1,5 @@
+mod Examples
+mod Fitting
+mod Ordering
+mod Reading
+pub mod Walking

@@ -1,0 +1,134 @@
+-- The texts of the specifications are read by computing.
+use Rattle.std.proofs.Common.{◌≡◌, refl, ap, sym, ◌∙◌, ℕ, List, [], ◌∷◌, length}
+use Rattle.std.specs.Prelude.{Bool, true, false, ◌&&◌, drop, slice_index, nat_le, nat_lt, Option, Some, None, Result, Ok, Err, IfOk, map}
+use Rattle.std.specs.Fmt.{digits}
+use Rattle.std.specs.List.{list_all}
+use Rattle.std.specs.Str.{IsAscii}
+use Rattle.std.proofs.lemmas.Bool.{ltb-true}
+use Rattle.std.proofs.lemmas.Option.{same_Some}
+use Rattle.std.proofs.lemmas.Str.{IsUtf8-from_ascii, is_utf8-from_IsUtf8}
+use Rattle.std.proofs.lemmas.Str.Ascii.{IsAscii-cons, IsAscii-nil}
+use Rattle.json.specs.Json.{value}
+use Rattle.json.specs.Lex.{lex, punctuate}
+use Rattle.json.specs.Print.{escape_byte}
+use Rattle.json.specs.Text.{content}
+use Rattle.json.specs.Word.{word, after_number}
+use Rattle.fast_float.specs.Text.{scan}
+use Rattle.serde_json.specs.Data.{Data}
+use Rattle.serde_json.specs.Read.{read, number_of}
+use Rattle.scram_types.specs.declared.specification.Factor.{Factor}
+use Rattle.scram_types.specs.Specification.{Parts}
+use Rattle.scram_doc.specs.declared.fault.DocFault.{DocFault}
+use Rattle.scram_doc.specs.declared.rule.TheConstants.{NO_JSON_TEXT}
+use Rattle.scram_doc.specs.Chain.{chain, ok_map}
+use Rattle.scram_doc.specs.Faults.{or_broken}
+use Rattle.reconf_spec.specs.Texts.{spec_text}
+use Rattle.reconf_spec.specs.Documents.{spec_in, spec_of}
+use Rattle.fault_script.proofs.Halts.{and_left, and_right}
+use Rattle.mission_gen.specs.Specifications.{GivesSpecification, generated_text, uav_text, with_further_factors}
+use Rattle.mission_gen.proofs.Fitting.{HasCounts}
+
+-- the reading of a text that is known to be short and UTF-8
+abbrev pub reading : List ℕ → Result Parts DocFault
+reading text = chain (or_broken NO_JSON_TEXT [] (read text)) (λ (d : Data). spec_in d)
+
+abbrev pub is_ok : {A E : Type 0} → Result A E → Bool
+is_ok (Ok a) = true
+is_ok (Err e) = false
+
+-- how many processors, applications, and values of each factor there are
+abbrev pub counts_in : Parts → List ℕ
+counts_in spec = length spec.procs ∷ length spec.apps ∷ map (λ (factor : Factor). length factor.values) spec.factors
+
+abbrev pub counts : Result Parts DocFault → Option (List ℕ)
+counts (Ok spec) = Some (counts_in spec)
+counts (Err fault) = None
+
+uav_reads : is_ok (reading uav_text) ≡ true
+unfolding uav_text value lex punctuate content word after_number number_of scan
+uav_reads = refl
+
+generated_reads : counts (reading generated_text) ≡ Some (2 ∷ 3 ∷ 2 ∷ 2 ∷ 4 ∷ 4 ∷ 4 ∷ 4 ∷ [])
+unfolding generated_text value lex punctuate content word after_number number_of scan
+generated_reads = refl
+
+abbrev is_plain : List ℕ → Bool
+is_plain text = list_all (λ (b : ℕ). nat_lt b 128) text && nat_le (length text) 1048576
+
+uav_is_plain : is_plain uav_text ≡ true
+unfolding uav_text
+uav_is_plain = refl
+
+generated_is_plain : is_plain generated_text ≡ true
+unfolding generated_text
+generated_is_plain = refl
+
+ascii : (text : List ℕ) → list_all (λ (b : ℕ). nat_lt b 128) text ≡ true → IsAscii text
+ascii [] plain = IsAscii-nil
+ascii (b ∷ text) plain = IsAscii-cons b text (ltb-true b 128 (and_left (nat_lt b 128) _ plain)) (ascii text (and_right (nat_lt b 128) _ plain))
+
+plain_read : (text : List ℕ) → is_plain text ≡ true → spec_of text ≡ reading text
+plain_read text plain =
+    let utf8 = is_utf8-from_IsUtf8 text (IsUtf8-from_ascii text (ascii text (and_left _ _ plain))) in
+    rw (and_right (list_all (λ (b : ℕ). nat_lt b 128) text) _ plain, utf8) refl
+
+given_if : (r : Result Parts DocFault) → is_ok r ≡ true → (spec : Parts) × (r ≡ Ok spec)
+given_if (Ok spec) ok = (spec, refl)
+given_if (Err fault) ok = absurd cc
+
+gives : (text : List ℕ) → is_plain text ≡ true → is_ok (reading text) ≡ true → GivesSpecification text
+gives text plain ok =
+    let known = given_if (reading text) ok in
+    record { spec = known.0; given = plain_read text plain ∙ known.1 }
+
+pub uav_given : GivesSpecification uav_text
+uav_given = gives uav_text uav_is_plain uav_reads
+
+ok_if : (r : Result Parts DocFault) (ns : List ℕ) → counts r ≡ Some ns → is_ok r ≡ true
+ok_if (Ok spec) ns known = refl
+ok_if (Err fault) ns known = absurd cc
+
+pub generated_given : GivesSpecification generated_text
+generated_given = gives generated_text generated_is_plain (ok_if (reading generated_text) _ generated_reads)
+
+counts_of : (spec : Parts) (ns : List ℕ) → Some (counts_in spec) ≡ Some (2 ∷ 3 ∷ ns) → (length spec.procs ≡ 2) × (length spec.apps ≡ 3) × (map (λ (factor : Factor). length factor.values) spec.factors ≡ ns)
+counts_of spec ns known =
+    let same = same_Some _ _ known in
+    (ap (λ (xs : List ℕ). slice_index xs 0) same, ap (λ (xs : List ℕ). slice_index xs 1) same, ap (λ (xs : List ℕ). drop 2 xs) same)
+
+pub generated_counts : (spec : Parts) → spec_of generated_text ≡ Ok spec → HasCounts spec
+generated_counts spec given =
+    let read : counts (Ok spec) ≡ counts (reading generated_text) = ap counts (sym given ∙ plain_read generated_text generated_is_plain) in
+    let known = counts_of spec _ (read ∙ generated_reads) in
+    record { procs = known.0; apps = known.1; values = known.2 }
+
+-- the canonical text of what was read
+abbrev canonical : Result Parts DocFault → List ℕ
+canonical (Ok spec) = spec_text spec
+canonical (Err fault) = []
+
+uav_written : canonical (reading uav_text) ≡ uav_text
+unfolding uav_text value lex punctuate content word after_number number_of scan escape_byte digits
+uav_written = refl
+
+generated_written : canonical (reading generated_text) ≡ generated_text
+unfolding generated_text value lex punctuate content word after_number number_of scan escape_byte digits
+generated_written = refl
+
+pub uav_canonical : (spec : Parts) → spec_of uav_text ≡ Ok spec → spec_text spec ≡ uav_text
+uav_canonical spec given = ap canonical (sym given ∙ plain_read uav_text uav_is_plain) ∙ uav_written
+
+pub generated_canonical : (spec : Parts) → spec_of generated_text ≡ Ok spec → spec_text spec ≡ generated_text
+generated_canonical spec given = ap canonical (sym given ∙ plain_read generated_text generated_is_plain) ∙ generated_written
+
+generated_further : reading generated_text ≡ ok_map with_further_factors (reading uav_text)
+unfolding generated_text uav_text value lex punctuate content word after_number number_of scan
+generated_further = refl
+
+pub generated_from_uav : (spec : Parts) → spec_of generated_text ≡ Ok spec → ok_map with_further_factors (spec_of uav_text) ≡ Ok spec
+generated_from_uav spec given =
+    ap (ok_map with_further_factors) (plain_read uav_text uav_is_plain) ∙ sym generated_further ∙ sym (plain_read generated_text generated_is_plain) ∙ given
+
+pub if_ok_more : {A E : Type 0} (P Q : A → Type 0) (r : Result A E) → ((a : A) → P a → Q a) → IfOk r P → IfOk r Q
+if_ok_more P Q (Ok a) more known = more a known
+if_ok_more P Q (Err e) more known = tt

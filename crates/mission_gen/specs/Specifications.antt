@@ -1,0 +1,44 @@
+-- The texts of the specifications, and what texts give.
+use Rattle.std.specs.Prelude.{◌≡◌, ℕ, List, [], ◌∷◌, ◌++◌, Ok, codes}
+use Rattle.scram_types.specs.declared.specification.Factor.{Factor}
+use Rattle.scram_types.specs.Specification.{Parts}
+use Rattle.reconf_spec.specs.Documents.{spec_of}
+use Rattle.mission_gen.specs.declared.texts.TheConstants.{GENERATED, UAV}
+
+-- the aircraft with two alternators and two computers
+unfoldable pub uav_text : List ℕ
+uav_text = UAV.now
+
+-- the same aircraft with four further factors
+unfoldable pub generated_text : List ℕ
+generated_text = GENERATED.now
+
+-- The text is that of a specification.
+pub record GivesSpecification (text : List ℕ) : Type 0 where
+  pub spec : Parts
+  pub given : spec_of text ≡ Ok spec
+
+-- a further factor, with four values
+abbrev pub further_factor : List ℕ → Factor
+further_factor name = record { name = name; values = codes "v0" ∷ codes "v1" ∷ codes "v2" ∷ codes "v3" ∷ [] }
+
+-- The specification with four further factors after its own.
+abbrev pub with_further_factors : Parts → Parts
+with_further_factors spec = record {
+  procs = spec.procs;
+  apps = spec.apps;
+  confs = spec.confs;
+  factors =
+      spec.factors ++ further_factor (codes "aux0") ∷ further_factor (codes "aux1") ∷ further_factor (codes "aux2")
+      ∷ further_factor (codes "aux3") ∷ [];
+  rules = spec.rules;
+  bounds = spec.bounds;
+  start = spec.start;
+  goal = spec.goal;
+  invariants = spec.invariants;
+  preconditions = spec.preconditions;
+  policy = spec.policy;
+  halts = spec.halts;
+  changes = spec.changes;
+  window = spec.window;
+}

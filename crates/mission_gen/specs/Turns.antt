@@ -1,0 +1,29 @@
+-- Which factors a mission's blocks turn, and when.
+use Rattle.std.specs.Prelude.{ℕ, zero, suc, ◌+◌, ◌-◌, ◌/◌, ◌%◌, ◌==◌, List, [], ◌∷◌, ◌++◌, if◌then◌else◌}
+use Rattle.mission_gen.specs.Blocks.{alternator, delay, first_frame, random, turns_both}
+
+-- In a frame, a factor goes to its next value.
+pub record Turn : Type 0 where
+  pub frame : ℕ
+  pub factor : ℕ
+
+abbrev pub turn : ℕ → ℕ → Turn
+turn frame factor = record { frame = frame; factor = factor }
+
+-- Every third block turns one of the four further factors.
+abbrev pub aux_turns : ℕ → ℕ → List Turn
+aux_turns k frame = if k % 3 == 0 then turn frame (2 + (k / 3) % 4) ∷ [] else []
+
+abbrev pub other_turns : ℕ → ℕ → List Turn
+other_turns frame x = if turns_both x then turn (frame + delay x) (1 - alternator x) ∷ [] else []
+
+-- In the fifth block a processor halts, and nothing turns.
+abbrev pub turns_in : ℕ → ℕ → List Turn
+turns_in k x =
+    if k == 5 then []
+    else (turn (first_frame k x) (alternator x) ∷ aux_turns k (first_frame k x) ++ other_turns (first_frame k x) x)
+
+-- what the blocks 1 to k turn
+abbrev pub turns_to : ℕ → ℕ → List Turn
+turns_to n zero = []
+turns_to n (suc k) = turns_to n k ++ turns_in (suc k) (random n (suc k))

@@ -1,0 +1,92 @@
+//! The aircraft's specification, and missions from a number.
+
+ghost use Rattle.std.specs.Prelude.{◌≡◌, Ok, IfOk};
+ghost use Rattle.scram_doc.specs.Chain.{ok_map};
+ghost use Rattle.fault_script.specs.Fits.{Fits};
+ghost use Rattle.reconf_spec.specs.Documents.{spec_of};
+ghost use Rattle.reconf_spec.specs.Texts.{spec_text};
+ghost use Rattle.mission_gen.specs.Changes.{frames_of, generated_script, halt_of};
+ghost use Rattle.mission_gen.specs.Specifications.{GivesSpecification, generated_text, uav_text, with_further_factors};
+
+use crate::random::{first_frame, random};
+use crate::texts;
+use crate::walks::make_changes;
+use reconf_spec::{SpecError, read_spec};
+use scram_types::{HaltAt, List, NoMemory, ProcId, Script, Spec};
+use std::alloc::Global;
+
+/// The specification that a text gives.
+fn read_text(alloc: Global, text: &str) -> Result<Spec, NoMemory>
+    requires { GivesSpecification text.now }
+    ensures { IfOk result (λ spec. spec_of text.now ≡ Ok spec) }
+{
+    match read_spec(alloc, text.as_bytes()) {
+        Ok(spec) => Ok(spec),
+        Err(SpecError::NoMemory) => Err(NoMemory),
+        Err(SpecError::Fault(_)) => unreachable!(),
+    }
+}
+
+/// The specification of the aircraft: an autopilot that needs a flight control, a power monitor, two computers,
+/// two alternators that may fail.
+///
+/// # Errors
+///
+/// Want of memory.
+pub fn uav(alloc: Global) -> Result<Spec, NoMemory>
+    ensures text { IfOk result (λ spec. spec_of uav_text ≡ Ok spec) }
+    ensures canonical { IfOk result (λ spec. spec_text spec ≡ uav_text) }
+{
+    read_text(alloc, texts::uav())
+}
+
+fn count_frames(n: u32) -> u32
+    ensures value { result ≡ frames_of n }
+{
+    1000 + 1000 * (n % 19)
+}
+
+/// The halt in the fifth block.
+fn make_halt(n: u32) -> HaltAt
+    ensures { result ≡ halt_of n }
+{
+    let x = random(n, 5);
+    HaltAt {
+        proc: ProcId((n % 2) as u8),
+        frame: first_frame(5, x),
+        step: (x % 26) as u8,
+    }
+}
+
+fn make_script(alloc: Global, n: u32) -> Result<Script, NoMemory>
+    ensures { IfOk result (λ script. script ≡ generated_script n) }
+{
+    let frames = count_frames(n);
+    let changes = make_changes(alloc, n, frames)?;
+    let mut halts = Vec::new(alloc);
+    halts.push(make_halt(n))?;
+    Ok(Script {
+        frames,
+        changes: List::of(changes),
+        halts: List::of(halts),
+        restarts: List::of(Vec::new(alloc)),
+    })
+}
+
+/// The mission of a number: the aircraft with four further factors, and a script of 1,000 to 19,000 frames. The
+/// script fits the specification.
+///
+/// # Errors
+///
+/// Want of memory.
+pub fn generate(alloc: Global, n: u32) -> Result<(Spec, Script), NoMemory>
+    ensures specification { IfOk result (λ made. ok_map with_further_factors (spec_of uav_text) ≡ Ok made.0) }
+    ensures text { IfOk result (λ made. spec_of generated_text ≡ Ok made.0) }
+    ensures canonical { IfOk result (λ made. spec_text made.0 ≡ generated_text) }
+    ensures script { IfOk result (λ made. made.1 ≡ generated_script n) }
+    ensures fits { IfOk result (λ made. Fits made.0 made.1) }
+{
+    let spec = read_text(alloc, texts::generated())?;
+    let script = make_script(alloc, n)?;
+    Ok((spec, script))
+}

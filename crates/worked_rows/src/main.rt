@@ -1,0 +1,30 @@
+//! The worked rows: it gives the words of each row in `rows.txt` to the command, on files of which some pieces are
+//! changed, and prints what the command answers. What it has to print was worked out by hand.
+#![tactic(auto)]
+
+mod answers;
+mod files;
+
+use crate::answers::{answer, print_answer};
+use crate::files::{list_words, make_files};
+use std::{fs, io};
+
+fn main(rt: HostRuntime) -> io::Result<()> {
+    let rows = fs::read_to_string(&rt, "rows.txt")?;
+    for row in rows.as_str().split("\n\n") {
+        answer_row(&rt, row)?;
+    }
+    Ok(())
+}
+
+/// Prints the words of a row, and what the command answers to them.
+fn answer_row(rt: &HostRuntime, row: &str) -> io::Result<()> {
+    let (first, rest) = row.split_once('\n').unwrap_or((row, ""));
+    let (words, frames) = first.split_once(" : ").unwrap_or((first, ""));
+    println!(rt; "> {words}")?;
+    let words = list_words(rt.alloc(), words)?;
+    let files = make_files(rt, &words, rest)?;
+    let (status, sink) = answer(rt, &words, files)?;
+    print_answer(rt, sink.bytes(), frames)?;
+    println!(rt; "status {status}\n")
+}
