@@ -244,3 +244,9 @@ pub answered_text : (spec : Parts) (bytes : List ℕ) (answer : Result Flown Tra
     IfOk answer (λ (f : Flown). bytes ≡ text_of spec f.rows f.reports)
 answered_text spec bytes (Ok f) few small h = trace_only spec bytes f few small h
 answered_text spec bytes (Err error) few small h = tt
+
+-- the text of what is read is read to the same again
+pub answered_again : (spec : Parts) (bytes : List ℕ) (answer : Result Flown TraceError) → length spec.factors ≤ 6 → length spec.apps ≤ 8 → AnswersTrace (trace_of spec bytes) answer →
+    IfOk answer (λ (f : Flown). trace_of spec (text_of spec f.rows f.reports) ≡ Ok f)
+answered_again spec bytes (Ok f) few small h = ap (trace_of spec) (sym (trace_only spec bytes f few small h)) ∙ h
+answered_again spec bytes (Err error) few small h = tt

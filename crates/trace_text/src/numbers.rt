@@ -38,8 +38,8 @@ pub fn read_signed(text: &[u8]) -> Option<i64>
     let Ok(number) = digits.parse::<i64>() else {
         return None;
     };
-    let mut buffer = Buffer::new();
-    if buffer.format(number).as_bytes() != text {
+    let mut printed = Buffer::new();
+    if printed.format(number).as_bytes() != text {
         return None;
     }
     Some(number)

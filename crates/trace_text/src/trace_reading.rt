@@ -1,6 +1,6 @@
 //! A trace read from its bytes.
 
-ghost use Rattle.std.specs.Prelude.{◌≡◌, ◌≤◌, IfOk, length};
+ghost use Rattle.std.specs.Prelude.{◌≡◌, ◌≤◌, IfOk, Ok, length};
 ghost use Rattle.trace_text.specs.Text.{text_of};
 ghost use Rattle.trace_text.specs.TraceReading.{AnswersTrace, at_last, stopped, trace_of};
 
@@ -32,6 +32,7 @@ pub enum TraceError {
 pub fn read_trace(alloc: Global, bytes: &[u8], spec: &Spec) -> Result<Flown, TraceError>
     ensures read { AnswersTrace (trace_of spec.now bytes.now) result }
     ensures text { IfOk result (λ flown. bytes.now ≡ text_of spec.now flown.rows flown.reports) }
+    ensures again { IfOk result (λ flown. trace_of spec.now (text_of spec.now flown.rows flown.reports) ≡ Ok flown) }
 {
     lists_are_short(spec);
     read_lines(alloc, bytes, spec)
