@@ -1,5 +1,5 @@
 -- A line of a trace adds at most one row and at most one report, so 32 bits count both.
-use Rattle.std.proofs.Common.{◌≡◌, ℕ, suc, ◌+◌, ◌<◌, ◌≤◌, ◌^◌, ◌∷◌, [], ◌++◌, List, length, Bool, true, false, Result, Ok, Err, arith, refl, sym, length-append}
+use Rattle.std.proofs.Common.{◌≡◌, ℕ, suc, ◌+◌, ◌≤◌, ◌∷◌, [], ◌++◌, List, length, Bool, true, false, Result, Ok, Err, arith, refl, sym, length-append}
 use Rattle.std.specs.Prelude.{◌==◌, codes, nat_lt, ⊤, if◌then◌else◌}
 use Rattle.std.proofs.lemmas.Bool.{ltb-false}
 use Rattle.std.proofs.lemmas.List.Splits.{length-slice_split}
@@ -16,7 +16,7 @@ use Rattle.trace_text.specs.AppReading.{app_read}
 use Rattle.trace_text.specs.Pieces.{pieces_of}
 use Rattle.trace_text.specs.ReportReading.{end_read, report_read}
 use Rattle.trace_text.specs.RowReading.{row_read}
-use Rattle.trace_text.specs.TraceReading.{SoFar, after_app, after_line, at_end, at_last, before_first, begins, closing, fault_at, go_on, is_plain, standing_line, trace_from, trace_of, with_app, with_done, with_end, with_report, with_row}
+use Rattle.trace_text.specs.TraceReading.{SoFar, after_app, after_line, at_end, before_first, begins, closing, fault_at, go_on, is_plain, standing_line, trace_from, trace_of, with_app, with_done, with_end, with_report, with_row}
 use Rattle.trace_text.specs.Pieces.{is_filled}
 use Rattle.scram_cli.specs.Loads.{IsCounted}
 

@@ -1,10 +1,10 @@
 -- From what was printed to how a command ends.
-use Rattle.std.proofs.Common.{rules, ◌≡◌, ℕ, suc, ◌<◌, ◌≤◌, List, [], ◌∷◌, ◌++◌, length, refl, sym, ap, inl, inr, arith, ◌∙◌}
+use Rattle.std.proofs.Common.{◌≡◌, ℕ, suc, ◌≤◌, List, ◌∷◌, length, refl, sym, ap, inl, inr, arith}
 use Rattle.std.specs.Prelude.{Option, Some, None, IfSome, ◌⊎◌, Contains}
 use Rattle.scram_io.specs.Outside.{Rose, Unrisen, TakesSurely}
 use Rattle.scram_io.proofs.Puts.{rose_since, risen}
 use Rattle.trace_text.specs.Printing.{Printed, CutOff}
-use Rattle.scram_cli.specs.Answers.{Ends, HasRoom, IsUnread, Outcome, Says, Surely, Tells, memory_line, read_line}
+use Rattle.scram_cli.specs.Answers.{Ends, HasRoom, Outcome, Says, Surely, Tells, memory_line, read_line}
 
 pub surely_of : (room left : Option ℕ) (before now : ℕ) (text : List ℕ) →
     TakesSurely room left before now text → Surely room before now text

@@ -2,8 +2,9 @@
 use Rattle.std.proofs.Common.{◌≡◌, refl, ℕ, List, [], ◌∷◌, pos}
 use Rattle.std.specs.Prelude.{Option, Some, None, codes, replicate}
 use Rattle.std.specs.Fmt.{digits}
+use Rattle.scram_types.specs.declared.flights.Report.{Report}
+use Rattle.scram_types.specs.declared.flights.Row.{Row}
 use Rattle.scram_types.specs.declared.ids.ConfId.{ConfId}
-use Rattle.scram_types.specs.declared.specification.AppSpec.{AppSpec}
 use Rattle.scram_types.specs.declared.specification.Bound.{Bound}
 use Rattle.scram_types.specs.declared.specification.Conf.{Conf}
 use Rattle.scram_types.specs.declared.specification.Factor.{Factor}
@@ -12,7 +13,8 @@ use Rattle.scram_types.specs.declared.specification.Proc.{Proc}
 use Rattle.scram_types.specs.Specification.{Parts}
 use Rattle.fault_script.specs.declared.assumption.OutsideKind.TheVariants as kind
 use Rattle.coverage_check.specs.declared.shown.Other.TheVariants as other
-use Rattle.scram_cli.specs.Lines.{accepted_line, outside_line, script_line, shown_line, specification_line}
+use Rattle.trace_props.specs.declared.breaks.Property.TheVariants as property
+use Rattle.scram_cli.specs.Lines.{accepted_line, broken_line, fly_line, holds_line, outside_line, script_line, shown_line, specification_line, trace_line}
 
 abbrev conf : List ℕ → Conf
 conf name = record { name = name; places = replicate 8 None }
@@ -134,3 +136,32 @@ halts = refl
 accepted : accepted_line alternators ≡ codes "accepted: configurations 2 states 12 bounds 0\n"
 unfolding digits
 accepted = refl
+
+-- a number with a zero in front, in the first line
+trace : trace_line (record { line = 1; rule = 5 }) ≡ codes "refused: trace rule 5 at line 1\n"
+unfolding digits
+trace = refl
+
+-- a file that is too long
+long : trace_line (record { line = 0; rule = 9 }) ≡ codes "refused: trace rule 9 at line 0\n"
+unfolding digits
+long = refl
+
+broken : broken_line (record { property = property.Sp4; frame = 12 }) ≡ codes "broken: SP4 at frame 12\n"
+unfolding digits
+broken = refl
+
+reconfiguration : Option ConfId → ℕ → ℕ → Report
+reconfiguration to begin end = record { from = numbered 0; to = to; begin = begin; end = end }
+
+-- an unfinished reconfiguration counts
+holds : (row : Row) → holds_line (record { rows = replicate 11 row; reports = reconfiguration None 10 11 ∷ [] })
+    ≡ codes "holds: frames 11 reconfigurations 1\n"
+unfolding digits
+holds row = refl
+
+-- without rows the start configuration is shown, and an unfinished reconfiguration is none of the longest
+flown : fly_line 18 alternators [] (reconfiguration (Some (numbered 1)) 10 15 ∷ reconfiguration (Some (numbered 0)) 50 57 ∷ reconfiguration None 60 99 ∷ [])
+    ≡ codes "fly 18 frames 0 reconfigurations 3 longest 7 final full\n"
+unfolding digits reconfiguration
+flown = refl

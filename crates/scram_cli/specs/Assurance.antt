@@ -1,12 +1,9 @@
 -- What is assured of a mission that the command flew.
-use Rattle.std.specs.Prelude.{◌≡◌, ℕ, List, Option, Some, None, Result, Ok, ⊤}
+use Rattle.std.specs.Prelude.{ℕ, List, Option, Some, None, ⊤}
 use Rattle.scram_types.specs.declared.flights.Flown.{Flown}
 use Rattle.scram_types.specs.Scripts.{ScriptParts}
 use Rattle.scram_types.specs.Specification.{Parts}
-use Rattle.scram_doc.specs.declared.fault.DocFault.{DocFault}
 use Rattle.scram_io.specs.Outside.{FileMap, Took}
-use Rattle.reconf_spec.specs.Documents.{spec_of}
-use Rattle.fault_script.specs.Reading.{script_of}
 use Rattle.mission_gen.specs.Changes.{generated_script}
 use Rattle.coverage_check.specs.Acceptance.{Accepts}
 use Rattle.coverage_check.specs.Missions.{IsMission, mission_of}
