@@ -1,5 +1,5 @@
 //! The files of a row. The first is a file of the data folder, changed as each line `~ PIECE => OTHER PIECE` says. The
-//! second is what stands after `= `, and is not there where nothing does. Of lines `! read N`, `! put N` and `! room N`
+//! second has the lines that stand after `= `, and is not there where no line begins with `=`. Of lines `! read N`, `! put N` and `! room N`
 //! the first two name a call that fails, from 0, and the last the bytes that the sink has room for.
 
 use scram_io::MemFiles;
@@ -21,15 +21,14 @@ pub fn list_words(alloc: Global, line: &str) -> io::Result<Vec<String>> {
 pub fn make_files(rt: &HostRuntime, words: &[String], row: &str) -> io::Result<MemFiles> {
     let mut entries = Vec::new(rt.alloc());
     for (i, word) in words.iter().enumerate() {
-        if i == 0 {
-            continue;
-        }
-        if i == 1 {
-            let text = fs::read_to_string(rt, word.as_str())?;
-            let text = change(rt.alloc(), text, row)?;
-            entries.push((word.as_str().to_string(rt.alloc())?, text.into_bytes()))?;
-        } else if let Some(text) = second_file(row) {
-            let text = text.to_string(rt.alloc())?;
+        let text = match i {
+            1 if word.as_str().ends_with(".json") => {
+                Some(change(rt.alloc(), fs::read_to_string(rt, word.as_str())?, row)?)
+            }
+            2 => second_file(rt.alloc(), row)?,
+            _ => None,
+        };
+        if let Some(text) = text {
             entries.push((word.as_str().to_string(rt.alloc())?, text.into_bytes()))?;
         }
     }
@@ -50,13 +49,23 @@ pub fn numbers(alloc: Global, row: &str, words: &str) -> io::Result<Vec<u32>> {
     Ok(numbers)
 }
 
-fn second_file(row: &str) -> Option<&str> {
+fn second_file(alloc: Global, row: &str) -> io::Result<Option<String>> {
+    let mut file = None;
     for line in row.split('\n') {
-        if let Some(text) = line.strip_prefix("= ") {
-            return Some(text);
+        if line.starts_with("=") {
+            let text = file.unwrap_or_else(|| String::new(alloc));
+            file = Some(append_line(alloc, text, line.strip_prefix("= "))?);
         }
     }
-    None
+    Ok(file)
+}
+
+/// The text, and a line after it where there is one.
+fn append_line(alloc: Global, text: String, line: Option<&str>) -> io::Result<String> {
+    match line {
+        Some(line) => Ok(format!(in alloc; "{text}{line}\n")?),
+        None => Ok(text),
+    }
 }
 
 fn change(alloc: Global, text: String, row: &str) -> io::Result<String> {
