@@ -1,6 +1,7 @@
 //! The files of a row. The first is a file of the data folder, changed as each line `~ PIECE => OTHER PIECE` says. The
 //! second has the lines that stand after `= `, and is not there where no line begins with `=`. Of lines `! read N`, `! put N` and `! room N`
-//! the first two name a call that fails, from 0, and the last the bytes that the sink has room for.
+//! the first two name a call that fails, from 0, and the last the bytes that the sink has room for. Lines
+//! `! first N` and `! second N` let a file have so many bytes, with spaces at its end.
 
 use scram_io::MemFiles;
 use std::alloc::Global;
@@ -23,9 +24,13 @@ pub fn make_files(rt: &HostRuntime, words: &[String], row: &str) -> io::Result<M
     for (i, word) in words.iter().enumerate() {
         let text = match i {
             1 if word.as_str().ends_with(".json") => {
-                Some(change(rt.alloc(), fs::read_to_string(rt, word.as_str())?, row)?)
+                let text = fs::read_to_string(rt, word.as_str())?;
+                Some(pad(rt.alloc(), change(rt.alloc(), text, row)?, row, "! first ")?)
             }
-            2 => second_file(rt.alloc(), row)?,
+            2 => match second_file(rt.alloc(), row)? {
+                Some(text) => Some(pad(rt.alloc(), text, row, "! second ")?),
+                None => None,
+            },
             _ => None,
         };
         if let Some(text) = text {
@@ -47,6 +52,18 @@ pub fn numbers(alloc: Global, row: &str, words: &str) -> io::Result<Vec<u32>> {
         }
     }
     Ok(numbers)
+}
+
+/// The text, with spaces at its end where a row's line with these words wants more bytes.
+fn pad(alloc: Global, text: String, row: &str, words: &str) -> io::Result<String> {
+    match numbers(alloc, row, words)?.first() {
+        Some(length) => {
+            let missing = (*length as usize).saturating_sub(text.len());
+            let spaces = " ".repeat(alloc, missing)?;
+            Ok(format!(in alloc; "{text}{spaces}")?)
+        }
+        None => Ok(text),
+    }
 }
 
 fn second_file(alloc: Global, row: &str) -> io::Result<Option<String>> {
