@@ -1,6 +1,6 @@
 //! Names of processors, applications, configurations, factors and values.
 
-ghost use Rattle.std.specs.Prelude.{◌≡◌, ◌≤◌, length};
+ghost use Rattle.std.specs.Prelude.{◌≡◌, ◌≤◌, length, IsTrue};
 ghost use Rattle.std.specs.List.{list_all};
 ghost use Rattle.scram_types.specs.Names.{is_name, is_name_byte, name_of};
 
@@ -42,6 +42,7 @@ impl Name {
     pub fn as_str(&self) -> &str
         ensures text { result.now ≡ self.now }
         ensures short { length result.now ≤ 16 }
+        ensures named { IsTrue (is_name result.now) }
     {
         self.text.as_str()
     }
