@@ -14,7 +14,7 @@ use Rattle.scram_types.specs.declared.specification.AppSpec.{AppSpec}
 use Rattle.scram_types.specs.declared.specification.ModeSpec.{ModeSpec}
 use Rattle.scram_types.specs.declared.specification.Proc.{Proc}
 use Rattle.scram_types.specs.Names.{is_name}
-use Rattle.scram_types.specs.Specification.{Each, HasLength, IsAppSpec, IsModeSpec, IsProc, NamesDiffer, mode_in, modes_of_kind}
+use Rattle.scram_types.specs.Specification.{AreSpelled, Each, HasLength, IsAppSpec, IsModeSpec, IsProc, NamesDiffer, mode_in, modes_of_kind}
 use Rattle.app_model.specs.Names.{kind_names, mode_names, name_at, number_from, number_of, AllNamesAgree, NamesAgree}
 use Rattle.app_model.proofs.Spelling.{all_names_agree}
 use Rattle.dep_order.specs.Ranks.{IsRanking, rank_after}
@@ -104,6 +104,7 @@ texts_back apps at i (need ∷ needs) = texts_back apps at (suc i) needs
 
 record NewApp (apps : List AppSpec) (done : List AppSpec) (app : AppSpec) : Type 0 where
   new : found_from app_name 0 done app.name ≡ None
+  spelled : is_name app.name ≡ true
   is : IsAppSpec apps app
   writable : IsWritableApp app
 
@@ -111,7 +112,7 @@ app_back : (apps : List AppSpec) (at : List ℕ) (done : List AppSpec) (app : Ap
 app_back apps at done app fits =
     let is = fits.is in
     rw (
-      fits.writable.name,
+      fits.spelled,
       found_bare 0 done app.name,
       fits.new,
       kind_spelled app.kind.0 is.kind,
@@ -163,10 +164,10 @@ ranks_back at apps each ranks =
     let chains : longest_chains 8 (map unranked apps) ≡ map rank_of apps = chains_unranked 8 apps ∙ ranks_are apps (map rank_of apps) ranks small in
     rw (chains, all_small (map rank_of apps) small, ranked_back apps) refl
 
-pub unranked_back : (at : List ℕ) (apps : List AppSpec) → HasLength 1 8 apps → NamesDiffer app_name apps → Each (IsAppSpec apps) apps → Each IsWritableApp apps
+pub unranked_back : (at : List ℕ) (apps : List AppSpec) → HasLength 1 8 apps → NamesDiffer app_name apps → AreSpelled app_name apps → Each (IsAppSpec apps) apps → Each IsWritableApp apps
     → unranked_at at (list_data (app_data apps) apps) ≡ Ok (map unranked apps)
-unranked_back at apps count differ each writable =
-    let new : AllAfter (NewApp apps) apps = λ i app e. record { new = all_new app_name apps differ i app e; is = each i app e; writable = writable i app e } in
+unranked_back at apps count differ spelled each writable =
+    let new : AllAfter (NewApp apps) apps = λ i app e. record { new = all_new app_name apps differ i app e; spelled = spelled i app e; is = each i app e; writable = writable i app e } in
     rw (
       items_back (app_data apps) 1 8 at apps count.enough count.few,
       elements_given (NewApp apps) app_at (app_data apps) bare (app_back apps) at 0 [] apps apps refl new,

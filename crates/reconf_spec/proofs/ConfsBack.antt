@@ -17,7 +17,7 @@ use Rattle.scram_types.specs.declared.specification.ModeSpec.{ModeSpec}
 use Rattle.scram_types.specs.declared.specification.Place.{Place}
 use Rattle.scram_types.specs.declared.specification.Proc.{Proc}
 use Rattle.scram_types.specs.Names.{is_name}
-use Rattle.scram_types.specs.Specification.{Each, HasLength, IsAppSpec, IsConf, IsFactor, IsModeSpec, IsPlace, IsSpec, NamesDiffer, Parts, mode_in, modes_of_kind, place_in}
+use Rattle.scram_types.specs.Specification.{AreSpelled, Each, HasLength, HasValueNames, IsAppSpec, IsConf, IsFactor, IsModeSpec, IsPlace, IsSpec, NamesDiffer, Parts, mode_in, modes_of_kind, place_in}
 use Rattle.app_model.specs.Names.{mode_names, number_of}
 use Rattle.reconf_spec.specs.Applications.{app_name}
 use Rattle.reconf_spec.specs.Configurations.{conf_at, conf_name, confs_at, is_placed, places_after, places_at}
@@ -27,7 +27,6 @@ use Rattle.reconf_spec.specs.Lists.{elements_at, folded_from}
 use Rattle.reconf_spec.specs.Names.{found_from}
 use Rattle.reconf_spec.specs.Processors.{proc_name}
 use Rattle.reconf_spec.specs.Texts.{app_mode_text, conf_data, factor_data, list_data, mode_text, name_of_item, place_data, places_data}
-use Rattle.reconf_spec.specs.Writable.{IsWritableFactor}
 use Rattle.reconf_spec.proofs.AppsBack.{mode_spelled}
 use Rattle.reconf_spec.proofs.Lookups.{all_new, number_back, same_item, seam}
 use Rattle.reconf_spec.proofs.ListsBack.{list_back, within_back}
@@ -124,17 +123,18 @@ value_back at done value fits = rw (fits.spelled, fits.new) refl
 
 record NewFactor (done : List Factor) (factor : Factor) : Type 0 where
   new : found_from factor_name 0 done factor.name ≡ None
+  spelled : is_name factor.name ≡ true
+  values : HasValueNames factor
   is : IsFactor factor
-  writable : IsWritableFactor factor
 
 factor_back : (at : List ℕ) (done : List Factor) (factor : Factor) → NewFactor done factor → factor_at at done (factor_data factor) ≡ Ok factor
 factor_back at done factor fits =
     let values = list_back NewValue value_at (λ (name : List ℕ). string name) value_back 2 4 (member_path at (codes "values")) factor.values fits.is.count.enough fits.is.count.few
-    (λ i x e. record { new = all_new own_name factor.values fits.is.differ i x e; spelled = fits.writable.values i x e }) in
-    rw (fits.writable.name, fits.new, values) refl
+    (λ i x e. record { new = all_new own_name factor.values fits.is.differ i x e; spelled = fits.values i x e }) in
+    rw (fits.spelled, fits.new, values) refl
 
-pub factors_back : (at : List ℕ) (factors : List Factor) → length factors ≤ 6 → NamesDiffer factor_name factors → Each IsFactor factors → Each IsWritableFactor factors
+pub factors_back : (at : List ℕ) (factors : List Factor) → length factors ≤ 6 → NamesDiffer factor_name factors → Each IsFactor factors → AreSpelled factor_name factors → Each HasValueNames factors
     → factors_at at (list_data factor_data factors) ≡ Ok factors
-factors_back at factors few differ each writable =
+factors_back at factors few differ each spelled values =
     list_back NewFactor factor_at factor_data factor_back 0 6 at factors (omega arith) few
-    (λ i x e. record { new = all_new factor_name factors differ i x e; is = each i x e; writable = writable i x e })
+    (λ i x e. record { new = all_new factor_name factors differ i x e; spelled = spelled i x e; values = values i x e; is = each i x e })

@@ -6,6 +6,7 @@ use Rattle.std.proofs.Math.Seq.{take-append_seam}
 use Rattle.scram_types.specs.declared.ids.AppId.{AppId}
 use Rattle.scram_types.specs.declared.specification.AppSpec.{AppSpec}
 use Rattle.scram_types.specs.declared.specification.ModeSpec.{ModeSpec}
+use Rattle.scram_types.specs.Names.{is_name}
 use Rattle.scram_types.specs.Specification.{Each, HasLength, NamesDiffer, IsModeSpec, IsNeeded, IsAppSpec}
 use Rattle.dep_order.specs.Ranks.{IsRanking, RanksFall, NeedsInRange, rank_after}
 use Rattle.reconf_spec.specs.Applications.{app_name}
@@ -50,8 +51,8 @@ unranked apps needs whole a j fits named =
       needs = each_of (IsNewNeed apps) _ j.named (λ done need g. g.there) n.each;
       modes_count = f.count;
       modes = each_of (IsNewMode j.app.kind.0) (IsModeSpec j.app.kind.0) j.app.modes (λ done mode g. g.is f.kind) f.modes;
+      spelled = f.name.spelled;
       writable = record {
-        name = f.name.spelled;
         needs = λ i need e. (n.each i need e).new;
         modes = λ i mode e. ap (λ (o : Option ModeSpec). is_some o) (f.modes i mode e).new;
       };
@@ -160,7 +161,10 @@ ranked_fit apps ranks is small fall fits =
       writable = λ i x e.
           let g = graded apps ranks i x same e in
           let w = (fits.each i g.app g.there).writable in
-          subst IsWritableApp (sym g.is) (record { name = w.name; needs = w.needs; modes = w.modes });
+          subst IsWritableApp (sym g.is) (record { needs = w.needs; modes = w.modes });
+      spelled = λ i x e.
+          let g = graded apps ranks i x same e in
+          subst (λ (z : AppSpec). is_name (app_name z) ≡ true) (sym g.is) (fits.each i g.app g.there).spelled;
       ranks = subst (λ (rs : List ℕ). IsRanking (with_ranks apps ranks) rs) (sym (ranks_given apps ranks same)) (still_ranking apps ranks is);
     }
 

@@ -55,18 +55,18 @@ names_of spec = record { procs = spec.procs; apps = spec.apps; confs = spec.conf
 
 names_back : (policy : Policy) (spec : Parts) → IsSpec spec → IsWritable spec → names_in (data_by policy spec) ≡ Ok (names_of spec)
 names_back Retarget spec is writable = rw (
-  procs_back (member_path [] (codes "processors")) spec.procs is.procs_count is.procs_differ is.procs writable.procs,
-  unranked_back (member_path [] (codes "apps")) spec.apps is.apps_count is.apps_differ is.apps writable.apps,
+  procs_back (member_path [] (codes "processors")) spec.procs is.procs_count is.procs_differ is.procs is.names.procs,
+  unranked_back (member_path [] (codes "apps")) spec.apps is.apps_count is.apps_differ is.names.apps is.apps writable.apps,
   ranks_back (member_path [] (codes "apps")) spec.apps is.apps writable.ranks,
-  confs_back spec is writable.confs (member_path [] (codes "configurations")),
-  factors_back (member_path [] (codes "factors")) spec.factors is.factors_count is.factors_differ is.factors writable.factors,
+  confs_back spec is is.names.confs (member_path [] (codes "configurations")),
+  factors_back (member_path [] (codes "factors")) spec.factors is.factors_count is.factors_differ is.factors is.names.factors is.names.values,
 ) refl
 names_back Settle spec is writable = rw (
-  procs_back (member_path [] (codes "processors")) spec.procs is.procs_count is.procs_differ is.procs writable.procs,
-  unranked_back (member_path [] (codes "apps")) spec.apps is.apps_count is.apps_differ is.apps writable.apps,
+  procs_back (member_path [] (codes "processors")) spec.procs is.procs_count is.procs_differ is.procs is.names.procs,
+  unranked_back (member_path [] (codes "apps")) spec.apps is.apps_count is.apps_differ is.names.apps is.apps writable.apps,
   ranks_back (member_path [] (codes "apps")) spec.apps is.apps writable.ranks,
-  confs_back spec is writable.confs (member_path [] (codes "configurations")),
-  factors_back (member_path [] (codes "factors")) spec.factors is.factors_count is.factors_differ is.factors writable.factors,
+  confs_back spec is is.names.confs (member_path [] (codes "configurations")),
+  factors_back (member_path [] (codes "factors")) spec.factors is.factors_count is.factors_differ is.factors is.names.factors is.names.values,
 ) refl
 
 -- the specification with this policy
@@ -90,20 +90,20 @@ with_policy policy spec = record {
 
 rest_back : (policy : Policy) (spec : Parts) → IsSpec spec → IsWritable spec → rest_in (names_of spec) (data_by policy spec) ≡ Ok (with_policy policy spec)
 rest_back Retarget spec is writable = rw (
-  choices_back spec is writable.confs writable.rules (member_path [] (codes "rules")),
+  choices_back spec is is.names.confs writable.rules (member_path [] (codes "rules")),
   bounds_back spec is writable.bounds (member_path [] (codes "bounds")),
   start_back spec is (member_path [] (codes "start")),
   goal_back (member_path [] (codes "goal")) spec.goal is.goal,
-  invariants_back spec is writable.confs writable.invariants (member_path [] (codes "invariants")),
+  invariants_back spec is is.names.confs writable.invariants (member_path [] (codes "invariants")),
   preconditions_back spec is writable.preconditions (member_path [] (codes "preconditions")),
   assumption_back spec is (member_path [] (codes "assumption")),
 ) refl
 rest_back Settle spec is writable = rw (
-  choices_back spec is writable.confs writable.rules (member_path [] (codes "rules")),
+  choices_back spec is is.names.confs writable.rules (member_path [] (codes "rules")),
   bounds_back spec is writable.bounds (member_path [] (codes "bounds")),
   start_back spec is (member_path [] (codes "start")),
   goal_back (member_path [] (codes "goal")) spec.goal is.goal,
-  invariants_back spec is writable.confs writable.invariants (member_path [] (codes "invariants")),
+  invariants_back spec is is.names.confs writable.invariants (member_path [] (codes "invariants")),
   preconditions_back spec is writable.preconditions (member_path [] (codes "preconditions")),
   assumption_back spec is (member_path [] (codes "assumption")),
 ) refl

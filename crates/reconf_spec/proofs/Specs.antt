@@ -96,6 +96,13 @@ pub spec_fits : (spec : Parts) → IsNamed spec.procs spec.apps spec.confs spec.
     → FitsAssumption (record { halts = spec.halts; changes = spec.changes; window = spec.window })
     → IsSpec spec
 spec_fits spec named few_rules rules few_bounds bounds start goal few_invariants invariants few_preconditions preconditions assumed = record {
+  names = record {
+    procs = λ i x e. (named.procs_fit i x e).name.spelled;
+    apps = named.apps_fit.spelled;
+    confs = λ i x e. (named.confs_fit i x e).name.spelled;
+    factors = λ i x e. (named.factors_fit i x e).name.spelled;
+    values = λ i x e j y f. ((named.factors_fit i x e).values j y f).spelled;
+  };
   procs_count = named.procs_count;
   procs_differ = new_differ proc_name spec.procs (λ i x e. (named.procs_fit i x e).name.new);
   procs = each_of IsNewProc IsProc spec.procs (λ done x f. f.is) named.procs_fit;
@@ -166,11 +173,8 @@ spec_writable : (spec : Parts) → IsNamed spec.procs spec.apps spec.confs spec.
     → AllAfter (λ _. FitsPrecondition spec.apps spec.confs) spec.preconditions
     → IsWritable spec
 spec_writable spec named rules bounds invariants preconditions = record {
-  procs = λ i x e. (named.procs_fit i x e).name.spelled;
   apps = named.apps_fit.writable;
   ranks = named.apps_fit.ranks;
-  confs = λ i x e. (named.confs_fit i x e).name.spelled;
-  factors = λ i x e. record { name = (named.factors_fit i x e).name.spelled; values = λ j y f. ((named.factors_fit i x e).values j y f).spelled };
   rules = λ i x e j y f. ((rules i x e).wants j y f).new;
   bounds = λ i x e. ap (λ (o : Option ℕ). is_some o) (bounds i x e).new;
   invariants = λ i x e. record { named = (invariants i x e).interval.is_variable; in_order = (invariants i x e).interval.ends_fit.in_order };

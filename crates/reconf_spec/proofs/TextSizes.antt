@@ -22,22 +22,14 @@ use Rattle.scram_types.specs.declared.specification.Precondition.{Precondition}
 use Rattle.scram_types.specs.declared.specification.Proc.{Proc}
 use Rattle.scram_types.specs.declared.specification.Want.{Want}
 use Rattle.scram_types.specs.Names.{is_name}
-use Rattle.scram_types.specs.Specification.{Each, IsAppSpec, IsChoice, IsConf, IsFactor, IsGoal, IsInterval, IsModeSpec, IsProc, IsSpec, Parts}
+use Rattle.scram_types.specs.Specification.{Each, HasNames, HasValueNames, IsAppSpec, IsChoice, IsConf, IsFactor, IsGoal, IsInterval, IsModeSpec, IsProc, IsSpec, Parts}
 use Rattle.reconf_spec.specs.Applications.{app_name}
 use Rattle.reconf_spec.specs.Choices.{has_proc}
 use Rattle.reconf_spec.specs.Configurations.{conf_name}
 use Rattle.reconf_spec.specs.Factors.{factor_name, own_name}
 use Rattle.reconf_spec.specs.Processors.{proc_name}
 use Rattle.reconf_spec.specs.Texts.{app_data, assumption_data, bound_data, choice_data, conf_data, data_by, factor_data, goal_data, invariant_data, list_data, mode_data, name_of_item, need_data, place_data, places_data, precondition_data, proc_data, source_text, spec_data, spec_text, start_data, up_data, value_text, want_data}
-use Rattle.reconf_spec.specs.Writable.{IsWritable, IsWritableApp, IsWritableFactor}
 use Rattle.reconf_spec.proofs.TextLengths.{app_mode_short, count_short, integer_short, item_short, items_weight, kind_short, list_weight, mode_short, name_short, no_longer, text_short, variable_short, weight}
-
--- all names of a specification are short
-record HasNames (spec : Parts) : Type 0 where
-  procs : Each (λ (proc : Proc). is_name proc.name ≡ true) spec.procs
-  apps : Each (λ (app : AppSpec). is_name app.name ≡ true) spec.apps
-  confs : Each (λ (conf : Conf). is_name conf.name ≡ true) spec.confs
-  factors : Each IsWritableFactor spec.factors
 
 proc_short : (proc : Proc) → IsProc proc → is_name proc.name ≡ true → weight (proc_data proc) ≤ 200
 proc_short proc is named =
@@ -92,25 +84,22 @@ conf_short spec names conf is named =
     let width = is.width in
     omega (arith, name, places, width)
 
-factor_short : (factor : Factor) → IsFactor factor → IsWritableFactor factor → weight (factor_data factor) ≤ 1000
-factor_short factor is writable =
-    let name = name_short factor.name writable.name in
+factor_short : (factor : Factor) → IsFactor factor → is_name factor.name ≡ true → HasValueNames factor → weight (factor_data factor) ≤ 1000
+factor_short factor is named spelled =
+    let name = name_short factor.name named in
     let values = list_weight (λ (value : List ℕ). string value) 98 factor.values
-    (λ i x e. let short = name_short x (writable.values i x e) in omega (arith, short)) in
+    (λ i x e. let short = name_short x (spelled i x e) in omega (arith, short)) in
     let few = is.count.few in
     omega (arith, name, values, few)
-
-factor_names : (spec : Parts) → HasNames spec → Each (λ (factor : Factor). is_name factor.name ≡ true) spec.factors
-factor_names spec names i factor e = (names.factors i factor e).name
 
 value_short : (spec : Parts) → HasNames spec → (f value : ℕ) → length (value_text spec.factors f value) ≤ 16
 value_short spec names f value =
     text_short (λ (factor : Factor). name_of_item own_name factor.values value) (slice_get spec.factors f)
-    (λ factor e. item_short own_name factor.values value (names.factors f factor e).values)
+    (λ factor e. item_short own_name factor.values value (names.values f factor e))
 
 want_short : (spec : Parts) → HasNames spec → (want : Want) → weight (want_data spec.factors want) ≤ 300
 want_short spec names want =
-    let factor = item_short factor_name spec.factors want.factor.0 (factor_names spec names) in
+    let factor = item_short factor_name spec.factors want.factor.0 names.factors in
     let value = value_short spec names want.factor.0 want.value in
     omega (arith, factor, value)
 
@@ -208,7 +197,7 @@ lists_short spec is names =
     let procs = list_weight proc_data 200 spec.procs (λ i x e. proc_short x (is.procs i x e) (names.procs i x e)) in
     let apps = list_weight (app_data spec.apps) 3000 spec.apps (λ i x e. app_short spec names x (is.apps i x e) (names.apps i x e)) in
     let confs = list_weight (conf_data spec) 4000 spec.confs (λ i x e. conf_short spec names x (is.confs i x e) (names.confs i x e)) in
-    let factors = list_weight factor_data 1000 spec.factors (λ i x e. factor_short x (is.factors i x e) (names.factors i x e)) in
+    let factors = list_weight factor_data 1000 spec.factors (λ i x e. factor_short x (is.factors i x e) (names.factors i x e) (names.values i x e)) in
     let rules = list_weight (choice_data spec) 4000 spec.rules (λ i x e. choice_short spec is names x (is.rules i x e)) in
     let bounds = list_weight (bound_data spec.confs) 400 spec.bounds (λ i x e. bound_short spec names x (is.bounds i x e).most) in
     let invariants = list_weight (invariant_data spec) 600 spec.invariants (λ i x e. invariant_short spec names x (is.invariants i x e).interval) in
@@ -256,9 +245,8 @@ light Settle spec is names =
     let version = count_short 2 (omega arith) in
     omega (arith, procs, apps, confs, factors, rules, bounds, invariants, preconditions, goal, assumption, start, version)
 
-pub spec_text_short : (spec : Parts) → IsSpec spec → IsWritable spec → length (spec_text spec) ≤ 1048576
-spec_text_short spec is writable =
-    let names : HasNames spec = record { procs = writable.procs; apps = λ i app e. (writable.apps i app e).name; confs = writable.confs; factors = writable.factors } in
-    let weighed = light spec.policy spec is names in
+pub spec_text_short : (spec : Parts) → IsSpec spec → length (spec_text spec) ≤ 1048576
+spec_text_short spec is =
+    let weighed = light spec.policy spec is is.names in
     let written = no_longer (spec_data spec) in
     omega (arith, weighed, written)

@@ -4,7 +4,7 @@ use Rattle.scram_types.specs.declared.specification.Proc.{Proc}
 use Rattle.scram_types.specs.declared.specification.AppSpec.{AppSpec}
 use Rattle.scram_types.specs.declared.specification.Conf.{Conf}
 use Rattle.scram_types.specs.declared.specification.Factor.{Factor}
-use Rattle.scram_types.specs.Specification.{HasLength, Each, NamesDiffer, IsAppSpec}
+use Rattle.scram_types.specs.Specification.{AreSpelled, HasLength, Each, NamesDiffer, IsAppSpec}
 use Rattle.dep_order.specs.Ranks.{IsRanking}
 use Rattle.reconf_spec.specs.declared.documents.Assumption.{Assumption}
 use Rattle.reconf_spec.specs.Applications.{app_name}
@@ -15,6 +15,7 @@ pub record AreApps (apps : List AppSpec) : Type 0 where
   pub count : HasLength 1 8 apps
   pub differ : NamesDiffer app_name apps
   pub each : Each (IsAppSpec apps) apps
+  pub spelled : AreSpelled app_name apps
   pub writable : Each IsWritableApp apps
   pub ranks : IsRanking apps (map rank_of apps)
 

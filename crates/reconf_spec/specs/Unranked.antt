@@ -1,7 +1,8 @@
 -- What applications keep that are not ranked yet.
-use Rattle.std.specs.Prelude.{◌<◌, ◌≤◌, ℕ, List, length}
+use Rattle.std.specs.Prelude.{◌<◌, ◌≤◌, ℕ, List, length, IsTrue}
 use Rattle.scram_types.specs.declared.ids.AppId.{AppId}
 use Rattle.scram_types.specs.declared.specification.AppSpec.{AppSpec}
+use Rattle.scram_types.specs.Names.{is_name}
 use Rattle.scram_types.specs.Specification.{HasLength, Each, NamesDiffer, IsModeSpec}
 use Rattle.reconf_spec.specs.Applications.{app_name}
 use Rattle.reconf_spec.specs.Writable.{IsWritableApp}
@@ -13,6 +14,7 @@ pub record IsUnranked (count : ℕ) (app : AppSpec) : Type 0 where
   pub needs : Each (λ (need : AppId). need.0 < count) app.needs
   pub modes_count : HasLength 1 3 app.modes
   pub modes : Each (IsModeSpec app.kind.0) app.modes
+  pub spelled : IsTrue (is_name app.name)
   pub writable : IsWritableApp app
 
 pub record AreUnranked (apps : List AppSpec) : Type 0 where

@@ -1,26 +1,18 @@
 -- What a specification keeps, beside its invariant, that a document can say.
-use Rattle.std.specs.Prelude.{◌≡◌, ◌≤ℤ◌, ℕ, ℤ, Bool, false, List, map, is_some, slice_get, IsTrue}
+use Rattle.std.specs.Prelude.{◌≡◌, ◌≤ℤ◌, ℕ, ℤ, Bool, false, List, map, is_some, slice_get}
 use Rattle.scram_types.specs.declared.ids.AppId.{AppId}
 use Rattle.scram_types.specs.declared.specification.ModeSpec.{ModeSpec}
 use Rattle.scram_types.specs.declared.specification.AppSpec.{AppSpec}
-use Rattle.scram_types.specs.declared.specification.Factor.{Factor}
 use Rattle.scram_types.specs.declared.specification.Want.{Want}
 use Rattle.scram_types.specs.declared.specification.Choice.{Choice}
 use Rattle.scram_types.specs.declared.specification.Bound.{Bound}
 use Rattle.scram_types.specs.declared.specification.Invariant.{Invariant}
 use Rattle.scram_types.specs.declared.specification.Precondition.{Precondition}
-use Rattle.scram_types.specs.Names.{is_name}
 use Rattle.scram_types.specs.Specification.{Parts, Each, bound_in, mode_in}
 use Rattle.dep_order.specs.Ranks.{IsRanking}
 use Rattle.reconf_spec.specs.Needs.{has_app}
 use Rattle.reconf_spec.specs.Choices.{has_factor}
-use Rattle.reconf_spec.specs.Processors.{proc_name}
-use Rattle.reconf_spec.specs.Configurations.{conf_name}
 use Rattle.reconf_spec.specs.Facts.{AllAfter, IsVariable}
-
--- The texts are names.
-abbrev pub AreSpelled : {A : Type 0} → (A → List ℕ) → List A → Type 0
-AreSpelled {A} name xs = Each (λ (x : A). IsTrue (is_name (name x))) xs
 
 -- No element stands among those before it.
 abbrev pub NoneAgain : {A : Type 0} → (List A → A → Bool) → List A → Type 0
@@ -42,27 +34,19 @@ abbrev pub rank_of : AppSpec → ℕ
 rank_of app = app.rank
 
 pub record IsWritableApp (app : AppSpec) : Type 0 where
-  pub name : IsTrue (is_name app.name)
   pub needs : NoneAgain lists_need app.needs
   pub modes : NoneAgain lists_mode app.modes
-
-pub record IsWritableFactor (factor : Factor) : Type 0 where
-  pub name : IsTrue (is_name factor.name)
-  pub values : AreSpelled (λ (value : List ℕ). value) factor.values
 
 -- An interval for a variable that has a name, and not empty.
 pub record IsWritableInterval (apps : List AppSpec) (app : AppId) (variable : ℕ) (least greatest : ℤ) : Type 0 where
   pub named : IsVariable (slice_get apps app.0) variable
   pub in_order : least ≤ℤ greatest
 
--- Names are spelled as names are, no list names the same twice, each application has the rank that its needs
--- give it, and each interval is one for a variable that has a name and is not empty.
+-- No list names the same twice, each application has the rank that its needs give it, and each interval is one
+-- for a variable that has a name and is not empty.
 pub record IsWritable (spec : Parts) : Type 0 where
-  pub procs : AreSpelled proc_name spec.procs
   pub apps : Each IsWritableApp spec.apps
   pub ranks : IsRanking spec.apps (map rank_of spec.apps)
-  pub confs : AreSpelled conf_name spec.confs
-  pub factors : Each IsWritableFactor spec.factors
   pub rules : Each (λ (rule : Choice). NoneAgain lists_want rule.wants) spec.rules
   pub bounds : NoneAgain lists_pair spec.bounds
   pub invariants : Each (λ (inv : Invariant). IsWritableInterval spec.apps inv.app inv.variable inv.least inv.greatest) spec.invariants

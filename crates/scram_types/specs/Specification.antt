@@ -1,5 +1,6 @@
 -- A specification as plain data, and what every specification keeps.
-use Rattle.std.specs.Prelude.{◌≡◌, ℕ, ℤ, pos, ◌==◌, ◌&&◌, ◌^◌, ◌<◌, ◌≤◌, ◌≤ℤ◌, nat_lt, List, [], ◌∷◌, length, slice_get, Option, Some, None, IsSome, IfSome, option_and_then, if◌then◌else◌}
+use Rattle.std.specs.Prelude.{◌≡◌, ℕ, ℤ, pos, ◌==◌, ◌&&◌, ◌^◌, ◌<◌, ◌≤◌, ◌≤ℤ◌, nat_lt, List, [], ◌∷◌, length, slice_get, Option, Some, None, IsSome, IfSome, IsTrue, option_and_then, if◌then◌else◌}
+use Rattle.scram_types.specs.Names.{is_name}
 use Rattle.scram_types.specs.Numbers.{minus}
 use Rattle.scram_types.specs.declared.ids.AppId.{AppId}
 use Rattle.scram_types.specs.declared.ids.ConfId.{ConfId}
@@ -77,6 +78,21 @@ Each {A} Fact xs = (i : ℕ) (x : A) → slice_get xs i ≡ Some x → Fact x
 abbrev pub NamesDiffer : {A : Type 0} → (A → List ℕ) → List A → Type 0
 NamesDiffer {A} name xs =
     (i j : ℕ) (x y : A) → slice_get xs i ≡ Some x → slice_get xs j ≡ Some y → name x ≡ name y → i ≡ j
+
+-- What names the items of a list are names.
+abbrev pub AreSpelled : {A : Type 0} → (A → List ℕ) → List A → Type 0
+AreSpelled {A} name xs = Each (λ (x : A). IsTrue (is_name (name x))) xs
+
+abbrev pub HasValueNames : Factor → Type 0
+HasValueNames factor = AreSpelled (λ (value : List ℕ). value) factor.values
+
+-- Each name in a specification is a name.
+pub record HasNames (spec : Parts) : Type 0 where
+  pub procs : AreSpelled (λ (proc : Proc). proc.name) spec.procs
+  pub apps : AreSpelled (λ (app : AppSpec). app.name) spec.apps
+  pub confs : AreSpelled (λ (conf : Conf). conf.name) spec.confs
+  pub factors : AreSpelled (λ (factor : Factor). factor.name) spec.factors
+  pub values : Each HasValueNames spec.factors
 
 pub record IsProc (proc : Proc) : Type 0 where
   pub capacity : proc.capacity ≤ 1000000
@@ -173,6 +189,7 @@ pub record IsPrecondition (apps : List AppSpec) (confs : List Conf) (pre : Preco
 
 -- The specification's invariant.
 pub record IsSpec (spec : Parts) : Type 0 where
+  pub names : HasNames spec
   pub procs_count : HasLength 1 8 spec.procs
   pub procs_differ : NamesDiffer (λ (proc : Proc). proc.name) spec.procs
   pub procs : Each IsProc spec.procs

@@ -19,4 +19,4 @@ returns-in-Ok-to_vec-clause-back c =
     let text : c.in-Ok-to_vec.text.items ≡ spec_text c.args.spec.now =
     written_text _ _ _ c.in-Ok.ensures (spec_no_float c.args.spec.now) c.in-Ok-to_vec.ensures.text in
     λ writable. text_back c.args.spec.now c.in-Ok-to_vec.text.items is c.in-Ok-to_vec.ensures.utf8 value writable
-    (subst (λ bytes. length bytes ≤ 1048576) (sym text) (spec_text_short c.args.spec.now is writable))
+    (subst (λ bytes. length bytes ≤ 1048576) (sym text) (spec_text_short c.args.spec.now is))
