@@ -1,12 +1,13 @@
 -- What lists of none, one and two items keep, for the small specification of the tests.
 use Rattle.std.proofs.Common.{rules, ◌≡◌, ℕ, zero, suc, List, [], ◌∷◌, subst, sym, refl, ap, ◌∙◌, length, arith}
-use Rattle.std.specs.Prelude.{slice_get, slice_index_or, Some, codes, pos}
+use Rattle.std.specs.Prelude.{slice_get, slice_index_or, Some, IsTrue, codes, pos}
 use Rattle.scram_types.specs.declared.specification.AppSpec.{AppSpec}
 use Rattle.scram_types.specs.declared.specification.Conf.{Conf}
 use Rattle.scram_types.specs.declared.specification.Factor.{Factor}
 use Rattle.scram_types.specs.declared.specification.Policy.TheVariants.{Retarget}
 use Rattle.scram_types.specs.declared.specification.Proc.{Proc}
-use Rattle.scram_types.specs.Specification.{Each, IsAppSpec, IsConf, IsFactor, IsProc, IsSpec, NamesDiffer}
+use Rattle.scram_types.specs.Names.{is_name}
+use Rattle.scram_types.specs.Specification.{Each, HasNames, HasValueNames, IsAppSpec, IsConf, IsFactor, IsProc, IsSpec, NamesDiffer, Parts}
 use Rattle.std.proofs.lemmas.Option.{same_Some}
 
 pub each_none : {A : Type 0} (P : A → Type 0) → Each P []
@@ -34,26 +35,42 @@ differ_two name x y apart (suc zero) (suc zero) a b first second same = refl
 differ_two name x y apart (suc zero) (suc (suc j)) a b first second same = absurd cc
 differ_two name x y apart (suc (suc i)) j a b first second same = absurd cc
 
--- two processors, one application, one configuration and two factors keep the specification's invariant
+-- two processors, one application, one configuration and two factors
+abbrev pub small : Proc → Proc → AppSpec → Conf → Factor → Factor → Parts
+small p0 p1 app conf x0 x1 = record {
+  procs = p0 ∷ p1 ∷ [];
+  apps = app ∷ [];
+  confs = conf ∷ [];
+  factors = x0 ∷ x1 ∷ [];
+  rules = [];
+  bounds = [];
+  start = record { 0 = 0 };
+  goal = record { altitude = pos 5000; heading = pos 900 };
+  invariants = [];
+  preconditions = [];
+  policy = Retarget;
+  halts = 2;
+  changes = 1;
+  window = 40;
+}
+
+-- all of them have names
+pub small_names : (p0 p1 : Proc) (app : AppSpec) (conf : Conf) (x0 x1 : Factor) → IsTrue (is_name p0.name) → IsTrue (is_name p1.name) → IsTrue (is_name app.name) → IsTrue (is_name conf.name)
+    → IsTrue (is_name x0.name) → IsTrue (is_name x1.name) → HasValueNames x0 → HasValueNames x1 → HasNames (small p0 p1 app conf x0 x1)
+small_names p0 p1 app conf x0 x1 named0 named1 named_app named_conf named_x0 named_x1 values0 values1 = record {
+  procs = each_two (λ (p : Proc). IsTrue (is_name p.name)) p0 p1 named0 named1;
+  apps = each_one (λ (a : AppSpec). IsTrue (is_name a.name)) app named_app;
+  confs = each_one (λ (c : Conf). IsTrue (is_name c.name)) conf named_conf;
+  factors = each_two (λ (x : Factor). IsTrue (is_name x.name)) x0 x1 named_x0 named_x1;
+  values = each_two HasValueNames x0 x1 values0 values1;
+}
+
+-- they keep the specification's invariant
 pub small_kept : (p0 p1 : Proc) (app : AppSpec) (conf : Conf) (x0 x1 : Factor) → p0.name ≡ codes "p0" → p1.name ≡ codes "p1" → IsProc p0 → IsProc p1 → IsAppSpec (app ∷ []) app
     → ((procs : List Proc) (apps : List AppSpec) → IsConf procs apps conf) → x0.name ≡ codes "alternator1" → x1.name ≡ codes "alternator2" → IsFactor x0 → IsFactor x1
-    → IsSpec (record {
-      procs = p0 ∷ p1 ∷ [];
-      apps = app ∷ [];
-      confs = conf ∷ [];
-      factors = x0 ∷ x1 ∷ [];
-      rules = [];
-      bounds = [];
-      start = record { 0 = 0 };
-      goal = record { altitude = pos 5000; heading = pos 900 };
-      invariants = [];
-      preconditions = [];
-      policy = Retarget;
-      halts = 2;
-      changes = 1;
-      window = 40;
-    })
-small_kept p0 p1 app conf x0 x1 name0 name1 kept0 kept1 kept_app kept_conf name_x0 name_x1 kept_x0 kept_x1 = record {
+    → HasNames (small p0 p1 app conf x0 x1) → IsSpec (small p0 p1 app conf x0 x1)
+small_kept p0 p1 app conf x0 x1 name0 name1 kept0 kept1 kept_app kept_conf name_x0 name_x1 kept_x0 kept_x1 names = record {
+  names = names;
   procs_count = record { enough = omega arith; few = omega arith };
   procs_differ = differ_two (λ (p : Proc). p.name) p0 p1 (λ same. let e : 48 ≡ 49 = ap (λ (t : List ℕ). slice_index_or t 1 0) (sym name0 ∙ same ∙ name1) in absurd (omega (arith, e)));
   procs = each_two IsProc p0 p1 kept0 kept1;

@@ -1,10 +1,11 @@
 //! A small specification for tests: two processors, one application in one configuration, where it is off, and two
 //! factors.
 
-ghost use Rattle.std.specs.Prelude.{◌≡◌, List, [], ◌∷◌, IfSome};
+ghost use Rattle.std.specs.Prelude.{◌≡◌, List, [], ◌∷◌, IfSome, IsTrue};
 ghost use Rattle.scram_types.specs.declared.specification.AppSpec.{AppSpec};
 ghost use Rattle.scram_types.specs.declared.specification.Proc.{Proc};
-ghost use Rattle.scram_types.specs.Specification.{IsAppSpec, IsConf, IsFactor, IsProc};
+ghost use Rattle.scram_types.specs.Names.{is_name};
+ghost use Rattle.scram_types.specs.Specification.{HasValueNames, IsAppSpec, IsConf, IsFactor, IsProc};
 
 use scram_types::{
     AppSpec, Conf, ConfId, Factor, Goal, KindId, List, Mode, ModeSpec, Name, Policy, Proc, Spec,
@@ -35,13 +36,15 @@ fn two<T: Drop>(alloc: Global, first: T, second: T) -> Option<List<T>>
 }
 
 fn make_name(text: &str) -> Option<Name>
-    ensures { IfSome result (λ name. name ≡ text.now) }
+    ensures text { IfSome result (λ name. name ≡ text.now) }
+    ensures named { IfSome result (λ name. IsTrue (is_name name)) }
 {
     Name::of(text)
 }
 
 fn make_proc(name: &str) -> Option<Proc>
     ensures name { IfSome result (λ proc. proc.name ≡ name.now) }
+    ensures named { IfSome result (λ proc. IsTrue (is_name proc.name)) }
     ensures kept { IfSome result IsProc }
 {
     let name = make_name(name)?;
@@ -53,6 +56,8 @@ fn make_proc(name: &str) -> Option<Proc>
 
 fn make_factor(alloc: Global, name: &str) -> Option<Factor>
     ensures name { IfSome result (λ factor. factor.name ≡ name.now) }
+    ensures named { IfSome result (λ factor. IsTrue (is_name factor.name)) }
+    ensures values { IfSome result HasValueNames }
     ensures kept { IfSome result IsFactor }
 {
     let name = make_name(name)?;
@@ -61,7 +66,8 @@ fn make_factor(alloc: Global, name: &str) -> Option<Factor>
 }
 
 fn make_app(alloc: Global) -> Option<AppSpec>
-    ensures { IfSome result (λ app. IsAppSpec (app ∷ []) app) }
+    ensures named { IfSome result (λ app. IsTrue (is_name app.name)) }
+    ensures kept { IfSome result (λ app. IsAppSpec (app ∷ []) app) }
 {
     let normal = ModeSpec {
         mode: Mode(1),
@@ -80,7 +86,8 @@ fn make_app(alloc: Global) -> Option<AppSpec>
 }
 
 fn make_conf() -> Option<Conf>
-    ensures { IfSome result (λ conf. (procs : List Proc) (apps : List AppSpec) → IsConf procs apps conf) }
+    ensures named { IfSome result (λ conf. IsTrue (is_name conf.name)) }
+    ensures kept { IfSome result (λ conf. (procs : List Proc) (apps : List AppSpec) → IsConf procs apps conf) }
 {
     let name = make_name("dark")?;
     Some(Conf {
