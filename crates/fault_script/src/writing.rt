@@ -1,6 +1,6 @@
 //! Writing script documents.
 
-ghost use Rattle.std.specs.Prelude.{◌≡◌, ◌≤◌, Ok, Some, IfOk, length, map};
+ghost use Rattle.std.specs.Prelude.{◌≡◌, Ok, Some, IfOk, map};
 ghost use Rattle.serde_json.specs.Read.{read};
 ghost use Rattle.serde_json.specs.View.{view};
 ghost use Rattle.fault_script.specs.Fits.{Fits};
@@ -132,7 +132,7 @@ fn make_script(alloc: Global, spec: &Spec, script: &Script) -> Result<Value, All
 pub fn write_script(alloc: Global, script: &Script, spec: &Spec) -> Result<Vec<u8>, NoMemory>
     ensures text { IfOk result (λ text. text.items ≡ script_text spec.now script.now) }
     ensures value { IfOk result (λ text. read text.items ≡ Some (script_data spec.now script.now)) }
-    ensures back { IfOk result (λ text. Fits spec.now script.now → length text.items ≤ 2097152 → script_of spec.now text.items ≡ Ok script.now) }
+    ensures back { IfOk result (λ text. Fits spec.now script.now → script_of spec.now text.items ≡ Ok script.now) }
 {
     // Whoever uses a field of a specification knows that it keeps its invariant.
     let _ = &spec.procs;
