@@ -1,6 +1,6 @@
 -- What lists of none, one and two items keep, for the small specification of the tests.
-use Rattle.std.proofs.Common.{rules, ◌≡◌, ℕ, zero, suc, List, [], ◌∷◌, subst, sym, refl, ap, ◌∙◌, length, arith}
-use Rattle.std.specs.Prelude.{slice_get, slice_index_or, Some, IsTrue, codes, pos}
+use Rattle.std.proofs.Common.{rules, ◌≡◌, ℕ, zero, suc, List, [], ◌∷◌, subst, sym, refl, ap, ◌∙◌, arith}
+use Rattle.std.specs.Prelude.{slice_index_or, IsTrue, codes, pos}
 use Rattle.scram_types.specs.declared.specification.AppSpec.{AppSpec}
 use Rattle.scram_types.specs.declared.specification.Conf.{Conf}
 use Rattle.scram_types.specs.declared.specification.Factor.{Factor}

@@ -1,7 +1,7 @@
--- How long the text of a value may be whose texts are spelled as names are.
-use Rattle.std.proofs.Common.{◌≡◌, ◌+◌, ◌*◌, ◌≤◌, ◌<◌, ◌^◌, ◌==◌, ℕ, zero, suc, Bool, true, false, List, [], ◌∷◌, ◌++◌, length, map, decimal, arith, refl}
-use Rattle.std.specs.Prelude.{Option, Some, None, ◌&&◌, ◌||◌, codes, nat_le, slice_get}
-use Rattle.std.specs.Char.{is_ascii_digit, is_ascii_lowercase}
+-- How long the text of a value may be, where what is spelled as a name is stands in it as it is.
+use Rattle.std.proofs.Common.{◌≡◌, ◌+◌, ◌*◌, ◌≤◌, ◌<◌, ◌^◌, ℕ, suc, Bool, true, false, List, [], ◌∷◌, ◌++◌, length, map, arith, refl}
+use Rattle.std.specs.Prelude.{◌&&◌, nat_le}
+use Rattle.std.specs.Char.{is_ascii_lowercase}
 use Rattle.std.specs.List.{list_all}
 use Rattle.std.proofs.lemmas.Bool.{and_parts, leb-true}
 use Rattle.std.proofs.lemmas.Bool.Decides.{nat_tests}
@@ -25,13 +25,14 @@ as_is (x ∷ xs) named =
     let parts = and_parts (is_name_byte x) (list_all is_name_byte xs) named in
     rw (byte_as_is x parts.0, as_is xs parts.1) refl
 
+-- the bytes and two quotes
 pub quoted_length : (text : List ℕ) → list_all is_name_byte text ≡ true → length (quoted text) ≡ length text + 2
 quoted_length text named = rw (as_is text named) (omega (arith, length-append text (34 ∷ [])))
 
 first_byte : (x : ℕ) → is_ascii_lowercase x ≡ true → is_name_byte x ≡ true
 first_byte x small = grind (arith, nat_tests)
 
--- a name has at most 16 bytes
+-- a name of at most 16 bytes and two quotes
 pub name_length : (text : List ℕ) → is_name text ≡ true → length (quoted text) ≤ 18
 name_length [] named = omega arith
 name_length (x ∷ xs) named =

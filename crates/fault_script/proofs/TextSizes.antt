@@ -1,10 +1,8 @@
 -- The canonical text of a script that fits has at most 2,097,152 bytes.
-use Rattle.std.proofs.Common.{◌≡◌, ◌+◌, ◌*◌, ◌≤◌, ◌<◌, ℕ, true, List, [], ◌∷◌, length, map, arith, refl}
+use Rattle.std.proofs.Common.{◌≡◌, ◌≤◌, ℕ, true, List, [], ◌∷◌, length, map, arith, refl}
 use Rattle.std.specs.Prelude.{Option, Some, None, codes, option_and_then, slice_get}
 use Rattle.json.specs.Print.{quoted}
 use Rattle.serde_json.specs.View.{items_of}
-use Rattle.scram_types.specs.declared.ids.FactorId.{FactorId}
-use Rattle.scram_types.specs.declared.ids.ProcId.{ProcId}
 use Rattle.scram_types.specs.declared.scripts.Change.{Change}
 use Rattle.scram_types.specs.declared.scripts.HaltAt.{HaltAt}
 use Rattle.scram_types.specs.declared.scripts.RestartAt.{RestartAt}
@@ -12,12 +10,12 @@ use Rattle.scram_types.specs.declared.specification.Factor.{Factor}
 use Rattle.scram_types.specs.declared.specification.Proc.{Proc}
 use Rattle.scram_types.specs.Names.{is_name}
 use Rattle.scram_types.specs.Scripts.{ScriptParts}
-use Rattle.scram_types.specs.Specification.{AreSpelled, HasNames, HasValueNames, IsSpec, Parts}
+use Rattle.scram_types.specs.Specification.{HasNames, HasValueNames, IsSpec, Parts}
 use Rattle.fault_script.specs.Fits.{Fits, IsChange, IsHalt, IsRestart}
-use Rattle.fault_script.specs.Texts.{change_data, factor_name, factor_text, first_data, halt_data, name_text, proc_name, proc_text, restart_data, script_data, script_data_by, script_text, second_data, value_name}
-use Rattle.fault_script.specs.Times.{words}
+use Rattle.fault_script.specs.Texts.{change_data, factor_text, halt_data, name_text, proc_text, restart_data, script_data, script_data_by, script_text}
 use Rattle.fault_script.proofs.TextLengths.{items_weight, list_weight, name_length, no_longer, number_weight, quoted_length, weight}
 
+-- what is not there has no name, and so two quotes alone
 proc_length : (found : Option Proc) → ((proc : Proc) → found ≡ Some proc → is_name proc.name ≡ true) → length (quoted (proc_text found)) ≤ 18
 proc_length None named = omega arith
 proc_length (Some proc) named = name_length proc.name (named proc refl)
@@ -78,6 +76,7 @@ restarts_short spec script is fits =
     let sum = list_weight (restart_data spec) 47 script.restarts (λ i restart there. restart_short spec script.frames restart is.names fits.frames (fits.restarts i restart there)) in
     omega (arith, few, sum)
 
+-- in either version
 light : (restarts : List RestartAt) (spec : Parts) (script : ScriptParts) → IsSpec spec → Fits spec script → weight (script_data_by restarts spec script) ≤ 1500000
 light [] spec script is fits =
     let most = fits.frames in
