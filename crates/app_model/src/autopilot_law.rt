@@ -2,7 +2,7 @@
 //! call and one that does not.
 #![tactic(auto, unfolding(crate::specs::Autopilot::target_alt, crate::specs::Autopilot::target_heading, crate::specs::Autopilot::altitude_error, crate::specs::Autopilot::integral_after, crate::specs::Autopilot::pitch_after, crate::specs::Autopilot::roll_after, crate::specs::Autopilot::autopilot_ran, scram_types::specs::Numbers::part))]
 
-ghost use Rattle.std.specs.Prelude.{◌≡◌, ◌≤ℤ◌, pos, ◌-ℤ◌, ◌+ℤ◌};
+ghost use Rattle.std.specs.Prelude.{◌≡◌, ◌+ℤ◌};
 ghost use Rattle.scram_types.specs.Numbers.{IsWord, part};
 ghost use Rattle.app_model.specs.Autopilot.{target_alt, target_heading, altitude_error, integral_after, pitch_after, roll_after, autopilot_ran};
 ghost use Rattle.app_model.specs.Law.{law};

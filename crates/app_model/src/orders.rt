@@ -1,7 +1,7 @@
 //! What the orders but `Run` leave of an area, the same for all kinds.
 #![tactic(auto, unfolding(crate::specs::Orders::faded, crate::specs::Orders::kept, crate::specs::Orders::halted_word, crate::specs::Orders::halted, crate::specs::Orders::initialised_word, crate::specs::Orders::initialised))]
 
-ghost use Rattle.std.specs.Prelude.{◌≡◌, ◌≤ℤ◌, ◌<◌, ◌+◌, ◌==◌, pos, IsSome, IfSome, None};
+ghost use Rattle.std.specs.Prelude.{◌≡◌, ◌<◌, ◌+◌, ◌==◌, IfSome, None};
 ghost use Rattle.scram_types.specs.Numbers.{IsWord, part};
 ghost use Rattle.scram_types.specs.declared.orders.Order.TheVariants.{Run};
 ghost use Rattle.app_model.specs.Law.{law};

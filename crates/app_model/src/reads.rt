@@ -1,7 +1,7 @@
 //! What a law reads. Each number is read clamped to its range, so no law overflows.
 #![tactic(auto, unfolding(scram_types::specs::Numbers::word, crate::specs::Reads::own_word, crate::specs::Reads::lead_word, crate::specs::Reads::altitude, crate::specs::Reads::heading, crate::specs::Reads::goal_altitude, crate::specs::Reads::goal_heading, crate::specs::Reads::ticks_after))]
 
-ghost use Rattle.std.specs.Prelude.{◌≡◌, ◌≤ℤ◌, ◌<◌, pos};
+ghost use Rattle.std.specs.Prelude.{◌≡◌, ◌<◌};
 ghost use Rattle.scram_types.specs.Numbers.{IsWord, word};
 ghost use Rattle.app_model.specs.Reads.{own_word, lead_word, altitude, heading, goal_altitude, goal_heading, ticks_after};
 

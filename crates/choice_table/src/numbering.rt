@@ -1,9 +1,9 @@
 //! The number of an environment, and the environment of a number.
 
-ghost use Rattle.std.specs.Prelude.{◌≡◌, ℕ, ◌+◌, ◌-◌, ◌*◌, ◌/◌, ◌%◌, ◌^◌, ◌<◌, ◌≤◌, ◌++◌, drop, length, not, replicate, slice_get, IfSome, MatchOption, Some};
+ghost use Rattle.std.specs.Prelude.{◌≡◌, ◌+◌, ◌-◌, ◌*◌, ◌/◌, ◌%◌, ◌^◌, ◌<◌, ◌≤◌, ◌++◌, length, not, replicate, IfSome, MatchOption, Some};
 ghost use Rattle.scram_types.specs.Specification.{Each, IsFactor};
 ghost use Rattle.choice_table.specs.Environments.{IsEnv, has_bit};
-ghost use Rattle.choice_table.specs.Numbering.{IsNextInScope, NoneInScope, bits_below, combinations, digits_of, down_set, env_of, environments, is_down_in_scope, number_of, numbered, states, value_count, values_of};
+ghost use Rattle.choice_table.specs.Numbering.{IsNextInScope, NoneInScope, bits_below, combinations, digits_of, env_of, environments, is_down_in_scope, number_of, numbered, states, value_count, values_of};
 
 use crate::environments::count_down;
 use scram_types::{Env, Spec};

@@ -1,23 +1,19 @@
 -- What is shown is broken there.
-use Rattle.std.proofs.Common.{◌≡◌, ℕ, ◌+◌, ◌<◌, Bool, true, false, refl, sym, ◌∙◌, ◌⊎◌, List, length}
+use Rattle.std.proofs.Common.{◌≡◌, ℕ, ◌<◌, Bool, true, false, refl, sym, length}
 use mathlib.Core.Logic.{inl, inr}
-use Rattle.std.specs.Prelude.{◌&&◌, Option, Some, None, if◌then◌else◌, option_map, slice_get}
+use Rattle.std.specs.Prelude.{◌&&◌, Option, Some, None, option_map, slice_get}
 use Rattle.std.specs.Option.{option_map_or, option_or}
-use Rattle.scram_types.specs.declared.flights.Env.{Env}
-use Rattle.scram_types.specs.declared.specification.Invariant.{Invariant}
-use Rattle.scram_types.specs.declared.specification.Precondition.{Precondition}
 use Rattle.scram_types.specs.Specification.{Parts}
 use Rattle.choice_table.specs.Numbering.{environments, is_number_in_scope, numbered}
 use Rattle.coverage_check.specs.declared.choosing.Demand.{Demand}
 use Rattle.coverage_check.specs.declared.choosing.Demand.TheVariants as demand
 use Rattle.coverage_check.specs.declared.shown.Shown.{Shown}
-use Rattle.coverage_check.specs.Search.{shown_if}
 use Rattle.coverage_check.specs.Showing.{conf}
 use Rattle.coverage_check.specs.Form.{has_too_many_states, is_empty, is_overloaded, is_same, lacks_need, load_refusal, load_refusal_in, need_refusal, need_refusal_in, shape_refusal, shape_refusal_of, state_refusal, twin_refusal_of}
 use Rattle.coverage_check.specs.Choosing.{demand_refusal, demand_refusal_of, first_unmet_env, is_unmet, leaves_start, start_refusal, unmet_env_at}
 use Rattle.coverage_check.specs.Timing.{bound_refusal, bound_refusal_of, has_short_window, lacks_bound, window_refusal}
 use Rattle.coverage_check.specs.Holding.{breaks_entering, breaks_from, invariant_refusal, invariant_refusal_at, invariant_refusal_of, precondition_refusal, precondition_refusal_at, precondition_refusal_of}
-use Rattle.coverage_check.specs.Acceptance.{IsBroken, IsBroken.NeedOff, IsBroken.ManyStates, IsBroken.NothingOn, IsBroken.SameAgain, IsBroken.Overloaded, IsBroken.Unmet, IsBroken.StartLeft, IsBroken.BoundWanting, IsBroken.WindowShort, IsBroken.InvariantBroken, IsBroken.PreconditionBroken, ShownIsBroken, choice_refusal, first_refusal, form_refusal, range_refusal, time_refusal}
+use Rattle.coverage_check.specs.Acceptance.{IsBroken, ShownIsBroken, choice_refusal, form_refusal, range_refusal, time_refusal}
 use Rattle.coverage_check.proofs.Searching.{and_left, and_right, found_below, same_some, shown_where, some_either, some_none}
 
 at_some : {A B : Type 0} (o : Option A) (f : A → Option B) (y : B) → option_map_or f o None ≡ Some y → (x : A) × (o ≡ Some x) × (f x ≡ Some y)

@@ -1,24 +1,19 @@
 -- A mission's environments stay in scope.
-use Rattle.std.proofs.Common.{◌≡◌, ℕ, zero, suc, ◌+◌, ◌-◌, ◌^◌, ◌<◌, ◌≤◌, Bool, true, false, not, refl, arith, ◌⊎◌, ap, sym, ◌∙◌, List, [], ◌∷◌, length}
+use Rattle.std.proofs.Common.{◌≡◌, ℕ, zero, suc, ◌+◌, ◌-◌, ◌^◌, ◌<◌, ◌≤◌, Bool, true, false, not, refl, arith, ◌⊎◌, sym, ◌∙◌, [], ◌∷◌, length}
 use mathlib.Core.Logic.{inl, inr}
-use Rattle.std.specs.Prelude.{◌==◌, Some, if◌then◌else◌, nat_le, slice_get, slice_index}
-use Rattle.std.specs.Int.{bit_at}
+use Rattle.std.specs.Prelude.{if◌then◌else◌, slice_index}
 use Rattle.std.proofs.lemmas.Option.{slice_get_within}
-use Rattle.scram_types.specs.declared.flights.Env.{Env}
-use Rattle.scram_types.specs.declared.specification.Factor.{Factor}
 use Rattle.scram_types.specs.Specification.{IsSpec, Parts}
 use Rattle.scram_types.specs.Scripts.{ScriptParts}
-use Rattle.choice_table.specs.Environments.{IsEnv, count_below, has_bit, in_scope}
+use Rattle.choice_table.specs.Environments.{IsEnv, count_below, has_bit}
 use Rattle.fault_script.specs.Times.{factor_at, factors_at, is_up}
 use Rattle.fault_script.specs.Environments.{bits_below, env_at}
 use Rattle.fault_script.specs.Assumption.{down_below}
-use Rattle.fault_script.specs.Laws.{Shows}
 use Rattle.fault_script.specs.Fits.{Fits}
 use Rattle.fault_script.proofs.Showing.{environments_show}
 use Rattle.fault_script.proofs.Walking.{env_made, first_later, none_taken, nothing_taken, values_are}
 use Rattle.coverage_check.specs.Choosing.{opening_env}
-use Rattle.coverage_check.specs.Keeping.{MissionsKeepScope, StaysInScope}
-use Rattle.coverage_check.specs.Missions.{IsMission, MissionParts}
+use Rattle.coverage_check.specs.Keeping.{MissionsKeepScope}
 use Rattle.coverage_check.proofs.Reaching.{at_most_test}
 
 value_in : (script : ScriptParts) (f x : ℕ) → x < 6 → slice_index (factors_at script f) x ≡ factor_at script x f

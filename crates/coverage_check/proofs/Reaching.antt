@@ -1,7 +1,6 @@
 -- Environments by number, and possible targets.
-use Rattle.std.proofs.Common.{◌≡◌, ℕ, zero, suc, ◌+◌, ◌<◌, ◌≤◌, Bool, true, false, not, refl, arith, ◌⊎◌, ap, sym, subst, ◌∙◌, ◌*◌, ◌^◌, List, [], ◌∷◌, length, set}
-use mathlib.Core.Logic.{inl, inr}
-use Rattle.std.specs.Prelude.{◌&&◌, ◌||◌, ◌==◌, Option, Some, None, if◌then◌else◌, nat_le, nat_lt, slice_get}
+use Rattle.std.proofs.Common.{◌≡◌, ℕ, zero, suc, ◌+◌, ◌<◌, ◌≤◌, Bool, true, false, refl, arith, ap, sym, ◌∙◌, ◌^◌, List, [], ◌∷◌, length, set}
+use Rattle.std.specs.Prelude.{◌&&◌, ◌||◌, ◌==◌, Some, None, if◌then◌else◌, nat_le, nat_lt, slice_get}
 use Rattle.std.proofs.lemmas.Bool.Decides.{nat_tests}
 use Rattle.std.proofs.lemmas.Nat.{mul-le}
 use Rattle.std.proofs.lemmas.List.{get_or-set_other, get_or-set_same}
@@ -10,7 +9,7 @@ use Rattle.std.proofs.Math.Nat.{pow-le-pow_right}
 use Rattle.scram_types.specs.declared.ids.ConfId.{ConfId}
 use Rattle.scram_types.specs.declared.flights.Env.{Env}
 use Rattle.scram_types.specs.declared.specification.Choice.{Choice}
-use Rattle.scram_types.specs.Specification.{Each, IsChoice, IsSpec, Parts}
+use Rattle.scram_types.specs.Specification.{IsSpec, Parts}
 use Rattle.choice_table.specs.Environments.{IsEnv, in_scope}
 use Rattle.choice_table.specs.Choices.{IsTarget, choose, rule_fits, target_among}
 use Rattle.choice_table.specs.Numbering.{IsNextInScope, NoneInScope, bits_below, combinations, env_of, environments, is_number_in_scope, number_of, numbered}

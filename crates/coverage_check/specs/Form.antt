@@ -1,6 +1,6 @@
 -- What a configuration has to be by itself: whole, different from the others, and not too heavy.
 use Rattle.std.specs.Prelude.{ℕ, zero, suc, ◌+◌, Bool, true, false, not, ◌&&◌, ◌==◌, nat_lt, List, length, slice_get, Option, Some, None, if◌then◌else◌}
-use Rattle.std.specs.Option.{option_map_or, option_or}
+use Rattle.std.specs.Option.{option_map_or}
 use Rattle.std.specs.List.{list_any}
 use Rattle.scram_types.specs.declared.ids.AppId.{AppId}
 use Rattle.scram_types.specs.declared.ids.ConfId.{ConfId}
@@ -13,7 +13,7 @@ use Rattle.choice_table.specs.Numbering.{states}
 use Rattle.dep_order.specs.Timetables.{is_on, mode_of, place_of}
 use Rattle.coverage_check.specs.declared.shown.Shown.{Shown}
 use Rattle.coverage_check.specs.declared.shown.Other.TheVariants as other
-use Rattle.coverage_check.specs.Search.{all_below, any_below, first_below, shown_if}
+use Rattle.coverage_check.specs.Search.{all_below, first_below, shown_if}
 use Rattle.coverage_check.specs.Showing.{app, conf, proc, shown_at, shown_nowhere}
 
 -- Some of these applications is off in configuration c.

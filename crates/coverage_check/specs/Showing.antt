@@ -1,5 +1,5 @@
 -- What a refusal shows, by the numbers of its place.
-use Rattle.std.specs.Prelude.{ℕ, Option, Some, None}
+use Rattle.std.specs.Prelude.{ℕ, Some, None}
 use Rattle.scram_types.specs.declared.ids.AppId.{AppId}
 use Rattle.scram_types.specs.declared.ids.ConfId.{ConfId}
 use Rattle.scram_types.specs.declared.ids.ProcId.{ProcId}

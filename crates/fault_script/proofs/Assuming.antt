@@ -1,5 +1,5 @@
 -- A script leaves the failure assumption nowhere exactly where it is within.
-use Rattle.std.proofs.Common.{◌≡◌, ℕ, zero, suc, ◌+◌, ◌-◌, ◌<◌, ◌≤◌, Bool, true, false, not, refl, arith, ◌⊎◌, ap, sym, subst, ◌∙◌, length}
+use Rattle.std.proofs.Common.{◌≡◌, ℕ, zero, suc, ◌+◌, ◌-◌, ◌<◌, ◌≤◌, Bool, true, false, not, refl, arith, ◌⊎◌, ap, sym, ◌∙◌, length}
 use mathlib.Core.Logic.{inl, inr}
 use Rattle.std.specs.Prelude.{◌&&◌, ◌==◌, Option, Some, None, if◌then◌else◌, nat_le, nat_lt}
 use Rattle.std.specs.Option.{option_or}
@@ -7,9 +7,7 @@ use Rattle.std.proofs.lemmas.Bool.Decides.{nat_tests}
 use Rattle.scram_types.specs.Scripts.{ScriptParts}
 use Rattle.scram_types.specs.Specification.{Parts}
 use Rattle.fault_script.specs.declared.assumption.Outside.{Outside}
-use Rattle.fault_script.specs.declared.assumption.OutsideKind.TheVariants as kind
-use Rattle.fault_script.specs.Times.{is_up}
-use Rattle.fault_script.specs.Assumption.{IsWithin, LeavesNowhere, WithinWhereNowhereOutside, brings_too_many_down, changes_upto, down_below, first_outside, has_too_many_down, is_change_frame, is_change_too_many, outside_at, outside_below}
+use Rattle.fault_script.specs.Assumption.{IsWithin, WithinWhereNowhereOutside, brings_too_many_down, changes_upto, down_below, first_outside, has_too_many_down, is_change_frame, is_change_too_many, outside_at, outside_below}
 
 pub next : (f : ℕ) → suc f ≡ f + 1
 next f = omega arith

@@ -1,13 +1,11 @@
 -- The value of a script that fits is read back to the script.
-use Rattle.std.proofs.Common.{◌≡◌, ◌≤◌, ◌<◌, ◌+◌, ℕ, zero, suc, Bool, true, false, ◌&&◌, List, [], ◌∷◌, ◌++◌, length, map, arith, refl, ap, ◌∙◌, sym, subst, append_assoc, append-nil, nat_lt}
-use Rattle.std.specs.Prelude.{Result, Ok, Err, Option, Some, None, IsUtf8, nat_le, not, slice_get, codes, ⊤}
-use Rattle.std.specs.List.{list_any}
-use Rattle.std.proofs.lemmas.Bool.{and_from, le-leb, lt-ltb, not_from_false}
-use Rattle.serde_json.specs.Data.{Data, Items, array, number, string, unsigned}
+use Rattle.std.proofs.Common.{◌≡◌, ◌≤◌, ◌<◌, ◌+◌, ℕ, suc, true, List, [], ◌∷◌, ◌++◌, length, map, arith, refl, ap, ◌∙◌, sym, subst, append_assoc, append-nil}
+use Rattle.std.specs.Prelude.{Ok, Some, IsUtf8, slice_get, codes}
+use Rattle.std.proofs.lemmas.Bool.{le-leb, lt-ltb}
+use Rattle.serde_json.specs.Data.{Data}
 use Rattle.serde_json.specs.Events.{items_len}
 use Rattle.serde_json.specs.Read.{read}
 use Rattle.serde_json.specs.View.{items_of}
-use Rattle.scram_doc.specs.declared.fault.DocFault.{DocFault}
 use Rattle.scram_doc.specs.Paths.{item_path, member_path}
 use Rattle.scram_doc.specs.Values.{items_within, whole_below}
 use Rattle.scram_doc.proofs.Parsed.{parsed-some}
@@ -18,11 +16,11 @@ use Rattle.scram_types.specs.Scripts.{ScriptParts}
 use Rattle.scram_types.specs.Specification.{Each, IsSpec, Parts}
 use Rattle.fault_script.specs.declared.version.Version.{Version}
 use Rattle.fault_script.specs.declared.version.Version.TheVariants.{First, Second}
-use Rattle.fault_script.specs.Fits.{AtMostTwice, ChangeBefore, EachLater, EachNext, Fits, HaltBefore, HaltsWellBefore, RestartBefore, IsChange, IsHalt, IsRestart}
+use Rattle.fault_script.specs.Fits.{AtMostTwice, ChangeBefore, EachLater, EachNext, Fits, HaltBefore, RestartBefore, IsChange, IsHalt, IsRestart}
 use Rattle.fault_script.specs.Orders.{change_follows, halt_follows, may_halt, restart_follows}
-use Rattle.fault_script.specs.Reading.{change_at, changes_from, halt_at, halts_from, halts_kept, make_members, make_script, restart_at, restarts_from, script_in, script_of, script_values, ScriptMembers}
-use Rattle.fault_script.specs.Texts.{change_data, first_data, halt_data, list_data, restart_data, script_data, script_data_by, second_data}
-use Rattle.fault_script.specs.Times.{is_halt_of, words}
+use Rattle.fault_script.specs.Reading.{change_at, changes_from, halt_at, halts_from, halts_kept, make_script, restart_at, restarts_from, script_in, script_of}
+use Rattle.fault_script.specs.Texts.{change_data, first_data, halt_data, restart_data, script_data, second_data}
+use Rattle.fault_script.specs.Times.{words}
 use Rattle.fault_script.proofs.Alternation.{Again}
 use Rattle.fault_script.proofs.Fitting.{Differ, IsLate}
 use Rattle.fault_script.proofs.Found.{factor_found, proc_found, value_found}

@@ -1,6 +1,6 @@
 -- The script that is read of a document fits the specification.
-use Rattle.std.proofs.Common.{◌≡◌, ◌≤◌, ◌<◌, ◌+◌, ◌==◌, ◌-◌, ℕ, zero, suc, Bool, true, false, ◌&&◌, ◌||◌, List, [], ◌∷◌, ◌++◌, length, arith, refl, ap, sym, ◌∙◌, subst, inl, inr, nat_lt, length-append}
-use Rattle.std.specs.Prelude.{Option, Some, None, Ok, Err, Result, slice_get, nat_le, not, option_map, codes, IfOk, ⊤}
+use Rattle.std.proofs.Common.{◌≡◌, ◌≤◌, ◌<◌, ◌+◌, ◌==◌, ◌-◌, ℕ, suc, true, ◌&&◌, List, [], ◌∷◌, ◌++◌, length, arith, refl, ap, sym, ◌∙◌, subst, inl, inr, nat_lt, length-append}
+use Rattle.std.specs.Prelude.{Option, Some, None, Ok, Err, Result, slice_get, nat_le, not, option_map, codes, IfOk}
 use Rattle.std.specs.List.{list_any}
 use Rattle.std.proofs.lemmas.Bool.{and_parts, not-true, or_cases}
 use Rattle.std.proofs.lemmas.Bool.Decides.{nat_tests}
@@ -26,7 +26,7 @@ use Rattle.fault_script.specs.declared.rule.TheConstants.{OUT_OF_ORDER, WRONG_RE
 use Rattle.fault_script.specs.declared.version.Version.{Version}
 use Rattle.fault_script.specs.declared.version.Version.TheVariants.{First, Second}
 use Rattle.fault_script.specs.Fits.{Before, ChangeBefore, EachLater, EachNext, Fits, HaltBefore, HaltsWellBefore, IsChange, IsHalt, IsRestart, RestartBefore}
-use Rattle.fault_script.specs.Lookups.{place_from, proc_id, proc_named, value_named}
+use Rattle.fault_script.specs.Lookups.{place_from, proc_id, value_named}
 use Rattle.fault_script.specs.Orders.{change_after, change_follows, comes_after, halt_after, halt_follows, is_halt_before, last_of, restart_after, restart_follows}
 use Rattle.fault_script.specs.Reading.{change_at, change_values, changes_at, changes_from, factor_named_at, frames_in, halts_kept, kept, members_in, scram_at, halt_at, halt_values, halts_at, halts_from, make_change, make_halt, make_restart, make_script, proc_at, restart_at, restart_values, restarts_at, restarts_from, script_in, script_of, script_values, ScriptMembers, value_named_at}
 use Rattle.fault_script.specs.Times.{is_halt_of, is_restart_of, words}

@@ -1,18 +1,16 @@
 -- What stands in a specification is found by its name.
-use Rattle.std.proofs.Common.{◌≡◌, ◌+◌, ◌<◌, ◌≤◌, ℕ, zero, suc, Bool, true, false, cond, List, [], ◌∷◌, length, get_or, arith, refl, sym, ap, ◌∙◌}
-use Rattle.std.specs.Prelude.{Option, Some, None, slice_get, bytes_eq, option_and_then}
+use Rattle.std.proofs.Common.{◌≡◌, ◌+◌, ◌<◌, ℕ, zero, suc, Bool, true, false, cond, List, [], ◌∷◌, length, arith, refl, ap, ◌∙◌}
+use Rattle.std.specs.Prelude.{Option, Some, slice_get, bytes_eq}
 use Rattle.std.specs.Bool.{Decides}
 use Rattle.std.proofs.lemmas.Slice.Eq.{bytes_eq-Decides}
-use Rattle.std.proofs.lemmas.Option.{same_Some, slice_get_cases}
-use Rattle.std.specs.Prelude.{◌⊎◌}
-use Rattle.std.proofs.Common.{inl, inr}
+use Rattle.std.proofs.lemmas.Option.{same_Some}
 use Rattle.scram_types.specs.declared.ids.FactorId.{FactorId}
 use Rattle.scram_types.specs.declared.ids.ProcId.{ProcId}
 use Rattle.scram_types.specs.declared.specification.Factor.{Factor}
 use Rattle.scram_types.specs.declared.specification.Proc.{Proc}
 use Rattle.scram_types.specs.Specification.{IsSpec, NamesDiffer, Parts}
-use Rattle.fault_script.specs.Lookups.{factor_id, factor_named, place_from, proc_id, proc_named, value_named}
-use Rattle.fault_script.specs.Texts.{factor_name, factor_text, name_text, proc_name, proc_text, value_name}
+use Rattle.fault_script.specs.Lookups.{factor_named, place_from, proc_named, value_named}
+use Rattle.fault_script.specs.Texts.{factor_name, proc_name, value_name}
 
 -- an item that stands in a list
 pub some_item : {A P : Type 0} (xs : List A) (i : ℕ) → i < length xs → ((x : A) → slice_get xs i ≡ Some x → P) → P

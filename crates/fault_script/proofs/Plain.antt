@@ -1,7 +1,7 @@
 -- A script's value has no float and is not deep.
-use Rattle.std.proofs.Common.{◌≡◌, ◌≤◌, ℕ, Bool, false, List, [], ◌∷◌, map, arith, refl, ap, ◌∙◌}
+use Rattle.std.proofs.Common.{◌≡◌, ◌≤◌, ℕ, false, List, [], ◌∷◌, map, arith, refl, ap, ◌∙◌}
 use Rattle.std.specs.Prelude.{Some}
-use Rattle.serde_json.specs.Data.{Data, Items, depth, item, items_depth, no_items}
+use Rattle.serde_json.specs.Data.{Data, depth, items_depth}
 use Rattle.serde_json.specs.Read.{max_depth, read}
 use Rattle.serde_json.specs.View.{items_of}
 use Rattle.serde_json.specs.Written.{compact_text, has_float, items_have_float}

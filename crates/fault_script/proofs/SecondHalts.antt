@@ -1,13 +1,12 @@
 -- In a script that fits, each halt is one that its processor may have; without restarts each processor halts once.
-use Rattle.std.proofs.Common.{◌≡◌, ◌≤◌, ◌<◌, ◌+◌, ◌==◌, ℕ, zero, suc, Bool, true, false, ◌&&◌, ◌||◌, cond, List, [], ◌∷◌, ◌++◌, length, map, arith, refl, ap, sym, ◌∙◌, subst, inl, inr}
-use Rattle.std.specs.Prelude.{Option, Some, None, Ok, slice_get, nat_le, ⊤}
+use Rattle.std.proofs.Common.{◌≡◌, ◌≤◌, ◌<◌, ◌+◌, ◌==◌, ℕ, zero, suc, Bool, true, false, ◌&&◌, ◌||◌, cond, List, [], ◌∷◌, ◌++◌, length, map, arith, refl, sym, ◌∙◌, inl, inr}
+use Rattle.std.specs.Prelude.{Some, slice_get}
 use Rattle.std.specs.List.{AllByRecursion, IsDistinct, list_any}
 use Rattle.std.proofs.lemmas.Bool.{or_cases}
 use Rattle.std.proofs.lemmas.List.{length-map}
 use Rattle.std.proofs.lemmas.Bool.Decides.{nat_tests}
-use Rattle.std.proofs.lemmas.Map.Keys.{IsDistinct-cons}
 use Rattle.std.proofs.lemmas.Map.Steps.{length-le_from_distinct_below}
-use Rattle.std.proofs.lemmas.Option.{same_Some, slice_get_within}
+use Rattle.std.proofs.lemmas.Option.{slice_get_within}
 use Rattle.scram_types.specs.declared.scripts.HaltAt.{HaltAt}
 use Rattle.scram_types.specs.declared.scripts.RestartAt.{RestartAt}
 use Rattle.scram_types.specs.Specification.{Each}
@@ -15,7 +14,6 @@ use Rattle.fault_script.specs.Fits.{AtMostTwice, EachLater, RestartsBy}
 use Rattle.fault_script.specs.Orders.{halts_of, is_restart_by, may_halt}
 use Rattle.fault_script.proofs.Alternation.{Again}
 use Rattle.fault_script.proofs.Splits.{any_passes, front, later_at, seam}
-use Rattle.fault_script.proofs.Taken.{some_passes}
 
 one_at : {P : Type 0} (p : ℕ) (here : Bool) (x : HaltAt) (xs : List HaltAt) → (x.proc.0 == p) ≡ here → 1 ≤ cond here 1 0 + halts_of p xs
     → (1 ≤ halts_of p xs → P) → (x.proc.0 ≡ p → P) → P

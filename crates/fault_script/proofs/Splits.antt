@@ -1,15 +1,15 @@
 -- What a list's laws say of an item and of those before it.
-use Rattle.std.proofs.Common.{◌≡◌, ◌≤◌, ◌<◌, ◌+◌, ◌-◌, ◌==◌, ℕ, zero, suc, Bool, true, false, ◌&&◌, ◌||◌, cond, List, [], ◌∷◌, ◌++◌, length, map, arith, refl, ap, sym, ◌∙◌, subst, inl, inr, nat_lt}
-use Rattle.std.specs.Prelude.{Option, Some, None, slice_get, nat_le, not}
+use Rattle.std.proofs.Common.{◌≡◌, ◌+◌, ◌-◌, ℕ, zero, suc, Bool, true, false, ◌||◌, List, [], ◌∷◌, ◌++◌, length, arith, refl, ap, sym, ◌∙◌, inl, inr}
+use Rattle.std.specs.Prelude.{Option, Some, None, slice_get}
 use Rattle.std.specs.List.{list_any}
-use Rattle.std.proofs.lemmas.Bool.{and_from, le-leb, lt-ltb, not_from_false}
+use Rattle.std.proofs.lemmas.Bool.{lt-ltb}
 use Rattle.std.proofs.lemmas.Bool.Decides.{nat_tests}
 use Rattle.std.proofs.lemmas.Option.{same_Some, slice_get_within}
 use Rattle.scram_types.specs.declared.scripts.Change.{Change}
 use Rattle.scram_types.specs.declared.scripts.HaltAt.{HaltAt}
 use Rattle.scram_types.specs.declared.scripts.RestartAt.{RestartAt}
-use Rattle.fault_script.specs.Fits.{AtMostTwice, Before, ChangeBefore, EachLater, EachNext, HaltBefore, HaltsWellBefore, RestartBefore, RestartsBy}
-use Rattle.fault_script.specs.Orders.{change_after, change_follows, comes_after, halt_after, halts_of, is_halt_before, is_restart_by, last_of, may_halt, restart_after, restart_follows}
+use Rattle.fault_script.specs.Fits.{Before, ChangeBefore, EachLater, EachNext, HaltBefore, HaltsWellBefore, RestartBefore}
+use Rattle.fault_script.specs.Orders.{change_after, change_follows, comes_after, halt_after, is_halt_before, last_of, restart_after, restart_follows}
 use Rattle.fault_script.specs.Times.{is_halt_of, is_restart_of}
 
 pub front : {A : Type 0} (xs ys : List A) (i : ℕ) (x : A) → slice_get xs i ≡ Some x → slice_get (xs ++ ys) i ≡ Some x

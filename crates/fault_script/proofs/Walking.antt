@@ -2,7 +2,7 @@
 use Rattle.std.proofs.Common.{◌≡◌, ℕ, zero, suc, ◌+◌, ◌-◌, ◌<◌, ◌≤◌, Bool, true, false, not, refl, arith, ◌⊎◌, ap, sym, subst, ◌∙◌, List, [], ◌∷◌, length}
 use mathlib.Core.Logic.{inl, inr}
 use mir.Val.{bool_byte}
-use Rattle.std.specs.Prelude.{◌&&◌, ◌==◌, Option, Some, None, if◌then◌else◌, nat_le, nat_lt, slice_get, slice_index, unwrap_or}
+use Rattle.std.specs.Prelude.{◌&&◌, ◌==◌, Option, Some, None, if◌then◌else◌, nat_le, nat_lt, slice_get}
 use Rattle.std.proofs.Common.{get_or}
 use Rattle.std.proofs.lemmas.Bool.Decides.{nat_tests}
 use Rattle.std.proofs.lemmas.Option.{slice_get-get_or, slice_get_within}
@@ -10,7 +10,7 @@ use Rattle.scram_types.specs.declared.scripts.Change.{Change}
 use Rattle.scram_types.specs.declared.flights.Env.{Env}
 use Rattle.scram_types.specs.Scripts.{ScriptParts}
 use Rattle.scram_types.specs.Specification.{Parts}
-use Rattle.fault_script.specs.Times.{factor_at, factors_at, is_up, value_after}
+use Rattle.fault_script.specs.Times.{factors_at, is_up, value_after}
 use Rattle.fault_script.specs.Environments.{bits_below, env_at}
 use Rattle.fault_script.specs.Assumption.{changes_in_window, changes_upto, is_change_frame, is_change_too_many, is_same_env}
 use Rattle.fault_script.specs.declared.walks.Walk.{Walk}

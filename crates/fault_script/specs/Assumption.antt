@@ -1,5 +1,5 @@
 -- The failure assumption: how many processors are down, and how often the environment changes.
-use Rattle.std.specs.Prelude.{◌≡◌, ℕ, zero, suc, ◌+◌, ◌-◌, ◌<◌, ◌≤◌, Bool, true, false, not, ◌&&◌, ◌==◌, nat_lt, length, Option, Some, None, Result, Ok, Err, if◌then◌else◌}
+use Rattle.std.specs.Prelude.{◌≡◌, ℕ, zero, suc, ◌+◌, ◌-◌, ◌≤◌, Bool, false, not, ◌&&◌, ◌==◌, nat_lt, length, Option, Some, None, if◌then◌else◌}
 use Rattle.std.specs.Option.{option_or}
 use Rattle.std.specs.Str.{bytes_eq}
 use Rattle.scram_types.specs.declared.flights.Env.{Env}
@@ -9,7 +9,6 @@ use Rattle.fault_script.specs.declared.assumption.Outside.{Outside}
 use Rattle.fault_script.specs.declared.assumption.OutsideKind.TheVariants as kind
 use Rattle.fault_script.specs.Times.{is_up}
 use Rattle.fault_script.specs.Environments.{env_at}
-use Rattle.fault_script.specs.Fits.{Fits}
 
 -- How many of the first n processors are down in frame f.
 abbrev pub down_below : ScriptParts → ℕ → ℕ → ℕ

@@ -1,4 +1,4 @@
-ghost use Rattle.std.specs.Prelude.{◌≡◌, ◌≤◌, length};
+ghost use Rattle.std.specs.Prelude.{◌≡◌};
 ghost use Rattle.std.specs.List.{list_any};
 ghost use Rattle.fault_script.specs.Orders.{change_follows, comes_after, halt_after, halt_follows, halts_of, is_halt_before, is_restart_by, last_of, may_halt, restart_after, restart_follows};
 ghost use Rattle.fault_script.specs.Times.{is_halt_of, is_restart_of};

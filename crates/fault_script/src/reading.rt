@@ -5,7 +5,7 @@ ghost use Rattle.serde_json.specs.View.{items_view, view};
 ghost use Rattle.scram_doc.specs.Chain.{ok_map};
 ghost use Rattle.scram_doc.specs.Faults.{Answers};
 ghost use Rattle.fault_script.specs.Fits.{Fits};
-ghost use Rattle.fault_script.specs.Reading.{change_at, changes_at, changes_from, factor_named_at, frames_in, halt_at, halts_at, halts_from, halts_kept, kept, make_members, members_in, proc_at, restart_at, restarts_at, restarts_from, restarts_needed, scram_at, script_in, script_of, script_values, value_named_at};
+ghost use Rattle.fault_script.specs.Reading.{change_at, changes_at, factor_named_at, frames_in, halt_at, halts_at, halts_kept, kept, make_members, members_in, proc_at, restart_at, restarts_at, restarts_from, restarts_needed, scram_at, script_in, script_of, script_values, value_named_at};
 
 use crate::find::{find_factor, find_proc, find_value};
 use crate::order::{change_follows, halt_follows, may_halt, restart_follows};

@@ -1,7 +1,7 @@
 //! What the flight control's run leaves.
 #![tactic(auto, unfolding(app_model::specs::FlightControl::closer, app_model::specs::FlightControl::command, app_model::specs::FlightControl::elevator_after, app_model::specs::FlightControl::aileron_after, app_model::specs::FlightControl::flight_control_ran))]
 
-ghost use Rattle.std.specs.Prelude.{◌≡◌, ◌≤ℤ◌, ◌<◌, pos, ◌-ℤ◌, ◌+ℤ◌, ◌*ℤ◌};
+ghost use Rattle.std.specs.Prelude.{◌≡◌, ◌<◌};
 ghost use Rattle.scram_types.specs.Numbers.{IsWord};
 ghost use Rattle.app_model.specs.FlightControl.{command, closer, elevator_after, aileron_after, flight_control_ran};
 ghost use Rattle.app_model.specs.Law.{law};

@@ -1,6 +1,5 @@
 //! The flight control as a box that remembers its last call.
 
-ghost use Rattle.std.specs.Prelude.{◌≡◌};
 
 use crate::run::flight_control_area;
 use app_model::calls::LastCall;

@@ -1,7 +1,7 @@
 //! What the kernel decides at the start of a frame.
 
 ghost use Rattle.std.specs.Prelude.{◌≡◌, ◌-◌};
-ghost use Rattle.frame_model.specs.Decisions.{decision, leave_for, moving_decision, stable_decision, turn_to, wanted};
+ghost use Rattle.frame_model.specs.Decisions.{leave_for, moving_decision, stable_decision, turn_to, wanted};
 ghost use Rattle.frame_model.specs.Frames.{state_of};
 ghost use Rattle.frame_model.specs.Phases.{is_past};
 ghost use Rattle.frame_model.specs.States.{mode_in};

@@ -10,7 +10,7 @@ ghost use Rattle.frame_model.specs.States.{for_eight, has_arrived, lead_of, show
 
 use crate::acts::runs;
 use crate::decisions::decide;
-use crate::outcomes::{Outcomes, Setting, lead_of, perform_all};
+use crate::outcomes::{Setting, lead_of, perform_all};
 use crate::phases::{Phase, stage_at, target};
 use crate::systems::{Input, Sys};
 use airframe::step;

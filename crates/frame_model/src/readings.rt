@@ -1,7 +1,7 @@
 //! Reconfigurations, read off the acts of rows.
 
 ghost use Rattle.std.specs.Prelude.{◌≡◌, ◌<◌, ◌^◌, ◌++◌, length, IfOk};
-ghost use Rattle.frame_model.specs.Readings.{arrive, arrival, as_list, close, ended, read_row, reading_of, report_of, reports};
+ghost use Rattle.frame_model.specs.Readings.{arrive, arrival, as_list, close, read_row, report_of, reports};
 
 use crate::acts::{running, runs};
 use scram_types::{Act, ConfId, NoMemory, Report, Row, Spec};

@@ -2,11 +2,11 @@
 
 ghost use Rattle.std.specs.Prelude.{◌≡◌, ◌-◌, ◌^◌, ◌<◌, length};
 ghost use Rattle.frame_model.specs.Frames.{sys_of};
-ghost use Rattle.frame_model.specs.States.{for_eight, kind_of_app, start_area_of, start_keeper_of, start_state, start_world};
+ghost use Rattle.frame_model.specs.States.{for_eight, kind_of_app, start_area_of, start_keeper_of, start_state};
 
 use crate::acts::place_of;
 use app_model::start_area;
-use scram_types::{AppId, Area, KMode, KindId, Place, ProcId, Spec, World};
+use scram_types::{AppId, Area, KMode, KindId, ProcId, Spec, World};
 
 /// The world before frame 0: 5,000 feet, level, east, wings level.
 pub const START_WORLD: World = World {

@@ -3,7 +3,7 @@
 ghost use Rattle.std.specs.Prelude.{◌≡◌, ◌<◌, IfSome};
 ghost use Rattle.dep_order.specs.Timetables.{halt_time, init_time, mode_of, prepare_time};
 ghost use Rattle.frame_model.specs.Phases.{offsets_in};
-ghost use Rattle.frame_model.specs.Tasks.{halting_order, initialising_order, off_task, preparing_order, task_at, task_for, task_in, task_of};
+ghost use Rattle.frame_model.specs.Tasks.{halting_order, initialising_order, preparing_order, task_for, task_in, task_of};
 
 use crate::acts::place_of;
 use crate::phases::{Phase, Stage, stage_at};

@@ -1,8 +1,8 @@
 //! The changes of a generated script, block after block.
 
-ghost use Rattle.std.specs.Prelude.{◌≡◌, ◌<◌, ◌≤◌, ◌∷◌, [], replicate, IfOk, OnOk};
+ghost use Rattle.std.specs.Prelude.{◌≡◌, ◌<◌, ◌≤◌, ◌∷◌, [], IfOk, OnOk};
 ghost use Rattle.mission_gen.specs.Blocks.{first_frame, next_random, turns_both};
-ghost use Rattle.mission_gen.specs.Changes.{changes_by, changes_of, last_block, next_value};
+ghost use Rattle.mission_gen.specs.Changes.{changes_of, last_block, next_value};
 ghost use Rattle.mission_gen.specs.Turns.{aux_turns, other_turns, turn, turns_in};
 ghost use Rattle.mission_gen.specs.Walks.{Turned, WalkedBlock};
 

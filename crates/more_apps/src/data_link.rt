@@ -1,7 +1,7 @@
 //! The data link.
 #![tactic(auto, unfolding(app_model::specs::DataLink::fresh_of, app_model::specs::DataLink::fresh, app_model::specs::DataLink::rate_after, app_model::specs::DataLink::waiting, app_model::specs::DataLink::going, app_model::specs::DataLink::queued_after, app_model::specs::DataLink::sent_after, app_model::specs::DataLink::left_over, app_model::specs::DataLink::dropped_after, app_model::specs::DataLink::data_link_ran))]
 
-ghost use Rattle.std.specs.Prelude.{◌≡◌, ◌≤ℤ◌, ◌<◌, ◌+ℤ◌, ◌-ℤ◌, pos};
+ghost use Rattle.std.specs.Prelude.{◌≡◌, ◌≤ℤ◌, ◌<◌, ◌-ℤ◌, pos};
 ghost use Rattle.scram_types.specs.Numbers.{IsWord, minus};
 ghost use Rattle.app_model.specs.DataLink.{fresh_of, fresh, rate_after, waiting, going, queued_after, sent_after, left_over, dropped_after, data_link_ran};
 ghost use Rattle.more_apps.specs.Counts.{KeepsCount};

@@ -1,7 +1,7 @@
 //! The navigator.
 #![tactic(auto, unfolding(app_model::specs::Navigator::bearing_after, app_model::specs::Navigator::climb_after, app_model::specs::Navigator::near, app_model::specs::Navigator::on_course, app_model::specs::Navigator::navigator_ran))]
 
-ghost use Rattle.std.specs.Prelude.{◌≡◌, ◌≤ℤ◌, pos};
+ghost use Rattle.std.specs.Prelude.{◌≡◌};
 ghost use Rattle.scram_types.specs.Numbers.{IsWord};
 ghost use Rattle.app_model.specs.Navigator.{bearing_after, climb_after, near, on_course, navigator_ran};
 ghost use Rattle.app_model.specs.Law.{law};

@@ -1,6 +1,5 @@
 //! An autopilot that remembers nothing.
 
-ghost use Rattle.std.specs.Prelude.{◌≡◌};
 
 use app_model::autopilot_law::autopilot_area;
 use app_model::kinds::autopilot::KIND;

@@ -1,6 +1,5 @@
 //! The power monitor as a box that remembers its last call.
 
-ghost use Rattle.std.specs.Prelude.{◌≡◌};
 
 use crate::run::power_monitor_area;
 use app_model::calls::LastCall;

@@ -1,34 +1,30 @@
 -- Processors and applications are read back as they were written.
-use Rattle.std.proofs.Common.{◌≡◌, ◌≤◌, ◌<◌, ◌+◌, ℕ, zero, suc, Bool, true, false, List, [], ◌∷◌, ◌++◌, length, map, arith, refl, ap, ◌∙◌, sym, subst}
-use Rattle.std.specs.Prelude.{All, Option, Some, None, IsSome, Result, Ok, IsTrue, codes, nat_lt, slice_get, is_some}
-use Rattle.std.specs.List.{list_all}
+use Rattle.std.proofs.Common.{◌≡◌, ◌≤◌, ◌<◌, ℕ, zero, suc, true, false, List, [], ◌∷◌, length, map, arith, refl, ap, ◌∙◌}
+use Rattle.std.specs.Prelude.{All, Option, Some, None, IsSome, Ok, IsTrue, codes, is_some}
 use Rattle.std.proofs.lemmas.List.Elements.{All-nil, All-cons}
 use Rattle.std.proofs.lemmas.Option.{slice_get_within}
-use Rattle.serde_json.specs.Data.{Data, Items, array}
 use Rattle.serde_json.specs.View.{items_of}
-use Rattle.scram_doc.specs.declared.fault.DocFault.{DocFault}
-use Rattle.scram_doc.specs.Paths.{item_path, member_path}
-use Rattle.scram_doc.specs.Values.{items_within}
+use Rattle.scram_doc.specs.Paths.{member_path}
 use Rattle.scram_types.specs.declared.ids.AppId.{AppId}
 use Rattle.scram_types.specs.declared.specification.AppSpec.{AppSpec}
 use Rattle.scram_types.specs.declared.specification.ModeSpec.{ModeSpec}
 use Rattle.scram_types.specs.declared.specification.Proc.{Proc}
 use Rattle.scram_types.specs.Names.{is_name}
 use Rattle.scram_types.specs.Specification.{AreSpelled, Each, HasLength, IsAppSpec, IsModeSpec, IsProc, NamesDiffer, mode_in, modes_of_kind}
-use Rattle.app_model.specs.Names.{kind_names, mode_names, name_at, number_from, number_of, AllNamesAgree, NamesAgree}
+use Rattle.app_model.specs.Names.{kind_names, mode_names, name_at, number_of}
 use Rattle.app_model.proofs.Spelling.{all_names_agree}
 use Rattle.dep_order.specs.Ranks.{IsRanking, rank_after}
-use Rattle.reconf_spec.specs.Applications.{app_at, app_name, kind_at, mode_at, modes_at, text_after, texts_at}
+use Rattle.reconf_spec.specs.Applications.{app_at, app_name, mode_at, modes_at, text_after}
 use Rattle.reconf_spec.specs.Facts.{AllAfter}
-use Rattle.reconf_spec.specs.Lists.{elements_at, elements_from, folded_from}
+use Rattle.reconf_spec.specs.Lists.{folded_from}
 use Rattle.reconf_spec.specs.Names.{found_from}
-use Rattle.reconf_spec.specs.Needs.{are_ranked, has_app, longest_chains, need_at, needs_at, ranked_at, unranked_at, with_needs, with_ranks}
+use Rattle.reconf_spec.specs.Needs.{has_app, longest_chains, need_at, needs_at, ranked_at, unranked_at, with_needs, with_ranks}
 use Rattle.reconf_spec.specs.Processors.{proc_at, proc_name, procs_at}
 use Rattle.reconf_spec.specs.Texts.{app_data, kind_text, list_data, mode_data, mode_text, name_of_item, need_data, proc_data, spelled}
-use Rattle.reconf_spec.specs.Writable.{IsWritableApp, lists_mode, lists_need, rank_of}
+use Rattle.reconf_spec.specs.Writable.{IsWritableApp, lists_mode, rank_of}
 use Rattle.reconf_spec.proofs.Lookups.{all_new, number_back}
 use Rattle.reconf_spec.proofs.LongestChains.{all_small, ranks_are}
-use Rattle.reconf_spec.proofs.ListsBack.{chained, elements_given, items_back, list_back, whole_back}
+use Rattle.reconf_spec.proofs.ListsBack.{elements_given, items_back, list_back, whole_back}
 
 -- what a processor keeps, with those before it
 record NewProc (done : List Proc) (proc : Proc) : Type 0 where

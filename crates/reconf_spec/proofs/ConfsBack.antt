@@ -1,34 +1,29 @@
 -- Configurations and factors are read back as they were written.
-use Rattle.std.proofs.Common.{◌≡◌, ◌≤◌, ◌<◌, ◌+◌, ◌==◌, ℕ, zero, suc, Bool, true, false, cond, List, [], ◌∷◌, ◌++◌, length, map, set, replicate, arith, refl, ap, ◌∙◌, sym, subst, append_assoc, append-nil}
-use Rattle.std.specs.Prelude.{Option, Some, None, IsSome, Result, Ok, IsTrue, codes, slice_get, is_some, option_and_then}
+use Rattle.std.proofs.Common.{◌≡◌, ◌≤◌, ◌+◌, ◌==◌, ℕ, zero, suc, Bool, true, false, cond, List, [], ◌∷◌, ◌++◌, length, set, replicate, arith, refl, ◌∙◌, subst, append_assoc}
+use Rattle.std.specs.Prelude.{Option, Some, None, IsSome, Ok, IsTrue, codes, slice_get, is_some}
 use Rattle.std.proofs.Math.Seq.{set-append_seam}
 use Rattle.std.proofs.lemmas.Bool.{eqb-true}
 use Rattle.std.proofs.lemmas.List.{length-append}
 use Rattle.std.proofs.lemmas.Option.{slice_get_within}
-use Rattle.serde_json.specs.Data.{Data, Items, array, string}
+use Rattle.serde_json.specs.Data.{array, string}
 use Rattle.serde_json.specs.Events.{items_len}
 use Rattle.serde_json.specs.View.{items_of}
 use Rattle.scram_doc.specs.Paths.{item_path, member_path}
-use Rattle.scram_doc.specs.Values.{items_within}
-use Rattle.scram_types.specs.declared.specification.AppSpec.{AppSpec}
 use Rattle.scram_types.specs.declared.specification.Conf.{Conf}
 use Rattle.scram_types.specs.declared.specification.Factor.{Factor}
 use Rattle.scram_types.specs.declared.specification.ModeSpec.{ModeSpec}
 use Rattle.scram_types.specs.declared.specification.Place.{Place}
-use Rattle.scram_types.specs.declared.specification.Proc.{Proc}
 use Rattle.scram_types.specs.Names.{is_name}
-use Rattle.scram_types.specs.Specification.{AreSpelled, Each, HasLength, HasValueNames, IsAppSpec, IsConf, IsFactor, IsModeSpec, IsPlace, IsSpec, NamesDiffer, Parts, mode_in, modes_of_kind, place_in}
-use Rattle.app_model.specs.Names.{mode_names, number_of}
+use Rattle.scram_types.specs.Specification.{AreSpelled, Each, HasValueNames, IsConf, IsFactor, IsModeSpec, IsPlace, IsSpec, NamesDiffer, Parts, mode_in, modes_of_kind}
 use Rattle.reconf_spec.specs.Applications.{app_name}
-use Rattle.reconf_spec.specs.Configurations.{conf_at, conf_name, confs_at, is_placed, places_after, places_at}
-use Rattle.reconf_spec.specs.Facts.{AllAfter}
+use Rattle.reconf_spec.specs.Configurations.{conf_at, conf_name, confs_at, places_after, places_at}
 use Rattle.reconf_spec.specs.Factors.{factor_at, factor_name, factors_at, own_name, value_at}
-use Rattle.reconf_spec.specs.Lists.{elements_at, folded_from}
+use Rattle.reconf_spec.specs.Lists.{folded_from}
 use Rattle.reconf_spec.specs.Names.{found_from}
 use Rattle.reconf_spec.specs.Processors.{proc_name}
-use Rattle.reconf_spec.specs.Texts.{app_mode_text, conf_data, factor_data, list_data, mode_text, name_of_item, place_data, places_data}
+use Rattle.reconf_spec.specs.Texts.{conf_data, factor_data, list_data, place_data, places_data}
 use Rattle.reconf_spec.proofs.AppsBack.{mode_spelled}
-use Rattle.reconf_spec.proofs.Lookups.{all_new, number_back, same_item, seam}
+use Rattle.reconf_spec.proofs.Lookups.{all_new, number_back, seam}
 use Rattle.reconf_spec.proofs.ListsBack.{list_back, within_back}
 
 -- a mode that an application lists is one of its kind

@@ -1,6 +1,6 @@
 -- Applications that are ranked have no cycle, and those of a cycle exist.
-use Rattle.std.proofs.Common.{◌≡◌, ◌<◌, ℕ, zero, suc, Bool, true, List, [], ◌∷◌, length, refl, sym, subst}
-use Rattle.std.specs.Prelude.{Option, Some, None, slice_get, Result, Ok, Err, OnOk}
+use Rattle.std.proofs.Common.{◌≡◌, ◌<◌, zero, suc, true, List, [], ◌∷◌, length, refl, subst}
+use Rattle.std.specs.Prelude.{Some, None, Result, Ok, Err, OnOk}
 use Rattle.std.proofs.lemmas.Option.{slice_get_within}
 use Rattle.scram_types.specs.declared.ids.AppId.{AppId}
 use Rattle.scram_types.specs.Specification.{Each}

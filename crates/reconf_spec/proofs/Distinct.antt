@@ -1,9 +1,8 @@
 -- Elements that differ from those before them.
-use Rattle.std.proofs.Common.{◌≡◌, ◌<◌, ℕ, zero, suc, Bool, true, false, cond, List, [], ◌∷◌, length, arith, refl, sym, ap, ◌∙◌, ◌⊎◌}
+use Rattle.std.proofs.Common.{◌≡◌, ◌<◌, ℕ, zero, suc, Bool, true, false, cond, List, [], ◌∷◌, arith, refl, sym, ap, subst, ◌⊎◌}
 use mathlib.Core.Logic.{inl, inr}
-use Rattle.std.specs.Prelude.{Option, Some, None, take, slice_get, nat_lt}
+use Rattle.std.specs.Prelude.{Option, Some, None, Result, Ok, IfOk, take, slice_get}
 use Rattle.std.specs.Str.{bytes_eq}
-use Rattle.std.specs.Bool.{Decides}
 use Rattle.std.proofs.lemmas.Slice.Eq.{bytes_eq-Decides}
 use Rattle.scram_types.specs.Specification.{Each, NamesDiffer}
 use Rattle.reconf_spec.specs.Names.{found_from, found}
@@ -58,3 +57,7 @@ new_differ {A} name xs new i j x y there too same = elim (compare i j) [
     | inr above ↦ absurd (nowhere name 0 (take i xs) j y (name x) (early j i A xs y above too) (sym same) (new i x there))
   ]
 ]
+
+-- what an answer keeps, the value that it holds keeps
+pub kept : {A E : Type 0} → (Kept : A → Type 0) (answer : Result A E) (a : A) → answer ≡ Ok a → IfOk answer Kept → Kept a
+kept {A} {E} Kept answer a is all = subst (λ (z : Result A E). IfOk z Kept) is all

@@ -1,5 +1,5 @@
 -- Applications with their needs, and with their ranks.
-use Rattle.std.proofs.Common.{◌≡◌, ◌<◌, ◌≤◌, ◌+◌, ℕ, zero, suc, List, [], ◌∷◌, ◌++◌, drop, length, map, arith, refl, sym, ap, subst, ◌∙◌}
+use Rattle.std.proofs.Common.{true, ◌≡◌, ◌<◌, ◌≤◌, ◌+◌, ℕ, zero, suc, List, [], ◌∷◌, ◌++◌, drop, length, map, arith, refl, sym, ap, subst, ◌∙◌}
 use Rattle.std.specs.Prelude.{Option, Some, None, is_some, slice_get, slice_index, take, All}
 use Rattle.std.proofs.lemmas.List.Elements.{All-head, All-tail}
 use Rattle.std.proofs.Math.Seq.{take-append_seam}
@@ -7,7 +7,7 @@ use Rattle.scram_types.specs.declared.ids.AppId.{AppId}
 use Rattle.scram_types.specs.declared.specification.AppSpec.{AppSpec}
 use Rattle.scram_types.specs.declared.specification.ModeSpec.{ModeSpec}
 use Rattle.scram_types.specs.Names.{is_name}
-use Rattle.scram_types.specs.Specification.{Each, HasLength, NamesDiffer, IsModeSpec, IsNeeded, IsAppSpec}
+use Rattle.scram_types.specs.Specification.{IsModeSpec, IsAppSpec}
 use Rattle.dep_order.specs.Ranks.{IsRanking, RanksFall, NeedsInRange, rank_after}
 use Rattle.reconf_spec.specs.Applications.{app_name}
 use Rattle.reconf_spec.specs.Needs.{with_needs, with_ranks}
@@ -72,6 +72,17 @@ unranked_fit apps needs least most same fits named =
           names i j one.app two.app one.there two.there (sym first ∙ spelled ∙ second);
       each = λ i x e. rw (count) (unranked apps needs x i (joined apps needs i x same e) fits named);
     }
+
+-- needs and ranks leave the names
+pub joined_names : (apps : List AppSpec) (needs : List (List AppId)) → map app_name (with_needs apps needs) ≡ map app_name apps
+joined_names [] needs = refl
+joined_names (app ∷ apps) [] = refl
+joined_names (app ∷ apps) (named ∷ needs) = ap (λ (names : List (List ℕ)). app_name app ∷ names) (joined_names apps needs)
+
+pub graded_names : (apps : List AppSpec) (ranks : List ℕ) → map app_name (with_ranks apps ranks) ≡ map app_name apps
+graded_names [] ranks = refl
+graded_names (app ∷ apps) [] = refl
+graded_names (app ∷ apps) (rank ∷ ranks) = ap (λ (names : List (List ℕ)). app_name app ∷ names) (graded_names apps ranks)
 
 -- an application with its rank, and where both come from
 record Graded (apps : List AppSpec) (ranks : List ℕ) (a : ℕ) (whole : AppSpec) : Type 0 where

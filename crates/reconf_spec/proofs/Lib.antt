@@ -18,3 +18,4 @@ pub mod SpecBack
 pub mod TextLengths
 pub mod TextSizes
 pub mod Spelled
+pub mod Found

@@ -1,10 +1,10 @@
 -- Lists of values are read back element by element.
 use Rattle.std.proofs.Common.{◌≡◌, ◌≤◌, ◌<◌, ◌+◌, ℕ, suc, Bool, true, false, List, [], ◌∷◌, ◌++◌, length, map, arith, refl, ap, ◌∙◌, sym, subst, append_assoc, append-nil}
-use Rattle.std.specs.Prelude.{Result, Ok, Err, Some, ℤ, ◌≤ℤ◌, int_le, nat_le, nat_lt, codes}
+use Rattle.std.specs.Prelude.{Result, Ok, Some, ℤ, ◌≤ℤ◌, int_le}
 use Rattle.std.proofs.lemmas.Bool.{le-leb, lt-ltb}
 use lib.Dec.{T}
 use Rattle.std.proofs.lemmas.List.{map-append}
-use Rattle.serde_json.specs.Data.{Data, Items, array}
+use Rattle.serde_json.specs.Data.{Data, Items}
 use Rattle.serde_json.specs.Events.{items_len}
 use Rattle.serde_json.specs.View.{items_of}
 use Rattle.scram_doc.specs.declared.fault.DocFault.{DocFault}

@@ -1,6 +1,6 @@
 -- Ranks are the lengths of the longest chains of needs, and a cycle has chains of any length.
-use Rattle.std.proofs.Common.{◌≡◌, ◌<◌, ◌≤◌, ◌+◌, ℕ, zero, suc, min, max, Bool, true, false, List, [], ◌∷◌, length, map, arith, refl, sym, ap, subst, ◌&&◌, ◌∙◌}
-use Rattle.std.specs.Prelude.{Option, Some, None, slice_get, slice_index, nat_lt, All}
+use Rattle.std.proofs.Common.{◌≡◌, ◌<◌, ◌≤◌, ℕ, zero, suc, min, Bool, true, false, List, [], ◌∷◌, length, map, arith, refl, sym, ap, subst, ◌&&◌, ◌∙◌}
+use Rattle.std.specs.Prelude.{Some, None, slice_get, slice_index, nat_lt, All}
 use Rattle.std.specs.List.{list_all}
 use Rattle.std.proofs.lemmas.Bool.Decides.{nat_tests}
 use Rattle.std.proofs.lemmas.List.Elements.{All-nil, All-cons, All-head, All-tail}

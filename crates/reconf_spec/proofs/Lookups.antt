@@ -1,13 +1,12 @@
 -- What stands in a list is found by its name, and what is new is not.
-use Rattle.std.proofs.Common.{◌≡◌, ◌+◌, ◌<◌, ◌≤◌, ℕ, zero, suc, Bool, true, false, cond, List, [], ◌∷◌, ◌++◌, length, map, take, arith, refl, sym, ap, subst, ◌∙◌}
-use Rattle.std.specs.Prelude.{Option, Some, None, slice_get, Result, Ok}
+use Rattle.std.proofs.Common.{◌≡◌, ◌+◌, ◌<◌, ℕ, zero, suc, Bool, true, false, cond, List, [], ◌∷◌, ◌++◌, length, take, arith, refl, sym, ap, subst, ◌∙◌}
+use Rattle.std.specs.Prelude.{Option, Some, None, slice_get}
 use Rattle.std.specs.Bool.{Decides}
 use Rattle.std.specs.Str.{bytes_eq}
 use Rattle.std.proofs.Math.Seq.{take-append_seam}
 use Rattle.std.proofs.lemmas.Slice.Eq.{bytes_eq-Decides}
-use Rattle.serde_json.specs.Data.{string}
 use Rattle.scram_types.specs.Specification.{NamesDiffer}
-use Rattle.reconf_spec.specs.Names.{found, found_from, named_at}
+use Rattle.reconf_spec.specs.Names.{found_from}
 use Rattle.reconf_spec.specs.Facts.{AllAfter}
 use Rattle.reconf_spec.specs.Texts.{name_of_item}
 

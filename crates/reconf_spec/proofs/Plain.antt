@@ -1,7 +1,7 @@
 -- A specification's value has no float and is not deep.
 use Rattle.std.proofs.Common.{◌≡◌, ◌≤◌, ℕ, suc, Bool, true, false, cond, List, [], ◌∷◌, map, arith, refl, ap, ◌∙◌}
 use Rattle.std.specs.Prelude.{Option, Some, None, ℤ, pos, negsuc}
-use Rattle.serde_json.specs.Data.{Data, Items, depth, item, items_depth, no_items, string}
+use Rattle.serde_json.specs.Data.{Data, depth, items_depth, string}
 use Rattle.serde_json.specs.Find.{is_float, of_integer}
 use Rattle.serde_json.specs.Read.{max_depth, read}
 use Rattle.serde_json.specs.View.{items_of}
@@ -19,7 +19,7 @@ use Rattle.scram_types.specs.declared.specification.Precondition.{Precondition}
 use Rattle.scram_types.specs.declared.specification.Proc.{Proc}
 use Rattle.scram_types.specs.Specification.{Parts}
 use Rattle.reconf_spec.specs.Choices.{has_proc}
-use Rattle.reconf_spec.specs.Texts.{app_data, bound_data, choice_data, conf_data, data_by, factor_data, first_data, goal_data, invariant_data, mode_data, need_data, places_data, precondition_data, proc_data, second_data, spec_data, up_data, want_data}
+use Rattle.reconf_spec.specs.Texts.{app_data, bound_data, choice_data, conf_data, data_by, factor_data, goal_data, invariant_data, mode_data, need_data, places_data, precondition_data, proc_data, spec_data, up_data, want_data}
 
 no_float : {A : Type 0} → (f : A → Data) → ((a : A) → has_float (f a) ≡ false) → (xs : List A) → items_have_float (items_of (map f xs)) ≡ false
 no_float f h [] = refl

@@ -1,12 +1,12 @@
 -- Rules, bounds and intervals are read back as they were written.
-use Rattle.std.proofs.Common.{◌≡◌, ◌≤◌, ◌<◌, ◌+◌, ◌^◌, ◌%◌, ℕ, zero, suc, Bool, true, false, cond, List, [], ◌∷◌, ◌++◌, length, map, arith, refl, ap, ◌∙◌, sym, subst}
-use Rattle.std.specs.Prelude.{Option, Some, None, IfSome, Result, Ok, ℤ, pos, negsuc, ◌≤ℤ◌, int_le, codes, slice_get, is_some, nat_lt}
+use Rattle.std.proofs.Common.{◌≡◌, ◌≤◌, ◌<◌, ◌^◌, ◌%◌, ℕ, suc, Bool, true, false, cond, List, [], ◌∷◌, length, arith, refl, ◌∙◌, sym, subst}
+use Rattle.std.specs.Prelude.{Option, Some, None, Ok, ℤ, pos, negsuc, ◌≤ℤ◌, codes, slice_get, is_some}
 use Rattle.std.specs.Str.{bytes_eq}
 use Rattle.std.proofs.lemmas.Bool.{lt-ltb}
 use Rattle.std.proofs.lemmas.Int.{ints}
 use Rattle.std.proofs.lemmas.Option.{slice_get_within}
 use Rattle.std.proofs.lemmas.Slice.Eq.{bytes_eq-Decides}
-use Rattle.serde_json.specs.Data.{Data, Items, array, string}
+use Rattle.serde_json.specs.Data.{Data, array, string}
 use Rattle.serde_json.specs.Events.{items_len}
 use Rattle.serde_json.specs.Find.{as_i64, of_integer}
 use Rattle.serde_json.specs.View.{items_of}
@@ -26,7 +26,7 @@ use Rattle.scram_types.specs.declared.specification.Proc.{Proc}
 use Rattle.scram_types.specs.declared.specification.Want.{Want}
 use Rattle.scram_types.specs.Names.{is_name}
 use Rattle.scram_types.specs.Numbers.{minus}
-use Rattle.scram_types.specs.Specification.{Each, IsAppSpec, IsBound, IsChoice, IsFactor, IsGoal, IsIn, IsInIfNamed, IsInterval, IsInvariant, IsPrecondition, IsSpec, IsWant, NamesDiffer, Parts, bound_in}
+use Rattle.scram_types.specs.Specification.{Each, IsBound, IsChoice, IsFactor, IsGoal, IsInIfNamed, IsInterval, IsInvariant, IsPrecondition, IsSpec, IsWant, NamesDiffer, Parts, bound_in}
 use Rattle.app_model.specs.Names.{number_of, variable_names}
 use Rattle.app_model.proofs.Spelling.{all_names_agree}
 use Rattle.reconf_spec.specs.Applications.{app_name}
@@ -37,9 +37,9 @@ use Rattle.reconf_spec.specs.Documents.{goal_at}
 use Rattle.reconf_spec.specs.Facts.{AllAfter, IsVariable}
 use Rattle.reconf_spec.specs.Factors.{factor_name, own_name}
 use Rattle.reconf_spec.specs.Intervals.{interval_at, invariant_at, invariants_at, precondition_at, preconditions_at}
-use Rattle.reconf_spec.specs.Lists.{elements_at, folded_from}
+use Rattle.reconf_spec.specs.Lists.{folded_from}
 use Rattle.reconf_spec.specs.Processors.{proc_name}
-use Rattle.reconf_spec.specs.Texts.{bound_data, choice_data, goal_data, integer_data, invariant_data, list_data, name_of_item, precondition_data, source_text, up_data, value_text, variable_of_kind, variable_text, want_data}
+use Rattle.reconf_spec.specs.Texts.{bound_data, choice_data, goal_data, integer_data, invariant_data, list_data, name_of_item, precondition_data, source_text, up_data, variable_of_kind, variable_text, want_data}
 use Rattle.reconf_spec.specs.Writable.{IsWritableInterval, lists_pair, lists_want}
 use Rattle.reconf_spec.proofs.Lookups.{number_back, some_item}
 use Rattle.reconf_spec.proofs.ListsBack.{int_is, list_back, whole_back, within_back}

@@ -1,12 +1,12 @@
 -- A set of processors is read back from the names of its members.
-use Rattle.std.proofs.Common.{◌≡◌, ◌≤◌, ◌<◌, ◌+◌, ◌*◌, ◌^◌, ◌/◌, ◌%◌, ◌==◌, ℕ, zero, suc, Bool, true, false, cond, List, [], ◌∷◌, ◌++◌, length, arith, refl, ap, ◌∙◌, sym, subst, append_assoc}
-use Rattle.std.specs.Prelude.{bit_or, Result, Ok, Some, codes}
+use Rattle.std.proofs.Common.{◌≡◌, ◌<◌, ◌+◌, ◌*◌, ◌^◌, ◌%◌, ℕ, zero, suc, false, List, [], ◌∷◌, ◌++◌, length, arith, refl, ap, ◌∙◌, sym, subst, append_assoc}
+use Rattle.std.specs.Prelude.{bit_or, Ok, Some}
 use Rattle.std.specs.Int.{bit_at}
 use Rattle.std.proofs.Math.Nat.{mod-eq_of_lt}
 use Rattle.std.proofs.lemmas.Nat.{mod-pow-add, or_comm, or_shifted}
 use Rattle.std.proofs.lemmas.Nat.Bits.{bit_at_above, bit_at-lt}
 use Rattle.std.proofs.lemmas.List.{length-append}
-use Rattle.serde_json.specs.Data.{Data, string}
+use Rattle.serde_json.specs.Data.{string}
 use Rattle.serde_json.specs.View.{items_of}
 use Rattle.scram_doc.specs.Paths.{item_path}
 use Rattle.scram_types.specs.declared.specification.Proc.{Proc}

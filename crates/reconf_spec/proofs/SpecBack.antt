@@ -1,39 +1,22 @@
 -- The value of a specification that can be written is read back to it.
-use Rattle.std.proofs.Common.{◌≡◌, ◌≤◌, ◌<◌, ℕ, Bool, true, List, [], ◌∷◌, length, map, arith, refl, ap, ◌∙◌, sym}
-use Rattle.std.specs.Prelude.{Result, Ok, Some, IsUtf8, codes, nat_le, ⊤}
+use Rattle.std.proofs.Common.{◌≡◌, ◌≤◌, ℕ, List, [], length, arith, refl}
+use Rattle.std.specs.Prelude.{Ok, Some, IsUtf8, codes}
 use Rattle.std.proofs.lemmas.Bool.{le-leb}
-use Rattle.serde_json.specs.Data.{Data}
 use Rattle.serde_json.specs.Read.{read}
-use Rattle.scram_doc.specs.declared.fault.DocFault.{DocFault}
 use Rattle.scram_doc.specs.Paths.{member_path}
 use Rattle.scram_doc.proofs.Parsed.{parsed-some}
-use Rattle.scram_types.specs.declared.flights.Goal.{Goal}
-use Rattle.scram_types.specs.declared.ids.ConfId.{ConfId}
-use Rattle.scram_types.specs.declared.specification.AppSpec.{AppSpec}
-use Rattle.scram_types.specs.declared.specification.Bound.{Bound}
-use Rattle.scram_types.specs.declared.specification.Choice.{Choice}
-use Rattle.scram_types.specs.declared.specification.Conf.{Conf}
-use Rattle.scram_types.specs.declared.specification.Factor.{Factor}
-use Rattle.scram_types.specs.declared.specification.Invariant.{Invariant}
 use Rattle.scram_types.specs.declared.specification.Policy.{Policy}
 use Rattle.scram_types.specs.declared.specification.Policy.TheVariants.{Retarget, Settle}
-use Rattle.scram_types.specs.declared.specification.Precondition.{Precondition}
-use Rattle.scram_types.specs.declared.specification.Proc.{Proc}
 use Rattle.scram_types.specs.Specification.{IsSpec, Parts}
 use Rattle.reconf_spec.specs.declared.documents.Assumption.{Assumption}
-use Rattle.reconf_spec.specs.Bounds.{bounds_at}
-use Rattle.reconf_spec.specs.Choices.{choices_at, conf_id_at}
-use Rattle.reconf_spec.specs.Configurations.{conf_name, confs_at}
-use Rattle.reconf_spec.specs.Documents.{Names, assumption_at, goal_at, names_in, policy_in, rest_in, spec_in, spec_of}
-use Rattle.reconf_spec.specs.Factors.{factors_at}
-use Rattle.reconf_spec.specs.Intervals.{invariants_at, preconditions_at}
-use Rattle.reconf_spec.specs.Needs.{apps_in, ranked_at, unranked_at}
-use Rattle.reconf_spec.specs.Processors.{procs_at}
-use Rattle.reconf_spec.specs.Texts.{app_data, assumption_data, bound_data, choice_data, conf_data, data_by, factor_data, first_data, goal_data, invariant_data, list_data, precondition_data, proc_data, second_data, spec_data, start_data}
+use Rattle.reconf_spec.specs.Choices.{conf_id_at}
+use Rattle.reconf_spec.specs.Configurations.{conf_name}
+use Rattle.reconf_spec.specs.Documents.{Names, assumption_at, names_in, rest_in, spec_in, spec_of}
+use Rattle.reconf_spec.specs.Texts.{assumption_data, data_by, spec_data, start_data}
 use Rattle.reconf_spec.specs.Writable.{IsWritable}
-use Rattle.reconf_spec.proofs.AppsBack.{procs_back, ranks_back, unranked, unranked_back}
+use Rattle.reconf_spec.proofs.AppsBack.{procs_back, ranks_back, unranked_back}
 use Rattle.reconf_spec.proofs.ConfsBack.{confs_back, factors_back}
-use Rattle.reconf_spec.proofs.ListsBack.{chained, whole_back}
+use Rattle.reconf_spec.proofs.ListsBack.{whole_back}
 use Rattle.reconf_spec.proofs.Lookups.{number_back}
 use Rattle.reconf_spec.proofs.RestBack.{bounds_back, choices_back, goal_back, invariants_back, preconditions_back}
 

@@ -1,29 +1,24 @@
 -- What the parts of a document keep makes a specification.
-use Rattle.std.proofs.Common.{◌≡◌, ◌<◌, ◌≤◌, ◌+◌, ℕ, ℤ, zero, suc, Bool, true, false, cond, List, [], ◌∷◌, length, arith, refl, ap, sym, subst, ◌∙◌}
-use Rattle.std.specs.Prelude.{Option, Some, None, is_some, slice_get, ◌≤ℤ◌, pos, ◌==◌, if◌then◌else◌}
+use Rattle.std.proofs.Common.{◌≡◌, ◌<◌, ◌≤◌, ◌+◌, ℕ, suc, Bool, true, false, cond, List, [], ◌∷◌, length, arith, ap, sym, subst}
+use Rattle.std.specs.Prelude.{Option, Some, None, is_some, slice_get, ◌==◌}
 use Rattle.std.proofs.lemmas.Int.{ints}
-use Rattle.scram_types.specs.declared.ids.ConfId.{ConfId}
-use Rattle.scram_types.specs.declared.flights.Goal.{Goal}
 use Rattle.scram_types.specs.declared.specification.Proc.{Proc}
 use Rattle.scram_types.specs.declared.specification.AppSpec.{AppSpec}
 use Rattle.scram_types.specs.declared.specification.Conf.{Conf}
 use Rattle.scram_types.specs.declared.specification.Factor.{Factor}
-use Rattle.scram_types.specs.declared.specification.Want.{Want}
 use Rattle.scram_types.specs.declared.specification.Choice.{Choice}
-use Rattle.scram_types.specs.declared.specification.Bound.{Bound}
 use Rattle.scram_types.specs.declared.specification.Invariant.{Invariant}
 use Rattle.scram_types.specs.declared.specification.Precondition.{Precondition}
-use Rattle.scram_types.specs.Specification.{Parts, IsSpec, IsProc, IsConf, IsFactor, IsChoice, IsBound, IsGoal, IsInterval, IsInvariant, IsPrecondition, IsIn, HasLength}
-use Rattle.app_model.specs.Names.{variable_names, number_of, number_from, is_spelled}
+use Rattle.scram_types.specs.Specification.{Parts, IsSpec, IsProc, IsConf, IsFactor, IsChoice, IsBound, IsGoal, IsInvariant, IsPrecondition, IsIn}
+use Rattle.app_model.specs.Names.{variable_names, number_from, is_spelled}
 use Rattle.reconf_spec.specs.Processors.{proc_name}
 use Rattle.reconf_spec.specs.Configurations.{conf_name}
 use Rattle.reconf_spec.specs.Factors.{factor_name, own_name}
-use Rattle.reconf_spec.specs.Facts.{AllAfter, IsNewProc, IsNewConf, IsNewFactor, IsNewName, IsNewWant, FitsChoice, IsNewBound, FitsInvariant, FitsPrecondition, FitsInterval, IsVariable}
-use Rattle.reconf_spec.specs.Documents.{Names}
-use Rattle.scram_types.specs.declared.specification.Policy.{Policy}
+use Rattle.reconf_spec.specs.Facts.{AllAfter, IsNewProc, IsNewConf, IsNewFactor, IsNewWant, FitsChoice, IsNewBound, FitsInvariant, FitsPrecondition, IsVariable}
+use Rattle.reconf_spec.specs.Documents.{Names, with_rest}
 use Rattle.reconf_spec.specs.Writable.{IsWritable}
-use Rattle.reconf_spec.specs.Kept.{IsNamed, FitsAssumption}
-use Rattle.reconf_spec.specs.declared.documents.Assumption.{Assumption}
+use Rattle.reconf_spec.specs.Kept.{IsNamed, FitsAssumption, FitsRest}
+use Rattle.reconf_spec.specs.declared.documents.Rest.{Rest}
 use Rattle.reconf_spec.proofs.Distinct.{each_of, new_differ}
 
 found_below : (b : Bool) (k m : ℕ) (n : ℕ) (o : Option ℕ) → k < m → (o ≡ Some n → n < m) → cond b (Some k) o ≡ Some n → n < m
@@ -131,40 +126,13 @@ spec_fits spec named few_rules rules few_bounds bounds start goal few_invariants
   window_most = assumed.window_most;
 }
 
-abbrev pub parts : Names → List Choice → List Bound → ConfId → Goal → List Invariant → List Precondition → Policy → Assumption → Parts
-parts names rules bounds start goal invariants preconditions policy assumed = record {
-  procs = names.procs;
-  apps = names.apps;
-  confs = names.confs;
-  factors = names.factors;
-  rules = rules;
-  bounds = bounds;
-  start = start;
-  goal = goal;
-  invariants = invariants;
-  preconditions = preconditions;
-  policy = policy;
-  halts = assumed.halts;
-  changes = assumed.changes;
-  window = assumed.window;
-}
-
 -- the same, for what was read by names that are those of the specification
-pub rest_fits : (names own : Names) → names ≡ own
-    → (rules : List Choice) (bounds : List Bound) (start : ConfId) (goal : Goal) (invariants : List Invariant) (preconditions : List Precondition) (policy : Policy) (assumed : Assumption)
-    → IsNamed own.procs own.apps own.confs own.factors
-    → length rules ≤ 64 → AllAfter (λ _. FitsChoice names.procs names.confs names.factors) rules
-    → length bounds ≤ 144 → AllAfter (IsNewBound names.confs) bounds
-    → IsIn names.confs start → IsGoal goal
-    → length invariants ≤ 64 → AllAfter (λ _. FitsInvariant names.apps names.confs) invariants
-    → length preconditions ≤ 64 → AllAfter (λ _. FitsPrecondition names.apps names.confs) preconditions
-    → FitsAssumption assumed
-    → IsSpec (parts own rules bounds start goal invariants preconditions policy assumed)
-rest_fits names own same rules bounds start goal invariants preconditions policy assumed named few_rules r few_bounds b s g few_invariants i few_preconditions p a =
-    subst (λ (z : Names). IsSpec (parts z rules bounds start goal invariants preconditions policy assumed)) same
-    (spec_fits (parts names rules bounds start goal invariants preconditions policy assumed)
-    (subst (λ (z : Names). IsNamed z.procs z.apps z.confs z.factors) (sym same) named)
-    few_rules r few_bounds b s g few_invariants i few_preconditions p a)
+pub joined_fits : (names own : Names) (rest : Rest) → names ≡ own → IsNamed own.procs own.apps own.confs own.factors → FitsRest names.procs names.apps names.confs names.factors rest
+    → IsSpec (with_rest own rest)
+joined_fits names own rest same named fits =
+    subst (λ (z : Names). IsSpec (with_rest z rest)) same
+    (spec_fits (with_rest names rest) (subst (λ (z : Names). IsNamed z.procs z.apps z.confs z.factors) (sym same) named)
+    fits.few_rules fits.rules fits.few_bounds fits.bounds fits.start fits.goal fits.few_invariants fits.invariants fits.few_preconditions fits.preconditions fits.assumed)
 
 spec_writable : (spec : Parts) → IsNamed spec.procs spec.apps spec.confs spec.factors
     → AllAfter (λ _. FitsChoice spec.procs spec.confs spec.factors) spec.rules
@@ -181,15 +149,9 @@ spec_writable spec named rules bounds invariants preconditions = record {
   preconditions = λ i x e. record { named = (preconditions i x e).interval.is_variable; in_order = (preconditions i x e).interval.ends_fit.in_order };
 }
 
-pub rest_writable : (names own : Names) → names ≡ own
-    → (rules : List Choice) (bounds : List Bound) (start : ConfId) (goal : Goal) (invariants : List Invariant) (preconditions : List Precondition) (policy : Policy) (assumed : Assumption)
-    → IsNamed own.procs own.apps own.confs own.factors
-    → AllAfter (λ _. FitsChoice names.procs names.confs names.factors) rules
-    → AllAfter (IsNewBound names.confs) bounds
-    → AllAfter (λ _. FitsInvariant names.apps names.confs) invariants
-    → AllAfter (λ _. FitsPrecondition names.apps names.confs) preconditions
-    → IsWritable (parts own rules bounds start goal invariants preconditions policy assumed)
-rest_writable names own same rules bounds start goal invariants preconditions policy assumed named r b i p =
-    subst (λ (z : Names). IsWritable (parts z rules bounds start goal invariants preconditions policy assumed)) same
-    (spec_writable (parts names rules bounds start goal invariants preconditions policy assumed)
-    (subst (λ (z : Names). IsNamed z.procs z.apps z.confs z.factors) (sym same) named) r b i p)
+pub joined_writable : (names own : Names) (rest : Rest) → names ≡ own → IsNamed own.procs own.apps own.confs own.factors → FitsRest names.procs names.apps names.confs names.factors rest
+    → IsWritable (with_rest own rest)
+joined_writable names own rest same named fits =
+    subst (λ (z : Names). IsWritable (with_rest z rest)) same
+    (spec_writable (with_rest names rest) (subst (λ (z : Names). IsNamed z.procs z.apps z.confs z.factors) (sym same) named)
+    fits.rules fits.bounds fits.invariants fits.preconditions)

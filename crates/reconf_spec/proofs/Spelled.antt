@@ -1,6 +1,6 @@
 -- What is read as a name is spelled as one.
-use Rattle.std.proofs.Common.{◌≡◌, ℕ, Bool, true, false, cond, List, refl, sym, subst}
-use Rattle.std.specs.Prelude.{Option, Some, None}
+use Rattle.std.proofs.Common.{◌≡◌, ℕ, Bool, true, false, cond, List, refl, subst}
+use Rattle.std.specs.Prelude.{Some, None}
 use Rattle.scram_types.specs.Names.{is_name, name_of}
 
 same_text : (x y : List ℕ) → Some x ≡ Some y → x ≡ y

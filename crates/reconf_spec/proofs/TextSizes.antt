@@ -1,10 +1,9 @@
 -- The canonical text of a specification has at most 1,048,576 bytes.
-use Rattle.std.proofs.Common.{◌≡◌, ◌+◌, ◌*◌, ◌≤◌, ◌<◌, ℕ, zero, suc, Bool, true, false, cond, List, [], ◌∷◌, length, map, arith, refl, subst, sym}
-use Rattle.std.specs.Prelude.{Option, Some, None, ℤ, pos, ◌≤ℤ◌, codes, slice_get}
+use Rattle.std.proofs.Common.{◌≡◌, ◌+◌, ◌*◌, ◌≤◌, ℕ, zero, suc, Bool, true, false, cond, List, [], ◌∷◌, length, map, arith, refl}
+use Rattle.std.specs.Prelude.{Option, Some, None, slice_get}
 use Rattle.std.proofs.lemmas.Int.{ints}
 use Rattle.serde_json.specs.Data.{Data, string}
 use Rattle.serde_json.specs.View.{items_of}
-use Rattle.serde_json.specs.Written.{compact_text}
 use Rattle.scram_types.specs.declared.ids.AppId.{AppId}
 use Rattle.scram_types.specs.declared.ids.ConfId.{ConfId}
 use Rattle.scram_types.specs.declared.flights.Goal.{Goal}
@@ -28,7 +27,7 @@ use Rattle.reconf_spec.specs.Choices.{has_proc}
 use Rattle.reconf_spec.specs.Configurations.{conf_name}
 use Rattle.reconf_spec.specs.Factors.{factor_name, own_name}
 use Rattle.reconf_spec.specs.Processors.{proc_name}
-use Rattle.reconf_spec.specs.Texts.{app_data, assumption_data, bound_data, choice_data, conf_data, data_by, factor_data, goal_data, invariant_data, list_data, mode_data, name_of_item, need_data, place_data, places_data, precondition_data, proc_data, source_text, spec_data, spec_text, start_data, up_data, value_text, want_data}
+use Rattle.reconf_spec.specs.Texts.{app_data, assumption_data, bound_data, choice_data, conf_data, data_by, factor_data, goal_data, invariant_data, mode_data, name_of_item, need_data, place_data, places_data, precondition_data, proc_data, source_text, spec_data, spec_text, up_data, value_text, want_data}
 use Rattle.reconf_spec.proofs.TextLengths.{app_mode_short, count_short, integer_short, item_short, items_weight, kind_short, list_weight, mode_short, name_short, no_longer, text_short, variable_short, weight}
 
 proc_short : (proc : Proc) → IsProc proc → is_name proc.name ≡ true → weight (proc_data proc) ≤ 200

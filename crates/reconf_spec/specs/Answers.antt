@@ -1,5 +1,5 @@
 -- What an answer says of a reading.
-use Rattle.std.specs.Prelude.{◌≡◌, ℕ, List, [], map, Option, Some, option_map, slice_get, Result, Ok, Err, ⊤, Bool, true, false}
+use Rattle.std.specs.Prelude.{◌≡◌, ℕ, List, [], map, Some, option_map, slice_get, Result, Ok, Err, ⊤, Bool, true, false}
 use Rattle.scram_types.specs.declared.ids.AppId.{AppId}
 use Rattle.scram_types.specs.declared.specification.AppSpec.{AppSpec}
 use Rattle.scram_doc.specs.declared.fault.DocFault.{DocFault}

@@ -1,8 +1,6 @@
 -- How the applications are read, before the names of their needs are looked up.
-use Rattle.std.specs.Prelude.{ℕ, List, [], ◌∷◌, ◌++◌, codes, is_some, Result, Ok, ⊤, if◌then◌else◌}
+use Rattle.std.specs.Prelude.{ℕ, List, [], codes, is_some, Result, Ok, ⊤, if◌then◌else◌}
 use Rattle.serde_json.specs.Data.{Data, Items}
-use Rattle.scram_types.specs.declared.ids.Mode.{Mode}
-use Rattle.scram_types.specs.declared.ids.KindId.{KindId}
 use Rattle.scram_types.specs.declared.specification.ModeSpec.{ModeSpec}
 use Rattle.scram_types.specs.declared.specification.AppSpec.{AppSpec}
 use Rattle.scram_types.specs.Specification.{mode_in}

@@ -1,6 +1,5 @@
 -- What specification some bytes are: the first broken rule with its path, or the specification.
-use Rattle.std.specs.Prelude.{ℕ, ℤ, pos, ◌==◌, Bool, true, false, List, [], ◌∷◌, codes, Option, Some, None, nat_le, option_and_then, Result, Ok, length, ⊤, if◌then◌else◌}
-use Rattle.std.specs.Option.{option_map_or}
+use Rattle.std.specs.Prelude.{ℕ, ℤ, pos, ◌==◌, Bool, false, List, [], ◌∷◌, codes, Option, Some, None, nat_le, option_and_then, Result, Ok, length, ⊤, if◌then◌else◌}
 use Rattle.std.specs.Str.{bytes_eq}
 use Rattle.serde_json.specs.Data.{Data}
 use Rattle.serde_json.specs.Find.{get, as_number, as_u64}
@@ -18,13 +17,14 @@ use Rattle.scram_types.specs.declared.specification.Policy.{Policy}
 use Rattle.scram_types.specs.declared.specification.Policy.TheVariants.{Retarget, Settle}
 use Rattle.scram_types.specs.Specification.{Parts}
 use Rattle.scram_doc.specs.declared.fault.DocFault.{DocFault}
-use Rattle.scram_doc.specs.Chain.{chain, ok_map}
+use Rattle.scram_doc.specs.Chain.{chain}
 use Rattle.scram_doc.specs.Faults.{broken}
 use Rattle.scram_doc.specs.Documents.{parsed}
 use Rattle.scram_doc.specs.Paths.{member_path}
 use Rattle.scram_doc.specs.Members.{object_at, needed, no_more_than}
 use Rattle.scram_doc.specs.Values.{text_at, int_at, whole_at}
 use Rattle.reconf_spec.specs.declared.documents.Assumption.{Assumption}
+use Rattle.reconf_spec.specs.declared.documents.Rest.{Rest}
 use Rattle.reconf_spec.specs.declared.rule.TheConstants.{UNKNOWN_VERSION, TOO_LONG, UNKNOWN_POLICY}
 use Rattle.reconf_spec.specs.Members.{members_at, member_in}
 use Rattle.reconf_spec.specs.Processors.{procs_at}
@@ -104,14 +104,37 @@ pub record Names : Type 0 where
   pub confs : List Conf
   pub factors : List Factor
 
+-- the configurations and factors, once the processors and applications are known
+abbrev pub names_with : List Proc → List AppSpec → Data → Result Names DocFault
+names_with procs apps d =
+    chain (member_in (codes "configurations") (confs_at procs apps) d) (λ (confs : List Conf).
+    chain (member_in (codes "factors") factors_at d) (λ (factors : List Factor).
+    Ok (record { procs = procs; apps = apps; confs = confs; factors = factors })))
+
 abbrev pub names_in : Data → Result Names DocFault
 names_in d =
     chain (member_in (codes "scram") version_at d) (λ (_ : ⊤).
     chain (member_in (codes "processors") procs_at d) (λ (procs : List Proc).
-    chain (apps_in d) (λ (apps : List AppSpec).
-    chain (member_in (codes "configurations") (confs_at procs apps) d) (λ (confs : List Conf).
-    chain (member_in (codes "factors") factors_at d) (λ (factors : List Factor).
-    Ok (record { procs = procs; apps = apps; confs = confs; factors = factors }))))))
+    chain (apps_in d) (λ (apps : List AppSpec). names_with procs apps d)))
+
+-- the specification of these names and of what stands behind them
+abbrev pub with_rest : Names → Rest → Parts
+with_rest names rest = record {
+  procs = names.procs;
+  apps = names.apps;
+  confs = names.confs;
+  factors = names.factors;
+  rules = rest.rules;
+  bounds = rest.bounds;
+  start = rest.start;
+  goal = rest.goal;
+  invariants = rest.invariants;
+  preconditions = rest.preconditions;
+  policy = rest.policy;
+  halts = rest.assumed.halts;
+  changes = rest.assumed.changes;
+  window = rest.assumed.window;
+}
 
 -- the specification, once the names are known
 abbrev pub rest_in : Names → Data → Result Parts DocFault

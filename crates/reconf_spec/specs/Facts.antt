@@ -1,5 +1,5 @@
 -- What the elements of the lists keep that are read.
-use Rattle.std.specs.Prelude.{◌≡◌, ◌<◌, ◌≤◌, ◌≤ℤ◌, ◌^◌, ℕ, ℤ, pos, Bool, false, List, [], take, length, set, slice_get, Option, Some, None, IsSome, IsTrue, option_and_then}
+use Rattle.std.specs.Prelude.{◌≡◌, ◌<◌, ◌≤◌, ◌≤ℤ◌, ◌^◌, ℕ, ℤ, pos, false, List, take, length, set, slice_get, Option, Some, None, IsSome, IsTrue, option_and_then}
 use Rattle.scram_types.specs.declared.ids.AppId.{AppId}
 use Rattle.scram_types.specs.declared.specification.Proc.{Proc}
 use Rattle.scram_types.specs.declared.specification.ModeSpec.{ModeSpec}
@@ -12,7 +12,7 @@ use Rattle.scram_types.specs.declared.specification.Choice.{Choice}
 use Rattle.scram_types.specs.declared.specification.Bound.{Bound}
 use Rattle.scram_types.specs.declared.specification.Invariant.{Invariant}
 use Rattle.scram_types.specs.declared.specification.Precondition.{Precondition}
-use Rattle.scram_types.specs.Specification.{IsProc, IsModeSpec, IsPlace, IsConf, IsFactor, IsWant, IsBound, IsInvariant, IsPrecondition, IsIn, IsInIfNamed, HasLength, mode_in, bound_in}
+use Rattle.scram_types.specs.Specification.{IsProc, IsModeSpec, IsPlace, IsWant, IsBound, IsIn, IsInIfNamed, HasLength, mode_in, bound_in}
 use Rattle.scram_types.specs.Names.{is_name}
 use Rattle.scram_types.specs.Numbers.{minus}
 use Rattle.app_model.specs.Names.{variable_names, number_of}

@@ -1,15 +1,16 @@
 -- What the processors, applications, configurations and factors of a document keep.
-use Rattle.std.specs.Prelude.{◌≤◌, List, map}
+use Rattle.std.specs.Prelude.{◌≤◌, List, length, map}
 use Rattle.scram_types.specs.declared.specification.Proc.{Proc}
 use Rattle.scram_types.specs.declared.specification.AppSpec.{AppSpec}
 use Rattle.scram_types.specs.declared.specification.Conf.{Conf}
 use Rattle.scram_types.specs.declared.specification.Factor.{Factor}
-use Rattle.scram_types.specs.Specification.{AreSpelled, HasLength, Each, NamesDiffer, IsAppSpec}
+use Rattle.scram_types.specs.Specification.{AreSpelled, HasLength, Each, NamesDiffer, IsAppSpec, IsGoal, IsIn}
 use Rattle.dep_order.specs.Ranks.{IsRanking}
 use Rattle.reconf_spec.specs.declared.documents.Assumption.{Assumption}
+use Rattle.reconf_spec.specs.declared.documents.Rest.{Rest}
 use Rattle.reconf_spec.specs.Applications.{app_name}
 use Rattle.reconf_spec.specs.Writable.{IsWritableApp, rank_of}
-use Rattle.reconf_spec.specs.Facts.{AllAfter, IsNewProc, IsNewConf, IsNewFactor, FewValues}
+use Rattle.reconf_spec.specs.Facts.{AllAfter, IsNewProc, IsNewConf, IsNewFactor, FewValues, FitsChoice, IsNewBound, FitsInvariant, FitsPrecondition}
 
 pub record AreApps (apps : List AppSpec) : Type 0 where
   pub count : HasLength 1 8 apps
@@ -34,3 +35,17 @@ pub record FitsAssumption (assumed : Assumption) : Type 0 where
   pub changes : assumed.changes ≤ 16
   pub window_least : 1 ≤ assumed.window
   pub window_most : assumed.window ≤ 1000
+
+-- What a document says behind its names.
+pub record FitsRest (procs : List Proc) (apps : List AppSpec) (confs : List Conf) (factors : List Factor) (rest : Rest) : Type 0 where
+  pub few_rules : length rest.rules ≤ 64
+  pub rules : AllAfter (λ _. FitsChoice procs confs factors) rest.rules
+  pub few_bounds : length rest.bounds ≤ 144
+  pub bounds : AllAfter (IsNewBound confs) rest.bounds
+  pub start : IsIn confs rest.start
+  pub goal : IsGoal rest.goal
+  pub few_invariants : length rest.invariants ≤ 64
+  pub invariants : AllAfter (λ _. FitsInvariant apps confs) rest.invariants
+  pub few_preconditions : length rest.preconditions ≤ 64
+  pub preconditions : AllAfter (λ _. FitsPrecondition apps confs) rest.preconditions
+  pub assumed : FitsAssumption rest.assumed

@@ -1,5 +1,5 @@
 -- How the needs of applications are read and ranked, once every application is known.
-use Rattle.std.specs.Prelude.{◌≡◌, ℕ, zero, suc, ◌==◌, Bool, List, [], ◌∷◌, ◌++◌, codes, map, nat_lt, slice_get, Result, Ok, if◌then◌else◌}
+use Rattle.std.specs.Prelude.{ℕ, zero, suc, ◌==◌, Bool, List, [], ◌∷◌, codes, map, nat_lt, Result, Ok, if◌then◌else◌}
 use Rattle.std.specs.List.{list_all, list_any}
 use Rattle.serde_json.specs.Data.{Data, Items}
 use Rattle.scram_types.specs.declared.ids.AppId.{AppId}

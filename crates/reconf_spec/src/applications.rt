@@ -12,6 +12,7 @@ ghost use Rattle.reconf_spec.specs.Facts.{AllAfter, IsListed, IsNewMode, IsNewAp
 
 use crate::elements::{Elements, read_list};
 use crate::names::read_new_name;
+use crate::numbered::{NamedElements, Numbered};
 use crate::rule;
 use app_model::{kind_named, mode_named};
 use scram_doc::{DocError, DocFault, Path, list, need, no_more, object, text, whole_in};
@@ -146,7 +147,12 @@ fn check_text_list(v: &Value, at: &Path) -> Result<(), DocFault>
     check_texts(list(v, 0, 8, at)?, at)
 }
 
-fn read_app(alloc: Global, done: &[AppSpec], v: &Value, at: &Path) -> Result<AppSpec, DocError>
+fn read_app(
+    alloc: Global,
+    done: &Numbered<AppSpec>,
+    v: &Value,
+    at: &Path,
+) -> Result<AppSpec, DocError>
     requires room { length at.now ≤ 24 }
     ensures value { Answers (app_at at.now done.now (view v.now)) (λ app. app) result }
     ensures fits { IfOk result (λ app. IsNewApp done.now app) }
@@ -173,17 +179,19 @@ fn read_app(alloc: Global, done: &[AppSpec], v: &Value, at: &Path) -> Result<App
 /// Applications, without their needs and their ranks.
 pub(crate) struct Apps;
 
-impl Elements<AppSpec> for Apps {
+impl NamedElements<AppSpec> for Apps {
     ghost room = { 24 };
 
     ghost reading = { λ _. app_at };
 
     ghost Fits = { λ _. IsNewApp };
 
+    ghost is_new = { λ e done x fits. fits.name.new };
+
     fn read(
         &self,
         alloc: Global,
-        done: &[AppSpec],
+        done: &Numbered<AppSpec>,
         v: &Value,
         at: &Path,
     ) -> Result<AppSpec, DocError> {

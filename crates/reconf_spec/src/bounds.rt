@@ -11,6 +11,7 @@ ghost use Rattle.reconf_spec.specs.Facts.{AllAfter, IsNewBound};
 use crate::choices::read_conf_id;
 use crate::elements::{Elements, read_list};
 use crate::named::Named;
+use crate::numbered::Numbered;
 use crate::rule;
 use scram_doc::{DocError, DocFault, Path, need, no_more, object, whole_in};
 use scram_types::limits::{MAX_BOUND, MAX_BOUNDS};
@@ -30,7 +31,7 @@ fn is_bounded(bounds: &[Bound], from: ConfId, to: ConfId) -> bool
 }
 
 fn read_new_target(
-    confs: &[Conf],
+    confs: &Numbered<Conf>,
     done: &[Bound],
     from: ConfId,
     v: &Value,
@@ -59,7 +60,7 @@ fn read_bound(named: &Named, done: &[Bound], v: &Value, at: &Path) -> Result<Bou
     let to = need(v, "to", at)?;
     let frames = need(v, "frames", at)?;
     no_more(v, 3, at)?;
-    let confs = named.confs.items();
+    let confs = &named.confs;
     let from = read_conf_id(confs, from, &at.member("from"))?;
     let to = read_new_target(confs, done, from, to, &at.member("to"))?;
     let frames = whole_in(frames, 1, MAX_BOUND + 1, &at.member("frames"))?;

@@ -1,9 +1,8 @@
 //! Rules of the choice table.
 
 ghost use Rattle.std.specs.Prelude.{◌≡◌, ◌≤◌, ◌<◌, ◌^◌, false, [], codes, length, slice_get, IfOk};
-ghost use Rattle.std.specs.Option.{option_copied};
 ghost use Rattle.serde_json.specs.View.{view, items_view};
-ghost use Rattle.scram_types.specs.Specification.{IsIn, IsInIfNamed, IsWant};
+ghost use Rattle.scram_types.specs.Specification.{IsIn, IsInIfNamed};
 ghost use Rattle.scram_doc.specs.Chain.{ok_map};
 ghost use Rattle.scram_doc.specs.Faults.{Answers};
 ghost use Rattle.reconf_spec.specs.Lists.{elements_at, folded_from};
@@ -12,17 +11,19 @@ ghost use Rattle.reconf_spec.specs.Members.{member_in};
 ghost use Rattle.reconf_spec.specs.Facts.{AllAfter, IsNewWant, FitsChoice, FewValues, HasValue};
 
 use crate::elements::{Elements, read_list};
+use crate::factors::NumberedFactor;
 use crate::named::Named;
 use crate::names::read_named;
+use crate::numbered::Numbered;
 use crate::rule;
 use scram_doc::{DocError, DocFault, Path, list, need, no_more, object, text};
 use scram_types::limits::{MAX_PROCESSORS, MAX_RULES};
-use scram_types::{Choice, Conf, ConfId, Factor, FactorId, List, Proc, Want};
+use scram_types::{Choice, Conf, ConfId, FactorId, List, Proc, Want};
 use serde_json::Value;
 use std::alloc::Global;
 
 /// The configuration that the value names.
-pub(crate) fn read_conf_id(confs: &[Conf], v: &Value, at: &Path) -> Result<ConfId, DocFault>
+pub(crate) fn read_conf_id(confs: &Numbered<Conf>, v: &Value, at: &Path) -> Result<ConfId, DocFault>
     requires few { length confs.now ≤ 12 }
     ensures value { result ≡ conf_id_at confs.now at.now (view v.now) }
     ensures there { IfOk result (λ c. IsIn confs.now c) }
@@ -31,7 +32,11 @@ pub(crate) fn read_conf_id(confs: &[Conf], v: &Value, at: &Path) -> Result<ConfI
 }
 
 /// The configuration that the value names, or `None` where it is `*`.
-pub(crate) fn read_source(confs: &[Conf], v: &Value, at: &Path) -> Result<Option<ConfId>, DocFault>
+pub(crate) fn read_source(
+    confs: &Numbered<Conf>,
+    v: &Value,
+    at: &Path,
+) -> Result<Option<ConfId>, DocFault>
     requires few { length confs.now ≤ 12 }
     ensures value { result ≡ source_at confs.now at.now (view v.now) }
     ensures there { IfOk result (λ c. IsInIfNamed confs.now c) }
@@ -50,7 +55,7 @@ fn wants_factor(wants: &[Want], factor: FactorId) -> bool
 }
 
 fn read_new_factor(
-    factors: &[Factor],
+    factors: &Numbered<NumberedFactor>,
     done: &[Want],
     v: &Value,
     at: &Path,
@@ -68,13 +73,18 @@ fn read_new_factor(
     }
 }
 
-fn read_value_of(factors: &[Factor], factor: FactorId, v: &Value, at: &Path) -> Result<u8, DocFault>
+fn read_value_of(
+    factors: &Numbered<NumberedFactor>,
+    factor: FactorId,
+    v: &Value,
+    at: &Path,
+) -> Result<u8, DocFault>
     requires few { FewValues factors.now }
     ensures value { result ≡ value_of_at (slice_get factors.now factor.0) at.now (view v.now) }
     ensures there { IfOk result (λ value. HasValue (slice_get factors.now factor.0) value) }
 {
-    match factors.get(usize::from(factor.0)) {
-        Some(found) => { read_named(found.values.items(), rule::UNKNOWN_FACTOR_OR_VALUE, v, at) }
+    match factors.items().get(usize::from(factor.0)) {
+        Some(found) => read_named(&found.values, rule::UNKNOWN_FACTOR_OR_VALUE, v, at),
         None => Err(DocFault::new(rule::UNKNOWN_FACTOR_OR_VALUE, at)),
     }
 }
@@ -88,7 +98,7 @@ fn read_want(named: &Named, done: &[Want], v: &Value, at: &Path) -> Result<Want,
     let factor = need(v, "factor", at)?;
     let value = need(v, "value", at)?;
     no_more(v, 2, at)?;
-    let factors = named.factors.items();
+    let factors = &named.factors;
     let factor = read_new_factor(factors, done, factor, &at.member("factor"))?;
     let value = read_value_of(factors, factor, value, &at.member("value"))?;
     Ok(Want { factor, value })
@@ -119,7 +129,7 @@ pub(crate) fn is_in_set(set: u8, proc: u8) -> bool
 }
 
 /// The set with the processor that the value names.
-fn read_up(procs: &[Proc], set: u8, v: &Value, at: &Path) -> Result<u8, DocFault>
+fn read_up(procs: &Numbered<Proc>, set: u8, v: &Value, at: &Path) -> Result<u8, DocFault>
     requires few { length procs.now ≤ 8 }
     requires set { set < 2 ^ length procs.now }
     ensures value { result ≡ up_after procs.now at.now set (view v.now) }
@@ -133,7 +143,7 @@ fn read_up(procs: &[Proc], set: u8, v: &Value, at: &Path) -> Result<u8, DocFault
     }
 }
 
-fn read_ups(procs: &[Proc], items: &[Value], at: &Path) -> Result<u8, DocFault>
+fn read_ups(procs: &Numbered<Proc>, items: &[Value], at: &Path) -> Result<u8, DocFault>
     requires room { length at.now ≤ 40 }
     requires few_items { length items.now ≤ 8 }
     requires few { length procs.now ≤ 8 }
@@ -147,7 +157,7 @@ fn read_ups(procs: &[Proc], items: &[Value], at: &Path) -> Result<u8, DocFault>
     Ok(set)
 }
 
-fn read_up_list(procs: &[Proc], v: &Value, at: &Path) -> Result<u8, DocFault>
+fn read_up_list(procs: &Numbered<Proc>, v: &Value, at: &Path) -> Result<u8, DocFault>
     requires room { length at.now ≤ 40 }
     requires few { length procs.now ≤ 8 }
     ensures value { result ≡ up_at procs.now at.now (view v.now) }
@@ -176,10 +186,10 @@ fn read_choice(alloc: Global, named: &Named, v: &Value, at: &Path) -> Result<Cho
     let up = need(v, "up", at).map_err(DocError::Fault)?;
     let to = need(v, "to", at).map_err(DocError::Fault)?;
     no_more(v, 4, at).map_err(DocError::Fault)?;
-    let confs = named.confs.items();
+    let confs = &named.confs;
     let from = read_source(confs, from, &at.member("from")).map_err(DocError::Fault)?;
     let wants = read_wants(alloc, named, wants, &at.member("when"))?;
-    let procs = named.procs.items();
+    let procs = &named.procs;
     let up = read_up_list(procs, up, &at.member("up")).map_err(DocError::Fault)?;
     let to = read_conf_id(confs, to, &at.member("to")).map_err(DocError::Fault)?;
     Ok(Choice {

@@ -1,23 +1,22 @@
 //! Configurations and the places of applications in them.
 
-ghost use Rattle.std.specs.Prelude.{◌≡◌, ◌≤◌, ◌<◌, None, codes, length, is_some, replicate, slice_get, IfOk};
+ghost use Rattle.std.specs.Prelude.{◌≡◌, ◌≤◌, ◌<◌, None, codes, length, replicate, IfOk};
 ghost use Rattle.std.specs.Option.{option_copied};
 ghost use Rattle.serde_json.specs.View.{view, items_view};
-ghost use Rattle.scram_types.specs.Specification.{mode_in, IsPlace};
 ghost use Rattle.scram_doc.specs.Chain.{ok_map};
 ghost use Rattle.scram_doc.specs.Faults.{Answers};
 ghost use Rattle.reconf_spec.specs.Lists.{folded_from};
-ghost use Rattle.reconf_spec.specs.Configurations.{is_placed, unplaced_at, listed_mode_at, places_after, places_at, conf_at, confs_at};
+ghost use Rattle.reconf_spec.specs.Configurations.{is_placed, unplaced_at, listed_mode_at, places_after, conf_at, confs_at};
 ghost use Rattle.reconf_spec.specs.Members.{member_in};
 ghost use Rattle.reconf_spec.specs.Facts.{AllAfter, ListsMode, IsPlacedAfter, ArePlaces, IsNewConf};
 
 use crate::applications::read_kind_mode;
-use crate::elements::{Elements, read_list};
 use crate::names::{read_named, read_new_name};
+use crate::numbered::{NamedElements, Numbered, read_named_list};
 use crate::rule;
 use scram_doc::{DocError, DocFault, Path, list, need, no_more, object};
 use scram_types::limits::{MAX_APPLICATIONS, MAX_CONFIGURATIONS};
-use scram_types::{AppId, AppSpec, Conf, List, Mode, Place, Proc, ProcId};
+use scram_types::{AppId, AppSpec, Conf, Mode, Place, Proc, ProcId};
 use serde_json::Value;
 use std::alloc::Global;
 
@@ -32,7 +31,12 @@ fn has_place(places: &Places, app: AppId) -> bool
     }
 }
 
-fn read_unplaced(apps: &[AppSpec], places: &Places, v: &Value, at: &Path) -> Result<AppId, DocFault>
+fn read_unplaced(
+    apps: &Numbered<AppSpec>,
+    places: &Places,
+    v: &Value,
+    at: &Path,
+) -> Result<AppId, DocFault>
     requires few { length apps.now ≤ 8 }
     ensures value { ok_map (λ app. app.0) result ≡ unplaced_at apps.now places.now at.now (view v.now) }
     ensures there { IfOk result (λ app. app.0 < length apps.now) }
@@ -61,8 +65,8 @@ fn read_listed_mode(app: Option<&AppSpec>, v: &Value, at: &Path) -> Result<Mode,
 
 /// The places with the one that the value adds.
 fn read_place(
-    procs: &[Proc],
-    apps: &[AppSpec],
+    procs: &Numbered<Proc>,
+    apps: &Numbered<AppSpec>,
     places: Places,
     v: &Value,
     at: &Path,
@@ -79,7 +83,11 @@ fn read_place(
     let on = need(v, "on", at)?;
     no_more(v, 3, at)?;
     let app = read_unplaced(apps, &places, app, &at.member("app"))?;
-    let mode = read_listed_mode(apps.get(usize::from(app.0)), mode, &at.member("mode"))?;
+    let mode = read_listed_mode(
+        apps.items().get(usize::from(app.0)),
+        mode,
+        &at.member("mode"),
+    )?;
     let proc = ProcId(read_named(procs, rule::UNKNOWN_PROCESSOR, on, &at.member("on"))?);
     let mut places = places;
     places[usize::from(app.0)] = Some(Place { mode, proc });
@@ -87,8 +95,8 @@ fn read_place(
 }
 
 fn read_places(
-    procs: &[Proc],
-    apps: &[AppSpec],
+    procs: &Numbered<Proc>,
+    apps: &Numbered<AppSpec>,
     items: &[Value],
     at: &Path,
 ) -> Result<Places, DocFault>
@@ -107,9 +115,9 @@ fn read_places(
 }
 
 fn read_conf(
-    procs: &[Proc],
-    apps: &[AppSpec],
-    done: &[Conf],
+    procs: &Numbered<Proc>,
+    apps: &Numbered<AppSpec>,
+    done: &Numbered<Conf>,
     v: &Value,
     at: &Path,
 ) -> Result<Conf, DocFault>
@@ -131,21 +139,29 @@ fn read_conf(
 
 #[derive(Clone, Copy)]
 struct Confs<'a> {
-    procs: &'a [Proc],
-    apps: &'a [AppSpec],
+    procs: &'a Numbered<Proc>,
+    apps: &'a Numbered<AppSpec>,
 
     ghost few_procs: { length procs.now ≤ 8 },
     ghost few_apps: { length apps.now ≤ 8 },
 }
 
-impl Elements<Conf> for Confs<'_> {
+impl NamedElements<Conf> for Confs<'_> {
     ghost room = { 24 };
 
     ghost reading = { λ confs. conf_at confs.procs.now confs.apps.now };
 
     ghost Fits = { λ confs. IsNewConf confs.procs.now confs.apps.now };
 
-    fn read(&self, _alloc: Global, done: &[Conf], v: &Value, at: &Path) -> Result<Conf, DocError> {
+    ghost is_new = { λ e done x fits. fits.name.new };
+
+    fn read(
+        &self,
+        _alloc: Global,
+        done: &Numbered<Conf>,
+        v: &Value,
+        at: &Path,
+    ) -> Result<Conf, DocError> {
         read_conf(self.procs, self.apps, done, v, at).map_err(DocError::Fault)
     }
 }
@@ -153,10 +169,10 @@ impl Elements<Conf> for Confs<'_> {
 /// The configurations of a document, 1 to 12 of them.
 pub(crate) fn read_confs(
     alloc: Global,
-    procs: &[Proc],
-    apps: &[AppSpec],
+    procs: &Numbered<Proc>,
+    apps: &Numbered<AppSpec>,
     document: &Value,
-) -> Result<List<Conf>, DocError>
+) -> Result<Numbered<Conf>, DocError>
     requires procs { length procs.now ≤ 8 }
     requires apps { length apps.now ≤ 8 }
     ensures value { Answers (member_in (codes "configurations") (confs_at procs.now apps.now) (view document.now)) (λ l. l) result }
@@ -167,7 +183,7 @@ pub(crate) fn read_confs(
     let root = Path::root();
     let confs = need(document, "configurations", &root).map_err(DocError::Fault)?;
     let at = root.member("configurations");
-    read_list(
+    read_named_list(
         alloc,
         &Confs { procs, apps },
         confs,

@@ -1,18 +1,18 @@
 //! Whole documents.
 
-ghost use Rattle.std.specs.Prelude.{◌≡◌, ◌≤◌, [], All, codes, length, map, IfOk, IfErr};
+ghost use Rattle.std.specs.Prelude.{◌≡◌, ◌≤◌, [], All, codes, length, map, IfOk};
 ghost use Rattle.serde_json.specs.View.{view};
 ghost use Rattle.scram_types.specs.Specification.{IsGoal, IsIn};
 ghost use Rattle.reconf_spec.specs.Choices.{conf_id_at};
-ghost use Rattle.reconf_spec.specs.Kept.{FitsAssumption};
+ghost use Rattle.reconf_spec.specs.Kept.{FitsAssumption, FitsRest};
 ghost use Rattle.reconf_spec.specs.Writable.{IsWritable};
-ghost use Rattle.scram_doc.specs.Chain.{ok_map};
 ghost use Rattle.scram_doc.specs.Faults.{Answers};
 ghost use Rattle.reconf_spec.specs.Members.{has_members, members_at, member_in};
-ghost use Rattle.reconf_spec.specs.Documents.{goal_at, assumption_at, policy_at, policy_in, policy_named, version_at, is_second, members_of, names_in, rest_in, spec_in, spec_of};
+ghost use Rattle.reconf_spec.specs.Documents.{goal_at, assumption_at, policy_at, policy_in, version_at, is_second, members_of, rest_in, with_rest};
 
 use crate::bounds::read_bounds;
 use crate::choices::{read_choices, read_conf_id};
+use crate::factors::plain_factors;
 use crate::intervals::{read_invariants, read_preconditions};
 use crate::named::Named;
 use crate::rule;
@@ -20,7 +20,9 @@ use scram_doc::{DocError, DocFault, Path, field, int_in, need, no_more, object, 
 use scram_types::limits::{
     MAX_ALTITUDE, MAX_ASSUMED_CHANGES, MAX_ASSUMED_HALTS, MAX_HEADING, MAX_WINDOW,
 };
-use scram_types::{ConfId, Goal, Policy, Spec};
+use scram_types::{
+    Bound, Choice, ConfId, Goal, Invariant, List, NoMemory, Policy, Precondition, Spec,
+};
 use serde_json::Value;
 use std::alloc::Global;
 
@@ -179,7 +181,7 @@ fn read_start(named: &Named, document: &Value) -> Result<ConfId, DocFault>
 {
     let root = Path::root();
     let start = need(document, "start", &root)?;
-    read_conf_id(named.confs.items(), start, &root.member("start"))
+    read_conf_id(&named.confs, start, &root.member("start"))
 }
 
 fn read_goal_of(document: &Value) -> Result<Goal, DocFault>
@@ -212,33 +214,76 @@ fn read_policy_of(document: &Value) -> Result<Policy, DocFault>
     }
 }
 
-/// The specification, once the names are known.
-pub(crate) fn read_rest(alloc: Global, named: Named, document: &Value) -> Result<Spec, DocError>
-    ensures value { Answers (rest_in named (view document.now)) (λ spec. spec) result }
-    ensures writable { IfOk result IsWritable }
+/// What a document says behind its names.
+#[derive(Drop)]
+struct Rest {
+    rules: List<Choice>,
+    bounds: List<Bound>,
+    start: ConfId,
+    goal: Goal,
+    invariants: List<Invariant>,
+    preconditions: List<Precondition>,
+    assumed: Assumption,
+    policy: Policy,
+}
+
+fn read_behind_names(alloc: Global, named: &Named, document: &Value) -> Result<Rest, DocError>
+    ensures value { Answers (rest_in named.now (view document.now)) (with_rest named.now) result }
+    ensures fits { IfOk result (FitsRest named.now.procs named.now.apps named.now.confs named.now.factors) }
 {
-    let rules = read_choices(alloc, &named, document)?;
-    let bounds = read_bounds(alloc, &named, document)?;
-    let start = read_start(&named, document).map_err(DocError::Fault)?;
+    let rules = read_choices(alloc, named, document)?;
+    let bounds = read_bounds(alloc, named, document)?;
+    let start = read_start(named, document).map_err(DocError::Fault)?;
     let goal = read_goal_of(document).map_err(DocError::Fault)?;
-    let invariants = read_invariants(alloc, &named, document)?;
-    let preconditions = read_preconditions(alloc, &named, document)?;
+    let invariants = read_invariants(alloc, named, document)?;
+    let preconditions = read_preconditions(alloc, named, document)?;
     let assumed = read_assumption_of(document).map_err(DocError::Fault)?;
     let policy = read_policy_of(document).map_err(DocError::Fault)?;
-    Ok(Spec {
-        procs: named.procs,
-        apps: named.apps,
-        confs: named.confs,
-        factors: named.factors,
+    Ok(Rest {
         rules,
         bounds,
         start,
         goal,
         invariants,
         preconditions,
+        assumed,
         policy,
-        halts: assumed.halts,
-        changes: assumed.changes,
-        window: assumed.window,
     })
+}
+
+/// The specification of these names and of what stands behind them.
+fn join(alloc: Global, named: Named, rest: Rest) -> Result<Spec, NoMemory>
+    requires fits { FitsRest named.procs named.apps named.confs named.factors rest }
+    ensures value { IfOk result (λ spec. spec ≡ with_rest named rest) }
+    ensures writable { IfOk result IsWritable }
+{
+    let factors = plain_factors(alloc, named.factors)?;
+    Ok(Spec {
+        procs: named.procs.into_list(),
+        apps: named.apps.into_list(),
+        confs: named.confs.into_list(),
+        factors,
+        rules: rest.rules,
+        bounds: rest.bounds,
+        start: rest.start,
+        goal: rest.goal,
+        invariants: rest.invariants,
+        preconditions: rest.preconditions,
+        policy: rest.policy,
+        halts: rest.assumed.halts,
+        changes: rest.assumed.changes,
+        window: rest.assumed.window,
+    })
+}
+
+/// The specification, once the names are known.
+pub(crate) fn read_rest(alloc: Global, named: Named, document: &Value) -> Result<Spec, DocError>
+    ensures value { Answers (rest_in named (view document.now)) (λ spec. spec) result }
+    ensures writable { IfOk result IsWritable }
+{
+    let rest = read_behind_names(alloc, &named, document)?;
+    match join(alloc, named, rest) {
+        Ok(spec) => Ok(spec),
+        Err(_) => Err(DocError::NoMemory),
+    }
 }

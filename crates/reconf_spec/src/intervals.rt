@@ -3,8 +3,6 @@
 ghost use Rattle.std.specs.Prelude.{◌≡◌, ◌≤◌, ◌≤ℤ◌, ◌<◌, pos, [], codes, length, slice_get, IfOk};
 ghost use Rattle.serde_json.specs.View.{view};
 ghost use Rattle.scram_types.specs.Numbers.{minus};
-ghost use Rattle.scram_types.specs.Specification.{IsInterval};
-ghost use Rattle.scram_doc.specs.Chain.{ok_map};
 ghost use Rattle.scram_doc.specs.Faults.{Answers};
 ghost use Rattle.reconf_spec.specs.Intervals.{app_id_at, variable_at, end_at, ends_at, interval_at, invariant_at, invariants_at, precondition_at, preconditions_at};
 ghost use Rattle.reconf_spec.specs.Members.{member_in};
@@ -14,6 +12,7 @@ use crate::choices::{read_conf_id, read_source};
 use crate::elements::{Elements, read_list};
 use crate::named::Named;
 use crate::names::read_named;
+use crate::numbered::Numbered;
 use crate::rule;
 use app_model::variable_named;
 use scram_doc::{DocError, DocFault, Path, int_in, need, no_more, object, text};
@@ -22,7 +21,7 @@ use scram_types::{AppId, AppSpec, Invariant, List, Precondition};
 use serde_json::Value;
 use std::alloc::Global;
 
-fn read_app_id(apps: &[AppSpec], v: &Value, at: &Path) -> Result<AppId, DocFault>
+fn read_app_id(apps: &Numbered<AppSpec>, v: &Value, at: &Path) -> Result<AppId, DocFault>
     requires few { length apps.now ≤ 8 }
     ensures value { result ≡ app_id_at apps.now at.now (view v.now) }
     ensures there { IfOk result (λ app. app.0 < length apps.now) }
@@ -84,7 +83,7 @@ struct Interval {
 
 /// The interval of the object at this path, by its members.
 fn read_interval(
-    apps: &[AppSpec],
+    apps: &Numbered<AppSpec>,
     app: &Value,
     variable: &Value,
     least: &Value,
@@ -97,7 +96,7 @@ fn read_interval(
     ensures fits { IfOk result (λ i. FitsInterval apps.now i) }
 {
     let app = read_app_id(apps, app, &at.member("app"))?;
-    let variable = read_variable(apps, app, variable, &at.member("variable"))?;
+    let variable = read_variable(apps.items(), app, variable, &at.member("variable"))?;
     let ends = read_ends(least, greatest, at)?;
     Ok(Interval {
         app,
@@ -118,8 +117,8 @@ fn read_invariant(named: &Named, v: &Value, at: &Path) -> Result<Invariant, DocF
     let least = need(v, "least", at)?;
     let greatest = need(v, "greatest", at)?;
     no_more(v, 5, at)?;
-    let from = read_source(named.confs.items(), from, &at.member("from"))?;
-    let apps = named.apps.items();
+    let from = read_source(&named.confs, from, &at.member("from"))?;
+    let apps = &named.apps;
     let interval = read_interval(apps, app, variable, least, greatest, at)?;
     Ok(Invariant {
         from,
@@ -142,8 +141,8 @@ fn read_precondition(named: &Named, v: &Value, at: &Path) -> Result<Precondition
     let least = need(v, "least", at)?;
     let greatest = need(v, "greatest", at)?;
     no_more(v, 5, at)?;
-    let conf = read_conf_id(named.confs.items(), conf, &at.member("configuration"))?;
-    let apps = named.apps.items();
+    let conf = read_conf_id(&named.confs, conf, &at.member("configuration"))?;
+    let apps = &named.apps;
     let interval = read_interval(apps, app, variable, least, greatest, at)?;
     Ok(Precondition {
         conf,

@@ -14,6 +14,7 @@ mod intervals;
 mod named;
 mod names;
 mod needs;
+mod numbered;
 mod processors;
 mod reading;
 pub mod rule;

@@ -1,15 +1,17 @@
 //! What the rest of a document names.
 
-use scram_types::{AppSpec, Conf, Factor, List, Proc};
+use crate::factors::NumberedFactor;
+use crate::numbered::Numbered;
+use scram_types::{AppSpec, Conf, Proc};
 use std::marker::Model;
 
 /// Processors, applications, configurations and factors as they were read.
 #[derive(Drop)]
 pub(crate) struct Named {
-    pub(crate) procs: List<Proc>,
-    pub(crate) apps: List<AppSpec>,
-    pub(crate) confs: List<Conf>,
-    pub(crate) factors: List<Factor>,
+    pub(crate) procs: Numbered<Proc>,
+    pub(crate) apps: Numbered<AppSpec>,
+    pub(crate) confs: Numbered<Conf>,
+    pub(crate) factors: Numbered<NumberedFactor>,
 }
 
 impl Model for Named {

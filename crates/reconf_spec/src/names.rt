@@ -1,15 +1,16 @@
 //! Names, and what they name.
 
-ghost use Rattle.std.specs.Prelude.{◌≡◌, ◌<◌, ◌≤◌, None, length, is_some, IfSome, IfOk, IsTrue};
+ghost use Rattle.std.specs.Prelude.{◌≡◌, ◌<◌, ◌≤◌, length, IfOk, IsTrue};
 ghost use Rattle.serde_json.specs.View.{view};
 ghost use Rattle.scram_types.specs.Names.{is_name};
-ghost use Rattle.reconf_spec.specs.Names.{found, name_at, new_name_at, named_at};
+ghost use Rattle.reconf_spec.specs.Names.{name_at, new_name_at, named_at};
 ghost use Rattle.reconf_spec.specs.Facts.{IsFresh};
 ghost use Rattle.reconf_spec.specs.Processors.{proc_name};
 ghost use Rattle.reconf_spec.specs.Applications.{app_name};
 ghost use Rattle.reconf_spec.specs.Configurations.{conf_name};
 ghost use Rattle.reconf_spec.specs.Factors.{factor_name, own_name};
 
+use crate::numbered::Numbered;
 use crate::rule;
 use scram_doc::{DocFault, Path, text};
 use scram_types::{AppSpec, Conf, Factor, Name, Proc};
@@ -66,18 +67,6 @@ impl Named for Name {
     }
 }
 
-fn find<T: Named>(items: &[T], text: &str) -> Option<usize>
-    ensures number { result ≡ found T.spelling items.now text.now }
-    ensures below { IfSome result (λ number. number < length items.now) }
-{
-    for (i, item) in items.iter().enumerate() {
-        if item.name().as_str() == text {
-            return Some(i);
-        }
-    }
-    None
-}
-
 /// The name that the value is.
 #[tactic(auto, using(crate::proofs::Spelled::name_spelled))]
 fn read_name(v: &Value, at: &Path) -> Result<Name, DocFault>
@@ -91,12 +80,16 @@ fn read_name(v: &Value, at: &Path) -> Result<Name, DocFault>
 }
 
 /// The name that the value is, if no item has it yet.
-pub(crate) fn read_new_name<T: Named>(items: &[T], v: &Value, at: &Path) -> Result<Name, DocFault>
-    ensures value { result ≡ new_name_at T.spelling items.now at.now (view v.now) }
-    ensures fresh { IfOk result (λ name. IsFresh T.spelling items.now name) }
+pub(crate) fn read_new_name<T: Named>(
+    done: &Numbered<T>,
+    v: &Value,
+    at: &Path,
+) -> Result<Name, DocFault>
+    ensures value { result ≡ new_name_at T.spelling done.now at.now (view v.now) }
+    ensures fresh { IfOk result (λ name. IsFresh T.spelling done.now name) }
 {
     let name = read_name(v, at)?;
-    match find(items, name.as_str()) {
+    match done.number(name.as_str()) {
         Some(_) => Err(DocFault::new(rule::NAME_TWICE, at)),
         None => Ok(name),
     }
@@ -104,7 +97,7 @@ pub(crate) fn read_new_name<T: Named>(items: &[T], v: &Value, at: &Path) -> Resu
 
 /// The number of the item that the value names, or else the rule is broken.
 pub(crate) fn read_named<T: Named>(
-    items: &[T],
+    items: &Numbered<T>,
     unknown: u8,
     v: &Value,
     at: &Path,
@@ -113,7 +106,7 @@ pub(crate) fn read_named<T: Named>(
     ensures value { result ≡ named_at T.spelling items.now unknown at.now (view v.now) }
     ensures below { IfOk result (λ number. number < length items.now) }
 {
-    match find(items, text(v, at)?) {
+    match items.number(text(v, at)?) {
         Some(number) => Ok(number as u8),
         None => Err(DocFault::new(unknown, at)),
     }

@@ -1,16 +1,14 @@
 //! What applications need.
 
-ghost use Rattle.std.specs.Prelude.{◌≡◌, ◌≤◌, ◌<◌, ◌+◌, ℕ, [], false, length, All, Ok, Some, codes, option_map, slice_get, IfErr, IfOk, OnOk, true};
-ghost use Rattle.serde_json.specs.View.{view, items_view};
+ghost use Rattle.std.specs.Prelude.{◌≡◌, ◌≤◌, ◌<◌, ℕ, [], length, All, Ok, Some, codes, option_map, slice_get, IfErr, IfOk, OnOk, true};
+ghost use Rattle.serde_json.specs.View.{view};
 ghost use Rattle.scram_types.specs.declared.ids.AppId.{AppId};
 ghost use Rattle.scram_types.specs.Specification.{Each};
-ghost use Rattle.scram_doc.specs.Chain.{ok_map};
 ghost use Rattle.scram_doc.specs.Faults.{Answers};
-ghost use Rattle.reconf_spec.specs.Lists.{elements_from, elements_at};
 ghost use Rattle.reconf_spec.specs.Members.{member_in};
 ghost use Rattle.reconf_spec.specs.Applications.{app_name};
 ghost use Rattle.reconf_spec.specs.Needs.{apps_in, are_ranked, has_app, need_at, needs_at, with_needs, with_ranks, ranked_at, unranked_at};
-ghost use Rattle.reconf_spec.specs.Facts.{AllAfter, IsNewNeed, AreNeeds};
+ghost use Rattle.reconf_spec.specs.Facts.{IsNewNeed, AreNeeds};
 ghost use Rattle.dep_order.specs.Ranks.{IsCycle, IsRanking, RanksFall};
 ghost use Rattle.reconf_spec.specs.Answers.{AreNamed, Tells, ShowsCycle, CycleAmong};
 ghost use Rattle.reconf_spec.specs.Kept.{AreApps};
@@ -19,6 +17,7 @@ ghost use Rattle.reconf_spec.specs.Unranked.{AreUnranked};
 use crate::applications::Apps;
 use crate::elements::{Elements, read_items, read_list};
 use crate::names::read_named;
+use crate::numbered::{Numbered, read_named_items};
 use crate::{SpecError, SpecFault, rule};
 use arrayvec::ArrayVec;
 use dep_order::{Cycle, rank};
@@ -34,7 +33,12 @@ fn is_needed(needs: &[AppId], app: AppId) -> bool
     needs.iter().any(|needed| needed.0 == app.0)
 }
 
-fn read_need(apps: &[AppSpec], done: &[AppId], v: &Value, at: &Path) -> Result<AppId, DocFault>
+fn read_need(
+    apps: &Numbered<AppSpec>,
+    done: &[AppId],
+    v: &Value,
+    at: &Path,
+) -> Result<AppId, DocFault>
     requires few { length apps.now ≤ 8 }
     ensures value { result ≡ need_at apps.now at.now done.now (view v.now) }
     ensures fits { IfOk result (λ need. IsNewNeed apps.now done.now need) }
@@ -50,7 +54,7 @@ fn read_need(apps: &[AppSpec], done: &[AppId], v: &Value, at: &Path) -> Result<A
 /// Needs, among these applications.
 #[derive(Clone, Copy)]
 struct Needs<'a> {
-    apps: &'a [AppSpec],
+    apps: &'a Numbered<AppSpec>,
 
     ghost few: { length apps.now ≤ 8 },
 }
@@ -75,7 +79,7 @@ impl Elements<AppId> for Needs<'_> {
 
 fn read_needs(
     alloc: Global,
-    apps: &[AppSpec],
+    apps: &Numbered<AppSpec>,
     v: &Value,
     at: &Path,
 ) -> Result<List<AppId>, DocError>
@@ -130,18 +134,18 @@ fn set_ranks(apps: &mut [AppSpec], ranks: ArrayVec<u8, 8>)
 }
 
 /// The applications with their needs, not ranked yet.
-fn read_unranked(alloc: Global, v: &Value, at: &Path) -> Result<Vec<AppSpec>, DocError>
+fn read_unranked(alloc: Global, v: &Value, at: &Path) -> Result<Numbered<AppSpec>, DocError>
     requires room { length at.now ≤ 18 }
-    ensures value { Answers (unranked_at at.now (view v.now)) (λ apps. apps.items) result }
-    ensures fits { IfOk result (λ apps. AreUnranked apps.items) }
+    ensures value { Answers (unranked_at at.now (view v.now)) (λ apps. apps) result }
+    ensures fits { IfOk result (λ apps. AreUnranked apps) }
 {
     let items = list(v, 1, MAX_APPLICATIONS, at).map_err(DocError::Fault)?;
-    let apps: List<AppSpec> = read_items(alloc, &Apps, items, at)?;
-    let known = Needs { apps: apps.items() };
+    let apps: Numbered<AppSpec> = read_named_items(alloc, &Apps, items, at)?;
+    let known = Needs { apps: &apps };
     let needs: List<List<AppId>> = read_items(alloc, &known, items, at)?;
-    let mut apps = apps.into_items();
+    let (mut apps, numbers) = apps.into_parts();
     set_needs(&mut apps, needs.into_items());
-    Ok(apps)
+    Ok(Numbered::of(apps, numbers))
 }
 
 fn name_of(apps: &[AppSpec], app: AppId) -> Name
@@ -166,28 +170,28 @@ fn names_of(apps: &[AppSpec], listed: &[AppId]) -> ArrayVec<Name, 8>
 
 /// The applications with their ranks, or the cycle that keeps them from having any.
 fn finish_apps(
-    apps: Vec<AppSpec>,
+    apps: Numbered<AppSpec>,
     ranked: Result<ArrayVec<u8, 8>, Cycle>,
     at: &Path,
-) -> Result<List<AppSpec>, SpecError>
-    requires fits { AreUnranked apps.items }
-    requires ranks { IfOk ranked (λ ranks. IsRanking apps.items ranks.items) }
-    requires falls { IfOk ranked (λ ranks. RanksFall apps.items ranks.items) }
+) -> Result<Numbered<AppSpec>, SpecError>
+    requires fits { AreUnranked apps }
+    requires ranks { IfOk ranked (λ ranks. IsRanking apps ranks.items) }
+    requires falls { IfOk ranked (λ ranks. RanksFall apps ranks.items) }
     requires small { IfOk ranked (λ ranks. All (λ (rank : ℕ). rank < 8) ranks.items) }
-    requires cycle { IfErr ranked (λ cycle. IsCycle apps.items cycle.0.items) }
-    ensures value { Tells (ranked_at at.now apps.items) result }
-    ensures cycle { IfErr result (λ error. ShowsCycle (Ok apps.items) error) }
-    ensures no_cycle { OnOk result (are_ranked apps.items ≡ true) }
+    requires cycle { IfErr ranked (λ cycle. IsCycle apps cycle.0.items) }
+    ensures value { Tells (ranked_at at.now apps) result }
+    ensures cycle { IfErr result (λ error. ShowsCycle (Ok apps) error) }
+    ensures no_cycle { OnOk result (are_ranked apps ≡ true) }
     ensures fits { IfOk result (λ l. AreApps l) }
 {
     match ranked {
         Ok(ranks) => {
-            let mut apps = apps;
+            let (mut apps, numbers) = apps.into_parts();
             set_ranks(&mut apps, ranks);
-            Ok(List::of(apps))
+            Ok(Numbered::of(apps, numbers))
         }
         Err(cycle) => {
-            let names = names_of(&apps, &cycle.0);
+            let names = names_of(apps.items(), &cycle.0);
             Err(SpecError::Fault(SpecFault {
                 rule: rule::CYCLE_OF_NEEDS,
                 path: at.copy(),
@@ -198,9 +202,9 @@ fn finish_apps(
     }
 }
 
-fn read_unranked_of(alloc: Global, document: &Value) -> Result<Vec<AppSpec>, DocError>
-    ensures value { Answers (member_in (codes "apps") unranked_at (view document.now)) (λ apps. apps.items) result }
-    ensures fits { IfOk result (λ apps. AreUnranked apps.items) }
+fn read_unranked_of(alloc: Global, document: &Value) -> Result<Numbered<AppSpec>, DocError>
+    ensures value { Answers (member_in (codes "apps") unranked_at (view document.now)) (λ apps. apps) result }
+    ensures fits { IfOk result (λ apps. AreUnranked apps) }
 {
     let root = Path::root();
     let apps = need(document, "apps", &root).map_err(DocError::Fault)?;
@@ -208,7 +212,7 @@ fn read_unranked_of(alloc: Global, document: &Value) -> Result<Vec<AppSpec>, Doc
 }
 
 /// The applications of a document, 1 to 8 of them, ranked by what they need.
-pub(crate) fn read_apps(alloc: Global, document: &Value) -> Result<List<AppSpec>, SpecError>
+pub(crate) fn read_apps(alloc: Global, document: &Value) -> Result<Numbered<AppSpec>, SpecError>
     ensures value { Tells (apps_in (view document.now)) result }
     ensures cycle { IfErr result (λ error. ShowsCycle (member_in (codes "apps") unranked_at (view document.now)) error) }
     ensures no_cycle { OnOk result (CycleAmong (member_in (codes "apps") unranked_at (view document.now)) []) }
@@ -216,7 +220,7 @@ pub(crate) fn read_apps(alloc: Global, document: &Value) -> Result<List<AppSpec>
 {
     match read_unranked_of(alloc, document) {
         Ok(apps) => {
-            let ranked = rank(&apps);
+            let ranked = rank(apps.items());
             finish_apps(apps, ranked, &Path::root().member("apps"))
         }
         Err(error) => Err(SpecError::unread(error)),

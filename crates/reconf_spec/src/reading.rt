@@ -1,8 +1,12 @@
 //! Specifications, as they are read.
 
-ghost use Rattle.std.specs.Prelude.{◌≡◌, [], IfErr, IfOk, OnOk};
+ghost use Rattle.std.specs.Prelude.{[], IfErr, IfOk, OnOk};
 ghost use Rattle.serde_json.specs.View.{view};
-ghost use Rattle.reconf_spec.specs.Documents.{names_in, spec_in, spec_of, unranked_in, unranked_names_in, unranked_of};
+ghost use Rattle.scram_types.specs.Specification.{HasLength};
+ghost use Rattle.scram_doc.specs.Faults.{Answers};
+ghost use Rattle.reconf_spec.specs.Facts.{AllAfter, IsNewProc};
+ghost use Rattle.reconf_spec.specs.Kept.{AreApps};
+ghost use Rattle.reconf_spec.specs.Documents.{names_in, names_with, spec_in, spec_of, unranked_in, unranked_names_in, unranked_of};
 ghost use Rattle.reconf_spec.specs.Writable.{IsWritable};
 ghost use Rattle.reconf_spec.specs.Answers.{Tells, ShowsCycle, CycleAmong};
 
@@ -11,15 +15,38 @@ use crate::documents::{check_members, check_scram, read_rest};
 use crate::factors::read_factors;
 use crate::named::Named;
 use crate::needs::read_apps;
+use crate::numbered::Numbered;
 use crate::processors::read_procs;
 use crate::{SpecError, rule};
-use scram_doc::{DocFault, Path, parse};
-use scram_types::Spec;
+use scram_doc::{DocError, DocFault, Path, parse};
+use scram_types::{AppSpec, Proc, Spec};
 use serde_json::Value;
 use std::alloc::Global;
 
 /// The longest document, in bytes.
 const MAX_BYTES: usize = 1_048_576;
+
+/// The configurations and factors, beside the processors and applications.
+fn read_more_names(
+    alloc: Global,
+    procs: Numbered<Proc>,
+    apps: Numbered<AppSpec>,
+    document: &Value,
+) -> Result<Named, DocError>
+    requires procs_count { HasLength 1 8 procs }
+    requires procs_fit { AllAfter IsNewProc procs }
+    requires apps_fit { AreApps apps }
+    ensures { Answers (names_with procs apps (view document.now)) (λ n. n) result }
+{
+    let confs = read_confs(alloc, &procs, &apps, document)?;
+    let factors = read_factors(alloc, document)?;
+    Ok(Named {
+        procs,
+        apps,
+        confs,
+        factors,
+    })
+}
 
 fn read_names(alloc: Global, document: &Value) -> Result<Named, SpecError>
     ensures value { Tells (names_in (view document.now)) result }
@@ -29,16 +56,10 @@ fn read_names(alloc: Global, document: &Value) -> Result<Named, SpecError>
     check_scram(document).map_err(SpecError::broken)?;
     let procs = read_procs(alloc, document).map_err(SpecError::unread)?;
     let apps = read_apps(alloc, document)?;
-    let confs = read_confs(alloc, procs.items(), apps.items(), document).map_err(
-        SpecError::unread,
-    )?;
-    let factors = read_factors(alloc, document).map_err(SpecError::unread)?;
-    Ok(Named {
-        procs,
-        apps,
-        confs,
-        factors,
-    })
+    match read_more_names(alloc, procs, apps, document) {
+        Ok(named) => Ok(named),
+        Err(error) => Err(SpecError::unread(error)),
+    }
 }
 
 fn read_document(alloc: Global, document: &Value) -> Result<Spec, SpecError>

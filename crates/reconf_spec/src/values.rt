@@ -1,6 +1,6 @@
 //! The canonical values of lists and of what their items name.
 
-ghost use Rattle.std.specs.Prelude.{◌≡◌, ◌≤◌, length, map, IfOk};
+ghost use Rattle.std.specs.Prelude.{◌≡◌, map, IfOk};
 ghost use Rattle.serde_json.specs.View.{view};
 ghost use Rattle.reconf_spec.specs.Texts.{app_mode_text, kind_text, mode_text, name_of_item, source_text, variable_text};
 

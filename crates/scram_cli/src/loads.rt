@@ -1,7 +1,6 @@
 //! Reading the files that the words name.
 
 ghost use Rattle.std.specs.Prelude.{◌≡◌, ◌≤◌, IfSome};
-ghost use Rattle.fault_script.specs.Fits.{Fits};
 ghost use Rattle.scram_io.specs.Outside.{Rose, StaysSteady};
 ghost use Rattle.scram_cli.specs.Loads.{FitsWhereGot, IsCountedWhereGot, IsFailed, Loads, ReadsAsScript, ReadsAsSpec, ReadsAsTrace, RefusesAsScript, RefusesAsSpec, RefusesAsTrace};
 

@@ -1,5 +1,5 @@
 //! The writing side of the outside.
-ghost use Rattle.std.specs.Prelude.{◌≡◌, ◌<◌, ◌≤◌, ℕ, List, Option, OnOk, OnErr, IfSome};
+ghost use Rattle.std.specs.Prelude.{◌<◌, ◌≤◌, ℕ, List, Option, OnOk, OnErr, IfSome};
 ghost use Rattle.scram_io.specs.Outside.{Rose, TakesSurely, Took, TookPrefix, greatest_count};
 
 use thiserror::Error;

@@ -1,6 +1,6 @@
 //! Specifications: processors, applications, configurations, the choice table and the bounds.
 
-ghost use Rattle.std.specs.Prelude.{◌≡◌, option_map, slice_get};
+ghost use Rattle.std.specs.Prelude.{◌≡◌, slice_get};
 ghost use Rattle.std.specs.Option.{option_copied};
 ghost use Rattle.scram_types.specs.Specification.{greater_of};
 

@@ -1,5 +1,5 @@
 -- Worked examples: a mission that meets the theorem's premises, and traces that break each property.
-use Rattle.std.proofs.Common.{◌≡◌, refl, ℕ, List, [], ◌∷◌, pos}
+use Rattle.std.proofs.Common.{◌≡◌, ◌+◌, refl, ℕ, List, [], ◌∷◌, pos}
 use Rattle.std.specs.Prelude.{Option, Some, None, replicate}
 use Rattle.scram_types.specs.declared.ids.ConfId.{ConfId}
 use Rattle.scram_types.specs.declared.flights.Env.{Env}
@@ -30,10 +30,10 @@ mode m = record { mode = record { 0 = m }; load = 20; halt = 1; prepare = 1; ini
 
 -- a power monitor with two modes, and a configuration for each
 abbrev pub monitor : AppSpec
-monitor = record { name = 1 ∷ []; kind = record { 0 = 2 }; needs = []; modes = mode 1 ∷ mode 2 ∷ []; rank = 0 }
+monitor = record { name = 109 ∷ []; kind = record { 0 = 2 }; needs = []; modes = mode 1 ∷ mode 2 ∷ []; rank = 0 }
 
 abbrev pub placed : ℕ → Conf
-placed m = record { name = m ∷ []; places = Some (record { mode = record { 0 = m }; proc = record { 0 = 0 } }) ∷ replicate 7 None }
+placed m = record { name = (96 + m) ∷ []; places = Some (record { mode = record { 0 = m }; proc = record { 0 = 0 } }) ∷ replicate 7 None }
 
 abbrev pub bound : ℕ → ℕ → ℕ → Bound
 bound i j frames = record { from = conf_of i; to = conf_of j; frames = frames }
@@ -47,10 +47,10 @@ to_second = record { from = None; wants = []; up = 0; to = conf_of 1 }
 
 abbrev spec_of : List Bound → Policy → List Invariant → List Precondition → Parts
 spec_of bounds policy invariants preconditions = record {
-  procs = record { name = []; capacity = 100 } ∷ [];
+  procs = record { name = 112 ∷ []; capacity = 100 } ∷ [];
   apps = monitor ∷ [];
   confs = placed 1 ∷ placed 2 ∷ [];
-  factors = record { name = []; values = (1 ∷ []) ∷ (2 ∷ []) ∷ [] } ∷ [];
+  factors = record { name = 120 ∷ []; values = (97 ∷ []) ∷ (98 ∷ []) ∷ [] } ∷ [];
   rules = to_first ∷ to_second ∷ [];
   bounds = bounds;
   start = conf_of 0;

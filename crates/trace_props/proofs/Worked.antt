@@ -1,6 +1,6 @@
 -- A mission that meets the premises of the theorem: the environment changes in frame 3, and the second
 -- configuration runs from frame 6 on.
-use Rattle.std.proofs.Common.{rules, ◌≡◌, ℕ, zero, suc, ◌+◌, ◌<◌, ◌≤◌, List, [], ◌∷◌, refl, ap, arith, subst}
+use Rattle.std.proofs.Common.{rules, ◌≡◌, ℕ, true, zero, suc, ◌+◌, ◌<◌, ◌≤◌, List, [], ◌∷◌, refl, ap, arith, subst}
 use Rattle.std.specs.Prelude.{IsSome, Option, Some, None, option_and_then, replicate, slice_get, slice_index_or}
 use Rattle.std.proofs.lemmas.Option.{same_Some, slice_get_within}
 use Rattle.scram_types.specs.declared.scripts.Change.{Change}
@@ -9,8 +9,9 @@ use Rattle.scram_types.specs.declared.specification.Conf.{Conf}
 use Rattle.scram_types.specs.declared.specification.Factor.{Factor}
 use Rattle.scram_types.specs.declared.specification.Place.{Place}
 use Rattle.scram_types.specs.declared.specification.Proc.{Proc}
+use Rattle.scram_types.specs.Names.{is_name}
 use Rattle.scram_types.specs.Scripts.{ScriptParts}
-use Rattle.scram_types.specs.Specification.{Each, IsAppSpec, IsBound, IsChoice, IsConf, IsFactor, IsModeSpec, IsPlace, IsProc, IsSpec, IsWant, mode_in, place_in}
+use Rattle.scram_types.specs.Specification.{Each, HasValueNames, IsAppSpec, IsBound, IsChoice, IsConf, IsFactor, IsModeSpec, IsPlace, IsProc, IsSpec, IsWant, mode_in, place_in}
 use Rattle.fault_script.specs.Fits.{Fits, IsChange}
 use Rattle.fault_script.proofs.Assuming.{leaves_nowhere}
 use Rattle.fault_script.proofs.SmallSpec.{differ_one, differ_two, each_none, each_one, each_two}
@@ -55,6 +56,13 @@ is_placed m listed = record { width = refl; places = places }
 
 sound : IsSpec spec
 sound = record {
+  names = record {
+    procs = each_one (λ (p : Proc). is_name p.name ≡ true) _ refl;
+    apps = each_one (λ (a : AppSpec). is_name a.name ≡ true) monitor refl;
+    confs = each_two (λ (c : Conf). is_name c.name ≡ true) (placed 1) (placed 2) refl refl;
+    factors = each_one (λ (x : Factor). is_name x.name ≡ true) _ refl;
+    values = each_one HasValueNames _ (each_two (λ (name : List ℕ). is_name name ≡ true) (97 ∷ []) (98 ∷ []) refl refl);
+  };
   procs_count = record { enough = omega arith; few = omega arith };
   procs_differ = differ_one (λ (p : Proc). p.name) _;
   procs = each_one IsProc _ (record { capacity = omega arith });
@@ -69,11 +77,11 @@ sound = record {
     modes = each_two (IsModeSpec 2) (mode 1) (mode 2) (is_mode 1 (omega arith) (omega arith)) (is_mode 2 (omega arith) (omega arith));
   });
   confs_count = record { enough = omega arith; few = omega arith };
-  confs_differ = differ_two (λ (c : Conf). c.name) (placed 1) (placed 2) (names_apart 1 2 (λ e. omega (arith, e)));
+  confs_differ = differ_two (λ (c : Conf). c.name) (placed 1) (placed 2) (names_apart 97 98 (λ e. omega (arith, e)));
   confs = each_two (IsConf spec.procs spec.apps) (placed 1) (placed 2) (is_placed 1 (search rules)) (is_placed 2 (search rules));
   factors_count = omega arith;
   factors_differ = differ_one (λ (x : Factor). x.name) _;
-  factors = each_one IsFactor _ (record { count = record { enough = omega arith; few = omega arith }; differ = differ_two (λ (name : List ℕ). name) (1 ∷ []) (2 ∷ []) (names_apart 1 2 (λ e. omega (arith, e))) });
+  factors = each_one IsFactor _ (record { count = record { enough = omega arith; few = omega arith }; differ = differ_two (λ (name : List ℕ). name) (97 ∷ []) (98 ∷ []) (names_apart 97 98 (λ e. omega (arith, e))) });
   rules_count = omega arith;
   rules = each_two (IsChoice spec.procs spec.confs spec.factors) to_first to_second
       (record { from = search rules; few = omega arith; wants = each_one (IsWant spec.factors) _ (record { factor = _; there = refl; value = omega arith }); up = omega arith; to = omega arith })

@@ -1,6 +1,6 @@
 //! What is told, compared with what is read off the rows.
 
-ghost use Rattle.std.specs.Prelude.{◌≡◌, slice_get};
+ghost use Rattle.std.specs.Prelude.{◌≡◌};
 ghost use Rattle.trace_props.specs.Judging.{compare, difference, is_same_report, is_same_target};
 
 use scram_types::{ConfId, Report};

@@ -1,7 +1,6 @@
 //! A finished trace, judged by the five properties.
 
 ghost use Rattle.std.specs.Prelude.{◌≡◌, ◌<◌, ◌^◌, ◌↔◌, IfErr, IsOk, length};
-ghost use Rattle.frame_model.specs.Readings.{reports};
 ghost use Rattle.trace_props.specs.Breaks.{HoldsWhereUnbroken, IsFirstBreak};
 ghost use Rattle.trace_props.specs.Judging.{broken_in, conclusion, first_break, judge};
 ghost use Rattle.trace_props.specs.Properties.{HoldsAll};

@@ -5,7 +5,7 @@ ghost use Rattle.choice_table.specs.Choices.{has_source};
 ghost use Rattle.frame_model.specs.Runs.{least_from};
 ghost use Rattle.frame_model.specs.States.{area_at};
 ghost use Rattle.scram_types.specs.Numbers.{word};
-ghost use Rattle.trace_props.specs.Judging.{breaks, breaks_aimed, is_broken, is_target, is_unmet, least_unkept, lesser, lies_in, unkept_at, unkept_from, unmet_at, unmet_in};
+ghost use Rattle.trace_props.specs.Judging.{breaks, breaks_aimed, is_broken, is_target, is_unmet, lesser, lies_in, unkept_at, unkept_from, unmet_at, unmet_in};
 
 use scram_types::{AppId, Area, ConfId, Invariant, Precondition, Report, Row, Spec};
 

@@ -1,6 +1,6 @@
 -- What is found by its name has that name.
-use Rattle.std.proofs.Common.{ℕ, suc, zero, ◌≡◌, ◌<◌, ◌≤◌, ◌+◌, ◌∙◌, Bool, true, false, cond, List, [], ◌∷◌, Option, Some, None, length, arith, refl, sym, ap}
-use Rattle.std.specs.Prelude.{bytes_eq, codes, option_map, option_and_then, slice_get}
+use Rattle.std.proofs.Common.{ℕ, suc, ◌≡◌, ◌+◌, Bool, true, false, cond, List, [], ◌∷◌, Option, Some, None, arith, refl, sym, ap}
+use Rattle.std.specs.Prelude.{bytes_eq, codes, option_map, slice_get}
 use Rattle.std.specs.Option.{option_map_or}
 use Rattle.scram_types.specs.Specification.{Parts}
 use Rattle.scram_types.specs.declared.ids.ConfId.{ConfId}
@@ -14,7 +14,7 @@ use Rattle.scram_types.specs.declared.specification.Proc.{Proc}
 use Rattle.trace_text.specs.Lookups.{place_from, conf_id, conf_named, conf_or_none, proc_id, proc_named, app_named, value_named, mode_from, mode_named}
 use Rattle.trace_text.specs.Modes.{mode_text}
 use Rattle.trace_text.specs.Names.{conf_name, conf_or_dash, proc_name, value_name}
-use Rattle.trace_text.proofs.Inversion.{map_some, then_some, same_text}
+use Rattle.trace_text.proofs.Inversion.{map_some, same_text}
 
 -- item n of a list has this name
 abbrev pub Named : {A : Type 0} → (A → List ℕ) → List A → ℕ → List ℕ → Type 0

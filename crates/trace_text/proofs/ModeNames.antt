@@ -1,8 +1,8 @@
 -- The name of a mode is short.
-use Rattle.std.proofs.Common.{◌≡◌, ◌≤◌, ℕ, zero, suc, Bool, true, false, List, [], ◌∷◌, Option, Some, None, length, arith}
+use Rattle.std.proofs.Common.{◌≤◌, ℕ, zero, suc, Bool, true, false, List, [], ◌∷◌, Option, Some, None, length, arith}
 use Rattle.std.specs.Prelude.{codes, ◌==◌, if◌then◌else◌}
 use Rattle.std.specs.Option.{option_map_or}
-use Rattle.app_model.specs.Names.{mode_names, name_at}
+use Rattle.app_model.specs.Names.{name_at}
 use Rattle.trace_text.specs.Modes.{mode_text}
 
 abbrev short_in : List (Option (List ℕ)) → ℕ → Type 0

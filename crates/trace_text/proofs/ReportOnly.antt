@@ -1,6 +1,6 @@
 -- A line that is read as a reconfiguration's is its text, and one that is read as the end line is the end line.
-use Rattle.std.proofs.Common.{ℕ, suc, zero, ◌≡◌, ◌<◌, ◌≤◌, ◌+◌, ◌-◌, ◌^◌, ◌∙◌, Bool, true, false, cond, List, [], ◌∷◌, ◌++◌, Option, Some, None, Result, Ok, Err, length, decimal, arith, refl, sym, ap}
-use Rattle.std.specs.Prelude.{◌==◌, ◌&&◌, bytes_eq, codes, nat_le, nat_lt, option_map, ⊤}
+use Rattle.std.proofs.Common.{ℕ, ◌≡◌, ◌+◌, ◌-◌, ◌^◌, ◌∙◌, Bool, true, false, cond, List, [], ◌∷◌, ◌++◌, Option, Some, None, Ok, Err, length, decimal, refl, sym, ap}
+use Rattle.std.specs.Prelude.{◌==◌, ◌&&◌, bytes_eq, codes, nat_le, option_map, ⊤}
 use Rattle.std.specs.List.{join_with_byte}
 use Rattle.std.proofs.lemmas.Bool.{and_parts, eqb-true}
 use Rattle.scram_types.specs.Specification.{Parts, bound_in, greatest_bound_in}
@@ -10,12 +10,11 @@ use Rattle.trace_text.specs.Lookups.{conf_named}
 use Rattle.trace_text.specs.Names.{conf_name}
 use Rattle.trace_text.specs.Pieces.{word, words_in, words_of, is_word}
 use Rattle.trace_text.specs.ReportReading.{bound_or_none, end_in, end_read, finished_report, is_end_form, is_report_form, report_end, report_in, report_read, same_bound, unfinished_report}
-use Rattle.trace_text.specs.Rules.{unless}
 use Rattle.trace_text.specs.Spelling.{number_of}
 use Rattle.trace_text.specs.Text.{bound_text, end_line, report_line}
 use Rattle.trace_text.specs.TraceReading.{begins}
 use Rattle.trace_text.proofs.Found.{conf_found}
-use Rattle.trace_text.proofs.Inversion.{both, if_ok, is_text, line_joined, map_some, same_text, tab, unless_ok, words_are, words_listed}
+use Rattle.trace_text.proofs.Inversion.{both, if_ok, is_text, line_joined, map_some, same_text, unless_ok, words_are, words_listed}
 use Rattle.trace_text.proofs.Shapes.{end_shape, finished_shape, unfinished_shape}
 use Rattle.trace_text.proofs.Spelling.{number_spelled}
 

@@ -1,6 +1,6 @@
 -- A line that is read as a row's is the text of that row.
-use Rattle.std.proofs.Common.{ℕ, ℤ, pos, suc, zero, ◌≡◌, ◌<◌, ◌≤◌, ◌+◌, ◌*◌, ◌∙◌, Bool, true, false, cond, List, [], ◌∷◌, ◌++◌, Option, Some, None, Result, Ok, Err, length, decimal, replicate, arith, refl, sym, ap, rules, append-nil, length-set}
-use Rattle.std.specs.Prelude.{◌==◌, ◌&&◌, ◌/◌, ◌%◌, bytes_eq, codes, option_map, option_and_then, slice_index, slice_index_or, slice_set}
+use Rattle.std.proofs.Common.{ℕ, ℤ, pos, ◌≡◌, ◌<◌, ◌≤◌, ◌+◌, ◌*◌, ◌∙◌, Bool, true, false, cond, List, [], ◌∷◌, ◌++◌, Some, Ok, Err, length, decimal, replicate, arith, refl, sym, ap, append-nil, length-set}
+use Rattle.std.specs.Prelude.{◌==◌, ◌&&◌, ◌/◌, ◌%◌, bytes_eq, codes, option_map, option_and_then, slice_index, slice_set}
 use Rattle.std.specs.Fmt.{signed_decimal}
 use Rattle.std.specs.List.{join_with_byte, list_all}
 use Rattle.std.proofs.lemmas.Bool.{and_parts, eqb-true}
@@ -8,7 +8,6 @@ use Rattle.std.proofs.lemmas.List.{get_or-set_same, get_or-set_other}
 use Rattle.std.proofs.lemmas.List.Splits.{join_with_byte-slice_split}
 use native.Mathlib.Nat.{mul-add, mul_assoc}
 use Rattle.scram_types.specs.Specification.{Parts}
-use Rattle.scram_types.specs.declared.ids.ConfId.{ConfId}
 use Rattle.scram_types.specs.declared.flights.Row.{Row}
 use Rattle.scram_types.specs.declared.flights.World.{World}
 use Rattle.scram_types.specs.declared.orders.Act.TheVariants.{Off}
@@ -19,13 +18,12 @@ use Rattle.scram_types.specs.declared.specification.Proc.{Proc}
 use Rattle.trace_text.specs.Lookups.{conf_named, conf_or_none, value_named}
 use Rattle.trace_text.specs.Names.{conf_name, conf_or_dash, further, joined, names_up, value_name, values_named}
 use Rattle.trace_text.specs.Pieces.{items_of, pieces_of, word, words_in, words_of, is_word}
-use Rattle.trace_text.specs.RowReading.{are_values, env_names, env_of, is_env_form, is_moving_form, is_next, is_proc, is_stable_form, left_behind, moving_row, row_begun, row_end, row_in, row_read, stable_row, up_from, up_in, values_from, values_in, with_bit, world_at}
-use Rattle.trace_text.specs.Rules.{unless}
+use Rattle.trace_text.specs.RowReading.{are_values, env_names, env_of, is_env_form, is_moving_form, is_next, is_proc, is_stable_form, moving_row, row_begun, row_end, row_in, row_read, stable_row, up_from, up_in, values_from, values_in, with_bit, world_at}
 use Rattle.trace_text.specs.Spelling.{number_of, signed_of}
 use Rattle.trace_text.specs.Text.{row_line, up_text, values_text}
 use Rattle.trace_text.specs.TraceReading.{begins}
 use Rattle.trace_text.proofs.Found.{conf_found, conf_or_dash_found, value_found}
-use Rattle.trace_text.proofs.Inversion.{both, if_ok, is_text, kept_says, line_joined, map_some, same_text, tab, then_some, unless_ok, words_are, words_listed}
+use Rattle.trace_text.proofs.Inversion.{both, if_ok, is_text, kept_says, line_joined, map_some, same_text, then_some, unless_ok, words_are, words_listed}
 use Rattle.trace_text.proofs.Shapes.{moving_shape, stable_shape}
 use Rattle.trace_text.proofs.Spelling.{number_spelled, signed_spelled}
 use Rattle.trace_text.proofs.Splitting.{some_piece}

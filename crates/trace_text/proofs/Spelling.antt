@@ -1,5 +1,5 @@
 -- What a text spells, from what it is or cannot be.
-use Rattle.std.proofs.Common.{ℕ, ℤ, pos, negsuc, ◌≡◌, ◌<◌, ◌≤◌, suc, ◌^◌, ◌∙◌, Bool, true, false, cond, List, [], ◌∷◌, Option, Some, None, Result, Ok, Err, decimal, arith, rules, refl, sym, ap, subst, w64}
+use Rattle.std.proofs.Common.{ℕ, ℤ, pos, negsuc, ◌≡◌, ◌<◌, ◌≤◌, suc, ◌^◌, ◌∙◌, Bool, true, false, cond, List, [], ◌∷◌, Some, None, Ok, Err, decimal, arith, refl, sym, ap, subst, w64}
 use Rattle.std.specs.Fmt.{signed_decimal}
 use Rattle.std.specs.Prelude.{nat_lt, ◌&&◌, IsUtf8, bytes_eq}
 use Rattle.std.specs.Str.Parse.{digits_value, signed_digits_value, ParsesUnsigned, ParsesSigned, AllDigits}
@@ -9,7 +9,6 @@ use Rattle.std.proofs.lemmas.Fmt.{IsAscii-decimal, IsAscii-signed, decimal_is_Is
 use Rattle.std.proofs.lemmas.Slice.Eq.{bytes_eq-Decides}
 use Rattle.std.proofs.lemmas.Bool.{lt-ltb, ltb-true, and_parts, and_from, ne_eqb}
 use Rattle.std.specs.declared.num.ParseIntError.{ParseIntError}
-use mir.Val.{SFits}
 use lib.Signed.{mag}
 use lib.IntN.{neg_ℤ}
 use Rattle.trace_text.specs.Spelling.{number_of, signed_of, spelled, spelled_signed}

@@ -1,7 +1,7 @@
 -- Bytes that are read as rows and reports are the text of these.
-use Rattle.std.proofs.Common.{ℕ, ℤ, suc, zero, ◌≡◌, ◌<◌, ◌≤◌, ◌+◌, ◌∙◌, Bool, true, false, cond, List, [], ◌∷◌, ◌++◌, Option, Some, None, Result, Ok, Err, length, replicate, take, min, arith, refl, sym, ap, append_assoc, append-nil, length-set}
-use Rattle.std.specs.Prelude.{◌==◌, bytes_eq, codes, nat_le, nat_lt, slice_get, slice_index_or, slice_set, IfOk, ⊤}
-use Rattle.std.specs.List.{join_with_byte, list_all}
+use Rattle.std.proofs.Common.{ℕ, ℤ, suc, zero, ◌≡◌, ◌<◌, ◌≤◌, ◌+◌, ◌∙◌, Bool, true, false, cond, List, [], ◌∷◌, ◌++◌, Some, Result, Ok, Err, length, take, min, arith, refl, sym, ap, append_assoc, append-nil, length-set}
+use Rattle.std.specs.Prelude.{codes, nat_lt, slice_get, slice_index_or, slice_set, IfOk, ⊤}
+use Rattle.std.specs.List.{join_with_byte}
 use Rattle.std.proofs.lemmas.Bool.{ltb-false, lt-ltb}
 use Rattle.std.proofs.lemmas.List.{get_or-set_same, get_or-set_other, length-take, take_all}
 use Rattle.std.proofs.lemmas.List.Splits.{join_with_byte-slice_split}
@@ -18,7 +18,7 @@ use Rattle.trace_text.specs.declared.progress.Standing.TheVariants.{Rows, Apps, 
 use Rattle.trace_text.specs.declared.trace_reading.TraceError.{TraceError}
 use Rattle.trace_text.specs.declared.trace_reading.TraceFault.{TraceFault}
 use Rattle.trace_text.specs.AppReading.{app_read}
-use Rattle.trace_text.specs.Pieces.{is_filled, pieces_of}
+use Rattle.trace_text.specs.Pieces.{pieces_of}
 use Rattle.trace_text.specs.ReportReading.{end_read, report_read}
 use Rattle.trace_text.specs.RowReading.{row_read}
 use Rattle.trace_text.specs.Text.{app_line, app_line_in, app_lines, end_line, report_line, reports_text, row_line, row_text, rows_text, text_of}

@@ -1,5 +1,5 @@
 -- The trace that bytes are, or the first line that breaks a rule, with the least rule that it breaks.
-use Rattle.std.specs.Prelude.{ℕ, ℤ, ◌≡◌, ◌==◌, ◌+◌, ◌&&◌, Bool, List, [], ◌∷◌, ◌++◌, length, codes, nat_le, nat_lt, slice_set, slice_index_or, ⊤, Result, Ok, Err, bytes_eq, if◌then◌else◌}
+use Rattle.std.specs.Prelude.{ℕ, ℤ, ◌≡◌, ◌+◌, ◌&&◌, Bool, List, [], ◌∷◌, ◌++◌, length, codes, nat_le, nat_lt, slice_set, ⊤, Result, Ok, Err, bytes_eq, if◌then◌else◌}
 use Rattle.std.specs.List.{list_all}
 use Rattle.scram_types.specs.Specification.{Parts}
 use Rattle.scram_types.specs.declared.flights.Flown.{Flown}

@@ -1,6 +1,6 @@
 //! One line of text, made without memory.
 
-ghost use Rattle.std.specs.Prelude.{◌≡◌, ◌+◌, ◌≤◌, ◌++◌, [], ℕ, ℤ, length, decimal};
+ghost use Rattle.std.specs.Prelude.{◌≡◌, ◌+◌, ◌≤◌, ◌++◌, [], ℕ, length, decimal};
 ghost use Rattle.std.specs.Fmt.{signed_decimal};
 
 use arrayvec::ArrayVec;

@@ -1,7 +1,7 @@
 //! What a name stands for in a specification.
 
 ghost use Rattle.std.specs.Prelude.{◌≡◌, ◌<◌, ◌≤◌, IfSome, length};
-ghost use Rattle.trace_text.specs.Lookups.{app_named, conf_named, conf_or_none, mode_from, mode_named, place_from, proc_named, value_named};
+ghost use Rattle.trace_text.specs.Lookups.{app_named, conf_named, conf_or_none, mode_from, mode_named, proc_named, value_named};
 
 use crate::pieces::is_dash;
 use crate::row_lines::name_of_mode;

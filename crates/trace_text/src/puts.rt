@@ -1,7 +1,7 @@
 //! Lines put one at a time. A line that the sink refuses is the last that is put.
 
 ghost use Rattle.std.specs.Prelude.{◌<◌, ◌^◌, length};
-ghost use Rattle.trace_text.specs.Text.{text_of, ending_text, rows_text, reports_text, row_text, row_line, app_line_in, app_lines, report_line, end_line};
+ghost use Rattle.trace_text.specs.Text.{text_of, ending_text, rows_text, reports_text, row_text, app_line_in, app_lines, report_line, end_line};
 ghost use Rattle.trace_text.specs.Printing.{Prints};
 
 use crate::lines::Line;

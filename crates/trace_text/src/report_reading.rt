@@ -1,6 +1,6 @@
 //! What the line of a reconfiguration says, and the end line, or the least rule that they break.
 
-ghost use Rattle.std.specs.Prelude.{◌≡◌, ◌<◌, ◌≤◌, ◌^◌, IfOk, length};
+ghost use Rattle.std.specs.Prelude.{◌≡◌, ◌<◌};
 ghost use Rattle.trace_text.specs.ReportReading.{bound_or_none, end_in, end_read, finished_report, is_end_form, is_report_form, report_end, report_in, report_read, same_bound, unfinished_report};
 
 use crate::lookups::find_conf;

@@ -1,6 +1,6 @@
 //! The words of a line.
 
-ghost use Rattle.std.specs.Prelude.{◌≡◌, [], bytes_eq, length, map, option_map, slice_index_or};
+ghost use Rattle.std.specs.Prelude.{◌≡◌, [], length, map, option_map, slice_index_or};
 ghost use Rattle.trace_text.specs.Pieces.{words_of, words_in, word, is_word};
 
 use crate::pieces::first_piece;

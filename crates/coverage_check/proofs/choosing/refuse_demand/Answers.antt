@@ -1,4 +1,4 @@
-use Rattle.std.proofs.Common.{◌≡◌, ◌∙◌, arith, length, sym, true, false, not}
+use Rattle.std.proofs.Common.{◌∙◌, arith, length, sym, true}
 use Rattle.coverage_check.specs.Choosing.{demand_refusal_of}
 use Rattle.coverage_check.proofs.Searching.{first_is}
 use Rattle.coverage_check.proofs.choosing.refuse_demand.Goals as goal

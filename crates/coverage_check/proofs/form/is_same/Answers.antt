@@ -1,4 +1,4 @@
-use Rattle.std.proofs.Common.{◌≡◌, ◌∙◌, arith, length, sym, true, false, not}
+use Rattle.std.proofs.Common.{◌≡◌, ◌∙◌, arith, sym, true}
 use Rattle.std.proofs.Common.{subst}
 use Rattle.dep_order.specs.Timetables.{place_of}
 use Rattle.coverage_check.specs.Search.{all_below}

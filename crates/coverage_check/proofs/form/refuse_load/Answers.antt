@@ -1,4 +1,4 @@
-use Rattle.std.proofs.Common.{◌≡◌, ◌∙◌, arith, length, sym, true, false, not}
+use Rattle.std.proofs.Common.{◌∙◌, arith, length, sym, true}
 use Rattle.coverage_check.specs.Form.{load_refusal_in}
 use Rattle.coverage_check.proofs.Searching.{first_is}
 use Rattle.coverage_check.proofs.form.refuse_load.Goals as goal

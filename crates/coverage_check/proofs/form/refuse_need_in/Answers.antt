@@ -1,4 +1,4 @@
-use Rattle.std.proofs.Common.{◌≡◌, ◌∙◌, arith, length, sym, true, false, not}
+use Rattle.std.proofs.Common.{arith, length, true}
 use Rattle.coverage_check.specs.declared.shown.Other.TheVariants as other
 use Rattle.coverage_check.specs.Form.{lacks_need}
 use Rattle.coverage_check.specs.Showing.{app, conf, shown_at}

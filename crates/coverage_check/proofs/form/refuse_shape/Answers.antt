@@ -1,4 +1,4 @@
-use Rattle.std.proofs.Common.{◌≡◌, ◌∙◌, arith, length, sym, true, false, not}
+use Rattle.std.proofs.Common.{◌∙◌, arith, length, sym, true, false}
 use Rattle.coverage_check.specs.Form.{shape_refusal_of}
 use Rattle.coverage_check.proofs.Searching.{first_is, first_more}
 use Rattle.coverage_check.proofs.form.refuse_shape.Goals as goal

@@ -1,4 +1,4 @@
-use Rattle.std.proofs.Common.{◌≡◌, ◌∙◌, ap, arith, length, sym, true, false}
+use Rattle.std.proofs.Common.{◌∙◌, arith, length, sym, true}
 use Rattle.coverage_check.specs.Showing.{conf}
 use Rattle.coverage_check.specs.Holding.{holds_on_way}
 use Rattle.coverage_check.proofs.Searching.{not_all}

@@ -1,4 +1,4 @@
-use Rattle.std.proofs.Common.{◌≡◌, ◌∙◌, ap, arith, length, sym, true, false}
+use Rattle.std.proofs.Common.{arith, length, true}
 use Rattle.coverage_check.specs.declared.shown.Other.TheVariants as other
 use Rattle.coverage_check.specs.Showing.{conf, shown_at}
 use Rattle.coverage_check.specs.Holding.{breaks_from}

@@ -1,4 +1,4 @@
-use Rattle.std.proofs.Common.{◌≡◌, ◌<◌, ◌∙◌, ap, arith, length, sym, true}
+use Rattle.std.proofs.Common.{◌<◌, ◌∙◌, ap, arith, length, sym, true}
 use Rattle.std.proofs.lemmas.List.{length-set}
 use Rattle.scram_types.specs.declared.ids.ConfId.{ConfId}
 use Rattle.choice_table.specs.Numbering.{environments}

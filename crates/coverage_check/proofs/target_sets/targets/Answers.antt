@@ -1,4 +1,4 @@
-use Rattle.std.proofs.Common.{◌≡◌, ◌∙◌, ap, arith, length, sym, true, false}
+use Rattle.std.proofs.Common.{◌∙◌, ap, length}
 use Rattle.choice_table.specs.Numbering.{bits_below}
 use Rattle.coverage_check.specs.TargetSets.{is_in}
 use Rattle.coverage_check.specs.Timing.{is_target}

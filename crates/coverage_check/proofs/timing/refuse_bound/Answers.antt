@@ -1,4 +1,4 @@
-use Rattle.std.proofs.Common.{◌≡◌, ◌∙◌, ap, arith, length, sym, true, false}
+use Rattle.std.proofs.Common.{◌∙◌, arith, length, sym, true}
 use Rattle.coverage_check.specs.Timing.{bound_refusal_of}
 use Rattle.coverage_check.proofs.Searching.{first_is}
 use Rattle.coverage_check.proofs.timing.refuse_bound.Goals as goal

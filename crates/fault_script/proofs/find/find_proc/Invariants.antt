@@ -1,4 +1,4 @@
-use Rattle.std.proofs.Common.{◌≡◌, ℕ, List, drop}
+use Rattle.std.proofs.Common.{◌≡◌, drop}
 use Rattle.scram_types.specs.declared.specification.Proc.{Proc}
 use Rattle.fault_script.specs.Lookups.{place_from}
 use Rattle.fault_script.proofs.find.find_proc.Given as goal

@@ -1,6 +1,5 @@
-use Rattle.std.proofs.Common.{◌≡◌, ◌∙◌, ◌+◌, ◌-◌, ◌≤◌, ap, arith, refl, subst, sym}
+use Rattle.std.proofs.Common.{◌≡◌, ◌∙◌, ◌+◌, ◌-◌, ap, arith, refl, subst}
 use Rattle.fault_script.specs.Walks.{IsWalk}
-use Rattle.std.specs.Prelude.{if◌then◌else◌}
 use Rattle.scram_types.specs.Specification.{Parts}
 use Rattle.fault_script.proofs.Walking.{at_most_one, byte_is, changes_most, left_counted, window_grows, window_moves}
 use Rattle.fault_script.proofs.walks.next_window.Goals as goal

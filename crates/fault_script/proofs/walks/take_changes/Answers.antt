@@ -1,4 +1,4 @@
-use Rattle.std.proofs.Common.{◌≡◌, ◌<◌, ◌∙◌, ap, arith, get_or, length, refl, subst, sym}
+use Rattle.std.proofs.Common.{◌≡◌, ◌<◌, ◌∙◌, ap, arith, get_or, length, subst, sym}
 use Rattle.scram_types.specs.declared.scripts.Change.{Change}
 use Rattle.fault_script.proofs.Halts.{some_same}
 use Rattle.std.proofs.lemmas.Option.{slice_get_within}

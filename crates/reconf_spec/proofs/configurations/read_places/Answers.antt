@@ -1,5 +1,4 @@
-use Rattle.std.proofs.Common.{rules, ◌≡◌}
-use Rattle.reconf_spec.specs.Facts.{ArePlaces}
+use Rattle.std.proofs.Common.{rules}
 use Rattle.reconf_spec.proofs.Placed.{one_more}
 use Rattle.reconf_spec.proofs.Growing.{step_made}
 use Rattle.reconf_spec.specs.Configurations.{places_after}

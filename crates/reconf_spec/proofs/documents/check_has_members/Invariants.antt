@@ -1,5 +1,4 @@
-use Rattle.std.proofs.Common.{◌≡◌, [], drop, map, length, ◌≤◌}
-use Rattle.std.specs.Prelude.{All}
+use Rattle.std.proofs.Common.{◌≡◌, [], drop, map}
 use Rattle.serde_json.specs.View.{view}
 use Rattle.reconf_spec.specs.Members.{has_members}
 use Rattle.reconf_spec.proofs.documents.check_has_members.Given as goal

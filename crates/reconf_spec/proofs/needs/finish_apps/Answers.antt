@@ -1,43 +1,52 @@
-use Rattle.std.proofs.Common.{rules, ◌≡◌, ◌<◌, ◌++◌, ℕ, List, take, drop, length, refl, ap, sym, subst, ◌∙◌}
+use Rattle.std.proofs.Common.{rules, ◌≡◌, ◌<◌, ℕ, List, map, length, refl, ap, sym, subst, ◌∙◌}
 use Rattle.std.specs.Prelude.{All, Ok}
 use Rattle.scram_types.specs.declared.ids.AppId.{AppId}
 use Rattle.scram_types.specs.declared.specification.AppSpec.{AppSpec}
 use Rattle.scram_types.specs.Specification.{Each}
 use Rattle.dep_order.specs.Ranks.{IsCycle, IsRanking, RanksFall}
-use Rattle.reconf_spec.specs.Needs.{with_ranks, are_ranked, longest_chains}
+use Rattle.reconf_spec.specs.Applications.{app_name}
+use Rattle.reconf_spec.specs.Needs.{with_ranks}
 use Rattle.reconf_spec.proofs.Cycles.{cycle_there}
-use Rattle.reconf_spec.proofs.Joined.{graded_length, ranked_fit, written_whole}
+use Rattle.reconf_spec.proofs.Joined.{graded_length, graded_names, ranked_fit, written_whole}
 use Rattle.reconf_spec.proofs.LongestChains.{cycle_unranked, ranks_are, ranking_ranked}
 use Rattle.reconf_spec.proofs.needs.finish_apps.Goals as goal
 
 pub names_of-names-requires-clause-there : goal.names_of-names-requires-clause-there
 names_of-names-requires-clause-there c =
-    let is : IsCycle c.args.apps.items c.in-Err.cycle.0.items = search rules in
-    let listed : c.in-Err.cycle.0.items ≡ c.deref-in-Err.result.now = search rules in
-    let apps : c.args.apps.items ≡ c.deref.result.now = search rules in
-    subst (λ (xs : List AppId). Each (λ (a : AppId). a.0 < length c.deref.result.now) xs) listed
-    (subst (λ (xs : List AppSpec). Each (λ (a : AppId). a.0 < length xs) c.in-Err.cycle.0.items) apps (cycle_there c.args.apps.items c.in-Err.cycle.0.items is))
+    let is : IsCycle c.args.apps c.in-Err.cycle.0.items = search rules in
+    let listed : c.in-Err.cycle.0.items ≡ c.deref.result.now = search rules in
+    let apps : c.args.apps ≡ c.items.result.now = search rules in
+    subst (λ (xs : List AppId). Each (λ (a : AppId). a.0 < length c.items.result.now) xs) listed
+    (subst (λ (xs : List AppSpec). Each (λ (a : AppId). a.0 < length xs) c.in-Err.cycle.0.items) apps (cycle_there c.args.apps c.in-Err.cycle.0.items is))
 
 pub returns-in-Err-clause-value : goal.returns-in-Err-clause-value
 returns-in-Err-clause-value c =
-    let is : IsCycle c.args.apps.items c.in-Err.cycle.0.items = search rules in
-    rw (cycle_unranked c.args.apps.items c.in-Err.cycle.0.items is, c.copy.ensures) refl
+    let is : IsCycle c.args.apps c.in-Err.cycle.0.items = search rules in
+    rw (cycle_unranked c.args.apps c.in-Err.cycle.0.items is, c.copy.ensures) refl
 
 pub returns-in-Err-clause-cycle : goal.returns-in-Err-clause-cycle
 returns-in-Err-clause-cycle c =
-    let is : IsCycle c.args.apps.items c.in-Err.cycle.0.items = search rules in
-    (rw (cycle_unranked c.args.apps.items c.in-Err.cycle.0.items is) is, search rules)
+    let is : IsCycle c.args.apps c.in-Err.cycle.0.items = search rules in
+    (rw (cycle_unranked c.args.apps c.in-Err.cycle.0.items is) is, search rules)
 
-given : (c : goal.After-of) → c.of.result ≡ with_ranks c.args.apps.items c.in-Ok.ranks.items
+pub of-requires : goal.of-requires
+of-requires c =
+    let ranks : c.set_ranks.new.apps ≡ with_ranks c.args.apps c.in-Ok.ranks.items = search rules in
+    let all : length c.args.apps ≡ c.into_parts-apps.result.0.len = search rules in
+    let long : length c.set_ranks.new.apps ≡ c.into_parts-apps.result.0.len = rw (ranks) (graded_length c.args.apps c.in-Ok.ranks.items ∙ all) in
+    let whole = written_whole c.into_parts-apps.result.0.len c.set_ranks.new.apps c.into_parts-apps.result.0.items long in
+    c.into_parts-apps.ensures.numbers ∙ sym (graded_names c.args.apps c.in-Ok.ranks.items) ∙ ap (map app_name) (sym (whole ∙ ranks))
+
+given : (c : goal.After-of) → c.of.result ≡ with_ranks c.args.apps c.in-Ok.ranks.items
 given c =
-    let ranks : c.set_ranks.new.apps ≡ with_ranks c.args.apps.items c.in-Ok.ranks.items = search rules in
-    let all : length c.args.apps.items ≡ c.args.apps.len = search rules in
-    let long : length c.set_ranks.new.apps ≡ c.args.apps.len = rw (ranks) (graded_length c.args.apps.items c.in-Ok.ranks.items ∙ all) in
-    c.of.ensures ∙ (written_whole c.args.apps.len c.set_ranks.new.apps c.args.apps.items long ∙ ranks)
+    let ranks : c.set_ranks.new.apps ≡ with_ranks c.args.apps c.in-Ok.ranks.items = search rules in
+    let all : length c.args.apps ≡ c.into_parts-apps.result.0.len = search rules in
+    let long : length c.set_ranks.new.apps ≡ c.into_parts-apps.result.0.len = rw (ranks) (graded_length c.args.apps c.in-Ok.ranks.items ∙ all) in
+    c.of.ensures ∙ (written_whole c.into_parts-apps.result.0.len c.set_ranks.new.apps c.into_parts-apps.result.0.items long ∙ ranks)
 
 pub returns-in-Ok-clause-value : goal.returns-in-Ok-clause-value
 returns-in-Ok-clause-value c =
-    let apps = c.args.apps.items in
+    let apps = c.args.apps in
     let ranks = c.in-Ok.ranks.items in
     let is : IsRanking apps ranks = search rules in
     let small : All (λ (rank : ℕ). rank < 8) ranks = search rules in
@@ -45,7 +54,7 @@ returns-in-Ok-clause-value c =
 
 pub returns-in-Ok-clause-fits : goal.returns-in-Ok-clause-fits
 returns-in-Ok-clause-fits c =
-    let apps = c.args.apps.items in
+    let apps = c.args.apps in
     let ranks = c.in-Ok.ranks.items in
     let is : IsRanking apps ranks = search rules in
     let small : All (λ (rank : ℕ). rank < 8) ranks = search rules in
@@ -54,7 +63,7 @@ returns-in-Ok-clause-fits c =
 
 pub returns-in-Ok-clause-no_cycle : goal.returns-in-Ok-clause-no_cycle
 returns-in-Ok-clause-no_cycle c =
-    let apps = c.args.apps.items in
+    let apps = c.args.apps in
     let ranks = c.in-Ok.ranks.items in
     let is : IsRanking apps ranks = search rules in
     let small : All (λ (rank : ℕ). rank < 8) ranks = search rules in

@@ -10,10 +10,10 @@ use Rattle.reconf_spec.proofs.needs.read_apps.Goals as goal
 
 pub rank-ranked-requires-clause-needs : goal.rank-ranked-requires-clause-needs
 rank-ranked-requires-clause-needs c =
-    let fits : AreUnranked c.in-Ok.apps.items = search rules in
-    rw (c.deref.ensures.value) (needs_in_range c.in-Ok.apps.items fits)
+    let fits : AreUnranked c.in-Ok.apps = search rules in
+    rw (c.items.ensures) (needs_in_range c.in-Ok.apps fits)
 
 pub returns-in-Ok-clause-no_cycle : goal.returns-in-Ok-clause-no_cycle
 returns-in-Ok-clause-no_cycle c =
-    let read : member_in (codes "apps") unranked_at (view c.args.document.now) ≡ Ok c.in-Ok.apps.items = search rules in
-    no_cycle c.finish_apps.result _ c.in-Ok.apps.items read c.finish_apps.ensures.no_cycle
+    let read : member_in (codes "apps") unranked_at (view c.args.document.now) ≡ Ok c.in-Ok.apps = search rules in
+    no_cycle c.finish_apps.result _ c.in-Ok.apps read c.finish_apps.ensures.no_cycle

@@ -1,4 +1,4 @@
-use Rattle.std.proofs.Common.{rules, ◌≡◌, ◌≤◌, ◌<◌, [], ◌∷◌, ◌++◌, length, arith, sym, ap, ◌∙◌, length-set}
+use Rattle.std.proofs.Common.{rules, ◌≡◌, ◌<◌, [], ◌∷◌, ◌++◌, length, arith, sym, ap, ◌∙◌, length-set}
 use Rattle.reconf_spec.specs.Needs.{with_needs}
 use Rattle.reconf_spec.proofs.Handing.{last_needs, no_needs_left}
 use Rattle.reconf_spec.proofs.needs.set_needs.Goals as goal

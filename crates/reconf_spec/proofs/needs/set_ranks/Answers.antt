@@ -1,4 +1,4 @@
-use Rattle.std.proofs.Common.{rules, ◌≡◌, ◌≤◌, ◌<◌, [], ◌∷◌, ◌++◌, length, arith, sym, ap, ◌∙◌, length-set}
+use Rattle.std.proofs.Common.{rules, ◌≡◌, ◌<◌, [], ◌∷◌, ◌++◌, length, arith, sym, ap, ◌∙◌, length-set}
 use Rattle.reconf_spec.specs.Needs.{with_ranks}
 use Rattle.reconf_spec.proofs.Handing.{last_ranks, no_ranks_left}
 use Rattle.reconf_spec.proofs.needs.set_ranks.Goals as goal

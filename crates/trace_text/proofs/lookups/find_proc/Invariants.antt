@@ -1,4 +1,4 @@
-use Rattle.std.proofs.Common.{◌≡◌, ℕ, List, drop}
+use Rattle.std.proofs.Common.{◌≡◌, drop}
 use Rattle.scram_types.specs.declared.specification.Proc.{Proc}
 use Rattle.trace_text.specs.Lookups.{place_from}
 use Rattle.trace_text.proofs.lookups.find_proc.Given as goal

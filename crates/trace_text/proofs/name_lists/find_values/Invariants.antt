@@ -1,6 +1,6 @@
-use Rattle.std.proofs.Common.{◌≡◌, length, drop, replicate}
+use Rattle.std.proofs.Common.{◌≡◌, drop}
 use Rattle.std.specs.Prelude.{option_map}
-use Rattle.trace_text.specs.Pieces.{pieces_of, pieces_behind}
+use Rattle.trace_text.specs.Pieces.{pieces_behind}
 use Rattle.trace_text.specs.RowReading.{values_from, values_in}
 use Rattle.trace_text.proofs.name_lists.find_values.Given as goal
 

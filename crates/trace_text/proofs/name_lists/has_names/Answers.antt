@@ -1,4 +1,4 @@
-use Rattle.std.proofs.Common.{◌≡◌, arith}
+use Rattle.std.proofs.Common.{arith}
 use Rattle.trace_text.proofs.NameLists.{too_many}
 use Rattle.trace_text.proofs.name_lists.has_names.Goals as goal
 

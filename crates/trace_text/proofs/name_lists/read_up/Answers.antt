@@ -1,4 +1,4 @@
-use Rattle.std.proofs.Common.{rules, arith, ◌≡◌, sym}
+use Rattle.std.proofs.Common.{arith}
 use Rattle.trace_text.proofs.NameLists.{names_over}
 use Rattle.trace_text.proofs.name_lists.read_up.Goals as goal
 

@@ -1,4 +1,4 @@
-use Rattle.std.proofs.Common.{◌≡◌, ◌∙◌, ◌<◌, ◌^◌, sym, arith, rules, decimal}
+use Rattle.std.proofs.Common.{◌≡◌, sym, arith, rules, decimal}
 use Rattle.trace_text.proofs.Spelling.{number_some, number_utf8, number_err, number_other}
 use Rattle.trace_text.proofs.numbers.read_number.Goals as goal
 

@@ -1,5 +1,4 @@
-use Rattle.std.proofs.Common.{◌≡◌, ◌∙◌, arith, rules, sym}
-use Rattle.trace_text.specs.TraceReading.{AnswersTrace, stopped}
+use Rattle.std.proofs.Common.{◌∙◌, arith, sym}
 use Rattle.trace_text.proofs.Walk.{of_length, taken, not_taken}
 use Rattle.trace_text.proofs.trace_reading.read_lines.Goals as goal
 
