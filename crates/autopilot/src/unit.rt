@@ -1,6 +1,5 @@
 //! The autopilot as a box that remembers its last call.
 
-
 use app_model::autopilot_law::autopilot_area;
 use app_model::calls::LastCall;
 use app_model::kinds::autopilot::KIND;

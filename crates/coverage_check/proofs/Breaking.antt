@@ -13,7 +13,7 @@ use Rattle.coverage_check.specs.Form.{has_too_many_states, is_empty, is_overload
 use Rattle.coverage_check.specs.Choosing.{demand_refusal, demand_refusal_of, first_unmet_env, is_unmet, leaves_start, start_refusal, unmet_env_at}
 use Rattle.coverage_check.specs.Timing.{bound_refusal, bound_refusal_of, has_short_window, lacks_bound, window_refusal}
 use Rattle.coverage_check.specs.Holding.{breaks_entering, breaks_from, invariant_refusal, invariant_refusal_at, invariant_refusal_of, precondition_refusal, precondition_refusal_at, precondition_refusal_of}
-use Rattle.coverage_check.specs.Acceptance.{IsBroken, ShownIsBroken, choice_refusal, form_refusal, range_refusal, time_refusal}
+use Rattle.coverage_check.specs.Acceptance.{IsBroken, IsBroken.NeedOff, IsBroken.ManyStates, IsBroken.NothingOn, IsBroken.SameAgain, IsBroken.Overloaded, IsBroken.Unmet, IsBroken.StartLeft, IsBroken.BoundWanting, IsBroken.WindowShort, IsBroken.InvariantBroken, IsBroken.PreconditionBroken, ShownIsBroken, choice_refusal, form_refusal, range_refusal, time_refusal}
 use Rattle.coverage_check.proofs.Searching.{and_left, and_right, found_below, same_some, shown_where, some_either, some_none}
 
 at_some : {A B : Type 0} (o : Option A) (f : A → Option B) (y : B) → option_map_or f o None ≡ Some y → (x : A) × (o ≡ Some x) × (f x ≡ Some y)

@@ -1,6 +1,5 @@
 //! The flight control as a box that remembers its last call.
 
-
 use crate::run::flight_control_area;
 use app_model::calls::LastCall;
 use app_model::kinds::flight_control::KIND;

@@ -1,6 +1,5 @@
 //! An autopilot that remembers nothing.
 
-
 use app_model::autopilot_law::autopilot_area;
 use app_model::kinds::autopilot::KIND;
 use app_model::{App, Seen};

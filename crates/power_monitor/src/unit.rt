@@ -1,6 +1,5 @@
 //! The power monitor as a box that remembers its last call.
 
-
 use crate::run::power_monitor_area;
 use app_model::calls::LastCall;
 use app_model::kinds::power_monitor::KIND;

@@ -20,7 +20,7 @@ use Rattle.frame_model.specs.Phases as phases
 use Rattle.frame_model.specs.Runs.{act_at, all_below, conf_of, is_run_by}
 use Rattle.frame_model.specs.States.{act_after, act_of_order, for_eight}
 use Rattle.frame_model.specs.Tasks as tasks
-use Rattle.trace_props.specs.Builds.{Phase, Order, Act, after_halting, phase, running_order, halting_order, preparing_order, init_order, order_in, act_of, fits_place, runs, acts_at}
+use Rattle.trace_props.specs.Builds.{Phase, Order, Act, Act.Ran, Act.Halted, Act.Held, Act.Prepared, Act.Initialised, Act.WasOff, Act.Lost, after_halting, phase, running_order, halting_order, preparing_order, init_order, order_in, act_of, fits_place, runs, acts_at}
 use Rattle.trace_props.proofs.Products.{build_of, flight_of, mode_of, phase_of, plan_of, runs_in_row}
 use Rattle.trace_props.proofs.Moding.{same_mode}
 

@@ -3,11 +3,11 @@ use Rattle.std.proofs.Common.{◌≡◌, ℕ, zero, suc, ◌+◌, ◌-◌, ◌<�
 use mathlib.Core.Logic.{inl, inr}
 use Rattle.std.specs.Prelude.{Option, Some, None, nat_lt}
 use Rattle.trace_props.specs.Plans.{Plan, Accepted, IsTarget, halting_of}
-use Rattle.trace_props.specs.Modes.{Mode}
-use Rattle.trace_props.specs.Courses.{Flight, IsWithin, IsFlown, RowUnder, mode_at, Reading, Report, read_row, reading_before, arrival, report_of}
+use Rattle.trace_props.specs.Modes.{Mode, Mode.Stable, Mode.Moving}
+use Rattle.trace_props.specs.Courses.{Flight, IsWithin, IsFlown, RowUnder, mode_at, Reading, Reading.Steady, Reading.Leaving, Report, read_row, reading_before, arrival, report_of}
 use Rattle.scram_types.specs.declared.specification.Place.{Place}
-use Rattle.trace_props.specs.Builds.{Phase, Act, Build, after_halting, phase, running_order, halting_order, preparing_order, init_order, order_in, act_of, fits_place, acts_at, IsBuilt, IsRun}
-use Rattle.trace_props.specs.Areas.{Area, Written, written_after, opening_written, written_by, Laws, Filled, IsFilled, Invariant, Precondition, SpeaksIn, There, HereOrThere, Listed, IsKept, IsReady, AreasKept, KeepsAreas}
+use Rattle.trace_props.specs.Builds.{Phase, Phase.Running, Phase.Halting, Phase.Preparing, Phase.Initialising, Order.Hold, Order.Init, Act, Act.Ran, Act.Halted, Act.Held, Act.Prepared, Act.Initialised, Act.WasOff, Act.Lost, Build, after_halting, phase, running_order, halting_order, preparing_order, init_order, order_in, act_of, fits_place, acts_at, IsBuilt, IsRun}
+use Rattle.trace_props.specs.Areas.{Area, Written, Written.DidRun, Written.DidInit, Written.Zeros, written_after, opening_written, written_by, Laws, Filled, IsFilled, Invariant, Precondition, SpeaksIn, There, HereOrThere, Listed, IsKept, IsReady, AreasKept, KeepsAreas}
 use Rattle.trace_props.proofs.Tests.{by_test, lt_true, lt_false, le_true, not_false, true_false}
 use Rattle.trace_props.proofs.Deadlines.{Deadlines}
 use Rattle.trace_props.proofs.Counting.{le_suc_or}

@@ -2,8 +2,8 @@
 use Rattle.std.proofs.Common.{◌≡◌, ℕ, suc, ◌-◌, ◌<◌, ◌≤◌, refl, arith, subst}
 use Rattle.std.specs.Prelude.{Option, Some, None}
 use Rattle.trace_props.specs.Plans.{Plan, Accepted}
-use Rattle.trace_props.specs.Modes.{Mode}
-use Rattle.trace_props.specs.Courses.{Flight, IsWithin, IsFlown, RowUnder, changes_upto, mode_at, Reading, Report, reading_before, arrival, report_of}
+use Rattle.trace_props.specs.Modes.{Mode, Mode.Stable, Mode.Moving}
+use Rattle.trace_props.specs.Courses.{Flight, IsWithin, IsFlown, RowUnder, changes_upto, mode_at, Reading, Reading.Steady, Reading.Leaving, Report, reading_before, arrival, report_of}
 use Rattle.trace_props.specs.Assurances.{IsAssured, IsCutOff, AllAssured, Reconfigures, first_moving, begin_of, further_changes, CentralFacts, HasCentralFacts}
 use Rattle.trace_props.proofs.Deadlines.{Deadlines, bound_of, in_bound}
 use Rattle.trace_props.proofs.Coupling.{LeavingIn, Coupled, coupled}

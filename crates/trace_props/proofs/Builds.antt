@@ -4,10 +4,10 @@ use mathlib.Core.Logic.{inl, inr}
 use Rattle.std.specs.Prelude.{Option, Some, None, if◌then◌else◌, nat_eq, nat_lt, nat_le, ◌&&◌}
 use Rattle.scram_types.specs.declared.flights.Env.{Env}
 use Rattle.trace_props.specs.Plans.{Plan, Accepted, halting_of}
-use Rattle.trace_props.specs.Modes.{Mode, target, is_running, stable_decision, wanted, retarget}
+use Rattle.trace_props.specs.Modes.{Mode, Mode.Stable, Mode.Moving, target, is_running, stable_decision, wanted, retarget}
 use Rattle.trace_props.specs.Courses.{Flight, IsFlown, RowUnder, mode_at, decide_after}
 use Rattle.scram_types.specs.declared.specification.Place.{Place}
-use Rattle.trace_props.specs.Builds.{Phase, Order, Act, Build, after_halting, phase, running_order, halting_order, preparing_order, init_order, order_in, act_of, place_eq, is_ran, is_off, fits_place, runs, acts_at, IsBuilt, IsRun, ReconfiguresBuilt}
+use Rattle.trace_props.specs.Builds.{Phase, Phase.Running, Phase.Halting, Phase.Preparing, Phase.Initialising, Order, Order.Run, Order.Halt, Order.Hold, Order.Prepare, Order.Init, Order.Off, Act, Act.Ran, Act.Lost, Build, after_halting, phase, running_order, halting_order, preparing_order, init_order, order_in, act_of, place_eq, is_ran, is_off, fits_place, runs, acts_at, IsBuilt, IsRun, ReconfiguresBuilt}
 use Rattle.frame_model.specs.Runs.{all_below, least_from}
 use Rattle.trace_props.proofs.Tests.{by_test, eq_true, lt_true, lt_false, not_true, true_false, and_left, and_right}
 use Rattle.std.proofs.lemmas.Bool.Decides.{nat_tests}

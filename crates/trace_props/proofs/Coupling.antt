@@ -3,8 +3,8 @@ use Rattle.std.proofs.Common.{◌≡◌, ℕ, zero, suc, ◌+◌, ◌-◌, ◌<�
 use mathlib.Core.Logic.{inl, inr}
 use Rattle.std.specs.Prelude.{Option, Some, None, nat_eq, nat_lt, ◌&&◌}
 use Rattle.trace_props.specs.Plans.{Plan, Accepted, halting_of}
-use Rattle.trace_props.specs.Modes.{Mode, stable_decision, retarget, wanted, is_running}
-use Rattle.trace_props.specs.Courses.{Flight, IsWithin, IsFlown, RowUnder, changes_at, decide_after, mode_at, Reading, arrive, read_row, reading_before, arrival, report_of, report_at}
+use Rattle.trace_props.specs.Modes.{Mode, Mode.Stable, Mode.Moving, stable_decision, retarget, wanted, is_running}
+use Rattle.trace_props.specs.Courses.{Flight, IsWithin, IsFlown, RowUnder, changes_at, decide_after, mode_at, Reading, Reading.Steady, Reading.Leaving, arrive, read_row, reading_before, arrival, report_of, report_at}
 use Rattle.trace_props.specs.Assurances.{HasCause, Follows, first_moving}
 use Rattle.trace_props.proofs.Tests.{by_test, eq_true, eq_false, lt_true, le_true, le_false, not_true, not_false, true_false, and_left, and_right, and_false}
 use Rattle.trace_props.proofs.Counting.{le_suc_or, ChangeBetween, change_between}

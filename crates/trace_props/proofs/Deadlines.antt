@@ -4,7 +4,7 @@ use mathlib.Core.Logic.{inl, inr}
 use Rattle.std.specs.Prelude.{Option, Some, if◌then◌else◌, ◌&&◌}
 use Rattle.scram_types.specs.declared.flights.Env.{Env}
 use Rattle.trace_props.specs.Plans.{Plan, Accepted, IsTarget, further, halting_of, least}
-use Rattle.trace_props.specs.Modes.{wanted}
+use Rattle.trace_props.specs.Modes.{Mode.Moving, wanted}
 use Rattle.trace_props.specs.Courses.{Flight, IsWithin, changes_at, changes_upto, mode_at}
 use Rattle.trace_props.proofs.Tests.{not_false}
 use Rattle.trace_props.proofs.Counting.{count_changed, count_grows, count_le}

@@ -13,7 +13,7 @@ use Rattle.frame_model.specs.Laws.{ReadsRowByRow}
 use Rattle.frame_model.specs.Readings as readings
 use Rattle.frame_model.specs.Runs.{conf_of}
 use Rattle.coverage_check.specs.Acceptance.{Accepts}
-use Rattle.trace_props.specs.Courses.{Reading, Report, reading_before, report_at}
+use Rattle.trace_props.specs.Courses.{Reading, Reading.Steady, Reading.Leaving, Report, reading_before, report_at}
 use Rattle.trace_props.specs.Areas.{AreasKept}
 use Rattle.trace_props.specs.Properties.{KeepsSp4}
 use Rattle.trace_props.proofs.Lists.{each_append, each_option, get-listed_below, length-listed_below}

@@ -18,7 +18,7 @@ use Rattle.coverage_check.specs.Acceptance as acceptance
 use Rattle.coverage_check.specs.Acceptance.{Accepts}
 use Rattle.coverage_check.specs.Holding.{holds_during, holds_leaving, holds_off, holds_reaching}
 use Rattle.trace_props.specs.Plans as plans
-use Rattle.trace_props.specs.Areas.{Written, Invariant, Precondition, IsKept, IsReady, Listed, SpeaksIn, There, HereOrThere}
+use Rattle.trace_props.specs.Areas.{Written, Written.DidRun, Written.DidHalt, Written.DidPrepare, Written.DidInit, Written.Zeros, Invariant, Precondition, IsKept, IsReady, Listed, SpeaksIn, There, HereOrThere}
 use Rattle.trace_props.proofs.Tests.{and_left, and_right, eq_true}
 use Rattle.trace_props.proofs.Accepting.{env_of_test}
 use Rattle.trace_props.proofs.Products.{build_of, is_env, number_of, plan_of}

@@ -20,7 +20,7 @@ use Rattle.frame_model.specs.Flights.{row_at, rows_of}
 use Rattle.frame_model.specs.Laws.{ReadsRowByRow}
 use Rattle.frame_model.specs.Readings as readings
 use Rattle.frame_model.specs.Runs.{conf_of}
-use Rattle.trace_props.specs.Courses.{Reading, Report, changes_at, reading_before, report_at}
+use Rattle.trace_props.specs.Courses.{Reading, Reading.Steady, Reading.Leaving, Report, changes_at, reading_before, report_at}
 use Rattle.trace_props.specs.Assurances as assurances
 use Rattle.trace_props.specs.Assurances.{AllAssured, HasCause, IsCutOff}
 use Rattle.trace_props.specs.Properties.{ChangesIn, Follows, KeepsSp2, KeepsSp3, KeepsSp5, env_in}

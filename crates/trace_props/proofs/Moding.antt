@@ -15,7 +15,7 @@ use Rattle.frame_model.specs.Decisions as told
 use Rattle.frame_model.specs.Flights.{decided}
 use Rattle.frame_model.specs.Phases as phases
 use Rattle.trace_props.specs.Plans.{halting_of}
-use Rattle.trace_props.specs.Modes.{Mode, target, is_running, stable_decision, retarget, decide}
+use Rattle.trace_props.specs.Modes.{Mode, Mode.Moving, target, is_running, stable_decision, retarget, decide}
 use Rattle.trace_props.specs.Courses.{decide_after, mode_at}
 use Rattle.trace_props.proofs.Products.{flight_of, mode_of, number_of, plan_of, runs_in_row, settles_under}
 

@@ -22,9 +22,9 @@ use Rattle.frame_model.specs.Runs.{all_below, conf_of, least_from, runs}
 use Rattle.coverage_check.specs.Choosing.{opening_env}
 use Rattle.coverage_check.specs.Timing.{slowest}
 use Rattle.trace_props.specs.Plans.{Plan}
-use Rattle.trace_props.specs.Modes.{Mode}
+use Rattle.trace_props.specs.Modes.{Mode, Mode.Stable, Mode.Moving}
 use Rattle.trace_props.specs.Courses.{Flight}
-use Rattle.trace_props.specs.Builds.{Phase, Build}
+use Rattle.trace_props.specs.Builds.{Phase, Phase.Running, Phase.Halting, Phase.Preparing, Phase.Initialising, Build}
 
 -- Factor x has one of its values, and 0 where there is no such factor.
 abbrev pub has_value : Parts → Env → ℕ → Bool

@@ -27,9 +27,9 @@ use Rattle.frame_model.specs.Runs.{all_below}
 use Rattle.frame_model.specs.States.{State, area_after, area_at, for_eight, kind_of_app, law_of, seen_by, start_area_at, start_area_of, zeros}
 use Rattle.frame_model.specs.Tasks as tasks
 use Rattle.trace_props.specs.Courses.{mode_at}
-use Rattle.trace_props.specs.Builds.{Order, phase, running_order, halting_order, preparing_order, init_order, order_in, act_of, acts_at}
+use Rattle.trace_props.specs.Builds.{Order, Order.Run, Order.Halt, Order.Hold, Order.Prepare, Order.Init, Order.Off, Act.Ran, Act.Halted, Act.Held, Act.Prepared, Act.Initialised, Act.Lost, phase, running_order, halting_order, preparing_order, init_order, order_in, act_of, acts_at}
 use Rattle.trace_props.specs.Judging.{lies_in}
-use Rattle.trace_props.specs.Areas.{Written, opening_written, Laws, Filled, IsFilled}
+use Rattle.trace_props.specs.Areas.{Written, Written.DidRun, Written.DidHalt, Written.DidPrepare, Written.DidInit, Written.Zeros, opening_written, Laws, Filled, IsFilled}
 use Rattle.trace_props.proofs.Tests.{and_left, and_right}
 use Rattle.trace_props.proofs.Builds.{all_at}
 use Rattle.trace_props.proofs.Products.{build_of, flight_of, phase_of, plan_of}

@@ -12,7 +12,7 @@ use Rattle.frame_model.specs.Flights.{listed_below, row_at}
 use Rattle.frame_model.specs.Laws.{ReadsRowByRow}
 use Rattle.frame_model.specs.Readings as readings
 use Rattle.frame_model.specs.Runs.{conf_of}
-use Rattle.trace_props.specs.Courses.{Reading, Report, arrive, read_row, reading_before, arrival, report_of, report_at}
+use Rattle.trace_props.specs.Courses.{Reading, Reading.Steady, Reading.Leaving, Report, arrive, read_row, reading_before, arrival, report_of, report_at}
 use Rattle.trace_props.proofs.Lists.{each_append, each_option, first_part, next_part, length-listed_below}
 use Rattle.trace_props.proofs.Products.{flight_of, plan_of, runs_in_row}
 

@@ -11,7 +11,7 @@ use Rattle.scram_types.specs.Specification.{IsSpec, Parts}
 use Rattle.frame_model.specs.Flights.{decided, reports_of, rows_of}
 use Rattle.frame_model.specs.Runs.{conf_of}
 use Rattle.trace_props.specs.Plans.{Accepted}
-use Rattle.trace_props.specs.Courses.{IsFlown, IsWithin, Reading, reading_before}
+use Rattle.trace_props.specs.Courses.{IsFlown, IsWithin, Reading, Reading.Steady, Reading.Leaving, reading_before}
 use Rattle.trace_props.specs.Assurances as assurances
 use Rattle.trace_props.specs.Builds.{IsBuilt, IsRun}
 use Rattle.trace_props.specs.Known.{IsKnown}

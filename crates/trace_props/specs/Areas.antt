@@ -1,9 +1,9 @@
 -- Areas, by the act that wrote them last; invariants and preconditions.
 use Rattle.std.specs.Prelude.{◌≡◌, ℕ, zero, suc, ◌<◌, ◌≤◌, ◌⊎◌, Bool, true, List, ℤ, Option, Some, None}
 use Rattle.trace_props.specs.Plans.{Plan, Accepted, IsTarget}
-use Rattle.trace_props.specs.Courses.{Flight, Report, reading_before, report_at, IsWithin}
+use Rattle.trace_props.specs.Courses.{Flight, Reading.Leaving, Report, reading_before, report_at, IsWithin}
 use Rattle.scram_types.specs.declared.specification.Place.{Place}
-use Rattle.trace_props.specs.Builds.{Act, Build, acts_at, IsBuilt, IsRun}
+use Rattle.trace_props.specs.Builds.{Act, Act.Ran, Act.Halted, Act.Held, Act.Prepared, Act.Initialised, Act.WasOff, Act.Lost, Build, acts_at, IsBuilt, IsRun}
 
 abbrev pub Area : Type 0
 Area = List ℤ

@@ -1,8 +1,8 @@
 -- What is promised of each reconfiguration that is read off the rows.
 use Rattle.std.specs.Prelude.{◌≡◌, ℕ, suc, ◌+◌, ◌-◌, ◌*◌, ◌<◌, ◌≤◌, ◌⊎◌, true, false, Option, Some}
 use Rattle.trace_props.specs.Plans.{Plan, Accepted, further, halting_of}
-use Rattle.trace_props.specs.Modes.{Mode}
-use Rattle.trace_props.specs.Courses.{Flight, Reading, Report, reading_before, report_at, changes_at, changes_upto, mode_at, IsWithin, IsFlown}
+use Rattle.trace_props.specs.Modes.{Mode, Mode.Stable, Mode.Moving}
+use Rattle.trace_props.specs.Courses.{Flight, Reading, Reading.Steady, Reading.Leaving, Report, reading_before, report_at, changes_at, changes_upto, mode_at, IsWithin, IsFlown}
 
 -- a reconfiguration that begins at s follows on another one, which saw a change after its begin
 pub record Follows (plan : Plan) (flight : Flight) (s : ℕ) : Type 0 where

@@ -2,7 +2,7 @@
 use Rattle.std.specs.Prelude.{◌≡◌, ℕ, suc, ◌+◌, ◌-◌, ◌<◌, ◌≤◌, ◌⊎◌, Bool, true, false, ◌&&◌, Option, Some, None, if◌then◌else◌, nat_eq, nat_lt}
 use Rattle.scram_types.specs.declared.flights.Env.{Env}
 use Rattle.trace_props.specs.Plans.{Plan, Accepted}
-use Rattle.trace_props.specs.Modes.{Mode}
+use Rattle.trace_props.specs.Modes.{Mode, Mode.Stable, Mode.Moving}
 use Rattle.trace_props.specs.Courses.{Flight, mode_at, IsWithin}
 use Rattle.trace_props.specs.Assurances.{AllAssured}
 use Rattle.scram_types.specs.declared.specification.Place.{Place}
