@@ -4,40 +4,62 @@ ghost use Rattle.std.specs.Prelude.{◌≡◌, IfOk, OnOk};
 ghost use Rattle.scram_io.specs.Outside.{GivesFile};
 ghost use Rattle.document_bench.specs.Documents.{IsPrinted, IsRead, texts};
 
-use crate::refusal::Refusal;
-use fault_script::{read_script, write_script};
-use reconf_spec::{read_spec, write_spec};
-use scram_io::{Files, ReadFault, Sink};
+use fault_script::{MAX_SCRIPT_BYTES, ScriptError, read_script, write_script};
+use reconf_spec::{SpecError, read_spec, write_spec};
+use scram_doc::Path;
+use scram_io::{Files, ReadFault, Sink, SinkFault};
 use scram_types::{NoMemory, Script, Spec};
 use std::alloc::Global;
+use thiserror::Error;
 
-/// The bytes of a file.
+/// Why nothing was read or written.
+#[derive(Debug, Drop, Error)]
+pub enum Refusal<'a> {
+    #[error("usage")]
+    Usage,
+    #[error("read {0}")]
+    File(&'a str),
+    #[error("{0} rule {1} at {2}")]
+    Document(&'a str, u8, Path),
+    #[error("memory")]
+    Memory(#[from] NoMemory),
+    #[error("write")]
+    Output(#[from] SinkFault),
+}
+
+/// The bytes of a file, of which no document has more than a script.
 pub fn load<'a, F: Files>(
     alloc: Global,
     files: &mut F,
     name: &'a str,
-    limit: usize,
 ) -> Result<Vec<u8>, Refusal<'a>>
     ensures { IfOk result (λ bytes. GivesFile (F.told files.old) name.now bytes.items) }
 {
-    match files.read(alloc, name, limit) {
+    match files.read(alloc, name, MAX_SCRIPT_BYTES) {
         Ok(bytes) => Ok(bytes),
-        Err(ReadFault::NoMemory) => Err(Refusal::Memory),
+        Err(ReadFault::NoMemory) => Err(Refusal::Memory(NoMemory)),
         Err(ReadFault::Failed | ReadFault::TooLong) => Err(Refusal::File(name)),
     }
 }
 
-/// Reads both documents so many times.
-pub fn read_often<'a>(
-    alloc: Global,
-    spec: &[u8],
-    script: &[u8],
-    times: u32,
-) -> Result<(), Refusal<'a>> {
-    for _ in 0..times {
-        read(alloc, spec, script)?;
+/// Reads both documents.
+pub fn read<'a>(alloc: Global, spec: &[u8], script: &[u8]) -> Result<(Spec, Script), Refusal<'a>>
+    ensures { IfOk result (λ read. IsRead spec.now script.now read.0 read.1) }
+{
+    let spec = match read_spec(alloc, spec) {
+        Ok(spec) => spec,
+        Err(SpecError::Fault(fault)) => return Err(Refusal::Document(
+            "specification",
+            fault.rule,
+            fault.path,
+        )),
+        Err(SpecError::NoMemory) => return Err(Refusal::Memory(NoMemory)),
+    };
+    match read_script(alloc, script, &spec) {
+        Ok(script) => Ok((spec, script)),
+        Err(ScriptError::Fault(fault)) => Err(Refusal::Document("script", fault.rule, fault.path)),
+        Err(ScriptError::NoMemory) => Err(Refusal::Memory(NoMemory)),
     }
-    Ok(())
 }
 
 /// Reads both documents once, writes them so many times, and at least once, and puts their canonical texts.
@@ -51,30 +73,12 @@ pub fn print<'a, K: Sink>(
     ensures { OnOk result (IsPrinted spec.now script.now (K.taken out.old) (K.taken out.new)) }
 {
     let (spec, script) = read(alloc, spec, script)?;
-    let text = write_often(alloc, &spec, &script, times)?;
-    match out.put(&text) {
-        Ok(()) => Ok(()),
-        Err(_) => Err(Refusal::Output),
-    }
-}
-
-/// Reads both documents.
-fn read<'a>(alloc: Global, spec: &[u8], script: &[u8]) -> Result<(Spec, Script), Refusal<'a>>
-    ensures { IfOk result (λ read. IsRead spec.now script.now read.0 read.1) }
-{
-    let spec = read_spec(alloc, spec)?;
-    let script = read_script(alloc, script, &spec)?;
-    Ok((spec, script))
-}
-
-/// Writes both documents so many times, and at least once.
-fn write_often(alloc: Global, spec: &Spec, script: &Script, times: u32) -> Result<Vec<u8>, NoMemory>
-    ensures { IfOk result (λ text. text.items ≡ texts spec.now script.now) }
-{
     for _ in 1..times {
-        write(alloc, spec, script)?;
+        write(alloc, &spec, &script)?;
     }
-    write(alloc, spec, script)
+    let text = write(alloc, &spec, &script)?;
+    out.put(&text)?;
+    Ok(())
 }
 
 /// The canonical texts of both documents, a line each.
