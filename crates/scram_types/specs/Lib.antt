@@ -1,5 +1,9 @@
+pub mod Bits
+pub mod Eights
+pub mod Lookups
 pub mod Names
 pub mod Numbers
 pub mod Ranges
 pub mod Scripts
+pub mod Searches
 pub mod Specification

@@ -2,10 +2,12 @@
 //! no crate above tests an index, a limit or a name again.
 #![tactic(auto)]
 
+pub mod bits;
 pub mod flights;
 pub mod ids;
 pub mod limits;
 pub mod lists;
+pub mod lookups;
 pub mod memory;
 pub mod names;
 pub mod numbers;

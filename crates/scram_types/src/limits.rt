@@ -42,3 +42,13 @@ pub const MAX_HEADING: i64 = 3_599;
 pub const KINDS: u8 = 5;
 /// The most frames that a script flies.
 pub const MAX_FRAMES: u32 = 20_000;
+/// The most environments in scope that a specification may have.
+pub const MAX_ENVIRONMENTS: u32 = 16_384;
+/// The most bytes of a trace's line, without its line feed.
+pub const MAX_LINE_BYTES: usize = 512;
+/// The most bytes of a file that holds a specification.
+pub const MAX_SPECIFICATION_BYTES: usize = 1_048_576;
+/// The most bytes of a file that holds a script.
+pub const MAX_SCRIPT_BYTES: usize = 2_097_152;
+/// The most bytes of a file that holds a trace.
+pub const MAX_TRACE_BYTES: usize = 33_554_432;

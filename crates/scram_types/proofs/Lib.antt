@@ -1,0 +1,7 @@
+pub mod BitSets
+pub mod Booleans
+pub mod Items
+pub mod Naturals
+pub mod Options
+pub mod Placed
+pub mod Searches

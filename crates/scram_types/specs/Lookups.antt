@@ -1,0 +1,91 @@
+-- What stands in a specification, by number and by name.
+use Rattle.std.specs.Prelude.{ℕ, suc, ◌-◌, ◌^◌, Bool, List, [], ◌∷◌, length, replicate, slice_get, Option, Some, None, is_some, option_map, option_and_then, bytes_eq, if◌then◌else◌}
+use Rattle.std.specs.Option.{option_map_or}
+use Rattle.scram_types.specs.declared.ids.AppId.{AppId}
+use Rattle.scram_types.specs.declared.ids.ProcId.{ProcId}
+use Rattle.scram_types.specs.declared.ids.ConfId.{ConfId}
+use Rattle.scram_types.specs.declared.ids.FactorId.{FactorId}
+use Rattle.scram_types.specs.declared.flights.Env.{Env}
+use Rattle.scram_types.specs.declared.specification.Proc.{Proc}
+use Rattle.scram_types.specs.declared.specification.ModeSpec.{ModeSpec}
+use Rattle.scram_types.specs.declared.specification.AppSpec.{AppSpec}
+use Rattle.scram_types.specs.declared.specification.Place.{Place}
+use Rattle.scram_types.specs.declared.specification.Conf.{Conf}
+use Rattle.scram_types.specs.declared.specification.Factor.{Factor}
+use Rattle.scram_types.specs.Specification.{Parts, mode_in, place_in}
+
+abbrev pub app_id : ℕ → AppId
+app_id a = record { 0 = a }
+
+abbrev pub proc_id : ℕ → ProcId
+proc_id p = record { 0 = p }
+
+abbrev pub conf_id : ℕ → ConfId
+conf_id c = record { 0 = c }
+
+abbrev pub factor_id : ℕ → FactorId
+factor_id x = record { 0 = x }
+
+-- The number of the first item of a list that has this name, the first of the items having number i.
+abbrev pub number_from : {A : Type 0} → (A → List ℕ) → ℕ → List A → List ℕ → Option ℕ
+number_from name i [] text = None
+number_from name i (x ∷ xs) text = if bytes_eq (name x) text then Some i else number_from name (suc i) xs text
+
+-- The number of the first item of a list that has this name.
+abbrev pub number_named : {A : Type 0} → (A → List ℕ) → List A → List ℕ → Option ℕ
+number_named name xs text = number_from name 0 xs text
+
+abbrev pub app_named : Parts → List ℕ → Option AppId
+app_named spec text = option_map app_id (number_named (λ (app : AppSpec). app.name) spec.apps text)
+
+abbrev pub proc_named : Parts → List ℕ → Option ProcId
+proc_named spec text = option_map proc_id (number_named (λ (proc : Proc). proc.name) spec.procs text)
+
+abbrev pub conf_named : Parts → List ℕ → Option ConfId
+conf_named spec text = option_map conf_id (number_named (λ (conf : Conf). conf.name) spec.confs text)
+
+abbrev pub factor_named : Parts → List ℕ → Option FactorId
+factor_named spec text = option_map factor_id (number_named (λ (factor : Factor). factor.name) spec.factors text)
+
+-- The number of a factor's value.
+abbrev pub value_named : Factor → List ℕ → Option ℕ
+value_named factor text = number_named (λ (name : List ℕ). name) factor.values text
+
+-- A name by the number of what it names: no bytes for what does not exist.
+abbrev pub app_name : Parts → ℕ → List ℕ
+app_name spec a = option_map_or (λ (app : AppSpec). app.name) (slice_get spec.apps a) []
+
+abbrev pub proc_name : Parts → ℕ → List ℕ
+proc_name spec p = option_map_or (λ (proc : Proc). proc.name) (slice_get spec.procs p) []
+
+abbrev pub conf_name : Parts → ℕ → List ℕ
+conf_name spec c = option_map_or (λ (conf : Conf). conf.name) (slice_get spec.confs c) []
+
+abbrev pub factor_name : Parts → ℕ → List ℕ
+factor_name spec x = option_map_or (λ (factor : Factor). factor.name) (slice_get spec.factors x) []
+
+abbrev pub value_name : Factor → ℕ → List ℕ
+value_name factor value = option_map_or (λ (name : List ℕ). name) (slice_get factor.values value) []
+
+-- The kind of application a: 0 where it does not exist.
+abbrev pub kind_of_app : Parts → ℕ → ℕ
+kind_of_app spec a = option_map_or (λ (app : AppSpec). app.kind.0) (slice_get spec.apps a) 0
+
+-- Where configuration c places application a: nowhere where it is off.
+abbrev pub place_of : Parts → ConfId → ℕ → Option Place
+place_of spec c a = option_and_then (λ (conf : Conf). place_in conf a) (slice_get spec.confs c.0)
+
+abbrev pub is_on : Parts → ConfId → ℕ → Bool
+is_on spec c a = is_some (place_of spec c a)
+
+-- What application a costs in mode m, if it lists that mode.
+abbrev pub mode_of_app : Parts → ℕ → ℕ → Option ModeSpec
+mode_of_app spec a m = option_and_then (λ (app : AppSpec). mode_in app.modes m) (slice_get spec.apps a)
+
+-- What the mode of application a in configuration c costs, if a is on there.
+abbrev pub mode_of : Parts → ConfId → ℕ → Option ModeSpec
+mode_of spec c a = option_and_then (λ (place : Place). mode_of_app spec a place.mode.0) (place_of spec c a)
+
+-- The environment that a flight opens in: each processor is up, each factor has its first value.
+abbrev pub opening_env : Parts → Env
+opening_env spec = record { up = 2 ^ length spec.procs - 1; factors = replicate 6 0 }

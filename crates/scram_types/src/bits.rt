@@ -1,0 +1,11 @@
+//! Sets of numbers below 8 that are kept as bits.
+
+ghost use Rattle.std.specs.Prelude.{◌≡◌};
+ghost use Rattle.scram_types.specs.Bits.{has_bit};
+
+/// Whether number `p` is in a set: whether bit `p` of it is set.
+pub fn has_bit(set: u8, p: u8) -> bool
+    ensures { result ≡ has_bit set p }
+{
+    p < 8 && set >> p & 1 == 1
+}

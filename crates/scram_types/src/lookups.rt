@@ -1,0 +1,189 @@
+//! What stands in a specification, by number and by name. None of these takes memory.
+
+ghost use Rattle.std.specs.Prelude.{◌≡◌, ◌<◌, ◌≤◌, IfSome, length};
+ghost use Rattle.scram_types.specs.Lookups.{app_name, app_named, conf_name, conf_named, factor_name, factor_named, is_on, kind_of_app, mode_of, mode_of_app, number_named, opening_env, place_of, proc_name, proc_named, value_name, value_named};
+
+use crate::flights::Env;
+use crate::ids::{AppId, ConfId, FactorId, KindId, Mode, ProcId};
+use crate::names::Name;
+use crate::specification::{Factor, ModeSpec, Place, Spec};
+
+impl Spec {
+    /// The application of this name.
+    pub fn app_named(&self, text: &[u8]) -> Option<AppId>
+        ensures app { result ≡ app_named self.now text.now }
+        ensures below { IfSome result (λ app. app.0 < length self.now.apps) }
+    {
+        for (i, app) in self.apps.items().iter().enumerate() {
+            if app.name.as_str().as_bytes() == text {
+                return Some(AppId(i as u8));
+            }
+        }
+        None
+    }
+
+    /// The processor of this name.
+    pub fn proc_named(&self, text: &[u8]) -> Option<ProcId>
+        ensures proc { result ≡ proc_named self.now text.now }
+        ensures below { IfSome result (λ proc. proc.0 < length self.now.procs) }
+    {
+        for (i, proc) in self.procs.items().iter().enumerate() {
+            if proc.name.as_str().as_bytes() == text {
+                return Some(ProcId(i as u8));
+            }
+        }
+        None
+    }
+
+    /// The configuration of this name.
+    pub fn conf_named(&self, text: &[u8]) -> Option<ConfId>
+        ensures conf { result ≡ conf_named self.now text.now }
+        ensures below { IfSome result (λ conf. conf.0 < length self.now.confs) }
+    {
+        for (i, conf) in self.confs.items().iter().enumerate() {
+            if conf.name.as_str().as_bytes() == text {
+                return Some(ConfId(i as u8));
+            }
+        }
+        None
+    }
+
+    /// The factor of this name.
+    pub fn factor_named(&self, text: &[u8]) -> Option<FactorId>
+        ensures factor { result ≡ factor_named self.now text.now }
+        ensures below { IfSome result (λ factor. factor.0 < length self.now.factors) }
+    {
+        for (i, factor) in self.factors.items().iter().enumerate() {
+            if factor.name.as_str().as_bytes() == text {
+                return Some(FactorId(i as u8));
+            }
+        }
+        None
+    }
+
+    /// The name of an application; no bytes where it does not exist.
+    pub fn app_name(&self, app: AppId) -> &str
+        ensures { result.now ≡ app_name self.now app.0 }
+    {
+        match self.app(app) {
+            Some(app) => app.name.as_str(),
+            None => "",
+        }
+    }
+
+    /// The name of a processor; no bytes where it does not exist.
+    pub fn proc_name(&self, proc: ProcId) -> &str
+        ensures { result.now ≡ proc_name self.now proc.0 }
+    {
+        match self.proc(proc) {
+            Some(proc) => proc.name.as_str(),
+            None => "",
+        }
+    }
+
+    /// The name of a configuration; no bytes where it does not exist.
+    pub fn conf_name(&self, conf: ConfId) -> &str
+        ensures { result.now ≡ conf_name self.now conf.0 }
+    {
+        match self.conf(conf) {
+            Some(conf) => conf.name.as_str(),
+            None => "",
+        }
+    }
+
+    /// The name of a factor; no bytes where it does not exist.
+    pub fn factor_name(&self, factor: FactorId) -> &str
+        ensures { result.now ≡ factor_name self.now factor.0 }
+    {
+        match self.factor(factor) {
+            Some(factor) => factor.name.as_str(),
+            None => "",
+        }
+    }
+
+    /// The kind of an application; 0 where it does not exist.
+    pub fn kind_of_app(&self, app: AppId) -> KindId
+        ensures kind { result.0 ≡ kind_of_app self.now app.0 }
+        ensures built { result.0 < 5 }
+    {
+        match self.apps.items().get(usize::from(app.0)) {
+            Some(app) => app.kind,
+            None => KindId(0),
+        }
+    }
+
+    /// Where a configuration places an application, or `None` where it is off.
+    pub fn place_of(&self, c: ConfId, app: AppId) -> Option<Place>
+        ensures place { result ≡ place_of self.now c app.0 }
+        ensures proc { IfSome result (λ place. place.proc.0 < 8) }
+    {
+        match self.confs.items().get(usize::from(c.0)) {
+            Some(conf) => conf.place(app),
+            None => None,
+        }
+    }
+
+    /// Whether an application is on in a configuration.
+    pub fn is_on(&self, conf: ConfId, app: AppId) -> bool
+        ensures { result ≡ is_on self.now conf app.0 }
+    {
+        self.place_of(conf, app).is_some()
+    }
+
+    /// What a mode of an application costs, or `None` where the application does not list it.
+    pub fn mode_of_app(&self, app: AppId, mode: Mode) -> Option<ModeSpec>
+        ensures { result ≡ mode_of_app self.now app.0 mode.0 }
+    {
+        self.app(app)?.mode(mode)
+    }
+
+    /// What the mode of an application in a configuration costs, or `None` where it is off.
+    pub fn mode_of(&self, conf: ConfId, app: AppId) -> Option<ModeSpec>
+        ensures { result ≡ mode_of self.now conf app.0 }
+    {
+        let place = self.place_of(conf, app)?;
+        self.mode_of_app(app, place.mode)
+    }
+
+    /// The environment that a flight opens in: each processor is up, each factor has its first value.
+    pub fn opening_env(&self) -> Env
+        ensures { result ≡ opening_env self.now }
+    {
+        Env {
+            up: ((1u16 << self.procs.items().len()) - 1) as u8,
+            factors: [0; 6],
+        }
+    }
+}
+
+impl Factor {
+    /// The number of the value of this name, of at most 255 values.
+    pub fn value_named(&self, text: &[u8]) -> Option<u8>
+        requires { length self.now.values ≤ 255 }
+        ensures { result ≡ value_named self.now text.now }
+    {
+        number_of_name(self.values.items(), text)
+    }
+
+    /// The name of a value; no bytes where the factor has no such value.
+    pub fn value_name(&self, value: u8) -> &str
+        ensures { result.now ≡ value_name self.now value }
+    {
+        match self.values.items().get(usize::from(value)) {
+            Some(name) => name.as_str(),
+            None => "",
+        }
+    }
+}
+
+fn number_of_name(names: &[Name], text: &[u8]) -> Option<u8>
+    requires { length names.now ≤ 255 }
+    ensures { result ≡ number_named (λ name. name) names.now text.now }
+{
+    for (i, name) in names.iter().enumerate() {
+        if name.as_str().as_bytes() == text {
+            return Some(i as u8);
+        }
+    }
+    None
+}
