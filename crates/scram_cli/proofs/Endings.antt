@@ -4,7 +4,7 @@ use Rattle.std.specs.Prelude.{Option, Some, None, IfSome, ◌⊎◌, Contains}
 use Rattle.scram_io.specs.Outside.{Rose, Unrisen, TakesSurely}
 use Rattle.scram_io.proofs.Puts.{rose_since, risen}
 use Rattle.trace_text.specs.Printing.{Printed, CutOff}
-use Rattle.scram_cli.specs.Answers.{Ends, HasRoom, Outcome, Says, Surely, Tells, memory_line, read_line}
+use Rattle.scram_cli.specs.Answers.{Ends, HasRoom, Outcome, Says, Surely, TellsAnswer, memory_line, read_line}
 
 pub surely_of : (room left : Option ℕ) (before now : ℕ) (text : List ℕ) →
     TakesSurely room left before now text → Surely room before now text
@@ -13,7 +13,7 @@ surely_of (Some bytes) left before now text takes = λ fits. (takes fits).0
 
 -- a text that was printed whole, with its status
 pub printed_tells : (status : ℕ) (text : List ℕ) (old new : Option (List ℕ)) (room left : Option ℕ) (before now : ℕ) →
-    Printed old new room left before now text → Tells (status, text) old new room before now status
+    Printed old new room left before now text → TellsAnswer (status, text) old new room before now status
 printed_tells status text old new room left before now printed = record {
   status = status;
   text = text;
@@ -24,7 +24,7 @@ printed_tells status text old new room left before now printed = record {
 
 -- a text that was cut off, with status 4
 pub cut_tells : (status : ℕ) (text : List ℕ) (old new : Option (List ℕ)) (room left : Option ℕ) (before now : ℕ) →
-    CutOff old new room left before now text → Tells (status, text) old new room before now 4
+    CutOff old new room left before now text → TellsAnswer (status, text) old new room before now 4
 cut_tells status text old new room left before now cut = record {
   status = status;
   text = text;
@@ -52,7 +52,7 @@ told_outcome Answers answered names unread reads status text answers (inr is) = 
 -- an answer that was told
 pub told_ends : (Answers : ℕ → List ℕ → Type 0) (answered : ℕ × List ℕ) (names : List (List ℕ)) (unread reads : ℕ)
     (old new : Option (List ℕ)) (room : Option ℕ) (before now code : ℕ) →
-    Answers answered.0 answered.1 → Tells answered old new room before now code →
+    Answers answered.0 answered.1 → TellsAnswer answered old new room before now code →
     Ends Answers names unread reads old new room before now code
 told_ends Answers answered names unread reads old new room before now code answers tells = record {
   status = tells.status;
@@ -91,7 +91,7 @@ unread_outcome Answers names name unread reads status text named rose (inr is) =
 -- a file that was not read
 pub unread_ends : (Answers : ℕ → List ℕ → Type 0) (names : List (List ℕ)) (name : List ℕ) (unread reads : ℕ)
     (old new : Option (List ℕ)) (room : Option ℕ) (before now code : ℕ) →
-    Contains names name → Rose unread reads → Tells (3, read_line name) old new room before now code →
+    Contains names name → Rose unread reads → TellsAnswer (3, read_line name) old new room before now code →
     Ends Answers names unread reads old new room before now code
 unread_ends Answers names name unread reads old new room before now code named rose tells = record {
   status = tells.status;

@@ -11,13 +11,13 @@ use Rattle.mission_gen.specs.Changes.{generated_script}
 use Rattle.reconf_spec.specs.declared.fault.SpecFault.{SpecFault}
 use Rattle.trace_props.specs.declared.breaks.Broken.{Broken}
 use Rattle.trace_text.specs.declared.trace_reading.TraceFault.{TraceFault}
-use Rattle.scram_cli.specs.declared.flights.Telling.TheVariants.{Trace}
+use Rattle.scram_cli.specs.declared.flights.FlightText.TheVariants.{Trace}
 use Rattle.scram_cli.specs.declared.forms.Form.{Form}
 use Rattle.scram_cli.specs.declared.forms.Form.TheVariants.{Generated, Specified}
 use Rattle.scram_cli.specs.declared.forms.Purpose.{Purpose}
 use Rattle.scram_cli.specs.declared.forms.Request.{Request}
 use Rattle.scram_cli.specs.declared.forms.Request.TheVariants.{Props, Run}
-use Rattle.scram_cli.specs.Answers.{AreThere, Ends, HasRoom, IsAnswer, IsGenerated, IsMissionAnswer, Judges, Outcome, RequestAnswers, Says, Surely, Tells, TellsMission, flight_answer, judged_answer, memory_line, mission_answer}
+use Rattle.scram_cli.specs.Answers.{AreThere, Ends, HasRoom, IsAnswer, IsGenerated, IsMissionAnswer, Judges, Outcome, RequestAnswers, Says, Surely, TellsAnswer, TellsMission, flight_answer, judged_answer, memory_line, mission_answer}
 use Rattle.scram_cli.specs.Forms.{files_of, further_files}
 use Rattle.scram_cli.specs.Lines.{script_line, specification_line, trace_line}
 use Rattle.scram_cli.proofs.Endings.{quiet_ends, wider_ends}
@@ -88,7 +88,7 @@ told_is number purpose spec status text generated (inr is) = inr is
 
 -- the answer for a generated mission went out
 pub told_mission : (number : ℕ) (purpose : Purpose) (spec : Parts) (old new : Option (List ℕ)) (room : Option ℕ) (before now code : ℕ) → IsGenerated spec →
-    Tells (mission_answer number purpose spec (generated_script number)) old new room before now code →
+    TellsAnswer (mission_answer number purpose spec (generated_script number)) old new room before now code →
     TellsMission number purpose old new room before now code
 told_mission number purpose spec old new room before now code generated tells = record {
   status = tells.status;

@@ -31,8 +31,8 @@ use Rattle.trace_text.specs.Text.{text_of}
 use Rattle.trace_text.specs.TraceReading.{trace_of as trace_in}
 use Rattle.scram_cli.specs.declared.forms.Form.{Form}
 use Rattle.scram_cli.specs.declared.forms.Form.TheVariants.{Specified, Generated}
-use Rattle.scram_cli.specs.declared.flights.Telling.{Telling}
-use Rattle.scram_cli.specs.declared.flights.Telling.TheVariants.{Trace, Summary}
+use Rattle.scram_cli.specs.declared.flights.FlightText.{FlightText}
+use Rattle.scram_cli.specs.declared.flights.FlightText.TheVariants.{Trace, Summary}
 use Rattle.scram_cli.specs.declared.forms.Purpose.{Purpose}
 use Rattle.scram_cli.specs.declared.forms.Purpose.TheVariants.{Print, Fly}
 use Rattle.scram_cli.specs.declared.forms.Request.{Request}
@@ -59,23 +59,23 @@ AnswersOf None Answers status text = ⊥
 AnswersOf (Some bytes) Answers status text = Answers bytes status text
 
 -- what is told of rows and reports
-abbrev pub flown_text : Telling → Parts → List Row → List Report → List ℕ
+abbrev pub flown_text : FlightText → Parts → List Row → List Report → List ℕ
 flown_text Trace spec rows reports = text_of spec rows reports
 flown_text (Summary number) spec rows reports = fly_line number spec rows reports
 
 -- what is told of the one-thread flight
-abbrev pub told_of : Telling → Parts → ScriptParts → List ℕ
-told_of telling spec script = flown_text telling spec (rows_of spec script) (reports_of spec script)
+abbrev pub flight_text : FlightText → Parts → ScriptParts → List ℕ
+flight_text told spec script = flown_text told spec (rows_of spec script) (reports_of spec script)
 
 -- the answer where the specification is accepted, by how the script leaves the failure assumption
-abbrev pub within_answer : Telling → Parts → ScriptParts → Option Outside → ℕ × List ℕ
-within_answer telling spec script (Some outside) = (8, outside_line outside)
-within_answer telling spec script None = (0, told_of telling spec script)
+abbrev pub within_answer : FlightText → Parts → ScriptParts → Option Outside → ℕ × List ℕ
+within_answer told spec script (Some outside) = (8, outside_line outside)
+within_answer told spec script None = (0, flight_text told spec script)
 
 -- the answer of a flight, by why the specification is not accepted
-abbrev pub flight_answer : Telling → Parts → ScriptParts → Option Shown → ℕ × List ℕ
-flight_answer telling spec script (Some shown) = (6, shown_line spec shown)
-flight_answer telling spec script None = within_answer telling spec script (first_outside spec script)
+abbrev pub flight_answer : FlightText → Parts → ScriptParts → Option Shown → ℕ × List ℕ
+flight_answer told spec script (Some shown) = (6, shown_line spec shown)
+flight_answer told spec script None = within_answer told spec script (first_outside spec script)
 
 abbrev pub script_answer : Parts → Result ScriptParts DocFault → ℕ × List ℕ
 script_answer spec (Err fault) = (7, script_line fault)
@@ -198,7 +198,7 @@ Surely room before now text = IfSome room (λ bytes. length text ≤ bytes → U
 
 -- A text went out with its status, or the memory line with status 9. What the sink took, the bytes that it
 -- surely takes and its count of faults, before and after.
-pub record Tells (answered : ℕ × List ℕ) (old new : Option (List ℕ)) (room : Option ℕ) (before now : ℕ) (code : ℕ) : Type 0 where
+pub record TellsAnswer (answered : ℕ × List ℕ) (old new : Option (List ℕ)) (room : Option ℕ) (before now : ℕ) (code : ℕ) : Type 0 where
   pub status : ℕ
   pub text : List ℕ
   pub is : ((status, text) ≡ answered) ⊎ ((status ≡ 9) × (text ≡ memory_line))
@@ -209,7 +209,7 @@ pub record Tells (answered : ℕ × List ℕ) (old new : Option (List ℕ)) (roo
 pub record TellsJudgement (spec : Parts) (flown : Flown) (old new : Option (List ℕ)) (room : Option ℕ) (before now : ℕ) (code : ℕ) : Type 0 where
   pub judged : Option Broken
   pub judges : Judges spec flown judged
-  pub tells : Tells (judged_answer flown judged) old new room before now code
+  pub tells : TellsAnswer (judged_answer flown judged) old new room before now code
 
 -- The answer for the mission of a number went out.
 pub record TellsMission (number : ℕ) (purpose : Purpose) (old new : Option (List ℕ)) (room : Option ℕ) (before now : ℕ) (code : ℕ) : Type 0 where

@@ -11,20 +11,20 @@ use Rattle.frame_model.specs.Flights.{reports_of, rows_of}
 use Rattle.trace_props.specs.Properties.{HoldsAll}
 use Rattle.scram_cli.specs.declared.forms.Form.{Form}
 use Rattle.scram_cli.specs.declared.forms.Form.TheVariants.{Specified, Generated}
-use Rattle.scram_cli.specs.declared.flights.Telling.{Telling}
-use Rattle.scram_cli.specs.declared.flights.Telling.TheVariants.{Trace, Summary}
+use Rattle.scram_cli.specs.declared.flights.FlightText.{FlightText}
+use Rattle.scram_cli.specs.declared.flights.FlightText.TheVariants.{Trace, Summary}
 use Rattle.scram_cli.specs.declared.forms.Purpose.{Purpose}
 use Rattle.scram_cli.specs.declared.forms.Purpose.TheVariants.{Print, Fly}
 use Rattle.scram_cli.specs.declared.forms.Request.{Request}
 use Rattle.scram_cli.specs.declared.forms.Request.TheVariants.{Run, Check, Bounds, Props}
-use Rattle.scram_cli.specs.Answers.{IsGenerated, told_of}
+use Rattle.scram_cli.specs.Answers.{IsGenerated, flight_text}
 use Rattle.scram_cli.specs.Loads.{HasBytes, ReadsAsScript, ReadsAsSpec, ReadsAsTrace}
 
 -- The specification is accepted and the script keeps to its failure assumption; what is told of the
 -- one-thread flight went out whole; and the five properties of reconfigurations hold of its rows and reports.
-pub record IsAssured (telling : Telling) (spec : Parts) (script : ScriptParts) (old new : Option (List ℕ)) : Type 0 where
+pub record IsAssured (told : FlightText) (spec : Parts) (script : ScriptParts) (old new : Option (List ℕ)) : Type 0 where
   pub mission : IsMission (mission_of spec script)
-  pub whole : Took old new (told_of telling spec script)
+  pub whole : Took old new (flight_text told spec script)
   pub holds : HoldsAll spec (rows_of spec script) (reports_of spec script)
 
 -- The same of the script that a file has.

@@ -22,11 +22,11 @@ use Rattle.coverage_check.specs.declared.shown.Other.{Other}
 use Rattle.coverage_check.specs.declared.shown.Other.TheVariants as other
 use Rattle.coverage_check.specs.Timing.{least}
 use Rattle.trace_props.specs.declared.breaks.Broken.{Broken}
-use Rattle.trace_props.specs.Breaks.{number_of}
+use Rattle.trace_props.specs.Breaks.{property_number}
 use Rattle.trace_text.specs.declared.trace_reading.TraceFault.{TraceFault}
 use Rattle.trace_text.specs.Names.{conf_name, conf_or_dash, further, proc_name, value_name}
 use Rattle.trace_text.specs.Text.{bound_text}
-use Rattle.scram_cli.specs.Summaries.{last_run, longest}
+use Rattle.scram_cli.specs.Summaries.{last_run, longest_duration}
 
 -- a broken rule of a document, and where it is broken
 abbrev pub rule_text : ℕ → List ℕ → List ℕ
@@ -91,13 +91,13 @@ shown_line spec shown =
     codes "refused: A" ++ decimal shown.condition ++ codes " " ++ conf_or_dash spec shown.conf ++ codes " "
     ++ env_or_dash spec shown.env ++ codes " " ++ other_text spec shown.other ++ codes "\n"
 
-abbrev pub kind_text : OutsideKind → List ℕ
-kind_text Halts = codes "halts"
-kind_text Changes = codes "changes"
+abbrev pub outside_kind_text : OutsideKind → List ℕ
+outside_kind_text Halts = codes "halts"
+outside_kind_text Changes = codes "changes"
 
 -- where a script leaves the failure assumption
 abbrev pub outside_line : Outside → List ℕ
-outside_line outside = codes "refused: outside at frame " ++ decimal outside.frame ++ codes ": " ++ kind_text outside.kind ++ codes "\n"
+outside_line outside = codes "refused: outside at frame " ++ decimal outside.frame ++ codes ": " ++ outside_kind_text outside.kind ++ codes "\n"
 
 -- a specification that is accepted: its configurations, its environments in scope and the bounds that it gives
 abbrev pub accepted_line : Parts → List ℕ
@@ -125,10 +125,10 @@ holds_line flown = codes "holds:" ++ counts_text flown.rows flown.reports ++ cod
 
 -- the property that a trace breaks first, and where
 abbrev pub broken_line : Broken → List ℕ
-broken_line broken = codes "broken: SP" ++ decimal (number_of broken.property) ++ codes " at frame " ++ decimal broken.frame ++ codes "\n"
+broken_line broken = codes "broken: SP" ++ decimal (property_number broken.property) ++ codes " at frame " ++ decimal broken.frame ++ codes "\n"
 
 -- the flight of a mission's number: its frames and its reconfigurations, how many frames the longest
 -- finished one took, and the configuration that was run last
 abbrev pub fly_line : ℕ → Parts → List Row → List Report → List ℕ
 fly_line number spec rows reports =
-    codes "fly " ++ decimal number ++ counts_text rows reports ++ codes " longest " ++ decimal (longest reports) ++ codes " final " ++ conf_name spec (last_run spec rows).0 ++ codes "\n"
+    codes "fly " ++ decimal number ++ counts_text rows reports ++ codes " longest " ++ decimal (longest_duration reports) ++ codes " final " ++ conf_name spec (last_run spec rows).0 ++ codes "\n"

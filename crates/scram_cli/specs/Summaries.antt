@@ -16,9 +16,9 @@ abbrev pub duration : Report → ℕ
 duration report = duration_to report.to report
 
 -- the greatest duration of a finished reconfiguration, 0 without one
-abbrev pub longest : List Report → ℕ
-longest [] = 0
-longest (report ∷ reports) = max (duration report) (longest reports)
+abbrev pub longest_duration : List Report → ℕ
+longest_duration [] = 0
+longest_duration (report ∷ reports) = max (duration report) (longest_duration reports)
 
 -- a configuration, or the one before it where there is none
 abbrev pub or_before : Option ConfId → ConfId → ConfId

@@ -6,7 +6,7 @@ ghost use Rattle.coverage_check.specs.Form.{state_refusal};
 ghost use Rattle.coverage_check.specs.Timing.{can_return, targets};
 ghost use Rattle.scram_io.specs.Outside.{Rose};
 ghost use Rattle.trace_text.specs.Printing.{Prints};
-ghost use Rattle.scram_cli.specs.Answers.{Tells, bounds_answer};
+ghost use Rattle.scram_cli.specs.Answers.{TellsAnswer, bounds_answer};
 ghost use Rattle.scram_cli.specs.Bounds.{HasTargetSets, bound_text_of, bounds_text, bounds_text_from, is_asked, may_go};
 
 use crate::lines::{make_bound_line, make_shown_line};
@@ -23,7 +23,7 @@ const MAX_STATES: u32 = 16_384;
 
 /// Tells the bounds that a specification has to give, where it has few enough environments in scope.
 pub fn tell_bounds<K: Sink>(alloc: Global, spec: &Spec, out: &mut K) -> Status
-    ensures tells { Tells (bounds_answer spec.now (state_refusal spec.now)) (K.taken out.old) (K.taken out.new)
+    ensures tells { TellsAnswer (bounds_answer spec.now (state_refusal spec.now)) (K.taken out.old) (K.taken out.new)
         (K.surely out.old) (K.faults out.old) (K.faults out.new) result.code }
     ensures write { result.code ≡ 4 → Rose (K.faults out.old) (K.faults out.new) }
     ensures read { result.code ≢ 3 }
@@ -51,7 +51,7 @@ fn refuse_states(spec: &Spec) -> Option<Shown>
 }
 
 fn tell_each<K: Sink>(alloc: Global, spec: &Spec, out: &mut K) -> Status
-    ensures tells { Tells (0, bounds_text spec.now) (K.taken out.old) (K.taken out.new)
+    ensures tells { TellsAnswer (0, bounds_text spec.now) (K.taken out.old) (K.taken out.new)
         (K.surely out.old) (K.faults out.old) (K.faults out.new) result.code }
     ensures write { result.code ≡ 4 → Rose (K.faults out.old) (K.faults out.new) }
     ensures read { result.code ≢ 3 }

@@ -10,7 +10,7 @@ ghost use Rattle.scram_cli.specs.Assurance.{AssuresForm, AssuresRequest, Assures
 ghost use Rattle.scram_cli.specs.Forms.{files_of, form_of, further_files, with_name, with_names};
 
 use crate::bounds::tell_bounds;
-use crate::flights::{Telling, check, fly};
+use crate::flights::{FlightText, check, fly};
 use crate::forms::{Form, Request, form_of};
 use crate::generated::answer_generated;
 use crate::judgements::judge;
@@ -166,7 +166,7 @@ fn run<F: Files, K: Sink>(
         AssuresScript spec m script.now (K.taken out.old) (K.taken out.new)) }
 {
     match load_script(alloc, &spec, script, files) {
-        Loaded::Got(script) => fly(alloc, spec, script, Telling::Trace, out, racks),
+        Loaded::Got(script) => fly(alloc, spec, script, FlightText::Trace, out, racks),
         Loaded::Refused(fault) => tell_line(out, 7, &make_script_line(&fault)),
         Loaded::Failed => refuse_read(alloc, out, script),
         Loaded::NoMemory => refuse_memory(out),

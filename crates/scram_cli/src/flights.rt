@@ -7,7 +7,7 @@ ghost use Rattle.fault_script.specs.Assumption.{first_outside};
 ghost use Rattle.fault_script.specs.Fits.{Fits};
 ghost use Rattle.scram_io.specs.Outside.{Rose};
 ghost use Rattle.trace_text.specs.Printing.{Prints};
-ghost use Rattle.scram_cli.specs.Answers.{Tells, check_answer, flight_answer, flown_text, told_of, within_answer};
+ghost use Rattle.scram_cli.specs.Answers.{TellsAnswer, check_answer, flight_answer, flown_text, flight_text, within_answer};
 ghost use Rattle.scram_cli.specs.Assurance.{IsAssured};
 
 use crate::lines::{make_accepted_line, make_fly_line, make_outside_line, make_shown_line};
@@ -23,7 +23,7 @@ use trace_text::put_trace;
 
 /// Whether a specification is accepted.
 pub fn check<K: Sink>(alloc: Global, spec: Spec, out: &mut K) -> Status
-    ensures tells { Tells (check_answer spec (first_refusal spec)) (K.taken out.old) (K.taken out.new)
+    ensures tells { TellsAnswer (check_answer spec (first_refusal spec)) (K.taken out.old) (K.taken out.new)
         (K.surely out.old) (K.faults out.old) (K.faults out.new) result.code }
     ensures write { result.code ≡ 4 → Rose (K.faults out.old) (K.faults out.new) }
     ensures read { result.code ≢ 3 }
@@ -40,7 +40,7 @@ pub fn check<K: Sink>(alloc: Global, spec: Spec, out: &mut K) -> Status
 
 /// What is told of a flight.
 #[derive(Clone, Copy, Debug, PartialEq, Eq)]
-pub enum Telling {
+pub enum FlightText {
     /// Its whole trace.
     Trace,
     /// One line for the mission of this number.
@@ -52,20 +52,20 @@ pub fn fly<K: Sink>(
     alloc: Global,
     spec: Spec,
     script: Script,
-    telling: Telling,
+    told: FlightText,
     out: &mut K,
     racks: Vec<Rack>,
 ) -> Status
     requires script { Fits spec script }
     requires racks { RacksFit (λ b. kind_of (b.vtable, b.value)) (λ r. r.boxes.items) racks.items }
-    ensures tells { Tells (flight_answer telling spec script (first_refusal spec)) (K.taken out.old) (K.taken out.new)
+    ensures tells { TellsAnswer (flight_answer told spec script (first_refusal spec)) (K.taken out.old) (K.taken out.new)
         (K.surely out.old) (K.faults out.old) (K.faults out.new) result.code }
     ensures write { result.code ≡ 4 → Rose (K.faults out.old) (K.faults out.new) }
     ensures read { result.code ≢ 3 }
-    ensures assured { result.code ≡ 0 → IsAssured telling spec script (K.taken out.old) (K.taken out.new) }
+    ensures assured { result.code ≡ 0 → IsAssured told spec script (K.taken out.old) (K.taken out.new) }
 {
     match accept(alloc, spec) {
-        Ok(accepted) => fly_accepted(alloc, accepted, script, telling, out, racks),
+        Ok(accepted) => fly_accepted(alloc, accepted, script, told, out, racks),
         Err(AcceptError::NotAccepted(refused, shown)) => {
             tell_line(out, 6, &make_shown_line(&refused, &shown))
         }
@@ -77,20 +77,20 @@ fn fly_accepted<K: Sink>(
     alloc: Global,
     accepted: Accepted,
     script: Script,
-    telling: Telling,
+    told: FlightText,
     out: &mut K,
     racks: Vec<Rack>,
 ) -> Status
     requires script { Fits accepted script }
     requires racks { RacksFit (λ b. kind_of (b.vtable, b.value)) (λ r. r.boxes.items) racks.items }
-    ensures tells { Tells (within_answer telling accepted script (first_outside accepted script)) (K.taken out.old) (K.taken out.new)
+    ensures tells { TellsAnswer (within_answer told accepted script (first_outside accepted script)) (K.taken out.old) (K.taken out.new)
         (K.surely out.old) (K.faults out.old) (K.faults out.new) result.code }
     ensures write { result.code ≡ 4 → Rose (K.faults out.old) (K.faults out.new) }
     ensures read { result.code ≢ 3 }
-    ensures assured { result.code ≡ 0 → IsAssured telling accepted script (K.taken out.old) (K.taken out.new) }
+    ensures assured { result.code ≡ 0 → IsAssured told accepted script (K.taken out.old) (K.taken out.new) }
 {
     match Mission::new(accepted, script) {
-        Ok(mission) => fly_mission(alloc, &mission, telling, out, racks),
+        Ok(mission) => fly_mission(alloc, &mission, told, out, racks),
         Err(refused) => tell_line(out, 8, &make_outside_line(&refused.outside)),
     }
 }
@@ -98,20 +98,20 @@ fn fly_accepted<K: Sink>(
 fn fly_mission<K: Sink>(
     alloc: Global,
     mission: &Mission,
-    telling: Telling,
+    told: FlightText,
     out: &mut K,
     racks: Vec<Rack>,
 ) -> Status
     requires racks { RacksFit (λ b. kind_of (b.vtable, b.value)) (λ r. r.boxes.items) racks.items }
-    ensures tells { Tells (0, told_of telling mission.now.spec mission.now.script) (K.taken out.old) (K.taken out.new)
+    ensures tells { TellsAnswer (0, flight_text told mission.now.spec mission.now.script) (K.taken out.old) (K.taken out.new)
         (K.surely out.old) (K.faults out.old) (K.faults out.new) result.code }
     ensures write { result.code ≡ 4 → Rose (K.faults out.old) (K.faults out.new) }
     ensures read { result.code ≢ 3 }
-    ensures assured { result.code ≡ 0 → IsAssured telling mission.now.spec mission.now.script (K.taken out.old) (K.taken out.new) }
+    ensures assured { result.code ≡ 0 → IsAssured told mission.now.spec mission.now.script (K.taken out.old) (K.taken out.new) }
 {
     mission.holds();
     match one_thread(alloc, mission, racks) {
-        Ok(flown) => match put_flown(out, mission.spec(), &flown, telling) {
+        Ok(flown) => match put_flown(out, mission.spec(), &flown, told) {
             Ok(()) => Status { code: 0 },
             Err(_) => Status { code: 4 },
         },
@@ -123,15 +123,15 @@ fn put_flown<K: Sink>(
     out: &mut K,
     spec: &Spec,
     flown: &Flown,
-    telling: Telling,
+    told: FlightText,
 ) -> Result<(), SinkFault>
     requires rows { length flown.now.rows < 2 ^ 32 }
     requires reports { length flown.now.reports < 2 ^ 32 }
     ensures { Prints result (K.taken out.old) (K.taken out.new) (K.surely out.old) (K.surely out.new)
-        (K.faults out.old) (K.faults out.new) (flown_text telling spec.now flown.now.rows flown.now.reports) }
+        (K.faults out.old) (K.faults out.new) (flown_text told spec.now flown.now.rows flown.now.reports) }
 {
-    match telling {
-        Telling::Trace => put_trace(out, spec, flown.rows.items(), flown.reports.items()),
-        Telling::Summary(number) => out.put(make_fly_line(number, spec, flown).as_bytes()),
+    match told {
+        FlightText::Trace => put_trace(out, spec, flown.rows.items(), flown.reports.items()),
+        FlightText::Summary(number) => out.put(make_fly_line(number, spec, flown).as_bytes()),
     }
 }

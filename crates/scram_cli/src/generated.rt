@@ -4,10 +4,10 @@ ghost use Rattle.std.specs.Prelude.{◌≡◌, ◌≢◌, IfOk};
 ghost use Rattle.app_model.specs.Racks.{RacksFit};
 ghost use Rattle.fault_script.specs.Fits.{Fits};
 ghost use Rattle.scram_io.specs.Outside.{Rose};
-ghost use Rattle.scram_cli.specs.Answers.{Tells, TellsMission, mission_answer, mission_text};
+ghost use Rattle.scram_cli.specs.Answers.{TellsAnswer, TellsMission, mission_answer, mission_text};
 ghost use Rattle.scram_cli.specs.Assurance.{AssuresMission, AssuresPurpose};
 
-use crate::flights::{Telling, fly};
+use crate::flights::{FlightText, fly};
 use crate::forms::Purpose;
 use crate::refusals::{refuse_memory, tell};
 use crate::status::Status;
@@ -51,7 +51,7 @@ fn answer_mission<K: Sink>(
 ) -> Status
     requires script { Fits spec script }
     requires racks { RacksFit (λ b. kind_of (b.vtable, b.value)) (λ r. r.boxes.items) racks.items }
-    ensures tells { Tells (mission_answer number purpose spec script) (K.taken out.old) (K.taken out.new)
+    ensures tells { TellsAnswer (mission_answer number purpose spec script) (K.taken out.old) (K.taken out.new)
         (K.surely out.old) (K.faults out.old) (K.faults out.new) result.code }
     ensures write { result.code ≡ 4 → Rose (K.faults out.old) (K.faults out.new) }
     ensures read { result.code ≢ 3 }
@@ -59,12 +59,12 @@ fn answer_mission<K: Sink>(
 {
     match purpose {
         Purpose::Print => print_mission(alloc, &spec, &script, out),
-        Purpose::Fly => fly(alloc, spec, script, Telling::Summary(number), out, racks),
+        Purpose::Fly => fly(alloc, spec, script, FlightText::Summary(number), out, racks),
     }
 }
 
 fn print_mission<K: Sink>(alloc: Global, spec: &Spec, script: &Script, out: &mut K) -> Status
-    ensures tells { Tells (0, mission_text spec.now script.now) (K.taken out.old) (K.taken out.new)
+    ensures tells { TellsAnswer (0, mission_text spec.now script.now) (K.taken out.old) (K.taken out.new)
         (K.surely out.old) (K.faults out.old) (K.faults out.new) result.code }
     ensures write { result.code ≡ 4 → Rose (K.faults out.old) (K.faults out.new) }
     ensures read { result.code ≢ 3 }

@@ -3,9 +3,9 @@
 ghost use Rattle.std.specs.Prelude.{◌≡◌, ◌+◌, ◌*◌, ◌≤◌, ◌++◌, [], ◌<◌, ◌^◌, length, codes, if◌then◌else◌};
 ghost use Rattle.trace_text.specs.Names.{conf_or_dash, further, proc_name, value_name};
 ghost use Rattle.trace_text.specs.Text.{bound_text};
-ghost use Rattle.scram_cli.specs.Lines.{accepted_line, added, app_name, bound_line, broken_line, counts_text, cycle_text, env_or_dash, env_text, factors_text, fly_line, holds_line, kind_text, names_down, other_text, outside_line, rule_text, script_line, shown_line, specification_line, trace_line};
+ghost use Rattle.scram_cli.specs.Lines.{accepted_line, added, app_name, bound_line, broken_line, counts_text, cycle_text, env_or_dash, env_text, factors_text, fly_line, holds_line, outside_kind_text, names_down, other_text, outside_line, rule_text, script_line, shown_line, specification_line, trace_line};
 
-use crate::summaries::{last_run, longest};
+use crate::summaries::{last_run, longest_duration};
 use choice_table::states;
 use coverage_check::timing::least;
 use coverage_check::{Other, Shown};
@@ -68,7 +68,7 @@ pub fn make_outside_line(outside: &Outside) -> Line
     line.text(b"refused: outside at frame ");
     line.number(outside.frame);
     line.text(b": ");
-    add_kind(&mut line, outside.kind);
+    add_outside_kind(&mut line, outside.kind);
     line.text(b"\n");
     line
 }
@@ -157,7 +157,7 @@ pub fn make_fly_line(number: u32, spec: &Spec, flown: &Flown) -> Line
     line.number(number);
     add_counts(&mut line, flown);
     line.text(b" longest ");
-    line.number(longest(flown.reports.items()));
+    line.number(longest_duration(flown.reports.items()));
     line.text(b" final ");
     line.text(name_of_conf(spec, last_run(spec, flown.rows.items())).as_bytes());
     line.text(b"\n");
@@ -311,9 +311,9 @@ fn add_other(line: &mut Line, spec: &Spec, other: &Other)
     }
 }
 
-fn add_kind(line: &mut Line, kind: OutsideKind)
+fn add_outside_kind(line: &mut Line, kind: OutsideKind)
     requires { length line.old + 7 ≤ 512 }
-    ensures text { line.new ≡ line.old ++ kind_text kind }
+    ensures text { line.new ≡ line.old ++ outside_kind_text kind }
     ensures short { length line.new ≤ length line.old + 7 }
 {
     match kind {

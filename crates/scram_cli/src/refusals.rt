@@ -2,7 +2,7 @@
 
 ghost use Rattle.std.specs.Prelude.{◌≡◌, ◌≢◌, ◌⊎◌};
 ghost use Rattle.scram_io.specs.Outside.{Rose};
-ghost use Rattle.scram_cli.specs.Answers.{Says, Surely, Tells, memory_line, read_line, usage_line};
+ghost use Rattle.scram_cli.specs.Answers.{Says, Surely, TellsAnswer, memory_line, read_line, usage_line};
 
 use crate::status::Status;
 use scram_io::Sink;
@@ -26,7 +26,7 @@ pub fn tell<K: Sink>(out: &mut K, code: u8, line: &[u8]) -> Status
 /// Puts a line that was made without memory, with its status.
 pub fn tell_line<K: Sink>(out: &mut K, code: u8, line: &Line) -> Status
     requires { code ≢ 4 }
-    ensures tells { Tells (code, line.now) (K.taken out.old) (K.taken out.new) (K.surely out.old)
+    ensures tells { TellsAnswer (code, line.now) (K.taken out.old) (K.taken out.new) (K.surely out.old)
         (K.faults out.old) (K.faults out.new) result.code }
     ensures write { result.code ≡ 4 → Rose (K.faults out.old) (K.faults out.new) }
     ensures told { (result.code ≡ code) ⊎ (result.code ≡ 4) }
@@ -56,7 +56,7 @@ pub fn refuse_memory<K: Sink>(out: &mut K) -> Status
 
 /// Puts the line that a file was not read, or, where there is no memory for it, that memory is wanting.
 pub fn refuse_read<K: Sink>(alloc: Global, out: &mut K, name: &str) -> Status
-    ensures tells { Tells (3, read_line name.now) (K.taken out.old) (K.taken out.new) (K.surely out.old)
+    ensures tells { TellsAnswer (3, read_line name.now) (K.taken out.old) (K.taken out.new) (K.surely out.old)
         (K.faults out.old) (K.faults out.new) result.code }
     ensures write { result.code ≡ 4 → Rose (K.faults out.old) (K.faults out.new) }
     ensures refused { result.code ≢ 0 }

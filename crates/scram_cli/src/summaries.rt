@@ -1,14 +1,14 @@
 //! What the line of a flight tells of its rows and reports.
 
 ghost use Rattle.std.specs.Prelude.{◌≡◌};
-ghost use Rattle.scram_cli.specs.Summaries.{duration, last_run, longest};
+ghost use Rattle.scram_cli.specs.Summaries.{duration, last_run, longest_duration};
 
 use frame_model::running;
 use scram_types::{ConfId, Report, Row, Spec};
 
 /// How many frames the longest finished reconfiguration took, 0 without one.
-pub fn longest(reports: &[Report]) -> u32
-    ensures { result ≡ longest reports.now }
+pub fn longest_duration(reports: &[Report]) -> u32
+    ensures { result ≡ longest_duration reports.now }
 {
     let mut most = 0;
     for report in reports {

@@ -25,8 +25,8 @@ use Rattle.frame_model.specs.Runs.{conf_of}
 use Rattle.coverage_check.specs.Acceptance.{Accepts}
 use Rattle.coverage_check.specs.Search as search
 use Rattle.coverage_check.specs.Timing.{further}
-use Rattle.trace_props.specs.Plans as plans
-use Rattle.trace_props.specs.Plans.{Accepted}
+use Rattle.trace_props.proofs.Plans as plans
+use Rattle.trace_props.proofs.Plans.{IsAcceptedPlan}
 use Rattle.trace_props.proofs.Tests.{by_test, eq_true, lt_true, and_left, and_right, true_false}
 use Rattle.trace_props.proofs.Builds.{all_at}
 use Rattle.trace_props.proofs.Products.{has_value, is_env, plan_of, settles_under}
@@ -139,7 +139,7 @@ not_not false h = absurd (true_false true refl h)
 pub some_on : (spec : Parts) → Accepts spec → (c : ℕ) → c < length spec.confs → (a : ℕ) × (a < 8) × (is_on spec (conf_of c) a ≡ true)
 some_on spec accepts c known = some_passes (is_on spec (conf_of c)) 8 (accepts.shaped (conf_of c) known).something_on
 
-pub accepted_of : (spec : Parts) → IsSpec spec → Accepts spec → ((c : ConfId) → IsInTime spec c) → Accepted (plan_of spec)
+pub accepted_of : (spec : Parts) → IsSpec spec → Accepts spec → ((c : ConfId) → IsInTime spec c) → IsAcceptedPlan (plan_of spec)
 accepted_of spec sound accepts timed = record {
   start_in = sound.start;
   choose_in = λ c v known. target_known (length spec.confs) (conf_of c) v spec.rules (λ k rule there. (sound.rules k rule there).to) known;
@@ -163,8 +163,8 @@ accepted_of spec sound accepts timed = record {
         let most = (timed (conf_of c)).initialises on.0 on.2 in
         omega arith
 
-    bounded : (i : ℕ) (v : Env) → i < length spec.confs → (is_env spec v && in_scope spec v) ≡ true → ((choose spec (conf_of i) v).0 ≢ i) ⊎ (1 ≤ plans.further (plan_of spec))
-        → (t : ℕ) × (bound_in spec.bounds i (choose spec (conf_of i) v).0 ≡ Some t) × (plans.least (plan_of spec) i (choose spec (conf_of i) v).0 ≤ t)
+    bounded : (i : ℕ) (v : Env) → i < length spec.confs → (is_env spec v && in_scope spec v) ≡ true → ((choose spec (conf_of i) v).0 ≢ i) ⊎ (1 ≤ plans.plan_further (plan_of spec))
+        → (t : ℕ) × (bound_in spec.bounds i (choose spec (conf_of i) v).0 ≡ Some t) × (plans.plan_least_bound (plan_of spec) i (choose spec (conf_of i) v).0 ≤ t)
     bounded i v known scope asked =
         let same = further_same spec.policy spec.changes in
         let target : IsTarget spec (conf_of i) (choose spec (conf_of i) v) = record { seen = v; belongs = belongs v scope; scope = and_right (is_env spec v) _ scope; chosen = refl } in

@@ -20,12 +20,12 @@ use Rattle.frame_model.specs.Phases as phases
 use Rattle.frame_model.specs.Runs.{act_at, all_below, conf_of, is_run_by}
 use Rattle.frame_model.specs.States.{act_after, act_of_order, for_eight}
 use Rattle.frame_model.specs.Tasks as tasks
-use Rattle.trace_props.specs.Builds.{Phase, Order, Act, Act.Ran, Act.Halted, Act.Held, Act.Prepared, Act.Initialised, Act.WasOff, Act.Lost, after_halting, phase, running_order, halting_order, preparing_order, init_order, order_in, act_of, fits_place, runs, acts_at}
-use Rattle.trace_props.proofs.Products.{build_of, flight_of, mode_of, phase_of, plan_of, runs_in_row}
+use Rattle.trace_props.proofs.CourseRows.{CoursePhase, CourseOrder, CourseAct, CourseAct.Ran, CourseAct.Halted, CourseAct.Held, CourseAct.Prepared, CourseAct.Initialised, CourseAct.WasOff, CourseAct.Lost, course_after_halting, course_phase, course_running_order, course_halting_order, course_preparing_order, course_initialising_order, course_order_in, course_act_of, course_fits_place, course_runs, course_acts_at}
+use Rattle.trace_props.proofs.Products.{build_of, course_of, course_mode_of, course_phase_of, plan_of, runs_in_row}
 use Rattle.trace_props.proofs.Moding.{same_mode}
 
 -- what a row shows of an act
-abbrev pub shown : Act → told_acts.Act
+abbrev pub shown : CourseAct → told_acts.Act
 shown (Ran p) = act.Ran p.mode p.proc
 shown (Halted k n p) = act.Halting k n p.proc
 shown Held = act.Held
@@ -34,7 +34,7 @@ shown (Initialised k n p) = act.Initialising k n p.proc
 shown WasOff = act.Off
 shown Lost = act.Lost
 
-fits_same : (o : Option Place) (x : Act) → is_run_by o (shown x) ≡ fits_place o x
+fits_same : (o : Option Place) (x : CourseAct) → is_run_by o (shown x) ≡ course_fits_place o x
 fits_same None (Ran p) = refl
 fits_same None (Halted k n p) = refl
 fits_same None Held = refl
@@ -50,7 +50,7 @@ fits_same (Some q) (Initialised k n p) = refl
 fits_same (Some q) WasOff = refl
 fits_same (Some q) Lost = refl
 
-shown_if : (b : Bool) (x y : Act) → shown (if b then x else y) ≡ (if b then shown x else shown y)
+shown_if : (b : Bool) (x y : CourseAct) → shown (if b then x else y) ≡ (if b then shown x else shown y)
 shown_if true x y = refl
 shown_if false x y = refl
 
@@ -58,60 +58,60 @@ abbrev made : Bool → told_orders.Order → Place → told_acts.Act
 made committed o p = if committed then act_of_order o p.mode p.proc else act.Lost
 
 -- an order of two tests, over both kinds of orders
-two_tests : (commits : ℕ → Bool) (a b : Bool) (p : Place) (x y z : Order) (q r s : told_orders.Order)
-    → shown (act_of commits x) ≡ made (commits p.proc.0) q p → shown (act_of commits y) ≡ made (commits p.proc.0) r p → shown (act_of commits z) ≡ made (commits p.proc.0) s p
-    → shown (act_of commits (if a then x else (if b then y else z))) ≡ made (commits p.proc.0) (if a then q else (if b then r else s)) p
+two_tests : (commits : ℕ → Bool) (a b : Bool) (p : Place) (x y z : CourseOrder) (q r s : told_orders.Order)
+    → shown (course_act_of commits x) ≡ made (commits p.proc.0) q p → shown (course_act_of commits y) ≡ made (commits p.proc.0) r p → shown (course_act_of commits z) ≡ made (commits p.proc.0) s p
+    → shown (course_act_of commits (if a then x else (if b then y else z))) ≡ made (commits p.proc.0) (if a then q else (if b then r else s)) p
 two_tests commits true b p x y z q r s e f g = e
 two_tests commits false true p x y z q r s e f g = f
 two_tests commits false false p x y z q r s e f g = g
 
-one_test : (commits : ℕ → Bool) (a : Bool) (p : Place) (x y : Order) (q r : told_orders.Order)
-    → shown (act_of commits x) ≡ made (commits p.proc.0) q p → shown (act_of commits y) ≡ made (commits p.proc.0) r p
-    → shown (act_of commits (if a then x else y)) ≡ made (commits p.proc.0) (if a then q else r) p
+one_test : (commits : ℕ → Bool) (a : Bool) (p : Place) (x y : CourseOrder) (q r : told_orders.Order)
+    → shown (course_act_of commits x) ≡ made (commits p.proc.0) q p → shown (course_act_of commits y) ≡ made (commits p.proc.0) r p
+    → shown (course_act_of commits (if a then x else y)) ≡ made (commits p.proc.0) (if a then q else r) p
 one_test commits true p x y q r e f = e
 one_test commits false p x y q r e f = f
 
-running_same : (commits : ℕ → Bool) (o : Option Place) → shown (act_of commits (running_order o)) ≡ act_after commits (tasks.task_for order.Run o)
+running_same : (commits : ℕ → Bool) (o : Option Place) → shown (course_act_of commits (course_running_order o)) ≡ act_after commits (tasks.task_for order.Run o)
 running_same commits None = refl
 running_same commits (Some p) = shown_if (commits p.proc.0) (Ran p) Lost
 
-halting_same : (commits : ℕ → Bool) (offset time age : ℕ) (o : Option Place) → shown (act_of commits (halting_order offset time age o)) ≡ act_after commits (tasks.task_for (tasks.halting_order offset time age) o)
+halting_same : (commits : ℕ → Bool) (offset time age : ℕ) (o : Option Place) → shown (course_act_of commits (course_halting_order offset time age o)) ≡ act_after commits (tasks.task_for (tasks.halting_order offset time age) o)
 halting_same commits offset time age None = refl
 halting_same commits offset time age (Some p) =
     two_tests commits (nat_lt age offset) (nat_lt (age - offset) time) p _ _ _ _ _ _
     (shown_if (commits p.proc.0) (Ran p) Lost) (shown_if (commits p.proc.0) (Halted (age - offset) time p) Lost) (shown_if (commits p.proc.0) Held Lost)
 
-preparing_same : (commits : ℕ → Bool) (time age : ℕ) (o : Option Place) → shown (act_of commits (preparing_order time age o)) ≡ act_after commits (tasks.task_for (tasks.preparing_order time age) o)
+preparing_same : (commits : ℕ → Bool) (time age : ℕ) (o : Option Place) → shown (course_act_of commits (course_preparing_order time age o)) ≡ act_after commits (tasks.task_for (tasks.preparing_order time age) o)
 preparing_same commits time age None = refl
 preparing_same commits time age (Some p) =
     one_test commits (nat_lt age time) p _ _ _ _ (shown_if (commits p.proc.0) (Prepared age time p) Lost) (shown_if (commits p.proc.0) Held Lost)
 
-init_same : (commits : ℕ → Bool) (offset time age : ℕ) (o : Option Place) → shown (act_of commits (init_order offset time age o)) ≡ act_after commits (tasks.task_for (tasks.initialising_order offset time age) o)
+init_same : (commits : ℕ → Bool) (offset time age : ℕ) (o : Option Place) → shown (course_act_of commits (course_initialising_order offset time age o)) ≡ act_after commits (tasks.task_for (tasks.initialising_order offset time age) o)
 init_same commits offset time age None = refl
 init_same commits offset time age (Some p) =
     two_tests commits (nat_lt age offset) (nat_lt (age - offset) time) p _ _ _ _ _ _
     (shown_if (commits p.proc.0) Held Lost) (shown_if (commits p.proc.0) (Initialised (age - offset) time p) Lost) (shown_if (commits p.proc.0) Held Lost)
 
-act_same : (spec : Parts) (commits : ℕ → Bool) (ph : told_phases.Phase) (a : ℕ) → shown (act_of commits (order_in (build_of spec) (phase_of ph) a)) ≡ act_after commits (tasks.task_in spec ph a)
+act_same : (spec : Parts) (commits : ℕ → Bool) (ph : told_phases.Phase) (a : ℕ) → shown (course_act_of commits (course_order_in (build_of spec) (course_phase_of ph) a)) ≡ act_after commits (tasks.task_in spec ph a)
 act_same spec commits (told.Running c) a = running_same commits (place_of spec c a)
 act_same spec commits (told.Halting c age) a = halting_same commits (halt_offset spec c a) (halt_time spec c a) age (place_of spec c a)
 act_same spec commits (told.Preparing c age) a = preparing_same commits (prepare_time spec c a) age (place_of spec c a)
 act_same spec commits (told.Initialising c age) a = init_same commits (init_offset spec c a) (init_time spec c a) age (place_of spec c a)
 
 -- the phases are the law's
-three_phases : (a b : Bool) (x y z : told_phases.Phase) → phase_of (if a then x else (if b then y else z)) ≡ (if a then phase_of x else (if b then phase_of y else phase_of z))
+three_phases : (a b : Bool) (x y z : told_phases.Phase) → course_phase_of (if a then x else (if b then y else z)) ≡ (if a then course_phase_of x else (if b then course_phase_of y else course_phase_of z))
 three_phases true b x y z = refl
 three_phases false true x y z = refl
 three_phases false false x y z = refl
 
-after_same : (spec : Parts) (to : ConfId) (age : ℕ) → phase_of (phases.after_halting spec to age) ≡ after_halting (plan_of spec) to.0 age
+after_same : (spec : Parts) (to : ConfId) (age : ℕ) → course_phase_of (phases.after_halting spec to age) ≡ course_after_halting (plan_of spec) to.0 age
 after_same spec to age = three_phases (nat_lt age (preparing_time spec to)) (nat_lt (age - preparing_time spec to) (initialising_time spec to)) _ _ _
 
-phase_if : (b : Bool) (x y : told_phases.Phase) (p q : Phase) → phase_of x ≡ p → phase_of y ≡ q → phase_of (if b then x else y) ≡ (if b then p else q)
+phase_if : (b : Bool) (x y : told_phases.Phase) (p q : CoursePhase) → course_phase_of x ≡ p → course_phase_of y ≡ q → course_phase_of (if b then x else y) ≡ (if b then p else q)
 phase_if true x y p q e k = e
 phase_if false x y p q e k = k
 
-pub phase_same : (spec : Parts) (m : KMode) (f : ℕ) → phase_of (phases.phase_at spec m f) ≡ phase (plan_of spec) (mode_of m) f
+pub phase_same : (spec : Parts) (m : KMode) (f : ℕ) → course_phase_of (phases.phase_at spec m f) ≡ course_phase (plan_of spec) (course_mode_of m) f
 phase_same spec (kmode.Stable c) f = refl
 phase_same spec (kmode.Moving from None to since) f = after_same spec to (f - since)
 phase_same spec (kmode.Moving from (Some h) to since) f =
@@ -135,18 +135,18 @@ committed spec script f p = commits spec script p f
 
 -- what a row shows of each application
 pub row_act : (spec : Parts) (script : ScriptParts) (f a : ℕ) → a < 8
-    → act_at (row_at spec script f).acts a ≡ shown (acts_at (plan_of spec) (build_of spec) (flight_of spec script) (committed spec script) f a)
+    → act_at (row_at spec script f).acts a ≡ shown (course_acts_at (plan_of spec) (build_of spec) (course_of spec script) (committed spec script) f a)
 row_act spec script f a below =
     eight_at (λ b. act_after (committed spec script f) (tasks.task_in spec (phases.phase_at spec (decided spec script f) f) b)) a below
     ∙ sym (act_same spec (committed spec script f) (phases.phase_at spec (decided spec script f) f) a)
-    ∙ ap (λ ph. shown (act_of (committed spec script f) (order_in (build_of spec) ph a)))
-    (phase_same spec (decided spec script f) f ∙ ap (λ m. phase (plan_of spec) m f) (same_mode spec script f))
+    ∙ ap (λ ph. shown (course_act_of (committed spec script f) (course_order_in (build_of spec) ph a)))
+    (phase_same spec (decided spec script f) f ∙ ap (λ m. course_phase (plan_of spec) m f) (same_mode spec script f))
 
 pub all_below_same : (p q : ℕ → Bool) (n : ℕ) → ((a : ℕ) → a < n → p a ≡ q a) → all_below p n ≡ all_below q n
 all_below_same p q zero h = refl
 all_below_same p q (suc n) h = let here = h n (omega arith) in let before = all_below_same p q n (λ a less. h a (omega arith)) in rw (here, before) refl
 
 pub runs_same : (spec : Parts) → IsSpec spec → (script : ScriptParts) (f j : ℕ)
-    → runs_in_row spec script f j ≡ runs (build_of spec) (acts_at (plan_of spec) (build_of spec) (flight_of spec script) (committed spec script) f) j
+    → runs_in_row spec script f j ≡ course_runs (build_of spec) (course_acts_at (plan_of spec) (build_of spec) (course_of spec script) (committed spec script) f) j
 runs_same spec sound script f j = all_below_same _ _ (length spec.apps) (λ a below.
     ap (is_run_by (place_of spec (conf_of j) a)) (row_act spec script f a (let few = sound.apps_count.few in omega arith)) ∙ fits_same (place_of spec (conf_of j) a) _)

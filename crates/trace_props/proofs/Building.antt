@@ -16,7 +16,7 @@ use Rattle.frame_model.specs.Runs.{conf_of}
 use Rattle.coverage_check.specs.Acceptance.{Accepts}
 use Rattle.coverage_check.specs.Form.{is_same, is_same_place}
 use Rattle.coverage_check.specs.Search as search
-use Rattle.trace_props.specs.Builds.{IsBuilt}
+use Rattle.trace_props.proofs.CourseRows.{IsBuilt}
 use Rattle.trace_props.proofs.Tests.{true_false}
 use Rattle.trace_props.proofs.Products.{build_of, plan_of}
 use Rattle.trace_props.proofs.Accepting.{app_known, conf_known, is_there, placed, some_on}

@@ -3,11 +3,11 @@ use Rattle.std.proofs.Common.{◌≡◌, ℕ, zero, suc, ◌+◌, ◌-◌, ◌<�
 use mathlib.Core.Logic.{inl, inr}
 use Rattle.std.specs.Prelude.{Option, Some, None, if◌then◌else◌, nat_eq, nat_lt, nat_le, ◌&&◌}
 use Rattle.scram_types.specs.declared.flights.Env.{Env}
-use Rattle.trace_props.specs.Plans.{Plan, Accepted, halting_of}
-use Rattle.trace_props.specs.Modes.{Mode, Mode.Stable, Mode.Moving, target, is_running, stable_decision, wanted, retarget}
-use Rattle.trace_props.specs.Courses.{Flight, IsFlown, RowUnder, mode_at, decide_after}
+use Rattle.trace_props.proofs.Plans.{Plan, IsAcceptedPlan, plan_halting}
+use Rattle.trace_props.proofs.CourseModes.{CourseMode, CourseMode.Stable, CourseMode.Moving, course_target, course_is_running, course_stable_decision, course_wanted, course_turn}
+use Rattle.trace_props.proofs.Courses.{Course, IsCourseFlown, CourseRowUnder, course_mode_at, course_decision_after}
 use Rattle.scram_types.specs.declared.specification.Place.{Place}
-use Rattle.trace_props.specs.Builds.{Phase, Phase.Running, Phase.Halting, Phase.Preparing, Phase.Initialising, Order, Order.Run, Order.Halt, Order.Hold, Order.Prepare, Order.Init, Order.Off, Act, Act.Ran, Act.Lost, Build, after_halting, phase, running_order, halting_order, preparing_order, init_order, order_in, act_of, place_eq, is_ran, is_off, fits_place, runs, acts_at, IsBuilt, IsRun, ReconfiguresBuilt}
+use Rattle.trace_props.proofs.CourseRows.{CoursePhase, CoursePhase.Running, CoursePhase.Halting, CoursePhase.Preparing, CoursePhase.Initialising, CourseOrder, CourseOrder.Run, CourseOrder.Halt, CourseOrder.Hold, CourseOrder.Prepare, CourseOrder.Init, CourseOrder.Off, CourseAct, CourseAct.Ran, CourseAct.Lost, Build, course_after_halting, course_phase, course_running_order, course_halting_order, course_preparing_order, course_initialising_order, course_order_in, course_act_of, place_eq, course_is_ran, course_is_off, course_fits_place, course_runs, course_acts_at, IsBuilt, IsRun, ReconfiguresBuilt}
 use Rattle.frame_model.specs.Runs.{all_below, least_from}
 use Rattle.trace_props.proofs.Tests.{by_test, eq_true, lt_true, lt_false, not_true, true_false, and_left, and_right}
 use Rattle.std.proofs.lemmas.Bool.Decides.{nat_tests}
@@ -53,7 +53,7 @@ least_none test i zero h j from below = absurd (omega arith)
 least_none test i (suc n) h j from below = least_none_in test i n j (test i) refl h from (λ e k. least_none test (suc i) n e j k (omega arith))
 
 -- an order that is neither to run nor to be off leaves an act that fits no place
-abbrev pub Idle : Order → Type 0
+abbrev pub Idle : CourseOrder → Type 0
 Idle (Run p) = ⊥
 Idle (Halt k n p) = Unit {0}
 Idle (Hold p) = Unit {0}
@@ -61,37 +61,37 @@ Idle (Prepare k n p) = Unit {0}
 Idle (Init k n p) = Unit {0}
 Idle Off = ⊥
 
-idle_fits : (commits : ℕ → Bool) (o : Order) (place : Option Place) → Idle o → fits_place place (act_of commits o) ≡ false
+idle_fits : (commits : ℕ → Bool) (o : CourseOrder) (place : Option Place) → Idle o → course_fits_place place (course_act_of commits o) ≡ false
 idle_fits commits (Run p) place h = absurd h
 idle_fits commits Off place h = absurd h
-idle_fits commits (Halt k n p) None h = by_test (λ x. is_off x ≡ false) (commits p.proc.0) _ _ (λ e. refl) (λ e. refl)
-idle_fits commits (Halt k n p) (Some q) h = by_test (λ x. is_ran q x ≡ false) (commits p.proc.0) _ _ (λ e. refl) (λ e. refl)
-idle_fits commits (Hold p) None h = by_test (λ x. is_off x ≡ false) (commits p.proc.0) _ _ (λ e. refl) (λ e. refl)
-idle_fits commits (Hold p) (Some q) h = by_test (λ x. is_ran q x ≡ false) (commits p.proc.0) _ _ (λ e. refl) (λ e. refl)
-idle_fits commits (Prepare k n p) None h = by_test (λ x. is_off x ≡ false) (commits p.proc.0) _ _ (λ e. refl) (λ e. refl)
-idle_fits commits (Prepare k n p) (Some q) h = by_test (λ x. is_ran q x ≡ false) (commits p.proc.0) _ _ (λ e. refl) (λ e. refl)
-idle_fits commits (Init k n p) None h = by_test (λ x. is_off x ≡ false) (commits p.proc.0) _ _ (λ e. refl) (λ e. refl)
-idle_fits commits (Init k n p) (Some q) h = by_test (λ x. is_ran q x ≡ false) (commits p.proc.0) _ _ (λ e. refl) (λ e. refl)
+idle_fits commits (Halt k n p) None h = by_test (λ x. course_is_off x ≡ false) (commits p.proc.0) _ _ (λ e. refl) (λ e. refl)
+idle_fits commits (Halt k n p) (Some q) h = by_test (λ x. course_is_ran q x ≡ false) (commits p.proc.0) _ _ (λ e. refl) (λ e. refl)
+idle_fits commits (Hold p) None h = by_test (λ x. course_is_off x ≡ false) (commits p.proc.0) _ _ (λ e. refl) (λ e. refl)
+idle_fits commits (Hold p) (Some q) h = by_test (λ x. course_is_ran q x ≡ false) (commits p.proc.0) _ _ (λ e. refl) (λ e. refl)
+idle_fits commits (Prepare k n p) None h = by_test (λ x. course_is_off x ≡ false) (commits p.proc.0) _ _ (λ e. refl) (λ e. refl)
+idle_fits commits (Prepare k n p) (Some q) h = by_test (λ x. course_is_ran q x ≡ false) (commits p.proc.0) _ _ (λ e. refl) (λ e. refl)
+idle_fits commits (Init k n p) None h = by_test (λ x. course_is_off x ≡ false) (commits p.proc.0) _ _ (λ e. refl) (λ e. refl)
+idle_fits commits (Init k n p) (Some q) h = by_test (λ x. course_is_ran q x ≡ false) (commits p.proc.0) _ _ (λ e. refl) (λ e. refl)
 
 -- the order of an application that is on, in each phase but the running one
-idle_halting : (time age : ℕ) (p : Place) → Idle (halting_order 0 time age (Some p))
+idle_halting : (time age : ℕ) (p : Place) → Idle (course_halting_order 0 time age (Some p))
 idle_halting time age p = by_test Idle (nat_lt age 0) _ _ (λ e. absurd (let h = lt_true age 0 e in omega arith))
     (λ e. by_test Idle (nat_lt (age - 0) time) _ _ (λ h. tt) (λ h. tt))
 
-idle_preparing : (time age : ℕ) (p : Place) → Idle (preparing_order time age (Some p))
+idle_preparing : (time age : ℕ) (p : Place) → Idle (course_preparing_order time age (Some p))
 idle_preparing time age p = by_test Idle (nat_lt age time) _ _ (λ h. tt) (λ h. tt)
 
-idle_init : (offset time age : ℕ) (p : Place) → Idle (init_order offset time age (Some p))
+idle_init : (offset time age : ℕ) (p : Place) → Idle (course_initialising_order offset time age (Some p))
 idle_init offset time age p = by_test Idle (nat_lt age offset) _ _ (λ e. tt) (λ e. by_test Idle (nat_lt (age - offset) time) _ _ (λ h. tt) (λ h. tt))
 
 -- which configuration a phase is in, and whether it runs it
-abbrev pub conf_of : Phase → ℕ
+abbrev pub conf_of : CoursePhase → ℕ
 conf_of (Running c) = c
 conf_of (Halting c age) = c
 conf_of (Preparing c age) = c
 conf_of (Initialising c age) = c
 
-abbrev pub runs_in : Phase → Bool
+abbrev pub runs_in : CoursePhase → Bool
 runs_in (Running c) = true
 runs_in (Halting c age) = false
 runs_in (Preparing c age) = false
@@ -113,35 +113,35 @@ pub place_self : (p : Place) → place_eq p p ≡ true
 place_self p = and_true _ _ (eq_self p.mode.0) (eq_self p.proc.0)
 
 -- a running order that was committed fits just its place
-ran_none : (b : Bool) (p : Place) → is_off (if b then Ran p else Lost) ≡ true → ⊥
+ran_none : (b : Bool) (p : Place) → course_is_off (if b then Ran p else Lost) ≡ true → ⊥
 ran_none true p h = true_false false h refl
 ran_none false p h = true_false false h refl
 
-ran_some : (b : Bool) (p q : Place) → is_ran q (if b then Ran p else Lost) ≡ true → q ≡ p
+ran_some : (b : Bool) (p q : Place) → course_is_ran q (if b then Ran p else Lost) ≡ true → q ≡ p
 ran_some true p q h = sym (place_same p q h)
 ran_some false p q h = absurd (true_false false h refl)
 
-ran_not : (b : Bool) (p : Place) → is_ran p (if b then Ran p else Lost) ≡ false → b ≡ false
+ran_not : (b : Bool) (p : Place) → course_is_ran p (if b then Ran p else Lost) ≡ false → b ≡ false
 ran_not true p h = absurd (true_false _ (place_self p) h)
 ran_not false p h = refl
 
-fits_running : (commits : ℕ → Bool) (there place : Option Place) → fits_place place (act_of commits (running_order there)) ≡ true → place ≡ there
+fits_running : (commits : ℕ → Bool) (there place : Option Place) → course_fits_place place (course_act_of commits (course_running_order there)) ≡ true → place ≡ there
 fits_running commits None None h = refl
 fits_running commits None (Some p) h = absurd (true_false false h refl)
 fits_running commits (Some p) None h = absurd (ran_none (commits p.proc.0) p h)
 fits_running commits (Some p) (Some q) h = ap Some (ran_some (commits p.proc.0) p q h)
 
 -- it does not fit its own only where it was not committed
-lost_running : (commits : ℕ → Bool) (there : Option Place) → fits_place there (act_of commits (running_order there)) ≡ false → (p : Place) × (there ≡ Some p) × (commits p.proc.0 ≡ false)
+lost_running : (commits : ℕ → Bool) (there : Option Place) → course_fits_place there (course_act_of commits (course_running_order there)) ≡ false → (p : Place) × (there ≡ Some p) × (commits p.proc.0 ≡ false)
 lost_running commits None h = absurd (true_false true refl h)
 lost_running commits (Some p) h = (p, refl, ran_not (commits p.proc.0) p h)
 
 -- the mode is to run its target exactly in the running phase
-abbrev pub InPhase : Plan → Mode → ℕ → Phase → Type 0
-InPhase plan mode f ph = (runs_in ph ≡ is_running plan mode f) × (conf_of ph < plan.configurations) × (runs_in ph ≡ true → conf_of ph ≡ target mode)
+abbrev pub InPhase : Plan → CourseMode → ℕ → CoursePhase → Type 0
+InPhase plan mode f ph = (runs_in ph ≡ course_is_running plan mode f) × (conf_of ph < plan.configurations) × (runs_in ph ≡ true → conf_of ph ≡ course_target mode)
 
 -- the mode's configurations exist
-abbrev pub Ranged : Plan → Mode → Type 0
+abbrev pub Ranged : Plan → CourseMode → Type 0
 Ranged plan (Stable c) = c < plan.configurations
 Ranged plan (Moving from halting to since) = (from < plan.configurations) × (to < plan.configurations) × ((h : ℕ) → halting ≡ Some h → h < plan.configurations)
 
@@ -153,7 +153,7 @@ is_le_false a b h = grind (arith, nat_tests)
 
 -- the phase after the halting one, whose length is h
 phase_after : (plan : Plan) (h to age late : ℕ) → age ≡ h + late
-    → (runs_in (after_halting plan to late) ≡ nat_le (h + plan.preparing to + plan.initialising to) age) × (conf_of (after_halting plan to late) ≡ to)
+    → (runs_in (course_after_halting plan to late) ≡ nat_le (h + plan.preparing to + plan.initialising to) age) × (conf_of (course_after_halting plan to late) ≡ to)
 phase_after plan h to age late is =
     by_test (λ p. (runs_in p ≡ nat_le (h + plan.preparing to + plan.initialising to) age) × (conf_of p ≡ to)) (nat_lt late (plan.preparing to)) _ _
     (λ e. let k = lt_true late (plan.preparing to) e in (sym (is_le_false (h + plan.preparing to + plan.initialising to) age (omega arith)), refl))
@@ -162,7 +162,7 @@ phase_after plan h to age late is =
     (λ e2. let k2 = lt_true (late - plan.preparing to) (plan.initialising to) e2 in (sym (is_le_false (h + plan.preparing to + plan.initialising to) age (omega arith)), refl))
     (λ e2. let k2 = lt_false (late - plan.preparing to) (plan.initialising to) e2 in (sym (is_le_true (h + plan.preparing to + plan.initialising to) age (omega arith)), refl)))
 
-in_phase : (plan : Plan) (mode : Mode) (f : ℕ) → Ranged plan mode → InPhase plan mode f (phase plan mode f)
+in_phase : (plan : Plan) (mode : CourseMode) (f : ℕ) → Ranged plan mode → InPhase plan mode f (course_phase plan mode f)
 in_phase plan (Stable c) f r = (refl, r, λ e. refl)
 in_phase plan (Moving from None to since) f r = let p = phase_after plan 0 to (f - since) (f - since) (omega arith) in (p.0, rw p.1 r.1, λ e. p.1)
 in_phase plan (Moving from (Some h) to since) f r =
@@ -173,67 +173,67 @@ in_phase plan (Moving from (Some h) to since) f r =
     (λ e. let k = lt_false (f - since) (plan.halting h) e in
     let p = phase_after plan (plan.halting h) to (f - since) (f - since - plan.halting h) (omega arith) in (p.0, rw p.1 r.1, λ t. p.1))
 
-module _ (plan : Plan) (flight : Flight) (accepted : Accepted plan) where
-  ranged_stable : (f c : ℕ) (v : Env) → c < plan.configurations → Ranged plan (stable_decision f c (plan.choose c v))
+module _ (plan : Plan) (course : Course) (accepted : IsAcceptedPlan plan) where
+  ranged_stable : (f c : ℕ) (v : Env) → c < plan.configurations → Ranged plan (course_stable_decision f c (plan.choose c v))
   ranged_stable f c v known = by_test (Ranged plan) (nat_eq (plan.choose c v) c) _ _ (λ e. known) (λ e. (known, accepted.choose_in c v known, λ h e. let is : c ≡ h = cc in rw is at known))
 
-  ranged_wanted : (from to : ℕ) (v : Env) → from < plan.configurations → to < plan.configurations → wanted plan from to v < plan.configurations
+  ranged_wanted : (from to : ℕ) (v : Env) → from < plan.configurations → to < plan.configurations → course_wanted plan from to v < plan.configurations
   ranged_wanted from to v known aimed = by_test (λ k. k < plan.configurations) (plan.settles && plan.is_runnable to v) _ _ (λ e. aimed) (λ e. accepted.choose_in from v known)
 
-  ranged_retarget : (f from : ℕ) (halting : Option ℕ) (to since : ℕ) (settled : Bool) (t : ℕ) → Ranged plan (Moving from halting to since) → t < plan.configurations → Ranged plan (retarget plan f from halting to since settled t)
+  ranged_retarget : (f from : ℕ) (halting : Option ℕ) (to since : ℕ) (settled : Bool) (t : ℕ) → Ranged plan (Moving from halting to since) → t < plan.configurations → Ranged plan (course_turn plan f from halting to since settled t)
   ranged_retarget f from halting to since settled t r known =
       by_test (Ranged plan) (nat_eq t to) _ _ (λ e. r)
-      (λ e. by_test (Ranged plan) (nat_lt (f - since) (halting_of plan halting)) _ _ (λ e. (r.0, known, r.2))
+      (λ e. by_test (Ranged plan) (nat_lt (f - since) (plan_halting plan halting)) _ _ (λ e. (r.0, known, r.2))
       (λ e. by_test (Ranged plan) settled _ _ (λ e. (r.0, known, λ h e. let is : to ≡ h = cc in rw is at r.1)) (λ e. (r.0, known, λ h e. cc))))
 
-  ranged_step : (f : ℕ) (m : Mode) → Ranged plan m → Ranged plan (decide_after plan flight f m)
-  ranged_step f (Stable c) r = ranged_stable (suc f) c (flight.env (suc f)) r
+  ranged_step : (f : ℕ) (m : CourseMode) → Ranged plan m → Ranged plan (course_decision_after plan course f m)
+  ranged_step f (Stable c) r = ranged_stable (suc f) c (course.env (suc f)) r
   ranged_step f (Moving from halting to since) r =
-      by_test (Ranged plan) (is_running plan (Moving from halting to since) f && flight.runs f to) _ _
-      (λ e. ranged_stable (suc f) to (flight.env (suc f)) r.1)
-      (λ e. ranged_retarget (suc f) from halting to since _ _ r (ranged_wanted from to (flight.env (suc f)) r.0 r.1))
+      by_test (Ranged plan) (course_is_running plan (Moving from halting to since) f && course.runs f to) _ _
+      (λ e. ranged_stable (suc f) to (course.env (suc f)) r.1)
+      (λ e. ranged_retarget (suc f) from halting to since _ _ r (ranged_wanted from to (course.env (suc f)) r.0 r.1))
 
-  pub ranged : (f : ℕ) → Ranged plan (mode_at plan flight f)
-  ranged zero = ranged_stable 0 plan.start (flight.env 0) accepted.start_in
-  ranged (suc f) = ranged_step f (mode_at plan flight f) (ranged f)
+  pub ranged : (f : ℕ) → Ranged plan (course_mode_at plan course f)
+  ranged zero = ranged_stable 0 plan.start (course.env 0) accepted.start_in
+  ranged (suc f) = ranged_step f (course_mode_at plan course f) (ranged f)
 
-  module _ (build : Build) (commits : ℕ → ℕ → Bool) (built : IsBuilt plan build) (run : IsRun plan build flight commits) where
+  module _ (build : Build) (commits : ℕ → ℕ → Bool) (built : IsBuilt plan build) (run : IsRun plan build course commits) where
     -- a phase that does not run leaves an application that is on without a run
-    busy : (acts : ℕ → Act) (committed : ℕ → Bool) (ph : Phase) (j : ℕ) → conf_of ph < plan.configurations → runs_in ph ≡ false → ((a : ℕ) → acts a ≡ act_of committed (order_in build ph a)) → runs build acts j ≡ true → ⊥
+    busy : (acts : ℕ → CourseAct) (committed : ℕ → Bool) (ph : CoursePhase) (j : ℕ) → conf_of ph < plan.configurations → runs_in ph ≡ false → ((a : ℕ) → acts a ≡ course_act_of committed (course_order_in build ph a)) → course_runs build acts j ≡ true → ⊥
     busy acts committed (Running c) j known idle is h = true_false true refl idle
     busy acts committed (Halting c age) j known idle is h =
         let on = built.first_halts c known in
-        let fits = all_at (λ a. fits_place (build.place j a) (acts a)) build.apps h on.0 on.2 in
-        true_false _ fits (rw (is on.0, on.3, on.4) (idle_fits committed (halting_order 0 (build.halt_time c on.0) age (Some on.1)) (build.place j on.0) (idle_halting (build.halt_time c on.0) age on.1)))
+        let fits = all_at (λ a. course_fits_place (build.place j a) (acts a)) build.apps h on.0 on.2 in
+        true_false _ fits (rw (is on.0, on.3, on.4) (idle_fits committed (course_halting_order 0 (build.halt_time c on.0) age (Some on.1)) (build.place j on.0) (idle_halting (build.halt_time c on.0) age on.1)))
     busy acts committed (Preparing c age) j known idle is h =
         let on = built.first_halts c known in
-        let fits = all_at (λ a. fits_place (build.place j a) (acts a)) build.apps h on.0 on.2 in
-        true_false _ fits (rw (is on.0, on.3) (idle_fits committed (preparing_order (build.prepare_time c on.0) age (Some on.1)) (build.place j on.0) (idle_preparing (build.prepare_time c on.0) age on.1)))
+        let fits = all_at (λ a. course_fits_place (build.place j a) (acts a)) build.apps h on.0 on.2 in
+        true_false _ fits (rw (is on.0, on.3) (idle_fits committed (course_preparing_order (build.prepare_time c on.0) age (Some on.1)) (build.place j on.0) (idle_preparing (build.prepare_time c on.0) age on.1)))
     busy acts committed (Initialising c age) j known idle is h =
         let on = built.first_halts c known in
-        let fits = all_at (λ a. fits_place (build.place j a) (acts a)) build.apps h on.0 on.2 in
-        true_false _ fits (rw (is on.0, on.3) (idle_fits committed (init_order (build.init_offset c on.0) (build.init_time c on.0) age (Some on.1)) (build.place j on.0) (idle_init (build.init_offset c on.0) (build.init_time c on.0) age on.1)))
+        let fits = all_at (λ a. course_fits_place (build.place j a) (acts a)) build.apps h on.0 on.2 in
+        true_false _ fits (rw (is on.0, on.3) (idle_fits committed (course_initialising_order (build.init_offset c on.0) (build.init_time c on.0) age (Some on.1)) (build.place j on.0) (idle_init (build.init_offset c on.0) (build.init_time c on.0) age on.1)))
 
     -- a running phase runs its configuration alone
-    alone : (acts : ℕ → Act) (committed : ℕ → Bool) (c j : ℕ) → c < plan.configurations → ((a : ℕ) → acts a ≡ act_of committed (running_order (build.place c a))) → runs build acts j ≡ true → c ≡ j
+    alone : (acts : ℕ → CourseAct) (committed : ℕ → Bool) (c j : ℕ) → c < plan.configurations → ((a : ℕ) → acts a ≡ course_act_of committed (course_running_order (build.place c a))) → course_runs build acts j ≡ true → c ≡ j
     alone acts committed c j known is h =
         let same : (a : ℕ) → a < build.apps → build.place j a ≡ build.place c a = λ a below.
-        fits_running committed (build.place c a) (build.place j a) (rw (is a) at (all_at (λ a. fits_place (build.place j a) (acts a)) build.apps h a below)) in
+        fits_running committed (build.place c a) (build.place j a) (rw (is a) at (all_at (λ a. course_fits_place (build.place j a) (acts a)) build.apps h a below)) in
         let on = built.first_halts c known in
         let there : build.place j on.0 ≡ Some on.1 = same on.0 on.2 ∙ on.3 in
         sym (built.differ j c (built.placed_in j on.0 on.1 there) known same)
 
-    only_in : (acts : ℕ → Act) (committed : ℕ → Bool) (ph : Phase) (j : ℕ) → conf_of ph < plan.configurations → ((a : ℕ) → acts a ≡ act_of committed (order_in build ph a)) → runs build acts j ≡ true → (runs_in ph ≡ true) × (conf_of ph ≡ j)
+    only_in : (acts : ℕ → CourseAct) (committed : ℕ → Bool) (ph : CoursePhase) (j : ℕ) → conf_of ph < plan.configurations → ((a : ℕ) → acts a ≡ course_act_of committed (course_order_in build ph a)) → course_runs build acts j ≡ true → (runs_in ph ≡ true) × (conf_of ph ≡ j)
     only_in acts committed (Running c) j known is h = (refl, alone acts committed c j known is h)
     only_in acts committed (Halting c age) j known is h = absurd (busy acts committed (Halting c age) j known refl is h)
     only_in acts committed (Preparing c age) j known is h = absurd (busy acts committed (Preparing c age) j known refl is h)
     only_in acts committed (Initialising c age) j known is h = absurd (busy acts committed (Initialising c age) j known refl is h)
 
     -- where the running phase does not run its configuration, a processor that it uses did not commit
-    lost_in : (acts : ℕ → Act) (committed : ℕ → Bool) (ph : Phase) → runs_in ph ≡ true → ((a : ℕ) → acts a ≡ act_of committed (order_in build ph a)) → runs build acts (conf_of ph) ≡ false
+    lost_in : (acts : ℕ → CourseAct) (committed : ℕ → Bool) (ph : CoursePhase) → runs_in ph ≡ true → ((a : ℕ) → acts a ≡ course_act_of committed (course_order_in build ph a)) → course_runs build acts (conf_of ph) ≡ false
         → (a : ℕ) × (p : Place) × (a < build.apps) × (build.place (conf_of ph) a ≡ Some p) × (committed p.proc.0 ≡ false)
     lost_in acts committed (Running c) r is h =
-        let some = some_fails (λ a. fits_place (build.place c a) (acts a)) build.apps h in
+        let some = some_fails (λ a. course_fits_place (build.place c a) (acts a)) build.apps h in
         let l = lost_running committed (build.place c some.0) (rw (is some.0) at some.2) in
         (some.0, l.0, some.1, l.1, l.2)
     lost_in acts committed (Halting c age) r is h = absurd (true_false false r refl)
@@ -241,38 +241,38 @@ module _ (plan : Plan) (flight : Flight) (accepted : Accepted plan) where
     lost_in acts committed (Initialising c age) r is h = absurd (true_false false r refl)
 
     -- what the law asks of row f
-    row_under : (f : ℕ) → f < flight.frames → (m : Mode) → mode_at plan flight f ≡ m → Ranged plan m → RowUnder plan flight f m
+    row_under : (f : ℕ) → f < course.frames → (m : CourseMode) → course_mode_at plan course f ≡ m → Ranged plan m → CourseRowUnder plan course f m
     row_under f inside m moded r = record {
       only = λ j h. let o = only_in acts (commits f) ph j i.1 is (rw (run.runs_is f j inside) at h) in (rw i.0 at o.0, sym (i.2 o.0) ∙ o.1);
       lost = λ running left up.
           let same = i.2 (i.0 ∙ running) in
-          let l = lost_in acts (commits f) ph (i.0 ∙ running) is (rw (run.runs_is f (target m) inside, ← same) at left) in
-          not_true (plan.is_runnable (target m) (flight.env (suc f))) (λ later.
+          let l = lost_in acts (commits f) ph (i.0 ∙ running) is (rw (run.runs_is f (course_target m) inside, ← same) at left) in
+          not_true (plan.is_runnable (course_target m) (course.env (suc f))) (λ later.
           elim (run.loses f l.1.proc.0 inside l.4) [
-            | inl down ↦ true_false _ (built.needs_up (target m) l.0 l.1 (flight.env f) l.2 (rw same at l.3) up) down
-            | inr down ↦ true_false _ (built.needs_up (target m) l.0 l.1 (flight.env (suc f)) l.2 (rw same at l.3) later) down
+            | inl down ↦ true_false _ (built.needs_up (course_target m) l.0 l.1 (course.env f) l.2 (rw same at l.3) up) down
+            | inr down ↦ true_false _ (built.needs_up (course_target m) l.0 l.1 (course.env (suc f)) l.2 (rw same at l.3) later) down
           ]);
-      none_runs = λ none j. not_true (flight.runs f j) (λ h.
+      none_runs = λ none j. not_true (course.runs f j) (λ h.
           let o = only_in acts (commits f) ph j i.1 is (rw (run.runs_is f j inside) at h) in
           let known : j < plan.configurations = rw o.1 at i.1 in
-          true_false _ h (least_none (flight.runs f) 0 plan.configurations (sym (run.running_is f inside) ∙ none) j (omega arith) (omega arith)));
-      one_runs = λ j some. least_holds (flight.runs f) 0 plan.configurations j (sym (run.running_is f inside) ∙ some);
+          true_false _ h (least_none (course.runs f) 0 plan.configurations (sym (run.running_is f inside) ∙ none) j (omega arith) (omega arith)));
+      one_runs = λ j some. least_holds (course.runs f) 0 plan.configurations j (sym (run.running_is f inside) ∙ some);
     }
       where
-        ph : Phase
-        ph = phase plan m f
+        ph : CoursePhase
+        ph = course_phase plan m f
 
-        acts : ℕ → Act
-        acts = acts_at plan build flight commits f
+        acts : ℕ → CourseAct
+        acts = course_acts_at plan build course commits f
 
-        is : (a : ℕ) → acts a ≡ act_of (commits f) (order_in build ph a)
+        is : (a : ℕ) → acts a ≡ course_act_of (commits f) (course_order_in build ph a)
         is a = rw moded refl
 
         i : InPhase plan m f ph
         i = in_phase plan m f r
 
-    pub flown : IsFlown plan flight
-    flown f inside = row_under f inside (mode_at plan flight f) refl (ranged f)
+    pub flown : IsCourseFlown plan course
+    flown f inside = row_under f inside (course_mode_at plan course f) refl (ranged f)
 
 pub reconfigures_built : ReconfiguresBuilt
-reconfigures_built plan build flight commits accepted built within run = reconfigures plan flight accepted within (flown plan flight accepted build commits built run)
+reconfigures_built plan build course commits accepted built within run = reconfigures plan course accepted within (flown plan course accepted build commits built run)

@@ -3,31 +3,31 @@ use Rattle.std.proofs.Common.{◌≡◌, ℕ, zero, suc, ◌+◌, ◌<◌, ◌�
 use mathlib.Core.Logic.{inl, inr}
 use Rattle.std.specs.Prelude.{if◌then◌else◌}
 use Rattle.scram_types.specs.declared.flights.Env.{Env}
-use Rattle.trace_props.specs.Plans.{Plan}
-use Rattle.trace_props.specs.Courses.{changes_at, changes_upto}
+use Rattle.trace_props.proofs.Plans.{Plan}
+use Rattle.trace_props.proofs.Courses.{course_changes_at, course_changes_upto}
 
 pub le_suc_or : (a b : ℕ) → a ≤ suc b → (a ≤ b) ⊎ (a ≡ suc b)
 le_suc_or a b h = grind arith
 
 -- a frame adds one where it is a change frame
-pub count_changed : (plan : Plan) (env : ℕ → Env) (f : ℕ) → changes_at plan env (suc f) ≡ true → changes_upto plan env (suc f) ≡ suc (changes_upto plan env f)
+pub count_changed : (plan : Plan) (env : ℕ → Env) (f : ℕ) → course_changes_at plan env (suc f) ≡ true → course_changes_upto plan env (suc f) ≡ suc (course_changes_upto plan env f)
 count_changed plan env f h = rw h (omega arith)
 
-pub count_same : (plan : Plan) (env : ℕ → Env) (f : ℕ) → changes_at plan env (suc f) ≡ false → changes_upto plan env (suc f) ≡ changes_upto plan env f
+pub count_same : (plan : Plan) (env : ℕ → Env) (f : ℕ) → course_changes_at plan env (suc f) ≡ false → course_changes_upto plan env (suc f) ≡ course_changes_upto plan env f
 count_same plan env f h = rw h (omega arith)
 
 at_most_one : (b : Bool) (n : ℕ) → n ≤ n + (if b then 1 else 0)
 at_most_one true n = omega arith
 at_most_one false n = omega arith
 
-pub count_grows : (plan : Plan) (env : ℕ → Env) (f : ℕ) → changes_upto plan env f ≤ changes_upto plan env (suc f)
-count_grows plan env f = at_most_one (plan.differ (env f) (env (suc f))) (changes_upto plan env f)
+pub count_grows : (plan : Plan) (env : ℕ → Env) (f : ℕ) → course_changes_upto plan env f ≤ course_changes_upto plan env (suc f)
+count_grows plan env f = at_most_one (plan.differ (env f) (env (suc f))) (course_changes_upto plan env f)
 
-count_step : (plan : Plan) (env : ℕ → Env) (a b : ℕ) → a ≤ suc b → (a ≤ b → changes_upto plan env a ≤ changes_upto plan env b) → changes_upto plan env a ≤ changes_upto plan env (suc b)
+count_step : (plan : Plan) (env : ℕ → Env) (a b : ℕ) → a ≤ suc b → (a ≤ b → course_changes_upto plan env a ≤ course_changes_upto plan env b) → course_changes_upto plan env a ≤ course_changes_upto plan env (suc b)
 count_step plan env a b h before = elim (le_suc_or a b h) [ inl e ↦ let grown = count_grows plan env b in let below = before e in omega arith | inr e ↦ rw e (omega arith) ]
 
 -- the counts rise with the frame
-pub count_le : (plan : Plan) (env : ℕ → Env) (a b : ℕ) → a ≤ b → changes_upto plan env a ≤ changes_upto plan env b
+pub count_le : (plan : Plan) (env : ℕ → Env) (a b : ℕ) → a ≤ b → course_changes_upto plan env a ≤ course_changes_upto plan env b
 count_le plan env a zero h = let e : a ≡ 0 = omega arith in rw e (omega arith)
 count_le plan env a (suc b) h = count_step plan env a b h (count_le plan env a b)
 
@@ -36,7 +36,7 @@ pub record ChangeBetween (plan : Plan) (env : ℕ → Env) (a b : ℕ) : Type 0 
   pub change : ℕ
   pub after : a < change
   pub up_to : change ≤ b
-  pub changed : changes_at plan env change ≡ true
+  pub changed : course_changes_at plan env change ≡ true
 
 later_change : {plan : Plan} {env : ℕ → Env} {a b : ℕ} → ChangeBetween plan env a b → ChangeBetween plan env a (suc b)
 later_change c = record { change = c.change; after = c.after; up_to = omega arith; changed = c.changed }

@@ -13,7 +13,7 @@ use Rattle.trace_props.specs.declared.comparing.Agreement.{Agreement}
 use Rattle.trace_props.specs.declared.comparing.Agreement.TheVariants.{Alike, Apart}
 use Rattle.trace_props.specs.declared.judging.Judgement.{Judgement}
 use Rattle.trace_props.specs.Breaks.{BreaksSp1, lesser_begin}
-use Rattle.trace_props.specs.Judging.{begin_of, compare, compare_next, difference, is_same_report, is_same_target, judge, judge_all}
+use Rattle.trace_props.specs.Judging.{begin_told, compare, compare_with, difference, is_same_report, is_same_target, judge, judge_all}
 use Rattle.trace_props.proofs.Firsts.{IsLeastOf}
 use Rattle.trace_props.proofs.Tests.{and_left, and_right, by_test, eq_true, true_false}
 
@@ -86,7 +86,7 @@ next_alike told all place before here k h = elim (below_or_last k place h) [
 ]
 
 module _ (told all : List Report) (place : ℕ) (read : Report) (there : slice_get all place ≡ Some read) (before : (k : ℕ) → k < place → slice_get told k ≡ slice_get all k) where
-  met : (o : Option Report) → slice_get told place ≡ o → Agrees told all (suc place) (compare_next place o read)
+  met : (o : Option Report) → slice_get told place ≡ o → Agrees told all (suc place) (compare_with place o read)
   met None e = record {
     place = place;
     alike = before;
@@ -150,7 +150,7 @@ module _ (told all : List Report) (n : ℕ) (ended : (k : ℕ) → slice_get all
   ended_here = ap (slice_get all) (omega arith) ∙ ended 0
 
   finished : ((k : ℕ) → k < n → slice_get told k ≡ slice_get all k) → (o : Option Report) → slice_get told n ≡ o
-      → IsLeastOf (BreaksSp1 told all) (begin_of o) × (begin_of o ≡ None → told ≡ all)
+      → IsLeastOf (BreaksSp1 told all) (begin_told o) × (begin_told o ≡ None → told ≡ all)
   finished before None e =
       let same = same_list told all (λ k. elim (low_or_past k n) [
         | inl low ↦ before k low

@@ -7,8 +7,8 @@ use Rattle.std.proofs.lemmas.Bool.Decides.{nat_tests}
 use Rattle.frame_model.specs.Runs.{least_from}
 use Rattle.trace_props.specs.declared.breaks.Broken.{Broken}
 use Rattle.trace_props.specs.declared.breaks.Property.{Property}
-use Rattle.trace_props.specs.Breaks.{ComesBefore, number_of}
-use Rattle.trace_props.specs.Judging.{broken_at, comes_before, earlier, lesser}
+use Rattle.trace_props.specs.Breaks.{ComesBefore, property_number}
+use Rattle.trace_props.specs.Judging.{broken_at, comes_before, earlier, lesser_frame}
 use Rattle.trace_props.proofs.Tests.{and_left, and_right, by_test, eq_true, lt_false, lt_true, true_false}
 
 abbrev pub IsLeastOf : (ℕ → Type 0) → Option ℕ → Type 0
@@ -43,7 +43,7 @@ either_le A B a b g h k e = elim e [
   | inr y ↦ (let l = k g y in let m = min-le_right a b in omega arith)
 ]
 
-pub least_lesser : (A B : ℕ → Type 0) (a b : Option ℕ) → IsLeastOf A a → IsLeastOf B b → IsLeastOf (λ g. A g ⊎ B g) (lesser a b)
+pub least_lesser : (A B : ℕ → Type 0) (a b : Option ℕ) → IsLeastOf A a → IsLeastOf B b → IsLeastOf (λ g. A g ⊎ B g) (lesser_frame a b)
 least_lesser A B None None h k = λ g e. elim e [ inl x ↦ h g x | inr y ↦ k g y ]
 least_lesser A B None (Some f) h k = (inr k.0, λ g e. elim e [ inl x ↦ absurd (h g x) | inr y ↦ k.1 g y ])
 least_lesser A B (Some f) None h k = (inl h.0, λ g e. elim e [ inl x ↦ h.1 g x | inr y ↦ absurd (k g y) ])
@@ -77,7 +77,7 @@ is_before one other h = elim (or_cases (nat_lt one.frame other.frame) _ h) [
   | inl less ↦ inl (lt_true one.frame other.frame less)
   | inr same ↦ inr (
     eq_true one.frame other.frame (and_left (nat_eq one.frame other.frame) _ same),
-    (let less = lt_true (number_of one.property) (number_of other.property) (and_right (nat_eq one.frame other.frame) _ same) in omega arith),
+    (let less = lt_true (property_number one.property) (property_number other.property) (and_right (nat_eq one.frame other.frame) _ same) in omega arith),
   )
 ]
 
@@ -87,7 +87,7 @@ is_not_before one other h =
       | inl less ↦ inl less
       | inr same ↦ inr (
         same,
-        lt_false (number_of one.property) (number_of other.property) (and_rest (nat_eq one.frame other.frame) _ (eq_test other.frame one.frame same) (or_right (nat_lt one.frame other.frame) _ h)),
+        lt_false (property_number one.property) (property_number other.property) (and_rest (nat_eq one.frame other.frame) _ (eq_test other.frame one.frame same) (or_right (nat_lt one.frame other.frame) _ h)),
       )
     ]
 
@@ -127,7 +127,7 @@ first_earlier A B (Some a) (Some b) h k = by_test {A = Option Broken} (IsFirstOf
 alone : (p q : Property) (f g : ℕ) → q ≡ p → f ≤ g → ComesBefore p f q g
 alone p q f g e h = elim (same_or_less f g h) [
   | inl less ↦ inl less
-  | inr same ↦ inr (same, (let number = ap number_of e in omega arith))
+  | inr same ↦ inr (same, (let number = ap property_number e in omega arith))
 ]
 
 pub first_one : (property : Property) (A : ℕ → Type 0) (o : Option ℕ) → IsLeastOf A o → IsFirstOf (λ p g. (p ≡ property) × A g) (broken_at property o)

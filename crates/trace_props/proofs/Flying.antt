@@ -18,11 +18,11 @@ use Rattle.fault_script.specs.Times.{factor_at, is_up, value_after}
 use Rattle.fault_script.proofs.Bits.{no_bit}
 use Rattle.frame_model.specs.Runs.{all_below}
 use Rattle.coverage_check.specs.Choosing.{opening_env}
-use Rattle.trace_props.specs.Courses as courses
-use Rattle.trace_props.specs.Courses.{IsWithin}
-use Rattle.trace_props.specs.Builds.{IsRun}
+use Rattle.trace_props.proofs.Courses as courses
+use Rattle.trace_props.proofs.Courses.{IsCourseWithin}
+use Rattle.trace_props.proofs.CourseRows.{IsRun}
 use Rattle.trace_props.proofs.Tests.{by_test, and_right, le_true}
-use Rattle.trace_props.proofs.Products.{build_of, flight_of, has_value, is_env, plan_of}
+use Rattle.trace_props.proofs.Products.{build_of, course_of, has_value, is_env, plan_of}
 use Rattle.trace_props.proofs.Acting.{committed, runs_same}
 
 lt_is : (a b : ℕ) → a < b → nat_lt a b ≡ true
@@ -34,7 +34,7 @@ le_is a b h = grind (arith, nat_tests)
 low_or_high : (a b : ℕ) → (a < b) ⊎ (b ≤ a)
 low_or_high a b = grind arith
 
--- every flight opens with all processors up and each factor at its first value
+-- every course opens with all processors up and each factor at its first value
 all_bits : (n : ℕ) → suc (bits_below (λ p. true) n) ≡ 2 ^ n
 all_bits zero = refl
 all_bits (suc n) = let before = all_bits n in grind (arith, before)
@@ -133,18 +133,18 @@ scope spec script f shows few = le_is _ spec.halts (rw (counted_down spec script
 both : (a b : Bool) → a ≡ true → b ≡ true → (a && b) ≡ true
 both a b p q = rw (p, q) refl
 
-pub counts_same : (spec : Parts) (script : ScriptParts) (f : ℕ) → courses.changes_upto (plan_of spec) (env_at spec script) f ≡ assumption.changes_upto spec script f
+pub counts_same : (spec : Parts) (script : ScriptParts) (f : ℕ) → courses.course_changes_upto (plan_of spec) (env_at spec script) f ≡ assumption.changes_upto spec script f
 counts_same spec script zero = refl
 counts_same spec script (suc f) = ap (λ n. n + (if assumption.is_change_frame spec script (suc f) then 1 else 0)) (counts_same spec script f)
 
-pub within_of : (spec : Parts) (script : ScriptParts) → IsSpec spec → Fits spec script → EnvironmentsShow → assumption.IsWithin spec script → IsWithin (plan_of spec) (flight_of spec script)
+pub within_of : (spec : Parts) (script : ScriptParts) → IsSpec spec → Fits spec script → EnvironmentsShow → assumption.IsWithin spec script → IsCourseWithin (plan_of spec) (course_of spec script)
 within_of spec script sound fits show within = record {
   opens = opens spec script fits;
   scope = λ f inside. both _ _ (belongs spec script f (show spec script sound fits f)) (scope spec script f (show spec script sound fits f) (within.scope f inside));
   few = λ f inside. rw (counts_same spec script f, counts_same spec script (f - spec.window)) (within.few f inside);
 }
 
-pub run_of : (spec : Parts) (script : ScriptParts) → IsSpec spec → Fits spec script → EnvironmentsShow → LossesShow → IsRun (plan_of spec) (build_of spec) (flight_of spec script) (committed spec script)
+pub run_of : (spec : Parts) (script : ScriptParts) → IsSpec spec → Fits spec script → EnvironmentsShow → LossesShow → IsRun (plan_of spec) (build_of spec) (course_of spec script) (committed spec script)
 run_of spec script sound fits show losses = record {
   runs_is = λ f j inside. runs_same spec sound script f j;
   running_is = λ f inside. refl;

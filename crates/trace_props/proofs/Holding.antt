@@ -13,18 +13,18 @@ use Rattle.frame_model.specs.Laws.{ReadsRowByRow}
 use Rattle.frame_model.specs.Readings as readings
 use Rattle.frame_model.specs.Runs.{conf_of}
 use Rattle.coverage_check.specs.Acceptance.{Accepts}
-use Rattle.trace_props.specs.Courses.{Reading, Reading.Steady, Reading.Leaving, Report, reading_before, report_at}
-use Rattle.trace_props.specs.Areas.{AreasKept}
+use Rattle.trace_props.proofs.Courses.{CourseReading, CourseReading.Steady, CourseReading.Leaving, CourseReport, course_reading_before, course_report_at}
+use Rattle.trace_props.proofs.CourseAreas.{AreasKept}
 use Rattle.trace_props.specs.Properties.{KeepsSp4}
 use Rattle.trace_props.proofs.Lists.{each_append, each_option, get-listed_below, length-listed_below}
 use Rattle.trace_props.proofs.Intervals.{kept_of, ready_of, invariant_of, precondition_of, speaks_in}
-use Rattle.trace_props.proofs.Products.{build_of, flight_of, plan_of}
+use Rattle.trace_props.proofs.Products.{build_of, course_of, plan_of}
 use Rattle.trace_props.specs.Judging.{lies_in}
 use Rattle.trace_props.proofs.Ranging.{KindsLie, area, laws_of, lies_of}
 use Rattle.trace_props.proofs.Reporting.{IsEnded, ended_each, reading_same, told_reading, told_report}
 
 module _ (spec : Parts) (sound : IsSpec spec) (accepts : Accepts spec) (kinds : KindsLie) (script : ScriptParts) (by_row : ReadsRowByRow)
-    (areas : AreasKept (plan_of spec) (build_of spec) (flight_of spec script) (laws_of spec) (area spec sound kinds script)) where
+    (areas : AreasKept (plan_of spec) (build_of spec) (course_of spec script) (laws_of spec) (area spec sound kinds script)) where
   row_count : length (rows_of spec script) ≡ script.frames
   row_count = length-listed_below (row_at spec script) script.frames
 
@@ -40,7 +40,7 @@ module _ (spec : Parts) (sound : IsSpec spec) (accepts : Accepts spec) (kinds : 
   ended_holds : (x : told_reports.Report) → IsEnded spec script by_row script.frames x → KeepsSp4 spec (rows_of spec script) x
   ended_holds x h = rw h.is (holds h.frame h.report h.inside h.reported)
     where
-      holds : (f : ℕ) (r : Report) → f < script.frames → report_at (plan_of spec) (flight_of spec script) f ≡ Some r → KeepsSp4 spec (rows_of spec script) (told_report r)
+      holds : (f : ℕ) (r : CourseReport) → f < script.frames → course_report_at (plan_of spec) (course_of spec script) f ≡ Some r → KeepsSp4 spec (rows_of spec script) (told_report r)
       holds f r inside reported = record {
         throughout = λ k inv there speaks g row from to at.
             rw (row_is g row at) (lies_of inv.least inv.greatest (word (area spec sound kinds script (suc g) inv.app.0) inv.variable)
@@ -52,7 +52,7 @@ module _ (spec : Parts) (sound : IsSpec spec) (accepts : Accepts spec) (kinds : 
             (areas.ready f r (precondition_of pre) inside reported (ready_of spec sound accepts k pre there) (sym (ap (λ (c : ConfId). c.0) aimed)))));
       }
 
-  cut_off_holds : (c s n : ℕ) → reading_before (plan_of spec) (flight_of spec script) script.frames ≡ Leaving c s → KeepsSp4 spec (rows_of spec script) (record { from = conf_of c; to = None; begin = s; end = n })
+  cut_off_holds : (c s n : ℕ) → course_reading_before (plan_of spec) (course_of spec script) script.frames ≡ Leaving c s → KeepsSp4 spec (rows_of spec script) (record { from = conf_of c; to = None; begin = s; end = n })
   cut_off_holds c s n is = record {
     throughout = λ k inv there speaks g row from to at.
         rw (row_is g row at) (lies_of inv.least inv.greatest (word (area spec sound kinds script (suc g) inv.app.0) inv.variable)
@@ -60,7 +60,7 @@ module _ (spec : Parts) (sound : IsSpec spec) (accepts : Accepts spec) (kinds : 
     ready = λ k pre there to g row last at. cc;
   }
 
-  closed_holds : (rd : Reading) → reading_before (plan_of spec) (flight_of spec script) script.frames ≡ rd
+  closed_holds : (rd : CourseReading) → course_reading_before (plan_of spec) (course_of spec script) script.frames ≡ rd
       → (x : told_reports.Report) → readings.close (told_reading rd) (length (rows_of spec script)) ≡ Some x → KeepsSp4 spec (rows_of spec script) x
   closed_holds (Steady c) e x h = cc
   closed_holds (Leaving c s) e x h =
@@ -72,6 +72,6 @@ module _ (spec : Parts) (sound : IsSpec spec) (accepts : Accepts spec) (kinds : 
       each_append (KeepsSp4 spec (rows_of spec script)) (readings.ended spec (rows_of spec script)) (readings.as_list (readings.close (readings.reading_of spec (rows_of spec script)) (length (rows_of spec script))))
       (λ i y there. ended_holds y (ended_each spec script by_row script.frames script.frames (omega arith) i y there))
       (each_option (KeepsSp4 spec (rows_of spec script)) (readings.close (readings.reading_of spec (rows_of spec script)) (length (rows_of spec script)))
-      (λ y e. closed_holds (reading_before (plan_of spec) (flight_of spec script) script.frames) refl y
+      (λ y e. closed_holds (course_reading_before (plan_of spec) (course_of spec script) script.frames) refl y
       (ap (λ rd. readings.close rd (length (rows_of spec script))) (sym (reading_same spec script by_row script.frames)) ∙ e)))
       k x h

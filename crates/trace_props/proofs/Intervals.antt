@@ -17,35 +17,35 @@ use Rattle.frame_model.specs.States.{kind_of_app}
 use Rattle.coverage_check.specs.Acceptance as acceptance
 use Rattle.coverage_check.specs.Acceptance.{Accepts}
 use Rattle.coverage_check.specs.Holding.{holds_during, holds_leaving, holds_off, holds_reaching}
-use Rattle.trace_props.specs.Plans as plans
-use Rattle.trace_props.specs.Areas.{Written, Written.DidRun, Written.DidHalt, Written.DidPrepare, Written.DidInit, Written.Zeros, Invariant, Precondition, IsKept, IsReady, Listed, SpeaksIn, There, HereOrThere}
+use Rattle.trace_props.proofs.Plans as plans
+use Rattle.trace_props.proofs.CourseAreas.{Written, Written.DidRun, Written.DidHalt, Written.DidPrepare, Written.DidInit, Written.Zeros, CourseInvariant, CoursePrecondition, HoldsListedRanges, HoldsInitialisedRange, IsListed, SpeaksOfSource, IsPlacedInTarget, IsPlacedInEither}
 use Rattle.trace_props.proofs.Tests.{and_left, and_right, eq_true}
 use Rattle.trace_props.proofs.Accepting.{env_of_test}
-use Rattle.trace_props.proofs.Products.{build_of, is_env, number_of, plan_of}
+use Rattle.trace_props.proofs.Products.{build_of, is_env, halting_number, plan_of}
 use Rattle.trace_props.specs.Judging.{lies_in}
 use Rattle.trace_props.proofs.Ranging.{area_of, area_test, laws_of, lies_held, range_of}
 
 -- an invariant, and a precondition, in the words of the law
-abbrev pub invariant_of : told_invariants.Invariant → Invariant
-invariant_of inv = record { source = number_of inv.from; app = inv.app.0; holds = λ v. lies_in inv.least inv.greatest (word v inv.variable) }
+abbrev pub invariant_of : told_invariants.Invariant → CourseInvariant
+invariant_of inv = record { source = halting_number inv.from; app = inv.app.0; holds = λ v. lies_in inv.least inv.greatest (word v inv.variable) }
 
-abbrev pub precondition_of : told_preconditions.Precondition → Precondition
+abbrev pub precondition_of : told_preconditions.Precondition → CoursePrecondition
 precondition_of pre = record { conf = pre.conf.0; app = pre.app.0; holds = λ v. lies_in pre.least pre.greatest (word v pre.variable) }
 
 -- the source of an invariant
 eq_self : (n : ℕ) → (n == n) ≡ true
 eq_self n = grind (arith, nat_tests)
 
-source_is : (from : Option ConfId) (i : ℕ) → SpeaksIn (number_of from) i → has_source from (conf_of i) ≡ true
+source_is : (from : Option ConfId) (i : ℕ) → SpeaksOfSource (halting_number from) i → has_source from (conf_of i) ≡ true
 source_is None i h = refl
 source_is (Some c) i h = rw h (eq_self i)
 
-pub speaks_in : (from : Option ConfId) (c : ConfId) → has_source from c ≡ true → SpeaksIn (number_of from) c.0
+pub speaks_in : (from : Option ConfId) (c : ConfId) → has_source from c ≡ true → SpeaksOfSource (halting_number from) c.0
 speaks_in None c h = tt
 speaks_in (Some k) c h = eq_true k.0 c.0 h
 
 module _ (spec : Parts) (sound : IsSpec spec) (accepts : Accepts spec) where
-  target_of : (i j : ℕ) → plans.IsTarget (plan_of spec) i j → choices.IsTarget spec (conf_of i) (conf_of j)
+  target_of : (i j : ℕ) → plans.IsPlanTarget (plan_of spec) i j → choices.IsTarget spec (conf_of i) (conf_of j)
   target_of i j t = record {
     seen = t.seen;
     belongs = env_of_test spec sound t.seen (and_left (is_env spec t.seen) _ t.scope);
@@ -82,28 +82,28 @@ module _ (spec : Parts) (sound : IsSpec spec) (accepts : Accepts spec) where
     leaving_held None h = h
     leaving_held (Some p) h = and_right (holds_during spec inv 3 p.mode.0) _ h
 
-    module _ (i : ℕ) (known : i < length spec.confs) (speaks : SpeaksIn (number_of inv.from) i) where
+    module _ (i : ℕ) (known : i < length spec.confs) (speaks : SpeaksOfSource (halting_number inv.from) i) where
       kept : acceptance.IsKept spec inv (conf_of i)
       kept = accepts.kept k inv there (conf_of i) known (source_is inv.from i speaks)
 
       -- where the application stands so in i or in a possible target of i
-      left_at : (o : Option Place) → HereOrThere (plan_of spec) (build_of spec) i inv.app.0 o → holds_leaving spec inv o ≡ true
+      left_at : (o : Option Place) → IsPlacedInEither (plan_of spec) (build_of spec) i inv.app.0 o → holds_leaving spec inv o ≡ true
       left_at o site = elim site [
         | inl here ↦ rw here at kept.leaving
         | inr t ↦ leaving_held o (rw t.2 at (kept.reaching (conf_of t.0) (target_of i t.0 t.1)))
       ]
 
-      reached_at : (o : Option Place) → There (plan_of spec) (build_of spec) i inv.app.0 o → holds_reaching spec inv o ≡ true
+      reached_at : (o : Option Place) → IsPlacedInTarget (plan_of spec) (build_of spec) i inv.app.0 o → holds_reaching spec inv o ≡ true
       reached_at o t = rw t.2 at (kept.reaching (conf_of t.0) (target_of i t.0 t.1))
 
-      listed : (w : Written) (v : List ℤ) → Listed (plan_of spec) (build_of spec) i inv.app.0 w → area_test (range_of (kind_of_app spec inv.app.0) w) v ≡ true → lies_in inv.least inv.greatest (word v inv.variable) ≡ true
+      listed : (w : Written) (v : List ℤ) → IsListed (plan_of spec) (build_of spec) i inv.app.0 w → area_test (range_of (kind_of_app spec inv.app.0) w) v ≡ true → lies_in inv.least inv.greatest (word v inv.variable) ≡ true
       listed (DidRun p) v site lies = held_during 1 p.mode.0 v (run_held p (left_at (Some p) site)) lies
       listed (DidHalt p) v site lies = held_during 2 p.mode.0 v (halt_held p (left_at (Some p) site)) lies
       listed (DidPrepare p) v site lies = held_during 3 p.mode.0 v (prepare_held p (reached_at (Some p) site)) lies
       listed (DidInit p) v site lies = held_during 4 p.mode.0 v (init_held p (left_at (Some p) site)) lies
       listed Zeros v site lies = held_off v (left_at None site) lies
 
-    pub kept_of : IsKept (plan_of spec) (build_of spec) (laws_of spec) (invariant_of inv)
+    pub kept_of : HoldsListedRanges (plan_of spec) (build_of spec) (laws_of spec) (invariant_of inv)
     kept_of = record {
       app_in = (sound.invariants k inv there).interval.there;
       holds_listed = λ i w v known speaks site lies. listed i known speaks w v site lies;
@@ -113,7 +113,7 @@ module _ (spec : Parts) (sound : IsSpec spec) (accepts : Accepts spec) where
     narrow : pre.variable < 8
     narrow = let few = (sound.preconditions k pre there).interval.is_variable in omega arith
 
-    pub ready_of : IsReady (build_of spec) (laws_of spec) (precondition_of pre)
+    pub ready_of : HoldsInitialisedRange (build_of spec) (laws_of spec) (precondition_of pre)
     ready_of = record {
       app_in = (sound.preconditions k pre there).interval.there;
       holds_on = λ p v on lies.

@@ -12,12 +12,14 @@ use Rattle.trace_props.specs.declared.breaks.Property.{Property}
 use Rattle.trace_props.specs.declared.breaks.Property.TheVariants.{Sp1, Sp2, Sp3, Sp4, Sp5}
 use Rattle.trace_props.specs.declared.judging.Judgement.{Judgement}
 use Rattle.trace_props.specs.Breaks.{BreaksAt, BreaksIn, BreaksSomewhere, BreaksSp1, Fails, HoldsWhereUnbroken, IsFirstBreak, last_frame}
-use Rattle.trace_props.specs.Judging.{broken_at, broken_in, causeless_at, difference, earlier, first_break, judge, judge_all, late_at, opening, unchosen_at, unkept_at}
+use Rattle.trace_props.specs.Judging.{broken_at, broken_in, causeless_at, difference, earlier, first_break, judge, judge_all, late_at, opening_judgement, unchosen_at, unkept_at}
 use Rattle.trace_props.specs.Properties.{HoldsAll, KeepsSp2, KeepsSp3, KeepsSp4, KeepsSp5}
 use Rattle.trace_props.proofs.Differing.{agrees_all, told_least}
 use Rattle.trace_props.proofs.Firsts.{IsFirstOf, IsLeastOf, first_earlier, first_moved, first_one, none_at, none_left, none_right}
 use Rattle.trace_props.proofs.Ordering.{Ordered, ends_after, ordered_reports}
-use Rattle.trace_props.proofs.Refusing.{IsJustBefore, Judges, least_judged, sp2_judged, sp3_judged, sp4_kept, sp4_least, sp5_judged}
+use Rattle.trace_props.proofs.TargetsJudged.{Judges, least_judged, sp2_judged, sp3_judged}
+use Rattle.trace_props.proofs.AreasJudged.{sp4_kept, sp4_least}
+use Rattle.trace_props.proofs.CausesJudged.{IsJustBefore, sp5_judged}
 
 -- a reconfiguration keeps what SP2 to SP5 ask of it
 record Keeps (spec : Parts) (rows : List Row) (r : Report) : Type 0 where
@@ -160,7 +162,7 @@ module _ (spec : Parts) (rows : List Row) (told : List Report) where
   judged_all (r ∷ read) n low s rest order h =
       judged_all read (suc n) (suc r.end) (judge spec rows told s (Some r)) (λ k. ap (slice_get Read) (omega arith) ∙ rest (suc k)) order.2 (judged_next n low s r read rest order h)
 
-  opened : IsJudged spec rows Read 0 0 opening
+  opened : IsJudged spec rows Read 0 0 opening_judgement
   opened = record {
     first = λ p g b. (let below = b.below in absurd (omega arith));
     kept = λ e k x below. absurd (omega arith);
@@ -169,17 +171,17 @@ module _ (spec : Parts) (rows : List Row) (told : List Report) where
   }
 
   abbrev Final : Judgement
-  Final = judge_all spec rows told opening Read
+  Final = judge_all spec rows told opening_judgement Read
 
   from_zero : (k : ℕ) → slice_get Read (0 + k) ≡ slice_get Read k
   from_zero k = ap (slice_get Read) (omega arith)
 
   agreed : IsLeastOf (BreaksSp1 told Read) (difference told Final.agreement) × (difference told Final.agreement ≡ None → told ≡ Read)
-  agreed = let all = agrees_all spec rows told Read Read 0 from_zero opening (refl, λ k below. absurd (omega arith)) in
+  agreed = let all = agrees_all spec rows told Read Read 0 from_zero opening_judgement (refl, λ k below. absurd (omega arith)) in
       told_least told Read all.0 all.1 Final.agreement all.2
 
   judged : (m : ℕ) × (end : ℕ) × ((k : ℕ) → slice_get Read (m + k) ≡ None) × IsJudged spec rows Read m end Final
-  judged = judged_all Read 0 0 opening from_zero (ordered_reports spec rows) opened
+  judged = judged_all Read 0 0 opening_judgement from_zero (ordered_reports spec rows) opened
 
   -- no reconfiguration is past all that were judged
   below_all : (m : ℕ) → ((k : ℕ) → slice_get Read (m + k) ≡ None) → (place : ℕ) (x : Report) → slice_get Read place ≡ Some x → place < m

@@ -20,15 +20,15 @@ use Rattle.frame_model.specs.Flights.{row_at, rows_of}
 use Rattle.frame_model.specs.Laws.{ReadsRowByRow}
 use Rattle.frame_model.specs.Readings as readings
 use Rattle.frame_model.specs.Runs.{conf_of}
-use Rattle.trace_props.specs.Courses.{Reading, Reading.Steady, Reading.Leaving, Report, changes_at, reading_before, report_at}
-use Rattle.trace_props.specs.Assurances as assurances
-use Rattle.trace_props.specs.Assurances.{AllAssured, HasCause, IsCutOff}
-use Rattle.trace_props.specs.Properties.{ChangesIn, Follows, KeepsSp2, KeepsSp3, KeepsSp5, env_in}
+use Rattle.trace_props.proofs.Courses.{CourseReading, CourseReading.Steady, CourseReading.Leaving, CourseReport, course_changes_at, course_reading_before, course_report_at}
+use Rattle.trace_props.proofs.Promises as assurances
+use Rattle.trace_props.proofs.Promises.{IsCourseAllAssured, CourseHasCause, IsCourseCutOff}
+use Rattle.trace_props.specs.Properties.{ChangesIn, FollowsAnother, KeepsSp2, KeepsSp3, KeepsSp5, env_in}
 use Rattle.trace_props.proofs.Tests.{true_false}
 use Rattle.trace_props.proofs.Areas.{reported_of}
 use Rattle.trace_props.proofs.Bounding.{given_most}
 use Rattle.trace_props.proofs.Lists.{each_append, each_option, first_part, get-listed_below, length-listed_below}
-use Rattle.trace_props.proofs.Products.{flight_of, plan_of, settles_under}
+use Rattle.trace_props.proofs.Products.{course_of, plan_of, settles_under}
 use Rattle.trace_props.proofs.Reporting.{IsEnded, ended_each, ended_place, reading_same, told_reading, told_report}
 
 conf_same : (c : ConfId) (n : ℕ) → c.0 ≡ n → c ≡ conf_of n
@@ -63,7 +63,7 @@ module _ (spec : Parts) (script : ScriptParts) where
   row_count : length (rows_of spec script) ≡ script.frames
   row_count = length-listed_below (row_at spec script) script.frames
 
-  change_there : (f : ℕ) → f < script.frames → changes_at (plan_of spec) (env_at spec script) f ≡ true → ChangesIn spec (rows_of spec script) f
+  change_there : (f : ℕ) → f < script.frames → course_changes_at (plan_of spec) (env_at spec script) f ≡ true → ChangesIn spec (rows_of spec script) f
   change_there zero inside h = absurd (true_false false h refl)
   change_there (suc f) inside h = record {
     inside = rw row_count inside;
@@ -72,7 +72,7 @@ module _ (spec : Parts) (script : ScriptParts) where
   }
 
   module _ (by_row : ReadsRowByRow) where
-    follows_there : (r : told_reports.Report) → r.begin < script.frames → assurances.Follows (plan_of spec) (flight_of spec script) r.begin → Follows spec (rows_of spec script) r
+    follows_there : (r : told_reports.Report) → r.begin < script.frames → assurances.CourseFollows (plan_of spec) (course_of spec script) r.begin → FollowsAnother spec (rows_of spec script) r
     follows_there r inside h =
         let last = h.last in
         let up_to = h.up_to in
@@ -89,7 +89,7 @@ module _ (spec : Parts) (script : ScriptParts) where
           changes = change_there h.change (omega arith) h.changed;
         }
 
-    cause_there : (r : told_reports.Report) → HasCause (plan_of spec) (flight_of spec script) r.begin → KeepsSp5 spec (rows_of spec script) r
+    cause_there : (r : told_reports.Report) → CourseHasCause (plan_of spec) (course_of spec script) r.begin → KeepsSp5 spec (rows_of spec script) r
     cause_there r cause soon =
         let early : suc r.begin < script.frames = rw row_count at soon in
         elim cause [
@@ -106,13 +106,13 @@ module _ (spec : Parts) (script : ScriptParts) where
       pub sp3 : KeepsSp3 spec r
       pub sp5 : KeepsSp5 spec (rows_of spec script) r
 
-    ended_keeps : AllAssured (plan_of spec) (flight_of spec script) → (x : told_reports.Report) → IsEnded spec script by_row script.frames x → KeepsTimes x
+    ended_keeps : IsCourseAllAssured (plan_of spec) (course_of spec script) → (x : told_reports.Report) → IsEnded spec script by_row script.frames x → KeepsTimes x
     ended_keeps assured x h = rw h.is (keeps h.frame h.report h.inside h.reported)
       where
-        keeps : (f : ℕ) (r : Report) → f < script.frames → report_at (plan_of spec) (flight_of spec script) f ≡ Some r → KeepsTimes (told_report r)
+        keeps : (f : ℕ) (r : CourseReport) → f < script.frames → course_report_at (plan_of spec) (course_of spec script) f ≡ Some r → KeepsTimes (told_report r)
         keeps f r inside reported =
             let a = assured.finished f r inside reported in
-            let end = (reported_of (flight_of spec script) f (reading_before (plan_of spec) (flight_of spec script) f) r reported).end in
+            let end = (reported_of (course_of spec script) f (course_reading_before (plan_of spec) (course_of spec script) f) r reported).end in
             let up_to = a.chosen_to in
             record {
               sp2 = λ j is. record {
@@ -127,7 +127,7 @@ module _ (spec : Parts) (script : ScriptParts) where
               sp5 = cause_there (told_report r) a.cause;
             }
 
-    cut_off_keeps : (c s n : ℕ) → n ≡ script.frames → IsCutOff (plan_of spec) (flight_of spec script) c s → KeepsTimes (record { from = conf_of c; to = None; begin = s; end = n })
+    cut_off_keeps : (c s n : ℕ) → n ≡ script.frames → IsCourseCutOff (plan_of spec) (course_of spec script) c s → KeepsTimes (record { from = conf_of c; to = None; begin = s; end = n })
     cut_off_keeps c s n all cut =
         let most = given_most spec.bounds c cut.to cut.bound cut.given in
         let in_time = cut.in_time in
@@ -138,18 +138,18 @@ module _ (spec : Parts) (script : ScriptParts) where
           sp5 = cause_there (record { from = conf_of c; to = None; begin = s; end = n }) cut.cause;
         }
 
-    closed_keeps : AllAssured (plan_of spec) (flight_of spec script) → (rd : Reading) → reading_before (plan_of spec) (flight_of spec script) script.frames ≡ rd
+    closed_keeps : IsCourseAllAssured (plan_of spec) (course_of spec script) → (rd : CourseReading) → course_reading_before (plan_of spec) (course_of spec script) script.frames ≡ rd
         → (x : told_reports.Report) → readings.close (told_reading rd) (length (rows_of spec script)) ≡ Some x → KeepsTimes x
     closed_keeps assured (Steady c) e x h = cc
     closed_keeps assured (Leaving c s) e x h =
         let same : ◌≡◌ {A = told_reports.Report} (record { from = conf_of c; to = None; begin = s; end = length (rows_of spec script) }) x = cc in
         rw (← same) (cut_off_keeps c s (length (rows_of spec script)) row_count (assured.unfinished c s e))
 
-    pub each_keeps : AllAssured (plan_of spec) (flight_of spec script) → (k : ℕ) (x : told_reports.Report) → slice_get (readings.reports spec (rows_of spec script)) k ≡ Some x → KeepsTimes x
+    pub each_keeps : IsCourseAllAssured (plan_of spec) (course_of spec script) → (k : ℕ) (x : told_reports.Report) → slice_get (readings.reports spec (rows_of spec script)) k ≡ Some x → KeepsTimes x
     each_keeps assured k x h =
         each_append KeepsTimes (readings.ended spec (rows_of spec script)) (readings.as_list (readings.close (readings.reading_of spec (rows_of spec script)) (length (rows_of spec script))))
         (λ i y there. ended_keeps assured y (ended_each spec script by_row script.frames script.frames (omega arith) i y there))
         (each_option KeepsTimes (readings.close (readings.reading_of spec (rows_of spec script)) (length (rows_of spec script)))
-        (λ y e. closed_keeps assured (reading_before (plan_of spec) (flight_of spec script) script.frames) refl y
+        (λ y e. closed_keeps assured (course_reading_before (plan_of spec) (course_of spec script) script.frames) refl y
         (ap (λ rd. readings.close rd (length (rows_of spec script))) (sym (reading_same spec script by_row script.frames)) ∙ e)))
         k x h

@@ -1,3 +1,9 @@
+pub mod Plans
+pub mod CourseModes
+pub mod Courses
+pub mod Promises
+pub mod CourseRows
+pub mod CourseAreas
 pub mod Tests
 pub mod Counting
 pub mod Deadlines
@@ -17,7 +23,9 @@ mod Sizes
 mod Firsts
 mod Words
 mod Differing
-mod Refusing
+mod TargetsJudged
+mod AreasJudged
+mod CausesJudged
 mod Ordering
 mod Going
 mod Judged

@@ -1,4 +1,4 @@
--- The plan, the build and the flight that a specification and a script give the law.
+-- The plan, the build and the course that a specification and a script give the law.
 use Rattle.std.specs.Prelude.{ℕ, Bool, true, false, not, ◌&&◌, ◌==◌, ◌^◌, nat_lt, length, slice_get, Option, Some, None}
 use Rattle.std.specs.Option.{option_map_or}
 use Rattle.scram_types.specs.declared.ids.ConfId.{ConfId}
@@ -21,10 +21,10 @@ use Rattle.frame_model.specs.Flights.{row_at}
 use Rattle.frame_model.specs.Runs.{all_below, conf_of, least_from, runs}
 use Rattle.coverage_check.specs.Choosing.{opening_env}
 use Rattle.coverage_check.specs.Timing.{slowest}
-use Rattle.trace_props.specs.Plans.{Plan}
-use Rattle.trace_props.specs.Modes.{Mode, Mode.Stable, Mode.Moving}
-use Rattle.trace_props.specs.Courses.{Flight}
-use Rattle.trace_props.specs.Builds.{Phase, Phase.Running, Phase.Halting, Phase.Preparing, Phase.Initialising, Build}
+use Rattle.trace_props.proofs.Plans.{Plan}
+use Rattle.trace_props.proofs.CourseModes.{CourseMode, CourseMode.Stable, CourseMode.Moving}
+use Rattle.trace_props.proofs.Courses.{Course}
+use Rattle.trace_props.proofs.CourseRows.{CoursePhase, CoursePhase.Running, CoursePhase.Halting, CoursePhase.Preparing, CoursePhase.Initialising, Build}
 
 -- Factor x has one of its values, and 0 where there is no such factor.
 abbrev pub has_value : Parts → Env → ℕ → Bool
@@ -73,24 +73,24 @@ build_of spec = record {
 abbrev pub runs_in_row : Parts → ScriptParts → ℕ → ℕ → Bool
 runs_in_row spec script f c = runs spec (row_at spec script f).acts (conf_of c)
 
-abbrev pub flight_of : Parts → ScriptParts → Flight
-flight_of spec script = record {
+abbrev pub course_of : Parts → ScriptParts → Course
+course_of spec script = record {
   frames = script.frames;
   env = env_at spec script;
   runs = runs_in_row spec script;
   running = λ f. least_from (runs_in_row spec script f) 0 (length spec.confs);
 }
 
-abbrev pub number_of : Option ConfId → Option ℕ
-number_of None = None
-number_of (Some c) = Some c.0
+abbrev pub halting_number : Option ConfId → Option ℕ
+halting_number None = None
+halting_number (Some c) = Some c.0
 
-abbrev pub mode_of : KMode → Mode
-mode_of (kmode.Stable c) = Stable c.0
-mode_of (kmode.Moving from halting to since) = Moving from.0 (number_of halting) to.0 since
+abbrev pub course_mode_of : KMode → CourseMode
+course_mode_of (kmode.Stable c) = Stable c.0
+course_mode_of (kmode.Moving from halting to since) = Moving from.0 (halting_number halting) to.0 since
 
-abbrev pub phase_of : told.Phase → Phase
-phase_of (told_phase.Running c) = Running c.0
-phase_of (told_phase.Halting c age) = Halting c.0 age
-phase_of (told_phase.Preparing c age) = Preparing c.0 age
-phase_of (told_phase.Initialising c age) = Initialising c.0 age
+abbrev pub course_phase_of : told.Phase → CoursePhase
+course_phase_of (told_phase.Running c) = Running c.0
+course_phase_of (told_phase.Halting c age) = Halting c.0 age
+course_phase_of (told_phase.Preparing c age) = Preparing c.0 age
+course_phase_of (told_phase.Initialising c age) = Initialising c.0 age

@@ -26,13 +26,13 @@ use Rattle.frame_model.specs.Phases.{phase_at}
 use Rattle.frame_model.specs.Runs.{all_below}
 use Rattle.frame_model.specs.States.{State, area_after, area_at, for_eight, kind_of_app, law_of, seen_by, start_area_at, start_area_of, zeros}
 use Rattle.frame_model.specs.Tasks as tasks
-use Rattle.trace_props.specs.Courses.{mode_at}
-use Rattle.trace_props.specs.Builds.{Order, Order.Run, Order.Halt, Order.Hold, Order.Prepare, Order.Init, Order.Off, Act.Ran, Act.Halted, Act.Held, Act.Prepared, Act.Initialised, Act.Lost, phase, running_order, halting_order, preparing_order, init_order, order_in, act_of, acts_at}
+use Rattle.trace_props.proofs.Courses.{course_mode_at}
+use Rattle.trace_props.proofs.CourseRows.{CourseOrder, CourseOrder.Run, CourseOrder.Halt, CourseOrder.Hold, CourseOrder.Prepare, CourseOrder.Init, CourseOrder.Off, CourseAct.Ran, CourseAct.Halted, CourseAct.Held, CourseAct.Prepared, CourseAct.Initialised, CourseAct.Lost, course_phase, course_running_order, course_halting_order, course_preparing_order, course_initialising_order, course_order_in, course_act_of, course_acts_at}
 use Rattle.trace_props.specs.Judging.{lies_in}
-use Rattle.trace_props.specs.Areas.{Written, Written.DidRun, Written.DidHalt, Written.DidPrepare, Written.DidInit, Written.Zeros, opening_written, Laws, Filled, IsFilled}
+use Rattle.trace_props.proofs.CourseAreas.{Written, Written.DidRun, Written.DidHalt, Written.DidPrepare, Written.DidInit, Written.Zeros, opening_written, AreaLaws, IsAreaFilled, AreAreasFilled}
 use Rattle.trace_props.proofs.Tests.{and_left, and_right}
 use Rattle.trace_props.proofs.Builds.{all_at}
-use Rattle.trace_props.proofs.Products.{build_of, flight_of, phase_of, plan_of}
+use Rattle.trace_props.proofs.Products.{build_of, course_of, course_phase_of, plan_of}
 use Rattle.trace_props.proofs.Moding.{same_mode}
 use Rattle.trace_props.proofs.Acting.{committed, phase_same}
 
@@ -92,7 +92,7 @@ range_of kind (DidPrepare p) = during kind 3 p.mode.0
 range_of kind (DidInit p) = during kind 4 p.mode.0
 range_of kind Zeros = λ i. (pos 0, pos 0)
 
-abbrev pub laws_of : Parts → Laws
+abbrev pub laws_of : Parts → AreaLaws
 laws_of spec = record {
   lies = λ a w v. area_test (range_of (kind_of_app spec a) w) v;
   initialised = λ a p v. area_test (after_init (kind_of_app spec a) p.mode.0) v;
@@ -132,7 +132,7 @@ eight_or value d (suc (suc (suc (suc (suc (suc (suc zero))))))) h = refl
 eight_or value d (suc (suc (suc (suc (suc (suc (suc (suc a)))))))) h = absurd (omega arith)
 
 -- what an order asks, in the words of frames
-abbrev pub task_of_order : Order → Task
+abbrev pub task_of_order : CourseOrder → Task
 task_of_order (Run p) = tasks.task_at order.Run p
 task_of_order (Halt k n p) = tasks.task_at (order.Halt k n) p
 task_of_order (Hold p) = tasks.task_at order.Hold p
@@ -140,32 +140,32 @@ task_of_order (Prepare k n p) = tasks.task_at (order.Prepare k n) p
 task_of_order (Init k n p) = tasks.task_at (order.Init k n) p
 task_of_order Off = tasks.off_task
 
-two_tasks : (a b : Bool) (p : Place) (x y z : Order) (q r s : told_orders.Order) → task_of_order x ≡ tasks.task_at q p → task_of_order y ≡ tasks.task_at r p → task_of_order z ≡ tasks.task_at s p
+two_tasks : (a b : Bool) (p : Place) (x y z : CourseOrder) (q r s : told_orders.Order) → task_of_order x ≡ tasks.task_at q p → task_of_order y ≡ tasks.task_at r p → task_of_order z ≡ tasks.task_at s p
     → task_of_order (if a then x else (if b then y else z)) ≡ tasks.task_at (if a then q else (if b then r else s)) p
 two_tasks true b p x y z q r s e f g = e
 two_tasks false true p x y z q r s e f g = f
 two_tasks false false p x y z q r s e f g = g
 
-running_task : (o : Option Place) → task_of_order (running_order o) ≡ tasks.task_for order.Run o
+running_task : (o : Option Place) → task_of_order (course_running_order o) ≡ tasks.task_for order.Run o
 running_task None = refl
 running_task (Some p) = refl
 
-halting_task : (offset time age : ℕ) (o : Option Place) → task_of_order (halting_order offset time age o) ≡ tasks.task_for (tasks.halting_order offset time age) o
+halting_task : (offset time age : ℕ) (o : Option Place) → task_of_order (course_halting_order offset time age o) ≡ tasks.task_for (tasks.halting_order offset time age) o
 halting_task offset time age None = refl
 halting_task offset time age (Some p) =
     two_tasks (nat_lt age offset) (nat_lt (age - offset) time) p (Run p) (Halt (age - offset) time p) (Hold p) order.Run (order.Halt (age - offset) time) order.Hold refl refl refl
 
-preparing_task : (time age : ℕ) (o : Option Place) → task_of_order (preparing_order time age o) ≡ tasks.task_for (tasks.preparing_order time age) o
+preparing_task : (time age : ℕ) (o : Option Place) → task_of_order (course_preparing_order time age o) ≡ tasks.task_for (tasks.preparing_order time age) o
 preparing_task time age None = refl
 preparing_task time age (Some p) =
     two_tasks (nat_lt age time) true p (Prepare age time p) (Hold p) (Hold p) (order.Prepare age time) order.Hold order.Hold refl refl refl
 
-init_task : (offset time age : ℕ) (o : Option Place) → task_of_order (init_order offset time age o) ≡ tasks.task_for (tasks.initialising_order offset time age) o
+init_task : (offset time age : ℕ) (o : Option Place) → task_of_order (course_initialising_order offset time age o) ≡ tasks.task_for (tasks.initialising_order offset time age) o
 init_task offset time age None = refl
 init_task offset time age (Some p) =
     two_tasks (nat_lt age offset) (nat_lt (age - offset) time) p (Hold p) (Init (age - offset) time p) (Hold p) order.Hold (order.Init (age - offset) time) order.Hold refl refl refl
 
-task_same : (spec : Parts) (ph : told_phases.Phase) (a : ℕ) → task_of_order (order_in (build_of spec) (phase_of ph) a) ≡ tasks.task_in spec ph a
+task_same : (spec : Parts) (ph : told_phases.Phase) (a : ℕ) → task_of_order (course_order_in (build_of spec) (course_phase_of ph) a) ≡ tasks.task_in spec ph a
 task_same spec (told.Running c) a = running_task (place_of spec c a)
 task_same spec (told.Halting c age) a = halting_task (halt_offset spec c a) (halt_time spec c a) age (place_of spec c a)
 task_same spec (told.Preparing c age) a = preparing_task (prepare_time spec c a) age (place_of spec c a)
@@ -191,29 +191,29 @@ module _ (spec : Parts) (sound : IsSpec spec) (kinds : KindsLie) where
       area_is (during (kind_of_app spec a) 4 p.mode.0) (start_of (kind_of_app spec a))
       (widened a p.mode.0 (start_of (kind_of_app spec a)) (kinds.starts (kind_of_app spec a) p.mode.0 (kind_known spec sound a)))
 
-  ran_by : (a : ℕ) (p : Place) (b : Bool) (old new : List ℤ) → (laws_of spec).lies a (DidRun p) new ≡ true → Filled (laws_of spec) a (if b then Ran p else Lost) old (if b then new else old)
+  ran_by : (a : ℕ) (p : Place) (b : Bool) (old new : List ℤ) → (laws_of spec).lies a (DidRun p) new ≡ true → IsAreaFilled (laws_of spec) a (if b then Ran p else Lost) old (if b then new else old)
   ran_by a p true old new h = h
   ran_by a p false old new h = refl
 
-  halted_by : (a k n : ℕ) (p : Place) (b : Bool) (old new : List ℤ) → (laws_of spec).lies a (DidHalt p) new ≡ true → Filled (laws_of spec) a (if b then Halted k n p else Lost) old (if b then new else old)
+  halted_by : (a k n : ℕ) (p : Place) (b : Bool) (old new : List ℤ) → (laws_of spec).lies a (DidHalt p) new ≡ true → IsAreaFilled (laws_of spec) a (if b then Halted k n p else Lost) old (if b then new else old)
   halted_by a k n p true old new h = h
   halted_by a k n p false old new h = refl
 
-  held_by : (a : ℕ) (b : Bool) (old : List ℤ) → Filled (laws_of spec) a (if b then Held else Lost) old (if b then old else old)
+  held_by : (a : ℕ) (b : Bool) (old : List ℤ) → IsAreaFilled (laws_of spec) a (if b then Held else Lost) old (if b then old else old)
   held_by a true old = refl
   held_by a false old = refl
 
-  prepared_by : (a k n : ℕ) (p : Place) (b : Bool) (old new : List ℤ) → (laws_of spec).lies a (DidPrepare p) new ≡ true → Filled (laws_of spec) a (if b then Prepared k n p else Lost) old (if b then new else old)
+  prepared_by : (a k n : ℕ) (p : Place) (b : Bool) (old new : List ℤ) → (laws_of spec).lies a (DidPrepare p) new ≡ true → IsAreaFilled (laws_of spec) a (if b then Prepared k n p else Lost) old (if b then new else old)
   prepared_by a k n p true old new h = h
   prepared_by a k n p false old new h = refl
 
   init_by : (a k n : ℕ) (p : Place) (b : Bool) (old new : List ℤ) → (laws_of spec).lies a (DidInit p) new ≡ true → (suc k ≡ n → (laws_of spec).initialised a p new ≡ true)
-      → Filled (laws_of spec) a (if b then Initialised k n p else Lost) old (if b then new else old)
+      → IsAreaFilled (laws_of spec) a (if b then Initialised k n p else Lost) old (if b then new else old)
   init_by a k n p true old new h last = (h, last)
   init_by a k n p false old new h last = refl
 
   -- the area that an order leaves
-  filled_order : (v : Env) (state : State) (commits : ℕ → Bool) (a : ℕ) (x : Order) → Filled (laws_of spec) a (act_of commits x) (area_at state.areas a) (area_after spec v commits state (task_of_order x) a)
+  filled_order : (v : Env) (state : State) (commits : ℕ → Bool) (a : ℕ) (x : CourseOrder) → IsAreaFilled (laws_of spec) a (course_act_of commits x) (area_at state.areas a) (area_after spec v commits state (task_of_order x) a)
   filled_order v state commits a (Run p) =
       ran_by a p (commits p.proc.0) (area_at state.areas a) (law_of spec v state (tasks.task_at order.Run p) a)
       (area_is (during (kind_of_app spec a) 1 p.mode.0) _ (kinds.during (kind_of_app spec a) 1 order.Run (seen_by spec v state p.mode a) (kind_known spec sound a) refl))
@@ -236,17 +236,17 @@ module _ (spec : Parts) (sound : IsSpec spec) (kinds : KindsLie) where
     abbrev pub area : ℕ → ℕ → List ℤ
     area f a = area_at (state_after spec script f).areas a
 
-    fills : (f a : ℕ) → a < 8 → Filled (laws_of spec) a (acts_at (plan_of spec) (build_of spec) (flight_of spec script) (committed spec script) f a) (area f a) (area (suc f) a)
+    fills : (f a : ℕ) → a < 8 → IsAreaFilled (laws_of spec) a (course_acts_at (plan_of spec) (build_of spec) (course_of spec script) (committed spec script) f a) (area f a) (area (suc f) a)
     fills f a below =
-        let is : phase (plan_of spec) (mode_at (plan_of spec) (flight_of spec script) f) f ≡ phase_of (phase_at spec (decided spec script f) f) =
-        sym (phase_same spec (decided spec script f) f ∙ ap (λ m. phase (plan_of spec) m f) (same_mode spec script f)) in
-        subst (λ new. Filled (laws_of spec) a (acts_at (plan_of spec) (build_of spec) (flight_of spec script) (committed spec script) f a) (area f a) new)
+        let is : course_phase (plan_of spec) (course_mode_at (plan_of spec) (course_of spec script) f) f ≡ course_phase_of (phase_at spec (decided spec script f) f) =
+        sym (phase_same spec (decided spec script f) f ∙ ap (λ m. course_phase (plan_of spec) m f) (same_mode spec script f)) in
+        subst (λ new. IsAreaFilled (laws_of spec) a (course_acts_at (plan_of spec) (build_of spec) (course_of spec script) (committed spec script) f a) (area f a) new)
         (ap (λ t. area_after spec (env_at spec script f) (committed spec script f) (state_after spec script f) t a)
-        (ap (λ ph. task_of_order (order_in (build_of spec) ph a)) is ∙ task_same spec (phase_at spec (decided spec script f) f) a)
+        (ap (λ ph. task_of_order (course_order_in (build_of spec) ph a)) is ∙ task_same spec (phase_at spec (decided spec script f) f) a)
         ∙ sym (eight_or (λ b. area_after spec (env_at spec script f) (committed spec script f) (state_after spec script f) (tasks.task_in spec (phase_at spec (decided spec script f) f) b) b) zeros a below))
-        (filled_order (env_at spec script f) (state_after spec script f) (committed spec script f) a (order_in (build_of spec) (phase (plan_of spec) (mode_at (plan_of spec) (flight_of spec script) f) f) a))
+        (filled_order (env_at spec script f) (state_after spec script f) (committed spec script f) a (course_order_in (build_of spec) (course_phase (plan_of spec) (course_mode_at (plan_of spec) (course_of spec script) f) f) a))
 
-    pub filled_of : IsFilled (plan_of spec) (build_of spec) (flight_of spec script) (committed spec script) (laws_of spec) area
+    pub filled_of : AreAreasFilled (plan_of spec) (build_of spec) (course_of spec script) (committed spec script) (laws_of spec) area
     filled_of = record {
       opens = λ a known. rw (eight_or (start_area_of spec) zeros a (let few = sound.apps_count.few in omega arith)) (opens_at a (place_of spec spec.start a));
       writes = λ f a inside known. fills f a (let few = sound.apps_count.few in omega arith);

@@ -12,12 +12,12 @@ use Rattle.trace_props.specs.declared.breaks.Property.{Property}
 use Rattle.trace_props.specs.declared.breaks.Property.TheVariants.{Sp1, Sp2, Sp3, Sp4, Sp5}
 use Rattle.trace_props.specs.Properties.{HoldsAll, InvariantHolds, KeepsSp2, KeepsSp3, KeepsSp5, PreconditionHolds}
 
-abbrev pub number_of : Property → ℕ
-number_of Sp1 = 1
-number_of Sp2 = 2
-number_of Sp3 = 3
-number_of Sp4 = 4
-number_of Sp5 = 5
+abbrev pub property_number : Property → ℕ
+property_number Sp1 = 1
+property_number Sp2 = 2
+property_number Sp3 = 3
+property_number Sp4 = 4
+property_number Sp5 = 5
 
 abbrev pub Fails : Type 0 → Type 0
 Fails Fact = Fact → ⊥
@@ -93,7 +93,7 @@ BreaksAt spec rows told Sp5 frame = BreaksSomewhere spec rows Sp5 frame
 
 -- A break in an earlier frame comes first, and of the breaks in one frame that of the lesser number.
 abbrev pub ComesBefore : Property → ℕ → Property → ℕ → Type 0
-ComesBefore one f other g = (f < g) ⊎ ((f ≡ g) × (number_of one ≤ number_of other))
+ComesBefore one f other g = (f < g) ⊎ ((f ≡ g) × (property_number one ≤ property_number other))
 
 pub record IsFirstBreak (spec : Parts) (rows : List Row) (told : List Report) (property : Property) (frame : ℕ) : Type 0 where
   pub broken : BreaksAt spec rows told property frame

@@ -22,11 +22,11 @@ use Rattle.trace_props.specs.declared.breaks.Property.TheVariants.{Sp1, Sp2, Sp3
 use Rattle.trace_props.specs.declared.comparing.Agreement.{Agreement}
 use Rattle.trace_props.specs.declared.comparing.Agreement.TheVariants.{Alike, Apart}
 use Rattle.trace_props.specs.declared.judging.Judgement.{Judgement}
-use Rattle.trace_props.specs.Breaks.{last_frame, number_of}
+use Rattle.trace_props.specs.Breaks.{last_frame, property_number}
 use Rattle.trace_props.specs.Properties.{bound_on, env_before, env_in}
 
 abbrev pub comes_before : Broken → Broken → Bool
-comes_before one other = nat_lt one.frame other.frame || (one.frame == other.frame && nat_lt (number_of one.property) (number_of other.property))
+comes_before one other = nat_lt one.frame other.frame || (one.frame == other.frame && nat_lt (property_number one.property) (property_number other.property))
 
 abbrev pub earlier : Option Broken → Option Broken → Option Broken
 earlier None other = other
@@ -47,20 +47,20 @@ is_same_target (Some one) (Some other) = one.0 == other.0
 abbrev pub is_same_report : Report → Report → Bool
 is_same_report one other = one.from.0 == other.from.0 && is_same_target one.to other.to && one.begin == other.begin && one.end == other.end
 
-abbrev pub compare_next : ℕ → Option Report → Report → Agreement
-compare_next place None read = Apart read.begin
-compare_next place (Some one) read = if is_same_report one read then Alike (place + 1) else Apart (min one.begin read.begin)
+abbrev pub compare_with : ℕ → Option Report → Report → Agreement
+compare_with place None read = Apart read.begin
+compare_with place (Some one) read = if is_same_report one read then Alike (place + 1) else Apart (min one.begin read.begin)
 
 abbrev pub compare : List Report → Agreement → Report → Agreement
-compare told (Alike place) read = compare_next place (slice_get told place) read
+compare told (Alike place) read = compare_with place (slice_get told place) read
 compare told (Apart frame) read = Apart frame
 
-abbrev pub begin_of : Option Report → Option ℕ
-begin_of None = None
-begin_of (Some one) = Some one.begin
+abbrev pub begin_told : Option Report → Option ℕ
+begin_told None = None
+begin_told (Some one) = Some one.begin
 
 abbrev pub difference : List Report → Agreement → Option ℕ
-difference told (Alike place) = begin_of (slice_get told place)
+difference told (Alike place) = begin_told (slice_get told place)
 difference told (Apart frame) = Some frame
 
 -- SP2: the table chooses a configuration in the environment of row f.
@@ -94,40 +94,40 @@ late_at spec r = late_by r (bound_on spec r.from r.to)
 abbrev pub lies_in : ℤ → ℤ → ℤ → Bool
 lies_in low high x = int_le low x && int_le x high
 
-abbrev pub is_broken : Row → Invariant → Bool
-is_broken row inv = not (lies_in inv.least inv.greatest (word (area_at row.areas inv.app.0) inv.variable))
+abbrev pub breaks_invariant : Row → Invariant → Bool
+breaks_invariant row inv = not (lies_in inv.least inv.greatest (word (area_at row.areas inv.app.0) inv.variable))
 
-abbrev pub breaks_in : Invariant → Option Row → Bool
-breaks_in inv None = false
-breaks_in inv (Some row) = is_broken row inv
+abbrev pub row_breaks : Invariant → Option Row → Bool
+row_breaks inv None = false
+row_breaks inv (Some row) = breaks_invariant row inv
 
-abbrev pub breaks : List Row → Invariant → ℕ → Bool
-breaks rows inv f = breaks_in inv (slice_get rows f)
+abbrev pub breaks_at : List Row → Invariant → ℕ → Bool
+breaks_at rows inv f = row_breaks inv (slice_get rows f)
 
 abbrev pub unkept_from : List Row → Report → Invariant → Option ℕ
-unkept_from rows r inv = if has_source inv.from r.from then least_from (breaks rows inv) r.begin (r.end + 1 - r.begin) else None
+unkept_from rows r inv = if has_source inv.from r.from then least_from (breaks_at rows inv) r.begin (r.end + 1 - r.begin) else None
 
-abbrev pub lesser : Option ℕ → Option ℕ → Option ℕ
-lesser None other = other
-lesser (Some one) None = Some one
-lesser (Some one) (Some other) = Some (min one other)
+abbrev pub lesser_frame : Option ℕ → Option ℕ → Option ℕ
+lesser_frame None other = other
+lesser_frame (Some one) None = Some one
+lesser_frame (Some one) (Some other) = Some (min one other)
 
 abbrev pub least_unkept : List Row → Report → Option ℕ → List Invariant → Option ℕ
 least_unkept rows r least [] = least
-least_unkept rows r least (inv ∷ invs) = least_unkept rows r (lesser least (unkept_from rows r inv)) invs
+least_unkept rows r least (inv ∷ invs) = least_unkept rows r (lesser_frame least (unkept_from rows r inv)) invs
 
-abbrev pub is_target : Option ConfId → ConfId → Bool
-is_target None conf = false
-is_target (Some to) conf = to.0 == conf.0
+abbrev pub goes_to : Option ConfId → ConfId → Bool
+goes_to None conf = false
+goes_to (Some to) conf = to.0 == conf.0
 
-abbrev pub is_unmet : Row → Precondition → Bool
-is_unmet row pre = not (lies_in pre.least pre.greatest (word (area_at row.areas pre.app.0) pre.variable))
+abbrev pub breaks_precondition : Row → Precondition → Bool
+breaks_precondition row pre = not (lies_in pre.least pre.greatest (word (area_at row.areas pre.app.0) pre.variable))
 
-abbrev pub breaks_aimed : Row → Option ConfId → Precondition → Bool
-breaks_aimed row to pre = is_target to pre.conf && is_unmet row pre
+abbrev pub breaks_target_precondition : Row → Option ConfId → Precondition → Bool
+breaks_target_precondition row to pre = goes_to to pre.conf && breaks_precondition row pre
 
 abbrev pub unmet_in : Parts → Row → Option ConfId → Bool
-unmet_in spec row to = list_any (breaks_aimed row to) spec.preconditions
+unmet_in spec row to = list_any (breaks_target_precondition row to) spec.preconditions
 
 abbrev pub unmet_before : Parts → List Row → Option ConfId → ℕ → Option ℕ
 unmet_before spec rows to zero = None
@@ -140,13 +140,13 @@ abbrev pub unkept_at : Parts → List Row → Report → Option ℕ
 unkept_at spec rows r = least_unkept rows r (unmet_at spec rows r) spec.invariants
 
 -- SP5
-abbrev pub is_other : Option Env → Option Env → Bool
-is_other None before = false
-is_other (Some env) None = true
-is_other (Some env) (Some before) = not (is_same_env env before)
+abbrev pub is_another_env : Option Env → Option Env → Bool
+is_another_env None before = false
+is_another_env (Some env) None = true
+is_another_env (Some env) (Some before) = not (is_same_env env before)
 
 abbrev pub changes_in : Parts → List Row → ℕ → Bool
-changes_in spec rows f = is_other (env_in rows f) (env_before spec rows f)
+changes_in spec rows f = is_another_env (env_in rows f) (env_before spec rows f)
 
 abbrev pub settles : Policy → Bool
 settles Retarget = false
@@ -182,11 +182,11 @@ abbrev pub judge_all : Parts → List Row → List Report → Judgement → List
 judge_all spec rows told so_far [] = so_far
 judge_all spec rows told so_far (r ∷ read) = judge_all spec rows told (judge spec rows told so_far (Some r)) read
 
-abbrev pub opening : Judgement
-opening = record { agreement = Alike 0; broken = None; before = None }
+abbrev pub opening_judgement : Judgement
+opening_judgement = record { agreement = Alike 0; broken = None; before = None }
 
 abbrev pub conclusion : List Report → Judgement → Option Broken
 conclusion told judgement = earlier (broken_at Sp1 (difference told judgement.agreement)) judgement.broken
 
 abbrev pub first_break : Parts → List Row → List Report → Option Broken
-first_break spec rows told = conclusion told (judge_all spec rows told opening (reports spec rows))
+first_break spec rows told = conclusion told (judge_all spec rows told opening_judgement (reports spec rows))

@@ -1,9 +1,3 @@
-pub mod Plans
-pub mod Modes
-pub mod Courses
-pub mod Assurances
-pub mod Builds
-pub mod Areas
 pub mod Properties
 pub mod Known
 pub mod Missions

@@ -72,7 +72,7 @@ pub record KeepsSp4 (spec : Parts) (rows : List Row) (r : Report) : Type 0 where
   pub ready : Each (λ (pre : Precondition). r.to ≡ Some pre.conf → (f : ℕ) (row : Row) → suc f ≡ r.end → slice_get rows f ≡ Some row → PreconditionHolds pre row) spec.preconditions
 
 -- Another reconfiguration ended in the row before this one's begin, and saw a change after its own begin.
-pub record Follows (spec : Parts) (rows : List Row) (r : Report) : Type 0 where
+pub record FollowsAnother (spec : Parts) (rows : List Row) (r : Report) : Type 0 where
   pub settles : spec.policy ≡ Settle
   pub before : Report
   pub place : ℕ
@@ -86,7 +86,7 @@ pub record Follows (spec : Parts) (rows : List Row) (r : Report) : Type 0 where
 -- SP5 of a reconfiguration: the environment changes as it begins, or in the row after; where targets are
 -- settled first, it may have changed during the reconfiguration just before. Not asked in the last row.
 abbrev pub KeepsSp5 : Parts → List Row → Report → Type 0
-KeepsSp5 spec rows r = suc r.begin < length rows → ChangesIn spec rows r.begin ⊎ ChangesIn spec rows (suc r.begin) ⊎ Follows spec rows r
+KeepsSp5 spec rows r = suc r.begin < length rows → ChangesIn spec rows r.begin ⊎ ChangesIn spec rows (suc r.begin) ⊎ FollowsAnother spec rows r
 
 abbrev pub HoldsSp2 : Parts → List Row → Type 0
 HoldsSp2 spec rows = Each (KeepsSp2 spec rows) (reports spec rows)

@@ -1,7 +1,7 @@
 //! Which property is broken, and where.
 
 ghost use Rattle.std.specs.Prelude.{◌≡◌};
-ghost use Rattle.trace_props.specs.Breaks.{number_of};
+ghost use Rattle.trace_props.specs.Breaks.{property_number};
 ghost use Rattle.trace_props.specs.Judging.{broken_at, comes_before, earlier};
 
 /// One of the five properties of reconfigurations.
@@ -21,11 +21,11 @@ pub enum Property {
 
 impl Property {
     ghost use Rattle.std.specs.Prelude.{◌≡◌};
-    ghost use Rattle.trace_props.specs.Breaks.{number_of};
+    ghost use Rattle.trace_props.specs.Breaks.{property_number};
 
     /// The property's number, 1 to 5.
     pub fn number(self) -> u8
-        ensures { result ≡ number_of self }
+        ensures { result ≡ property_number self }
     {
         match self {
             Property::Sp1 => 1,

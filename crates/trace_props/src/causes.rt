@@ -4,7 +4,7 @@ ghost use Rattle.std.specs.Prelude.{◌≡◌, ◌+◌, ◌-◌};
 ghost use Rattle.coverage_check.specs.Choosing.{opening_env};
 ghost use Rattle.fault_script.specs.Assumption.{is_same_env};
 ghost use Rattle.frame_model.specs.Runs.{least_from};
-ghost use Rattle.trace_props.specs.Judging.{causeless_at, changes_in, follows, has_cause, is_other, settles};
+ghost use Rattle.trace_props.specs.Judging.{causeless_at, changes_in, follows, has_cause, is_another_env, settles};
 ghost use Rattle.trace_props.specs.Properties.{env_before, env_in};
 
 use scram_types::{Env, Policy, Report, Row, Spec};
@@ -76,7 +76,7 @@ fn first_change(spec: &Spec, rows: &[Row], read: Report) -> Option<usize>
 fn changes_in(spec: &Spec, rows: &[Row], frame: usize) -> bool
     ensures { result ≡ changes_in spec.now rows.now frame }
 {
-    is_other(env_in(rows, frame), env_before(spec, rows, frame))
+    is_another_env(env_in(rows, frame), env_before(spec, rows, frame))
 }
 
 fn env_in(rows: &[Row], frame: usize) -> Option<Env>
@@ -107,8 +107,8 @@ fn opening_env(spec: &Spec) -> Env
     }
 }
 
-fn is_other(env: Option<Env>, before: Option<Env>) -> bool
-    ensures { result ≡ is_other env before }
+fn is_another_env(env: Option<Env>, before: Option<Env>) -> bool
+    ensures { result ≡ is_another_env env before }
 {
     match (env, before) {
         (Some(env), Some(before)) => !is_same_env(&env, &before),

@@ -5,7 +5,7 @@ ghost use Rattle.choice_table.specs.Choices.{has_source};
 ghost use Rattle.frame_model.specs.Runs.{least_from};
 ghost use Rattle.frame_model.specs.States.{area_at};
 ghost use Rattle.scram_types.specs.Numbers.{word};
-ghost use Rattle.trace_props.specs.Judging.{breaks, breaks_aimed, is_broken, is_target, is_unmet, lesser, lies_in, unkept_at, unkept_from, unmet_at, unmet_in};
+ghost use Rattle.trace_props.specs.Judging.{breaks_at, breaks_target_precondition, breaks_invariant, goes_to, breaks_precondition, lesser_frame, lies_in, unkept_at, unkept_from, unmet_at, unmet_in};
 
 use scram_types::{AppId, Area, ConfId, Invariant, Precondition, Report, Row, Spec};
 
@@ -16,7 +16,7 @@ pub(crate) fn unkept_at(spec: &Spec, rows: &[Row], read: Report) -> Option<u32>
 {
     let mut least = unmet_at(spec, rows, read);
     for inv in spec.invariants.items() {
-        least = lesser(least, unkept_from(rows, read, inv));
+        least = lesser_frame(least, unkept_from(rows, read, inv));
     }
     least
 }
@@ -33,27 +33,27 @@ fn unkept_from(rows: &[Row], read: Report, inv: &Invariant) -> Option<u32>
 }
 
 fn first_breach(rows: &[Row], read: Report, inv: &Invariant) -> Option<u32>
-    ensures { result ≡ least_from (breaks rows.now inv.now) read.begin (read.end + 1 - read.begin) }
+    ensures { result ≡ least_from (breaks_at rows.now inv.now) read.begin (read.end + 1 - read.begin) }
 {
     for frame in read.begin as usize..read.end as usize + 1 {
-        if breaks(rows, inv, frame) {
+        if breaks_at(rows, inv, frame) {
             return Some(frame as u32);
         }
     }
     None
 }
 
-fn breaks(rows: &[Row], inv: &Invariant, frame: usize) -> bool
-    ensures { result ≡ breaks rows.now inv.now frame }
+fn breaks_at(rows: &[Row], inv: &Invariant, frame: usize) -> bool
+    ensures { result ≡ breaks_at rows.now inv.now frame }
 {
     match rows.get(frame) {
-        Some(row) => is_broken(row, inv),
+        Some(row) => breaks_invariant(row, inv),
         None => false,
     }
 }
 
-fn is_broken(row: &Row, inv: &Invariant) -> bool
-    ensures { result ≡ is_broken row.now inv.now }
+fn breaks_invariant(row: &Row, inv: &Invariant) -> bool
+    ensures { result ≡ breaks_invariant row.now inv.now }
 {
     !lies_in(inv.least, inv.greatest, word_in(row, inv.app, inv.variable))
 }
@@ -77,17 +77,17 @@ fn unmet_in(spec: &Spec, row: &Row, to: Option<ConfId>) -> bool
     spec.preconditions
         .items()
         .iter()
-        .any(|pre| breaks_aimed(row, to, pre))
+        .any(|pre| breaks_target_precondition(row, to, pre))
 }
 
-fn breaks_aimed(row: &Row, to: Option<ConfId>, pre: &Precondition) -> bool
-    ensures { result ≡ breaks_aimed row.now to pre.now }
+fn breaks_target_precondition(row: &Row, to: Option<ConfId>, pre: &Precondition) -> bool
+    ensures { result ≡ breaks_target_precondition row.now to pre.now }
 {
-    is_target(to, pre.conf) && is_unmet(row, pre)
+    goes_to(to, pre.conf) && breaks_precondition(row, pre)
 }
 
-fn is_unmet(row: &Row, pre: &Precondition) -> bool
-    ensures { result ≡ is_unmet row.now pre.now }
+fn breaks_precondition(row: &Row, pre: &Precondition) -> bool
+    ensures { result ≡ breaks_precondition row.now pre.now }
 {
     !lies_in(pre.least, pre.greatest, word_in(row, pre.app, pre.variable))
 }
@@ -101,8 +101,8 @@ fn has_source(wanted: Option<ConfId>, from: ConfId) -> bool
     }
 }
 
-fn is_target(to: Option<ConfId>, conf: ConfId) -> bool
-    ensures { result ≡ is_target to conf }
+fn goes_to(to: Option<ConfId>, conf: ConfId) -> bool
+    ensures { result ≡ goes_to to conf }
 {
     match to {
         Some(to) => to.0 == conf.0,
@@ -140,8 +140,8 @@ fn lies_in(low: i64, high: i64, word: i64) -> bool
 }
 
 // The lesser of two frames, or the one that is there.
-fn lesser(one: Option<u32>, other: Option<u32>) -> Option<u32>
-    ensures { result ≡ lesser one other }
+fn lesser_frame(one: Option<u32>, other: Option<u32>) -> Option<u32>
+    ensures { result ≡ lesser_frame one other }
 {
     match (one, other) {
         (Some(one), Some(other)) => Some(one.min(other)),

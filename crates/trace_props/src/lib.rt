@@ -10,7 +10,6 @@ mod comparing;
 pub mod flights;
 pub mod judging;
 mod kept;
-pub mod laws;
 pub mod missions;
 mod targets;
 

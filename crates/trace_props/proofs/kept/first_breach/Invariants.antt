@@ -1,9 +1,9 @@
 use Rattle.std.proofs.Common.{◌≡◌, ◌+◌, ◌-◌}
 use Rattle.frame_model.specs.Runs.{least_from}
-use Rattle.trace_props.specs.Judging.{breaks}
+use Rattle.trace_props.specs.Judging.{breaks_at}
 use Rattle.trace_props.proofs.kept.first_breach.Given as goal
 
 abbrev pub invariant-loop-frame : goal.invariant-loop-frame
 invariant-loop-frame l =
-    least_from (breaks l.rows l.inv) l.frame (l.fn.read.end + 1 - l.frame)
-    ≡ least_from (breaks l.rows l.inv) l.fn.read.begin (l.fn.read.end + 1 - l.fn.read.begin)
+    least_from (breaks_at l.rows l.inv) l.frame (l.fn.read.end + 1 - l.frame)
+    ≡ least_from (breaks_at l.rows l.inv) l.fn.read.begin (l.fn.read.end + 1 - l.fn.read.begin)

@@ -20,26 +20,26 @@ pub record Plan : Type 0 where
   pub bound : ℕ → ℕ → Option ℕ
 
 -- how many further changes a reconfiguration may see
-abbrev pub further : Plan → ℕ
-further plan = if plan.settles then suc plan.changes else plan.changes
+abbrev pub plan_further : Plan → ℕ
+plan_further plan = if plan.settles then suc plan.changes else plan.changes
 
 -- how long the halting phase of a configuration, or of none, lasts
-abbrev pub halting_of : Plan → Option ℕ → ℕ
-halting_of plan None = 0
-halting_of plan (Some c) = plan.halting c
+abbrev pub plan_halting : Plan → Option ℕ → ℕ
+plan_halting plan None = 0
+plan_halting plan (Some c) = plan.halting c
 
 -- the least bound that serves a change from i to j
-abbrev pub least : Plan → ℕ → ℕ → ℕ
-least plan i j = 1 + plan.halting i + further plan * plan.slowest + plan.preparing j + plan.initialising j
+abbrev pub plan_least_bound : Plan → ℕ → ℕ → ℕ
+plan_least_bound plan i j = 1 + plan.halting i + plan_further plan * plan.slowest + plan.preparing j + plan.initialising j
 
 -- j is chosen from i in some environment in scope
-pub record IsTarget (plan : Plan) (i j : ℕ) : Type 0 where
+pub record IsPlanTarget (plan : Plan) (i j : ℕ) : Type 0 where
   pub seen : Env
   pub scope : plan.in_scope seen ≡ true
   pub chosen : plan.choose i seen ≡ j
 
 -- what is known of a plan that is accepted
-pub record Accepted (plan : Plan) : Type 0 where
+pub record IsAcceptedPlan (plan : Plan) : Type 0 where
   pub start_in : plan.start < plan.configurations
   pub choose_in : (c : ℕ) (v : Env) → c < plan.configurations → plan.choose c v < plan.configurations
   pub runnable : (c : ℕ) (v : Env) → c < plan.configurations → plan.in_scope v ≡ true → plan.is_runnable (plan.choose c v) v ≡ true
@@ -47,6 +47,6 @@ pub record Accepted (plan : Plan) : Type 0 where
   pub starts : plan.choose plan.start plan.opening ≡ plan.start
   pub lasts : (c : ℕ) → c < plan.configurations → 1 ≤ plan.initialising c
   pub slow : (k : ℕ) → k < plan.configurations → plan.preparing k + plan.initialising k + 1 + plan.halting k ≤ plan.slowest
-  pub bounded : (i : ℕ) (v : Env) → i < plan.configurations → plan.in_scope v ≡ true → (plan.choose i v ≢ i) ⊎ (1 ≤ further plan) → (t : ℕ) × (plan.bound i (plan.choose i v) ≡ Some t) × (least plan i (plan.choose i v) ≤ t)
+  pub bounded : (i : ℕ) (v : Env) → i < plan.configurations → plan.in_scope v ≡ true → (plan.choose i v ≢ i) ⊎ (1 ≤ plan_further plan) → (t : ℕ) × (plan.bound i (plan.choose i v) ≡ Some t) × (plan_least_bound plan i (plan.choose i v) ≤ t)
   pub windowed : (i j t : ℕ) → plan.bound i j ≡ Some t → t + 1 ≤ plan.window
   pub tells : (v w : Env) → plan.differ v w ≡ false → v ≡ w
