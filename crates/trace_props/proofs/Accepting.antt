@@ -16,6 +16,8 @@ use Rattle.scram_types.specs.declared.specification.Place.{Place}
 use Rattle.scram_types.specs.declared.specification.Policy.{Policy}
 use Rattle.scram_types.specs.declared.specification.Policy.TheVariants.{Retarget, Settle}
 use Rattle.scram_types.specs.Specification.{IsSpec, Parts, bound_in, place_in}
+use Rattle.scram_types.proofs.Booleans.{and_left, and_right, true_false}
+use Rattle.scram_types.proofs.Naturals.{equal, below, low_or_high}
 use Rattle.choice_table.specs.Choices.{IsTarget, choose, rule_fits, target_among}
 use Rattle.choice_table.specs.Environments.{IsEnv, factor_in, in_scope}
 use Rattle.dep_order.specs.Timetables.{IsInTime, halting_time, initialising_time, is_on, place_of, preparing_time}
@@ -27,7 +29,7 @@ use Rattle.coverage_check.specs.Search as search
 use Rattle.coverage_check.specs.Timing.{further}
 use Rattle.trace_props.proofs.Plans as plans
 use Rattle.trace_props.proofs.Plans.{IsAcceptedPlan}
-use Rattle.trace_props.proofs.Tests.{by_test, eq_true, lt_true, and_left, and_right, true_false}
+use Rattle.trace_props.proofs.Tests.{by_test}
 use Rattle.trace_props.proofs.Builds.{all_at}
 use Rattle.trace_props.proofs.Products.{has_value, is_env, plan_of, settles_under}
 
@@ -99,20 +101,17 @@ value_of spec v x o e h = rw e at h
 few_factors : (spec : Parts) → IsSpec spec → (x : ℕ) (factor : Factor) → slice_get spec.factors x ≡ Some factor → x < 6
 few_factors spec sound x factor e = let below = slice_get_within spec.factors x factor e in let few = sound.factors_count in omega arith
 
-low_or_high : (a b : ℕ) → (a < b) ⊎ (b ≤ a)
-low_or_high a b = grind arith
-
 pub env_of_test : (spec : Parts) → IsSpec spec → (v : Env) → is_env spec v ≡ true → IsEnv spec v
 env_of_test spec sound v h =
     let rest = and_right (nat_lt v.up (2 ^ length spec.procs)) _ h in
-    let width : length v.factors ≡ 6 = eq_true (length v.factors) 6 (and_left (length v.factors == 6) _ rest) in
+    let width : length v.factors ≡ 6 = equal (length v.factors) 6 (and_left (length v.factors == 6) _ rest) in
     let each = all_at (has_value spec v) 6 (and_right (length v.factors == 6) _ rest) in
     record {
-      up = lt_true v.up (2 ^ length spec.procs) (and_left (nat_lt v.up (2 ^ length spec.procs)) _ h);
+      up = below v.up (2 ^ length spec.procs) (and_left (nat_lt v.up (2 ^ length spec.procs)) _ h);
       width = width;
-      values = λ x factor e. lt_true (factor_in v x) (length factor.values) (value_of spec v x (Some factor) e (each x (few_factors spec sound x factor e)));
+      values = λ x factor e. below (factor_in v x) (length factor.values) (value_of spec v x (Some factor) e (each x (few_factors spec sound x factor e)));
       rest = λ x past. elim (low_or_high x 6) [
-        | inl low ↦ (let few = lt_true (factor_in v x) 1 (value_of spec v x None (slice_get_past spec.factors x past) (each x low)) in omega arith)
+        | inl low ↦ (let few = below (factor_in v x) 1 (value_of spec v x None (slice_get_past spec.factors x past) (each x low)) in omega arith)
         | inr high ↦ past_end v.factors x (rw width high)
       ];
     }
@@ -123,7 +122,7 @@ env_of_test spec sound v h =
     past_end (y ∷ ys) (suc x) h = past_end ys x (omega arith)
 
 pub same_env : (v w : Env) → is_same_env v w ≡ true → v ≡ w
-same_env v w h = made v.up w.up v.factors w.factors (eq_true v.up w.up (and_left (v.up == w.up) _ h)) (texts v.factors w.factors (and_right (v.up == w.up) _ h))
+same_env v w h = made v.up w.up v.factors w.factors (equal v.up w.up (and_left (v.up == w.up) _ h)) (texts v.factors w.factors (and_right (v.up == w.up) _ h))
   where
     made : (a b : ℕ) (xs ys : List ℕ) → a ≡ b → xs ≡ ys → ◌≡◌ {A = Env} (record { up = a; factors = xs }) (record { up = b; factors = ys })
     made a b xs ys e k = rw (e, k) refl

@@ -6,11 +6,12 @@ use Rattle.trace_props.proofs.Plans.{Plan, IsAcceptedPlan, IsPlanTarget, plan_ha
 use Rattle.trace_props.proofs.CourseModes.{CourseMode, CourseMode.Stable, CourseMode.Moving}
 use Rattle.trace_props.proofs.Courses.{Course, IsCourseWithin, IsCourseFlown, CourseRowUnder, course_mode_at, CourseReading, CourseReading.Steady, CourseReading.Leaving, CourseReport, course_read_row, course_reading_before, course_arrival, course_report_of}
 use Rattle.scram_types.specs.declared.specification.Place.{Place}
+use Rattle.scram_types.proofs.Booleans.{not_false, true_false}
+use Rattle.scram_types.proofs.Naturals.{below, not_below, at_most, at_or_below}
 use Rattle.trace_props.proofs.CourseRows.{CoursePhase, CoursePhase.Running, CoursePhase.Halting, CoursePhase.Preparing, CoursePhase.Initialising, CourseOrder.Hold, CourseOrder.Init, CourseAct, CourseAct.Ran, CourseAct.Halted, CourseAct.Held, CourseAct.Prepared, CourseAct.Initialised, CourseAct.WasOff, CourseAct.Lost, Build, course_after_halting, course_phase, course_running_order, course_halting_order, course_preparing_order, course_initialising_order, course_order_in, course_act_of, course_fits_place, course_acts_at, IsBuilt, IsRun}
 use Rattle.trace_props.proofs.CourseAreas.{CourseArea, Written, Written.DidRun, Written.DidInit, Written.Zeros, written_after, opening_written, written_by, AreaLaws, IsAreaFilled, AreAreasFilled, CourseInvariant, CoursePrecondition, SpeaksOfSource, IsPlacedInTarget, IsPlacedInEither, IsListed, HoldsListedRanges, HoldsInitialisedRange, AreasKept, KeepsAreas}
-use Rattle.trace_props.proofs.Tests.{by_test, lt_true, lt_false, le_true, not_false, true_false}
+use Rattle.trace_props.proofs.Tests.{by_test}
 use Rattle.trace_props.proofs.Deadlines.{Deadlines}
-use Rattle.trace_props.proofs.Counting.{le_suc_or}
 use Rattle.trace_props.proofs.Coupling.{LeavingIn, Coupled, coupled, by_arrival}
 use Rattle.trace_props.proofs.Builds.{all_at, place_same, flown}
 
@@ -111,13 +112,13 @@ pub record SinceLeft (plan : Plan) (course : Course) (e c s : ℕ) : Type 0 wher
 left_more : (plan : Plan) (course : Course) (e c s : ℕ) → course_reading_before plan course (suc e) ≡ Leaving c s → SinceLeft plan course e c s → SinceLeft plan course (suc e) c s
 left_more plan course e c s is h = record {
   before = let b = h.before in omega arith;
-  sources = λ g from to. elim (le_suc_or g e to) [ inl k ↦ h.sources g from k | inr k ↦ rw (k, is) refl ];
+  sources = λ g from to. elim (at_or_below g e to) [ inl k ↦ h.sources g from k | inr k ↦ rw (k, is) refl ];
 }
 
 left_first : (plan : Plan) (course : Course) (e c : ℕ) → course_reading_before plan course (suc e) ≡ Leaving c e → source_of (course_reading_before plan course e) ≡ c → SinceLeft plan course (suc e) c e
 left_first plan course e c is was = record {
   before = omega arith;
-  sources = λ g from to. elim (le_suc_or g e to) [ inl k ↦ (let same : g ≡ e = omega arith in rw same was) | inr k ↦ rw (k, is) refl ];
+  sources = λ g from to. elim (at_or_below g e to) [ inl k ↦ (let same : g ≡ e = omega arith in rw same was) | inr k ↦ rw (k, is) refl ];
 }
 
 left_step : (plan : Plan) (course : Course) (e c s : ℕ) (rd : CourseReading) → course_reading_before plan course e ≡ rd → course_reading_before plan course (suc e) ≡ Leaving c s → course_read_row course e rd ≡ Leaving c s → (course_reading_before plan course e ≡ Leaving c s → SinceLeft plan course e c s) → SinceLeft plan course (suc e) c s
@@ -215,27 +216,27 @@ module _ (plan : Plan) (build : Build) (course : Course) (commits : ℕ → ℕ 
 
   -- the phase that is k frames into the initialisation
   in_init_after : (to late k : ℕ) → late ≡ plan.preparing to + k → k < plan.initialising to → course_after_halting plan to late ≡ Initialising to k
-  in_init_after to late k is below =
-      by_test (λ x. x ≡ Initialising to k) (nat_lt late (plan.preparing to)) _ _ (λ e. let h = lt_true late (plan.preparing to) e in absurd (omega arith))
+  in_init_after to late k is inside =
+      by_test (λ x. x ≡ Initialising to k) (nat_lt late (plan.preparing to)) _ _ (λ e. let h = below late (plan.preparing to) e in absurd (omega arith))
       (λ e. by_test (λ x. x ≡ Initialising to k) (nat_lt (late - plan.preparing to) (plan.initialising to)) _ _
       (λ e. let same : late - plan.preparing to ≡ k = omega arith in ap (Initialising to) same)
-      (λ e. let h = lt_false (late - plan.preparing to) (plan.initialising to) e in absurd (omega arith)))
+      (λ e. let h = not_below (late - plan.preparing to) (plan.initialising to) e in absurd (omega arith)))
 
   in_init : (from : ℕ) (halting : Option ℕ) (to since g k : ℕ) → g ≡ since + plan_halting plan halting + plan.preparing to + k → k < plan.initialising to → course_phase plan (Moving from halting to since) g ≡ Initialising to k
-  in_init from None to since g k is below = in_init_after to (g - since) k (omega arith) below
-  in_init from (Some h) to since g k is below =
-      by_test (λ x. x ≡ Initialising to k) (nat_lt (g - since) (plan.halting h)) _ _ (λ e. let h = lt_true (g - since) (plan.halting h) e in absurd (omega arith))
-      (λ e. in_init_after to (g - since - plan.halting h) k (omega arith) below)
+  in_init from None to since g k is inside = in_init_after to (g - since) k (omega arith) inside
+  in_init from (Some h) to since g k is inside =
+      by_test (λ x. x ≡ Initialising to k) (nat_lt (g - since) (plan.halting h)) _ _ (λ e. let h = below (g - since) (plan.halting h) e in absurd (omega arith))
+      (λ e. in_init_after to (g - since - plan.halting h) k (omega arith) inside)
 
   init_last : (offset n k : ℕ) (p : Place) → suc k ≡ offset + n → 1 ≤ n → course_initialising_order offset n k (Some p) ≡ Init (k - offset) n p
   init_last offset n k p is some =
-      by_test (λ x. x ≡ Init (k - offset) n p) (nat_lt k offset) _ _ (λ e. let h = lt_true k offset e in absurd (omega arith))
-      (λ e. by_test (λ x. x ≡ Init (k - offset) n p) (nat_lt (k - offset) n) _ _ (λ e. refl) (λ e. let h = lt_false (k - offset) n e in absurd (omega arith)))
+      by_test (λ x. x ≡ Init (k - offset) n p) (nat_lt k offset) _ _ (λ e. let h = below k offset e in absurd (omega arith))
+      (λ e. by_test (λ x. x ≡ Init (k - offset) n p) (nat_lt (k - offset) n) _ _ (λ e. refl) (λ e. let h = not_below (k - offset) n e in absurd (omega arith)))
 
   init_over : (offset n k : ℕ) (p : Place) → offset + n ≤ k → course_initialising_order offset n k (Some p) ≡ Hold p
   init_over offset n k p over =
       by_test (λ x. x ≡ Hold p) (nat_lt k offset) _ _ (λ e. refl)
-      (λ e. by_test (λ x. x ≡ Hold p) (nat_lt (k - offset) n) _ _ (λ e. let h = lt_true (k - offset) n e in absurd (omega arith)) (λ e. refl))
+      (λ e. by_test (λ x. x ≡ Hold p) (nat_lt (k - offset) n) _ _ (λ e. let h = below (k - offset) n e in absurd (omega arith)) (λ e. refl))
 
   module _ (first f from : ℕ) (halting : Option ℕ) (to since : ℕ) (inside : f ≤ course.frames) (d : Deadlines plan course first f from halting to since) where
     -- the order of an application k frames into the initialisation, and that it is committed
@@ -259,7 +260,7 @@ module _ (plan : Plan) (build : Build) (course : Course) (commits : ℕ → ℕ 
         let act = act_in_init g k a is below early in
         let there = committed g a p (omega arith) early known on in
         let writes = filled.writes g a (omega arith) known in
-        elim (le_suc_or (build.init_offset to a + build.init_time to a) k over) [
+        elim (at_or_below (build.init_offset to a + build.init_time to a) k over) [
           | inl h ↦
               let held : acts g a ≡ Held = act ∙ (rw (on, init_over (build.init_offset to a) (build.init_time to a) k p h, there) refl) in
               let same : area (suc g) a ≡ area g a = rw held at writes in
@@ -318,7 +319,7 @@ module _ (plan : Plan) (build : Build) (course : Course) (commits : ℕ → ℕ 
   ready_in f c s j (Moving from halting to since) pre inside h row some ready same =
       let d = h.moves.1 in
       let o = row.only j (row.one_runs j some) in
-      let settled = le_true (plan_halting plan halting + plan.preparing to + plan.initialising to) (f - since) o.0 in
+      let settled = at_most (plan_halting plan halting + plan.preparing to + plan.initialising to) (f - since) o.0 in
       let soon = d.settled in let now = d.now in
       ready_by h.first f from halting to since pre (build.place to pre.app) (omega arith) d (omega arith) ready (same ∙ sym o.1) refl
 

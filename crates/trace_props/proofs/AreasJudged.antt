@@ -1,8 +1,7 @@
 -- The least frame in which one reconfiguration breaks SP4, or that it keeps it.
-use Rattle.std.proofs.Common.{◌≡◌, ℕ, zero, suc, ◌+◌, ◌-◌, ◌≤◌, Bool, true, false, refl, arith, ap, sym, ◌∙◌, List, [], ◌∷◌, ◌⊎◌}
+use Rattle.std.proofs.Common.{◌≡◌, ℕ, zero, suc, ◌+◌, ◌-◌, ◌≤◌, true, false, refl, arith, ap, sym, ◌∙◌, List, [], ◌∷◌, ◌⊎◌}
 use mathlib.Core.Logic.{inl, inr}
-use Rattle.std.specs.Prelude.{Option, Some, None, ℤ, slice_get, not, ◌||◌, option_and_then, if◌then◌else◌}
-use Rattle.std.specs.List.{list_any}
+use Rattle.std.specs.Prelude.{Option, Some, None, ℤ, slice_get, not, option_and_then, if◌then◌else◌}
 use Rattle.std.proofs.lemmas.Option.{slice_get_past}
 use Rattle.scram_types.specs.declared.ids.ConfId.{ConfId}
 use Rattle.scram_types.specs.declared.flights.Report.{Report}
@@ -11,6 +10,11 @@ use Rattle.scram_types.specs.declared.specification.Invariant.{Invariant}
 use Rattle.scram_types.specs.declared.specification.Precondition.{Precondition}
 use Rattle.scram_types.specs.Numbers.{word}
 use Rattle.scram_types.specs.Specification.{Parts}
+use Rattle.scram_types.proofs.Booleans.{and_left, and_right, true_false, and_true, by_bool}
+use Rattle.scram_types.proofs.Options.{same_some, some_none}
+use Rattle.scram_types.proofs.Naturals.{equal_test}
+use Rattle.scram_types.proofs.Items.{any_found, any_is}
+use Rattle.std.proofs.lemmas.Bool.{not-true, not_from_false}
 use Rattle.choice_table.specs.Choices.{has_source}
 use Rattle.frame_model.specs.Runs.{least_from}
 use Rattle.frame_model.specs.States.{area_at}
@@ -20,38 +24,24 @@ use Rattle.trace_props.specs.Breaks.{BreaksIn, BreaksInvariant, BreaksPreconditi
 use Rattle.trace_props.specs.Judging.{breaks_at, breaks_target_precondition, row_breaks, goes_to, least_unkept, lesser_frame, lies_in, unkept_at, unkept_from, unmet_at, unmet_before, unmet_in}
 use Rattle.trace_props.specs.Properties.{InvariantHolds, KeepsSp4, PreconditionHolds}
 use Rattle.trace_props.proofs.Firsts.{InSpan, IsLeastOf, least_lesser, least_moved, least_span}
-use Rattle.trace_props.proofs.Tests.{and_left, and_right, by_test, true_false}
-use Rattle.trace_props.proofs.Differing.{both, eq_self, same_id}
+use Rattle.trace_props.proofs.Tests.{by_test}
+use Rattle.trace_props.proofs.Differing.{same_id}
 use Rattle.trace_props.proofs.Ranging.{lies_is, lies_of}
-use Rattle.trace_props.proofs.TargetsJudged.{some_is, none_some, in_span, up_to_end}
+use Rattle.trace_props.proofs.TargetsJudged.{in_span, up_to_end}
 
 -- SP4: what lies in its interval
-pub lies_or_not : (b : Bool) → (b ≡ true) ⊎ (b ≡ false)
-lies_or_not true = inl refl
-lies_or_not false = inr refl
-
-not_is : (b : Bool) → not b ≡ true → b ≡ false
-not_is true h = absurd (true_false false h refl)
-not_is false h = refl
-
-pub is_not : (b : Bool) → b ≡ false → not b ≡ true
-is_not true h = absurd (true_false true refl h)
-is_not false h = refl
-
 outside_of : (low high x : ℤ) → not (lies_in low high x) ≡ true → Between (low, high) x → ⊥
-outside_of low high x h between = true_false (lies_in low high x) (lies_is low high x between) (not_is (lies_in low high x) h)
+outside_of low high x h between = true_false (lies_in low high x) (lies_is low high x between) (not-true (lies_in low high x) h)
 
 outside_is : (low high x : ℤ) → Fails (Between (low, high) x) → not (lies_in low high x) ≡ true
-outside_is low high x h = elim (lies_or_not (lies_in low high x)) [
-  | inl inside ↦ absurd (h (lies_of low high x inside))
-  | inr beyond ↦ is_not (lies_in low high x) beyond
-]
+outside_is low high x h = by_bool (lies_in low high x)
+    (λ inside. absurd (h (lies_of low high x inside)))
+    (λ beyond. not_from_false (lies_in low high x) beyond)
 
 inside_of : (low high x : ℤ) → (not (lies_in low high x) ≡ true → ⊥) → Between (low, high) x
-inside_of low high x h = elim (lies_or_not (lies_in low high x)) [
-  | inl inside ↦ lies_of low high x inside
-  | inr beyond ↦ absurd (h (is_not (lies_in low high x) beyond))
-]
+inside_of low high x h = by_bool (lies_in low high x)
+    (λ inside. lies_of low high x inside)
+    (λ beyond. absurd (h (not_from_false (lies_in low high x) beyond)))
 
 -- a row in which an invariant is broken
 record BreaksBy (rows : List Row) (r : Report) (inv : Invariant) (f : ℕ) : Type 0 where
@@ -91,7 +81,7 @@ record BreaksSome (rows : List Row) (r : Report) (invs : List Invariant) (f : �
 
 module _ (rows : List Row) (r : Report) where
   none_breaks : (f : ℕ) → BreaksSome rows r [] f → ⊥
-  none_breaks f b = none_some b.inv (sym (slice_get_past {X = Invariant} [] b.place (omega arith)) ∙ b.there)
+  none_breaks f b = some_none b.inv (sym (sym (slice_get_past {X = Invariant} [] b.place (omega arith)) ∙ b.there))
 
   some_more : (inv : Invariant) (invs : List Invariant) (f : ℕ) → BreaksBy rows r inv f ⊎ BreaksSome rows r invs f → BreaksSome rows r (inv ∷ invs) f
   some_more inv invs f e = elim e [
@@ -100,7 +90,7 @@ module _ (rows : List Row) (r : Report) where
   ]
 
   some_less : (inv : Invariant) (invs : List Invariant) (f place : ℕ) (x : Invariant) → slice_get (inv ∷ invs) place ≡ Some x → BreaksBy rows r x f → BreaksBy rows r inv f ⊎ BreaksSome rows r invs f
-  some_less inv invs f zero x e b = inl (rw (some_is inv x e) b)
+  some_less inv invs f zero x e b = inl (rw (same_some inv x e) b)
   some_less inv invs f (suc k) x e b = inr (record { place = k; inv = x; there = e; broken = b })
 
   all_unkept : (A : ℕ → Type 0) (invs : List Invariant) (o : Option ℕ) → IsLeastOf A o → IsLeastOf (λ f. A f ⊎ BreaksSome rows r invs f) (least_unkept rows r o invs)
@@ -118,31 +108,6 @@ module _ (rows : List Row) (r : Report) where
       (least_unkept rows r o (inv ∷ invs))
       (all_unkept (λ f. A f ⊎ BreaksBy rows r inv f) invs (lesser_frame o (unkept_from rows r inv)) (least_lesser A (BreaksBy rows r inv) o (unkept_from rows r inv) h (unkept_judged rows r inv)))
 
--- some item of a list passes a test
-any_found : {A : Type 0} (p : A → Bool) (xs : List A) → list_any p xs ≡ true → (k : ℕ) × (x : A) × (slice_get xs k ≡ Some x) × (p x ≡ true)
-any_found p [] h = absurd (true_false false h refl)
-any_found p (x ∷ xs) h = elim (lies_or_not (p x)) [
-  | inl here ↦ (0, x, refl, here)
-  | inr not_here ↦ (let later = any_found p xs (or_rest (p x) (list_any p xs) not_here h) in (suc later.0, later.1, later.2, later.3))
-]
-  where
-    or_rest : (a b : Bool) → a ≡ false → (a || b) ≡ true → b ≡ true
-    or_rest true b e k = absurd (true_false true refl e)
-    or_rest false b e k = k
-
-any_at : {A : Type 0} (p : A → Bool) (xs : List A) (k : ℕ) (x : A) → slice_get xs k ≡ Some x → p x ≡ true → list_any p xs ≡ true
-any_at {A} p [] k x e h = absurd (none_some x (sym (slice_get_past {X = A} [] k (omega arith)) ∙ e))
-any_at p (y ∷ xs) zero x e h = or_first (p y) (list_any p xs) (ap p (some_is y x e) ∙ h)
-  where
-    or_first : (a b : Bool) → a ≡ true → (a || b) ≡ true
-    or_first true b k = refl
-    or_first false b k = absurd (true_false false k refl)
-any_at p (y ∷ xs) (suc k) x e h = or_second (p y) (list_any p xs) (any_at p xs k x e h)
-  where
-    or_second : (a b : Bool) → b ≡ true → (a || b) ≡ true
-    or_second true b j = refl
-    or_second false b j = j
-
 -- a precondition of the target is broken in the row before the end
 module _ (row : Row) (to : Option ConfId) (pre : Precondition) where
   aimed_of : (o : Option ConfId) → goes_to o pre.conf ≡ true → o ≡ Some pre.conf
@@ -150,14 +115,14 @@ module _ (row : Row) (to : Option ConfId) (pre : Precondition) where
   aimed_of (Some c) h = ap (λ (id : ConfId). Some id) (same_id c pre.conf h)
 
   aimed_is : (o : Option ConfId) → o ≡ Some pre.conf → goes_to o pre.conf ≡ true
-  aimed_is None e = absurd (none_some pre.conf e)
-  aimed_is (Some c) e = rw (some_is c pre.conf e) (eq_self pre.conf.0)
+  aimed_is None e = absurd (some_none pre.conf (sym e))
+  aimed_is (Some c) e = rw (same_some c pre.conf e) (equal_test pre.conf.0 pre.conf.0 refl)
 
   unmet_of : breaks_target_precondition row to pre ≡ true → (to ≡ Some pre.conf) × Fails (PreconditionHolds pre row)
   unmet_of h = (aimed_of to (and_left (goes_to to pre.conf) _ h), outside_of pre.least pre.greatest (word (area_at row.areas pre.app.0) pre.variable) (and_right (goes_to to pre.conf) _ h))
 
   unmet_is : to ≡ Some pre.conf → Fails (PreconditionHolds pre row) → breaks_target_precondition row to pre ≡ true
-  unmet_is aim h = both (goes_to to pre.conf) _ (aimed_is to aim) (outside_is pre.least pre.greatest (word (area_at row.areas pre.app.0) pre.variable) h)
+  unmet_is aim h = and_true (goes_to to pre.conf) _ (aimed_is to aim) (outside_is pre.least pre.greatest (word (area_at row.areas pre.app.0) pre.variable) h)
 
 least_none : (A : ℕ → Type 0) (o : Option ℕ) → o ≡ None → IsLeastOf A o → (g : ℕ) → A g → ⊥
 least_none A None e h = h
@@ -167,15 +132,15 @@ module _ (spec : Parts) (rows : List Row) (r : Report) where
   met_row : (f : ℕ) → r.end ≡ suc f → (o : Option Row) → slice_get rows f ≡ o
       → IsLeastOf (BreaksPrecondition spec rows r) (option_and_then (λ (row : Row). if unmet_in spec row r.to then Some f else None) o)
   met_row f e None at = λ g b. (let same : g ≡ f = (let last = b.before_end in omega arith) in
-      none_some b.row (sym (ap (slice_get rows) same ∙ at) ∙ b.stands))
+      some_none b.row (sym (sym (ap (slice_get rows) same ∙ at) ∙ b.stands)))
   met_row f e (Some row) at = by_test {A = Option ℕ} (IsLeastOf (BreaksPrecondition spec rows r)) (unmet_in spec row r.to) (Some f) None
       (λ h. (let found = any_found (breaks_target_precondition row r.to) spec.preconditions h in let broken = unmet_of row r.to found.1 found.3 in (
         record { place = found.0; pre = found.1; there = found.2; aimed = broken.0; before_end = sym e; row = row; stands = at; broken = broken.1 },
         λ g b. (let last = b.before_end in omega arith),
       )))
       (λ h g b. (let same : f ≡ g = (let last = b.before_end in omega arith) in
-      let here : row ≡ b.row = some_is row b.row (sym at ∙ ap (slice_get rows) same ∙ b.stands) in
-      true_false (unmet_in spec row r.to) (any_at (breaks_target_precondition row r.to) spec.preconditions b.place b.pre b.there (rw here (unmet_is b.row r.to b.pre b.aimed b.broken))) h))
+      let here : row ≡ b.row = same_some row b.row (sym at ∙ ap (slice_get rows) same ∙ b.stands) in
+      true_false (unmet_in spec row r.to) (any_is (breaks_target_precondition row r.to) spec.preconditions b.place b.pre b.there (rw here (unmet_is b.row r.to b.pre b.aimed b.broken))) h))
 
   met : (end : ℕ) → r.end ≡ end → IsLeastOf (BreaksPrecondition spec rows r) (unmet_before spec rows r.to end)
   met zero e = λ g b. (let last = b.before_end in absurd (omega arith))

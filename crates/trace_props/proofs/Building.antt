@@ -1,13 +1,14 @@
 -- An accepted specification gives the law a build of which it is true.
 use Rattle.std.proofs.Common.{◌≡◌, ℕ, zero, suc, ◌<◌, ◌≤◌, Bool, true, refl, arith, ◌⊎◌, ap, sym, length}
 use mathlib.Core.Logic.{inl, inr}
-use Rattle.std.specs.Prelude.{Option, Some, None, slice_get, option_and_then, ◌==◌}
-use Rattle.std.proofs.lemmas.Bool.Decides.{nat_tests}
+use Rattle.std.specs.Prelude.{Option, Some, None, slice_get, option_and_then}
 use Rattle.scram_types.specs.declared.ids.ConfId.{ConfId}
 use Rattle.scram_types.specs.declared.flights.Env.{Env}
 use Rattle.scram_types.specs.declared.specification.Conf.{Conf}
 use Rattle.scram_types.specs.declared.specification.Place.{Place}
 use Rattle.scram_types.specs.Specification.{IsSpec, Parts}
+use Rattle.scram_types.proofs.Booleans.{true_false}
+use Rattle.scram_types.proofs.Naturals.{equal_test, low_or_high}
 use Rattle.choice_table.specs.Choices.{is_runnable, places_of}
 use Rattle.choice_table.specs.Environments.{is_up_in}
 use Rattle.choice_table.specs.Laws.{RunsWherePlacesAreUp}
@@ -17,7 +18,6 @@ use Rattle.coverage_check.specs.Acceptance.{Accepts}
 use Rattle.coverage_check.specs.Form.{is_same, is_same_place}
 use Rattle.coverage_check.specs.Search as search
 use Rattle.trace_props.proofs.CourseRows.{IsBuilt}
-use Rattle.trace_props.proofs.Tests.{true_false}
 use Rattle.trace_props.proofs.Products.{build_of, plan_of}
 use Rattle.trace_props.proofs.Accepting.{app_known, conf_known, is_there, placed, some_on}
 
@@ -29,19 +29,13 @@ all_pass test (suc n) h =
     let here = h n (omega arith) in
     rw (before, here) refl
 
-eq_self : (n : ℕ) → (n == n) ≡ true
-eq_self n = grind (arith, nat_tests)
-
 same_self : (o : Option Place) → is_same_place o o ≡ true
 same_self None = refl
-same_self (Some p) = rw (eq_self p.mode.0, eq_self p.proc.0) refl
+same_self (Some p) = rw (equal_test p.mode.0 p.mode.0 refl, equal_test p.proc.0 p.proc.0 refl) refl
 
 none_there : (o : Option Place) → ((p : Place) → o ≡ Some p → ⊥) → o ≡ None
 none_there None h = refl
 none_there (Some p) h = absurd (h p refl)
-
-low_or_high : (a b : ℕ) → (a < b) ⊎ (b ≤ a)
-low_or_high a b = grind arith
 
 -- places that agree below the number of applications agree
 same_places : (spec : Parts) → IsSpec spec → (i j : ConfId) → ((a : ℕ) → a < length spec.apps → place_of spec i a ≡ place_of spec j a) → is_same spec i j ≡ true

@@ -9,9 +9,9 @@ use Rattle.trace_props.proofs.Courses.{Course, IsCourseFlown, CourseRowUnder, co
 use Rattle.scram_types.specs.declared.specification.Place.{Place}
 use Rattle.trace_props.proofs.CourseRows.{CoursePhase, CoursePhase.Running, CoursePhase.Halting, CoursePhase.Preparing, CoursePhase.Initialising, CourseOrder, CourseOrder.Run, CourseOrder.Halt, CourseOrder.Hold, CourseOrder.Prepare, CourseOrder.Init, CourseOrder.Off, CourseAct, CourseAct.Ran, CourseAct.Lost, Build, course_after_halting, course_phase, course_running_order, course_halting_order, course_preparing_order, course_initialising_order, course_order_in, course_act_of, place_eq, course_is_ran, course_is_off, course_fits_place, course_runs, course_acts_at, IsBuilt, IsRun, ReconfiguresBuilt}
 use Rattle.frame_model.specs.Runs.{all_below, least_from}
-use Rattle.trace_props.proofs.Tests.{by_test, eq_true, lt_true, lt_false, not_true, true_false, and_left, and_right}
-use Rattle.std.proofs.lemmas.Bool.Decides.{nat_tests}
-use Rattle.trace_props.proofs.Deadlines.{lt_suc_or}
+use Rattle.trace_props.proofs.Tests.{by_test}
+use Rattle.scram_types.proofs.Booleans.{not_true, true_false, and_left, and_right, and_true}
+use Rattle.scram_types.proofs.Naturals.{equal, below, not_below, equal_test, at_most_test, above_test, below_or_at}
 use Rattle.trace_props.proofs.Assurances.{reconfigures}
 
 le_or : (a b : ℕ) → a ≤ b → (suc a ≤ b) ⊎ (a ≡ b)
@@ -20,7 +20,7 @@ le_or a b h = grind arith
 -- all_below and least_from, as facts
 pub all_at : (test : ℕ → Bool) (n : ℕ) → all_below test n ≡ true → (a : ℕ) → a < n → test a ≡ true
 all_at test zero h a below = absurd (omega arith)
-all_at test (suc n) h a below = elim (lt_suc_or a n below) [
+all_at test (suc n) h a below = elim (below_or_at a n below) [
   | inl k ↦ all_at test n (and_right _ _ h) a k
   | inr e ↦ rw e (and_left _ _ h)
 ]
@@ -75,7 +75,7 @@ idle_fits commits (Init k n p) (Some q) h = by_test (λ x. course_is_ran q x ≡
 
 -- the order of an application that is on, in each phase but the running one
 idle_halting : (time age : ℕ) (p : Place) → Idle (course_halting_order 0 time age (Some p))
-idle_halting time age p = by_test Idle (nat_lt age 0) _ _ (λ e. absurd (let h = lt_true age 0 e in omega arith))
+idle_halting time age p = by_test Idle (nat_lt age 0) _ _ (λ e. absurd (let h = below age 0 e in omega arith))
     (λ e. by_test Idle (nat_lt (age - 0) time) _ _ (λ h. tt) (λ h. tt))
 
 idle_preparing : (time age : ℕ) (p : Place) → Idle (course_preparing_order time age (Some p))
@@ -101,16 +101,10 @@ place_made : (a b c d : ℕ) → a ≡ c → b ≡ d → ◌≡◌ {A = Place} (
 place_made a b c d p q = rw (p, q) refl
 
 pub place_same : (p q : Place) → place_eq p q ≡ true → p ≡ q
-place_same p q h = place_made p.mode.0 p.proc.0 q.mode.0 q.proc.0 (eq_true p.mode.0 q.mode.0 (and_left _ _ h)) (eq_true p.proc.0 q.proc.0 (and_right _ _ h))
-
-eq_self : (n : ℕ) → nat_eq n n ≡ true
-eq_self n = grind (arith, nat_tests)
-
-and_true : (a b : Bool) → a ≡ true → b ≡ true → (a && b) ≡ true
-and_true a b p q = rw (p, q) refl
+place_same p q h = place_made p.mode.0 p.proc.0 q.mode.0 q.proc.0 (equal p.mode.0 q.mode.0 (and_left _ _ h)) (equal p.proc.0 q.proc.0 (and_right _ _ h))
 
 pub place_self : (p : Place) → place_eq p p ≡ true
-place_self p = and_true _ _ (eq_self p.mode.0) (eq_self p.proc.0)
+place_self p = and_true _ _ (equal_test p.mode.0 p.mode.0 refl) (equal_test p.proc.0 p.proc.0 refl)
 
 -- a running order that was committed fits just its place
 ran_none : (b : Bool) (p : Place) → course_is_off (if b then Ran p else Lost) ≡ true → ⊥
@@ -145,32 +139,26 @@ abbrev pub Ranged : Plan → CourseMode → Type 0
 Ranged plan (Stable c) = c < plan.configurations
 Ranged plan (Moving from halting to since) = (from < plan.configurations) × (to < plan.configurations) × ((h : ℕ) → halting ≡ Some h → h < plan.configurations)
 
-is_le_true : (a b : ℕ) → a ≤ b → nat_le a b ≡ true
-is_le_true a b h = grind (arith, nat_tests)
-
-is_le_false : (a b : ℕ) → b < a → nat_le a b ≡ false
-is_le_false a b h = grind (arith, nat_tests)
-
 -- the phase after the halting one, whose length is h
 phase_after : (plan : Plan) (h to age late : ℕ) → age ≡ h + late
     → (runs_in (course_after_halting plan to late) ≡ nat_le (h + plan.preparing to + plan.initialising to) age) × (conf_of (course_after_halting plan to late) ≡ to)
 phase_after plan h to age late is =
     by_test (λ p. (runs_in p ≡ nat_le (h + plan.preparing to + plan.initialising to) age) × (conf_of p ≡ to)) (nat_lt late (plan.preparing to)) _ _
-    (λ e. let k = lt_true late (plan.preparing to) e in (sym (is_le_false (h + plan.preparing to + plan.initialising to) age (omega arith)), refl))
-    (λ e. let k = lt_false late (plan.preparing to) e in
+    (λ e. let k = below late (plan.preparing to) e in (sym (above_test (h + plan.preparing to + plan.initialising to) age (omega arith)), refl))
+    (λ e. let k = not_below late (plan.preparing to) e in
     by_test (λ p. (runs_in p ≡ nat_le (h + plan.preparing to + plan.initialising to) age) × (conf_of p ≡ to)) (nat_lt (late - plan.preparing to) (plan.initialising to)) _ _
-    (λ e2. let k2 = lt_true (late - plan.preparing to) (plan.initialising to) e2 in (sym (is_le_false (h + plan.preparing to + plan.initialising to) age (omega arith)), refl))
-    (λ e2. let k2 = lt_false (late - plan.preparing to) (plan.initialising to) e2 in (sym (is_le_true (h + plan.preparing to + plan.initialising to) age (omega arith)), refl)))
+    (λ e2. let k2 = below (late - plan.preparing to) (plan.initialising to) e2 in (sym (above_test (h + plan.preparing to + plan.initialising to) age (omega arith)), refl))
+    (λ e2. let k2 = not_below (late - plan.preparing to) (plan.initialising to) e2 in (sym (at_most_test (h + plan.preparing to + plan.initialising to) age (omega arith)), refl)))
 
 in_phase : (plan : Plan) (mode : CourseMode) (f : ℕ) → Ranged plan mode → InPhase plan mode f (course_phase plan mode f)
 in_phase plan (Stable c) f r = (refl, r, λ e. refl)
 in_phase plan (Moving from None to since) f r = let p = phase_after plan 0 to (f - since) (f - since) (omega arith) in (p.0, rw p.1 r.1, λ e. p.1)
 in_phase plan (Moving from (Some h) to since) f r =
     by_test (λ p. InPhase plan (Moving from (Some h) to since) f p) (nat_lt (f - since) (plan.halting h)) _ _
-    (λ e. let k = lt_true (f - since) (plan.halting h) e in
-    let small : nat_le (plan.halting h + plan.preparing to + plan.initialising to) (f - since) ≡ false = is_le_false (plan.halting h + plan.preparing to + plan.initialising to) (f - since) (omega arith) in
+    (λ e. let k = below (f - since) (plan.halting h) e in
+    let small : nat_le (plan.halting h + plan.preparing to + plan.initialising to) (f - since) ≡ false = above_test (plan.halting h + plan.preparing to + plan.initialising to) (f - since) (omega arith) in
     (sym small, r.2 h refl, λ t. absurd (true_false false t refl)))
-    (λ e. let k = lt_false (f - since) (plan.halting h) e in
+    (λ e. let k = not_below (f - since) (plan.halting h) e in
     let p = phase_after plan (plan.halting h) to (f - since) (f - since - plan.halting h) (omega arith) in (p.0, rw p.1 r.1, λ t. p.1))
 
 module _ (plan : Plan) (course : Course) (accepted : IsAcceptedPlan plan) where

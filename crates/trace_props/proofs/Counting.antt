@@ -1,13 +1,11 @@
 -- Counts of change frames.
-use Rattle.std.proofs.Common.{◌≡◌, ℕ, zero, suc, ◌+◌, ◌<◌, ◌≤◌, Bool, true, false, refl, arith, ◌⊎◌}
+use Rattle.std.proofs.Common.{◌≡◌, ℕ, zero, suc, ◌+◌, ◌<◌, ◌≤◌, Bool, true, false, refl, arith}
 use mathlib.Core.Logic.{inl, inr}
 use Rattle.std.specs.Prelude.{if◌then◌else◌}
 use Rattle.scram_types.specs.declared.flights.Env.{Env}
+use Rattle.scram_types.proofs.Naturals.{at_or_below}
 use Rattle.trace_props.proofs.Plans.{Plan}
 use Rattle.trace_props.proofs.Courses.{course_changes_at, course_changes_upto}
-
-pub le_suc_or : (a b : ℕ) → a ≤ suc b → (a ≤ b) ⊎ (a ≡ suc b)
-le_suc_or a b h = grind arith
 
 -- a frame adds one where it is a change frame
 pub count_changed : (plan : Plan) (env : ℕ → Env) (f : ℕ) → course_changes_at plan env (suc f) ≡ true → course_changes_upto plan env (suc f) ≡ suc (course_changes_upto plan env f)
@@ -24,7 +22,7 @@ pub count_grows : (plan : Plan) (env : ℕ → Env) (f : ℕ) → course_changes
 count_grows plan env f = at_most_one (plan.differ (env f) (env (suc f))) (course_changes_upto plan env f)
 
 count_step : (plan : Plan) (env : ℕ → Env) (a b : ℕ) → a ≤ suc b → (a ≤ b → course_changes_upto plan env a ≤ course_changes_upto plan env b) → course_changes_upto plan env a ≤ course_changes_upto plan env (suc b)
-count_step plan env a b h before = elim (le_suc_or a b h) [ inl e ↦ let grown = count_grows plan env b in let below = before e in omega arith | inr e ↦ rw e (omega arith) ]
+count_step plan env a b h before = elim (at_or_below a b h) [ inl e ↦ let grown = count_grows plan env b in let below = before e in omega arith | inr e ↦ rw e (omega arith) ]
 
 -- the counts rise with the frame
 pub count_le : (plan : Plan) (env : ℕ → Env) (a b : ℕ) → a ≤ b → course_changes_upto plan env a ≤ course_changes_upto plan env b
@@ -46,7 +44,7 @@ between_last plan tells env c t a b true e h not before = record { change = suc 
 between_last plan tells env c t a b false e h not before = later_change (before (λ k. not (let same = tells (env b) (env (suc b)) e in cc)))
 
 between_step : (plan : Plan) → ((v w : Env) → plan.differ v w ≡ false → v ≡ w) → (env : ℕ → Env) (c t a b : ℕ) → a ≤ suc b → plan.choose c (env a) ≡ t → (plan.choose c (env (suc b)) ≡ t → ⊥) → (a ≤ b → plan.choose c (env a) ≡ t → (plan.choose c (env b) ≡ t → ⊥) → ChangeBetween plan env a b) → ChangeBetween plan env a (suc b)
-between_step plan tells env c t a b h was not before = elim (le_suc_or a b h) [
+between_step plan tells env c t a b h was not before = elim (at_or_below a b h) [
   | inl k ↦ between_last plan tells env c t a b (plan.differ (env b) (env (suc b))) refl k not (before k was)
   | inr e ↦ absurd (not (rw e at was))
 ]

@@ -2,12 +2,14 @@
 use Rattle.std.proofs.Common.{◌≡◌, ℕ, zero, suc, ◌+◌, ◌-◌, ◌<◌, ◌≤◌, true, false, refl, arith, ◌≢◌, sym, ◌∙◌, subst}
 use mathlib.Core.Logic.{inl, inr}
 use Rattle.std.specs.Prelude.{Option, Some, None, nat_eq, nat_lt, ◌&&◌}
+use Rattle.scram_types.proofs.Booleans.{not_true, not_false, true_false, and_left, and_right, and_false}
+use Rattle.scram_types.proofs.Naturals.{equal, differ, below, at_most, above, at_or_below}
 use Rattle.trace_props.proofs.Plans.{Plan, IsAcceptedPlan, plan_halting}
 use Rattle.trace_props.proofs.CourseModes.{CourseMode, CourseMode.Stable, CourseMode.Moving, course_stable_decision, course_turn, course_wanted, course_is_running}
 use Rattle.trace_props.proofs.Courses.{Course, IsCourseWithin, IsCourseFlown, CourseRowUnder, course_changes_at, course_decision_after, course_mode_at, CourseReading, CourseReading.Steady, CourseReading.Leaving, course_arrive, course_read_row, course_reading_before, course_arrival, course_report_of, course_report_at}
 use Rattle.trace_props.proofs.Promises.{CourseHasCause, CourseFollows, course_first_moving}
-use Rattle.trace_props.proofs.Tests.{by_test, eq_true, eq_false, lt_true, le_true, le_false, not_true, not_false, true_false, and_left, and_right, and_false}
-use Rattle.trace_props.proofs.Counting.{le_suc_or, ChangeBetween, change_between}
+use Rattle.trace_props.proofs.Tests.{by_test}
+use Rattle.trace_props.proofs.Counting.{ChangeBetween, change_between}
 use Rattle.trace_props.proofs.Deadlines.{Deadlines, begins, stays, turns_early, turns_anew, wanted_runs, room_of}
 
 -- the mode of frame f goes on with a reconfiguration from `from` whose first moving frame is `first`
@@ -48,18 +50,18 @@ module _ (plan : Plan) (course : Course) (accepted : IsAcceptedPlan plan) (withi
       → MovesOn plan course first (suc f) from (course_turn plan (suc f) from halting to since (course_is_running plan (Moving from halting to since) f) (course_wanted plan from to (course.env (suc f))))
   moves_on first f from halting to since inside d moded gone =
       by_test (MovesOn plan course first (suc f) from) (nat_eq (course_wanted plan from to (course.env (suc f))) to) _ _
-      (λ e. (refl, kept (eq_true _ _ e)))
+      (λ e. (refl, kept (equal _ _ e)))
       (λ e. by_test (MovesOn plan course first (suc f) from) (nat_lt (suc f - since) (plan_halting plan halting)) _ _
-      (λ early. (refl, turns_early plan course accepted within first f from halting to since inside d (eq_false _ _ e) (lt_true _ _ early)))
+      (λ early. (refl, turns_early plan course accepted within first f from halting to since inside d (differ _ _ e) (below _ _ early)))
       (λ late. by_test (MovesOn plan course first (suc f) from) (course_is_running plan (Moving from halting to since) f) _ _
-      (λ settled. (refl, turns_anew plan course accepted within first f from halting (Some to) to since inside d (eq_false _ _ e) (omega arith) (λ h e. cc)))
-      (λ unsettled. (refl, turns_anew plan course accepted within first f from halting None to since inside d (eq_false _ _ e) (omega arith) (λ h e. cc)))))
+      (λ settled. (refl, turns_anew plan course accepted within first f from halting (Some to) to since inside d (differ _ _ e) (omega arith) (λ h e. cc)))
+      (λ unsettled. (refl, turns_anew plan course accepted within first f from halting None to since inside d (differ _ _ e) (omega arith) (λ h e. cc)))))
     where
       kept : course_wanted plan from to (course.env (suc f)) ≡ to → Deadlines plan course first (suc f) from halting to since
       kept same =
           let runs = rw same at (wanted_runs plan course accepted within from to (course.env (suc f)) d.from_in (within.scope (suc f) inside)) in
           let unsettled = not_true (course_is_running plan (Moving from halting to since) f) (λ r. true_false _ runs (gone r)) in
-          let short = le_false (plan_halting plan halting + plan.preparing to + plan.initialising to) (f - since) unsettled in
+          let short = above (plan_halting plan halting + plan.preparing to + plan.initialising to) (f - since) unsettled in
           let now = d.now in
           stays plan course accepted within first f from halting to since inside d same (omega arith) moded
 
@@ -69,8 +71,8 @@ module _ (plan : Plan) (course : Course) (accepted : IsAcceptedPlan plan) (withi
       → SteadyIn plan course f c (course_stable_decision f c (plan.choose c (course.env f)))
   steady_on f c inside known cause change =
       by_test (SteadyIn plan course f c) (nat_eq (plan.choose c (course.env f)) c) _ _
-      (λ e. (refl, eq_true _ _ e, known))
-      (λ e. let away = eq_false (plan.choose c (course.env f)) c e in
+      (λ e. (refl, equal _ _ e, known))
+      (λ e. let away = differ (plan.choose c (course.env f)) c e in
       record { same = refl; new = refl; deadlines = begins plan course accepted within f c inside known away (room_of plan course accepted within f (change away)); cause = cause away })
 
   -- what is chosen changes only in a change frame
@@ -84,9 +86,9 @@ module _ (plan : Plan) (course : Course) (accepted : IsAcceptedPlan plan) (withi
       by_test (λ r. Coupled plan course (suc f) r (course_decision_after plan course f (Stable c))) (course.runs f c) (Steady c) (Leaving c f)
       (λ ran. steady_on (suc f) c inside known (λ away. inl (changed_when f c current away)) (λ away prompt. (f, refl, changed_when f c current away)))
       (λ left. by_test (λ m. LeavingIn plan course (suc f) c f m) (nat_eq (plan.choose c (course.env (suc f))) c) _ _
-      (λ e. absurd (true_false _ (rw (eq_true _ _ e) at (accepted.runnable c (course.env (suc f)) known (within.scope (suc f) inside)))
+      (λ e. absurd (true_false _ (rw (equal _ _ e) at (accepted.runnable c (course.env (suc f)) known (within.scope (suc f) inside)))
       (row.lost refl left (rw current at (accepted.runnable c (course.env f) known (within.scope f (omega arith)))))))
-      (λ e. let away = eq_false (plan.choose c (course.env (suc f))) c e in
+      (λ e. let away = differ (plan.choose c (course.env (suc f))) c e in
       let changed = changed_when f c current away in
       record {
         first = suc f;
@@ -126,7 +128,7 @@ module _ (plan : Plan) (course : Course) (accepted : IsAcceptedPlan plan) (withi
     where
       young : course_is_running plan (Moving from halting to since) f ≡ false
       young = not_true (course_is_running plan (Moving from halting to since) f) (λ r.
-          let old = le_true (plan_halting plan halting + plan.preparing to + plan.initialising to) (f - since) r in
+          let old = at_most (plan_halting plan halting + plan.preparing to + plan.initialising to) (f - since) r in
           let lasts = accepted.lasts to st.deadlines.to_in in
           let new = st.new in
           omega arith)
@@ -168,7 +170,7 @@ module _ (plan : Plan) (course : Course) (accepted : IsAcceptedPlan plan) (withi
           }
 
       cause_next : (j : ℕ) → course.running f ≡ Some j → ChangeBetween plan course.env d.chosen_at (suc f) → CourseHasCause plan course (suc f)
-      cause_next j some g = elim (le_suc_or g.change f g.up_to) [
+      cause_next j some g = elim (at_or_below g.change f g.up_to) [
         | inl early ↦ inr (inr (follows j some g early))
         | inr e ↦ inl (rw e at g.changed)
       ]
@@ -185,7 +187,7 @@ module _ (plan : Plan) (course : Course) (accepted : IsAcceptedPlan plan) (withi
           (λ come. steady_on (suc f) to inside d.to_in
           (λ away. cause_next j some (change_between plan accepted.tells course.env to to d.chosen_at (suc f) (omega arith) held away))
           change_next)
-          (λ e. absurd (and_false _ _ e o.0 ran_to)))
+          (λ e. true_false _ ran_to (and_false _ _ e o.0)))
 
   -- one frame, from any state
   pub coupled_step : (f : ℕ) → suc f ≤ course.frames → (r : CourseReading) (m : CourseMode) → Coupled plan course f r m → CourseRowUnder plan course f m

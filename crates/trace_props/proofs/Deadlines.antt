@@ -3,10 +3,11 @@ use Rattle.std.proofs.Common.{◌≡◌, ℕ, suc, ◌+◌, ◌-◌, ◌*◌, �
 use mathlib.Core.Logic.{inl, inr}
 use Rattle.std.specs.Prelude.{Option, Some, if◌then◌else◌, ◌&&◌}
 use Rattle.scram_types.specs.declared.flights.Env.{Env}
+use Rattle.scram_types.proofs.Booleans.{not_false}
+use Rattle.scram_types.proofs.Naturals.{below_or_at}
 use Rattle.trace_props.proofs.Plans.{Plan, IsAcceptedPlan, IsPlanTarget, plan_further, plan_halting, plan_least_bound}
 use Rattle.trace_props.proofs.CourseModes.{CourseMode.Moving, course_wanted}
 use Rattle.trace_props.proofs.Courses.{Course, IsCourseWithin, course_changes_at, course_changes_upto, course_mode_at}
-use Rattle.trace_props.proofs.Tests.{not_false}
 use Rattle.trace_props.proofs.Counting.{count_changed, count_grows, count_le}
 
 -- frame g has this mode, and what the target uses is up in it and in the next one
@@ -43,9 +44,6 @@ scaled a b q h = grind arith
 -- the arithmetic of a step, over plain numbers
 pub in_time : (f first since halted h q x d p i t : ℕ) → f ≤ since + halted + p + i → since + halted ≤ first + h + d * q → d ≤ x → 1 + h + x * q + p + i ≤ t → suc f ≤ first + t
 in_time f first since halted h q x d p i t a b c e = let m : d * q ≤ x * q = grind arith in omega arith
-
-pub lt_suc_or : (a b : ℕ) → a < suc b → (a < b) ⊎ (a ≡ b)
-lt_suc_or a b h = grind arith
 
 pub later : (f first since halted h q d p i k : ℕ) → f ≤ since + halted + p + i → since + halted ≤ first + h + d * q → p + i + 1 + k ≤ q → suc f + k ≤ first + h + suc d * q
 later f first since halted h q d p i k a b c = omega arith
@@ -191,7 +189,7 @@ module _ (plan : Plan) (course : Course) (accepted : IsAcceptedPlan plan) (withi
         from_in = d.from_in;
         to_in = d.to_in;
         halts = d.halts;
-        whole = λ g late early. elim (lt_suc_or g f early) [
+        whole = λ g late early. elim (below_or_at g f early) [
           | inl k ↦ d.whole g late k
           | inr e ↦ rw e (record { moded = moded; before = d.runnable; behind = runs })
         ];

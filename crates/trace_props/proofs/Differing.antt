@@ -1,13 +1,14 @@
 -- What is told, compared with what is read.
-use Rattle.std.proofs.Common.{◌≡◌, ℕ, zero, suc, ◌+◌, ◌-◌, ◌<◌, ◌≤◌, Bool, true, false, refl, arith, ap, sym, ◌∙◌, List, [], ◌∷◌, length, ◌⊎◌}
+use Rattle.std.proofs.Common.{◌≡◌, ℕ, zero, suc, ◌+◌, ◌-◌, ◌<◌, ◌≤◌, true, false, refl, arith, ap, sym, ◌∙◌, List, [], ◌∷◌, length, ◌⊎◌}
 use mathlib.Core.Logic.{inl, inr}
 use Rattle.std.specs.Prelude.{Option, Some, None, min, slice_get, ◌==◌, ◌&&◌}
 use Rattle.std.proofs.lemmas.Option.{slice_get_past}
-use Rattle.std.proofs.lemmas.Bool.Decides.{nat_tests}
 use Rattle.scram_types.specs.declared.ids.ConfId.{ConfId}
 use Rattle.scram_types.specs.declared.flights.Report.{Report}
 use Rattle.scram_types.specs.declared.flights.Row.{Row}
 use Rattle.scram_types.specs.Specification.{Parts}
+use Rattle.scram_types.proofs.Booleans.{and_left, and_right, true_false, and_true}
+use Rattle.scram_types.proofs.Naturals.{equal, below_or_at, equal_test, low_or_high}
 use Rattle.frame_model.specs.Runs.{conf_of}
 use Rattle.trace_props.specs.declared.comparing.Agreement.{Agreement}
 use Rattle.trace_props.specs.declared.comparing.Agreement.TheVariants.{Alike, Apart}
@@ -15,11 +16,11 @@ use Rattle.trace_props.specs.declared.judging.Judgement.{Judgement}
 use Rattle.trace_props.specs.Breaks.{BreaksSp1, lesser_begin}
 use Rattle.trace_props.specs.Judging.{begin_told, compare, compare_with, difference, is_same_report, is_same_target, judge, judge_all}
 use Rattle.trace_props.proofs.Firsts.{IsLeastOf}
-use Rattle.trace_props.proofs.Tests.{and_left, and_right, by_test, eq_true, true_false}
+use Rattle.trace_props.proofs.Tests.{by_test}
 
 -- equal reports
 pub same_id : (c d : ConfId) → (c.0 == d.0) ≡ true → c ≡ d
-same_id c d h = ap conf_of (eq_true c.0 d.0 h)
+same_id c d h = ap conf_of (equal c.0 d.0 h)
 
 same_target : (one other : Option ConfId) → is_same_target one other ≡ true → one ≡ other
 same_target None None h = refl
@@ -38,23 +39,17 @@ same_report one other h =
     report_by one.from other.from one.to other.to one.begin other.begin one.end other.end
     (same_id one.from other.from (and_left (one.from.0 == other.from.0) _ two))
     (same_target one.to other.to (and_right (one.from.0 == other.from.0) _ two))
-    (eq_true one.begin other.begin (and_right (one.from.0 == other.from.0 && is_same_target one.to other.to) _ three))
-    (eq_true one.end other.end (and_right (one.from.0 == other.from.0 && is_same_target one.to other.to && one.begin == other.begin) _ h))
-
-pub eq_self : (n : ℕ) → (n == n) ≡ true
-eq_self n = grind (arith, nat_tests)
-
-pub both : (a b : Bool) → a ≡ true → b ≡ true → (a && b) ≡ true
-both a b p q = rw (p, q) refl
+    (equal one.begin other.begin (and_right (one.from.0 == other.from.0 && is_same_target one.to other.to) _ three))
+    (equal one.end other.end (and_right (one.from.0 == other.from.0 && is_same_target one.to other.to && one.begin == other.begin) _ h))
 
 target_self : (one : Option ConfId) → is_same_target one one ≡ true
 target_self None = refl
-target_self (Some c) = eq_self c.0
+target_self (Some c) = equal_test c.0 c.0 refl
 
 report_self : (one : Report) → is_same_report one one ≡ true
 report_self one =
-    both (one.from.0 == one.from.0 && is_same_target one.to one.to && one.begin == one.begin) _
-    (both (one.from.0 == one.from.0 && is_same_target one.to one.to) _ (both (one.from.0 == one.from.0) _ (eq_self one.from.0) (target_self one.to)) (eq_self one.begin)) (eq_self one.end)
+    and_true (one.from.0 == one.from.0 && is_same_target one.to one.to && one.begin == one.begin) _
+    (and_true (one.from.0 == one.from.0 && is_same_target one.to one.to) _ (and_true (one.from.0 == one.from.0) _ (equal_test one.from.0 one.from.0 refl) (target_self one.to)) (equal_test one.begin one.begin refl)) (equal_test one.end one.end refl)
 
 -- equal lists
 past_none : (k : ℕ) → slice_get {X = Report} [] k ≡ None
@@ -75,12 +70,9 @@ abbrev pub Agrees : List Report → List Report → ℕ → Agreement → Type 0
 Agrees told all place (Alike n) = (n ≡ place) × ((k : ℕ) → k < place → slice_get told k ≡ slice_get all k)
 Agrees told all place (Apart frame) = BreaksSp1 told all frame
 
-below_or_last : (k n : ℕ) → k < suc n → (k < n) ⊎ (k ≡ n)
-below_or_last k n h = grind arith
-
 next_alike : (told all : List Report) (place : ℕ) → ((k : ℕ) → k < place → slice_get told k ≡ slice_get all k) → slice_get told place ≡ slice_get all place
     → (k : ℕ) → k < suc place → slice_get told k ≡ slice_get all k
-next_alike told all place before here k h = elim (below_or_last k place h) [
+next_alike told all place before here k h = elim (below_or_at k place h) [
   | inl low ↦ before k low
   | inr last ↦ rw last here
 ]
@@ -136,14 +128,11 @@ past_all xs n k e = slice_get_past xs (n + k) (let past = past_end xs n e in ome
     past_end (y ∷ ys) zero h = absurd (let no : ◌≡◌ {A = Option Report} (Some y) None = h in cc)
     past_end (y ∷ ys) (suc m) h = let rest = past_end ys m h in omega arith
 
-low_or_past : (k n : ℕ) → (k < n) ⊎ ((m : ℕ) × (k ≡ n + m))
-low_or_past k n = elim (less_or_not k n) [
+pub low_or_past : (k n : ℕ) → (k < n) ⊎ ((m : ℕ) × (k ≡ n + m))
+low_or_past k n = elim (low_or_high k n) [
   | inl less ↦ inl less
   | inr past ↦ inr (k - n, omega arith)
 ]
-  where
-    less_or_not : (a b : ℕ) → (a < b) ⊎ (b ≤ a)
-    less_or_not a b = grind arith
 
 module _ (told all : List Report) (n : ℕ) (ended : (k : ℕ) → slice_get all (n + k) ≡ None) where
   ended_here : slice_get all n ≡ None

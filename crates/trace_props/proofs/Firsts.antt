@@ -1,15 +1,16 @@
 -- The least of the frames, and the first of the breaks, of which a fact holds.
 use Rattle.std.proofs.Common.{◌≡◌, ℕ, zero, suc, ◌+◌, ◌-◌, ◌<◌, ◌≤◌, Bool, true, false, refl, arith, ap, sym, ◌∙◌, ◌⊎◌, subst}
 use mathlib.Core.Logic.{inl, inr}
-use Rattle.std.specs.Prelude.{Option, Some, None, min, nat_eq, nat_lt, ◌&&◌, ◌||◌}
+use Rattle.std.specs.Prelude.{Option, Some, None, min, nat_eq, nat_lt}
 use Rattle.std.proofs.Math.Nat.{min-le_left, min-le_right, min-eq_left, min-eq_right}
-use Rattle.std.proofs.lemmas.Bool.Decides.{nat_tests}
+use Rattle.scram_types.proofs.Booleans.{and_left, and_right, true_false, and_false, or_cases, or_false}
+use Rattle.scram_types.proofs.Naturals.{equal, not_below, below, equal_test}
 use Rattle.frame_model.specs.Runs.{least_from}
 use Rattle.trace_props.specs.declared.breaks.Broken.{Broken}
 use Rattle.trace_props.specs.declared.breaks.Property.{Property}
 use Rattle.trace_props.specs.Breaks.{ComesBefore, property_number}
 use Rattle.trace_props.specs.Judging.{broken_at, comes_before, earlier, lesser_frame}
-use Rattle.trace_props.proofs.Tests.{and_left, and_right, by_test, eq_true, lt_false, lt_true, true_false}
+use Rattle.trace_props.proofs.Tests.{by_test}
 
 abbrev pub IsLeastOf : (ℕ → Type 0) → Option ℕ → Type 0
 IsLeastOf Breaks None = (g : ℕ) → Breaks g → ⊥
@@ -50,44 +51,25 @@ least_lesser A B (Some f) None h k = (inl h.0, λ g e. elim e [ inl x ↦ h.1 g 
 least_lesser A B (Some f) (Some g) h k = (lesser_of A B f g h.0 k.0 (min f g) refl, λ n e. either_le A B f g n h.1 k.1 e)
 
 -- which of two breaks comes before
-or_cases : (a b : Bool) → (a || b) ≡ true → (a ≡ true) ⊎ (b ≡ true)
-or_cases true b h = inl refl
-or_cases false b h = inr h
-
-or_left : (a b : Bool) → (a || b) ≡ false → a ≡ false
-or_left true b h = h
-or_left false b h = refl
-
-or_right : (a b : Bool) → (a || b) ≡ false → b ≡ false
-or_right true b h = absurd (true_false true refl h)
-or_right false b h = h
-
 same_or_less : (a b : ℕ) → a ≤ b → (a < b) ⊎ (a ≡ b)
 same_or_less a b h = grind arith
 
-eq_test : (a b : ℕ) → a ≡ b → nat_eq b a ≡ true
-eq_test a b e = grind (arith, nat_tests)
-
-and_rest : (a b : Bool) → a ≡ true → (a && b) ≡ false → b ≡ false
-and_rest true b e h = h
-and_rest false b e h = absurd (true_false false e refl)
-
 is_before : (one other : Broken) → comes_before one other ≡ true → ComesBefore one.property one.frame other.property other.frame
 is_before one other h = elim (or_cases (nat_lt one.frame other.frame) _ h) [
-  | inl less ↦ inl (lt_true one.frame other.frame less)
+  | inl less ↦ inl (below one.frame other.frame less)
   | inr same ↦ inr (
-    eq_true one.frame other.frame (and_left (nat_eq one.frame other.frame) _ same),
-    (let less = lt_true (property_number one.property) (property_number other.property) (and_right (nat_eq one.frame other.frame) _ same) in omega arith),
+    equal one.frame other.frame (and_left (nat_eq one.frame other.frame) _ same),
+    (let less = below (property_number one.property) (property_number other.property) (and_right (nat_eq one.frame other.frame) _ same) in omega arith),
   )
 ]
 
 is_not_before : (one other : Broken) → comes_before one other ≡ false → ComesBefore other.property other.frame one.property one.frame
 is_not_before one other h =
-    elim (same_or_less other.frame one.frame (lt_false one.frame other.frame (or_left (nat_lt one.frame other.frame) _ h))) [
+    elim (same_or_less other.frame one.frame (not_below one.frame other.frame (or_false (nat_lt one.frame other.frame) _ h).0)) [
       | inl less ↦ inl less
       | inr same ↦ inr (
         same,
-        lt_false (property_number one.property) (property_number other.property) (and_rest (nat_eq one.frame other.frame) _ (eq_test other.frame one.frame same) (or_right (nat_lt one.frame other.frame) _ h)),
+        not_below (property_number one.property) (property_number other.property) (and_false (nat_eq one.frame other.frame) _ ((or_false (nat_lt one.frame other.frame) _ h).1) (equal_test one.frame other.frame (sym same))),
       )
     ]
 

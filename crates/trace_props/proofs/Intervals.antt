@@ -1,14 +1,15 @@
 -- Invariants and preconditions of an accepted specification hold what the law asks of them.
 use Rattle.std.proofs.Common.{◌≡◌, ℕ, ◌<◌, true, refl, arith, ap, List, length}
 use mathlib.Core.Logic.{inl, inr}
-use Rattle.std.specs.Prelude.{Option, Some, None, ℤ, pos, slice_get, ◌&&◌, ◌==◌}
-use Rattle.std.proofs.lemmas.Bool.Decides.{nat_tests}
+use Rattle.std.specs.Prelude.{Option, Some, None, ℤ, pos, slice_get, ◌&&◌}
 use Rattle.scram_types.specs.declared.ids.ConfId.{ConfId}
 use Rattle.scram_types.specs.declared.specification.Invariant as told_invariants
 use Rattle.scram_types.specs.declared.specification.Place.{Place}
 use Rattle.scram_types.specs.declared.specification.Precondition as told_preconditions
 use Rattle.scram_types.specs.Numbers.{word}
 use Rattle.scram_types.specs.Specification.{IsSpec, Parts}
+use Rattle.scram_types.proofs.Booleans.{and_left, and_right}
+use Rattle.scram_types.proofs.Naturals.{equal, equal_test}
 use Rattle.choice_table.specs.Choices as choices
 use Rattle.choice_table.specs.Choices.{has_source}
 use Rattle.app_model.specs.Bounds.{after_init, during}
@@ -19,7 +20,6 @@ use Rattle.coverage_check.specs.Acceptance.{Accepts}
 use Rattle.coverage_check.specs.Holding.{holds_during, holds_leaving, holds_off, holds_reaching}
 use Rattle.trace_props.proofs.Plans as plans
 use Rattle.trace_props.proofs.CourseAreas.{Written, Written.DidRun, Written.DidHalt, Written.DidPrepare, Written.DidInit, Written.Zeros, CourseInvariant, CoursePrecondition, HoldsListedRanges, HoldsInitialisedRange, IsListed, SpeaksOfSource, IsPlacedInTarget, IsPlacedInEither}
-use Rattle.trace_props.proofs.Tests.{and_left, and_right, eq_true}
 use Rattle.trace_props.proofs.Accepting.{env_of_test}
 use Rattle.trace_props.proofs.Products.{build_of, is_env, halting_number, plan_of}
 use Rattle.trace_props.specs.Judging.{lies_in}
@@ -33,16 +33,13 @@ abbrev pub precondition_of : told_preconditions.Precondition → CoursePrecondit
 precondition_of pre = record { conf = pre.conf.0; app = pre.app.0; holds = λ v. lies_in pre.least pre.greatest (word v pre.variable) }
 
 -- the source of an invariant
-eq_self : (n : ℕ) → (n == n) ≡ true
-eq_self n = grind (arith, nat_tests)
-
 source_is : (from : Option ConfId) (i : ℕ) → SpeaksOfSource (halting_number from) i → has_source from (conf_of i) ≡ true
 source_is None i h = refl
-source_is (Some c) i h = rw h (eq_self i)
+source_is (Some c) i h = rw h (equal_test i i refl)
 
 pub speaks_in : (from : Option ConfId) (c : ConfId) → has_source from c ≡ true → SpeaksOfSource (halting_number from) c.0
 speaks_in None c h = tt
-speaks_in (Some k) c h = eq_true k.0 c.0 h
+speaks_in (Some k) c h = equal k.0 c.0 h
 
 module _ (spec : Parts) (sound : IsSpec spec) (accepts : Accepts spec) where
   target_of : (i j : ℕ) → plans.IsPlanTarget (plan_of spec) i j → choices.IsTarget spec (conf_of i) (conf_of j)

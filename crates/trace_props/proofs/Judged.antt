@@ -1,11 +1,13 @@
 -- What is found of all reconfigurations is the first break, or that all five properties hold.
-use Rattle.std.proofs.Common.{◌≡◌, ℕ, suc, ◌+◌, ◌-◌, ◌<◌, ◌≤◌, refl, arith, ap, sym, ◌∙◌, List, [], ◌∷◌, ◌⊎◌, subst}
+use Rattle.std.proofs.Common.{◌≡◌, ℕ, suc, ◌+◌, ◌<◌, ◌≤◌, refl, arith, ap, sym, ◌∙◌, List, [], ◌∷◌, ◌⊎◌, subst}
 use mathlib.Core.Logic.{inl, inr}
 use Rattle.std.specs.Prelude.{Option, Some, None, slice_get, ◌↔◌}
 use Rattle.std.proofs.lemmas.Option.{slice_get_past}
 use Rattle.scram_types.specs.declared.flights.Report.{Report}
 use Rattle.scram_types.specs.declared.flights.Row.{Row}
 use Rattle.scram_types.specs.Specification.{Parts}
+use Rattle.scram_types.proofs.Naturals.{below_or_at}
+use Rattle.scram_types.proofs.Options.{same_some}
 use Rattle.frame_model.specs.Readings.{reports}
 use Rattle.trace_props.specs.declared.breaks.Broken.{Broken}
 use Rattle.trace_props.specs.declared.breaks.Property.{Property}
@@ -14,7 +16,7 @@ use Rattle.trace_props.specs.declared.judging.Judgement.{Judgement}
 use Rattle.trace_props.specs.Breaks.{BreaksAt, BreaksIn, BreaksSomewhere, BreaksSp1, Fails, HoldsWhereUnbroken, IsFirstBreak, last_frame}
 use Rattle.trace_props.specs.Judging.{broken_at, broken_in, causeless_at, difference, earlier, first_break, judge, judge_all, late_at, opening_judgement, unchosen_at, unkept_at}
 use Rattle.trace_props.specs.Properties.{HoldsAll, KeepsSp2, KeepsSp3, KeepsSp4, KeepsSp5}
-use Rattle.trace_props.proofs.Differing.{agrees_all, told_least}
+use Rattle.trace_props.proofs.Differing.{agrees_all, told_least, low_or_past}
 use Rattle.trace_props.proofs.Firsts.{IsFirstOf, IsLeastOf, first_earlier, first_moved, first_one, none_at, none_left, none_right}
 use Rattle.trace_props.proofs.Ordering.{Ordered, ends_after, ordered_reports}
 use Rattle.trace_props.proofs.TargetsJudged.{Judges, least_judged, sp2_judged, sp3_judged}
@@ -93,21 +95,6 @@ record IsJudged (spec : Parts) (rows : List Row) (all : List Report) (n low : �
   before : (x : Report) → s.before ≡ Some x → (place : ℕ) × (slice_get all place ≡ Some x)
   past : (k : ℕ) (x : Report) → k < n → slice_get all k ≡ Some x → (suc x.end ≤ low) × ((s.before ≡ Some x) ⊎ (suc x.end < low))
 
-below_or_last : (k n : ℕ) → k < suc n → (k < n) ⊎ (k ≡ n)
-below_or_last k n h = grind arith
-
-less_or_past : (k n : ℕ) → (k < n) ⊎ ((m : ℕ) × (k ≡ n + m))
-less_or_past k n = elim (less_or_not k n) [
-  | inl less ↦ inl less
-  | inr past ↦ inr (k - n, omega arith)
-]
-  where
-    less_or_not : (a b : ℕ) → (a < b) ⊎ (b ≤ a)
-    less_or_not a b = grind arith
-
-some_is : (x y : Report) → Some x ≡ Some y → x ≡ y
-some_is x y h = cc
-
 module _ (spec : Parts) (rows : List Row) (told : List Report) where
   abbrev Read : List Report
   Read = reports spec rows
@@ -118,7 +105,7 @@ module _ (spec : Parts) (rows : List Row) (told : List Report) where
 
     -- the one before, if it ended in the frame before
     only : (place : ℕ) (x : Report) → slice_get Read place ≡ Some x → suc x.end ≡ r.begin → s.before ≡ Some x
-    only place x there last = elim (less_or_past place n) [
+    only place x there last = elim (low_or_past place n) [
       | inl less ↦ elim (h.past place x less there).1 [
         | inl before ↦ before
         | inr ended ↦ absurd (let start = order.0 in omega arith)
@@ -136,23 +123,23 @@ module _ (spec : Parts) (rows : List Row) (told : List Report) where
     ]
 
     narrower : (p : Property) (g : ℕ) → BreaksBelow spec rows Read (suc n) p g → BreaksBelow spec rows Read n p g ⊎ BreaksIn spec rows r p g
-    narrower p g b = elim (below_or_last b.place n b.below) [
+    narrower p g b = elim (below_or_at b.place n b.below) [
       | inl less ↦ inl (record { place = b.place; below = less; r = b.r; there = b.there; broken = b.broken })
-      | inr last ↦ inr (let same : r ≡ b.r = some_is r b.r (sym here ∙ ap (slice_get Read) (sym last) ∙ b.there) in rw same b.broken)
+      | inr last ↦ inr (let same : r ≡ b.r = same_some r b.r (sym here ∙ ap (slice_get Read) (sym last) ∙ b.there) in rw same b.broken)
     ]
 
     judged_next : IsJudged spec rows Read (suc n) (suc r.end) (judge spec rows told s (Some r))
     judged_next = record {
       first = first_moved (λ p g. BreaksBelow spec rows Read n p g ⊎ BreaksIn spec rows r p g) (BreaksBelow spec rows Read (suc n)) wider narrower (earlier s.broken (broken_in spec rows s.before r))
           (first_earlier (BreaksBelow spec rows Read n) (BreaksIn spec rows r) s.broken (broken_in spec rows s.before r) h.first (first_in spec rows s.before r just));
-      kept = λ e k x below there. elim (below_or_last k n below) [
+      kept = λ e k x below there. elim (below_or_at k n below) [
         | inl less ↦ h.kept (none_left s.broken (broken_in spec rows s.before r) e) k x less there
-        | inr last ↦ (let same : r ≡ x = some_is r x (sym here ∙ ap (slice_get Read) (sym last) ∙ there) in rw (← same) (kept_in spec rows s.before r just (none_right s.broken (broken_in spec rows s.before r) e)))
+        | inr last ↦ (let same : r ≡ x = same_some r x (sym here ∙ ap (slice_get Read) (sym last) ∙ there) in rw (← same) (kept_in spec rows s.before r just (none_right s.broken (broken_in spec rows s.before r) e)))
       ];
       before = λ x e. (n, here ∙ e);
-      past = λ k x below there. elim (below_or_last k n below) [
+      past = λ k x below there. elim (below_or_at k n below) [
         | inl less ↦ (let ended = (h.past k x less there).0 in let start = order.0 in let end = order.1 in (omega arith, inr (omega arith)))
-        | inr last ↦ (let same = some_is r x (sym here ∙ ap (slice_get Read) (sym last) ∙ there) in (rw same (omega arith), inl (ap (λ (y : Report). Some y) same)))
+        | inr last ↦ (let same = same_some r x (sym here ∙ ap (slice_get Read) (sym last) ∙ there) in (rw same (omega arith), inl (ap (λ (y : Report). Some y) same)))
       ];
     }
 
@@ -185,7 +172,7 @@ module _ (spec : Parts) (rows : List Row) (told : List Report) where
 
   -- no reconfiguration is past all that were judged
   below_all : (m : ℕ) → ((k : ℕ) → slice_get Read (m + k) ≡ None) → (place : ℕ) (x : Report) → slice_get Read place ≡ Some x → place < m
-  below_all m ended place x there = elim (less_or_past place m) [
+  below_all m ended place x there = elim (low_or_past place m) [
     | inl less ↦ less
     | inr past ↦ absurd (let no : ◌≡◌ {A = Option Report} None (Some x) = sym (ended past.0) ∙ ap (slice_get Read) (sym past.1) ∙ there in cc)
   ]

@@ -14,11 +14,11 @@ pub mod Areas
 pub mod Products
 pub mod Accepting
 pub mod Building
-pub mod Moding
-pub mod Acting
-pub mod Flying
+pub mod SameModes
+pub mod SameActs
+pub mod SameCourses
 pub mod Lists
-pub mod Reporting
+pub mod SameReports
 mod Sizes
 mod Firsts
 mod Words
@@ -27,13 +27,13 @@ mod TargetsJudged
 mod AreasJudged
 mod CausesJudged
 mod Ordering
-mod Going
+mod JudgeSteps
 mod Judged
 mod Examples
 mod Worked
-pub mod Bounding
-pub mod Keeping
+pub mod GivenBounds
+pub mod TimesKept
 pub mod Ranging
 pub mod Intervals
-pub mod Holding
+pub mod AreasHold
 pub mod Theorems

@@ -1,10 +1,12 @@
 -- Facts of each item of a list, and places in lists.
-use Rattle.std.proofs.Common.{◌≡◌, ℕ, zero, suc, ◌<◌, refl, arith, ap, sym, ◌∙◌, List, [], ◌∷◌, ◌++◌, length, ◌⊎◌}
+use Rattle.std.proofs.Common.{◌≡◌, ℕ, zero, suc, ◌<◌, refl, arith, ap, sym, ◌∙◌, List, [], ◌∷◌, ◌++◌, length}
 use mathlib.Core.Logic.{inl, inr}
 use Rattle.std.specs.Prelude.{Option, Some, None, slice_get}
 use Rattle.std.proofs.lemmas.Option.{slice_get_within}
 use Rattle.std.proofs.Math.ListN.{length-append}
 use Rattle.scram_types.specs.Specification.{Each}
+use Rattle.scram_types.proofs.Naturals.{below_or_at}
+use Rattle.scram_types.proofs.Items.{first_part, next_part}
 use Rattle.frame_model.specs.Flights.{listed_below}
 use Rattle.frame_model.specs.Readings.{as_list}
 
@@ -18,26 +20,14 @@ each_option {A} P None h k x e = let past = slice_get_within {A = A} [] k x e in
 each_option P (Some y) h zero x e = h x e
 each_option {A} P (Some y) h (suc k) x e = let past = slice_get_within {A = A} [] k x e in absurd (omega arith)
 
--- an item stays at its place where more is appended, and what is appended comes next
-pub first_part : {A : Type 0} (xs ys : List A) (k : ℕ) (x : A) → slice_get xs k ≡ Some x → slice_get (xs ++ ys) k ≡ Some x
-first_part {A} [] ys k x h = let past = slice_get_within {A = A} [] k x h in absurd (omega arith)
-first_part (y ∷ xs) ys zero x h = h
-first_part (y ∷ xs) ys (suc k) x h = first_part xs ys k x h
-
-pub next_part : {A : Type 0} (xs ys : List A) (y : A) → slice_get (xs ++ y ∷ ys) (length xs) ≡ Some y
-next_part [] ys y = refl
-next_part (x ∷ xs) ys y = next_part xs ys y
-
+-- listed values
 pub length-listed_below : {A : Type 0} (value : ℕ → A) (n : ℕ) → length (listed_below value n) ≡ n
 length-listed_below value zero = refl
 length-listed_below value (suc n) = length-append (listed_below value n) (value n ∷ []) ∙ (let before = length-listed_below value n in omega arith)
 
-below_or_last : (k n : ℕ) → k < suc n → (k < n) ⊎ (k ≡ n)
-below_or_last k n h = grind arith
-
 pub get-listed_below : {A : Type 0} (value : ℕ → A) (n k : ℕ) → k < n → slice_get (listed_below value n) k ≡ Some (value k)
 get-listed_below value zero k h = absurd (omega arith)
-get-listed_below value (suc n) k h = elim (below_or_last k n h) [
+get-listed_below value (suc n) k h = elim (below_or_at k n h) [
   | inl low ↦ first_part (listed_below value n) (value n ∷ []) k (value k) (get-listed_below value n k low)
   | inr last ↦ rw last (ap (slice_get (listed_below value n ++ value n ∷ [])) (sym (length-listed_below value n)) ∙ next_part (listed_below value n) [] (value n))
 ]

@@ -13,6 +13,8 @@ use Rattle.scram_types.specs.declared.specification.Place.{Place}
 use Rattle.scram_types.specs.Numbers.{word}
 use Rattle.scram_types.specs.Scripts.{ScriptParts}
 use Rattle.scram_types.specs.Specification.{IsSpec, Parts}
+use Rattle.scram_types.proofs.Booleans.{and_left, and_right, and_true}
+use Rattle.trace_props.proofs.SameCourses.{all_pass}
 use Rattle.dep_order.specs.Timetables.{halt_offset, halt_time, init_offset, init_time, place_of, prepare_time}
 use Rattle.app_model.specs.Areas.{AllTablesNarrow, AreaLies, Between, LawLiesAfterInit, LawLiesDuring, StartLiesAfterInit}
 use Rattle.app_model.specs.Bounds.{after_init, during}
@@ -30,11 +32,10 @@ use Rattle.trace_props.proofs.Courses.{course_mode_at}
 use Rattle.trace_props.proofs.CourseRows.{CourseOrder, CourseOrder.Run, CourseOrder.Halt, CourseOrder.Hold, CourseOrder.Prepare, CourseOrder.Init, CourseOrder.Off, CourseAct.Ran, CourseAct.Halted, CourseAct.Held, CourseAct.Prepared, CourseAct.Initialised, CourseAct.Lost, course_phase, course_running_order, course_halting_order, course_preparing_order, course_initialising_order, course_order_in, course_act_of, course_acts_at}
 use Rattle.trace_props.specs.Judging.{lies_in}
 use Rattle.trace_props.proofs.CourseAreas.{Written, Written.DidRun, Written.DidHalt, Written.DidPrepare, Written.DidInit, Written.Zeros, opening_written, AreaLaws, IsAreaFilled, AreAreasFilled}
-use Rattle.trace_props.proofs.Tests.{and_left, and_right}
 use Rattle.trace_props.proofs.Builds.{all_at}
 use Rattle.trace_props.proofs.Products.{build_of, course_of, course_phase_of, plan_of}
-use Rattle.trace_props.proofs.Moding.{same_mode}
-use Rattle.trace_props.proofs.Acting.{committed, phase_same}
+use Rattle.trace_props.proofs.SameModes.{same_mode}
+use Rattle.trace_props.proofs.SameActs.{committed, phase_same}
 
 -- tests on whole numbers
 truth : (b : Bool) → T b → b ≡ true
@@ -47,15 +48,12 @@ int_is a b h = truth (int_le a b) h.le
 int_of : (a b : ℤ) → int_le a b ≡ true → a ≤ℤ b
 int_of a b e = le_z_yes (subst T (sym e) tt)
 
-both : (a b : Bool) → a ≡ true → b ≡ true → (a && b) ≡ true
-both a b p q = rw (p, q) refl
-
 pub int_trans : (a b c : ℤ) → a ≤ℤ b → b ≤ℤ c → a ≤ℤ c
 int_trans a b c h k = omega (arith, ints)
 
 -- x lies in an interval
 pub lies_is : (low high x : ℤ) → Between (low, high) x → lies_in low high x ≡ true
-lies_is low high x h = both (int_le low x) (int_le x high) (int_is low x h.least) (int_is x high h.greatest)
+lies_is low high x h = and_true (int_le low x) (int_le x high) (int_is low x h.least) (int_is x high h.greatest)
 
 pub lies_of : (low high x : ℤ) → lies_in low high x ≡ true → Between (low, high) x
 lies_of low high x h = record { least = int_of low x (and_left (int_le low x) _ h); greatest = int_of x high (and_right (int_le low x) _ h) }
@@ -70,13 +68,6 @@ lies_held low high least most x h between =
 -- each word of an area lies in its range
 abbrev pub area_test : (ℕ → ℤ × ℤ) → List ℤ → Bool
 area_test range area = all_below (λ i. lies_in (range i).0 (range i).1 (word area i)) 8
-
-all_pass : (test : ℕ → Bool) (n : ℕ) → ((a : ℕ) → a < n → test a ≡ true) → all_below test n ≡ true
-all_pass test zero h = refl
-all_pass test (suc n) h =
-    let before = all_pass test n (λ a below. h a (omega arith)) in
-    let here = h n (omega arith) in
-    rw (here, before) refl
 
 pub area_is : (range : ℕ → ℤ × ℤ) (area : List ℤ) → AreaLies range area → area_test range area ≡ true
 area_is range area h = all_pass (λ i. lies_in (range i).0 (range i).1 (word area i)) 8 (λ i below. lies_is (range i).0 (range i).1 (word area i) (h i below))

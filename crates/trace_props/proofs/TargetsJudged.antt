@@ -6,14 +6,17 @@ use Rattle.scram_types.specs.declared.flights.Env.{Env}
 use Rattle.scram_types.specs.declared.flights.Report.{Report}
 use Rattle.scram_types.specs.declared.flights.Row.{Row}
 use Rattle.scram_types.specs.Specification.{Parts}
+use Rattle.scram_types.proofs.Booleans.{true_false}
+use Rattle.scram_types.proofs.Naturals.{above, at_most, equal_test}
+use Rattle.scram_types.proofs.Options.{same_some, some_none}
 use Rattle.choice_table.specs.Choices.{choose}
 use Rattle.frame_model.specs.Runs.{least_from}
 use Rattle.trace_props.specs.Breaks.{Fails, last_frame}
 use Rattle.trace_props.specs.Judging.{chooses, chooses_in, late_at, late_by, unchosen_at, unchosen_to, unless_chosen}
 use Rattle.trace_props.specs.Properties.{KeepsSp2, KeepsSp3, bound_on, env_in}
 use Rattle.trace_props.proofs.Firsts.{InSpan, IsLeastOf, least_span}
-use Rattle.trace_props.proofs.Tests.{by_test, le_false, le_true, true_false}
-use Rattle.trace_props.proofs.Differing.{eq_self, same_id}
+use Rattle.trace_props.proofs.Tests.{by_test}
+use Rattle.trace_props.proofs.Differing.{same_id}
 
 -- a property of one reconfiguration, broken in one frame or kept
 abbrev pub Judges : Type 0 → ℕ → Option ℕ → Type 0
@@ -23,12 +26,6 @@ Judges Keeps frame (Some f) = Fails Keeps × (f ≡ frame)
 pub least_judged : (Keeps : Type 0) (frame : ℕ) (o : Option ℕ) → Judges Keeps frame o → IsLeastOf (λ f. Fails Keeps × (f ≡ frame)) o
 least_judged Keeps frame None h = λ g b. b.0 h
 least_judged Keeps frame (Some f) h = (h, λ g b. (let e = h.1 in let k = b.1 in omega arith))
-
-pub some_is : {A : Type 0} (x y : A) → Some x ≡ Some y → x ≡ y
-some_is x y h = cc
-
-pub none_some : {A : Type 0} (x : A) → None ≡ Some x → ⊥
-none_some x h = cc
 
 -- the frames of a reconfiguration
 pub in_span : (test : ℕ → Bool) (r : Report) (f : ℕ) → r.begin ≤ f → f ≤ r.end → test f ≡ true → InSpan test r.begin (r.end + 1 - r.begin) f
@@ -44,11 +41,11 @@ module _ (spec : Parts) (rows : List Row) (from to : ConfId) where
   choice_of f (Some row) e h = (row, e, same_id (choose spec from row.env) to h)
 
   choice_is : (f : ℕ) (v : Env) (o : Option Row) → slice_get rows f ≡ o → env_in rows f ≡ Some v → choose spec from v ≡ to → chooses_in spec from to o ≡ true
-  choice_is f v None e h k = absurd (none_some v (ap (option_map (λ (row : Row). row.env)) (sym e) ∙ h))
+  choice_is f v None e h k = absurd (some_none v (sym (ap (option_map (λ (row : Row). row.env)) (sym e) ∙ h)))
   choice_is f v (Some row) e h k =
-      let seen : row.env ≡ v = some_is row.env v (ap (option_map (λ (row : Row). row.env)) (sym e) ∙ h) in
+      let seen : row.env ≡ v = same_some row.env v (ap (option_map (λ (row : Row). row.env)) (sym e) ∙ h) in
       let chosen : choose spec from row.env ≡ to = rw seen k in
-      ap (λ (t : ConfId). t.0 == to.0) chosen ∙ eq_self to.0
+      ap (λ (t : ConfId). t.0 == to.0) chosen ∙ equal_test to.0 to.0 refl
 
 module _ (spec : Parts) (rows : List Row) (r : Report) where
   chosen_judged : (to : ConfId) → r.to ≡ Some to → (o : Option ℕ) → IsLeastOf (InSpan (chooses spec rows r.from to) r.begin (r.end + 1 - r.begin)) o
@@ -59,7 +56,7 @@ module _ (spec : Parts) (rows : List Row) (r : Report) where
     refl,
   )
   chosen_judged to aim (Some f) h = λ j e.
-      let same : to ≡ j = some_is to j (sym aim ∙ e) in
+      let same : to ≡ j = same_some to j (sym aim ∙ e) in
       let found = choice_of spec rows r.from to f (slice_get rows f) refl h.0.passes in
       record {
         frame = f;
@@ -71,7 +68,7 @@ module _ (spec : Parts) (rows : List Row) (r : Report) where
       }
 
   unchosen_judged : (o : Option ConfId) → r.to ≡ o → Judges (KeepsSp2 spec rows r) r.end (unchosen_to spec rows r o)
-  unchosen_judged None e = λ j aim. absurd (none_some j (sym e ∙ aim))
+  unchosen_judged None e = λ j aim. absurd (some_none j (sym (sym e ∙ aim)))
   unchosen_judged (Some to) e = chosen_judged to e (least_from (chooses spec rows r.from to) r.begin (r.end + 1 - r.begin)) (least_span (chooses spec rows r.from to) r.begin (r.end + 1 - r.begin))
 
   pub sp2_judged : Judges (KeepsSp2 spec rows r) r.end (unchosen_at spec rows r)
@@ -79,12 +76,12 @@ module _ (spec : Parts) (rows : List Row) (r : Report) where
 
 -- SP3
 late_judged : (spec : Parts) (r : Report) (o : Option ℕ) → bound_on spec r.from r.to ≡ o → Judges (KeepsSp3 spec r) (last_frame r) (late_by r o)
-late_judged spec r None e = ((λ keeps. none_some keeps.bound (sym e ∙ keeps.given)), refl)
+late_judged spec r None e = ((λ keeps. some_none keeps.bound (sym (sym e ∙ keeps.given))), refl)
 late_judged spec r (Some bound) e = by_test {A = Option ℕ} (Judges (KeepsSp3 spec r) (last_frame r)) (nat_le (r.end - r.begin) bound) None (Some (last_frame r))
-    (λ h. (let few = le_true (r.end - r.begin) bound h in record { bound = bound; given = e; in_time = omega arith }))
+    (λ h. (let few = at_most (r.end - r.begin) bound h in record { bound = bound; given = e; in_time = omega arith }))
     (λ h. (
-      (λ keeps. (let same : bound ≡ keeps.bound = some_is bound keeps.bound (sym e ∙ keeps.given) in
-          let many = le_false (r.end - r.begin) bound h in let few = keeps.in_time in absurd (omega arith))),
+      (λ keeps. (let same : bound ≡ keeps.bound = same_some bound keeps.bound (sym e ∙ keeps.given) in
+          let many = above (r.end - r.begin) bound h in let few = keeps.in_time in absurd (omega arith))),
       refl,
     ))
 

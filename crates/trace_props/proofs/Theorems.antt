@@ -12,7 +12,7 @@ use Rattle.frame_model.specs.Flights.{decided, reports_of, rows_of}
 use Rattle.frame_model.specs.Runs.{conf_of}
 use Rattle.trace_props.proofs.Plans.{IsAcceptedPlan}
 use Rattle.trace_props.proofs.Courses.{IsCourseFlown, IsCourseWithin, CourseReading, CourseReading.Steady, CourseReading.Leaving, course_reading_before}
-use Rattle.trace_props.proofs.Promises as assurances
+use Rattle.trace_props.proofs.Promises as promises
 use Rattle.trace_props.proofs.CourseRows.{IsBuilt, IsRun}
 use Rattle.trace_props.specs.Known.{IsKnown}
 use Rattle.trace_props.specs.Properties.{HoldsAll}
@@ -22,15 +22,15 @@ use Rattle.trace_props.proofs.Assurances as law
 use Rattle.trace_props.proofs.Builds.{flown, reconfigures_built}
 use Rattle.trace_props.proofs.Areas.{keeps_areas}
 use Rattle.trace_props.proofs.Accepting.{accepted_of, further_same}
-use Rattle.trace_props.proofs.Acting.{committed}
+use Rattle.trace_props.proofs.SameActs.{committed}
 use Rattle.trace_props.proofs.Building.{built_of}
-use Rattle.trace_props.proofs.Flying.{counts_same, run_of, within_of}
-use Rattle.trace_props.proofs.Holding.{each_holds}
-use Rattle.trace_props.proofs.Keeping.{each_keeps}
-use Rattle.trace_props.proofs.Moding.{frames_same, same_mode}
+use Rattle.trace_props.proofs.SameCourses.{counts_same, run_of, within_of}
+use Rattle.trace_props.proofs.AreasHold.{each_holds}
+use Rattle.trace_props.proofs.TimesKept.{each_keeps}
+use Rattle.trace_props.proofs.SameModes.{frames_same, same_mode}
 use Rattle.trace_props.proofs.Products.{build_of, course_of, course_mode_of, halting_number, plan_of, settles_under}
 use Rattle.trace_props.proofs.Ranging.{KindsLie, area, filled_of, laws_of}
-use Rattle.trace_props.proofs.Reporting.{reading_same, told_reading}
+use Rattle.trace_props.proofs.SameReports.{reading_same, told_reading}
 
 retargets : (policy : Policy) → policy ≡ Retarget → settles_under policy ≡ false
 retargets policy h = rw h refl
@@ -38,11 +38,11 @@ retargets policy h = rw h refl
 moved : {a b m n d e : ℕ} (h q : ℕ) → a ≡ b → m ≡ n → d ≡ e → a ≤ m + h + d * q → b ≤ n + h + e * q
 moved h k p q r t = rw (← p, ← q, ← r) t
 
-begin_same : (rd : CourseReading) (f : ℕ) → begin_in (told_reading rd) f ≡ assurances.course_begin_of rd f
+begin_same : (rd : CourseReading) (f : ℕ) → begin_in (told_reading rd) f ≡ promises.course_begin_of rd f
 begin_same (Steady c) f = refl
 begin_same (Leaving c s) f = refl
 
-first_same : (m : KMode) (s : ℕ) → first_moving_in m s ≡ assurances.course_first_moving_in (course_mode_of m) s
+first_same : (m : KMode) (s : ℕ) → first_moving_in m s ≡ promises.course_first_moving_in (course_mode_of m) s
 first_same (kmode.Stable c) s = refl
 first_same (kmode.Moving from halting to since) s = refl
 
@@ -62,7 +62,7 @@ module _ (known : IsKnown) (spec : Parts) (script : ScriptParts) (sound : IsSpec
   kinds : KindsLie
   kinds = record { during = known.during; initialised = known.initialised; starts = known.starts; narrow = known.narrow }
 
-  assured : assurances.IsCourseAllAssured (plan_of spec) (course_of spec script)
+  assured : promises.IsCourseAllAssured (plan_of spec) (course_of spec script)
   assured = reconfigures_built (plan_of spec) (build_of spec) (course_of spec script) (committed spec script) accepted built within run
 
   pub holds_all : HoldsAll spec (rows_of spec script) (reports_of spec script)
@@ -79,19 +79,19 @@ module _ (known : IsKnown) (spec : Parts) (script : ScriptParts) (sound : IsSpec
   is_flown : IsCourseFlown (plan_of spec) (course_of spec script)
   is_flown = flown (plan_of spec) (course_of spec script) accepted (build_of spec) (committed spec script) built run
 
-  begin_is : (f : ℕ) → begin_at spec script f ≡ assurances.course_begin_of (course_reading_before (plan_of spec) (course_of spec script) f) f
+  begin_is : (f : ℕ) → begin_at spec script f ≡ promises.course_begin_of (course_reading_before (plan_of spec) (course_of spec script) f) f
   begin_is f = ap (λ rd. begin_in rd f) (reading_same spec script known.by_row f) ∙ begin_same (course_reading_before (plan_of spec) (course_of spec script) f) f
 
-  first_is : (f : ℕ) → first_moving spec script f ≡ assurances.course_first_moving (plan_of spec) (course_of spec script) (begin_at spec script f)
+  first_is : (f : ℕ) → first_moving spec script f ≡ promises.course_first_moving (plan_of spec) (course_of spec script) (begin_at spec script f)
   first_is f =
       first_same (decided spec script (begin_at spec script f)) (begin_at spec script f)
-      ∙ ap (λ m. assurances.course_first_moving_in m (begin_at spec script f)) (same_mode spec script (begin_at spec script f))
+      ∙ ap (λ m. promises.course_first_moving_in m (begin_at spec script f)) (same_mode spec script (begin_at spec script f))
 
-  since_is : (f : ℕ) → assurances.course_further_changes (plan_of spec) (course_of spec script) (begin_at spec script f) f ≡ changes_since spec script f
+  since_is : (f : ℕ) → promises.course_further_changes (plan_of spec) (course_of spec script) (begin_at spec script f) f ≡ changes_since spec script f
   since_is f = rw (counts_same spec script f, ← first_is f, counts_same spec script (first_moving spec script f)) refl
 
   central : (f : ℕ) (from : ConfId) (halting : Option ConfId) (to : ConfId) (since : ℕ) → f ≤ script.frames → decided spec script f ≡ kmode.Moving from halting to since
-      → assurances.CentralFacts (plan_of spec) (course_of spec script) (begin_at spec script f) f from.0 (halting_number halting) to.0 since
+      → promises.CentralFacts (plan_of spec) (course_of spec script) (begin_at spec script f) f from.0 (halting_number halting) to.0 since
   central f from halting to since inside moving =
       rw (begin_is f) (law.central_facts (plan_of spec) (course_of spec script) accepted within is_flown f from.0 (halting_number halting) to.0 since inside
       (sym (same_mode spec script f) ∙ ap course_mode_of moving))

@@ -1,8 +1,8 @@
 use Rattle.std.proofs.Common.{◌≡◌, ◌∙◌, refl, sym, true}
 use Rattle.std.specs.Prelude.{Some}
+use Rattle.scram_types.proofs.Booleans.{true_false}
 use Rattle.trace_props.specs.Judging.{first_break}
 use Rattle.trace_props.proofs.Judged.{first_broken, holds_if, unbroken_of}
-use Rattle.trace_props.proofs.Tests.{true_false}
 use Rattle.trace_props.proofs.judging.props.Goals as goal
 
 pub returns-in-Some-clause-holds : goal.returns-in-Some-clause-holds

@@ -22,7 +22,7 @@ use Rattle.frame_model.specs.States.{act_after, act_of_order, for_eight}
 use Rattle.frame_model.specs.Tasks as tasks
 use Rattle.trace_props.proofs.CourseRows.{CoursePhase, CourseOrder, CourseAct, CourseAct.Ran, CourseAct.Halted, CourseAct.Held, CourseAct.Prepared, CourseAct.Initialised, CourseAct.WasOff, CourseAct.Lost, course_after_halting, course_phase, course_running_order, course_halting_order, course_preparing_order, course_initialising_order, course_order_in, course_act_of, course_fits_place, course_runs, course_acts_at}
 use Rattle.trace_props.proofs.Products.{build_of, course_of, course_mode_of, course_phase_of, plan_of, runs_in_row}
-use Rattle.trace_props.proofs.Moding.{same_mode}
+use Rattle.trace_props.proofs.SameModes.{same_mode}
 
 -- what a row shows of an act
 abbrev pub shown : CourseAct → told_acts.Act

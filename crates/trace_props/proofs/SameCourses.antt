@@ -1,14 +1,16 @@
 -- The rows of a script are those of a run of the law, and a script within its assumption is within the law's.
 use Rattle.std.proofs.Common.{◌≡◌, ℕ, zero, suc, ◌+◌, ◌-◌, ◌<◌, ◌≤◌, Bool, true, false, not, refl, arith, ◌⊎◌, ap, ◌∙◌, List, [], ◌∷◌, length}
 use mathlib.Core.Logic.{inl, inr}
-use Rattle.std.specs.Prelude.{Option, Some, None, slice_get, nat_lt, nat_le, ◌&&◌, ◌==◌, ◌^◌, if◌then◌else◌}
+use Rattle.std.specs.Prelude.{Some, None, slice_get, nat_le, ◌&&◌, ◌==◌, ◌^◌, if◌then◌else◌}
 use Rattle.std.specs.Int.{bit_at}
-use Rattle.std.proofs.lemmas.Bool.Decides.{nat_tests}
 use Rattle.scram_types.specs.declared.flights.Env.{Env}
 use Rattle.scram_types.specs.declared.scripts.Change.{Change}
 use Rattle.scram_types.specs.declared.specification.Factor.{Factor}
 use Rattle.scram_types.specs.Scripts.{ScriptParts}
 use Rattle.scram_types.specs.Specification.{IsSpec, Parts}
+use Rattle.scram_types.proofs.Booleans.{and_right, and_true}
+use Rattle.scram_types.proofs.Naturals.{at_most, below_test, at_most_test, low_or_high}
+use Rattle.scram_types.proofs.Options.{none_or_some}
 use Rattle.choice_table.specs.Environments.{count_below, factor_in, in_scope, is_up_in}
 use Rattle.fault_script.specs.Assumption as assumption
 use Rattle.fault_script.specs.Environments.{bits_below, env_at}
@@ -21,18 +23,9 @@ use Rattle.coverage_check.specs.Choosing.{opening_env}
 use Rattle.trace_props.proofs.Courses as courses
 use Rattle.trace_props.proofs.Courses.{IsCourseWithin}
 use Rattle.trace_props.proofs.CourseRows.{IsRun}
-use Rattle.trace_props.proofs.Tests.{by_test, and_right, le_true}
+use Rattle.trace_props.proofs.Tests.{by_test}
 use Rattle.trace_props.proofs.Products.{build_of, course_of, has_value, is_env, plan_of}
-use Rattle.trace_props.proofs.Acting.{committed, runs_same}
-
-lt_is : (a b : ℕ) → a < b → nat_lt a b ≡ true
-lt_is a b h = grind (arith, nat_tests)
-
-le_is : (a b : ℕ) → a ≤ b → nat_le a b ≡ true
-le_is a b h = grind (arith, nat_tests)
-
-low_or_high : (a b : ℕ) → (a < b) ⊎ (b ≤ a)
-low_or_high a b = grind arith
+use Rattle.trace_props.proofs.SameActs.{committed, runs_same}
 
 -- every course opens with all processors up and each factor at its first value
 all_bits : (n : ℕ) → suc (bits_below (λ p. true) n) ≡ 2 ^ n
@@ -43,7 +36,7 @@ first_value : (x : ℕ) (changes : List Change) (value : ℕ) → ((k : ℕ) (ch
 first_value x [] value later = refl
 first_value x (change ∷ changes) value later =
     by_test (λ v. value_after changes x 0 v ≡ value) (change.factor.0 == x && nat_le change.frame 0) _ _
-    (λ e. let early = le_true change.frame 0 (and_right (change.factor.0 == x) _ e) in let least = later 0 change refl in absurd (omega arith))
+    (λ e. let early = at_most change.frame 0 (and_right (change.factor.0 == x) _ e) in let least = later 0 change refl in absurd (omega arith))
     (λ e. first_value x changes value (λ k other there. later (suc k) other there))
 
 opens : (spec : Parts) (script : ScriptParts) → Fits spec script → env_at spec script 0 ≡ opening_env spec
@@ -59,7 +52,7 @@ opens spec script fits = made _ _ _ _ (let all = all_bits (length spec.procs) in
     sixth p q r s t u = rw (p, q, r, s, t, u) refl
 
 -- every environment of a script belongs to the specification
-all_pass : (test : ℕ → Bool) (n : ℕ) → ((a : ℕ) → a < n → test a ≡ true) → all_below test n ≡ true
+pub all_pass : (test : ℕ → Bool) (n : ℕ) → ((a : ℕ) → a < n → test a ≡ true) → all_below test n ≡ true
 all_pass test zero h = refl
 all_pass test (suc n) h =
     let before = all_pass test n (λ a below. h a (omega arith)) in
@@ -75,10 +68,6 @@ six_at spec script f (suc (suc (suc (suc zero)))) h = refl
 six_at spec script f (suc (suc (suc (suc (suc zero))))) h = refl
 six_at spec script f (suc (suc (suc (suc (suc (suc x)))))) h = absurd (omega arith)
 
-none_or_some : (o : Option Factor) → (o ≡ None) ⊎ ((factor : Factor) × (o ≡ Some factor))
-none_or_some None = inl refl
-none_or_some (Some factor) = inr (factor, refl)
-
 past_factors : (xs : List Factor) (x : ℕ) → slice_get xs x ≡ None → length xs ≤ x
 past_factors [] x h = omega arith
 past_factors (y ∷ ys) zero h = cc
@@ -86,7 +75,7 @@ past_factors (y ∷ ys) (suc x) h = let before = past_factors ys x h in omega ar
 
 belongs : (spec : Parts) (script : ScriptParts) (f : ℕ) → Shows spec script f → is_env spec (env_at spec script f) ≡ true
 belongs spec script f shows =
-    let low = lt_is (env_at spec script f).up (2 ^ length spec.procs) shows.past in
+    let low = below_test (env_at spec script f).up (2 ^ length spec.procs) shows.past in
     let each = all_pass (has_value spec (env_at spec script f)) 6 (λ x below. has x below (none_or_some (slice_get spec.factors x))) in
     rw (low, each) refl
   where
@@ -96,7 +85,7 @@ belongs spec script f shows =
         rw (none, zero_there) refl
     has x below (inr some) =
         let there = six_at spec script f x below in
-        rw (some.1, there) (lt_is (factor_at script x f) (length some.0.values) (shows.values x some.0 some.1))
+        rw (some.1, there) (below_test (factor_at script x f) (length some.0.values) (shows.values x some.0 some.1))
 
 -- who is down in an environment is who is not up
 bit_up : (v : Env) (p : ℕ) → bit_at v.up p ≡ 1 → is_up_in v p ≡ true
@@ -128,10 +117,7 @@ counted_down spec script f shows (suc n) few =
     rw (here, ← before) (ap (λ k. assumption.down_below script f n + k) (one_down (is_up script n f)))
 
 scope : (spec : Parts) (script : ScriptParts) (f : ℕ) → Shows spec script f → assumption.down_below script f (length spec.procs) ≤ spec.halts → in_scope spec (env_at spec script f) ≡ true
-scope spec script f shows few = le_is _ spec.halts (rw (counted_down spec script f shows (length spec.procs) (omega arith)) at few)
-
-both : (a b : Bool) → a ≡ true → b ≡ true → (a && b) ≡ true
-both a b p q = rw (p, q) refl
+scope spec script f shows few = at_most_test _ spec.halts (rw (counted_down spec script f shows (length spec.procs) (omega arith)) at few)
 
 pub counts_same : (spec : Parts) (script : ScriptParts) (f : ℕ) → courses.course_changes_upto (plan_of spec) (env_at spec script) f ≡ assumption.changes_upto spec script f
 counts_same spec script zero = refl
@@ -140,7 +126,7 @@ counts_same spec script (suc f) = ap (λ n. n + (if assumption.is_change_frame s
 pub within_of : (spec : Parts) (script : ScriptParts) → IsSpec spec → Fits spec script → EnvironmentsShow → assumption.IsWithin spec script → IsCourseWithin (plan_of spec) (course_of spec script)
 within_of spec script sound fits show within = record {
   opens = opens spec script fits;
-  scope = λ f inside. both _ _ (belongs spec script f (show spec script sound fits f)) (scope spec script f (show spec script sound fits f) (within.scope f inside));
+  scope = λ f inside. and_true _ _ (belongs spec script f (show spec script sound fits f)) (scope spec script f (show spec script sound fits f) (within.scope f inside));
   few = λ f inside. rw (counts_same spec script f, counts_same spec script (f - spec.window)) (within.few f inside);
 }
 

@@ -1,9 +1,8 @@
 -- Each reconfiguration that the rows of a script show keeps the second, the third and the fifth property.
-use Rattle.std.proofs.Common.{◌≡◌, ℕ, zero, suc, ◌<◌, Bool, true, false, not, refl, arith, ap, sym, ◌∙◌, length}
+use Rattle.std.proofs.Common.{◌≡◌, ℕ, zero, suc, ◌<◌, true, false, not, refl, arith, ap, sym, ◌∙◌, length}
 use mathlib.Core.Logic.{inl, inr}
-use Rattle.std.specs.Prelude.{Some, None, slice_get, option_map, ◌&&◌, ◌==◌}
+use Rattle.std.specs.Prelude.{Some, None, slice_get, option_map, ◌==◌}
 use Rattle.std.specs.Str.{bytes_eq}
-use Rattle.std.proofs.lemmas.Bool.Decides.{nat_tests}
 use Rattle.std.proofs.lemmas.Slice.Eq.{bytes_eq-Decides}
 use Rattle.scram_types.specs.declared.ids.ConfId.{ConfId}
 use Rattle.scram_types.specs.declared.flights.Env.{Env}
@@ -13,6 +12,10 @@ use Rattle.scram_types.specs.declared.specification.Policy.{Policy}
 use Rattle.scram_types.specs.declared.specification.Policy.TheVariants.{Retarget, Settle}
 use Rattle.scram_types.specs.Scripts.{ScriptParts}
 use Rattle.scram_types.specs.Specification.{Parts}
+use Rattle.scram_types.proofs.Booleans.{true_false, and_true}
+use Rattle.scram_types.proofs.Naturals.{equal_test}
+use Rattle.scram_types.proofs.Options.{same_some}
+use Rattle.scram_types.proofs.Items.{first_part}
 use Rattle.choice_table.specs.Choices.{choose}
 use Rattle.fault_script.specs.Assumption.{is_same_env}
 use Rattle.fault_script.specs.Environments.{env_at}
@@ -21,15 +24,14 @@ use Rattle.frame_model.specs.Laws.{ReadsRowByRow}
 use Rattle.frame_model.specs.Readings as readings
 use Rattle.frame_model.specs.Runs.{conf_of}
 use Rattle.trace_props.proofs.Courses.{CourseReading, CourseReading.Steady, CourseReading.Leaving, CourseReport, course_changes_at, course_reading_before, course_report_at}
-use Rattle.trace_props.proofs.Promises as assurances
+use Rattle.trace_props.proofs.Promises as promises
 use Rattle.trace_props.proofs.Promises.{IsCourseAllAssured, CourseHasCause, IsCourseCutOff}
 use Rattle.trace_props.specs.Properties.{ChangesIn, FollowsAnother, KeepsSp2, KeepsSp3, KeepsSp5, env_in}
-use Rattle.trace_props.proofs.Tests.{true_false}
 use Rattle.trace_props.proofs.Areas.{reported_of}
-use Rattle.trace_props.proofs.Bounding.{given_most}
-use Rattle.trace_props.proofs.Lists.{each_append, each_option, first_part, get-listed_below, length-listed_below}
+use Rattle.trace_props.proofs.GivenBounds.{given_most}
+use Rattle.trace_props.proofs.Lists.{each_append, each_option, get-listed_below, length-listed_below}
 use Rattle.trace_props.proofs.Products.{course_of, plan_of, settles_under}
-use Rattle.trace_props.proofs.Reporting.{IsEnded, ended_each, ended_place, reading_same, told_reading, told_report}
+use Rattle.trace_props.proofs.SameReports.{IsEnded, ended_each, ended_place, reading_same, told_reading, told_report}
 
 conf_same : (c : ConfId) (n : ℕ) → c.0 ≡ n → c ≡ conf_of n
 conf_same c n e = ap conf_of e
@@ -39,19 +41,10 @@ policy_settles Retarget h = absurd (true_false false h refl)
 policy_settles Settle h = refl
 
 same_self : (v : Env) → is_same_env v v ≡ true
-same_self v = both (v.up == v.up) (bytes_eq v.factors v.factors) (eq_self v.up) ((bytes_eq-Decides v.factors v.factors).1 refl)
-  where
-    eq_self : (n : ℕ) → (n == n) ≡ true
-    eq_self n = grind (arith, nat_tests)
-
-    both : (a b : Bool) → a ≡ true → b ≡ true → (a && b) ≡ true
-    both a b p q = rw (p, q) refl
+same_self v = and_true (v.up == v.up) (bytes_eq v.factors v.factors) (equal_test v.up v.up refl) ((bytes_eq-Decides v.factors v.factors).1 refl)
 
 pub not_same : (v w : Env) → not (is_same_env v w) ≡ true → v ≡ w → ⊥
 not_same v w h e = true_false (not (is_same_env v w)) h (rw (e, same_self w) refl)
-
-some_same : (v w : Env) → Some v ≡ Some w → v ≡ w
-some_same v w h = cc
 
 module _ (spec : Parts) (script : ScriptParts) where
   row_there : (f : ℕ) → f < script.frames → slice_get (rows_of spec script) f ≡ Some (row_at spec script f)
@@ -68,11 +61,11 @@ module _ (spec : Parts) (script : ScriptParts) where
   change_there (suc f) inside h = record {
     inside = rw row_count inside;
     differ = λ same. not_same (env_at spec script f) (env_at spec script (suc f)) h
-        (some_same (env_at spec script f) (env_at spec script (suc f)) (sym (env_there f (omega arith)) ∙ sym same ∙ env_there (suc f) inside));
+        (same_some (env_at spec script f) (env_at spec script (suc f)) (sym (env_there f (omega arith)) ∙ sym same ∙ env_there (suc f) inside));
   }
 
   module _ (by_row : ReadsRowByRow) where
-    follows_there : (r : told_reports.Report) → r.begin < script.frames → assurances.CourseFollows (plan_of spec) (course_of spec script) r.begin → FollowsAnother spec (rows_of spec script) r
+    follows_there : (r : told_reports.Report) → r.begin < script.frames → promises.CourseFollows (plan_of spec) (course_of spec script) r.begin → FollowsAnother spec (rows_of spec script) r
     follows_there r inside h =
         let last = h.last in
         let up_to = h.up_to in

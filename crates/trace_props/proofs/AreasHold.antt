@@ -21,7 +21,7 @@ use Rattle.trace_props.proofs.Intervals.{kept_of, ready_of, invariant_of, precon
 use Rattle.trace_props.proofs.Products.{build_of, course_of, plan_of}
 use Rattle.trace_props.specs.Judging.{lies_in}
 use Rattle.trace_props.proofs.Ranging.{KindsLie, area, laws_of, lies_of}
-use Rattle.trace_props.proofs.Reporting.{IsEnded, ended_each, reading_same, told_reading, told_report}
+use Rattle.trace_props.proofs.SameReports.{IsEnded, ended_each, reading_same, told_reading, told_report}
 
 module _ (spec : Parts) (sound : IsSpec spec) (accepts : Accepts spec) (kinds : KindsLie) (script : ScriptParts) (by_row : ReadsRowByRow)
     (areas : AreasKept (plan_of spec) (build_of spec) (course_of spec script) (laws_of spec) (area spec sound kinds script)) where

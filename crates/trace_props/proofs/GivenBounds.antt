@@ -3,7 +3,9 @@ use Rattle.std.proofs.Common.{◌≡◌, ℕ, ◌≤◌, true, refl, arith, List
 use Rattle.std.specs.Prelude.{Option, Some, None, nat_lt, ◌&&◌, ◌==◌, if◌then◌else◌}
 use Rattle.scram_types.specs.declared.specification.Bound.{Bound}
 use Rattle.scram_types.specs.Specification.{bound_in, greater_of, greatest_bound_from, greatest_bound_in}
-use Rattle.trace_props.proofs.Tests.{by_test, lt_true, lt_false, and_left}
+use Rattle.scram_types.proofs.Booleans.{and_left}
+use Rattle.scram_types.proofs.Naturals.{below, not_below}
+use Rattle.trace_props.proofs.Tests.{by_test}
 
 -- some bound is the greatest, and at least t
 pub record IsAtLeast (greatest : Option ℕ) (t : ℕ) : Type 0 where
@@ -12,11 +14,11 @@ pub record IsAtLeast (greatest : Option ℕ) (t : ℕ) : Type 0 where
   pub enough : t ≤ bound
 
 greater_old : (most frames : ℕ) → most ≤ greater_of (Some most) frames
-greater_old most frames = by_test (λ n. most ≤ n) (nat_lt most frames) _ _ (λ e. let less = lt_true most frames e in omega arith) (λ e. omega arith)
+greater_old most frames = by_test (λ n. most ≤ n) (nat_lt most frames) _ _ (λ e. let less = below most frames e in omega arith) (λ e. omega arith)
 
 greater_new : (greatest : Option ℕ) (frames : ℕ) → frames ≤ greater_of greatest frames
 greater_new None frames = omega arith
-greater_new (Some most) frames = by_test (λ n. frames ≤ n) (nat_lt most frames) _ _ (λ e. omega arith) (λ e. lt_false most frames e)
+greater_new (Some most) frames = by_test (λ n. frames ≤ n) (nat_lt most frames) _ _ (λ e. omega arith) (λ e. not_below most frames e)
 
 -- what is greatest so far stays at most the greatest
 at_least : (most t i : ℕ) (bounds : List Bound) → t ≤ most → IsAtLeast (greatest_bound_from (Some most) bounds i) t

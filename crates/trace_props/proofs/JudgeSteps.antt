@@ -6,6 +6,7 @@ use Rattle.std.proofs.lemmas.List.{drop_all}
 use Rattle.scram_types.specs.declared.flights.Report.{Report}
 use Rattle.scram_types.specs.declared.flights.Row.{Row}
 use Rattle.scram_types.specs.Specification.{Parts}
+use Rattle.scram_types.proofs.Naturals.{plus_one}
 use Rattle.frame_model.specs.declared.readings.Reading.{Reading}
 use Rattle.frame_model.specs.Readings.{as_list, close, ended_in, read_row, reading_after, report_of}
 use Rattle.trace_props.specs.declared.judging.Judgement.{Judgement}
@@ -26,9 +27,6 @@ module _ (spec : Parts) (rows : List Row) (told : List Report) (s : Judgement) w
   judge_end None = refl
   judge_end (Some r) = refl
 
-plus_one : (n : ℕ) → n + 1 ≡ suc n
-plus_one n = omega arith
-
 module _ (spec : Parts) (rows : List Row) (told : List Report) where
   same_judged : (s t : Judgement) (rd next : Reading) (f g : ℕ) (xs ys : List Row) (m n : ℕ) → s ≡ t → rd ≡ next → f ≡ g → xs ≡ ys → m ≡ n
       → judge_all spec rows told s (still_read spec rd f xs m) ≡ judge_all spec rows told t (still_read spec next g ys n)
@@ -40,7 +38,7 @@ module _ (spec : Parts) (rows : List Row) (told : List Report) where
       → judge_all spec rows told t (still_read spec next (f + 1) (drop (i + 1) rows) (length rows)) ≡ judge_all spec rows told s (still_read spec rd f (drop i rows) (length rows))
   judge_more s t rd next f i d read inside next_is read_is t_is =
       same_judged t (judge spec rows told s (report_of spec rd f (get_or rows i d).acts)) next (read_row spec rd f (get_or rows i d).acts) (f + 1) (suc f) (drop (i + 1) rows) (drop (suc i) rows)
-      (length rows) (length rows) (t_is ∙ ap (judge spec rows told s) read_is) next_is (plus_one f) (ap (λ (k : ℕ). drop k rows) (plus_one i)) refl
+      (length rows) (length rows) (t_is ∙ ap (judge spec rows told s) read_is) next_is (sym (plus_one f)) (ap (λ (k : ℕ). drop k rows) (sym (plus_one i))) refl
       ∙ sym (judge_row spec rows told s rd f (get_or rows i d) (drop (suc i) rows) (length rows))
       ∙ same_judged s s rd rd f f (get_or rows i d ∷ drop (suc i) rows) (drop i rows) (length rows) (length rows) refl refl refl (sym (drop-cons rows i d inside)) refl
 

@@ -6,6 +6,7 @@ use Rattle.scram_types.specs.declared.flights.Report as told_reports
 use Rattle.scram_types.specs.declared.flights.Row.{Row}
 use Rattle.scram_types.specs.Scripts.{ScriptParts}
 use Rattle.scram_types.specs.Specification.{Parts}
+use Rattle.scram_types.proofs.Items.{first_part, next_part}
 use Rattle.frame_model.specs.declared.readings.Reading as told_readings
 use Rattle.frame_model.specs.declared.readings.Reading.TheVariants as told
 use Rattle.frame_model.specs.Flights.{listed_below, row_at}
@@ -13,7 +14,7 @@ use Rattle.frame_model.specs.Laws.{ReadsRowByRow}
 use Rattle.frame_model.specs.Readings as readings
 use Rattle.frame_model.specs.Runs.{conf_of}
 use Rattle.trace_props.proofs.Courses.{CourseReading, CourseReading.Steady, CourseReading.Leaving, CourseReport, course_arrive, course_read_row, course_reading_before, course_arrival, course_report_of, course_report_at}
-use Rattle.trace_props.proofs.Lists.{each_append, each_option, first_part, next_part, length-listed_below}
+use Rattle.trace_props.proofs.Lists.{each_append, each_option, length-listed_below}
 use Rattle.trace_props.proofs.Products.{course_of, plan_of, runs_in_row}
 
 abbrev pub told_reading : CourseReading → told_readings.Reading
