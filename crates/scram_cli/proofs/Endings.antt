@@ -4,6 +4,7 @@ use Rattle.std.specs.Prelude.{Option, Some, None, IfSome, ◌⊎◌, Contains}
 use Rattle.scram_io.specs.Outside.{Rose, Unrisen, TakesSurely}
 use Rattle.scram_io.proofs.Puts.{rose_since, risen}
 use Rattle.trace_text.specs.Printing.{Printed, CutOff}
+use Rattle.scram_cli.specs.declared.status.TheConstants.{UNREAD_FILE, UNWRITTEN_OUTPUT, WANTING_MEMORY}
 use Rattle.scram_cli.specs.Answers.{Ends, HasRoom, Outcome, Says, Surely, TellsAnswer, memory_line, read_line}
 
 pub surely_of : (room left : Option ℕ) (before now : ℕ) (text : List ℕ) →
@@ -11,26 +12,15 @@ pub surely_of : (room left : Option ℕ) (before now : ℕ) (text : List ℕ) �
 surely_of None left before now text takes = tt
 surely_of (Some bytes) left before now text takes = λ fits. (takes fits).0
 
--- a text that was printed whole, with its status
-pub printed_tells : (status : ℕ) (text : List ℕ) (old new : Option (List ℕ)) (room left : Option ℕ) (before now : ℕ) →
-    Printed old new room left before now text → TellsAnswer (status, text) old new room before now status
-printed_tells status text old new room left before now printed = record {
+-- a text that was put, and a code that says what of it went out
+pub put_tells : (status : ℕ) (text : List ℕ) (old new : Option (List ℕ)) (room left : Option ℕ) (before now code : ℕ) →
+    Says old new before now status text code → TakesSurely room left before now text → TellsAnswer (status, text) old new room before now code
+put_tells status text old new room left before now code says takes = record {
   status = status;
   text = text;
   is = inl refl;
-  says = inl (refl, printed.whole);
-  surely = surely_of room left before now text printed.surely;
-}
-
--- a text that was cut off, with status 4
-pub cut_tells : (status : ℕ) (text : List ℕ) (old new : Option (List ℕ)) (room left : Option ℕ) (before now : ℕ) →
-    CutOff old new room left before now text → TellsAnswer (status, text) old new room before now 4
-cut_tells status text old new room left before now cut = record {
-  status = status;
-  text = text;
-  is = inl refl;
-  says = inr (refl, cut.prefix, cut.rose);
-  surely = surely_of room left before now text cut.surely;
+  says = says;
+  surely = surely_of room left before now text takes;
 }
 
 -- a fact for whatever there is
@@ -45,7 +35,7 @@ for_all P Q (Some a) turn known = turn a known
 
 told_outcome : (Answers : ℕ → List ℕ → Type 0) (answered : ℕ × List ℕ) (names : List (List ℕ)) (unread reads status : ℕ) (text : List ℕ) →
     Answers answered.0 answered.1 →
-    ((status, text) ≡ answered) ⊎ ((status ≡ 9) × (text ≡ memory_line)) → Outcome Answers names unread reads status text
+    ((status, text) ≡ answered) ⊎ ((status ≡ WANTING_MEMORY) × (text ≡ memory_line)) → Outcome Answers names unread reads status text
 told_outcome Answers answered names unread reads status text answers (inl is) = inl (rw (sym is) at answers)
 told_outcome Answers answered names unread reads status text answers (inr is) = inr (inl is)
 
@@ -62,22 +52,9 @@ told_ends Answers answered names unread reads old new room before now code answe
   surely = tells.surely;
 }
 
--- memory was wanting
-pub memory_ends : (Answers : ℕ → List ℕ → Type 0) (names : List (List ℕ)) (unread reads : ℕ)
-    (old new : Option (List ℕ)) (room : Option ℕ) (before now code : ℕ) →
-    Says old new before now 9 memory_line code → Surely room before now memory_line →
-    Ends Answers names unread reads old new room before now code
-memory_ends Answers names unread reads old new room before now code says surely = record {
-  status = 9;
-  text = memory_line;
-  outcome = inr (inl (refl, refl));
-  says = says;
-  surely = surely;
-}
-
 unread_outcome : (Answers : ℕ → List ℕ → Type 0) (names : List (List ℕ)) (name : List ℕ) (unread reads status : ℕ) (text : List ℕ) →
     Contains names name → Rose unread reads →
-    (◌≡◌ {A = ℕ × List ℕ} (status, text) (3, read_line name)) ⊎ ((status ≡ 9) × (text ≡ memory_line)) →
+    (◌≡◌ {A = ℕ × List ℕ} (status, text) (UNREAD_FILE, read_line name)) ⊎ ((status ≡ WANTING_MEMORY) × (text ≡ memory_line)) →
     Outcome Answers names unread reads status text
 unread_outcome Answers names name unread reads status text named rose (inl is) = inr (inr (record {
   code = ap (λ (a : ℕ × List ℕ). a.0) is;
@@ -91,7 +68,7 @@ unread_outcome Answers names name unread reads status text named rose (inr is) =
 -- a file that was not read
 pub unread_ends : (Answers : ℕ → List ℕ → Type 0) (names : List (List ℕ)) (name : List ℕ) (unread reads : ℕ)
     (old new : Option (List ℕ)) (room : Option ℕ) (before now code : ℕ) →
-    Contains names name → Rose unread reads → TellsAnswer (3, read_line name) old new room before now code →
+    Contains names name → Rose unread reads → TellsAnswer (UNREAD_FILE, read_line name) old new room before now code →
     Ends Answers names unread reads old new room before now code
 unread_ends Answers names name unread reads old new room before now code named rose tells = record {
   status = tells.status;

@@ -11,6 +11,7 @@ use Rattle.mission_gen.specs.Changes.{generated_script}
 use Rattle.reconf_spec.specs.declared.fault.SpecFault.{SpecFault}
 use Rattle.trace_props.specs.declared.breaks.Broken.{Broken}
 use Rattle.trace_text.specs.declared.trace_reading.TraceFault.{TraceFault}
+use Rattle.scram_cli.specs.declared.status.TheConstants.{BROKEN_SCRIPT, BROKEN_SPECIFICATION, BROKEN_TRACE, WANTING_MEMORY}
 use Rattle.scram_cli.specs.declared.flights.FlightText.TheVariants.{Trace}
 use Rattle.scram_cli.specs.declared.forms.Form.{Form}
 use Rattle.scram_cli.specs.declared.forms.Form.TheVariants.{Generated, Specified}
@@ -30,7 +31,7 @@ script_answered files spec name script has = rw (has.there, has.fact) refl
 
 -- the script was refused
 pub script_refused : (files : FileMap) (spec : Parts) (name : List ℕ) (fault : DocFault) → HasBytes files name (RefusesAsScript spec fault) →
-    RequestAnswers files (Run name) spec 7 (script_line fault)
+    RequestAnswers files (Run name) spec BROKEN_SCRIPT (script_line fault)
 script_refused files spec name fault has = rw (has.there, has.fact) refl
 
 -- the trace was read and judged
@@ -40,7 +41,7 @@ trace_judged files spec name flown judged has judges = rw (has.there, has.fact) 
 
 -- the trace was refused
 pub trace_refused : (files : FileMap) (spec : Parts) (name : List ℕ) (fault : TraceFault) → HasBytes files name (RefusesAsTrace spec fault) →
-    RequestAnswers files (Props name) spec 11 (trace_line fault)
+    RequestAnswers files (Props name) spec BROKEN_TRACE (trace_line fault)
 trace_refused files spec name fault has = rw (has.there, has.fact) refl
 
 -- the specification was read
@@ -55,7 +56,7 @@ spec_answered files name request spec has status text gives = record {
 
 -- the specification was refused
 pub spec_refused : (files : FileMap) (name : List ℕ) (request : Request (List ℕ)) (fault : SpecFault) → HasBytes files name (RefusesAsSpec fault) →
-    IsAnswer (Some (Specified name request)) files 5 (specification_line fault)
+    IsAnswer (Some (Specified name request)) files BROKEN_SPECIFICATION (specification_line fault)
 spec_refused files name request fault has = record {
   cycle = fault.names.items;
   shows = rw (has.there, has.fact.refuses) (fault.cycle.items, has.fact.shows.0, has.fact.shows.1);
@@ -75,14 +76,14 @@ got_ends (Some m) mid name request spec unread between reads old new room before
     old new room before now code kept (spec_answered m name request spec loads) known
 
 mission_outcome : (m : FileMap) (number : ℕ) (purpose : Purpose) (unread reads status : ℕ) (text : List ℕ) →
-    IsMissionAnswer number purpose status text ⊎ ((status ≡ 9) × (text ≡ memory_line)) →
+    IsMissionAnswer number purpose status text ⊎ ((status ≡ WANTING_MEMORY) × (text ≡ memory_line)) →
     Outcome (IsAnswer (Some (Generated number purpose)) m) [] unread reads status text
 mission_outcome m number purpose unread reads status text (inl is) = inl (record { cycle = []; shows = refl; gives = is })
 mission_outcome m number purpose unread reads status text (inr is) = inr (inl is)
 
 told_is : (number : ℕ) (purpose : Purpose) (spec : Parts) (status : ℕ) (text : List ℕ) → IsGenerated spec →
-    ((status, text) ≡ mission_answer number purpose spec (generated_script number)) ⊎ ((status ≡ 9) × (text ≡ memory_line)) →
-    IsMissionAnswer number purpose status text ⊎ ((status ≡ 9) × (text ≡ memory_line))
+    ((status, text) ≡ mission_answer number purpose spec (generated_script number)) ⊎ ((status ≡ WANTING_MEMORY) × (text ≡ memory_line)) →
+    IsMissionAnswer number purpose status text ⊎ ((status ≡ WANTING_MEMORY) × (text ≡ memory_line))
 told_is number purpose spec status text generated (inl is) = inl (record { spec = spec; generated = generated; gives = sym is })
 told_is number purpose spec status text generated (inr is) = inr is
 
@@ -100,9 +101,9 @@ told_mission number purpose spec old new room before now code generated tells = 
 
 -- no memory was to be had for a mission
 pub memory_mission : (number : ℕ) (purpose : Purpose) (old new : Option (List ℕ)) (room : Option ℕ) (before now code : ℕ) →
-    Says old new before now 9 memory_line code → Surely room before now memory_line → TellsMission number purpose old new room before now code
+    Says old new before now WANTING_MEMORY memory_line code → Surely room before now memory_line → TellsMission number purpose old new room before now code
 memory_mission number purpose old new room before now code says surely = record {
-  status = 9;
+  status = WANTING_MEMORY;
   text = memory_line;
   is = inr (refl, refl);
   says = says;

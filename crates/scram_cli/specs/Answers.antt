@@ -29,6 +29,7 @@ use Rattle.trace_props.specs.Properties.{HoldsAll}
 use Rattle.trace_text.specs.declared.trace_reading.TraceFault.{TraceFault}
 use Rattle.trace_text.specs.Text.{text_of}
 use Rattle.trace_text.specs.TraceReading.{trace_of as trace_in}
+use Rattle.scram_cli.specs.declared.status.TheConstants.{ANSWERED, BROKEN_PROPERTY, BROKEN_SCRIPT, BROKEN_SPECIFICATION, BROKEN_TRACE, BROKEN_USAGE, NOT_ACCEPTED, UNASSUMED_SCRIPT, UNREAD_FILE, UNWRITTEN_OUTPUT, WANTING_MEMORY}
 use Rattle.scram_cli.specs.declared.forms.Form.{Form}
 use Rattle.scram_cli.specs.declared.forms.Form.TheVariants.{Specified, Generated}
 use Rattle.scram_cli.specs.declared.flights.FlightText.{FlightText}
@@ -69,27 +70,27 @@ flight_text told spec script = flown_text told spec (rows_of spec script) (repor
 
 -- the answer where the specification is accepted, by how the script leaves the failure assumption
 abbrev pub within_answer : FlightText → Parts → ScriptParts → Option Outside → ℕ × List ℕ
-within_answer told spec script (Some outside) = (8, outside_line outside)
-within_answer told spec script None = (0, flight_text told spec script)
+within_answer told spec script (Some outside) = (UNASSUMED_SCRIPT, outside_line outside)
+within_answer told spec script None = (ANSWERED, flight_text told spec script)
 
 -- the answer of a flight, by why the specification is not accepted
 abbrev pub flight_answer : FlightText → Parts → ScriptParts → Option Shown → ℕ × List ℕ
-flight_answer told spec script (Some shown) = (6, shown_line spec shown)
+flight_answer told spec script (Some shown) = (NOT_ACCEPTED, shown_line spec shown)
 flight_answer told spec script None = within_answer told spec script (first_outside spec script)
 
 abbrev pub script_answer : Parts → Result ScriptParts DocFault → ℕ × List ℕ
-script_answer spec (Err fault) = (7, script_line fault)
+script_answer spec (Err fault) = (BROKEN_SCRIPT, script_line fault)
 script_answer spec (Ok script) = flight_answer Trace spec script (first_refusal spec)
 
 -- the answer to `check`, by why the specification is not accepted
 abbrev pub check_answer : Parts → Option Shown → ℕ × List ℕ
-check_answer spec (Some shown) = (6, shown_line spec shown)
-check_answer spec None = (0, accepted_line spec)
+check_answer spec (Some shown) = (NOT_ACCEPTED, shown_line spec shown)
+check_answer spec None = (ANSWERED, accepted_line spec)
 
 -- the answer to `bounds`, which asks nothing but that environments be few
 abbrev pub bounds_answer : Parts → Option Shown → ℕ × List ℕ
-bounds_answer spec (Some shown) = (6, shown_line spec shown)
-bounds_answer spec None = (0, bounds_text spec)
+bounds_answer spec (Some shown) = (NOT_ACCEPTED, shown_line spec shown)
+bounds_answer spec None = (ANSWERED, bounds_text spec)
 
 -- the first break of a property by a trace, or none where all five hold of it
 abbrev pub Judges : Parts → Flown → Option Broken → Type 0
@@ -97,8 +98,8 @@ Judges spec flown None = HoldsAll spec flown.rows flown.reports
 Judges spec flown (Some broken) = IsFirstBreak spec flown.rows flown.reports broken.property broken.frame
 
 abbrev pub judged_answer : Flown → Option Broken → ℕ × List ℕ
-judged_answer flown (Some broken) = (10, broken_line broken)
-judged_answer flown None = (0, holds_line flown)
+judged_answer flown (Some broken) = (BROKEN_PROPERTY, broken_line broken)
+judged_answer flown None = (ANSWERED, holds_line flown)
 
 -- Status and text tell how a trace is judged.
 pub record IsJudgement (spec : Parts) (flown : Flown) (status : ℕ) (text : List ℕ) : Type 0 where
@@ -108,7 +109,7 @@ pub record IsJudgement (spec : Parts) (flown : Flown) (status : ℕ) (text : Lis
 
 -- the answer to `props` where both files are read; the specification need not be accepted
 abbrev pub TraceAnswers : Parts → Result Flown TraceFault → ℕ → List ℕ → Type 0
-TraceAnswers spec (Err fault) = Gives (11, trace_line fault)
+TraceAnswers spec (Err fault) = Gives (BROKEN_TRACE, trace_line fault)
 TraceAnswers spec (Ok flown) = IsJudgement spec flown
 
 -- the answer to what is asked of a specification that is read
@@ -123,7 +124,7 @@ abbrev pub showing : List (List ℕ) → DocFault → SpecFault
 showing cycle fault = record { rule = fault.rule; path = fault.path; cycle = record { items = [] }; names = record { items = cycle } }
 
 abbrev pub ReadAnswers : List (List ℕ) → FileMap → Request (List ℕ) → Result Parts DocFault → ℕ → List ℕ → Type 0
-ReadAnswers cycle files request (Err fault) = Gives (5, specification_line (showing cycle fault))
+ReadAnswers cycle files request (Err fault) = Gives (BROKEN_SPECIFICATION, specification_line (showing cycle fault))
 ReadAnswers cycle files request (Ok spec) = RequestAnswers files request spec
 
 -- the canonical specification and the canonical script, a line each
@@ -132,7 +133,7 @@ mission_text spec script = spec_text spec ++ codes "\n" ++ script_text spec scri
 
 -- the answer for the mission of a number
 abbrev pub mission_answer : ℕ → Purpose → Parts → ScriptParts → ℕ × List ℕ
-mission_answer number Print spec script = (0, mission_text spec script)
+mission_answer number Print spec script = (ANSWERED, mission_text spec script)
 mission_answer number Fly spec script = flight_answer (Summary number) spec script (first_refusal spec)
 
 -- The specification of generated missions: the value of its text.
@@ -148,7 +149,7 @@ pub record IsMissionAnswer (number : ℕ) (purpose : Purpose) (status : ℕ) (te
 -- The answer, by the names of the cycle of needs that a refusal shows. There is none where a file that is
 -- wanted is not there.
 abbrev pub FormAnswers : List (List ℕ) → Option (Form (List ℕ)) → FileMap → ℕ → List ℕ → Type 0
-FormAnswers cycle None files = Gives (2, usage_line)
+FormAnswers cycle None files = Gives (BROKEN_USAGE, usage_line)
 FormAnswers cycle (Some (Specified specification request)) files =
     AnswersOf (file_at specification files) (λ (bytes : List ℕ). ReadAnswers cycle files request (spec_of bytes))
 FormAnswers cycle (Some (Generated number purpose)) files = IsMissionAnswer number purpose
@@ -175,7 +176,7 @@ pub record IsAnswer (form : Option (Form (List ℕ))) (files : FileMap) (status 
 
 -- One of these files was not read, and the count of the files' faults rose.
 pub record IsUnread (names : List (List ℕ)) (before now status : ℕ) (text : List ℕ) : Type 0 where
-  pub code : status ≡ 3
+  pub code : status ≡ UNREAD_FILE
   pub name : List ℕ
   pub named : Contains names name
   pub line : text ≡ read_line name
@@ -184,13 +185,13 @@ pub record IsUnread (names : List (List ℕ)) (before now status : ℕ) (text : 
 -- Status and text are an answer's, or memory was wanting, or a file was not read.
 abbrev pub Outcome : (ℕ → List ℕ → Type 0) → List (List ℕ) → ℕ → ℕ → ℕ → List ℕ → Type 0
 Outcome Answers names before now status text =
-    Answers status text ⊎ ((status ≡ 9) × (text ≡ memory_line)) ⊎ IsUnread names before now status text
+    Answers status text ⊎ ((status ≡ WANTING_MEMORY) × (text ≡ memory_line)) ⊎ IsUnread names before now status text
 
 -- The text went out whole and the code is the status, or the sink's count rose, a prefix went out, and the
 -- code is 4.
 abbrev pub Says : Option (List ℕ) → Option (List ℕ) → ℕ → ℕ → ℕ → List ℕ → ℕ → Type 0
 Says old new before now status text code =
-    ((code ≡ status) × Took old new text) ⊎ ((code ≡ 4) × TookPrefix old new text × Rose before now)
+    ((code ≡ status) × Took old new text) ⊎ ((code ≡ UNWRITTEN_OUTPUT) × TookPrefix old new text × Rose before now)
 
 -- Where the sink surely takes as many bytes as the text has, its count did not rise.
 abbrev pub Surely : Option ℕ → ℕ → ℕ → List ℕ → Type 0
@@ -201,7 +202,7 @@ Surely room before now text = IfSome room (λ bytes. length text ≤ bytes → U
 pub record TellsAnswer (answered : ℕ × List ℕ) (old new : Option (List ℕ)) (room : Option ℕ) (before now : ℕ) (code : ℕ) : Type 0 where
   pub status : ℕ
   pub text : List ℕ
-  pub is : ((status, text) ≡ answered) ⊎ ((status ≡ 9) × (text ≡ memory_line))
+  pub is : ((status, text) ≡ answered) ⊎ ((status ≡ WANTING_MEMORY) × (text ≡ memory_line))
   pub says : Says old new before now status text code
   pub surely : Surely room before now text
 
@@ -215,7 +216,7 @@ pub record TellsJudgement (spec : Parts) (flown : Flown) (old new : Option (List
 pub record TellsMission (number : ℕ) (purpose : Purpose) (old new : Option (List ℕ)) (room : Option ℕ) (before now : ℕ) (code : ℕ) : Type 0 where
   pub status : ℕ
   pub text : List ℕ
-  pub is : IsMissionAnswer number purpose status text ⊎ ((status ≡ 9) × (text ≡ memory_line))
+  pub is : IsMissionAnswer number purpose status text ⊎ ((status ≡ WANTING_MEMORY) × (text ≡ memory_line))
   pub says : Says old new before now status text code
   pub surely : Surely room before now text
 

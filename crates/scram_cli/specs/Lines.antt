@@ -1,13 +1,12 @@
 -- The lines in which the command answers: refusals, acceptance and bounds.
-use Rattle.std.specs.Prelude.{ℕ, ◌==◌, ◌+◌, ◌%◌, ◌/◌, List, [], ◌∷◌, ◌++◌, length, slice_get, slice_index, Option, Some, None, codes, decimal, if◌then◌else◌}
-use Rattle.std.specs.Option.{option_map_or}
+use Rattle.std.specs.Prelude.{ℕ, ◌==◌, ◌+◌, ◌%◌, ◌/◌, List, [], ◌∷◌, ◌++◌, length, slice_index, Option, Some, None, codes, decimal, if◌then◌else◌}
+use Rattle.scram_types.specs.Lookups.{app_name}
 use Rattle.scram_types.specs.Specification.{Parts, bound_in}
 use Rattle.scram_types.specs.declared.ids.ConfId.{ConfId}
 use Rattle.scram_types.specs.declared.flights.Env.{Env}
 use Rattle.scram_types.specs.declared.flights.Flown.{Flown}
 use Rattle.scram_types.specs.declared.flights.Report.{Report}
 use Rattle.scram_types.specs.declared.flights.Row.{Row}
-use Rattle.scram_types.specs.declared.specification.AppSpec.{AppSpec}
 use Rattle.scram_types.specs.declared.specification.Factor.{Factor}
 use Rattle.scram_types.specs.declared.specification.Proc.{Proc}
 use Rattle.choice_table.specs.Numbering.{states}
@@ -43,9 +42,6 @@ specification_line fault =
 
 abbrev pub script_line : DocFault → List ℕ
 script_line fault = codes "refused: script" ++ rule_text fault.rule fault.path ++ codes "\n"
-
-abbrev pub app_name : Parts → ℕ → List ℕ
-app_name spec a = option_map_or (λ (app : AppSpec). app.name) (slice_get spec.apps a) []
 
 -- each factor and its value, a comma after each, `i` being the number of the first factor
 abbrev pub factors_text : List Factor → ℕ → List ℕ → List ℕ

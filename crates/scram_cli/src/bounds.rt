@@ -8,10 +8,11 @@ ghost use Rattle.scram_io.specs.Outside.{Rose};
 ghost use Rattle.trace_text.specs.Printing.{Prints};
 ghost use Rattle.scram_cli.specs.Answers.{TellsAnswer, bounds_answer};
 ghost use Rattle.scram_cli.specs.Bounds.{HasTargetSets, bound_text_of, bounds_text, bounds_text_from, is_asked, may_go};
+ghost use Rattle.scram_cli.specs.declared.status.TheConstants.{ANSWERED, UNREAD_FILE, UNWRITTEN_OUTPUT};
 
 use crate::lines::{make_bound_line, make_shown_line};
 use crate::refusals::{refuse_memory, tell_line};
-use crate::status::Status;
+use crate::status::{ANSWERED, NOT_ACCEPTED, Status, UNWRITTEN_OUTPUT};
 use choice_table::states;
 use coverage_check::{Other, Shown, targets};
 use scram_io::{Sink, SinkFault};
@@ -25,11 +26,11 @@ const MAX_STATES: u32 = 16_384;
 pub fn tell_bounds<K: Sink>(alloc: Global, spec: &Spec, out: &mut K) -> Status
     ensures tells { TellsAnswer (bounds_answer spec.now (state_refusal spec.now)) (K.taken out.old) (K.taken out.new)
         (K.surely out.old) (K.faults out.old) (K.faults out.new) result.code }
-    ensures write { result.code ≡ 4 → Rose (K.faults out.old) (K.faults out.new) }
-    ensures read { result.code ≢ 3 }
+    ensures write { result.code ≡ UNWRITTEN_OUTPUT → Rose (K.faults out.old) (K.faults out.new) }
+    ensures read { result.code ≢ UNREAD_FILE }
 {
     match refuse_states(spec) {
-        Some(shown) => tell_line(out, 6, &make_shown_line(spec, &shown)),
+        Some(shown) => tell_line(out, NOT_ACCEPTED, &make_shown_line(spec, &shown)),
         None => tell_each(alloc, spec, out),
     }
 }
@@ -51,15 +52,17 @@ fn refuse_states(spec: &Spec) -> Option<Shown>
 }
 
 fn tell_each<K: Sink>(alloc: Global, spec: &Spec, out: &mut K) -> Status
-    ensures tells { TellsAnswer (0, bounds_text spec.now) (K.taken out.old) (K.taken out.new)
+    ensures tells { TellsAnswer (ANSWERED, bounds_text spec.now) (K.taken out.old) (K.taken out.new)
         (K.surely out.old) (K.faults out.old) (K.faults out.new) result.code }
-    ensures write { result.code ≡ 4 → Rose (K.faults out.old) (K.faults out.new) }
-    ensures read { result.code ≢ 3 }
+    ensures write { result.code ≡ UNWRITTEN_OUTPUT → Rose (K.faults out.old) (K.faults out.new) }
+    ensures read { result.code ≢ UNREAD_FILE }
 {
     match find_targets(alloc, spec) {
         Ok(sets) => match put_bounds(out, spec, &sets) {
-            Ok(()) => Status { code: 0 },
-            Err(_) => Status { code: 4 },
+            Ok(()) => Status { code: ANSWERED },
+            Err(_) => Status {
+                code: UNWRITTEN_OUTPUT,
+            },
         },
         Err(_) => refuse_memory(out),
     }

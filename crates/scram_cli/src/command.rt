@@ -8,6 +8,7 @@ ghost use Rattle.scram_cli.specs.declared.forms.Request.TheVariants.{Props, Run}
 ghost use Rattle.scram_cli.specs.Answers.{AreThere, Ends, HasRoom, IsAnswer, RequestAnswers};
 ghost use Rattle.scram_cli.specs.Assurance.{AssuresForm, AssuresRequest, AssuresScript, AssuresSpec, AssuresTrace};
 ghost use Rattle.scram_cli.specs.Forms.{files_of, form_of, further_files, with_name, with_names};
+ghost use Rattle.scram_cli.specs.declared.status.TheConstants.{ANSWERED, UNREAD_FILE, UNWRITTEN_OUTPUT};
 
 use crate::bounds::tell_bounds;
 use crate::flights::{FlightText, check, fly};
@@ -17,7 +18,7 @@ use crate::judgements::judge;
 use crate::lines::{make_script_line, make_specification_line, make_trace_line};
 use crate::loads::{Loaded, load_script, load_spec, load_trace};
 use crate::refusals::{refuse_memory, refuse_read, refuse_usage, tell_line};
-use crate::status::Status;
+use crate::status::{BROKEN_SCRIPT, BROKEN_SPECIFICATION, BROKEN_TRACE, Status};
 use app_model::Rack;
 use scram_io::{Files, Sink};
 use scram_types::Spec;
@@ -42,12 +43,12 @@ pub fn scram<R: AllocGlobal, F: Files, K: Sink>(
     ensures answer { IfSome (F.told files.old) (λ m. Ends (IsAnswer (form_of (map string_bytes words.now)) m)
         (files_of (form_of (map string_bytes words.now))) (F.faults files.old) (F.faults files.new)
         (K.taken out.old) (K.taken out.new) (K.surely out.old) (K.faults out.old) (K.faults out.new) result.code) }
-    ensures read { result.code ≡ 3 → Rose (F.faults files.old) (F.faults files.new) }
-    ensures write { result.code ≡ 4 → Rose (K.faults out.old) (K.faults out.new) }
+    ensures read { result.code ≡ UNREAD_FILE → Rose (F.faults files.old) (F.faults files.new) }
+    ensures write { result.code ≡ UNWRITTEN_OUTPUT → Rose (K.faults out.old) (K.faults out.new) }
     ensures complete { IfSome (F.told files.old) (λ m. F.steady files.old → AreThere m (files_of (form_of (map string_bytes words.now)))
         → HasRoom (IsAnswer (form_of (map string_bytes words.now)) m) (K.surely out.old)
         → Unrisen (F.faults files.old) (F.faults files.new) × Unrisen (K.faults out.old) (K.faults out.new)) }
-    ensures assured { result.code ≡ 0 → IfSome (F.told files.old) (λ m.
+    ensures assured { result.code ≡ ANSWERED → IfSome (F.told files.old) (λ m.
         AssuresForm (form_of (map string_bytes words.now)) m (K.taken out.old) (K.taken out.new)) }
 {
     match form_of(words) {
@@ -67,12 +68,12 @@ fn answer_form<F: Files, K: Sink>(
     ensures ends { IfSome (F.told files.old) (λ m. Ends (IsAnswer (Some (with_names (λ name. name.now) form.entry)) m)
         (files_of (Some (with_names (λ name. name.now) form.entry))) (F.faults files.old) (F.faults files.new)
         (K.taken out.old) (K.taken out.new) (K.surely out.old) (K.faults out.old) (K.faults out.new) result.code) }
-    ensures read { result.code ≡ 3 → Rose (F.faults files.old) (F.faults files.new) }
-    ensures write { result.code ≡ 4 → Rose (K.faults out.old) (K.faults out.new) }
+    ensures read { result.code ≡ UNREAD_FILE → Rose (F.faults files.old) (F.faults files.new) }
+    ensures write { result.code ≡ UNWRITTEN_OUTPUT → Rose (K.faults out.old) (K.faults out.new) }
     ensures quiet { IfSome (F.told files.old) (λ m. F.steady files.old
         → AreThere m (files_of (Some (with_names (λ name. name.now) form.entry)))
         → Unrisen (F.faults files.old) (F.faults files.new)) }
-    ensures assured { result.code ≡ 0 → IfSome (F.told files.old) (λ m.
+    ensures assured { result.code ≡ ANSWERED → IfSome (F.told files.old) (λ m.
         AssuresForm (Some (with_names (λ name. name.now) form.entry)) m (K.taken out.old) (K.taken out.new)) }
 {
     match form {
@@ -98,17 +99,21 @@ fn answer_request<F: Files, K: Sink>(
         (specification.now ∷ further_files (with_name (λ name. name.now) request.entry)) (F.faults files.old) (F.faults files.new)
         (K.taken out.old) (K.taken out.new) (K.surely out.old) (K.faults out.old) (K.faults out.new) result.code) }
     ensures count { F.faults files.old ≤ F.faults files.new }
-    ensures read { result.code ≡ 3 → Rose (F.faults files.old) (F.faults files.new) }
-    ensures write { result.code ≡ 4 → Rose (K.faults out.old) (K.faults out.new) }
+    ensures read { result.code ≡ UNREAD_FILE → Rose (F.faults files.old) (F.faults files.new) }
+    ensures write { result.code ≡ UNWRITTEN_OUTPUT → Rose (K.faults out.old) (K.faults out.new) }
     ensures quiet { IfSome (F.told files.old) (λ m. F.steady files.old
         → AreThere m (specification.now ∷ further_files (with_name (λ name. name.now) request.entry))
         → Unrisen (F.faults files.old) (F.faults files.new)) }
-    ensures assured { result.code ≡ 0 → IfSome (F.told files.old) (λ m.
+    ensures assured { result.code ≡ ANSWERED → IfSome (F.told files.old) (λ m.
         AssuresSpec m specification.now (with_name (λ name. name.now) request.entry) (K.taken out.old) (K.taken out.new)) }
 {
     match load_spec(alloc, specification, files) {
         Loaded::Got(spec) => answer_read(alloc, spec, request, files, out, racks),
-        Loaded::Refused(fault) => tell_line(out, 5, &make_specification_line(&fault)),
+        Loaded::Refused(fault) => tell_line(
+            out,
+            BROKEN_SPECIFICATION,
+            &make_specification_line(&fault),
+        ),
         Loaded::Failed => refuse_read(alloc, out, specification),
         Loaded::NoMemory => refuse_memory(out),
     }
@@ -128,12 +133,12 @@ fn answer_read<F: Files, K: Sink>(
         (further_files (with_name (λ name. name.now) request.entry)) (F.faults files.old) (F.faults files.new)
         (K.taken out.old) (K.taken out.new) (K.surely out.old) (K.faults out.old) (K.faults out.new) result.code) }
     ensures count { F.faults files.old ≤ F.faults files.new }
-    ensures read { result.code ≡ 3 → Rose (F.faults files.old) (F.faults files.new) }
-    ensures write { result.code ≡ 4 → Rose (K.faults out.old) (K.faults out.new) }
+    ensures read { result.code ≡ UNREAD_FILE → Rose (F.faults files.old) (F.faults files.new) }
+    ensures write { result.code ≡ UNWRITTEN_OUTPUT → Rose (K.faults out.old) (K.faults out.new) }
     ensures quiet { IfSome (F.told files.old) (λ m. F.steady files.old
         → AreThere m (further_files (with_name (λ name. name.now) request.entry))
         → Unrisen (F.faults files.old) (F.faults files.new)) }
-    ensures assured { result.code ≡ 0 → IfSome (F.told files.old) (λ m.
+    ensures assured { result.code ≡ ANSWERED → IfSome (F.told files.old) (λ m.
         AssuresRequest spec m (with_name (λ name. name.now) request.entry) (K.taken out.old) (K.taken out.new)) }
 {
     match request {
@@ -158,16 +163,16 @@ fn run<F: Files, K: Sink>(
         (script.now ∷ []) (F.faults files.old) (F.faults files.new)
         (K.taken out.old) (K.taken out.new) (K.surely out.old) (K.faults out.old) (K.faults out.new) result.code) }
     ensures count { F.faults files.old ≤ F.faults files.new }
-    ensures read { result.code ≡ 3 → Rose (F.faults files.old) (F.faults files.new) }
-    ensures write { result.code ≡ 4 → Rose (K.faults out.old) (K.faults out.new) }
+    ensures read { result.code ≡ UNREAD_FILE → Rose (F.faults files.old) (F.faults files.new) }
+    ensures write { result.code ≡ UNWRITTEN_OUTPUT → Rose (K.faults out.old) (K.faults out.new) }
     ensures quiet { IfSome (F.told files.old) (λ m. F.steady files.old → IsSome (file_at script.now m)
         → Unrisen (F.faults files.old) (F.faults files.new)) }
-    ensures assured { result.code ≡ 0 → IfSome (F.told files.old) (λ m.
+    ensures assured { result.code ≡ ANSWERED → IfSome (F.told files.old) (λ m.
         AssuresScript spec m script.now (K.taken out.old) (K.taken out.new)) }
 {
     match load_script(alloc, &spec, script, files) {
         Loaded::Got(script) => fly(alloc, spec, script, FlightText::Trace, out, racks),
-        Loaded::Refused(fault) => tell_line(out, 7, &make_script_line(&fault)),
+        Loaded::Refused(fault) => tell_line(out, BROKEN_SCRIPT, &make_script_line(&fault)),
         Loaded::Failed => refuse_read(alloc, out, script),
         Loaded::NoMemory => refuse_memory(out),
     }
@@ -185,15 +190,15 @@ fn props<F: Files, K: Sink>(
         (trace.now ∷ []) (F.faults files.old) (F.faults files.new)
         (K.taken out.old) (K.taken out.new) (K.surely out.old) (K.faults out.old) (K.faults out.new) result.code) }
     ensures count { F.faults files.old ≤ F.faults files.new }
-    ensures read { result.code ≡ 3 → Rose (F.faults files.old) (F.faults files.new) }
-    ensures write { result.code ≡ 4 → Rose (K.faults out.old) (K.faults out.new) }
+    ensures read { result.code ≡ UNREAD_FILE → Rose (F.faults files.old) (F.faults files.new) }
+    ensures write { result.code ≡ UNWRITTEN_OUTPUT → Rose (K.faults out.old) (K.faults out.new) }
     ensures quiet { IfSome (F.told files.old) (λ m. F.steady files.old → IsSome (file_at trace.now m)
         → Unrisen (F.faults files.old) (F.faults files.new)) }
-    ensures assured { result.code ≡ 0 → IfSome (F.told files.old) (λ m. AssuresTrace spec.now m trace.now) }
+    ensures assured { result.code ≡ ANSWERED → IfSome (F.told files.old) (λ m. AssuresTrace spec.now m trace.now) }
 {
     match load_trace(alloc, spec, trace, files) {
         Loaded::Got(flown) => judge(spec, &flown, out),
-        Loaded::Refused(fault) => tell_line(out, 11, &make_trace_line(fault)),
+        Loaded::Refused(fault) => tell_line(out, BROKEN_TRACE, &make_trace_line(fault)),
         Loaded::Failed => refuse_read(alloc, out, trace),
         Loaded::NoMemory => refuse_memory(out),
     }

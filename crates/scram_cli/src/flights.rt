@@ -9,10 +9,11 @@ ghost use Rattle.scram_io.specs.Outside.{Rose};
 ghost use Rattle.trace_text.specs.Printing.{Prints};
 ghost use Rattle.scram_cli.specs.Answers.{TellsAnswer, check_answer, flight_answer, flown_text, flight_text, within_answer};
 ghost use Rattle.scram_cli.specs.Assurance.{IsAssured};
+ghost use Rattle.scram_cli.specs.declared.status.TheConstants.{ANSWERED, UNREAD_FILE, UNWRITTEN_OUTPUT};
 
 use crate::lines::{make_accepted_line, make_fly_line, make_outside_line, make_shown_line};
 use crate::refusals::{refuse_memory, tell_line};
-use crate::status::Status;
+use crate::status::{ANSWERED, NOT_ACCEPTED, Status, UNASSUMED_SCRIPT, UNWRITTEN_OUTPUT};
 use app_model::Rack;
 use coverage_check::{AcceptError, Accepted, Mission, accept};
 use scram_io::{Sink, SinkFault};
@@ -25,14 +26,14 @@ use trace_text::put_trace;
 pub fn check<K: Sink>(alloc: Global, spec: Spec, out: &mut K) -> Status
     ensures tells { TellsAnswer (check_answer spec (first_refusal spec)) (K.taken out.old) (K.taken out.new)
         (K.surely out.old) (K.faults out.old) (K.faults out.new) result.code }
-    ensures write { result.code ≡ 4 → Rose (K.faults out.old) (K.faults out.new) }
-    ensures read { result.code ≢ 3 }
-    ensures accepted { result.code ≡ 0 → Accepts spec }
+    ensures write { result.code ≡ UNWRITTEN_OUTPUT → Rose (K.faults out.old) (K.faults out.new) }
+    ensures read { result.code ≢ UNREAD_FILE }
+    ensures accepted { result.code ≡ ANSWERED → Accepts spec }
 {
     match accept(alloc, spec) {
-        Ok(accepted) => tell_line(out, 0, &make_accepted_line(accepted.spec())),
+        Ok(accepted) => tell_line(out, ANSWERED, &make_accepted_line(accepted.spec())),
         Err(AcceptError::NotAccepted(spec, shown)) => {
-            tell_line(out, 6, &make_shown_line(&spec, &shown))
+            tell_line(out, NOT_ACCEPTED, &make_shown_line(&spec, &shown))
         }
         Err(AcceptError::NoMemory(_)) => refuse_memory(out),
     }
@@ -60,14 +61,14 @@ pub fn fly<K: Sink>(
     requires racks { RacksFit (λ b. kind_of (b.vtable, b.value)) (λ r. r.boxes.items) racks.items }
     ensures tells { TellsAnswer (flight_answer told spec script (first_refusal spec)) (K.taken out.old) (K.taken out.new)
         (K.surely out.old) (K.faults out.old) (K.faults out.new) result.code }
-    ensures write { result.code ≡ 4 → Rose (K.faults out.old) (K.faults out.new) }
-    ensures read { result.code ≢ 3 }
-    ensures assured { result.code ≡ 0 → IsAssured told spec script (K.taken out.old) (K.taken out.new) }
+    ensures write { result.code ≡ UNWRITTEN_OUTPUT → Rose (K.faults out.old) (K.faults out.new) }
+    ensures read { result.code ≢ UNREAD_FILE }
+    ensures assured { result.code ≡ ANSWERED → IsAssured told spec script (K.taken out.old) (K.taken out.new) }
 {
     match accept(alloc, spec) {
         Ok(accepted) => fly_accepted(alloc, accepted, script, told, out, racks),
         Err(AcceptError::NotAccepted(refused, shown)) => {
-            tell_line(out, 6, &make_shown_line(&refused, &shown))
+            tell_line(out, NOT_ACCEPTED, &make_shown_line(&refused, &shown))
         }
         Err(AcceptError::NoMemory(_)) => refuse_memory(out),
     }
@@ -85,13 +86,13 @@ fn fly_accepted<K: Sink>(
     requires racks { RacksFit (λ b. kind_of (b.vtable, b.value)) (λ r. r.boxes.items) racks.items }
     ensures tells { TellsAnswer (within_answer told accepted script (first_outside accepted script)) (K.taken out.old) (K.taken out.new)
         (K.surely out.old) (K.faults out.old) (K.faults out.new) result.code }
-    ensures write { result.code ≡ 4 → Rose (K.faults out.old) (K.faults out.new) }
-    ensures read { result.code ≢ 3 }
-    ensures assured { result.code ≡ 0 → IsAssured told accepted script (K.taken out.old) (K.taken out.new) }
+    ensures write { result.code ≡ UNWRITTEN_OUTPUT → Rose (K.faults out.old) (K.faults out.new) }
+    ensures read { result.code ≢ UNREAD_FILE }
+    ensures assured { result.code ≡ ANSWERED → IsAssured told accepted script (K.taken out.old) (K.taken out.new) }
 {
     match Mission::new(accepted, script) {
         Ok(mission) => fly_mission(alloc, &mission, told, out, racks),
-        Err(refused) => tell_line(out, 8, &make_outside_line(&refused.outside)),
+        Err(refused) => tell_line(out, UNASSUMED_SCRIPT, &make_outside_line(&refused.outside)),
     }
 }
 
@@ -103,17 +104,19 @@ fn fly_mission<K: Sink>(
     racks: Vec<Rack>,
 ) -> Status
     requires racks { RacksFit (λ b. kind_of (b.vtable, b.value)) (λ r. r.boxes.items) racks.items }
-    ensures tells { TellsAnswer (0, flight_text told mission.now.spec mission.now.script) (K.taken out.old) (K.taken out.new)
+    ensures tells { TellsAnswer (ANSWERED, flight_text told mission.now.spec mission.now.script) (K.taken out.old) (K.taken out.new)
         (K.surely out.old) (K.faults out.old) (K.faults out.new) result.code }
-    ensures write { result.code ≡ 4 → Rose (K.faults out.old) (K.faults out.new) }
-    ensures read { result.code ≢ 3 }
-    ensures assured { result.code ≡ 0 → IsAssured told mission.now.spec mission.now.script (K.taken out.old) (K.taken out.new) }
+    ensures write { result.code ≡ UNWRITTEN_OUTPUT → Rose (K.faults out.old) (K.faults out.new) }
+    ensures read { result.code ≢ UNREAD_FILE }
+    ensures assured { result.code ≡ ANSWERED → IsAssured told mission.now.spec mission.now.script (K.taken out.old) (K.taken out.new) }
 {
     mission.holds();
     match one_thread(alloc, mission, racks) {
         Ok(flown) => match put_flown(out, mission.spec(), &flown, told) {
-            Ok(()) => Status { code: 0 },
-            Err(_) => Status { code: 4 },
+            Ok(()) => Status { code: ANSWERED },
+            Err(_) => Status {
+                code: UNWRITTEN_OUTPUT,
+            },
         },
         Err(_) => refuse_memory(out),
     }

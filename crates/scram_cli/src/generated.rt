@@ -6,11 +6,12 @@ ghost use Rattle.fault_script.specs.Fits.{Fits};
 ghost use Rattle.scram_io.specs.Outside.{Rose};
 ghost use Rattle.scram_cli.specs.Answers.{TellsAnswer, TellsMission, mission_answer, mission_text};
 ghost use Rattle.scram_cli.specs.Assurance.{AssuresMission, AssuresPurpose};
+ghost use Rattle.scram_cli.specs.declared.status.TheConstants.{ANSWERED, UNREAD_FILE, UNWRITTEN_OUTPUT};
 
 use crate::flights::{FlightText, fly};
 use crate::forms::Purpose;
 use crate::refusals::{refuse_memory, tell};
-use crate::status::Status;
+use crate::status::{ANSWERED, Status};
 use app_model::Rack;
 use fault_script::write_script;
 use mission_gen::generate;
@@ -30,9 +31,9 @@ pub fn answer_generated<K: Sink>(
     requires { RacksFit (λ b. kind_of (b.vtable, b.value)) (λ r. r.boxes.items) racks.items }
     ensures tells { TellsMission number purpose (K.taken out.old) (K.taken out.new)
         (K.surely out.old) (K.faults out.old) (K.faults out.new) result.code }
-    ensures write { result.code ≡ 4 → Rose (K.faults out.old) (K.faults out.new) }
-    ensures read { result.code ≢ 3 }
-    ensures assured { result.code ≡ 0 → AssuresMission number purpose (K.taken out.old) (K.taken out.new) }
+    ensures write { result.code ≡ UNWRITTEN_OUTPUT → Rose (K.faults out.old) (K.faults out.new) }
+    ensures read { result.code ≢ UNREAD_FILE }
+    ensures assured { result.code ≡ ANSWERED → AssuresMission number purpose (K.taken out.old) (K.taken out.new) }
 {
     match generate(alloc, number) {
         Ok((spec, script)) => answer_mission(alloc, number, purpose, spec, script, out, racks),
@@ -53,9 +54,9 @@ fn answer_mission<K: Sink>(
     requires racks { RacksFit (λ b. kind_of (b.vtable, b.value)) (λ r. r.boxes.items) racks.items }
     ensures tells { TellsAnswer (mission_answer number purpose spec script) (K.taken out.old) (K.taken out.new)
         (K.surely out.old) (K.faults out.old) (K.faults out.new) result.code }
-    ensures write { result.code ≡ 4 → Rose (K.faults out.old) (K.faults out.new) }
-    ensures read { result.code ≢ 3 }
-    ensures assured { result.code ≡ 0 → AssuresPurpose number purpose spec script (K.taken out.old) (K.taken out.new) }
+    ensures write { result.code ≡ UNWRITTEN_OUTPUT → Rose (K.faults out.old) (K.faults out.new) }
+    ensures read { result.code ≢ UNREAD_FILE }
+    ensures assured { result.code ≡ ANSWERED → AssuresPurpose number purpose spec script (K.taken out.old) (K.taken out.new) }
 {
     match purpose {
         Purpose::Print => print_mission(alloc, &spec, &script, out),
@@ -64,13 +65,13 @@ fn answer_mission<K: Sink>(
 }
 
 fn print_mission<K: Sink>(alloc: Global, spec: &Spec, script: &Script, out: &mut K) -> Status
-    ensures tells { TellsAnswer (0, mission_text spec.now script.now) (K.taken out.old) (K.taken out.new)
+    ensures tells { TellsAnswer (ANSWERED, mission_text spec.now script.now) (K.taken out.old) (K.taken out.new)
         (K.surely out.old) (K.faults out.old) (K.faults out.new) result.code }
-    ensures write { result.code ≡ 4 → Rose (K.faults out.old) (K.faults out.new) }
-    ensures read { result.code ≢ 3 }
+    ensures write { result.code ≡ UNWRITTEN_OUTPUT → Rose (K.faults out.old) (K.faults out.new) }
+    ensures read { result.code ≢ UNREAD_FILE }
 {
     match write_mission(alloc, spec, script) {
-        Ok(text) => tell(out, 0, &text),
+        Ok(text) => tell(out, ANSWERED, &text),
         Err(_) => refuse_memory(out),
     }
 }

@@ -11,7 +11,7 @@ mod judgements;
 mod lines;
 mod loads;
 mod refusals;
-mod status;
+pub mod status;
 mod summaries;
 
 pub use command::scram;

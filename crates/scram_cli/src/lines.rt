@@ -1,9 +1,10 @@
 //! The lines in which the command answers, made without memory.
 
 ghost use Rattle.std.specs.Prelude.{◌≡◌, ◌+◌, ◌*◌, ◌≤◌, ◌++◌, [], ◌<◌, ◌^◌, length, codes, if◌then◌else◌};
+ghost use Rattle.scram_types.specs.Lookups.{app_name};
 ghost use Rattle.trace_text.specs.Names.{conf_or_dash, further, proc_name, value_name};
 ghost use Rattle.trace_text.specs.Text.{bound_text};
-ghost use Rattle.scram_cli.specs.Lines.{accepted_line, added, app_name, bound_line, broken_line, counts_text, cycle_text, env_or_dash, env_text, factors_text, fly_line, holds_line, outside_kind_text, names_down, other_text, outside_line, rule_text, script_line, shown_line, specification_line, trace_line};
+ghost use Rattle.scram_cli.specs.Lines.{accepted_line, added, bound_line, broken_line, counts_text, cycle_text, env_or_dash, env_text, factors_text, fly_line, holds_line, outside_kind_text, names_down, other_text, outside_line, rule_text, script_line, shown_line, specification_line, trace_line};
 
 use crate::summaries::{last_run, longest_duration};
 use choice_table::states;

@@ -9,15 +9,10 @@ use fault_script::{ScriptError, ScriptFault, read_script};
 use reconf_spec::{SpecError, SpecFault, read_spec};
 use scram_doc::Path;
 use scram_io::{Files, ReadFault};
+use scram_types::limits::{MAX_SCRIPT_BYTES, MAX_SPECIFICATION_BYTES, MAX_TRACE_BYTES};
 use scram_types::{Flown, Script, Spec};
 use std::alloc::Global;
-use trace_text::{MAX_TRACE_BYTES, TraceError, TraceFault, read_trace};
-
-/// The most bytes that a specification has.
-const MAX_SPECIFICATION_BYTES: usize = 1_048_576;
-
-/// The most bytes that a script has.
-const MAX_SCRIPT_BYTES: usize = 2_097_152;
+use trace_text::{TraceError, TraceFault, read_trace};
 
 /// What came of loading a file.
 #[derive(Drop)]

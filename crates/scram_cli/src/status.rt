@@ -1,9 +1,40 @@
 //! How the command ends.
 
-/// How the command ended: 0 done, 2 usage, 3 a file was not read, 4 the output was not written,
-/// 5 the specification is refused, 6 it is not accepted, 7 the script is refused, 8 the script leaves
-/// the failure assumption, 9 memory was wanting, 10 a trace breaks a property, 11 the trace is refused.
+/// How the command ended, by one of the statuses below.
 #[derive(Clone, Copy, Debug, PartialEq, Eq)]
 pub struct Status {
     pub code: u8,
 }
+
+/// What was asked for is done, and told.
+pub const ANSWERED: u8 = 0;
+
+/// The words have no form of the command.
+pub const BROKEN_USAGE: u8 = 2;
+
+/// A file was not read.
+pub const UNREAD_FILE: u8 = 3;
+
+/// The output was not written, or not all of it.
+pub const UNWRITTEN_OUTPUT: u8 = 4;
+
+/// The specification's file breaks a rule of specifications.
+pub const BROKEN_SPECIFICATION: u8 = 5;
+
+/// The specification is not accepted.
+pub const NOT_ACCEPTED: u8 = 6;
+
+/// The script's file breaks a rule of scripts.
+pub const BROKEN_SCRIPT: u8 = 7;
+
+/// The script leaves the failure assumption.
+pub const UNASSUMED_SCRIPT: u8 = 8;
+
+/// Memory was wanting.
+pub const WANTING_MEMORY: u8 = 9;
+
+/// The trace breaks a property of reconfigurations.
+pub const BROKEN_PROPERTY: u8 = 10;
+
+/// The trace's file breaks a rule of traces.
+pub const BROKEN_TRACE: u8 = 11;
