@@ -7,9 +7,10 @@ use Rattle.scram_types.specs.declared.orders.Order.TheVariants.{Run, Hold, Halt,
 use Rattle.app_model.specs.declared.seen.Seen.{Seen}
 use Rattle.scram_types.specs.Numbers.{word}
 use Rattle.scram_types.specs.Ranges.{limit}
-use Rattle.app_model.specs.Ranges.{range_of, autopilot_initialised, autopilot_range, initialised_range, moves, power_monitor_range}
+use Rattle.app_model.specs.Kinds.{kind_variable}
+use Rattle.app_model.specs.Ranges.{initialised_range, mode_range, is_moving}
 use Rattle.app_model.specs.Reads.{own_word, altitude, heading}
-use Rattle.app_model.specs.Orders.{kept, halted_word, halted, initialised_word, initialised, initialising}
+use Rattle.app_model.specs.Orders.{halted_word, halted, initialised_word, initialised, initialising, kept_area}
 use Rattle.app_model.specs.Bounds.{ends, during, after_halt, after_init}
 use Rattle.app_model.specs.Areas.{Between, AreaLies, LawLiesDuring, LawLiesAfterHalt, LawLiesAfterInit, StartLiesAfterInit}
 use Rattle.app_model.specs.Law.{ran}
@@ -19,27 +20,27 @@ use Rattle.app_model.proofs.Tables.{wider, init_narrows, during_is, after_init_i
 use Rattle.app_model.proofs.Runs.{ran_within, ran_status}
 
 -- the orders but `Run`
-kept_within : (kind : ℕ) (status : ℤ) (seen : Seen) → Within (range_of kind seen.mode.0) (kept kind status seen)
-unfolding kept word
+kept_within : (kind : ℕ) (status : ℤ) (seen : Seen) → Within (mode_range kind seen.mode.0) (kept_area kind status seen)
+unfolding kept_area word
 kept_within kind status seen = let at = in_own kind seen in
-    each (λ i. In (range_of kind seen.mode.0 i) (word (kept kind status seen) i)) (at 1) (at 2) (at 3) (at 4) (at 5) (at 6) (at 7)
+    each (λ i. In (mode_range kind seen.mode.0 i) (word (kept_area kind status seen) i)) (at 1) (at 2) (at 3) (at 4) (at 5) (at 6) (at 7)
 
-in_halted : (kind left : ℕ) (seen : Seen) (i : ℕ) → In (range_of kind seen.mode.0 i) (halted_word kind left seen i)
+in_halted : (kind left : ℕ) (seen : Seen) (i : ℕ) → In (mode_range kind seen.mode.0 i) (halted_word kind left seen i)
 unfolding halted_word
-in_halted kind left seen i = in_either (moves kind i) _ _ _ (in_faded _ _ left (in_own kind seen i)) (in_own kind seen i)
+in_halted kind left seen i = in_either (is_moving kind i) _ _ _ (in_faded _ _ left (in_own kind seen i)) (in_own kind seen i)
 
-halted_within : (kind left : ℕ) (seen : Seen) → Within (range_of kind seen.mode.0) (halted kind left seen)
+halted_within : (kind left : ℕ) (seen : Seen) → Within (mode_range kind seen.mode.0) (halted kind left seen)
 unfolding halted word
 halted_within kind left seen = let at = in_halted kind left seen in
-    each (λ i. In (range_of kind seen.mode.0 i) (word (halted kind left seen) i)) (at 1) (at 2) (at 3) (at 4) (at 5) (at 6) (at 7)
+    each (λ i. In (mode_range kind seen.mode.0 i) (word (halted kind left seen) i)) (at 1) (at 2) (at 3) (at 4) (at 5) (at 6) (at 7)
 
 -- the ranges after a halt
 abbrev rest : ℕ → ℕ → ℕ → Range
-rest kind mode i = if moves kind i then limit 0 0 else range_of kind mode i
+rest kind mode i = if is_moving kind i then limit 0 0 else mode_range kind mode i
 
 in_halted_last : (kind : ℕ) (seen : Seen) (i : ℕ) → In (rest kind seen.mode.0 i) (halted_word kind 1 seen i)
 unfolding halted_word
-in_halted_last kind seen i = in_choice (moves kind i) _ _ _ _ (in_faded_last (own_word kind seen i)) (in_own kind seen i)
+in_halted_last kind seen i = in_choice (is_moving kind i) _ _ _ _ (in_faded_last (own_word kind seen i)) (in_own kind seen i)
 
 halted_last : (kind : ℕ) (seen : Seen) → Within (rest kind seen.mode.0) (halted kind 1 seen)
 unfolding halted word
@@ -47,7 +48,7 @@ halted_last kind seen = let at = in_halted_last kind seen in
     each (λ i. In (rest kind seen.mode.0 i) (word (halted kind 1 seen) i)) (at 1) (at 2) (at 3) (at 4) (at 5) (at 6) (at 7)
 
 autopilot_begins : (seen : Seen) → Within (initialised_range 0 seen.mode.0) (initialised 0 seen)
-unfolding initialised word initialised_word initialised_range autopilot_initialised autopilot_range altitude heading
+unfolding initialised word initialised_word initialised_range altitude heading kind_variable
 autopilot_begins seen = each (λ i. In (initialised_range 0 seen.mode.0 i) (word (initialised 0 seen) i))
     (in_clamp _ _) (in_clamp _ _) (in_clamp _ _) (in_clamp _ _) (in_clamp _ _) (in_clamp _ _) (in_clamp _ _)
 
@@ -65,12 +66,12 @@ initialised_within : (kind : ℕ) → kind < 5 → (seen : Seen) → Within (ini
 initialised_within = each_kind (λ kind. (seen : Seen) → Within (initialised_range kind seen.mode.0) (initialised kind seen))
     autopilot_begins (λ seen. begins 1 seen refl) (λ seen. begins 2 seen refl) (λ seen. begins 3 seen refl) (λ seen. begins 4 seen refl)
 
-initialising_within : (kind : ℕ) (last : Bool) (seen : Seen) → kind < 5 → Within (range_of kind seen.mode.0) (initialising kind last seen)
+initialising_within : (kind : ℕ) (last : Bool) (seen : Seen) → kind < 5 → Within (mode_range kind seen.mode.0) (initialising kind last seen)
 initialising_within kind true seen k = λ i l h. wider _ _ _ (init_narrows kind k seen.mode.0 i l h) (initialised_within kind k seen i l h)
 initialising_within kind false seen k = kept_within kind (pos 4) seen
 
 initialising_status : (kind : ℕ) (last : Bool) (seen : Seen) → word (initialising kind last seen) 0 ≡ pos 4
-unfolding word initialised kept
+unfolding word initialised kept_area
 initialising_status kind true seen = refl
 initialising_status kind false seen = refl
 
@@ -83,25 +84,25 @@ area_lies : (range : ℕ → ℤ × ℤ) (r : ℕ → Range) (area : List ℤ) (
 area_lies range r area status s w e p zero l = rw (s, w) (record { least = omega (arith, ints); greatest = omega (arith, ints) })
 area_lies range r area status s w e p (suc i) l = rw (e (suc i) (omega arith) l) (between _ _ (p (suc i) (omega arith) l))
 
-during_status : (kind act mode : ℕ) → during kind act mode 0 ≡ (pos act, pos act)
+during_status : (kind status mode : ℕ) → during kind status mode 0 ≡ (pos status, pos status)
 unfolding during
-during_status kind act mode = refl
+during_status kind status mode = refl
 
-lies_during : (kind act mode : ℕ) (area : List ℤ) → word area 0 ≡ pos act → Within (range_of kind mode) area → AreaLies (during kind act mode) area
-lies_during kind act mode area w p = area_lies (during kind act mode) (range_of kind mode) area act (during_status kind act mode) w (during_is kind act mode) p
+lies_during : (kind status mode : ℕ) (area : List ℤ) → word area 0 ≡ pos status → Within (mode_range kind mode) area → AreaLies (during kind status mode) area
+lies_during kind status mode area w p = area_lies (during kind status mode) (mode_range kind mode) area status (during_status kind status mode) w (during_is kind status mode) p
 
 pub law_lies_during : LawLiesDuring
-unfolding word halted kept
-law_lies_during kind act Run seen k e =
+unfolding word halted kept_area
+law_lies_during kind status Run seen k e =
     let s = ran_status kind k seen in
-    lies_during kind act seen.mode.0 (ran kind seen) (cc) (ran_within kind k seen)
-law_lies_during kind act (Halt j n) seen k e = lies_during kind act seen.mode.0 (halted kind (n - j) seen) (cc) (halted_within kind (n - j) seen)
-law_lies_during kind act Hold seen k e = cc
-law_lies_during kind act (Prepare j n) seen k e = lies_during kind act seen.mode.0 (kept kind (pos 3) seen) (cc) (kept_within kind (pos 3) seen)
-law_lies_during kind act (Init j n) seen k e =
+    lies_during kind status seen.mode.0 (ran kind seen) (cc) (ran_within kind k seen)
+law_lies_during kind status (Halt j n) seen k e = lies_during kind status seen.mode.0 (halted kind (n - j) seen) (cc) (halted_within kind (n - j) seen)
+law_lies_during kind status Hold seen k e = cc
+law_lies_during kind status (Prepare j n) seen k e = lies_during kind status seen.mode.0 (kept_area kind (pos 3) seen) (cc) (kept_within kind (pos 3) seen)
+law_lies_during kind status (Init j n) seen k e =
     let s = initialising_status kind (j + 1 == n) seen in
-    lies_during kind act seen.mode.0 (initialising kind (j + 1 == n) seen) (cc) (initialising_within kind (j + 1 == n) seen k)
-law_lies_during kind act Off seen k e = cc
+    lies_during kind status seen.mode.0 (initialising kind (j + 1 == n) seen) (cc) (initialising_within kind (j + 1 == n) seen k)
+law_lies_during kind status Off seen k e = cc
 
 after_halt_status : (kind mode : ℕ) → kind < 5 → after_halt kind mode 0 ≡ (pos 2, pos 2)
 unfolding after_halt during
@@ -113,7 +114,7 @@ after_halt_choice false range r e = e
 
 after_halt_is : (kind mode i : ℕ) → 0 < i → i < 8 → after_halt kind mode i ≡ ends (rest kind mode i)
 unfolding after_halt
-after_halt_is kind mode i l h = after_halt_choice (moves kind i) (during kind 2 mode i) (range_of kind mode i) (during_is kind 2 mode i l h)
+after_halt_is kind mode i l h = after_halt_choice (is_moving kind i) (during kind 2 mode i) (mode_range kind mode i) (during_is kind 2 mode i l h)
 
 halted_lies : (kind : ℕ) (seen : Seen) → kind < 5 → AreaLies (after_halt kind seen.mode.0) (halted kind 1 seen)
 unfolding halted word
@@ -136,7 +137,7 @@ law_lies_after_init kind j n seen k e = rw (eq-eqb (j + 1) n e) (lies_after_init
 
 -- the areas that applications begin with
 start_within : (kind : ℕ) → kind < 5 → (mode : ℕ) → Within (initialised_range kind mode) (start_of kind)
-unfolding word initialised_range autopilot_initialised autopilot_range range_of power_monitor_range
+unfolding word initialised_range mode_range kind_variable
 start_within = each_kind (λ kind. (mode : ℕ) → Within (initialised_range kind mode) (start_of kind))
     (λ mode. each (λ i. In (initialised_range 0 mode i) (word (start_of 0) i))
     (in_zero _) (in_zero _) (in_number 40000 5000 (omega arith)) (in_number 3599 900 (omega arith)) (in_zero _) (in_zero _) (in_zero _))
@@ -150,7 +151,7 @@ start_within = each_kind (λ kind. (mode : ℕ) → Within (initialised_range ki
     (in_zero _) (in_zero _) (in_zero _) (in_zero _) (in_zero _) (in_zero _) (in_zero _))
 
 start_status : (kind : ℕ) → kind < 5 → word (start_of kind) 0 ≡ pos 4
-unfolding word
+unfolding word kind_variable
 start_status = each_kind (λ kind. word (start_of kind) 0 ≡ pos 4) refl refl refl refl refl
 
 pub start_lies_after_init : StartLiesAfterInit

@@ -5,3 +5,4 @@ pub mod Runs
 pub mod AreaLaws
 pub mod Fitting
 pub mod Spelling
+pub mod ShortNames

@@ -5,20 +5,21 @@ use native.Mathlib.Nat.{mod-lt}
 use Rattle.app_model.specs.declared.seen.Seen.{Seen}
 use Rattle.scram_types.specs.Numbers.{modulo, word}
 use Rattle.scram_types.specs.Ranges.{limit}
-use Rattle.app_model.specs.Ranges.{range_of, autopilot_range, flight_control_range, power_monitor_range, navigator_range, data_link_range, sane_range, widest_mode}
+use Rattle.app_model.specs.Kinds.{kind_variable}
+use Rattle.app_model.specs.Ranges.{sane_range, widest_mode, mode_range}
 use Rattle.app_model.specs.Reads.{own_word, lead_word, goal_altitude, goal_heading}
-use Rattle.app_model.specs.Headings.{turn}
+use Rattle.app_model.specs.Headings.{short_turn}
 use Rattle.app_model.specs.Autopilot.{target_alt, target_heading, integral_after, pitch_after, roll_after, autopilot_ran}
 use Rattle.app_model.specs.FlightControl.{command, elevator_after, aileron_after, flight_control_ran}
-use Rattle.app_model.specs.PowerMonitor.{alternator, supply_after, demand_after, charge_after, shed_after, power_monitor_ran}
-use Rattle.app_model.specs.Navigator.{bearing_after, climb_after, on_course, navigator_ran}
+use Rattle.app_model.specs.PowerMonitor.{supply_after, demand_after, charge_after, shed_after, power_monitor_ran, alternator_gives}
+use Rattle.app_model.specs.Navigator.{on_course, navigator_ran, climb_left_after, bearing_error_after}
 use Rattle.app_model.specs.DataLink.{fresh_of, fresh, rate_after, waiting, going, queued_after, sent_after, left_over, dropped_after, data_link_ran}
 use Rattle.app_model.specs.Law.{ran}
 use Rattle.app_model.proofs.Within.{In, Within, each, each_kind, in_clamp, in_choice, in_either, in_zero, in_one, in_number, in_sum, in_twice, in_ticks}
 
-autopilot_within : (seen : Seen) → Within (range_of 0 seen.mode.0) (autopilot_ran seen)
-unfolding autopilot_ran word range_of autopilot_range pitch_after roll_after target_alt target_heading goal_altitude goal_heading integral_after own_word
-autopilot_within seen = each (λ i. In (range_of 0 seen.mode.0 i) (word (autopilot_ran seen) i))
+autopilot_within : (seen : Seen) → Within (mode_range 0 seen.mode.0) (autopilot_ran seen)
+unfolding autopilot_ran word mode_range pitch_after roll_after target_alt target_heading goal_altitude goal_heading integral_after own_word kind_variable
+autopilot_within seen = each (λ i. In (mode_range 0 seen.mode.0 i) (word (autopilot_ran seen) i))
     (in_clamp _ _)
     (in_choice (seen.mode.0 == 1) (limit 150 150) (limit 0 0) _ _ (in_clamp _ _) (in_zero _))
     (in_either (seen.mode.0 == 1) _ _ _ (in_clamp _ _) (in_clamp _ _))
@@ -31,9 +32,9 @@ in_command : (seen : Seen) (i : ℕ) → In (sane_range 0 i) (command seen i)
 unfolding command lead_word
 in_command seen i = in_either _ _ _ _ (in_clamp _ _) (in_zero _)
 
-flight_control_within : (seen : Seen) → Within (range_of 1 seen.mode.0) (flight_control_ran seen)
-unfolding flight_control_ran word range_of flight_control_range autopilot_range sane_range widest_mode elevator_after aileron_after own_word
-flight_control_within seen = each (λ i. In (range_of 1 seen.mode.0 i) (word (flight_control_ran seen) i))
+flight_control_within : (seen : Seen) → Within (mode_range 1 seen.mode.0) (flight_control_ran seen)
+unfolding flight_control_ran word mode_range sane_range widest_mode elevator_after aileron_after own_word kind_variable
+flight_control_within seen = each (λ i. In (mode_range 1 seen.mode.0 i) (word (flight_control_ran seen) i))
     (in_choice (seen.mode.0 == 1) (limit 100 100) (limit 200 200) _ _ (in_clamp _ _) (in_twice 100 (command seen 1) (in_command seen 1)))
     (in_choice (seen.mode.0 == 1) (limit 150 150) (limit 300 300) _ _ (in_clamp _ _) (in_twice 150 (command seen 2) (in_command seen 2)))
     (in_command seen 1)
@@ -42,13 +43,13 @@ flight_control_within seen = each (λ i. In (range_of 1 seen.mode.0 i) (word (fl
     (in_ticks 1 seen (in_clamp _ _))
     (in_zero _)
 
-in_alternator : (value : ℕ) → In (limit 0 60) (alternator value)
-unfolding alternator
+in_alternator : (value : ℕ) → In (limit 0 60) (alternator_gives value)
+unfolding alternator_gives
 in_alternator value = in_either (value == 0) _ _ _ (in_number 60 60 (omega arith)) (in_zero _)
 
-power_monitor_within : (seen : Seen) → Within (range_of 2 seen.mode.0) (power_monitor_ran seen)
-unfolding power_monitor_ran word range_of power_monitor_range charge_after supply_after demand_after shed_after own_word
-power_monitor_within seen = each (λ i. In (range_of 2 seen.mode.0 i) (word (power_monitor_ran seen) i))
+power_monitor_within : (seen : Seen) → Within (mode_range 2 seen.mode.0) (power_monitor_ran seen)
+unfolding power_monitor_ran word mode_range charge_after supply_after demand_after shed_after own_word kind_variable
+power_monitor_within seen = each (λ i. In (mode_range 2 seen.mode.0 i) (word (power_monitor_ran seen) i))
     (in_clamp _ _)
     (in_sum 60 60 _ _ (in_alternator _) (in_alternator _))
     (in_choice (seen.mode.0 == 1) (limit 0 100) _ _ _ (in_number 100 100 (omega arith)) (in_choice (seen.mode.0 == 2) (limit 0 60) (limit 0 20) _ _ (in_number 60 60 (omega arith)) (in_number 20 20 (omega arith))))
@@ -62,13 +63,13 @@ unfolding modulo
 in_circle (pos a) = let h : a % 3600 < 3600 = mod-lt a (omega arith) in record { least = omega (arith, ints); greatest = omega (arith, ints) }
 in_circle (negsuc a) = record { least = omega (arith, ints); greatest = omega (arith, ints) }
 
-in_turn : (target from : ℤ) → In (limit 1800 1799) (turn target from)
-unfolding turn
+in_turn : (target from : ℤ) → In (limit 1800 1799) (short_turn target from)
+unfolding short_turn
 in_turn target from = let p = in_circle ((target -ℤ from) +ℤ pos 5400) in record { least = omega (arith, ints, p.least); greatest = omega (arith, ints, p.greatest) }
 
-navigator_within : (seen : Seen) → Within (range_of 3 seen.mode.0) (navigator_ran seen)
-unfolding navigator_ran word range_of navigator_range bearing_after climb_after on_course own_word
-navigator_within seen = each (λ i. In (range_of 3 seen.mode.0 i) (word (navigator_ran seen) i))
+navigator_within : (seen : Seen) → Within (mode_range 3 seen.mode.0) (navigator_ran seen)
+unfolding navigator_ran word mode_range bearing_error_after climb_left_after on_course own_word kind_variable
+navigator_within seen = each (λ i. In (mode_range 3 seen.mode.0 i) (word (navigator_ran seen) i))
     (in_turn _ _)
     (in_choice (seen.mode.0 == 1) (limit 5000 5000) (limit 0 0) _ _ (in_clamp _ _) (in_zero _))
     (in_either _ _ _ _ in_one (in_zero _))
@@ -106,9 +107,9 @@ module _ (seen : Seen) (queued : In (limit 0 64) (own_word 4 seen 1)) (sent : In
   unfolding dropped_after left_over queued_after going waiting
   in_dropped = record { least = omega (arith, ints, clamps, dropped.least); greatest = omega (arith, ints, clamps) }
 
-data_link_within : (seen : Seen) → Within (range_of 4 seen.mode.0) (data_link_ran seen)
-unfolding data_link_ran word range_of data_link_range own_word
-data_link_within seen = each (λ i. In (range_of 4 seen.mode.0 i) (word (data_link_ran seen) i))
+data_link_within : (seen : Seen) → Within (mode_range 4 seen.mode.0) (data_link_ran seen)
+unfolding data_link_ran word mode_range own_word kind_variable
+data_link_within seen = each (λ i. In (mode_range 4 seen.mode.0 i) (word (data_link_ran seen) i))
     (in_queued seen (in_clamp _ _) (in_clamp _ _) (in_clamp _ _))
     (in_sent seen (in_clamp _ _) (in_clamp _ _) (in_clamp _ _))
     (in_rate seen)
@@ -117,8 +118,8 @@ data_link_within seen = each (λ i. In (range_of 4 seen.mode.0 i) (word (data_li
     (in_ticks 4 seen (in_clamp _ _))
     (in_zero _)
 
-pub ran_within : (kind : ℕ) → kind < 5 → (seen : Seen) → Within (range_of kind seen.mode.0) (ran kind seen)
-ran_within = each_kind (λ kind. (seen : Seen) → Within (range_of kind seen.mode.0) (ran kind seen)) autopilot_within flight_control_within power_monitor_within navigator_within data_link_within
+pub ran_within : (kind : ℕ) → kind < 5 → (seen : Seen) → Within (mode_range kind seen.mode.0) (ran kind seen)
+ran_within = each_kind (λ kind. (seen : Seen) → Within (mode_range kind seen.mode.0) (ran kind seen)) autopilot_within flight_control_within power_monitor_within navigator_within data_link_within
 
 -- an application that ran has status 1
 pub ran_status : (kind : ℕ) → kind < 5 → (seen : Seen) → word (ran kind seen) 0 ≡ pos 1

@@ -4,7 +4,7 @@ use Rattle.std.specs.Prelude.{codes}
 use Rattle.std.specs.Str.{bytes_eq}
 use Rattle.std.proofs.Math.Bool.{or-true}
 use Rattle.std.proofs.lemmas.Slice.Eq.{bytes_eq-Decides}
-use Rattle.app_model.specs.Names.{kind_names, mode_names, variable_names, name_at, is_spelled, number_from, number_of, IsModeNumber, NamesAgree, KindIsNamed, AllNamesAgree}
+use Rattle.app_model.specs.Names.{kind_names, mode_names, variable_names, is_spelled, IsModeNumber, NamesAgree, KindIsNamed, AllNamesAgree, number_in, number_in_from, name_in}
 use Rattle.scram_types.specs.Specification.{modes_of_kind}
 use Rattle.app_model.proofs.Within.{each_kind}
 
@@ -28,7 +28,7 @@ spelled_itself text = (bytes_eq-Decides text text).1 refl
 same_text : (a b : List ℕ) → bytes_eq a b ≡ true → a ≡ b
 same_text a b e = (bytes_eq-Decides a b).0 e
 
-stands_at : (names : List (Option (List ℕ))) (i : ℕ) (text : List ℕ) → name_at names i ≡ Some text → stands names text ≡ true
+stands_at : (names : List (Option (List ℕ))) (i : ℕ) (text : List ℕ) → name_in names i ≡ Some text → stands names text ≡ true
 stands_at [] i text h = cc
 stands_at (None ∷ names) zero text h = cc
 stands_at (Some name ∷ names) zero text h =
@@ -52,7 +52,7 @@ and_right : (b c : Bool) → (b && c) ≡ true → c ≡ true
 and_right true c e = e
 and_right false c e = cc
 
-named_from : (n : ℕ) (names : List (Option (List ℕ))) (i : ℕ) (text : List ℕ) → differ names ≡ true → name_at names i ≡ Some text → number_from n names text ≡ Some (n + i)
+named_from : (n : ℕ) (names : List (Option (List ℕ))) (i : ℕ) (text : List ℕ) → differ names ≡ true → name_in names i ≡ Some text → number_in_from n names text ≡ Some (n + i)
 named_from n [] i text d h = cc
 named_from n (None ∷ names) zero text d h = cc
 named_from n (Some name ∷ names) zero text d h =
@@ -71,18 +71,18 @@ named_from n (Some name ∷ names) (suc i) text d h =
 record Found (n : ℕ) (names : List (Option (List ℕ))) (text : List ℕ) (m : ℕ) : Type 0 where
   place : ℕ
   sum : m ≡ n + place
-  there : name_at names place ≡ Some text
+  there : name_in names place ≡ Some text
 
 spelled_is : (name : Option (List ℕ)) (text : List ℕ) → is_spelled name text ≡ true → name ≡ Some text
 spelled_is None text e = cc
 spelled_is (Some name) text e = ap Some (same_text name text e)
 
-spelled_from : (n : ℕ) (names : List (Option (List ℕ))) (text : List ℕ) (m : ℕ) → number_from n names text ≡ Some m → Found n names text m
+spelled_from : (n : ℕ) (names : List (Option (List ℕ))) (text : List ℕ) (m : ℕ) → number_in_from n names text ≡ Some m → Found n names text m
 spelled_from n [] text m h = cc
 spelled_from n (name ∷ names) text m h = by (is_spelled name text) refl h (spelled_from (n + 1) names text m)
   where
-    by : (c : Bool) → is_spelled name text ≡ c → (if c then Some n else number_from (n + 1) names text) ≡ Some m
-        → (number_from (n + 1) names text ≡ Some m → Found (n + 1) names text m) → Found n (name ∷ names) text m
+    by : (c : Bool) → is_spelled name text ≡ c → (if c then Some n else number_in_from (n + 1) names text) ≡ Some m
+        → (number_in_from (n + 1) names text ≡ Some m → Found (n + 1) names text m) → Found n (name ∷ names) text m
     by true e f later =
         let same : n ≡ m = cc in
         record { place = 0; sum = omega arith; there = spelled_is name text e }
@@ -99,7 +99,7 @@ agree names d = record {
   spelled = λ number text h. let found = spelled_from 0 names text number h in
       let sum = found.sum in
       let same : found.place ≡ number = omega arith in
-      subst (λ (i : ℕ). name_at names i ≡ Some text) same found.there;
+      subst (λ (i : ℕ). name_in names i ≡ Some text) same found.there;
 }
 
 -- a number that is found is one of the table's places
@@ -107,12 +107,12 @@ pub record Counted (n m : ℕ) (names : List (Option (List ℕ))) : Type 0 where
   pub first : n ≤ m
   pub last : m < n + length names
 
-counted_from : (n : ℕ) (names : List (Option (List ℕ))) (text : List ℕ) (m : ℕ) → number_from n names text ≡ Some m → Counted n m names
+counted_from : (n : ℕ) (names : List (Option (List ℕ))) (text : List ℕ) (m : ℕ) → number_in_from n names text ≡ Some m → Counted n m names
 counted_from n [] text m h = cc
 counted_from n (name ∷ names) text m h = by (is_spelled name text) h (counted_from (n + 1) names text m)
   where
-    by : (c : Bool) → (if c then Some n else number_from (n + 1) names text) ≡ Some m
-        → (number_from (n + 1) names text ≡ Some m → Counted (n + 1) m names) → Counted n m (name ∷ names)
+    by : (c : Bool) → (if c then Some n else number_in_from (n + 1) names text) ≡ Some m
+        → (number_in_from (n + 1) names text ≡ Some m → Counted (n + 1) m names) → Counted n m (name ∷ names)
     by true f later =
         let same : n ≡ m = cc in
         record { first = omega arith; last = omega arith }
@@ -120,28 +120,28 @@ counted_from n (name ∷ names) text m h = by (is_spelled name text) h (counted_
         let rest = later f in
         record { first = omega (arith, rest.first); last = omega (arith, rest.last) }
 
-modes_counted : (names : List (Option (List ℕ))) (text : List ℕ) (m modes : ℕ) → length names ≤ modes → number_of (None ∷ names) text ≡ Some m → IsModeNumber m modes
+modes_counted : (names : List (Option (List ℕ))) (text : List ℕ) (m modes : ℕ) → length names ≤ modes → number_in (None ∷ names) text ≡ Some m → IsModeNumber m modes
 modes_counted names text m modes l h =
     let c = counted_from 1 names text m h in
     record { first = c.first; last = omega (arith, c.last) }
 
-words_counted : (names : List (Option (List ℕ))) → length names ≤ 8 → (text : List ℕ) (i : ℕ) → number_of names text ≡ Some i → i < 8
+words_counted : (names : List (Option (List ℕ))) → length names ≤ 8 → (text : List ℕ) (i : ℕ) → number_in names text ≡ Some i → i < 8
 words_counted names l text i h = let c = counted_from 0 names text i h in omega (arith, c.last)
 
-two_named : (a b : List ℕ) (mode : ℕ) → IsModeNumber mode 2 → IsSome (name_at (None ∷ Some a ∷ Some b ∷ []) mode)
+two_named : (a b : List ℕ) (mode : ℕ) → IsModeNumber mode 2 → IsSome (name_in (None ∷ Some a ∷ Some b ∷ []) mode)
 two_named a b zero p = absurd (omega (arith, p.first))
 two_named a b (suc zero) p = refl
 two_named a b (suc (suc zero)) p = refl
 two_named a b (suc (suc (suc mode))) p = absurd (omega (arith, p.last))
 
-three_named : (a b c : List ℕ) (mode : ℕ) → IsModeNumber mode 3 → IsSome (name_at (None ∷ Some a ∷ Some b ∷ Some c ∷ []) mode)
+three_named : (a b c : List ℕ) (mode : ℕ) → IsModeNumber mode 3 → IsSome (name_in (None ∷ Some a ∷ Some b ∷ Some c ∷ []) mode)
 three_named a b c zero p = absurd (omega (arith, p.first))
 three_named a b c (suc zero) p = refl
 three_named a b c (suc (suc zero)) p = refl
 three_named a b c (suc (suc (suc zero))) p = refl
 three_named a b c (suc (suc (suc (suc mode)))) p = absurd (omega (arith, p.last))
 
-with_two_modes : (kind : ℕ) (a b : List ℕ) → modes_of_kind kind ≡ 2 → mode_names kind ≡ None ∷ Some a ∷ Some b ∷ [] → IsSome (name_at kind_names kind)
+with_two_modes : (kind : ℕ) (a b : List ℕ) → modes_of_kind kind ≡ 2 → mode_names kind ≡ None ∷ Some a ∷ Some b ∷ [] → IsSome (name_in kind_names kind)
     → NamesAgree (mode_names kind) → NamesAgree (variable_names kind) → length (variable_names kind) ≤ 8 → KindIsNamed kind
 with_two_modes kind a b two names named modes variables few = record {
   name = named;
@@ -152,7 +152,7 @@ with_two_modes kind a b two names named modes variables few = record {
   variable_number = words_counted (variable_names kind) few;
 }
 
-with_three_modes : (kind : ℕ) (a b c : List ℕ) → modes_of_kind kind ≡ 3 → mode_names kind ≡ None ∷ Some a ∷ Some b ∷ Some c ∷ [] → IsSome (name_at kind_names kind)
+with_three_modes : (kind : ℕ) (a b c : List ℕ) → modes_of_kind kind ≡ 3 → mode_names kind ≡ None ∷ Some a ∷ Some b ∷ Some c ∷ [] → IsSome (name_in kind_names kind)
     → NamesAgree (mode_names kind) → NamesAgree (variable_names kind) → length (variable_names kind) ≤ 8 → KindIsNamed kind
 with_three_modes kind a b c three names named modes variables few = record {
   name = named;

@@ -3,7 +3,8 @@ use Rattle.std.proofs.Common.{◌≡◌, ◌≤◌, ℕ, zero, suc, ℤ, pos, �
 use Rattle.std.proofs.lemmas.Int.{ints}
 use Rattle.scram_types.specs.declared.ranges.Range.{Range}
 use Rattle.scram_types.specs.Ranges.{limit}
-use Rattle.app_model.specs.Ranges.{autopilot_range, flight_control_range, power_monitor_range, navigator_range, data_link_range, range_of, autopilot_initialised, flight_control_initialised, navigator_initialised, initialised_range, widest_mode, sane_range, moves}
+use Rattle.app_model.specs.Kinds.{kind_variable}
+use Rattle.app_model.specs.Ranges.{initialised_range, widest_mode, sane_range, mode_range, is_moving}
 use Rattle.app_model.specs.Bounds.{ends, during, after_halt, after_init, sane}
 use Rattle.app_model.specs.Areas.{Inside, AllTablesNarrow}
 use Rattle.app_model.proofs.Within.{In, each, each_kind}
@@ -38,71 +39,73 @@ wider r s x n p = record { least = omega (arith, ints, p.least, n.below); greate
 
 -- the ranges after an init phase
 abbrev pub InitNarrows : ℕ → Type 0
-InitNarrows kind = (mode i : ℕ) → 0 < i → i < 8 → Narrower (initialised_range kind mode i) (range_of kind mode i)
+InitNarrows kind = (mode i : ℕ) → 0 < i → i < 8 → Narrower (initialised_range kind mode i) (mode_range kind mode i)
 
 autopilot_init : InitNarrows 0
-unfolding initialised_range range_of autopilot_initialised autopilot_range
-autopilot_init mode = each (λ i. Narrower (initialised_range 0 mode i) (range_of 0 mode i))
+unfolding initialised_range mode_range kind_variable
+autopilot_init mode = each (λ i. Narrower (initialised_range 0 mode i) (mode_range 0 mode i))
     (zeros _) (zeros _) (same _) (same _) (zeros _) (same _) (same _)
 
 flight_control_init : InitNarrows 1
-unfolding initialised_range range_of flight_control_initialised flight_control_range
-flight_control_init mode = each (λ i. Narrower (initialised_range 1 mode i) (range_of 1 mode i))
+unfolding initialised_range mode_range kind_variable
+flight_control_init mode = each (λ i. Narrower (initialised_range 1 mode i) (mode_range 1 mode i))
     (both (mode == 1) _ _ _ _ (numbers 50 50 100 100 (omega arith) (omega arith)) (same _))
     (both (mode == 1) _ _ _ _ (numbers 50 50 150 150 (omega arith) (omega arith)) (numbers 100 100 300 300 (omega arith) (omega arith)))
     (same _) (same _) (same _) (same _) (same _)
 
 power_monitor_init : InitNarrows 2
-unfolding initialised_range
-power_monitor_init mode i l h = same _
+unfolding initialised_range mode_range kind_variable
+power_monitor_init mode = each (λ i. Narrower (initialised_range 2 mode i) (mode_range 2 mode i))
+    (same _) (same _) (same _) (same _) (same _) (same _) (same _)
 
 navigator_init : InitNarrows 3
-unfolding initialised_range range_of navigator_initialised navigator_range
-navigator_init mode = each (λ i. Narrower (initialised_range 3 mode i) (range_of 3 mode i))
+unfolding initialised_range mode_range kind_variable
+navigator_init mode = each (λ i. Narrower (initialised_range 3 mode i) (mode_range 3 mode i))
     (zeros _) (zeros _) (same _) (same _) (same _) (same _) (same _)
 
 data_link_init : InitNarrows 4
-unfolding initialised_range
-data_link_init mode i l h = same _
+unfolding initialised_range mode_range kind_variable
+data_link_init mode = each (λ i. Narrower (initialised_range 4 mode i) (mode_range 4 mode i))
+    (same _) (same _) (same _) (same _) (same _) (same _) (same _)
 
 pub init_narrows : (kind : ℕ) → kind < 5 → InitNarrows kind
 init_narrows = each_kind InitNarrows autopilot_init flight_control_init power_monitor_init navigator_init data_link_init
 
 -- the widest of the modes' ranges
 abbrev WidestHolds : ℕ → Type 0
-WidestHolds kind = (mode i : ℕ) → 0 < i → i < 8 → Narrower (range_of kind mode i) (range_of kind (widest_mode kind) i)
+WidestHolds kind = (mode i : ℕ) → 0 < i → i < 8 → Narrower (mode_range kind mode i) (mode_range kind (widest_mode kind) i)
 
 autopilot_widest : WidestHolds 0
-unfolding range_of autopilot_range widest_mode
-autopilot_widest mode = each (λ i. Narrower (range_of 0 mode i) (range_of 0 (widest_mode 0) i))
+unfolding mode_range widest_mode kind_variable
+autopilot_widest mode = each (λ i. Narrower (mode_range 0 mode i) (mode_range 0 (widest_mode 0) i))
     (from (mode == 1) _ _ _ (same _) (numbers 80 80 100 100 (omega arith) (omega arith)))
     (from (mode == 1) _ _ _ (same _) (zeros _))
     (same _) (same _) (same _) (same _) (same _)
 
 flight_control_widest : WidestHolds 1
-unfolding range_of flight_control_range widest_mode
-flight_control_widest mode = each (λ i. Narrower (range_of 1 mode i) (range_of 1 (widest_mode 1) i))
+unfolding mode_range widest_mode kind_variable
+flight_control_widest mode = each (λ i. Narrower (mode_range 1 mode i) (mode_range 1 (widest_mode 1) i))
     (from (mode == 1) _ _ _ (numbers 100 100 200 200 (omega arith) (omega arith)) (same _))
     (from (mode == 1) _ _ _ (numbers 150 150 300 300 (omega arith) (omega arith)) (same _))
     (same _) (same _) (same _) (same _) (same _)
 
 power_monitor_widest : WidestHolds 2
-unfolding range_of power_monitor_range widest_mode
-power_monitor_widest mode = each (λ i. Narrower (range_of 2 mode i) (range_of 2 (widest_mode 2) i))
+unfolding mode_range widest_mode kind_variable
+power_monitor_widest mode = each (λ i. Narrower (mode_range 2 mode i) (mode_range 2 (widest_mode 2) i))
     (same _) (same _)
     (from (mode == 1) _ _ _ (same _) (from (mode == 2) _ _ _ (numbers 0 60 0 100 (omega arith) (omega arith)) (numbers 0 20 0 100 (omega arith) (omega arith))))
     (same _) (same _) (same _) (same _)
 
 navigator_widest : WidestHolds 3
-unfolding range_of navigator_range widest_mode
-navigator_widest mode = each (λ i. Narrower (range_of 3 mode i) (range_of 3 (widest_mode 3) i))
+unfolding mode_range widest_mode kind_variable
+navigator_widest mode = each (λ i. Narrower (mode_range 3 mode i) (mode_range 3 (widest_mode 3) i))
     (same _)
     (from (mode == 1) _ _ _ (same _) (zeros _))
     (same _) (same _) (same _) (same _) (same _)
 
 data_link_widest : WidestHolds 4
-unfolding range_of data_link_range widest_mode
-data_link_widest mode = each (λ i. Narrower (range_of 4 mode i) (range_of 4 (widest_mode 4) i))
+unfolding mode_range widest_mode kind_variable
+data_link_widest mode = each (λ i. Narrower (mode_range 4 mode i) (mode_range 4 (widest_mode 4) i))
     (same _) (same _)
     (from (mode == 1) _ _ _ (same _) (numbers 0 1 0 4 (omega arith) (omega arith)))
     (same _) (same _) (same _) (same _)
@@ -121,41 +124,45 @@ inside_choice : (b : Bool) (range : ℤ × ℤ) (r : Range) → range ≡ ends r
 inside_choice true range r e = rw e (record { least = omega (arith, ints); greatest = omega (arith, ints) })
 inside_choice false range r e = inside_same range
 
-pub during_is : (kind act mode i : ℕ) → 0 < i → i < 8 → during kind act mode i ≡ ends (range_of kind mode i)
+pub during_is : (kind status mode i : ℕ) → 0 < i → i < 8 → during kind status mode i ≡ ends (mode_range kind mode i)
 unfolding during
-during_is kind act mode = each (λ i. during kind act mode i ≡ ends (range_of kind mode i)) refl refl refl refl refl refl refl
+during_is kind status mode = each (λ i. during kind status mode i ≡ ends (mode_range kind mode i)) refl refl refl refl refl refl refl
 
 pub after_init_is : (kind mode i : ℕ) → 0 < i → i < 8 → after_init kind mode i ≡ ends (initialised_range kind mode i)
 unfolding after_init
 after_init_is kind mode = each (λ i. after_init kind mode i ≡ ends (initialised_range kind mode i)) refl refl refl refl refl refl refl
 
-sane_is : (kind i : ℕ) → 0 < i → i < 8 → sane kind i ≡ ends (range_of kind (widest_mode kind) i)
+sane_is : (kind i : ℕ) → 0 < i → i < 8 → sane kind i ≡ ends (mode_range kind (widest_mode kind) i)
 unfolding sane sane_range
-sane_is kind = each (λ i. sane kind i ≡ ends (range_of kind (widest_mode kind) i)) refl refl refl refl refl refl refl
+sane_is kind = each (λ i. sane kind i ≡ ends (mode_range kind (widest_mode kind) i)) refl refl refl refl refl refl refl
 
 -- the status does not move
-pub status_stays : (kind : ℕ) → kind < 5 → moves kind 0 ≡ false
-unfolding moves
-status_stays = each_kind (λ kind. moves kind 0 ≡ false) refl refl refl refl refl
+pub status_stays : (kind : ℕ) → kind < 5 → is_moving kind 0 ≡ false
+unfolding is_moving kind_variable
+status_stays = each_kind (λ kind. is_moving kind 0 ≡ false) refl refl refl refl refl
 
 halt_inside : (kind mode i : ℕ) → kind < 5 → i < 8 → Inside (after_halt kind mode i) (during kind 2 mode i)
 unfolding after_halt
 halt_inside kind mode zero k l = rw (status_stays kind k) (inside_same (during kind 2 mode 0))
-halt_inside kind mode (suc i) k l = inside_choice (moves kind (suc i)) (during kind 2 mode (suc i)) (range_of kind mode (suc i)) (during_is kind 2 mode (suc i) (omega arith) l)
+halt_inside kind mode (suc i) k l = inside_choice (is_moving kind (suc i)) (during kind 2 mode (suc i)) (mode_range kind mode (suc i)) (during_is kind 2 mode (suc i) (omega arith) l)
 
 init_inside : (kind mode i : ℕ) → kind < 5 → i < 8 → Inside (after_init kind mode i) (during kind 4 mode i)
 unfolding after_init during
 init_inside kind mode zero k l = record { least = omega (arith, ints); greatest = omega (arith, ints) }
 init_inside kind mode (suc i) k l = rw (after_init_is kind mode (suc i) (omega arith) l, during_is kind 4 mode (suc i) (omega arith) l) (inside _ _ (init_narrows kind k mode (suc i) (omega arith) l))
 
-sane_inside : (kind mode i act : ℕ) → kind < 5 → i < 8 → act ≤ 4 → Inside (during kind act mode i) (sane kind i)
-unfolding during sane sane_range
-sane_inside kind mode zero act k l a = record { least = omega (arith, ints); greatest = omega (arith, ints) }
-sane_inside kind mode (suc i) act k l a = rw (during_is kind act mode (suc i) (omega arith) l, sane_is kind (suc i) (omega arith) l) (inside _ _ (widest_holds kind k mode (suc i) (omega arith) l))
+sane_status : (kind : ℕ) → kind < 5 → sane kind 0 ≡ (pos 0, pos 4)
+unfolding sane sane_range mode_range widest_mode kind_variable
+sane_status = each_kind (λ kind. sane kind 0 ≡ (pos 0, pos 4)) refl refl refl refl refl
+
+sane_inside : (kind mode i status : ℕ) → kind < 5 → i < 8 → status ≤ 4 → Inside (during kind status mode i) (sane kind i)
+unfolding during
+sane_inside kind mode zero status k l a = rw (sane_status kind k) (record { least = omega (arith, ints); greatest = omega (arith, ints) })
+sane_inside kind mode (suc i) status k l a = rw (during_is kind status mode (suc i) (omega arith) l, sane_is kind (suc i) (omega arith) l) (inside _ _ (widest_holds kind k mode (suc i) (omega arith) l))
 
 pub tables_narrow : AllTablesNarrow
 tables_narrow kind mode i k l = record {
   halt = halt_inside kind mode i k l;
   init = init_inside kind mode i k l;
-  sane = λ act a. sane_inside kind mode i act k l a;
+  sane = λ status a. sane_inside kind mode i status k l a;
 }

@@ -7,7 +7,7 @@ use Rattle.scram_types.specs.declared.ranges.Range.{Range}
 use Rattle.app_model.specs.declared.seen.Seen.{Seen}
 use Rattle.scram_types.specs.Numbers.{part, clamp, minus, word}
 use Rattle.scram_types.specs.Ranges.{clamp_in, limit}
-use Rattle.app_model.specs.Ranges.{range_of}
+use Rattle.app_model.specs.Ranges.{mode_range}
 use Rattle.app_model.specs.Reads.{own_word, ticks_after}
 use Rattle.app_model.specs.Orders.{faded}
 
@@ -83,7 +83,7 @@ faded_last (negsuc a) = omega (arith, ints)
 pub in_faded_last : (x : ℤ) → In (limit 0 0) (faded x 1)
 in_faded_last x = let e = faded_last x in record { least = omega (arith, ints); greatest = omega (arith, ints) }
 
-pub in_own : (kind : ℕ) (seen : Seen) (i : ℕ) → In (range_of kind seen.mode.0 i) (own_word kind seen i)
+pub in_own : (kind : ℕ) (seen : Seen) (i : ℕ) → In (mode_range kind seen.mode.0 i) (own_word kind seen i)
 unfolding own_word
 in_own kind seen i = in_clamp _ _
 

@@ -8,7 +8,7 @@ use Rattle.app_model.specs.Bounds.{during, after_halt, after_init, sane}
 use Rattle.app_model.specs.Law.{law}
 use Rattle.app_model.specs.Starts.{start_of}
 
--- x lies between a least and a greatest number
+-- x lies between a least and a greatest number.
 pub record Between (range : ℤ × ℤ) (x : ℤ) : Type 0 where
   pub least : range.0 ≤ℤ x
   pub greatest : x ≤ℤ range.1
@@ -17,21 +17,20 @@ pub record Between (range : ℤ × ℤ) (x : ℤ) : Type 0 where
 abbrev pub AreaLies : (ℕ → ℤ × ℤ) → List ℤ → Type 0
 AreaLies range area = (i : ℕ) → i < 8 → Between (range i) (word area i)
 
--- the number of the act that an order asks for; a held area stays as it was, and that of an
--- application that is off is zeros
-abbrev pub act_of : Order → Option ℕ
-act_of Run = Some 1
-act_of (Halt k n) = Some 2
-act_of Hold = None
-act_of (Prepare k n) = Some 3
-act_of (Init k n) = Some 4
-act_of Off = None
+-- The status that an order leaves. None where the area stays as it was, and where it is zeros.
+abbrev pub status_of : Order → Option ℕ
+status_of Run = Some 1
+status_of (Halt k n) = Some 2
+status_of Hold = None
+status_of (Prepare k n) = Some 3
+status_of (Init k n) = Some 4
+status_of Off = None
 
--- For every kind, order and mode, whatever is seen: the area that the law gives lies in the ranges of
--- the act; after the last frame of a halt and of an init phase it lies in theirs.
+-- For every kind, order and mode, whatever is seen: the area that the law gives lies in the ranges while
+-- an application has that status; after the last frame of a halt and of an init phase it lies in theirs.
 abbrev pub LawLiesDuring : Type 0
-LawLiesDuring = (kind act : ℕ) (order : Order) (seen : Seen) → kind < 5 → act_of order ≡ Some act
-    → AreaLies (during kind act seen.mode.0) (law kind order seen)
+LawLiesDuring = (kind status : ℕ) (order : Order) (seen : Seen) → kind < 5 → status_of order ≡ Some status
+    → AreaLies (during kind status seen.mode.0) (law kind order seen)
 
 abbrev pub LawLiesAfterHalt : Type 0
 LawLiesAfterHalt = (kind k n : ℕ) (seen : Seen) → kind < 5 → k + 1 ≡ n
@@ -51,11 +50,11 @@ pub record Inside (inner outer : ℤ × ℤ) : Type 0 where
   pub greatest : inner.1 ≤ℤ outer.1
 
 -- Of the tables alone: what holds after a halt or an init phase also holds during the phase, and the
--- sane ranges hold the ranges of every act in every mode.
+-- sane ranges hold those of every status in every mode.
 pub record TablesNarrow (kind mode i : ℕ) : Type 0 where
   pub halt : Inside (after_halt kind mode i) (during kind 2 mode i)
   pub init : Inside (after_init kind mode i) (during kind 4 mode i)
-  pub sane : (act : ℕ) → act ≤ 4 → Inside (during kind act mode i) (sane kind i)
+  pub sane : (status : ℕ) → status ≤ 4 → Inside (during kind status mode i) (sane kind i)
 
 abbrev pub AllTablesNarrow : Type 0
 AllTablesNarrow = (kind mode i : ℕ) → kind < 5 → i < 8 → TablesNarrow kind mode i

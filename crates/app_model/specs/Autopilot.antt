@@ -1,30 +1,31 @@
 -- What the autopilot's run leaves.
 use Rattle.std.specs.Prelude.{ℤ, pos, ◌-ℤ◌, ◌+ℤ◌, ◌==◌, List, [], ◌∷◌, if◌then◌else◌}
 use Rattle.app_model.specs.declared.seen.Seen.{Seen}
+use Rattle.app_model.specs.declared.kinds.autopilot.TheConstants.{INTEGRAL, KIND, NAVIGATE, PITCH, TARGET_ALT, TARGET_HEADING}
 use Rattle.scram_types.specs.Numbers.{part}
 use Rattle.scram_types.specs.Ranges.{clamp_in, limit}
-use Rattle.app_model.specs.Ranges.{range_of}
+use Rattle.app_model.specs.Ranges.{mode_range}
 use Rattle.app_model.specs.Reads.{own_word, altitude, heading, goal_altitude, goal_heading, ticks_after}
-use Rattle.app_model.specs.Headings.{turn}
+use Rattle.app_model.specs.Headings.{short_turn}
 
 -- In navigate the targets become the goal's, in hold they stay.
 unfoldable pub target_alt : Seen → ℤ
-target_alt seen = if seen.mode.0 == 1 then goal_altitude seen else own_word 0 seen 3
+target_alt seen = if seen.mode.0 == NAVIGATE then goal_altitude seen else own_word KIND seen TARGET_ALT
 
 unfoldable pub target_heading : Seen → ℤ
-target_heading seen = if seen.mode.0 == 1 then goal_heading seen else own_word 0 seen 4
+target_heading seen = if seen.mode.0 == NAVIGATE then goal_heading seen else own_word KIND seen TARGET_HEADING
 
 unfoldable pub altitude_error : Seen → ℤ
 altitude_error seen = clamp_in (limit 500 500) (target_alt seen -ℤ altitude seen)
 
 unfoldable pub integral_after : Seen → ℤ
-integral_after seen = clamp_in (limit 4000 4000) (own_word 0 seen 5 +ℤ altitude_error seen)
+integral_after seen = clamp_in (limit 4000 4000) (own_word KIND seen INTEGRAL +ℤ altitude_error seen)
 
 unfoldable pub pitch_after : Seen → ℤ
-pitch_after seen = clamp_in (range_of 0 seen.mode.0 1) (part (altitude_error seen) 10 +ℤ part (integral_after seen) 100)
+pitch_after seen = clamp_in (mode_range KIND seen.mode.0 PITCH) (part (altitude_error seen) 10 +ℤ part (integral_after seen) 100)
 
 unfoldable pub roll_after : Seen → ℤ
-roll_after seen = if seen.mode.0 == 1 then clamp_in (limit 150 150) (part (turn (target_heading seen) (heading seen)) 4) else pos 0
+roll_after seen = if seen.mode.0 == NAVIGATE then clamp_in (limit 150 150) (part (short_turn (target_heading seen) (heading seen)) 4) else pos 0
 
 unfoldable pub autopilot_ran : Seen → List ℤ
-autopilot_ran seen = pos 1 ∷ pitch_after seen ∷ roll_after seen ∷ target_alt seen ∷ target_heading seen ∷ integral_after seen ∷ ticks_after 0 seen ∷ pos 0 ∷ []
+autopilot_ran seen = pos 1 ∷ pitch_after seen ∷ roll_after seen ∷ target_alt seen ∷ target_heading seen ∷ integral_after seen ∷ ticks_after KIND seen ∷ pos 0 ∷ []

@@ -2,18 +2,18 @@
 use Rattle.std.specs.Prelude.{ℕ, ℤ, pos, ◌==◌, if◌then◌else◌}
 use Rattle.scram_types.specs.declared.ranges.Range.{Range}
 use Rattle.scram_types.specs.Numbers.{minus}
-use Rattle.app_model.specs.Ranges.{range_of, initialised_range, sane_range, moves}
+use Rattle.app_model.specs.Ranges.{initialised_range, sane_range, mode_range, is_moving}
 
 abbrev pub ends : Range → ℤ × ℤ
 ends r = (minus r.below, pos r.above)
 
--- while an application of the kind does an act in a mode: act 1 run, 2 halt, 3 prepare, 4 init
+-- while an application of the kind has a status in a mode: 1 run, 2 halt, 3 prepare, 4 init
 unfoldable pub during : ℕ → ℕ → ℕ → ℕ → ℤ × ℤ
-during kind act mode i = if i == 0 then (pos act, pos act) else ends (range_of kind mode i)
+during kind status mode i = if i == 0 then (pos status, pos status) else ends (mode_range kind mode i)
 
 -- after the last frame of a halt
 unfoldable pub after_halt : ℕ → ℕ → ℕ → ℤ × ℤ
-after_halt kind mode i = if moves kind i then (pos 0, pos 0) else during kind 2 mode i
+after_halt kind mode i = if is_moving kind i then (pos 0, pos 0) else during kind 2 mode i
 
 -- after the last frame of an init phase
 unfoldable pub after_init : ℕ → ℕ → ℕ → ℤ × ℤ

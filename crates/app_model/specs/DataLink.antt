@@ -3,20 +3,26 @@ use Rattle.std.specs.Prelude.{ℕ, ℤ, pos, ◌-ℤ◌, ◌+ℤ◌, ◌==◌, L
 use Rattle.std.specs.Int.{int_min}
 use Rattle.std.specs.Ordering.{int_eq}
 use Rattle.app_model.specs.declared.seen.Seen.{Seen}
+use Rattle.app_model.specs.declared.kinds.autopilot.TheConstants as autopilot
+use Rattle.app_model.specs.declared.kinds.data_link.TheConstants.{DROPPED, FAST, KIND, QUEUED, SENT}
+use Rattle.app_model.specs.declared.kinds.every_kind.TheConstants.{STATUS}
+use Rattle.app_model.specs.declared.kinds.flight_control.TheConstants as flight_control
+use Rattle.app_model.specs.declared.kinds.navigator.TheConstants as navigator
+use Rattle.app_model.specs.declared.kinds.power_monitor.TheConstants as power_monitor
 use Rattle.app_model.specs.Reads.{own_word, lead_word, ticks_after}
 
 -- one message where the application of a kind runs
 unfoldable pub fresh_of : ℕ → Seen → ℤ
-fresh_of kind seen = if int_eq (lead_word kind seen 0) (pos 1) then pos 1 else pos 0
+fresh_of kind seen = if int_eq (lead_word kind seen STATUS) (pos 1) then pos 1 else pos 0
 
 unfoldable pub fresh : Seen → ℤ
-fresh seen = ((fresh_of 0 seen +ℤ fresh_of 1 seen) +ℤ fresh_of 2 seen) +ℤ fresh_of 3 seen
+fresh seen = ((fresh_of autopilot.KIND seen +ℤ fresh_of flight_control.KIND seen) +ℤ fresh_of power_monitor.KIND seen) +ℤ fresh_of navigator.KIND seen
 
 unfoldable pub rate_after : Seen → ℤ
-rate_after seen = if seen.mode.0 == 1 then pos 4 else pos 1
+rate_after seen = if seen.mode.0 == FAST then pos 4 else pos 1
 
 unfoldable pub waiting : Seen → ℤ
-waiting seen = own_word 4 seen 1 +ℤ fresh seen
+waiting seen = own_word KIND seen QUEUED +ℤ fresh seen
 
 unfoldable pub going : Seen → ℤ
 going seen = int_min (rate_after seen) (waiting seen)
@@ -25,14 +31,14 @@ unfoldable pub queued_after : Seen → ℤ
 queued_after seen = int_min (waiting seen -ℤ going seen) (pos 64)
 
 unfoldable pub sent_after : Seen → ℤ
-sent_after seen = int_min (own_word 4 seen 2 +ℤ going seen) (pos 1000000)
+sent_after seen = int_min (own_word KIND seen SENT +ℤ going seen) (pos 1000000)
 
 -- messages that neither go nor find room in the queue
 unfoldable pub left_over : Seen → ℤ
 left_over seen = (waiting seen -ℤ going seen) -ℤ queued_after seen
 
 unfoldable pub dropped_after : Seen → ℤ
-dropped_after seen = int_min (own_word 4 seen 4 +ℤ left_over seen) (pos 1000000)
+dropped_after seen = int_min (own_word KIND seen DROPPED +ℤ left_over seen) (pos 1000000)
 
 unfoldable pub data_link_ran : Seen → List ℤ
-data_link_ran seen = pos 1 ∷ queued_after seen ∷ sent_after seen ∷ rate_after seen ∷ dropped_after seen ∷ pos 0 ∷ ticks_after 4 seen ∷ pos 0 ∷ []
+data_link_ran seen = pos 1 ∷ queued_after seen ∷ sent_after seen ∷ rate_after seen ∷ dropped_after seen ∷ pos 0 ∷ ticks_after KIND seen ∷ pos 0 ∷ []

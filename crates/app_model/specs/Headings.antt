@@ -3,5 +3,5 @@ use Rattle.std.specs.Prelude.{ℤ, pos, ◌-ℤ◌, ◌+ℤ◌}
 use Rattle.scram_types.specs.Numbers.{modulo}
 
 -- from one heading to another, the short way; half a turn goes to the left
-unfoldable pub turn : ℤ → ℤ → ℤ
-turn target from = modulo ((target -ℤ from) +ℤ pos 5400) 3600 -ℤ pos 1800
+unfoldable pub short_turn : ℤ → ℤ → ℤ
+short_turn target from = modulo ((target -ℤ from) +ℤ pos 5400) 3600 -ℤ pos 1800

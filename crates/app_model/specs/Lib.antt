@@ -1,3 +1,4 @@
+pub mod Kinds
 pub mod Ranges
 pub mod Reads
 pub mod Orders

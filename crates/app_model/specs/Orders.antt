@@ -1,21 +1,22 @@
 -- What the orders but `Run` leave of an area. They are the same for all kinds, over the ranges.
 use Rattle.std.specs.Prelude.{ℕ, ℤ, pos, ◌-ℤ◌, ◌==◌, ◌&&◌, Bool, List, [], ◌∷◌, if◌then◌else◌}
 use Rattle.app_model.specs.declared.seen.Seen.{Seen}
+use Rattle.app_model.specs.declared.kinds.autopilot.TheConstants.{KIND, TARGET_ALT, TARGET_HEADING}
 use Rattle.scram_types.specs.Numbers.{part}
 use Rattle.scram_types.specs.Ranges.{clamp_in}
-use Rattle.app_model.specs.Ranges.{initialised_range, moves}
+use Rattle.app_model.specs.Ranges.{initialised_range, is_moving}
 use Rattle.app_model.specs.Reads.{own_word, altitude, heading}
 
 -- a status, and the other words as read
-unfoldable pub kept : ℕ → ℤ → Seen → List ℤ
-kept kind status seen = status ∷ own_word kind seen 1 ∷ own_word kind seen 2 ∷ own_word kind seen 3 ∷ own_word kind seen 4 ∷ own_word kind seen 5 ∷ own_word kind seen 6 ∷ own_word kind seen 7 ∷ []
+unfoldable pub kept_area : ℕ → ℤ → Seen → List ℤ
+kept_area kind status seen = status ∷ own_word kind seen 1 ∷ own_word kind seen 2 ∷ own_word kind seen 3 ∷ own_word kind seen 4 ∷ own_word kind seen 5 ∷ own_word kind seen 6 ∷ own_word kind seen 7 ∷ []
 
 -- a moving variable, where the halt has some frames left, this one included
 unfoldable pub faded : ℤ → ℕ → ℤ
 faded x left = x -ℤ part x left
 
 unfoldable pub halted_word : ℕ → ℕ → Seen → ℕ → ℤ
-halted_word kind left seen i = if moves kind i then faded (own_word kind seen i) left else own_word kind seen i
+halted_word kind left seen i = if is_moving kind i then faded (own_word kind seen i) left else own_word kind seen i
 
 unfoldable pub halted : ℕ → ℕ → Seen → List ℤ
 halted kind left seen = pos 2 ∷ halted_word kind left seen 1 ∷ halted_word kind left seen 2 ∷ halted_word kind left seen 3 ∷ halted_word kind left seen 4 ∷ halted_word kind left seen 5 ∷ halted_word kind left seen 6 ∷ halted_word kind left seen 7 ∷ []
@@ -23,12 +24,12 @@ halted kind left seen = pos 2 ∷ halted_word kind left seen 1 ∷ halted_word k
 -- at the end of the init phase; the autopilot's targets become the aircraft's altitude and heading
 unfoldable pub initialised_word : ℕ → Seen → ℕ → ℤ
 initialised_word kind seen i =
-    if kind == 0 && i == 3 then altitude seen else
-    (if kind == 0 && i == 4 then heading seen else clamp_in (initialised_range kind seen.mode.0 i) (own_word kind seen i))
+    if kind == KIND && i == TARGET_ALT then altitude seen else
+    (if kind == KIND && i == TARGET_HEADING then heading seen else clamp_in (initialised_range kind seen.mode.0 i) (own_word kind seen i))
 
 unfoldable pub initialised : ℕ → Seen → List ℤ
 initialised kind seen = pos 4 ∷ initialised_word kind seen 1 ∷ initialised_word kind seen 2 ∷ initialised_word kind seen 3 ∷ initialised_word kind seen 4 ∷ initialised_word kind seen 5 ∷ initialised_word kind seen 6 ∷ initialised_word kind seen 7 ∷ []
 
 -- in a frame of the init phase
 abbrev pub initialising : ℕ → Bool → Seen → List ℤ
-initialising kind last seen = if last then initialised kind seen else kept kind (pos 4) seen
+initialising kind last seen = if last then initialised kind seen else kept_area kind (pos 4) seen

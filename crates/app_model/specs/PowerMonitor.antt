@@ -1,24 +1,25 @@
 -- What the power monitor's run leaves.
 use Rattle.std.specs.Prelude.{ℕ, ℤ, pos, ◌-ℤ◌, ◌+ℤ◌, ◌==◌, int_lt, List, [], ◌∷◌, slice_index, if◌then◌else◌}
 use Rattle.app_model.specs.declared.seen.Seen.{Seen}
+use Rattle.app_model.specs.declared.kinds.power_monitor.TheConstants.{CHARGE, KIND, NORMAL, SAVER}
 use Rattle.scram_types.specs.Ranges.{clamp_in, limit}
 use Rattle.app_model.specs.Reads.{own_word, ticks_after}
 
 -- what an alternator gives: its factor has value 0 where it works
-unfoldable pub alternator : ℕ → ℤ
-alternator value = if value == 0 then pos 60 else pos 0
+unfoldable pub alternator_gives : ℕ → ℤ
+alternator_gives value = if value == 0 then pos 60 else pos 0
 
 unfoldable pub supply_after : Seen → ℤ
-supply_after seen = alternator (slice_index seen.factors 0) +ℤ alternator (slice_index seen.factors 1)
+supply_after seen = alternator_gives (slice_index seen.factors 0) +ℤ alternator_gives (slice_index seen.factors 1)
 
 unfoldable pub demand_after : Seen → ℤ
-demand_after seen = if seen.mode.0 == 1 then pos 100 else (if seen.mode.0 == 2 then pos 60 else pos 20)
+demand_after seen = if seen.mode.0 == NORMAL then pos 100 else (if seen.mode.0 == SAVER then pos 60 else pos 20)
 
 unfoldable pub charge_after : Seen → ℤ
-charge_after seen = clamp_in (limit 0 10000) ((own_word 2 seen 1 +ℤ supply_after seen) -ℤ demand_after seen)
+charge_after seen = clamp_in (limit 0 10000) ((own_word KIND seen CHARGE +ℤ supply_after seen) -ℤ demand_after seen)
 
 unfoldable pub shed_after : Seen → ℤ
 shed_after seen = if int_lt (charge_after seen) (pos 2000) then pos 1 else pos 0
 
 unfoldable pub power_monitor_ran : Seen → List ℤ
-power_monitor_ran seen = pos 1 ∷ charge_after seen ∷ supply_after seen ∷ demand_after seen ∷ shed_after seen ∷ pos 0 ∷ ticks_after 2 seen ∷ pos 0 ∷ []
+power_monitor_ran seen = pos 1 ∷ charge_after seen ∷ supply_after seen ∷ demand_after seen ∷ shed_after seen ∷ pos 0 ∷ ticks_after KIND seen ∷ pos 0 ∷ []

@@ -2,15 +2,15 @@
 use Rattle.std.specs.Prelude.{◌≡◌, ℕ, List, [], ◌∷◌, length, map, All, slice_get}
 
 -- Five boxes: that of kind k at place k.
-abbrev pub Fits : {B : Type 0} → (B → ℕ) → List B → Type 0
-Fits kind boxes = map kind boxes ≡ 0 ∷ 1 ∷ 2 ∷ 3 ∷ 4 ∷ []
+abbrev pub RackFits : {B : Type 0} → (B → ℕ) → List B → Type 0
+RackFits kind boxes = map kind boxes ≡ 0 ∷ 1 ∷ 2 ∷ 3 ∷ 4 ∷ []
 
-abbrev pub AllFit : {B R : Type 0} → (B → ℕ) → (R → List B) → List R → Type 0
-AllFit kind boxes racks = All (λ r. Fits kind (boxes r)) racks
+abbrev pub AllRacksFit : {B R : Type 0} → (B → ℕ) → (R → List B) → List R → Type 0
+AllRacksFit kind boxes racks = All (λ r. RackFits kind (boxes r)) racks
 
 -- One rack for each of the eight processors.
 abbrev pub RacksFit : {B R : Type 0} → (B → ℕ) → (R → List B) → List R → Type 0
-RacksFit kind boxes racks = (length racks ≡ 8) × AllFit kind boxes racks
+RacksFit kind boxes racks = (length racks ≡ 8) × AllRacksFit kind boxes racks
 
 -- Every item but that at one place is as it was.
 abbrev pub OthersStay : {A : Type 0} → List A → List A → ℕ → Type 0

@@ -2,13 +2,14 @@
 use Rattle.std.specs.Prelude.{ℕ, ℤ, pos, ◌+ℤ◌, [], slice_index_or}
 use Rattle.std.specs.Int.{int_min}
 use Rattle.app_model.specs.declared.seen.Seen.{Seen}
+use Rattle.app_model.specs.declared.kinds.every_kind.TheConstants.{TICKS}
 use Rattle.scram_types.specs.Numbers.{word}
 use Rattle.scram_types.specs.Ranges.{clamp_in, limit}
-use Rattle.app_model.specs.Ranges.{range_of, sane_range}
+use Rattle.app_model.specs.Ranges.{sane_range, mode_range}
 
 -- word i of the own area, in the range of the mode that the application is to be in
 unfoldable pub own_word : ℕ → Seen → ℕ → ℤ
-own_word kind seen i = clamp_in (range_of kind seen.mode.0 i) (word seen.own i)
+own_word kind seen i = clamp_in (mode_range kind seen.mode.0 i) (word seen.own i)
 
 -- word i of the area of the least-numbered application of a kind
 unfoldable pub lead_word : ℕ → Seen → ℕ → ℤ
@@ -28,4 +29,4 @@ goal_heading seen = clamp_in (limit 0 3599) seen.goal.heading
 
 -- frames in which the application ran
 unfoldable pub ticks_after : ℕ → Seen → ℤ
-ticks_after kind seen = int_min (own_word kind seen 6 +ℤ pos 1) (pos 1000000)
+ticks_after kind seen = int_min (own_word kind seen TICKS +ℤ pos 1) (pos 1000000)

@@ -1,9 +1,12 @@
 -- The area that an application of a kind begins with.
-use Rattle.std.specs.Prelude.{ℕ, ℤ, pos, ◌==◌, List, [], ◌∷◌, if◌then◌else◌}
+use Rattle.std.specs.Prelude.{ℕ, ℤ, List}
+use Rattle.scram_types.specs.Eights.{eight}
+use Rattle.app_model.specs.Kinds.{kind_variable}
 
--- as after an init; the autopilot's targets are 5,000 feet and 90 degrees, the charge is 8,000
+-- what word i begins with
+abbrev pub start_at : ℕ → ℕ → ℤ
+start_at kind i = (kind_variable kind i).start
+
+-- As after an init phase.
 abbrev pub start_of : ℕ → List ℤ
-start_of kind =
-    if kind == 0 then pos 4 ∷ pos 0 ∷ pos 0 ∷ pos 5000 ∷ pos 900 ∷ pos 0 ∷ pos 0 ∷ pos 0 ∷ [] else
-    (if kind == 2 then pos 4 ∷ pos 8000 ∷ pos 0 ∷ pos 0 ∷ pos 0 ∷ pos 0 ∷ pos 0 ∷ pos 0 ∷ [] else
-    (pos 4 ∷ pos 0 ∷ pos 0 ∷ pos 0 ∷ pos 0 ∷ pos 0 ∷ pos 0 ∷ pos 0 ∷ []))
+start_of kind = eight (start_at kind)

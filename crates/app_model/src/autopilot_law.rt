@@ -7,7 +7,7 @@ ghost use Rattle.scram_types.specs.Numbers.{IsWord, part};
 ghost use Rattle.app_model.specs.Autopilot.{target_alt, target_heading, altitude_error, integral_after, pitch_after, roll_after, autopilot_ran};
 ghost use Rattle.app_model.specs.Law.{law};
 
-use crate::headings::turn_to;
+use crate::headings::short_turn;
 use crate::kinds::autopilot::{INTEGRAL, KIND, NAVIGATE, PITCH, TARGET_ALT, TARGET_HEADING};
 use crate::orders::area_after;
 use crate::ranges::mode_range;
@@ -90,7 +90,7 @@ fn next_roll(seen: &Seen) -> i64
     if seen.mode.0 == NAVIGATE {
         clamped_in(
             make_range(150, 150),
-            quarter(turn_to(wanted_heading(seen), read_heading(seen))),
+            quarter(short_turn(wanted_heading(seen), read_heading(seen))),
         )
     } else {
         0

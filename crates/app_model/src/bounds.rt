@@ -4,7 +4,7 @@
 ghost use Rattle.std.specs.Prelude.{◌≡◌};
 ghost use Rattle.app_model.specs.Bounds.{ends, during, after_halt, after_init, sane};
 
-use crate::ranges::{is_moving, mode_range, range_when_initialised, widest_range};
+use crate::ranges::{initialised_range, is_moving, mode_range, sane_range};
 use scram_types::{KindId, Mode, Range};
 
 fn ends_of(range: Range) -> (i64, i64)
@@ -13,14 +13,13 @@ fn ends_of(range: Range) -> (i64, i64)
     (-i64::from(range.below), i64::from(range.above))
 }
 
-/// The least and the greatest number of a variable while an application of the kind does an act in a
-/// mode. `act` is the number that the status has then: 1 run, 2 halt, 3 prepare, 4 init. The units are
-/// those of [`crate::kinds`].
-pub fn during(kind: KindId, act: u8, mode: Mode, variable: u8) -> (i64, i64)
-    ensures { result ≡ during kind.0 act mode.0 variable }
+/// The least and the greatest number of a variable while an application of the kind has a status in a
+/// mode: 1 run, 2 halt, 3 prepare, 4 init. The units are those of [`crate::kinds`].
+pub fn during(kind: KindId, status: u8, mode: Mode, variable: u8) -> (i64, i64)
+    ensures { result ≡ during kind.0 status mode.0 variable }
 {
     if variable == 0 {
-        (i64::from(act), i64::from(act))
+        (i64::from(status), i64::from(status))
     } else {
         ends_of(mode_range(kind.0, mode.0, usize::from(variable)))
     }
@@ -45,7 +44,7 @@ pub fn after_init(kind: KindId, mode: Mode, variable: u8) -> (i64, i64)
     if variable == 0 {
         (4, 4)
     } else {
-        ends_of(range_when_initialised(kind.0, mode.0, usize::from(variable)))
+        ends_of(initialised_range(kind.0, mode.0, usize::from(variable)))
     }
 }
 
@@ -53,5 +52,5 @@ pub fn after_init(kind: KindId, mode: Mode, variable: u8) -> (i64, i64)
 pub fn sane(kind: KindId, variable: u8) -> (i64, i64)
     ensures { result ≡ sane kind.0 variable }
 {
-    ends_of(widest_range(kind.0, usize::from(variable)))
+    ends_of(sane_range(kind.0, usize::from(variable)))
 }

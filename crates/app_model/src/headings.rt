@@ -1,9 +1,9 @@
 //! Turns from one heading to another, in tenths of a degree.
-#![tactic(auto, unfolding(scram_types::specs::Numbers::modulo, crate::specs::Headings::turn))]
+#![tactic(auto, unfolding(scram_types::specs::Numbers::modulo, crate::specs::Headings::short_turn))]
 
 ghost use Rattle.std.specs.Prelude.{◌≡◌, ◌≤ℤ◌, ◌-ℤ◌, ◌+ℤ◌, pos};
 ghost use Rattle.scram_types.specs.Numbers.{IsWord, modulo};
-ghost use Rattle.app_model.specs.Headings.{turn};
+ghost use Rattle.app_model.specs.Headings.{short_turn};
 
 fn around(x: i64) -> i64
     ensures value { result ≡ modulo x 3600 }
@@ -32,10 +32,10 @@ fn centred(x: i64) -> i64
 
 /// The turn from one heading to another, the short way: -1,800 to 1,799 tenths of a degree, where
 /// less than 0 is to the left.
-pub fn turn_to(target: i64, from: i64) -> i64
+pub fn short_turn(target: i64, from: i64) -> i64
     requires target { IsWord target }
     requires from { IsWord from }
-    ensures value { result ≡ turn target from }
+    ensures value { result ≡ short_turn target from }
     ensures word { IsWord result }
 {
     centred(around(turn_offset(target, from)))

@@ -3,7 +3,7 @@
 
 ghost use Rattle.app_model.specs.Areas.{LawLiesDuring, LawLiesAfterHalt, LawLiesAfterInit, StartLiesAfterInit, AllTablesNarrow};
 
-/// The area that the law of a kind answers lies in the ranges of the act that was ordered, in the mode
+/// The area that the law of a kind answers lies in the ranges of the status that the order leaves, in the mode
 /// that the application is to be in, whatever it sees.
 pub fn law_lies_during()
     ensures { LawLiesDuring }

@@ -1,6 +1,6 @@
 //! Boxed applications and their laws. Whatever an application keeps in itself, what it answers in a
 //! frame is the law of its kind, read off the order and what it was shown, and the area that it
-//! answers lies in the ranges of its act.
+//! answers lies in the ranges of its status.
 #![tactic(auto)]
 
 pub mod app;
@@ -11,6 +11,7 @@ mod comparisons;
 pub mod headings;
 pub mod kinds;
 pub mod laws;
+pub mod memory;
 pub mod names;
 pub mod orders;
 pub mod racks;
@@ -18,6 +19,7 @@ pub mod ranges;
 pub mod reads;
 pub mod seen;
 pub mod starts;
+pub mod table;
 
 pub use app::App;
 pub use bounds::{after_halt, after_init, during, sane};

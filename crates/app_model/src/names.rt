@@ -2,21 +2,23 @@
 
 ghost use Rattle.std.specs.Prelude.{◌≡◌, ◌≤◌, ◌<◌, IfSome, length, map, option_map};
 ghost use Rattle.scram_types.specs.Specification.{modes_of_kind};
-ghost use Rattle.app_model.specs.Names.{kind_names, mode_names, variable_names, name_at, is_spelled, number_of, IsModeNumber, AllNamesAgree};
+ghost use Rattle.app_model.specs.Kinds.{variable_read};
+ghost use Rattle.app_model.specs.Names.{kind_names, mode_names, variable_names, is_spelled, IsModeNumber, AllNamesAgree, number_in, name_in};
 
-use crate::kinds::{autopilot, data_link, flight_control, navigator, power_monitor};
+use crate::table::{
+    AUTOPILOT, DATA_LINK, FLIGHT_CONTROL, NAVIGATOR, POWER_MONITOR, Variable, find_kind,
+};
 use scram_types::{KindId, Mode};
 
-fn names_of_kinds() -> &'static [Option<&'static str>]
-    ensures names { map (option_map (λ s. s.now)) result.now ≡ kind_names }
-    ensures five { length result.now ≡ 5 }
+fn names_of_kinds() -> [Option<&'static str>; 5]
+    ensures { map (option_map (λ s. s.now)) result ≡ kind_names }
 {
-    &[
-        Some("autopilot"),
-        Some("flight_control"),
-        Some("power_monitor"),
-        Some("navigator"),
-        Some("datalink"),
+    [
+        Some(AUTOPILOT.name),
+        Some(FLIGHT_CONTROL.name),
+        Some(POWER_MONITOR.name),
+        Some(NAVIGATOR.name),
+        Some(DATA_LINK.name),
     ]
 }
 
@@ -24,77 +26,30 @@ fn names_of_modes(kind: KindId) -> &'static [Option<&'static str>]
     ensures names { map (option_map (λ s. s.now)) result.now ≡ mode_names kind.0 }
     ensures few { length result.now ≤ 8 }
 {
-    match kind.0 {
-        autopilot::KIND => &[None, Some("navigate"), Some("hold")],
-        flight_control::KIND => &[None, Some("augmented"), Some("direct")],
-        power_monitor::KIND => &[None, Some("normal"), Some("saver"), Some("essential")],
-        navigator::KIND => &[None, Some("route"), Some("coarse")],
-        data_link::KIND => &[None, Some("fast"), Some("slow")],
-        _ => &[],
+    match find_kind(kind.0) {
+        Some(found) => found.modes,
+        None => &[],
     }
 }
 
-fn names_of_variables(kind: KindId) -> &'static [Option<&'static str>]
-    ensures names { map (option_map (λ s. s.now)) result.now ≡ variable_names kind.0 }
-    ensures few { length result.now ≤ 8 }
+fn names_of_variables(variables: &[Variable]) -> [Option<&'static str>; 8]
+    requires { length variables.now ≡ 8 }
+    ensures { map (option_map (λ s. s.now)) result ≡ map (λ v. v.name) (map variable_read variables.now) }
 {
-    match kind.0 {
-        autopilot::KIND => &[
-            Some("status"),
-            Some("pitch"),
-            Some("roll"),
-            Some("target_alt"),
-            Some("target_heading"),
-            Some("integral"),
-            Some("ticks"),
-            None,
-        ],
-        flight_control::KIND => &[
-            Some("status"),
-            Some("elevator"),
-            Some("aileron"),
-            Some("command_pitch"),
-            Some("command_roll"),
-            None,
-            Some("ticks"),
-            None,
-        ],
-        power_monitor::KIND => &[
-            Some("status"),
-            Some("charge"),
-            Some("supply"),
-            Some("demand"),
-            Some("shed"),
-            None,
-            Some("ticks"),
-            None,
-        ],
-        navigator::KIND => &[
-            Some("status"),
-            Some("bearing_error"),
-            Some("climb_left"),
-            Some("on_course"),
-            None,
-            None,
-            Some("ticks"),
-            None,
-        ],
-        data_link::KIND => &[
-            Some("status"),
-            Some("queued"),
-            Some("sent"),
-            Some("rate"),
-            Some("dropped"),
-            None,
-            Some("ticks"),
-            None,
-        ],
-        _ => &[],
-    }
+    [
+        variables[0].name,
+        variables[1].name,
+        variables[2].name,
+        variables[3].name,
+        variables[4].name,
+        variables[5].name,
+        variables[6].name,
+        variables[7].name,
+    ]
 }
 
-fn name_in(names: &'static [Option<&'static str>], number: u8) -> Option<&'static str>
-    ensures { option_map (λ s. s.now) result ≡ name_at (map (option_map (λ s. s.now)) names.now) number }
+fn name_in(names: &[Option<&'static str>], number: u8) -> Option<&'static str>
+    ensures { option_map (λ s. s.now) result ≡ name_in (map (option_map (λ s. s.now)) names.now) number }
 {
     match names.get(usize::from(number)) {
         Some(name) => *name,
@@ -114,7 +69,7 @@ fn is_spelled_so(name: Option<&str>, text: &str) -> bool
 fn number_in(names: &[Option<&str>], text: &str) -> Option<u8>
     requires few { length names.now ≤ 8 }
     ensures below { IfSome result (λ number. number < length names.now) }
-    ensures number { result ≡ number_of (map (option_map (λ s. s.now)) names.now) text.now }
+    ensures number { result ≡ number_in (map (option_map (λ s. s.now)) names.now) text.now }
 {
     let mut number = 0;
     for name in names {
@@ -128,10 +83,10 @@ fn number_in(names: &[Option<&str>], text: &str) -> Option<u8>
 
 /// The kind of this name, or `None` where no kind has it.
 pub fn kind_named(name: &str) -> Option<KindId>
-    ensures kind { option_map (λ kind. kind.0) result ≡ number_of kind_names name.now }
+    ensures kind { option_map (λ kind. kind.0) result ≡ number_in kind_names name.now }
     ensures built { IfSome result (λ kind. kind.0 < 5) }
 {
-    match number_in(names_of_kinds(), name) {
+    match number_in(&names_of_kinds(), name) {
         Some(number) => Some(KindId(number)),
         None => None,
     }
@@ -139,7 +94,7 @@ pub fn kind_named(name: &str) -> Option<KindId>
 
 /// The mode of this name of a kind, or `None` where the kind has no such mode.
 pub fn mode_named(kind: KindId, name: &str) -> Option<Mode>
-    ensures mode { option_map (λ mode. mode.0) result ≡ number_of (mode_names kind.0) name.now }
+    ensures mode { option_map (λ mode. mode.0) result ≡ number_in (mode_names kind.0) name.now }
     ensures of_kind { kind.0 < 5 → IfSome result (λ mode. IsModeNumber mode.0 (modes_of_kind kind.0)) }
 {
     match number_in(names_of_modes(kind), name) {
@@ -151,31 +106,37 @@ pub fn mode_named(kind: KindId, name: &str) -> Option<Mode>
 /// The place, 0 to 7, of the variable of this name in the areas of a kind, or `None` where the kind has
 /// no such variable.
 pub fn variable_named(kind: KindId, name: &str) -> Option<u8>
-    ensures variable { result ≡ number_of (variable_names kind.0) name.now }
+    ensures variable { result ≡ number_in (variable_names kind.0) name.now }
     ensures word { IfSome result (λ variable. variable < 8) }
 {
-    number_in(names_of_variables(kind), name)
+    match find_kind(kind.0) {
+        Some(found) => number_in(&names_of_variables(found.variables), name),
+        None => None,
+    }
 }
 
 /// The name of a kind, or `None` where there is no such kind.
 pub fn kind_name(kind: KindId) -> Option<&'static str>
-    ensures { option_map (λ s. s.now) result ≡ name_at kind_names kind.0 }
+    ensures { option_map (λ s. s.now) result ≡ name_in kind_names kind.0 }
 {
-    name_in(names_of_kinds(), kind.0)
+    name_in(&names_of_kinds(), kind.0)
 }
 
 /// The name of a mode of a kind, or `None` where the kind has no such mode; mode 0, off, has no name.
 pub fn mode_name(kind: KindId, mode: Mode) -> Option<&'static str>
-    ensures { option_map (λ s. s.now) result ≡ name_at (mode_names kind.0) mode.0 }
+    ensures { option_map (λ s. s.now) result ≡ name_in (mode_names kind.0) mode.0 }
 {
     name_in(names_of_modes(kind), mode.0)
 }
 
 /// The name of a variable of a kind, or `None` where the kind does not use this word of its areas.
 pub fn variable_name(kind: KindId, variable: u8) -> Option<&'static str>
-    ensures { option_map (λ s. s.now) result ≡ name_at (variable_names kind.0) variable }
+    ensures { option_map (λ s. s.now) result ≡ name_in (variable_names kind.0) variable }
 {
-    name_in(names_of_variables(kind), variable)
+    match find_kind(kind.0) {
+        Some(found) => name_in(&names_of_variables(found.variables), variable),
+        None => None,
+    }
 }
 
 /// Numbers and names lead to one another, of kinds, modes and variables; every kind has a name, of its

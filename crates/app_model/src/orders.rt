@@ -1,14 +1,14 @@
 //! What the orders but `Run` leave of an area, the same for all kinds.
-#![tactic(auto, unfolding(crate::specs::Orders::faded, crate::specs::Orders::kept, crate::specs::Orders::halted_word, crate::specs::Orders::halted, crate::specs::Orders::initialised_word, crate::specs::Orders::initialised))]
+#![tactic(auto, unfolding(crate::specs::Orders::faded, crate::specs::Orders::kept_area, crate::specs::Orders::halted_word, crate::specs::Orders::halted, crate::specs::Orders::initialised_word, crate::specs::Orders::initialised))]
 
 ghost use Rattle.std.specs.Prelude.{◌≡◌, ◌<◌, ◌+◌, ◌==◌, IfSome, None};
 ghost use Rattle.scram_types.specs.Numbers.{IsWord, part};
 ghost use Rattle.scram_types.specs.declared.orders.Order.TheVariants.{Run};
 ghost use Rattle.app_model.specs.Law.{law};
-ghost use Rattle.app_model.specs.Orders.{kept, faded, halted_word, halted, initialised_word, initialised, initialising};
+ghost use Rattle.app_model.specs.Orders.{faded, halted_word, halted, initialised_word, initialised, initialising, kept_area};
 
 use crate::kinds::autopilot;
-use crate::ranges::{is_moving, range_when_initialised};
+use crate::ranges::{initialised_range, is_moving};
 use crate::reads::{read_altitude, read_heading, read_own};
 use crate::seen::Seen;
 use scram_types::numbers::gap;
@@ -16,7 +16,7 @@ use scram_types::ranges::clamped_in;
 use scram_types::{Area, Order};
 
 fn keep(kind: u8, status: i64, seen: &Seen) -> Area
-    ensures { result ≡ kept kind status seen.now }
+    ensures { result ≡ kept_area kind status seen.now }
 {
     [
         status,
@@ -83,7 +83,7 @@ fn initialise_word(kind: u8, seen: &Seen, variable: usize) -> i64
         read_heading(seen)
     } else {
         clamped_in(
-            range_when_initialised(kind, seen.mode.0, variable),
+            initialised_range(kind, seen.mode.0, variable),
             read_own(kind, seen, variable),
         )
     }

@@ -2,7 +2,7 @@
 
 ghost use Rattle.std.specs.Prelude.{◌≡◌, ◌↔◌, ◌<◌, IsTrue};
 ghost use Rattle.app_model.specs.Law.{law};
-ghost use Rattle.app_model.specs.Racks.{Fits, AllFit, RacksFit, OthersStay};
+ghost use Rattle.app_model.specs.Racks.{RacksFit, OthersStay, RackFits, AllRacksFit};
 
 use crate::app::App;
 use crate::seen::Seen;
@@ -23,7 +23,7 @@ pub fn box_kind(app: &Box<dyn App + Send>) -> KindId
 
 /// Whether the rack has five boxes, that of kind `k` at place `k`.
 pub fn rack_fits(rack: &Rack) -> bool
-    ensures { IsTrue result ↔ Fits kind_of rack.now.boxes.items }
+    ensures { IsTrue result ↔ RackFits kind_of rack.now.boxes.items }
 {
     rack.boxes.len() == 5
         && box_kind(&rack.boxes[0]).0 == 0
@@ -34,7 +34,7 @@ pub fn rack_fits(rack: &Rack) -> bool
 }
 
 fn all_racks_fit(racks: &[Rack]) -> bool
-    ensures { IsTrue result ↔ AllFit kind_of (λ r. r.boxes.items) racks.now }
+    ensures { IsTrue result ↔ AllRacksFit kind_of (λ r. r.boxes.items) racks.now }
 {
     for rack in racks {
         if !rack_fits(rack) {
@@ -61,10 +61,10 @@ pub fn box_frame(app: &mut Box<dyn App + Send>, order: Order, seen: &Seen) -> Ar
 }
 
 fn place_frame(rack: &mut Rack, place: usize, order: Order, seen: &Seen) -> Area
-    requires fits { Fits kind_of rack.old.boxes.items }
+    requires fits { RackFits kind_of rack.old.boxes.items }
     requires place { place < 5 }
     ensures answer { result ≡ law place order seen.now }
-    ensures fits { Fits kind_of rack.new.boxes.items }
+    ensures fits { RackFits kind_of rack.new.boxes.items }
     ensures others { OthersStay rack.old.boxes.items rack.new.boxes.items place }
 {
     box_frame(&mut rack.boxes[place], order, seen)
@@ -73,10 +73,10 @@ fn place_frame(rack: &mut Rack, place: usize, order: Order, seen: &Seen) -> Area
 /// What the box of kind `kind` of a rack that fits answers in a frame: the law of the kind. The rack
 /// still fits, and its other boxes are as they were.
 pub fn rack_frame(rack: &mut Rack, kind: KindId, order: Order, seen: &Seen) -> Area
-    requires fits { Fits kind_of rack.old.boxes.items }
+    requires fits { RackFits kind_of rack.old.boxes.items }
     requires kind { kind.0 < 5 }
     ensures answer { result ≡ law kind.0 order seen.now }
-    ensures fits { Fits kind_of rack.new.boxes.items }
+    ensures fits { RackFits kind_of rack.new.boxes.items }
     ensures others { OthersStay rack.old.boxes.items rack.new.boxes.items kind.0 }
 {
     place_frame(rack, usize::from(kind.0), order, seen)

@@ -6,7 +6,7 @@ ghost use Rattle.scram_types.specs.Numbers.{IsWord, word};
 ghost use Rattle.app_model.specs.Reads.{own_word, lead_word, altitude, heading, goal_altitude, goal_heading, ticks_after};
 
 use crate::kinds::every_kind::TICKS;
-use crate::ranges::{mode_range, widest_range};
+use crate::ranges::{mode_range, sane_range};
 use crate::seen::Seen;
 use scram_types::Area;
 use scram_types::ranges::{clamped_in, make_range};
@@ -39,7 +39,7 @@ pub fn read_lead(kind: u8, seen: &Seen, variable: usize) -> i64
     ensures word { IsWord result }
 {
     clamped_in(
-        widest_range(kind, variable),
+        sane_range(kind, variable),
         word_at(&seen.lead[usize::from(kind)], variable),
     )
 }

@@ -1,19 +1,30 @@
 //! The areas that applications begin with.
 
 ghost use Rattle.std.specs.Prelude.{◌≡◌};
-ghost use Rattle.app_model.specs.Starts.{start_of};
+ghost use Rattle.app_model.specs.Starts.{start_at, start_of};
 
-use crate::kinds::{autopilot, power_monitor};
+use crate::table::kind_variable;
 use scram_types::{Area, KindId};
+
+fn start_word(kind: u8, variable: usize) -> i64
+    ensures { result ≡ start_at kind variable }
+{
+    kind_variable(kind, variable).start
+}
 
 /// The area that an application of the kind begins with: as after an init phase, with zeros, but for
 /// the autopilot's targets, 5,000 feet and 90 degrees, and the power monitor's charge, 8,000 units.
 pub fn start_area(kind: KindId) -> Area
     ensures { result ≡ start_of kind.0 }
 {
-    match kind.0 {
-        autopilot::KIND => [4, 0, 0, 5_000, 900, 0, 0, 0],
-        power_monitor::KIND => [4, 8_000, 0, 0, 0, 0, 0, 0],
-        _ => [4, 0, 0, 0, 0, 0, 0, 0],
-    }
+    [
+        start_word(kind.0, 0),
+        start_word(kind.0, 1),
+        start_word(kind.0, 2),
+        start_word(kind.0, 3),
+        start_word(kind.0, 4),
+        start_word(kind.0, 5),
+        start_word(kind.0, 6),
+        start_word(kind.0, 7),
+    ]
 }

@@ -1,44 +1,31 @@
 //! The autopilot as a box that remembers its last call.
 
+use app_model::Seen;
 use app_model::autopilot_law::autopilot_area;
-use app_model::calls::LastCall;
 use app_model::kinds::autopilot::KIND;
-use app_model::{App, Seen};
+use app_model::memory::{KindLaw, Remembering};
 use scram_types::{Area, KindId, Order};
+
+/// The law of kind 0.
+#[derive(Drop)]
+pub struct AutopilotLaw {}
+
+impl KindLaw for AutopilotLaw {
+    ghost number = { 0 };
+
+    fn kind() -> KindId {
+        KindId(KIND)
+    }
+
+    fn area_after(order: Order, seen: &Seen) -> Area {
+        autopilot_area(order, seen)
+    }
+}
 
 /// An autopilot: it commands pitch and roll so that the aircraft comes to its target altitude and
 /// heading. What it answers is the law of kind 0; it gives its last answer again where the call is the
 /// same.
-#[derive(Drop)]
-pub struct Autopilot {
-    last: Option<LastCall>,
-}
-
-impl Autopilot {
-    /// An autopilot that has not been called. It takes no memory.
-    pub fn new() -> Autopilot {
-        Autopilot { last: None }
-    }
-}
-
-impl App for Autopilot {
-    ghost kind_of = { λ _. 0 };
-
-    fn kind(&self) -> KindId {
-        KindId(KIND)
-    }
-
-    fn frame(&mut self, order: Order, seen: &Seen) -> Area {
-        if let Some(last) = &self.last {
-            if let Some(answer) = last.answer_to(KIND, order, seen) {
-                return answer;
-            }
-        }
-        let answer = autopilot_area(order, seen);
-        self.last = Some(LastCall::of(KIND, order, seen, &answer));
-        answer
-    }
-}
+pub type Autopilot = Remembering<AutopilotLaw>;
 
 #[cfg(test)]
 mod tests {

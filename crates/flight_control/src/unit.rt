@@ -1,43 +1,30 @@
 //! The flight control as a box that remembers its last call.
 
 use crate::run::flight_control_area;
-use app_model::calls::LastCall;
+use app_model::Seen;
 use app_model::kinds::flight_control::KIND;
-use app_model::{App, Seen};
+use app_model::memory::{KindLaw, Remembering};
 use scram_types::{Area, KindId, Order};
 
-/// A flight control: it moves the elevator and the aileron as the autopilot commands. What it answers is
-/// the law of kind 1; it gives its last answer again where the call is the same.
+/// The law of kind 1.
 #[derive(Drop)]
-pub struct FlightControl {
-    last: Option<LastCall>,
-}
+pub struct FlightControlLaw {}
 
-impl FlightControl {
-    /// A flight control that has not been called. It takes no memory.
-    pub fn new() -> FlightControl {
-        FlightControl { last: None }
-    }
-}
+impl KindLaw for FlightControlLaw {
+    ghost number = { 1 };
 
-impl App for FlightControl {
-    ghost kind_of = { λ _. 1 };
-
-    fn kind(&self) -> KindId {
+    fn kind() -> KindId {
         KindId(KIND)
     }
 
-    fn frame(&mut self, order: Order, seen: &Seen) -> Area {
-        if let Some(last) = &self.last {
-            if let Some(answer) = last.answer_to(KIND, order, seen) {
-                return answer;
-            }
-        }
-        let answer = flight_control_area(order, seen);
-        self.last = Some(LastCall::of(KIND, order, seen, &answer));
-        answer
+    fn area_after(order: Order, seen: &Seen) -> Area {
+        flight_control_area(order, seen)
     }
 }
+
+/// A flight control: it moves the elevator and the aileron as the autopilot commands. What it answers is
+/// the law of kind 1; it gives its last answer again where the call is the same.
+pub type FlightControl = Remembering<FlightControlLaw>;
 
 #[cfg(test)]
 mod tests {

@@ -7,13 +7,13 @@ ghost use Rattle.app_model.specs.DataLink.{fresh_of, fresh, rate_after, waiting,
 ghost use Rattle.more_apps.specs.Counts.{KeepsCount};
 ghost use Rattle.app_model.specs.Law.{law};
 
-use app_model::calls::LastCall;
+use app_model::Seen;
 use app_model::kinds::data_link::{DROPPED, FAST, KIND, QUEUED, SENT};
 use app_model::kinds::every_kind::STATUS;
 use app_model::kinds::{autopilot, flight_control, navigator, power_monitor};
+use app_model::memory::{KindLaw, Remembering};
 use app_model::orders::area_after;
 use app_model::reads::{next_ticks, read_lead, read_own};
-use app_model::{App, Seen};
 use scram_types::{Area, KindId, Order};
 
 fn message_of(kind: u8, seen: &Seen) -> i64
@@ -149,35 +149,22 @@ pub fn data_link_keeps_count()
     ensures { KeepsCount }
 {}
 
-/// A data link: it sends a message for each application that runs. What it answers is the law of kind
-/// 4; it gives its last answer again where the call is the same.
+/// The law of kind 4.
 #[derive(Drop)]
-pub struct Datalink {
-    last: Option<LastCall>,
-}
+pub struct DatalinkLaw {}
 
-impl Datalink {
-    /// A data link that has not been called. It takes no memory.
-    pub fn new() -> Datalink {
-        Datalink { last: None }
-    }
-}
+impl KindLaw for DatalinkLaw {
+    ghost number = { 4 };
 
-impl App for Datalink {
-    ghost kind_of = { λ _. 4 };
-
-    fn kind(&self) -> KindId {
+    fn kind() -> KindId {
         KindId(KIND)
     }
 
-    fn frame(&mut self, order: Order, seen: &Seen) -> Area {
-        if let Some(last) = &self.last {
-            if let Some(answer) = last.answer_to(KIND, order, seen) {
-                return answer;
-            }
-        }
-        let answer = data_link_area(order, seen);
-        self.last = Some(LastCall::of(KIND, order, seen, &answer));
-        answer
+    fn area_after(order: Order, seen: &Seen) -> Area {
+        data_link_area(order, seen)
     }
 }
+
+/// A data link: it sends a message for each application that runs. What it answers is the law of kind
+/// 4; it gives its last answer again where the call is the same.
+pub type Datalink = Remembering<DatalinkLaw>;

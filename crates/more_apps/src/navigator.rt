@@ -1,32 +1,32 @@
 //! The navigator.
-#![tactic(auto, unfolding(app_model::specs::Navigator::bearing_after, app_model::specs::Navigator::climb_after, app_model::specs::Navigator::near, app_model::specs::Navigator::on_course, app_model::specs::Navigator::navigator_ran))]
+#![tactic(auto, unfolding(app_model::specs::Navigator::bearing_error_after, app_model::specs::Navigator::climb_left_after, app_model::specs::Navigator::near, app_model::specs::Navigator::on_course, app_model::specs::Navigator::navigator_ran))]
 
 ghost use Rattle.std.specs.Prelude.{◌≡◌};
 ghost use Rattle.scram_types.specs.Numbers.{IsWord};
-ghost use Rattle.app_model.specs.Navigator.{bearing_after, climb_after, near, on_course, navigator_ran};
+ghost use Rattle.app_model.specs.Navigator.{near, on_course, navigator_ran, climb_left_after, bearing_error_after};
 ghost use Rattle.app_model.specs.Law.{law};
 
-use app_model::calls::LastCall;
-use app_model::headings::turn_to;
+use app_model::Seen;
+use app_model::headings::short_turn;
 use app_model::kinds::navigator::{KIND, ROUTE};
+use app_model::memory::{KindLaw, Remembering};
 use app_model::orders::area_after;
 use app_model::reads::{
     next_ticks, read_altitude, read_goal_altitude, read_goal_heading, read_heading,
 };
-use app_model::{App, Seen};
 use scram_types::numbers::gap;
 use scram_types::ranges::{clamped_in, make_range};
 use scram_types::{Area, KindId, Order};
 
 fn next_bearing(seen: &Seen) -> i64
-    ensures value { result ≡ bearing_after seen.now }
+    ensures value { result ≡ bearing_error_after seen.now }
     ensures word { IsWord result }
 {
-    turn_to(read_goal_heading(seen), read_heading(seen))
+    short_turn(read_goal_heading(seen), read_heading(seen))
 }
 
 fn next_climb(seen: &Seen) -> i64
-    ensures value { result ≡ climb_after seen.now }
+    ensures value { result ≡ climb_left_after seen.now }
     ensures word { IsWord result }
 {
     if seen.mode.0 == ROUTE {
@@ -80,35 +80,22 @@ pub fn navigator_area(order: Order, seen: &Seen) -> Area
     }
 }
 
-/// A navigator: it tells how far the aircraft is off its goal. What it answers is the law of kind 3;
-/// it gives its last answer again where the call is the same.
+/// The law of kind 3.
 #[derive(Drop)]
-pub struct Navigator {
-    last: Option<LastCall>,
-}
+pub struct NavigatorLaw {}
 
-impl Navigator {
-    /// A navigator that has not been called. It takes no memory.
-    pub fn new() -> Navigator {
-        Navigator { last: None }
-    }
-}
+impl KindLaw for NavigatorLaw {
+    ghost number = { 3 };
 
-impl App for Navigator {
-    ghost kind_of = { λ _. 3 };
-
-    fn kind(&self) -> KindId {
+    fn kind() -> KindId {
         KindId(KIND)
     }
 
-    fn frame(&mut self, order: Order, seen: &Seen) -> Area {
-        if let Some(last) = &self.last {
-            if let Some(answer) = last.answer_to(KIND, order, seen) {
-                return answer;
-            }
-        }
-        let answer = navigator_area(order, seen);
-        self.last = Some(LastCall::of(KIND, order, seen, &answer));
-        answer
+    fn area_after(order: Order, seen: &Seen) -> Area {
+        navigator_area(order, seen)
     }
 }
+
+/// A navigator: it tells how far the aircraft is off its goal. What it answers is the law of kind 3;
+/// it gives its last answer again where the call is the same.
+pub type Navigator = Remembering<NavigatorLaw>;

@@ -1,9 +1,9 @@
 //! What the power monitor's run leaves.
-#![tactic(auto, unfolding(app_model::specs::PowerMonitor::alternator, app_model::specs::PowerMonitor::supply_after, app_model::specs::PowerMonitor::demand_after, app_model::specs::PowerMonitor::charge_after, app_model::specs::PowerMonitor::shed_after, app_model::specs::PowerMonitor::power_monitor_ran))]
+#![tactic(auto, unfolding(app_model::specs::PowerMonitor::alternator_gives, app_model::specs::PowerMonitor::supply_after, app_model::specs::PowerMonitor::demand_after, app_model::specs::PowerMonitor::charge_after, app_model::specs::PowerMonitor::shed_after, app_model::specs::PowerMonitor::power_monitor_ran))]
 
 ghost use Rattle.std.specs.Prelude.{◌≡◌, ◌≤ℤ◌, ◌+ℤ◌, ◌-ℤ◌, pos};
 ghost use Rattle.scram_types.specs.Numbers.{IsWord};
-ghost use Rattle.app_model.specs.PowerMonitor.{alternator, supply_after, demand_after, charge_after, shed_after, power_monitor_ran};
+ghost use Rattle.app_model.specs.PowerMonitor.{supply_after, demand_after, charge_after, shed_after, power_monitor_ran, alternator_gives};
 ghost use Rattle.app_model.specs.Law.{law};
 
 use app_model::Seen;
@@ -14,7 +14,7 @@ use scram_types::ranges::{clamped_in, make_range};
 use scram_types::{Area, Order};
 
 fn alternator_gives(value: u8) -> i64
-    ensures value { result ≡ alternator value }
+    ensures value { result ≡ alternator_gives value }
     ensures low { pos 0 ≤ℤ result }
     ensures high { result ≤ℤ pos 60 }
 {

@@ -1,43 +1,30 @@
 //! The power monitor as a box that remembers its last call.
 
 use crate::run::power_monitor_area;
-use app_model::calls::LastCall;
+use app_model::Seen;
 use app_model::kinds::power_monitor::KIND;
-use app_model::{App, Seen};
+use app_model::memory::{KindLaw, Remembering};
 use scram_types::{Area, KindId, Order};
 
-/// A power monitor: it keeps account of the battery's charge. What it answers is the law of kind 2; it
-/// gives its last answer again where the call is the same.
+/// The law of kind 2.
 #[derive(Drop)]
-pub struct PowerMonitor {
-    last: Option<LastCall>,
-}
+pub struct PowerMonitorLaw {}
 
-impl PowerMonitor {
-    /// A power monitor that has not been called. It takes no memory.
-    pub fn new() -> PowerMonitor {
-        PowerMonitor { last: None }
-    }
-}
+impl KindLaw for PowerMonitorLaw {
+    ghost number = { 2 };
 
-impl App for PowerMonitor {
-    ghost kind_of = { λ _. 2 };
-
-    fn kind(&self) -> KindId {
+    fn kind() -> KindId {
         KindId(KIND)
     }
 
-    fn frame(&mut self, order: Order, seen: &Seen) -> Area {
-        if let Some(last) = &self.last {
-            if let Some(answer) = last.answer_to(KIND, order, seen) {
-                return answer;
-            }
-        }
-        let answer = power_monitor_area(order, seen);
-        self.last = Some(LastCall::of(KIND, order, seen, &answer));
-        answer
+    fn area_after(order: Order, seen: &Seen) -> Area {
+        power_monitor_area(order, seen)
     }
 }
+
+/// A power monitor: it keeps account of the battery's charge. What it answers is the law of kind 2; it
+/// gives its last answer again where the call is the same.
+pub type PowerMonitor = Remembering<PowerMonitorLaw>;
 
 #[cfg(test)]
 mod tests {

@@ -11,7 +11,7 @@ use Rattle.scram_types.specs.declared.specification.ModeSpec.{ModeSpec}
 use Rattle.scram_types.specs.declared.specification.Proc.{Proc}
 use Rattle.scram_types.specs.Names.{is_name}
 use Rattle.scram_types.specs.Specification.{AreSpelled, Each, HasLength, IsAppSpec, IsModeSpec, IsProc, NamesDiffer, mode_in, modes_of_kind}
-use Rattle.app_model.specs.Names.{kind_names, mode_names, name_at, number_of}
+use Rattle.app_model.specs.Names.{kind_names, mode_names, number_in, name_in}
 use Rattle.app_model.proofs.Spelling.{all_names_agree}
 use Rattle.dep_order.specs.Ranks.{IsRanking, rank_after}
 use Rattle.reconf_spec.specs.Applications.{app_at, app_name, mode_at, modes_at, text_after}
@@ -47,13 +47,13 @@ spelled_there : (name : Option (List ℕ)) → IsSome name → name ≡ Some (sp
 spelled_there None is = absurd (let wrong : false ≡ true = is in cc)
 spelled_there (Some name) is = refl
 
-pub mode_spelled : (kind mode : ℕ) → kind < 5 → 1 ≤ mode → mode ≤ modes_of_kind kind → number_of (mode_names kind) (mode_text kind mode) ≡ Some mode
+pub mode_spelled : (kind mode : ℕ) → kind < 5 → 1 ≤ mode → mode ≤ modes_of_kind kind → number_in (mode_names kind) (mode_text kind mode) ≡ Some mode
 mode_spelled kind mode below first last =
     let agree = all_names_agree.each kind below in
-    agree.modes.named mode (mode_text kind mode) (spelled_there (name_at (mode_names kind) mode) (agree.mode_named mode (record { first = first; last = last })))
+    agree.modes.named mode (mode_text kind mode) (spelled_there (name_in (mode_names kind) mode) (agree.mode_named mode (record { first = first; last = last })))
 
-kind_spelled : (kind : ℕ) → kind < 5 → number_of kind_names (kind_text kind) ≡ Some kind
-kind_spelled kind below = all_names_agree.kinds.named kind (kind_text kind) (spelled_there (name_at kind_names kind) (all_names_agree.each kind below).name)
+kind_spelled : (kind : ℕ) → kind < 5 → number_in kind_names (kind_text kind) ≡ Some kind
+kind_spelled kind below = all_names_agree.kinds.named kind (kind_text kind) (spelled_there (name_in kind_names kind) (all_names_agree.each kind below).name)
 
 record NewMode (kind : ℕ) (done : List ModeSpec) (listed : ModeSpec) : Type 0 where
   new : is_some (mode_in done listed.mode.0) ≡ false

@@ -27,7 +27,7 @@ use Rattle.scram_types.specs.declared.specification.Want.{Want}
 use Rattle.scram_types.specs.Names.{is_name}
 use Rattle.scram_types.specs.Numbers.{minus}
 use Rattle.scram_types.specs.Specification.{Each, IsBound, IsChoice, IsFactor, IsGoal, IsInIfNamed, IsInterval, IsInvariant, IsPrecondition, IsSpec, IsWant, NamesDiffer, Parts, bound_in}
-use Rattle.app_model.specs.Names.{number_of, variable_names}
+use Rattle.app_model.specs.Names.{variable_names, number_in}
 use Rattle.app_model.proofs.Spelling.{all_names_agree}
 use Rattle.reconf_spec.specs.Applications.{app_name}
 use Rattle.reconf_spec.specs.Bounds.{bound_at, bounds_at}
@@ -156,11 +156,11 @@ some_same : (x y : AppSpec) → Some x ≡ Some y → x ≡ y
 some_same x y e = cc
 
 variable_back : (apps : List AppSpec) (app : AppSpec) (a variable : ℕ) → slice_get apps a ≡ Some app → app.kind.0 < 5 → IsVariable (slice_get apps a) variable
-    → number_of (variable_names app.kind.0) (variable_of_kind app.kind.0 variable) ≡ Some variable
+    → number_in (variable_names app.kind.0) (variable_of_kind app.kind.0 variable) ≡ Some variable
 variable_back apps app a variable there below is =
     let agree = (all_names_agree.each app.kind.0 below).variables in
     let same : is.app ≡ app = some_same is.app app (sym is.there ∙ there) in
-    let named : number_of (variable_names app.kind.0) is.text ≡ Some variable = subst (λ (x : AppSpec). number_of (variable_names x.kind.0) is.text ≡ Some variable) same is.named in
+    let named : number_in (variable_names app.kind.0) is.text ≡ Some variable = subst (λ (x : AppSpec). number_in (variable_names x.kind.0) is.text ≡ Some variable) same is.named in
     rw (agree.spelled variable is.text named) named
 
 -- what invariants and preconditions have in common, as it is read back

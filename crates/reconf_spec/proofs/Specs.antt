@@ -10,7 +10,7 @@ use Rattle.scram_types.specs.declared.specification.Choice.{Choice}
 use Rattle.scram_types.specs.declared.specification.Invariant.{Invariant}
 use Rattle.scram_types.specs.declared.specification.Precondition.{Precondition}
 use Rattle.scram_types.specs.Specification.{Parts, IsSpec, IsProc, IsConf, IsFactor, IsChoice, IsBound, IsGoal, IsInvariant, IsPrecondition, IsIn}
-use Rattle.app_model.specs.Names.{variable_names, number_from, is_spelled}
+use Rattle.app_model.specs.Names.{variable_names, is_spelled, number_in_from}
 use Rattle.reconf_spec.specs.Processors.{proc_name}
 use Rattle.reconf_spec.specs.Configurations.{conf_name}
 use Rattle.reconf_spec.specs.Factors.{factor_name, own_name}
@@ -25,10 +25,10 @@ found_below : (b : Bool) (k m : ℕ) (n : ℕ) (o : Option ℕ) → k < m → (o
 found_below true k m n o here rest e = let is : k ≡ n = cc in omega (arith, here, is)
 found_below false k m n o here rest e = rest e
 
-number_below : (k : ℕ) (names : List (Option (List ℕ))) (text : List ℕ) (n : ℕ) → number_from k names text ≡ Some n → n < k + length names
+number_below : (k : ℕ) (names : List (Option (List ℕ))) (text : List ℕ) (n : ℕ) → number_in_from k names text ≡ Some n → n < k + length names
 number_below k [] text n e = absurd (let none : None ≡ Some n = e in cc)
 number_below k (name ∷ names) text n e =
-    found_below (is_spelled name text) k (k + suc (length names)) n (number_from (k + 1) names text) (omega arith)
+    found_below (is_spelled name text) k (k + suc (length names)) n (number_in_from (k + 1) names text) (omega arith)
     (λ f. omega (arith, number_below (k + 1) names text n f)) e
 
 few_of : (b : Bool) (xs ys : List (Option (List ℕ))) → length xs ≤ 8 → length ys ≤ 8 → length (cond b xs ys) ≤ 8

@@ -16,7 +16,7 @@ use Rattle.scram_types.specs.declared.specification.AppSpec.{AppSpec}
 use Rattle.scram_types.specs.Names.{is_name, is_name_byte}
 use Rattle.scram_types.specs.Numbers.{minus}
 use Rattle.scram_types.specs.Specification.{Each}
-use Rattle.app_model.specs.Names.{kind_names, mode_names, name_at, variable_names}
+use Rattle.app_model.specs.Names.{kind_names, mode_names, variable_names, name_in}
 use Rattle.reconf_spec.specs.Texts.{app_mode_text, count_data, integer_data, kind_text, mode_text, name_of_item, spelled, variable_of_kind, variable_text}
 
 choice_short : (a b : Bool) (xs ys zs : List ℕ) → length xs ≤ 6 → length ys ≤ 6 → length zs ≤ 6 → length (cond a xs (cond b ys zs)) ≤ 6
@@ -123,7 +123,7 @@ Short [] = ⊤
 Short (None ∷ names) = Short names
 Short (Some text ∷ names) = (length text ≤ 16) × Short names
 
-spelled_short : (names : List (Option (List ℕ))) (n : ℕ) → Short names → length (spelled (name_at names n)) ≤ 16
+spelled_short : (names : List (Option (List ℕ))) (n : ℕ) → Short names → length (spelled (name_in names n)) ≤ 16
 spelled_short [] n short = omega arith
 spelled_short (None ∷ names) zero short = omega arith
 spelled_short (Some text ∷ names) zero short = short.0

@@ -4,7 +4,7 @@ use Rattle.serde_json.specs.Data.{Data, Items}
 use Rattle.scram_types.specs.declared.specification.ModeSpec.{ModeSpec}
 use Rattle.scram_types.specs.declared.specification.AppSpec.{AppSpec}
 use Rattle.scram_types.specs.Specification.{mode_in}
-use Rattle.app_model.specs.Names.{kind_names, mode_names, number_of}
+use Rattle.app_model.specs.Names.{kind_names, mode_names, number_in}
 use Rattle.scram_doc.specs.declared.fault.DocFault.{DocFault}
 use Rattle.scram_doc.specs.Chain.{chain}
 use Rattle.scram_doc.specs.Faults.{broken, or_broken}
@@ -20,7 +20,7 @@ app_name app = app.name
 
 -- a mode of a kind
 abbrev pub kind_mode_at : ℕ → List ℕ → Data → Result ℕ DocFault
-kind_mode_at kind at d = chain (text_at at d) (λ (text : List ℕ). or_broken UNKNOWN_MODE at (number_of (mode_names kind) text))
+kind_mode_at kind at d = chain (text_at at d) (λ (text : List ℕ). or_broken UNKNOWN_MODE at (number_in (mode_names kind) text))
 
 -- a mode of a kind that is not listed yet
 abbrev pub new_mode_at : ℕ → List ModeSpec → List ℕ → Data → Result ℕ DocFault
@@ -51,7 +51,7 @@ abbrev pub modes_at : ℕ → List ℕ → Data → Result (List ModeSpec) DocFa
 modes_at kind at d = elements_at (mode_at kind) 1 3 at d
 
 abbrev pub kind_at : List ℕ → Data → Result ℕ DocFault
-kind_at at d = chain (text_at at d) (λ (text : List ℕ). or_broken UNKNOWN_KIND at (number_of kind_names text))
+kind_at at d = chain (text_at at d) (λ (text : List ℕ). or_broken UNKNOWN_KIND at (number_in kind_names text))
 
 -- A list of 0 to 8 texts; what they name is looked up later.
 abbrev pub text_after : List ℕ → ⊤ → Data → Result ⊤ DocFault

@@ -15,7 +15,7 @@ use Rattle.scram_types.specs.declared.specification.Precondition.{Precondition}
 use Rattle.scram_types.specs.Specification.{IsProc, IsModeSpec, IsPlace, IsWant, IsBound, IsIn, IsInIfNamed, HasLength, mode_in, bound_in}
 use Rattle.scram_types.specs.Names.{is_name}
 use Rattle.scram_types.specs.Numbers.{minus}
-use Rattle.app_model.specs.Names.{variable_names, number_of}
+use Rattle.app_model.specs.Names.{variable_names, number_in}
 use Rattle.reconf_spec.specs.declared.intervals.Ends.{Ends}
 use Rattle.reconf_spec.specs.declared.intervals.Interval.{Interval}
 use Rattle.reconf_spec.specs.Names.{found}
@@ -121,7 +121,7 @@ pub record IsVariable (found : Option AppSpec) (variable : ℕ) : Type 0 where
   pub app : AppSpec
   pub there : found ≡ Some app
   pub text : List ℕ
-  pub named : number_of (variable_names app.kind.0) text ≡ Some variable
+  pub named : number_in (variable_names app.kind.0) text ≡ Some variable
 
 pub record FitsEnds (ends : Ends) : Type 0 where
   pub low_least : minus 1000000000 ≤ℤ ends.least

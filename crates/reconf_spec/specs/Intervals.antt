@@ -8,7 +8,7 @@ use Rattle.scram_types.specs.declared.specification.AppSpec.{AppSpec}
 use Rattle.scram_types.specs.declared.specification.Conf.{Conf}
 use Rattle.scram_types.specs.declared.specification.Invariant.{Invariant}
 use Rattle.scram_types.specs.declared.specification.Precondition.{Precondition}
-use Rattle.app_model.specs.Names.{variable_names, number_of}
+use Rattle.app_model.specs.Names.{variable_names, number_in}
 use Rattle.scram_doc.specs.declared.fault.DocFault.{DocFault}
 use Rattle.scram_doc.specs.Chain.{chain, ok_map}
 use Rattle.scram_doc.specs.Faults.{broken, or_broken}
@@ -30,7 +30,7 @@ app_id_at apps at d = ok_map (λ (a : ℕ). record { 0 = a }) (named_at app_name
 abbrev pub variable_at : Option AppSpec → List ℕ → Data → Result ℕ DocFault
 variable_at None at d = broken UNKNOWN_VARIABLE at
 variable_at (Some app) at d =
-    chain (text_at at d) (λ (text : List ℕ). or_broken UNKNOWN_VARIABLE at (number_of (variable_names app.kind.0) text))
+    chain (text_at at d) (λ (text : List ℕ). or_broken UNKNOWN_VARIABLE at (number_in (variable_names app.kind.0) text))
 
 -- an end of an interval
 abbrev pub end_at : List ℕ → Data → Result ℤ DocFault

@@ -23,7 +23,7 @@ use Rattle.scram_types.specs.declared.specification.Precondition.{Precondition}
 use Rattle.scram_types.specs.declared.specification.Policy.{Policy}
 use Rattle.scram_types.specs.declared.specification.Policy.TheVariants.{Retarget, Settle}
 use Rattle.scram_types.specs.Specification.{Parts}
-use Rattle.app_model.specs.Names.{kind_names, mode_names, variable_names, name_at}
+use Rattle.app_model.specs.Names.{kind_names, mode_names, variable_names, name_in}
 use Rattle.reconf_spec.specs.Processors.{proc_name}
 use Rattle.reconf_spec.specs.Applications.{app_name}
 use Rattle.reconf_spec.specs.Configurations.{conf_name}
@@ -49,13 +49,13 @@ spelled None = []
 spelled (Some name) = name
 
 abbrev pub kind_text : ℕ → List ℕ
-kind_text kind = spelled (name_at kind_names kind)
+kind_text kind = spelled (name_in kind_names kind)
 
 abbrev pub mode_text : ℕ → ℕ → List ℕ
-mode_text kind mode = spelled (name_at (mode_names kind) mode)
+mode_text kind mode = spelled (name_in (mode_names kind) mode)
 
 abbrev pub variable_of_kind : ℕ → ℕ → List ℕ
-variable_of_kind kind variable = spelled (name_at (variable_names kind) variable)
+variable_of_kind kind variable = spelled (name_in (variable_names kind) variable)
 
 -- the name of a mode, and of a variable, of the kind of application a
 abbrev pub app_mode_text : List AppSpec → ℕ → ℕ → List ℕ

@@ -2,7 +2,7 @@
 
 ghost use Rattle.std.specs.Prelude.{◌≡◌, ◌≤◌, ◌<◌, None, length, is_some, IfOk};
 ghost use Rattle.serde_json.specs.View.{view, items_view};
-ghost use Rattle.app_model.specs.Names.{mode_names, number_of};
+ghost use Rattle.app_model.specs.Names.{mode_names, number_in};
 ghost use Rattle.scram_types.specs.Specification.{mode_in};
 ghost use Rattle.scram_doc.specs.Chain.{ok_map};
 ghost use Rattle.scram_doc.specs.Faults.{Answers};
@@ -24,7 +24,7 @@ use std::alloc::Global;
 /// The mode of the kind that the value names.
 pub(crate) fn read_kind_mode(kind: KindId, v: &Value, at: &Path) -> Result<Mode, DocFault>
     ensures value { ok_map (λ mode. mode.0) result ≡ kind_mode_at kind.0 at.now (view v.now) }
-    ensures of_kind { IfOk result (λ mode. IsListed (number_of (mode_names kind.0)) mode.0) }
+    ensures of_kind { IfOk result (λ mode. IsListed (number_in (mode_names kind.0)) mode.0) }
 {
     mode_named(kind, text(v, at)?).ok_or_else(|| DocFault::new(rule::UNKNOWN_MODE, at))
 }
@@ -42,7 +42,7 @@ fn is_listed(modes: &[ModeSpec], mode: Mode) -> bool
 
 fn read_new_mode(kind: KindId, done: &[ModeSpec], v: &Value, at: &Path) -> Result<Mode, DocFault>
     ensures value { ok_map (λ mode. mode.0) result ≡ new_mode_at kind.0 done.now at.now (view v.now) }
-    ensures of_kind { IfOk result (λ mode. IsListed (number_of (mode_names kind.0)) mode.0) }
+    ensures of_kind { IfOk result (λ mode. IsListed (number_in (mode_names kind.0)) mode.0) }
     ensures new { IfOk result (λ mode. mode_in done.now mode.0 ≡ None) }
 {
     let mode = read_kind_mode(kind, v, at)?;

@@ -1,5 +1,5 @@
 -- A specification as plain data, and what every specification keeps.
-use Rattle.std.specs.Prelude.{◌≡◌, ℕ, ℤ, pos, ◌==◌, ◌&&◌, ◌^◌, ◌<◌, ◌≤◌, ◌≤ℤ◌, nat_lt, List, [], ◌∷◌, length, slice_get, Option, Some, None, IsSome, IfSome, IsTrue, option_and_then, if◌then◌else◌}
+use Rattle.std.specs.Prelude.{◌≡◌, ℕ, ℤ, pos, ◌==◌, ◌&&◌, ◌^◌, ◌<◌, ◌≤◌, ◌≤ℤ◌, nat_lt, List, [], ◌∷◌, length, slice_get, slice_index_or, Option, Some, None, IsSome, IfSome, IsTrue, option_and_then, if◌then◌else◌}
 use Rattle.scram_types.specs.Names.{is_name}
 use Rattle.scram_types.specs.Numbers.{minus}
 use Rattle.scram_types.specs.declared.ids.AppId.{AppId}
@@ -62,9 +62,9 @@ greatest_bound_from greatest (bound ∷ bounds) from =
 abbrev pub greatest_bound_in : List Bound → ℕ → Option ℕ
 greatest_bound_in bounds from = greatest_bound_from None bounds from
 
--- How many modes a kind has; they are numbered from 1.
+-- How many modes a kind has, kind n at place n; they are numbered from 1.
 abbrev pub modes_of_kind : ℕ → ℕ
-modes_of_kind kind = if kind == 2 then 3 else (if nat_lt kind 5 then 2 else 0)
+modes_of_kind kind = slice_index_or (2 ∷ 2 ∷ 3 ∷ 2 ∷ 2 ∷ []) kind 0
 
 pub record HasLength {A : Type 0} (low high : ℕ) (xs : List A) : Type 0 where
   pub enough : low ≤ length xs

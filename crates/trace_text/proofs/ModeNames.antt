@@ -2,11 +2,11 @@
 use Rattle.std.proofs.Common.{◌≤◌, ℕ, zero, suc, Bool, true, false, List, [], ◌∷◌, Option, Some, None, length, arith}
 use Rattle.std.specs.Prelude.{codes, ◌==◌, if◌then◌else◌}
 use Rattle.std.specs.Option.{option_map_or}
-use Rattle.app_model.specs.Names.{name_at}
+use Rattle.app_model.specs.Names.{name_in}
 use Rattle.trace_text.specs.Modes.{mode_text}
 
 abbrev short_in : List (Option (List ℕ)) → ℕ → Type 0
-short_in names mode = length (option_map_or (λ (name : List ℕ). name) (name_at names mode) []) ≤ 16
+short_in names mode = length (option_map_or (λ (name : List ℕ). name) (name_in names mode) []) ≤ 16
 
 short_two : (a b : List ℕ) → length a ≤ 16 → length b ≤ 16 → (mode : ℕ) → short_in (None ∷ Some a ∷ Some b ∷ []) mode
 short_two a b sa sb zero = omega arith

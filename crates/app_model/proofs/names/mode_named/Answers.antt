@@ -1,5 +1,5 @@
 use Rattle.std.proofs.Common.{◌≡◌, Some}
-use Rattle.app_model.specs.Names.{mode_names, number_of}
+use Rattle.app_model.specs.Names.{mode_names, number_in}
 use Rattle.app_model.proofs.Spelling.{each_is_named}
 use Rattle.app_model.proofs.names.mode_named.Goals as goal
 
@@ -7,5 +7,5 @@ pub returns-in-Some-clause-of_kind : goal.returns-in-Some-clause-of_kind
 returns-in-Some-clause-of_kind c = λ built.
     let names = c.names_of_modes.ensures.names in
     let number = c.in-Some.ensures.number in
-    let found : number_of (mode_names c.args.kind.0) c.args.name.now ≡ Some c.in-Some.number = cc in
+    let found : number_in (mode_names c.args.kind.0) c.args.name.now ≡ Some c.in-Some.number = cc in
     (each_is_named c.args.kind.0 built).mode_number c.args.name.now c.in-Some.number found

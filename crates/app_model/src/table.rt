@@ -1,0 +1,240 @@
+//! The table of kinds: what a kind, its modes and the words of its area are called, and where their
+//! numbers lie.
+#![tactic(auto, unfolding(crate::specs::Kinds::kind_variable))]
+
+ghost use Rattle.std.specs.Prelude.{◌≡◌, ◌≤◌, IfSome, length, option_map};
+ghost use Rattle.app_model.specs.Kinds.{find_kind, kind_or_last, kind_read, kind_variable, range_in, variable_read};
+
+use crate::kinds::every_kind::MOST_TICKS;
+use crate::kinds::{autopilot, data_link, flight_control, navigator, power_monitor};
+use scram_types::Range;
+
+/// A word of a kind's area.
+#[derive(Clone, Copy)]
+pub struct Variable {
+    /// Its name, or `None` where the kind does not use the word.
+    pub name: Option<&'static str>,
+    /// Its range in mode 1, in mode 2 and in mode 3; the last one is that of every other mode.
+    pub ranges: &'static [Range],
+    /// The same after the last frame of an init phase.
+    pub initialised: &'static [Range],
+    /// Whether a halt brings it to 0.
+    pub moves: bool,
+    /// What an application begins with.
+    pub start: i64,
+}
+
+/// A kind of application.
+#[derive(Clone, Copy)]
+pub struct Kind {
+    /// Its name.
+    pub name: &'static str,
+    /// The names of its modes by number; mode 0, off, has none.
+    pub modes: &'static [Option<&'static str>],
+    /// The mode that has the widest range of each variable.
+    pub widest: u8,
+    /// The eight words of its area.
+    pub variables: &'static [Variable],
+}
+
+macro_rules! range {
+    ($below:expr, $above:expr) => {
+        Range {
+            below: $below,
+            above: $above,
+        }
+    };
+}
+
+macro_rules! variable {
+    ($name:expr, $ranges:expr, $initialised:expr, $moves:expr, $start:expr) => {
+        Variable {
+            name: Some($name),
+            ranges: $ranges,
+            initialised: $initialised,
+            moves: $moves,
+            start: $start,
+        }
+    };
+}
+
+/// A halt brings it to 0, and it begins with 0.
+macro_rules! moving {
+    ($name:expr, $ranges:expr, $initialised:expr) => {
+        variable!($name, $ranges, $initialised, true, 0)
+    };
+}
+
+/// A halt and an init phase leave it as it is.
+macro_rules! lasting {
+    ($name:expr, $ranges:expr, $start:expr) => {
+        variable!($name, $ranges, $ranges, false, $start)
+    };
+}
+
+const ZERO: Range = range!(0, 0);
+
+const STATUS: Variable = lasting!("status", &[range!(0, 4)], 4);
+
+const TICKS: Variable = lasting!("ticks", &[range!(0, MOST_TICKS)], 0);
+
+const UNUSED: Variable = Variable {
+    name: None,
+    ranges: &[ZERO],
+    initialised: &[ZERO],
+    moves: false,
+    start: 0,
+};
+
+/// The record of kind `autopilot`.
+pub const AUTOPILOT: Kind = Kind {
+    name: "autopilot",
+    modes: &[None, Some("navigate"), Some("hold")],
+    widest: autopilot::NAVIGATE,
+    variables: &[
+        STATUS,
+        moving!("pitch", &[range!(100, 100), range!(80, 80)], &[ZERO]),
+        moving!("roll", &[range!(150, 150), ZERO], &[ZERO]),
+        lasting!("target_alt", &[range!(0, 40_000)], 5_000),
+        lasting!("target_heading", &[range!(0, 3_599)], 900),
+        variable!("integral", &[range!(4_000, 4_000)], &[ZERO], false, 0),
+        TICKS,
+        UNUSED,
+    ],
+};
+
+/// The record of kind `flight_control`.
+pub const FLIGHT_CONTROL: Kind = Kind {
+    name: "flight_control",
+    modes: &[None, Some("augmented"), Some("direct")],
+    widest: flight_control::DIRECT,
+    variables: &[
+        STATUS,
+        moving!(
+            "elevator",
+            &[range!(100, 100), range!(200, 200)],
+            &[range!(50, 50), range!(200, 200)]
+        ),
+        moving!(
+            "aileron",
+            &[range!(150, 150), range!(300, 300)],
+            &[range!(50, 50), range!(100, 100)]
+        ),
+        moving!("command_pitch", &[range!(100, 100)], &[range!(100, 100)]),
+        moving!("command_roll", &[range!(150, 150)], &[range!(150, 150)]),
+        UNUSED,
+        TICKS,
+        UNUSED,
+    ],
+};
+
+/// The record of kind `power_monitor`.
+pub const POWER_MONITOR: Kind = Kind {
+    name: "power_monitor",
+    modes: &[None, Some("normal"), Some("saver"), Some("essential")],
+    widest: power_monitor::NORMAL,
+    variables: &[
+        STATUS,
+        lasting!("charge", &[range!(0, 10_000)], 8_000),
+        moving!("supply", &[range!(0, 120)], &[range!(0, 120)]),
+        moving!(
+            "demand",
+            &[range!(0, 100), range!(0, 60), range!(0, 20)],
+            &[range!(0, 100), range!(0, 60), range!(0, 20)]
+        ),
+        lasting!("shed", &[range!(0, 1)], 0),
+        UNUSED,
+        TICKS,
+        UNUSED,
+    ],
+};
+
+/// The record of kind `navigator`.
+pub const NAVIGATOR: Kind = Kind {
+    name: "navigator",
+    modes: &[None, Some("route"), Some("coarse")],
+    widest: navigator::ROUTE,
+    variables: &[
+        STATUS,
+        moving!("bearing_error", &[range!(1_800, 1_799)], &[ZERO]),
+        moving!("climb_left", &[range!(5_000, 5_000), ZERO], &[ZERO]),
+        lasting!("on_course", &[range!(0, 1)], 0),
+        UNUSED,
+        UNUSED,
+        TICKS,
+        UNUSED,
+    ],
+};
+
+/// The record of kind `data_link`.
+pub const DATA_LINK: Kind = Kind {
+    name: "datalink",
+    modes: &[None, Some("fast"), Some("slow")],
+    widest: data_link::FAST,
+    variables: &[
+        STATUS,
+        lasting!("queued", &[range!(0, 64)], 0),
+        lasting!("sent", &[range!(0, 1_000_000)], 0),
+        moving!(
+            "rate",
+            &[range!(0, 4), range!(0, 1)],
+            &[range!(0, 4), range!(0, 1)]
+        ),
+        lasting!("dropped", &[range!(0, 1_000_000)], 0),
+        UNUSED,
+        TICKS,
+        UNUSED,
+    ],
+};
+
+/// A kind by its number, or `None` where there is no such kind.
+pub fn find_kind(kind: u8) -> Option<Kind>
+    ensures kind { option_map kind_read result ≡ find_kind kind }
+    ensures few { IfSome result (λ found. length found.modes.now ≤ 8) }
+    ensures eight { IfSome result (λ found. length found.variables.now ≡ 8) }
+{
+    match kind {
+        autopilot::KIND => Some(AUTOPILOT),
+        flight_control::KIND => Some(FLIGHT_CONTROL),
+        power_monitor::KIND => Some(POWER_MONITOR),
+        navigator::KIND => Some(NAVIGATOR),
+        data_link::KIND => Some(DATA_LINK),
+        _ => None,
+    }
+}
+
+/// A kind by its number, where numbers past the last kind stand for the data link.
+pub fn kind_or_last(kind: u8) -> Kind
+    ensures { kind_read result ≡ kind_or_last kind }
+{
+    match find_kind(kind) {
+        Some(found) => found,
+        None => DATA_LINK,
+    }
+}
+
+/// A word of a kind's area.
+pub fn kind_variable(kind: u8, variable: usize) -> Variable
+    ensures { variable_read result ≡ kind_variable kind variable }
+{
+    match kind_or_last(kind).variables.get(variable) {
+        Some(found) => *found,
+        None => UNUSED,
+    }
+}
+
+/// The range in a mode.
+pub fn range_in(ranges: &[Range], mode: u8) -> Range
+    ensures { result ≡ range_in ranges.now mode }
+{
+    match ranges {
+        [] => ZERO,
+        [only] => *only,
+        [first, second] => { if mode == 1 { *first } else { *second } }
+        [first, second, third, ..] => match mode {
+            1 => *first,
+            2 => *second,
+            _ => *third,
+        },
+    }
+}
