@@ -7,6 +7,7 @@ use Rattle.scram_types.specs.declared.orders.Order.TheVariants.{Run, Hold, Halt,
 use Rattle.app_model.specs.declared.seen.Seen.{Seen}
 use Rattle.scram_types.specs.Numbers.{word}
 use Rattle.scram_types.specs.Ranges.{limit}
+use Rattle.scram_types.proofs.Clamping.{IsInRange, in_clamp}
 use Rattle.app_model.specs.Kinds.{kind_variable}
 use Rattle.app_model.specs.Ranges.{initialised_range, mode_range, is_moving}
 use Rattle.app_model.specs.Reads.{own_word, altitude, heading}
@@ -15,7 +16,7 @@ use Rattle.app_model.specs.Bounds.{ends, during, after_halt, after_init}
 use Rattle.app_model.specs.Areas.{Between, AreaLies, LawLiesDuring, LawLiesAfterHalt, LawLiesAfterInit, StartLiesAfterInit}
 use Rattle.app_model.specs.Law.{ran}
 use Rattle.app_model.specs.Starts.{start_of}
-use Rattle.app_model.proofs.Within.{In, Within, each, each_kind, in_clamp, in_choice, in_either, in_zero, in_number, in_faded, in_faded_last, in_own}
+use Rattle.app_model.proofs.Within.{Within, each, each_kind, in_choice, in_either, in_zero, in_number, in_faded, in_faded_last, in_own}
 use Rattle.app_model.proofs.Tables.{wider, init_narrows, during_is, after_init_is, status_stays}
 use Rattle.app_model.proofs.Runs.{ran_within, ran_status}
 
@@ -23,44 +24,44 @@ use Rattle.app_model.proofs.Runs.{ran_within, ran_status}
 kept_within : (kind : ℕ) (status : ℤ) (seen : Seen) → Within (mode_range kind seen.mode.0) (kept_area kind status seen)
 unfolding kept_area word
 kept_within kind status seen = let at = in_own kind seen in
-    each (λ i. In (mode_range kind seen.mode.0 i) (word (kept_area kind status seen) i)) (at 1) (at 2) (at 3) (at 4) (at 5) (at 6) (at 7)
+    each (λ i. IsInRange (mode_range kind seen.mode.0 i) (word (kept_area kind status seen) i)) (at 1) (at 2) (at 3) (at 4) (at 5) (at 6) (at 7)
 
-in_halted : (kind left : ℕ) (seen : Seen) (i : ℕ) → In (mode_range kind seen.mode.0 i) (halted_word kind left seen i)
+in_halted : (kind left : ℕ) (seen : Seen) (i : ℕ) → IsInRange (mode_range kind seen.mode.0 i) (halted_word kind left seen i)
 unfolding halted_word
 in_halted kind left seen i = in_either (is_moving kind i) _ _ _ (in_faded _ _ left (in_own kind seen i)) (in_own kind seen i)
 
 halted_within : (kind left : ℕ) (seen : Seen) → Within (mode_range kind seen.mode.0) (halted kind left seen)
 unfolding halted word
 halted_within kind left seen = let at = in_halted kind left seen in
-    each (λ i. In (mode_range kind seen.mode.0 i) (word (halted kind left seen) i)) (at 1) (at 2) (at 3) (at 4) (at 5) (at 6) (at 7)
+    each (λ i. IsInRange (mode_range kind seen.mode.0 i) (word (halted kind left seen) i)) (at 1) (at 2) (at 3) (at 4) (at 5) (at 6) (at 7)
 
 -- the ranges after a halt
 abbrev rest : ℕ → ℕ → ℕ → Range
 rest kind mode i = if is_moving kind i then limit 0 0 else mode_range kind mode i
 
-in_halted_last : (kind : ℕ) (seen : Seen) (i : ℕ) → In (rest kind seen.mode.0 i) (halted_word kind 1 seen i)
+in_halted_last : (kind : ℕ) (seen : Seen) (i : ℕ) → IsInRange (rest kind seen.mode.0 i) (halted_word kind 1 seen i)
 unfolding halted_word
 in_halted_last kind seen i = in_choice (is_moving kind i) _ _ _ _ (in_faded_last (own_word kind seen i)) (in_own kind seen i)
 
 halted_last : (kind : ℕ) (seen : Seen) → Within (rest kind seen.mode.0) (halted kind 1 seen)
 unfolding halted word
 halted_last kind seen = let at = in_halted_last kind seen in
-    each (λ i. In (rest kind seen.mode.0 i) (word (halted kind 1 seen) i)) (at 1) (at 2) (at 3) (at 4) (at 5) (at 6) (at 7)
+    each (λ i. IsInRange (rest kind seen.mode.0 i) (word (halted kind 1 seen) i)) (at 1) (at 2) (at 3) (at 4) (at 5) (at 6) (at 7)
 
 autopilot_begins : (seen : Seen) → Within (initialised_range 0 seen.mode.0) (initialised 0 seen)
 unfolding initialised word initialised_word initialised_range altitude heading kind_variable
-autopilot_begins seen = each (λ i. In (initialised_range 0 seen.mode.0 i) (word (initialised 0 seen) i))
+autopilot_begins seen = each (λ i. IsInRange (initialised_range 0 seen.mode.0 i) (word (initialised 0 seen) i))
     (in_clamp _ _) (in_clamp _ _) (in_clamp _ _) (in_clamp _ _) (in_clamp _ _) (in_clamp _ _) (in_clamp _ _)
 
 -- at every kind but the autopilot each word is clamped
-in_initialised : (kind : ℕ) (seen : Seen) (i : ℕ) → (kind == 0) ≡ false → In (initialised_range kind seen.mode.0 i) (initialised_word kind seen i)
+in_initialised : (kind : ℕ) (seen : Seen) (i : ℕ) → (kind == 0) ≡ false → IsInRange (initialised_range kind seen.mode.0 i) (initialised_word kind seen i)
 unfolding initialised_word
 in_initialised kind seen i e = rw e (in_clamp _ _)
 
 begins : (kind : ℕ) (seen : Seen) → (kind == 0) ≡ false → Within (initialised_range kind seen.mode.0) (initialised kind seen)
 unfolding initialised word
-begins kind seen e = let at : (i : ℕ) → In (initialised_range kind seen.mode.0 i) (initialised_word kind seen i) = λ i. in_initialised kind seen i e in
-    each (λ i. In (initialised_range kind seen.mode.0 i) (word (initialised kind seen) i)) (at 1) (at 2) (at 3) (at 4) (at 5) (at 6) (at 7)
+begins kind seen e = let at : (i : ℕ) → IsInRange (initialised_range kind seen.mode.0 i) (initialised_word kind seen i) = λ i. in_initialised kind seen i e in
+    each (λ i. IsInRange (initialised_range kind seen.mode.0 i) (word (initialised kind seen) i)) (at 1) (at 2) (at 3) (at 4) (at 5) (at 6) (at 7)
 
 initialised_within : (kind : ℕ) → kind < 5 → (seen : Seen) → Within (initialised_range kind seen.mode.0) (initialised kind seen)
 initialised_within = each_kind (λ kind. (seen : Seen) → Within (initialised_range kind seen.mode.0) (initialised kind seen))
@@ -76,7 +77,7 @@ initialising_status kind true seen = refl
 initialising_status kind false seen = refl
 
 -- an area whose status and whose other words lie in ranges
-between : (r : Range) (x : ℤ) → In r x → Between (ends r) x
+between : (r : Range) (x : ℤ) → IsInRange r x → Between (ends r) x
 between r x p = record { least = p.least; greatest = p.greatest }
 
 area_lies : (range : ℕ → ℤ × ℤ) (r : ℕ → Range) (area : List ℤ) (status : ℕ) → range 0 ≡ (pos status, pos status) → word area 0 ≡ pos status
@@ -139,15 +140,15 @@ law_lies_after_init kind j n seen k e = rw (eq-eqb (j + 1) n e) (lies_after_init
 start_within : (kind : ℕ) → kind < 5 → (mode : ℕ) → Within (initialised_range kind mode) (start_of kind)
 unfolding word initialised_range mode_range kind_variable
 start_within = each_kind (λ kind. (mode : ℕ) → Within (initialised_range kind mode) (start_of kind))
-    (λ mode. each (λ i. In (initialised_range 0 mode i) (word (start_of 0) i))
+    (λ mode. each (λ i. IsInRange (initialised_range 0 mode i) (word (start_of 0) i))
     (in_zero _) (in_zero _) (in_number 40000 5000 (omega arith)) (in_number 3599 900 (omega arith)) (in_zero _) (in_zero _) (in_zero _))
-    (λ mode. each (λ i. In (initialised_range 1 mode i) (word (start_of 1) i))
+    (λ mode. each (λ i. IsInRange (initialised_range 1 mode i) (word (start_of 1) i))
     (in_zero _) (in_zero _) (in_zero _) (in_zero _) (in_zero _) (in_zero _) (in_zero _))
-    (λ mode. each (λ i. In (initialised_range 2 mode i) (word (start_of 2) i))
+    (λ mode. each (λ i. IsInRange (initialised_range 2 mode i) (word (start_of 2) i))
     (in_number 10000 8000 (omega arith)) (in_zero _) (in_zero _) (in_zero _) (in_zero _) (in_zero _) (in_zero _))
-    (λ mode. each (λ i. In (initialised_range 3 mode i) (word (start_of 3) i))
+    (λ mode. each (λ i. IsInRange (initialised_range 3 mode i) (word (start_of 3) i))
     (in_zero _) (in_zero _) (in_zero _) (in_zero _) (in_zero _) (in_zero _) (in_zero _))
-    (λ mode. each (λ i. In (initialised_range 4 mode i) (word (start_of 4) i))
+    (λ mode. each (λ i. IsInRange (initialised_range 4 mode i) (word (start_of 4) i))
     (in_zero _) (in_zero _) (in_zero _) (in_zero _) (in_zero _) (in_zero _) (in_zero _))
 
 start_status : (kind : ℕ) → kind < 5 → word (start_of kind) 0 ≡ pos 4

@@ -1,10 +1,10 @@
 -- What each kind's run leaves lies in the ranges of its mode.
-use Rattle.std.proofs.Common.{◌≡◌, refl, ℕ, ℤ, pos, negsuc, ◌+ℤ◌, ◌-ℤ◌, ◌≤ℤ◌, ◌<◌, ◌==◌, ◌%◌, if◌then◌else◌, arith}
+use Rattle.std.proofs.Common.{◌≡◌, refl, ℕ, ℤ, pos, ◌+ℤ◌, ◌-ℤ◌, ◌≤ℤ◌, ◌<◌, ◌==◌, if◌then◌else◌, arith}
 use Rattle.std.proofs.lemmas.Int.{ints, clamps}
-use native.Mathlib.Nat.{mod-lt}
 use Rattle.app_model.specs.declared.seen.Seen.{Seen}
-use Rattle.scram_types.specs.Numbers.{modulo, word}
+use Rattle.scram_types.specs.Numbers.{word}
 use Rattle.scram_types.specs.Ranges.{limit}
+use Rattle.scram_types.proofs.Clamping.{IsInRange, in_circle, in_clamp}
 use Rattle.app_model.specs.Kinds.{kind_variable}
 use Rattle.app_model.specs.Ranges.{sane_range, widest_mode, mode_range}
 use Rattle.app_model.specs.Reads.{own_word, lead_word, goal_altitude, goal_heading}
@@ -15,11 +15,11 @@ use Rattle.app_model.specs.PowerMonitor.{supply_after, demand_after, charge_afte
 use Rattle.app_model.specs.Navigator.{on_course, navigator_ran, climb_left_after, bearing_error_after}
 use Rattle.app_model.specs.DataLink.{fresh_of, fresh, rate_after, waiting, going, queued_after, sent_after, left_over, dropped_after, data_link_ran}
 use Rattle.app_model.specs.Law.{ran}
-use Rattle.app_model.proofs.Within.{In, Within, each, each_kind, in_clamp, in_choice, in_either, in_zero, in_one, in_number, in_sum, in_twice, in_ticks}
+use Rattle.app_model.proofs.Within.{Within, each, each_kind, in_choice, in_either, in_zero, in_one, in_number, in_sum, in_twice, in_ticks}
 
 autopilot_within : (seen : Seen) → Within (mode_range 0 seen.mode.0) (autopilot_ran seen)
 unfolding autopilot_ran word mode_range pitch_after roll_after target_alt target_heading goal_altitude goal_heading integral_after own_word kind_variable
-autopilot_within seen = each (λ i. In (mode_range 0 seen.mode.0 i) (word (autopilot_ran seen) i))
+autopilot_within seen = each (λ i. IsInRange (mode_range 0 seen.mode.0 i) (word (autopilot_ran seen) i))
     (in_clamp _ _)
     (in_choice (seen.mode.0 == 1) (limit 150 150) (limit 0 0) _ _ (in_clamp _ _) (in_zero _))
     (in_either (seen.mode.0 == 1) _ _ _ (in_clamp _ _) (in_clamp _ _))
@@ -28,13 +28,13 @@ autopilot_within seen = each (λ i. In (mode_range 0 seen.mode.0 i) (word (autop
     (in_ticks 0 seen (in_clamp _ _))
     (in_zero _)
 
-in_command : (seen : Seen) (i : ℕ) → In (sane_range 0 i) (command seen i)
+in_command : (seen : Seen) (i : ℕ) → IsInRange (sane_range 0 i) (command seen i)
 unfolding command lead_word
 in_command seen i = in_either _ _ _ _ (in_clamp _ _) (in_zero _)
 
 flight_control_within : (seen : Seen) → Within (mode_range 1 seen.mode.0) (flight_control_ran seen)
 unfolding flight_control_ran word mode_range sane_range widest_mode elevator_after aileron_after own_word kind_variable
-flight_control_within seen = each (λ i. In (mode_range 1 seen.mode.0 i) (word (flight_control_ran seen) i))
+flight_control_within seen = each (λ i. IsInRange (mode_range 1 seen.mode.0 i) (word (flight_control_ran seen) i))
     (in_choice (seen.mode.0 == 1) (limit 100 100) (limit 200 200) _ _ (in_clamp _ _) (in_twice 100 (command seen 1) (in_command seen 1)))
     (in_choice (seen.mode.0 == 1) (limit 150 150) (limit 300 300) _ _ (in_clamp _ _) (in_twice 150 (command seen 2) (in_command seen 2)))
     (in_command seen 1)
@@ -43,13 +43,13 @@ flight_control_within seen = each (λ i. In (mode_range 1 seen.mode.0 i) (word (
     (in_ticks 1 seen (in_clamp _ _))
     (in_zero _)
 
-in_alternator : (value : ℕ) → In (limit 0 60) (alternator_gives value)
+in_alternator : (value : ℕ) → IsInRange (limit 0 60) (alternator_gives value)
 unfolding alternator_gives
 in_alternator value = in_either (value == 0) _ _ _ (in_number 60 60 (omega arith)) (in_zero _)
 
 power_monitor_within : (seen : Seen) → Within (mode_range 2 seen.mode.0) (power_monitor_ran seen)
 unfolding power_monitor_ran word mode_range charge_after supply_after demand_after shed_after own_word kind_variable
-power_monitor_within seen = each (λ i. In (mode_range 2 seen.mode.0 i) (word (power_monitor_ran seen) i))
+power_monitor_within seen = each (λ i. IsInRange (mode_range 2 seen.mode.0 i) (word (power_monitor_ran seen) i))
     (in_clamp _ _)
     (in_sum 60 60 _ _ (in_alternator _) (in_alternator _))
     (in_choice (seen.mode.0 == 1) (limit 0 100) _ _ _ (in_number 100 100 (omega arith)) (in_choice (seen.mode.0 == 2) (limit 0 60) (limit 0 20) _ _ (in_number 60 60 (omega arith)) (in_number 20 20 (omega arith))))
@@ -58,18 +58,13 @@ power_monitor_within seen = each (λ i. In (mode_range 2 seen.mode.0 i) (word (p
     (in_ticks 2 seen (in_clamp _ _))
     (in_zero _)
 
-in_circle : (x : ℤ) → In (limit 0 3599) (modulo x 3600)
-unfolding modulo
-in_circle (pos a) = let h : a % 3600 < 3600 = mod-lt a (omega arith) in record { least = omega (arith, ints); greatest = omega (arith, ints) }
-in_circle (negsuc a) = record { least = omega (arith, ints); greatest = omega (arith, ints) }
-
-in_turn : (target from : ℤ) → In (limit 1800 1799) (short_turn target from)
+in_turn : (target from : ℤ) → IsInRange (limit 1800 1799) (short_turn target from)
 unfolding short_turn
 in_turn target from = let p = in_circle ((target -ℤ from) +ℤ pos 5400) in record { least = omega (arith, ints, p.least); greatest = omega (arith, ints, p.greatest) }
 
 navigator_within : (seen : Seen) → Within (mode_range 3 seen.mode.0) (navigator_ran seen)
 unfolding navigator_ran word mode_range bearing_error_after climb_left_after on_course own_word kind_variable
-navigator_within seen = each (λ i. In (mode_range 3 seen.mode.0 i) (word (navigator_ran seen) i))
+navigator_within seen = each (λ i. IsInRange (mode_range 3 seen.mode.0 i) (word (navigator_ran seen) i))
     (in_turn _ _)
     (in_choice (seen.mode.0 == 1) (limit 5000 5000) (limit 0 0) _ _ (in_clamp _ _) (in_zero _))
     (in_either _ _ _ _ in_one (in_zero _))
@@ -78,15 +73,15 @@ navigator_within seen = each (λ i. In (mode_range 3 seen.mode.0 i) (word (navig
     (in_ticks 3 seen (in_clamp _ _))
     (in_zero _)
 
-in_fresh_of : (kind : ℕ) (seen : Seen) → In (limit 0 1) (fresh_of kind seen)
+in_fresh_of : (kind : ℕ) (seen : Seen) → IsInRange (limit 0 1) (fresh_of kind seen)
 unfolding fresh_of
 in_fresh_of kind seen = in_either _ _ _ _ in_one (in_zero _)
 
-in_fresh : (seen : Seen) → In (limit 0 4) (fresh seen)
+in_fresh : (seen : Seen) → IsInRange (limit 0 4) (fresh seen)
 unfolding fresh
 in_fresh seen = in_sum 3 1 _ _ (in_sum 2 1 _ _ (in_sum 1 1 _ _ (in_fresh_of 0 seen) (in_fresh_of 1 seen)) (in_fresh_of 2 seen)) (in_fresh_of 3 seen)
 
-in_rate : (seen : Seen) → In (if seen.mode.0 == 1 then limit 0 4 else limit 0 1) (rate_after seen)
+in_rate : (seen : Seen) → IsInRange (if seen.mode.0 == 1 then limit 0 4 else limit 0 1) (rate_after seen)
 unfolding rate_after
 in_rate seen = in_choice (seen.mode.0 == 1) (limit 0 4) (limit 0 1) _ _ (in_number 4 4 (omega arith)) in_one
 
@@ -94,22 +89,22 @@ rate_some : (seen : Seen) → pos 0 ≤ℤ rate_after seen
 unfolding rate_after
 rate_some seen = (in_either (seen.mode.0 == 1) (limit 0 4) (pos 4) (pos 1) (in_number 4 4 (omega arith)) (in_number 4 1 (omega arith))).least
 
-module _ (seen : Seen) (queued : In (limit 0 64) (own_word 4 seen 1)) (sent : In (limit 0 1000000) (own_word 4 seen 2)) (dropped : In (limit 0 1000000) (own_word 4 seen 4)) where
-  in_queued : In (limit 0 64) (queued_after seen)
+module _ (seen : Seen) (queued : IsInRange (limit 0 64) (own_word 4 seen 1)) (sent : IsInRange (limit 0 1000000) (own_word 4 seen 2)) (dropped : IsInRange (limit 0 1000000) (own_word 4 seen 4)) where
+  in_queued : IsInRange (limit 0 64) (queued_after seen)
   unfolding queued_after going waiting
   in_queued = let f = in_fresh seen in let r = rate_some seen in record { least = omega (arith, ints, clamps, f.least, queued.least, r); greatest = omega (arith, ints, clamps) }
 
-  in_sent : In (limit 0 1000000) (sent_after seen)
+  in_sent : IsInRange (limit 0 1000000) (sent_after seen)
   unfolding sent_after going waiting
   in_sent = let f = in_fresh seen in let r = rate_some seen in record { least = omega (arith, ints, clamps, f.least, queued.least, sent.least, r); greatest = omega (arith, ints, clamps) }
 
-  in_dropped : In (limit 0 1000000) (dropped_after seen)
+  in_dropped : IsInRange (limit 0 1000000) (dropped_after seen)
   unfolding dropped_after left_over queued_after going waiting
   in_dropped = record { least = omega (arith, ints, clamps, dropped.least); greatest = omega (arith, ints, clamps) }
 
 data_link_within : (seen : Seen) → Within (mode_range 4 seen.mode.0) (data_link_ran seen)
 unfolding data_link_ran word mode_range own_word kind_variable
-data_link_within seen = each (λ i. In (mode_range 4 seen.mode.0 i) (word (data_link_ran seen) i))
+data_link_within seen = each (λ i. IsInRange (mode_range 4 seen.mode.0 i) (word (data_link_ran seen) i))
     (in_queued seen (in_clamp _ _) (in_clamp _ _) (in_clamp _ _))
     (in_sent seen (in_clamp _ _) (in_clamp _ _) (in_clamp _ _))
     (in_rate seen)

@@ -128,6 +128,18 @@ modes_counted names text m modes l h =
 words_counted : (names : List (Option (List ℕ))) → length names ≤ 8 → (text : List ℕ) (i : ℕ) → number_in names text ≡ Some i → i < 8
 words_counted names l text i h = let c = counted_from 0 names text i h in omega (arith, c.last)
 
+few_variables : (kind : ℕ) → length (variable_names kind) ≤ 8
+few_variables zero = omega arith
+few_variables (suc zero) = omega arith
+few_variables (suc (suc zero)) = omega arith
+few_variables (suc (suc (suc zero))) = omega arith
+few_variables (suc (suc (suc (suc zero)))) = omega arith
+few_variables (suc (suc (suc (suc (suc kind))))) = omega arith
+
+-- What is named a variable is one of the eight words.
+pub variable_number_below : (kind : ℕ) (text : List ℕ) (i : ℕ) → number_in (variable_names kind) text ≡ Some i → i < 8
+variable_number_below kind = words_counted (variable_names kind) (few_variables kind)
+
 two_named : (a b : List ℕ) (mode : ℕ) → IsModeNumber mode 2 → IsSome (name_in (None ∷ Some a ∷ Some b ∷ []) mode)
 two_named a b zero p = absurd (omega (arith, p.first))
 two_named a b (suc zero) p = refl
@@ -164,6 +176,7 @@ with_three_modes kind a b c three names named modes variables few = record {
 }
 
 pub each_is_named : (kind : ℕ) → kind < 5 → KindIsNamed kind
+unfolding modes_of_kind
 each_is_named = each_kind KindIsNamed
     (with_two_modes 0 (codes "navigate") (codes "hold") refl refl refl (agree (mode_names 0) refl) (agree (variable_names 0) refl) (omega arith))
     (with_two_modes 1 (codes "augmented") (codes "direct") refl refl refl (agree (mode_names 1) refl) (agree (variable_names 1) refl) (omega arith))

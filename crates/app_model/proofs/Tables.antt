@@ -3,11 +3,12 @@ use Rattle.std.proofs.Common.{◌≡◌, ◌≤◌, ℕ, zero, suc, ℤ, pos, �
 use Rattle.std.proofs.lemmas.Int.{ints}
 use Rattle.scram_types.specs.declared.ranges.Range.{Range}
 use Rattle.scram_types.specs.Ranges.{limit}
+use Rattle.scram_types.proofs.Clamping.{IsInRange}
 use Rattle.app_model.specs.Kinds.{kind_variable}
 use Rattle.app_model.specs.Ranges.{initialised_range, widest_mode, sane_range, mode_range, is_moving}
 use Rattle.app_model.specs.Bounds.{ends, during, after_halt, after_init, sane}
 use Rattle.app_model.specs.Areas.{Inside, AllTablesNarrow}
-use Rattle.app_model.proofs.Within.{In, each, each_kind}
+use Rattle.app_model.proofs.Within.{each, each_kind}
 
 pub record Narrower (r s : Range) : Type 0 where
   pub below : r.below ≤ s.below
@@ -34,7 +35,7 @@ numbers a b c d p q = record { below = p; above = q }
 zeros : (r : Range) → Narrower (limit 0 0) r
 zeros r = record { below = omega arith; above = omega arith }
 
-pub wider : (r s : Range) (x : ℤ) → Narrower r s → In r x → In s x
+pub wider : (r s : Range) (x : ℤ) → Narrower r s → IsInRange r x → IsInRange s x
 wider r s x n p = record { least = omega (arith, ints, p.least, n.below); greatest = omega (arith, ints, p.greatest, n.above) }
 
 -- the ranges after an init phase

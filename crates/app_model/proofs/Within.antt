@@ -1,23 +1,20 @@
 -- Numbers and areas within ranges.
-use Rattle.std.proofs.Common.{◌≡◌, ◌≤◌, ℕ, zero, suc, ℤ, pos, negsuc, ◌+ℤ◌, ◌*ℤ◌, ◌≤ℤ◌, ◌<◌, ◌+◌, ◌*◌, Bool, true, false, if◌then◌else◌, int_lt, arith, refl}
+use Rattle.std.proofs.Common.{◌≡◌, ◌≤◌, ℕ, zero, suc, ℤ, pos, negsuc, ◌+ℤ◌, ◌*ℤ◌, ◌<◌, ◌+◌, ◌*◌, Bool, true, false, if◌then◌else◌, arith}
 use Rattle.std.specs.Prelude.{List}
 use Rattle.std.proofs.lemmas.Int.{ints, clamps}
 use native.Mathlib.Nat.{div-le_self}
 use Rattle.scram_types.specs.declared.ranges.Range.{Range}
 use Rattle.app_model.specs.declared.seen.Seen.{Seen}
-use Rattle.scram_types.specs.Numbers.{part, clamp, minus, word}
-use Rattle.scram_types.specs.Ranges.{clamp_in, limit}
+use Rattle.scram_types.specs.Numbers.{part, word}
+use Rattle.scram_types.specs.Ranges.{limit}
+use Rattle.scram_types.proofs.Clamping.{IsInRange, in_clamp}
 use Rattle.app_model.specs.Ranges.{mode_range}
 use Rattle.app_model.specs.Reads.{own_word, ticks_after}
 use Rattle.app_model.specs.Orders.{faded}
 
-pub record In (r : Range) (x : ℤ) : Type 0 where
-  pub least : minus r.below ≤ℤ x
-  pub greatest : x ≤ℤ pos r.above
-
 -- each word but the status lies in its range
 abbrev pub Within : (ℕ → Range) → List ℤ → Type 0
-Within range area = (i : ℕ) → 0 < i → i < 8 → In (range i) (word area i)
+Within range area = (i : ℕ) → 0 < i → i < 8 → IsInRange (range i) (word area i)
 
 pub each : (P : ℕ → Type 0) → P 1 → P 2 → P 3 → P 4 → P 5 → P 6 → P 7 → (i : ℕ) → 0 < i → i < 8 → P i
 each P a b c d e f g zero l h = absurd (omega arith)
@@ -38,39 +35,30 @@ each_kind P a b c d e (suc (suc (suc zero))) h = d
 each_kind P a b c d e (suc (suc (suc (suc zero)))) h = e
 each_kind P a b c d e (suc (suc (suc (suc (suc kind))))) h = absurd (omega arith)
 
-pub in_clamp : (r : Range) (x : ℤ) → In r (clamp_in r x)
-unfolding clamp_in clamp
-in_clamp r x = by (int_lt x (minus r.below)) (int_lt (pos r.above) x) refl refl
-  where
-    by : (s t : Bool) → int_lt x (minus r.below) ≡ s → int_lt (pos r.above) x ≡ t → In r (if s then minus r.below else (if t then pos r.above else x))
-    by true t e f = record { least = omega (arith, ints); greatest = omega (arith, ints) }
-    by false true e f = record { least = omega (arith, ints); greatest = omega (arith, ints) }
-    by false false e f = record { least = omega (arith, ints); greatest = omega (arith, ints) }
-
-pub in_choice : (b : Bool) (r s : Range) (x y : ℤ) → In r x → In s y → In (if b then r else s) (if b then x else y)
+pub in_choice : (b : Bool) (r s : Range) (x y : ℤ) → IsInRange r x → IsInRange s y → IsInRange (if b then r else s) (if b then x else y)
 in_choice true r s x y p q = p
 in_choice false r s x y p q = q
 
-pub in_either : (b : Bool) (r : Range) (x y : ℤ) → In r x → In r y → In r (if b then x else y)
+pub in_either : (b : Bool) (r : Range) (x y : ℤ) → IsInRange r x → IsInRange r y → IsInRange r (if b then x else y)
 in_either true r x y p q = p
 in_either false r x y p q = q
 
-pub in_zero : (r : Range) → In r (pos 0)
+pub in_zero : (r : Range) → IsInRange r (pos 0)
 in_zero r = record { least = omega (arith, ints); greatest = omega (arith, ints) }
 
-pub in_one : In (limit 0 1) (pos 1)
+pub in_one : IsInRange (limit 0 1) (pos 1)
 in_one = record { least = omega (arith, ints); greatest = omega (arith, ints) }
 
-pub in_number : (a n : ℕ) → n ≤ a → In (limit 0 a) (pos n)
+pub in_number : (a n : ℕ) → n ≤ a → IsInRange (limit 0 a) (pos n)
 in_number a n h = record { least = omega (arith, ints); greatest = omega (arith, ints) }
 
-pub in_sum : (a b : ℕ) (x y : ℤ) → In (limit 0 a) x → In (limit 0 b) y → In (limit 0 (a + b)) (x +ℤ y)
+pub in_sum : (a b : ℕ) (x y : ℤ) → IsInRange (limit 0 a) x → IsInRange (limit 0 b) y → IsInRange (limit 0 (a + b)) (x +ℤ y)
 in_sum a b x y p q = record { least = omega (arith, ints, p.least, q.least); greatest = omega (arith, ints, p.greatest, q.greatest) }
 
-pub in_twice : (n : ℕ) (x : ℤ) → In (limit n n) x → In (limit (2 * n) (2 * n)) (pos 2 *ℤ x)
+pub in_twice : (n : ℕ) (x : ℤ) → IsInRange (limit n n) x → IsInRange (limit (2 * n) (2 * n)) (pos 2 *ℤ x)
 in_twice n x p = record { least = omega (arith, ints, p.least, p.greatest); greatest = omega (arith, ints, p.least, p.greatest) }
 
-pub in_faded : (r : Range) (x : ℤ) (n : ℕ) → In r x → In r (faded x n)
+pub in_faded : (r : Range) (x : ℤ) (n : ℕ) → IsInRange r x → IsInRange r (faded x n)
 unfolding faded part
 in_faded r (pos a) n p = record { least = omega (arith, ints, p.least, p.greatest, div-le_self a n); greatest = omega (arith, ints, p.least, p.greatest, div-le_self a n) }
 in_faded r (negsuc a) n p = record { least = omega (arith, ints, p.least, p.greatest, div-le_self (suc a) n); greatest = omega (arith, ints, p.least, p.greatest, div-le_self (suc a) n) }
@@ -80,13 +68,13 @@ unfolding faded part
 faded_last (pos a) = omega (arith, ints)
 faded_last (negsuc a) = omega (arith, ints)
 
-pub in_faded_last : (x : ℤ) → In (limit 0 0) (faded x 1)
+pub in_faded_last : (x : ℤ) → IsInRange (limit 0 0) (faded x 1)
 in_faded_last x = let e = faded_last x in record { least = omega (arith, ints); greatest = omega (arith, ints) }
 
-pub in_own : (kind : ℕ) (seen : Seen) (i : ℕ) → In (mode_range kind seen.mode.0 i) (own_word kind seen i)
+pub in_own : (kind : ℕ) (seen : Seen) (i : ℕ) → IsInRange (mode_range kind seen.mode.0 i) (own_word kind seen i)
 unfolding own_word
 in_own kind seen i = in_clamp _ _
 
-pub in_ticks : (kind : ℕ) (seen : Seen) → In (limit 0 1000000) (own_word kind seen 6) → In (limit 0 1000000) (ticks_after kind seen)
+pub in_ticks : (kind : ℕ) (seen : Seen) → IsInRange (limit 0 1000000) (own_word kind seen 6) → IsInRange (limit 0 1000000) (ticks_after kind seen)
 unfolding ticks_after
 in_ticks kind seen p = record { least = omega (arith, ints, clamps, p.least); greatest = omega (arith, ints, clamps) }

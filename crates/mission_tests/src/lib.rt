@@ -3,5 +3,3 @@
 
 #[cfg(test)]
 mod rack_tests;
-#[cfg(test)]
-mod racks;

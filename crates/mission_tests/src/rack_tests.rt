@@ -1,12 +1,9 @@
 //! Racks that fit and racks that do not.
 
-use crate::racks::{rack, racks};
 use app_model::racks::racks_frame;
-use app_model::{App, Rack, Seen, rack_fits, racks_fit};
-use autopilot::Autopilot;
-use flight_control::FlightControl;
-use more_apps::{Datalink, Navigator, PlainAutopilot};
-use power_monitor::PowerMonitor;
+use app_model::{Rack, Seen, rack_fits, racks_fit};
+use more_apps::{Navigator, PlainAutopilot};
+use racks::{rack, racks};
 use scram_types::{Area, Goal, KindId, Mode, Order, ProcId, World};
 use std::test::Fail;
 

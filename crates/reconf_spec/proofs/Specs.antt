@@ -1,6 +1,6 @@
 -- What the parts of a document keep makes a specification.
-use Rattle.std.proofs.Common.{◌≡◌, ◌<◌, ◌≤◌, ◌+◌, ℕ, suc, Bool, true, false, cond, List, [], ◌∷◌, length, arith, ap, sym, subst}
-use Rattle.std.specs.Prelude.{Option, Some, None, is_some, slice_get, ◌==◌}
+use Rattle.std.proofs.Common.{◌≡◌, ◌≤◌, ℕ, List, length, arith, ap, sym, subst}
+use Rattle.std.specs.Prelude.{Option, is_some, slice_get}
 use Rattle.std.proofs.lemmas.Int.{ints}
 use Rattle.scram_types.specs.declared.specification.Proc.{Proc}
 use Rattle.scram_types.specs.declared.specification.AppSpec.{AppSpec}
@@ -10,7 +10,7 @@ use Rattle.scram_types.specs.declared.specification.Choice.{Choice}
 use Rattle.scram_types.specs.declared.specification.Invariant.{Invariant}
 use Rattle.scram_types.specs.declared.specification.Precondition.{Precondition}
 use Rattle.scram_types.specs.Specification.{Parts, IsSpec, IsProc, IsConf, IsFactor, IsChoice, IsBound, IsGoal, IsInvariant, IsPrecondition, IsIn}
-use Rattle.app_model.specs.Names.{variable_names, is_spelled, number_in_from}
+use Rattle.app_model.proofs.Spelling.{variable_number_below}
 use Rattle.reconf_spec.specs.Processors.{proc_name}
 use Rattle.reconf_spec.specs.Configurations.{conf_name}
 use Rattle.reconf_spec.specs.Factors.{factor_name, own_name}
@@ -21,28 +21,9 @@ use Rattle.reconf_spec.specs.Kept.{IsNamed, FitsAssumption, FitsRest}
 use Rattle.reconf_spec.specs.declared.documents.Rest.{Rest}
 use Rattle.reconf_spec.proofs.Distinct.{each_of, new_differ}
 
-found_below : (b : Bool) (k m : ℕ) (n : ℕ) (o : Option ℕ) → k < m → (o ≡ Some n → n < m) → cond b (Some k) o ≡ Some n → n < m
-found_below true k m n o here rest e = let is : k ≡ n = cc in omega (arith, here, is)
-found_below false k m n o here rest e = rest e
-
-number_below : (k : ℕ) (names : List (Option (List ℕ))) (text : List ℕ) (n : ℕ) → number_in_from k names text ≡ Some n → n < k + length names
-number_below k [] text n e = absurd (let none : None ≡ Some n = e in cc)
-number_below k (name ∷ names) text n e =
-    found_below (is_spelled name text) k (k + suc (length names)) n (number_in_from (k + 1) names text) (omega arith)
-    (λ f. omega (arith, number_below (k + 1) names text n f)) e
-
-few_of : (b : Bool) (xs ys : List (Option (List ℕ))) → length xs ≤ 8 → length ys ≤ 8 → length (cond b xs ys) ≤ 8
-few_of true xs ys f g = f
-few_of false xs ys f g = g
-
-few_variables : (kind : ℕ) → length (variable_names kind) ≤ 8
-few_variables kind =
-    few_of (kind == 0) _ _ (omega arith) (few_of (kind == 1) _ _ (omega arith) (few_of (kind == 2) _ _ (omega arith)
-    (few_of (kind == 3) _ _ (omega arith) (few_of (kind == 4) _ _ (omega arith) (omega arith)))))
-
 variable_below : (found : Option AppSpec) (variable : ℕ) → IsVariable found variable → variable ≤ 7
 variable_below found variable is =
-    omega (arith, few_variables is.app.kind.0, number_below 0 (variable_names is.app.kind.0) is.text variable is.named)
+    omega (arith, variable_number_below is.app.kind.0 is.text variable is.named)
 
 factor_fits : (done : List Factor) (factor : Factor) → IsNewFactor done factor → IsFactor factor
 factor_fits done factor fits = record { count = fits.count; differ = new_differ own_name factor.values (λ i x e. (fits.values i x e).new) }

@@ -17,6 +17,7 @@ use Rattle.scram_types.specs.Names.{is_name, is_name_byte}
 use Rattle.scram_types.specs.Numbers.{minus}
 use Rattle.scram_types.specs.Specification.{Each}
 use Rattle.app_model.specs.Names.{kind_names, mode_names, variable_names, name_in}
+use Rattle.app_model.proofs.ShortNames.{AreShort, mode_names_short, variable_names_short}
 use Rattle.reconf_spec.specs.Texts.{app_mode_text, count_data, integer_data, kind_text, mode_text, name_of_item, spelled, variable_of_kind, variable_text}
 
 choice_short : (a b : Bool) (xs ys zs : List ℕ) → length xs ≤ 6 → length ys ≤ 6 → length zs ≤ 6 → length (cond a xs (cond b ys zs)) ≤ 6
@@ -118,47 +119,25 @@ text_short f (Some x) each = each x refl
 pub item_short : {A : Type 0} (name : A → List ℕ) (xs : List A) (n : ℕ) → Each (λ (x : A). is_name (name x) ≡ true) xs → length (name_of_item name xs n) ≤ 16
 item_short name xs n named = text_short name (slice_get xs n) (λ x e. name_short (name x) (named n x e))
 
-abbrev Short : List (Option (List ℕ)) → Type 0
-Short [] = ⊤
-Short (None ∷ names) = Short names
-Short (Some text ∷ names) = (length text ≤ 16) × Short names
-
-spelled_short : (names : List (Option (List ℕ))) (n : ℕ) → Short names → length (spelled (name_in names n)) ≤ 16
+spelled_short : (names : List (Option (List ℕ))) (n : ℕ) → AreShort names → length (spelled (name_in names n)) ≤ 16
 spelled_short [] n short = omega arith
 spelled_short (None ∷ names) zero short = omega arith
 spelled_short (Some text ∷ names) zero short = short.0
 spelled_short (None ∷ names) (suc n) short = spelled_short names n short
 spelled_short (Some text ∷ names) (suc n) short = spelled_short names n short.1
 
-either_short : (b : Bool) (xs ys : List (Option (List ℕ))) → Short xs → Short ys → Short (cond b xs ys)
-either_short true xs ys p q = p
-either_short false xs ys p q = q
-
-modes_short : (kind : ℕ) → Short (mode_names kind)
-modes_short kind =
-    either_short (kind == 0) _ _ (omega arith, (omega arith, tt)) (either_short (kind == 1) _ _ (omega arith, (omega arith, tt)) (either_short (kind == 2) _ _ (omega arith, (omega arith, (omega arith, tt)))
-    (either_short (kind == 3) _ _ (omega arith, (omega arith, tt)) (either_short (kind == 4) _ _ (omega arith, (omega arith, tt)) tt))))
-
-variables_short : (kind : ℕ) → Short (variable_names kind)
-variables_short kind =
-    either_short (kind == 0) _ _ (omega arith, (omega arith, (omega arith, (omega arith, (omega arith, (omega arith, (omega arith, tt)))))))
-    (either_short (kind == 1) _ _ (omega arith, (omega arith, (omega arith, (omega arith, (omega arith, (omega arith, tt))))))
-    (either_short (kind == 2) _ _ (omega arith, (omega arith, (omega arith, (omega arith, (omega arith, (omega arith, tt))))))
-    (either_short (kind == 3) _ _ (omega arith, (omega arith, (omega arith, (omega arith, (omega arith, tt)))))
-    (either_short (kind == 4) _ _ (omega arith, (omega arith, (omega arith, (omega arith, (omega arith, (omega arith, tt)))))) tt))))
-
 pub kind_short : (kind : ℕ) → length (kind_text kind) ≤ 16
 kind_short kind = spelled_short kind_names kind (omega arith, (omega arith, (omega arith, (omega arith, (omega arith, tt)))))
 
 pub mode_short : (kind mode : ℕ) → length (mode_text kind mode) ≤ 16
-mode_short kind mode = spelled_short (mode_names kind) mode (modes_short kind)
+mode_short kind mode = spelled_short (mode_names kind) mode (mode_names_short kind)
 
 pub app_mode_short : (apps : List AppSpec) (a mode : ℕ) → length (app_mode_text apps a mode) ≤ 16
 app_mode_short apps a mode = text_short (λ (app : AppSpec). mode_text app.kind.0 mode) (slice_get apps a) (λ app e. mode_short app.kind.0 mode)
 
 pub variable_short : (apps : List AppSpec) (a variable : ℕ) → length (variable_text apps a variable) ≤ 16
 variable_short apps a variable =
-    text_short (λ (app : AppSpec). variable_of_kind app.kind.0 variable) (slice_get apps a) (λ app e. spelled_short (variable_names app.kind.0) variable (variables_short app.kind.0))
+    text_short (λ (app : AppSpec). variable_of_kind app.kind.0 variable) (slice_get apps a) (λ app e. spelled_short (variable_names app.kind.0) variable (variable_names_short app.kind.0))
 
 pub count_short : (n : ℕ) → n ≤ 1000000 → weight (count_data n) ≤ 7
 count_short n few = length-decimal-le 7 n (omega arith) (omega (arith, few)) (omega (arith, few))

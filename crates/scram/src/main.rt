@@ -2,11 +2,8 @@
 //! the command, and ends with the command's status.
 #![tactic(auto)]
 
-use app_model::{App, Rack, racks_fit};
-use autopilot::Autopilot;
-use flight_control::FlightControl;
-use more_apps::{Datalink, Navigator};
-use power_monitor::PowerMonitor;
+use app_model::racks_fit;
+use racks::racks;
 use scram_cli::{Status, scram};
 use scram_io::{RealFiles, RealSink};
 use std::alloc::AllocError;
@@ -16,24 +13,6 @@ use std::process::ExitCode;
 
 /// The status where memory is wanting before the command is called; nothing is printed then.
 const NO_MEMORY: u8 = 9;
-
-/// Racks for all processors, each with a box of every kind. They are made where the macro stands: no
-/// function hands out boxes that it made.
-macro_rules! racks {
-    ($rt:expr) => {{
-        let mut racks = Vec::new($rt.alloc());
-        for _ in 0..8 {
-            let mut boxes: Vec<Box<dyn App + Send>> = Vec::new($rt.alloc());
-            boxes.push(Box::new($rt.alloc(), Autopilot::new())?)?;
-            boxes.push(Box::new($rt.alloc(), FlightControl::new())?)?;
-            boxes.push(Box::new($rt.alloc(), PowerMonitor::new())?)?;
-            boxes.push(Box::new($rt.alloc(), Navigator::new())?)?;
-            boxes.push(Box::new($rt.alloc(), Datalink::new())?)?;
-            racks.push(Rack { boxes })?;
-        }
-        racks
-    }};
-}
 
 fn main(rt: HostRuntime) -> ExitCode {
     let words = match words(&rt) {

@@ -1,5 +1,6 @@
 pub mod BitSets
 pub mod Booleans
+pub mod Clamping
 pub mod Items
 pub mod Naturals
 pub mod Options

@@ -63,7 +63,7 @@ abbrev pub greatest_bound_in : List Bound → ℕ → Option ℕ
 greatest_bound_in bounds from = greatest_bound_from None bounds from
 
 -- How many modes a kind has, kind n at place n; they are numbered from 1.
-abbrev pub modes_of_kind : ℕ → ℕ
+unfoldable pub modes_of_kind : ℕ → ℕ
 modes_of_kind kind = slice_index_or (2 ∷ 2 ∷ 3 ∷ 2 ∷ 2 ∷ []) kind 0
 
 pub record HasLength {A : Type 0} (low high : ℕ) (xs : List A) : Type 0 where

@@ -15,7 +15,7 @@ use Rattle.trace_text.specs.declared.app_reading.Phase.{Phase}
 use Rattle.trace_text.specs.declared.app_reading.Phase.TheVariants.{Halting, Preparing, Initialising}
 use Rattle.trace_text.specs.AppReading.{app_in, app_read, bare_act, bare_line, done, is_bare_form, is_placed_form, phase_act, phase_line, phase_named, placed_line, ran_line}
 use Rattle.trace_text.specs.Lookups.{app_named, mode_named, proc_named}
-use Rattle.trace_text.specs.Modes.{mode_text}
+use Rattle.app_model.specs.Names.{mode_text}
 use Rattle.trace_text.specs.Names.{proc_name}
 use Rattle.trace_text.specs.Pieces.{pieces_of, sides, sides_of, word, words_in, words_of, is_word}
 use Rattle.trace_text.specs.Rules.{unless}

@@ -12,7 +12,7 @@ use Rattle.scram_types.specs.declared.specification.Factor.{Factor}
 use Rattle.scram_types.specs.declared.specification.ModeSpec.{ModeSpec}
 use Rattle.scram_types.specs.declared.specification.Proc.{Proc}
 use Rattle.trace_text.specs.Lookups.{place_from, conf_id, conf_named, conf_or_none, proc_id, proc_named, app_named, value_named, mode_from, mode_named}
-use Rattle.trace_text.specs.Modes.{mode_text}
+use Rattle.app_model.specs.Names.{mode_text}
 use Rattle.trace_text.specs.Names.{conf_name, conf_or_dash, proc_name, value_name}
 use Rattle.trace_text.proofs.Inversion.{map_some, same_text}
 

@@ -1,4 +1,3 @@
-pub mod Modes
 pub mod Names
 pub mod Text
 pub mod Printing

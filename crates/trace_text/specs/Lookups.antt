@@ -9,7 +9,7 @@ use Rattle.scram_types.specs.declared.specification.Factor.{Factor}
 use Rattle.scram_types.specs.declared.specification.ModeSpec.{ModeSpec}
 use Rattle.scram_types.specs.declared.specification.Proc.{Proc}
 use Rattle.scram_types.specs.Specification.{Parts}
-use Rattle.trace_text.specs.Modes.{mode_text}
+use Rattle.app_model.specs.Names.{mode_text}
 
 -- the place of the first item of this name, where places count from i
 abbrev pub place_from : {A : Type 0} → (A → List ℕ) → List ℕ → ℕ → List A → Option ℕ

@@ -1,7 +1,7 @@
 //! The lines of a row: the frame's own line, and one for each application.
 
 ghost use Rattle.std.specs.Prelude.{◌≡◌, ◌+◌, ◌*◌, ◌≤◌, ◌++◌, [], length, codes, if◌then◌else◌};
-ghost use Rattle.trace_text.specs.Modes.{mode_text};
+ghost use Rattle.app_model.specs.Names.{mode_text};
 ghost use Rattle.trace_text.specs.Names.{conf_name, proc_name, value_name, conf_or_dash, further, values_named};
 ghost use Rattle.trace_text.specs.Text.{kernel_mode_text, values_text, up_text, world_text, row_line, phase_text, act_text, area_text, app_line};
 
@@ -76,7 +76,7 @@ fn name_of_value(factor: &Factor, value: u8) -> &str
     }
 }
 
-#[tactic(auto, using(crate::proofs::ModeNames::short_mode))]
+#[tactic(auto, using(crate::proofs::ModeNames::mode_short))]
 pub fn name_of_mode(kind: KindId, mode: Mode) -> &'static str
     ensures name { result.now ≡ mode_text kind.0 mode.0 }
     ensures short { length result.now ≤ 16 }

@@ -1,11 +1,8 @@
 //! What the command answers to the words of a row.
 
 use crate::files::numbers;
-use app_model::{App, Rack, racks_fit};
-use autopilot::Autopilot;
-use flight_control::FlightControl;
-use more_apps::{Datalink, Navigator};
-use power_monitor::PowerMonitor;
+use app_model::{Rack, racks_fit};
+use racks::racks;
 use scram_cli::scram;
 use scram_io::{MemFiles, MemSink};
 use std::io::{self, ErrorKind};
@@ -13,23 +10,6 @@ use std::rt::HostRuntime;
 
 /// More bytes than any row puts.
 const ROOM: u32 = 200_000;
-
-/// Racks for all processors, each with a box of every kind.
-macro_rules! racks {
-    ($rt:expr) => {{
-        let mut racks = Vec::new($rt.alloc());
-        for _ in 0..8 {
-            let mut boxes: Vec<Box<dyn App + Send>> = Vec::new($rt.alloc());
-            boxes.push(Box::new($rt.alloc(), Autopilot::new())?)?;
-            boxes.push(Box::new($rt.alloc(), FlightControl::new())?)?;
-            boxes.push(Box::new($rt.alloc(), PowerMonitor::new())?)?;
-            boxes.push(Box::new($rt.alloc(), Navigator::new())?)?;
-            boxes.push(Box::new($rt.alloc(), Datalink::new())?)?;
-            racks.push(Rack { boxes })?;
-        }
-        racks
-    }};
-}
 
 /// Makes the boxes and calls the command: the status, and what was put.
 pub fn answer(

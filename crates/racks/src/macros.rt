@@ -1,0 +1,28 @@
+//! The macros that make racks. They are macros, since no function may make boxes and hand them out; each `?` in them
+//! gives back the error of memory that is wanting from the function around them.
+
+/// A rack of five boxes, whose first is given.
+#[macro_export]
+macro_rules! rack {
+    ($rt:expr, $first:expr) => {{
+        let mut boxes: Vec<Box<dyn $crate::App + Send>> = Vec::new($rt.alloc());
+        boxes.push(Box::new($rt.alloc(), $first)?)?;
+        boxes.push(Box::new($rt.alloc(), $crate::FlightControl::new())?)?;
+        boxes.push(Box::new($rt.alloc(), $crate::PowerMonitor::new())?)?;
+        boxes.push(Box::new($rt.alloc(), $crate::Navigator::new())?)?;
+        boxes.push(Box::new($rt.alloc(), $crate::Datalink::new())?)?;
+        $crate::Rack { boxes }
+    }};
+}
+
+/// Eight racks, one for each processor, each with the boxes of all five kinds.
+#[macro_export]
+macro_rules! racks {
+    ($rt:expr) => {{
+        let mut racks = Vec::new($rt.alloc());
+        for _ in 0..8 {
+            racks.push($crate::rack!($rt, $crate::Autopilot::new()))?;
+        }
+        racks
+    }};
+}
