@@ -1,7 +1,6 @@
 pub mod Listing
 pub mod Printing
 mod Steps
-mod ModeNames
 mod Splitting
 mod Spelling
 mod Values

@@ -76,7 +76,7 @@ fn name_of_value(factor: &Factor, value: u8) -> &str
     }
 }
 
-#[tactic(auto, using(crate::proofs::ModeNames::mode_short))]
+#[tactic(auto, using(app_model::proofs::ShortNames::mode_short))]
 pub fn name_of_mode(kind: KindId, mode: Mode) -> &'static str
     ensures name { result.now ≡ mode_text kind.0 mode.0 }
     ensures short { length result.now ≤ 16 }
