@@ -11,7 +11,7 @@ use Rattle.scram_types.specs.declared.specification.Place.{Place}
 use Rattle.scram_types.specs.declared.specification.Proc.{Proc}
 use Rattle.scram_types.specs.Names.{is_name}
 use Rattle.scram_types.specs.Scripts.{ScriptParts}
-use Rattle.scram_types.specs.Specification.{Each, HasValueNames, IsAppSpec, IsBound, IsChoice, IsConf, IsFactor, IsModeSpec, IsPlace, IsProc, IsSpec, IsWant, mode_in, place_in}
+use Rattle.scram_types.specs.Specification.{Each, HasValueNames, IsAppSpec, IsBound, IsChoice, IsConf, IsFactor, IsModeSpec, IsPlace, IsProc, IsSpec, IsWant, mode_in, modes_of_kind, place_in}
 use Rattle.fault_script.specs.Fits.{Fits, IsChange}
 use Rattle.fault_script.proofs.Assuming.{leaves_nowhere}
 use Rattle.fault_script.proofs.SmallSpec.{differ_one, differ_two, each_none, each_one, each_two}
@@ -33,6 +33,7 @@ names_apart : (m n : ℕ) → (m ≡ n → ⊥) → ◌≡◌ {A = List ℕ} (m 
 names_apart m n apart same = apart (ap (λ (t : List ℕ). slice_index_or t 0 0) same)
 
 is_mode : (m : ℕ) → 1 ≤ m → m ≤ 3 → IsModeSpec 2 (mode m)
+unfolding modes_of_kind
 is_mode m low high = record {
   on = low;
   of_kind = high;
