@@ -20,7 +20,7 @@ use Rattle.coverage_check.specs.declared.choosing.Demand.TheVariants as demand
 use Rattle.coverage_check.specs.Showing.{conf}
 use Rattle.coverage_check.specs.Form.{is_empty, is_overloaded, is_same, lacks_need, load_refusal, load_refusal_in, need_refusal, need_refusal_in, shape_refusal, shape_refusal_of, state_refusal, twin_refusal_of}
 use Rattle.coverage_check.specs.Choosing.{demand_refusal, demand_refusal_of, first_unmet_env, is_unmet, leaves_start, opening_env, start_refusal, unmet_env_at}
-use Rattle.coverage_check.specs.Timing.{bound_refusal, bound_refusal_of, can_return, further, greatest_bound, has_short_window, is_bounded, is_target, lacks_bound, lacks_bound_to, least, window_refusal}
+use Rattle.coverage_check.specs.Timing.{bound_refusal, bound_refusal_of, can_return, further, greatest_bound, has_short_window, is_bound_asked, is_bounded, is_target, lacks_bound, least, window_refusal}
 use Rattle.coverage_check.specs.Holding.{breaks_entering, breaks_from, holds_entering, holds_from, holds_leaving, holds_on_way, holds_reached, invariant_refusal, invariant_refusal_at, invariant_refusal_of, precondition_refusal, precondition_refusal_at, precondition_refusal_of}
 use Rattle.coverage_check.specs.Acceptance.{Accepts, AcceptsWhereUnrefused, IsKept, IsServed, IsShaped, choice_refusal, first_refusal, form_refusal, range_refusal, time_refusal}
 use Rattle.coverage_check.proofs.Searching.{all_each, and_left, and_right, below_none, by_bool, each_all, none_below, none_both, none_left, none_right, none_shown, not_not, not_shown, or_cases, some_none, true_false}
@@ -121,8 +121,7 @@ module _ (spec : Parts) (made : IsSpec spec) where
   bounded e i j known target asked =
       let inside : j.0 < length spec.confs = subst (λ (k : ConfId). k.0 < length spec.confs) target.chosen (choose_inside spec made i target.seen known) in
       let free = not_shown (lacks_bound spec i j.0) _ (below_none _ (length spec.confs) j.0 (below_none (bound_refusal_of spec) (length spec.confs) i.0 e known) inside) in
-      let to = second_false (is_target spec i j.0) (lacks_bound_to spec i j) free (target_test spec made i j target) in
-      let given = not_false (is_bounded spec i j) (second_false (not (i.0 == j.0) || can_return spec) _ to (asked_true i j asked)) in
+      let given = not_false (is_bounded spec i j) (second_false (is_bound_asked spec i j.0) _ free (both _ _ (target_test spec made i j target) (asked_true i j asked))) in
       served i j (bound_in spec.bounds i.0 j.0) refl given
 
   invariant_none : invariant_refusal spec ≡ None → (k : ℕ) (inv : Invariant) → slice_get spec.invariants k ≡ Some inv → invariant_refusal_of spec k inv ≡ None
@@ -233,10 +232,11 @@ module _ (spec : Parts) (made : IsSpec spec) where
     no_bound : bound_refusal spec ≡ None
     no_bound = none_below (bound_refusal_of spec) (length spec.confs) (λ i known.
         none_below _ (length spec.confs) (λ j there.
-        none_shown (lacks_bound spec (conf i) j) _ (either_false (is_target spec (conf i) j) _ (λ target.
-        either_false (not (i == j) || can_return spec) _ (λ asked.
+        none_shown (lacks_bound spec (conf i) j) _ (either_false (is_bound_asked spec (conf i) j) _ (λ wanted.
+        let target = and_left (is_target spec (conf i) j) _ wanted in
+        let asked = and_right (is_target spec (conf i) j) _ wanted in
         not_true (is_bounded spec (conf i) (conf j)) (bound_serves (conf i) (conf j)
-        (accepts.bounded (conf i) (conf j) known (target_tested spec made (conf i) (conf j) target) (way_open (conf i) (conf j) asked))))))))
+        (accepts.bounded (conf i) (conf j) known (target_tested spec made (conf i) (conf j) target) (way_open (conf i) (conf j) asked)))))))
 
     no_window : window_refusal spec ≡ None
     no_window = none_shown (has_short_window spec) _ (not_below_test spec.window (greatest_bound spec.bounds + 1)

@@ -49,12 +49,21 @@ can_return spec = nat_lt 0 (further spec.policy spec.changes)
 abbrev pub is_bounded : Parts → ConfId → ConfId → Bool
 is_bounded spec i j = option_map_or (λ (t : ℕ). nat_le (least spec i j) t) (bound_in spec.bounds i.0 j.0) false
 
--- Where j is a possible target of i, a bound is asked for, but from i to i only where i can be returned to.
-abbrev pub lacks_bound_to : Parts → ConfId → ConfId → Bool
-lacks_bound_to spec i j = (not (i.0 == j.0) || can_return spec) && not (is_bounded spec i j)
+-- A reconfiguration from i may end in j: elsewhere, or where it began, if that can be returned to.
+abbrev pub may_end_in : Parts → ConfId → ConfId → Bool
+may_end_in spec i j = not (i.0 == j.0) || can_return spec
 
+-- A bound from i to j is asked for: j is a possible target of i in which a reconfiguration from i may end.
+abbrev pub is_bound_asked : Parts → ConfId → ℕ → Bool
+is_bound_asked spec i j = is_target spec i j && may_end_in spec i (conf j)
+
+-- The configurations to which a bound from i is asked for, as bits.
+abbrev pub asked_bounds : Parts → ConfId → ℕ
+asked_bounds spec i = bits_below (is_bound_asked spec i) (length spec.confs)
+
+-- A bound from i to j is asked for, and none that serves is given.
 abbrev pub lacks_bound : Parts → ConfId → ℕ → Bool
-lacks_bound spec i j = is_target spec i j && lacks_bound_to spec i (conf j)
+lacks_bound spec i j = is_bound_asked spec i j && not (is_bounded spec i (conf j))
 
 abbrev pub bound_refusal_of : Parts → ℕ → Option Shown
 bound_refusal_of spec i =

@@ -59,8 +59,8 @@ fn has_off(spec: &Spec, c: ConfId, needs: &[AppId]) -> bool
     needs.iter().any(|needed| !is_on(spec, c, *needed))
 }
 
-// More environments in scope than an acceptance looks through.
-pub(crate) fn refuse_states(spec: &Spec) -> Option<Shown>
+/// More environments in scope than an acceptance looks through, and how many there are. It takes no memory.
+pub fn refuse_states(spec: &Spec) -> Option<Shown>
     ensures { result ≡ state_refusal spec.now }
 {
     let states = states(spec);

@@ -14,7 +14,8 @@ pub mod target_sets;
 pub mod timing;
 
 pub use acceptance::{AcceptError, Accepted, accept};
+pub use form::refuse_states;
 pub use missions::{Mission, NotWithin};
 pub use shown::{Other, Shown};
 pub use target_sets::targets;
-pub use timing::least;
+pub use timing::{asked_bounds, least};

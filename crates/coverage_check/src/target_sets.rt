@@ -44,7 +44,7 @@ pub(crate) fn find_all_targets(spec: &Spec) -> [TargetSet; 12]
 }
 
 // The possible targets of configuration number `i`; each environment in scope is looked at once.
-fn find_targets(spec: &Spec, i: u8) -> TargetSet
+pub(crate) fn find_targets(spec: &Spec, i: u8) -> TargetSet
     requires inside { i < length spec.now.confs }
     requires known { IsSpec spec.now }
     ensures { HasTargets spec.now i result }

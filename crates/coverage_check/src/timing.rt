@@ -1,15 +1,17 @@
 //! How long reconfigurations may take.
 
-ghost use Rattle.std.specs.Prelude.{◌≡◌, ◌≤◌, ◌+◌};
+ghost use Rattle.std.specs.Prelude.{◌≡◌, ◌<◌, ◌≤◌, ◌+◌, IfOk, length};
 ghost use Rattle.dep_order.specs.Timetables.{halting_time, initialising_time, preparing_time};
+ghost use Rattle.coverage_check.specs.Showing.{conf};
 ghost use Rattle.coverage_check.specs.TargetSets.{HasAllTargets, HasTargets};
-ghost use Rattle.coverage_check.specs.Timing.{bound_refusal, bound_refusal_of, can_return, further, greatest_bound, is_bounded, lacks_bound_to, least, slowest, window_refusal};
+ghost use Rattle.coverage_check.specs.Timing.{asked_bounds, bound_refusal, bound_refusal_of, can_return, further, greatest_bound, is_bound_asked, is_bounded, least, may_end_in, slowest, window_refusal};
 
 use crate::places::count_confs;
 use crate::shown::{Other, Shown};
-use crate::target_sets::TargetSet;
+use crate::target_sets::{TargetSet, find_targets};
 use dep_order::timetable;
-use scram_types::{Bound, ConfId, Policy, Spec};
+use scram_types::{Bound, ConfId, NoMemory, Policy, Spec};
+use std::alloc::Global;
 
 /// The least bound, in frames, that serves a reconfiguration from configuration `i` to `j`: one frame, what
 /// `i` takes to halt, what `j` takes to prepare and to initialise, and for each further change of the
@@ -20,6 +22,36 @@ pub fn least(spec: &Spec, i: ConfId, j: ConfId) -> u32
     let target = timetable(spec, j);
     let before = 1 + u32::from(timetable(spec, i).h) + further(spec) * slowest(spec);
     before + u32::from(target.p) + u32::from(target.i)
+}
+
+/// The configurations to which a specification has to give a bound from configuration `i`, as bits: the
+/// possible targets of `i`, and `i` itself only where a reconfiguration may return to where it began.
+///
+/// # Errors
+///
+/// Want of memory.
+pub fn asked_bounds(_alloc: Global, spec: &Spec, i: ConfId) -> Result<u16, NoMemory>
+    requires { i.0 < length spec.now.confs }
+    ensures { IfOk result (λ asked. asked ≡ asked_bounds spec.now i) }
+{
+    let count = count_confs(spec);
+    Ok(find_asked(spec, &find_targets(spec, i.0), i.0, count))
+}
+
+// The same, `set` being the possible targets of `i` and `count` the number of configurations.
+fn find_asked(spec: &Spec, set: &TargetSet, i: u8, count: u8) -> u16
+    requires targets { HasTargets spec.now i set.now }
+    requires all { count ≡ length spec.now.confs }
+    requires few { count ≤ 12 }
+    ensures { result ≡ asked_bounds spec.now (conf i) }
+{
+    let mut bits = 0;
+    for j in 0..count {
+        if is_bound_asked(spec, set, i, j) {
+            bits += 1 << j;
+        }
+    }
+    bits
 }
 
 // How many changes beyond the first a reconfiguration may see.
@@ -72,7 +104,7 @@ fn refuse_bound_of(spec: &Spec, set: &TargetSet, i: u8) -> Option<Shown>
     ensures { result ≡ bound_refusal_of spec.now i }
 {
     for j in 0..count_confs(spec) {
-        if set.has(j) && lacks_bound_to(spec, ConfId(i), ConfId(j)) {
+        if is_bound_asked(spec, set, i, j) && !is_bounded(spec, ConfId(i), ConfId(j)) {
             let frames = least(spec, ConfId(i), ConfId(j));
             return Some(Shown::at(9, i, Other::Least(ConfId(j), frames)));
         }
@@ -80,10 +112,20 @@ fn refuse_bound_of(spec: &Spec, set: &TargetSet, i: u8) -> Option<Shown>
     None
 }
 
-fn lacks_bound_to(spec: &Spec, i: ConfId, j: ConfId) -> bool
-    ensures { result ≡ lacks_bound_to spec.now i j }
+// Whether a bound from `i` to `j` is asked for, `set` being the possible targets of `i`.
+fn is_bound_asked(spec: &Spec, set: &TargetSet, i: u8, j: u8) -> bool
+    requires targets { HasTargets spec.now i set.now }
+    requires inside { j < length spec.now.confs }
+    ensures { result ≡ is_bound_asked spec.now (conf i) j }
 {
-    (i.0 != j.0 || can_return(spec)) && !is_bounded(spec, i, j)
+    set.has(j) && may_end_in(spec, ConfId(i), ConfId(j))
+}
+
+// Whether a reconfiguration from `i` may end in `j`: elsewhere, or where it began.
+fn may_end_in(spec: &Spec, i: ConfId, j: ConfId) -> bool
+    ensures { result ≡ may_end_in spec.now i j }
+{
+    i.0 != j.0 || can_return(spec)
 }
 
 fn can_return(spec: &Spec) -> bool

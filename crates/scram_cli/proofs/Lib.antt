@@ -2,5 +2,5 @@ mod LineExamples
 pub mod Pluses
 mod Endings
 mod Loading
-mod Bounding
+mod TextsBelow
 mod Counted

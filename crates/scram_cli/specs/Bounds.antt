@@ -1,20 +1,13 @@
--- The bounds that a specification has to give, and the text that tells them.
-use Rattle.std.specs.Prelude.{◌≡◌, ℕ, zero, suc, ◌<◌, Bool, not, ◌&&◌, ◌||◌, ◌==◌, List, [], ◌++◌, length, slice_get, Some, if◌then◌else◌}
+-- The text of the bounds that a specification has to give.
+use Rattle.std.specs.Prelude.{◌≡◌, ℕ, zero, suc, ◌<◌, List, [], ◌++◌, length, slice_get, Some, if◌then◌else◌}
+use Rattle.scram_types.specs.Lookups.{conf_id}
 use Rattle.scram_types.specs.Specification.{Parts}
-use Rattle.coverage_check.specs.Showing.{conf}
-use Rattle.coverage_check.specs.Timing.{can_return, is_target, targets}
+use Rattle.coverage_check.specs.Timing.{asked_bounds, is_bound_asked}
 use Rattle.scram_cli.specs.Lines.{bound_line}
 
--- A reconfiguration from i may end in j: elsewhere, or where it began, if that can be returned to.
-abbrev pub may_go : Parts → ℕ → ℕ → Bool
-may_go spec i j = not (i == j) || can_return spec
-
--- A bound from i to j is asked for.
-abbrev pub is_asked : Parts → ℕ → ℕ → Bool
-is_asked spec i j = is_target spec (conf i) j && may_go spec i j
-
+-- A line, where a bound from i to j is asked for.
 abbrev pub bound_text_of : Parts → ℕ → ℕ → List ℕ
-bound_text_of spec i j = if is_asked spec i j then bound_line spec (conf i) (conf j) else []
+bound_text_of spec i j = if is_bound_asked spec (conf_id i) j then bound_line spec (conf_id i) (conf_id j) else []
 
 -- The texts of the numbers below n, one after another.
 abbrev pub texts_below : (ℕ → List ℕ) → ℕ → List ℕ
@@ -28,6 +21,6 @@ bounds_text_from spec i = texts_below (bound_text_of spec i) (length spec.confs)
 abbrev pub bounds_text : Parts → List ℕ
 bounds_text spec = texts_below (bounds_text_from spec) (length spec.confs)
 
--- The possible targets of each configuration, as bits.
-abbrev pub HasTargetSets : Parts → List ℕ → Type 0
-HasTargetSets spec sets = (i set : ℕ) → i < length spec.confs → slice_get sets i ≡ Some set → set ≡ targets spec (conf i)
+-- The configurations to which a bound from each configuration is asked for, as bits.
+abbrev pub HasAskedBounds : Parts → List ℕ → Type 0
+HasAskedBounds spec sets = (i set : ℕ) → i < length spec.confs → slice_get sets i ≡ Some set → set ≡ asked_bounds spec (conf_id i)

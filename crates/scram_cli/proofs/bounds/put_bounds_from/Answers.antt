@@ -1,7 +1,7 @@
 use Rattle.std.proofs.Common.{suc, length, arith}
 use Rattle.scram_cli.specs.Bounds.{bound_text_of, bounds_text_from, texts_below}
 use Rattle.trace_text.proofs.Printing.{printed_more, cut_in}
-use Rattle.scram_cli.proofs.Bounding.{texts_more, texts_rest}
+use Rattle.scram_cli.proofs.TextsBelow.{texts_more, texts_rest}
 use Rattle.scram_cli.proofs.bounds.put_bounds_from.Goals as goal
 
 pub returns-in-Err : goal.returns-in-Err
