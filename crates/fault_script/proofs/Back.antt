@@ -1,13 +1,12 @@
 -- The value of a script that fits is read back to the script.
-use Rattle.std.proofs.Common.{◌≡◌, ◌≤◌, ◌<◌, ◌+◌, ℕ, suc, true, List, [], ◌∷◌, ◌++◌, length, map, arith, refl, ap, ◌∙◌, sym, subst, append_assoc, append-nil}
+use Rattle.std.proofs.Common.{◌≡◌, ◌≤◌, ◌<◌, ◌+◌, ℕ, zero, suc, true, take, drop, List, [], ◌∷◌, ◌++◌, length, map, arith, refl, ap, ◌∙◌, sym, subst, append_assoc, append-nil}
 use Rattle.std.specs.Prelude.{Ok, Some, IsUtf8, slice_get, codes}
-use Rattle.std.proofs.lemmas.Bool.{le-leb, lt-ltb}
-use Rattle.serde_json.specs.Data.{Data}
-use Rattle.serde_json.specs.Events.{items_len}
+use Rattle.std.proofs.lemmas.Bool.{le-leb}
+use Rattle.std.proofs.lemmas.Option.{same_Some}
 use Rattle.serde_json.specs.Read.{read}
-use Rattle.serde_json.specs.View.{items_of}
 use Rattle.scram_doc.specs.Paths.{item_path, member_path}
-use Rattle.scram_doc.specs.Values.{items_within, whole_below}
+use Rattle.scram_doc.specs.Canonical.{list_data}
+use Rattle.scram_doc.proofs.ReadBack.{list_back, whole_back}
 use Rattle.scram_doc.proofs.Parsed.{parsed-some}
 use Rattle.scram_types.specs.declared.scripts.Change.{Change}
 use Rattle.scram_types.specs.declared.scripts.HaltAt.{HaltAt}
@@ -18,28 +17,26 @@ use Rattle.fault_script.specs.declared.version.Version.{Version}
 use Rattle.fault_script.specs.declared.version.Version.TheVariants.{First, Second}
 use Rattle.fault_script.specs.Fits.{AtMostTwice, ChangeBefore, EachLater, EachNext, Fits, HaltBefore, RestartBefore, IsChange, IsHalt, IsRestart}
 use Rattle.fault_script.specs.Orders.{change_follows, halt_follows, may_halt, restart_follows}
-use Rattle.fault_script.specs.Reading.{change_at, changes_from, halt_at, halts_from, halts_kept, make_script, restart_at, restarts_from, script_in, script_of}
-use Rattle.fault_script.specs.Texts.{change_data, first_data, halt_data, restart_data, script_data, second_data}
+use Rattle.fault_script.specs.Reading.{keep_halts, make_script, read_change, read_changes, read_halt, read_halts, read_next_change, read_next_halt, read_next_restart, read_restart, read_restarts, script_in, script_of}
+use Rattle.fault_script.specs.Texts.{change_data, data_without_restarts, halt_data, restart_data, script_data, data_with_restarts}
 use Rattle.fault_script.specs.Times.{words}
+use Rattle.fault_script.specs.Versions.{halts_limit}
 use Rattle.fault_script.proofs.Alternation.{Again}
 use Rattle.fault_script.proofs.Fitting.{Differ, IsLate}
 use Rattle.fault_script.proofs.Found.{factor_found, proc_found, value_found}
 use Rattle.fault_script.proofs.SecondHalts.{Apart, apart_without_restarts, halts_few, may_halt_by}
 use Rattle.fault_script.proofs.Splits.{change_follows_by, halt_after_all, never_halted, restart_follows_by, seam}
 
-whole_back : (least end n : ℕ) → least ≤ n → n < end → whole_below least end n ≡ Some n
-whole_back least end n low high = rw (le-leb least n low, lt-ltb n end high) refl
-
-change_back : (spec : Parts) (frames : ℕ) (at : List ℕ) (c : Change) → IsSpec spec → IsChange spec frames c → change_at spec frames at (change_data spec c) ≡ Ok c
+change_back : (spec : Parts) (frames : ℕ) (at : List ℕ) (c : Change) → IsSpec spec → IsChange spec frames c → read_change spec frames at (change_data spec c) ≡ Ok c
 change_back spec frames at c is fits =
-    rw (whole_back 1 frames c.frame fits.least fits.most, factor_found spec c.factor fits.factor is fits.there, value_found spec c.factor fits.factor c.value is fits.there fits.value) refl
+    rw (whole_back 1 frames c.frame fits.least fits.most, factor_found spec c.factor fits.factor is fits.there, value_found spec c fits.factor is fits.there fits.value) refl
 
-halt_back : (spec : Parts) (frames : ℕ) (at : List ℕ) (h : HaltAt) → IsSpec spec → IsHalt spec frames h → halt_at spec frames at (halt_data spec h) ≡ Ok h
+halt_back : (spec : Parts) (frames : ℕ) (at : List ℕ) (h : HaltAt) → IsSpec spec → IsHalt spec frames h → read_halt spec frames at (halt_data spec h) ≡ Ok h
 halt_back spec frames at h is fits =
     let most = fits.step in
     rw (proc_found spec h.proc is fits.proc, whole_back 0 frames h.frame (omega arith) fits.frame, whole_back 0 (words spec + 2) h.step (omega arith) (omega (arith, most))) refl
 
-restart_back : (spec : Parts) (frames : ℕ) (at : List ℕ) (r : RestartAt) → IsSpec spec → IsRestart spec frames r → restart_at spec frames at (restart_data spec r) ≡ Ok r
+restart_back : (spec : Parts) (frames : ℕ) (at : List ℕ) (r : RestartAt) → IsSpec spec → IsRestart spec frames r → read_restart spec frames at (restart_data spec r) ≡ Ok r
 restart_back spec frames at r is fits =
     rw (proc_found spec r.proc is fits.proc, whole_back 2 frames r.frame fits.least fits.most) refl
 
@@ -54,42 +51,46 @@ split_law : {A : Type 0} (Law : List A → Type 0) (Fact : List A → A → List
     → ((xs : List A) (x : A) (ys : List A) → Law (xs ++ x ∷ ys) → Fact xs x ys) → Law whole → EachSplit Fact whole
 split_law Law Fact whole law holds xs x ys e = law xs x ys (subst Law (sym e) holds)
 
-changes_back : (spec : Parts) (frames : ℕ) (at : List ℕ) (i : ℕ) (whole before cs : List Change) → IsSpec spec → Each (IsChange spec frames) whole
-    → EachSplit (λ xs c _. change_follows xs c ≡ true) whole → before ++ cs ≡ whole
-    → changes_from spec frames at i before (items_of (map (change_data spec) cs)) ≡ Ok whole
-changes_back spec frames at i whole before [] is each follow e = ap (λ (xs : List Change). Ok xs) (sym (append-nil before) ∙ e)
-changes_back spec frames at i whole before (c ∷ cs) is each follow e =
-    rw (change_back spec frames (item_path at i) c is (split_each (IsChange spec frames) whole before cs c each e), follow before c cs e)
-    (changes_back spec frames at (suc i) whole (before ++ c ∷ []) cs is each follow (append_assoc before (c ∷ []) cs ∙ e))
+parted : {A : Type 0} (xs : List A) (i : ℕ) (x : A) → slice_get xs i ≡ Some x → take i xs ++ x ∷ drop (suc i) xs ≡ xs
+parted [] i x e = absurd cc
+parted (y ∷ ys) zero x e = ap (λ z. z ∷ ys) (sym (same_Some y x e))
+parted (y ∷ ys) (suc i) x e = ap (λ zs. y ∷ zs) (parted ys i x e)
 
-halts_back : (spec : Parts) (version : Version) (frames : ℕ) (at : List ℕ) (i : ℕ) (whole before hs : List HaltAt) → IsSpec spec → Each (IsHalt spec frames) whole
-    → EachSplit (λ xs h _. halt_follows version xs h ≡ true) whole → before ++ hs ≡ whole
-    → halts_from spec version frames at i before (items_of (map (halt_data spec) hs)) ≡ Ok whole
-halts_back spec version frames at i whole before [] is each follow e = ap (λ (xs : List HaltAt). Ok xs) (sym (append-nil before) ∙ e)
-halts_back spec version frames at i whole before (h ∷ hs) is each follow e =
-    rw (halt_back spec frames (item_path at i) h is (split_each (IsHalt spec frames) whole before hs h each e), follow before h hs e)
-    (halts_back spec version frames at (suc i) whole (before ++ h ∷ []) hs is each follow (append_assoc before (h ∷ []) hs ∙ e))
+record NextChange (spec : Parts) (frames : ℕ) (before : List Change) (c : Change) : Type 0 where
+  is : IsChange spec frames c
+  follows : change_follows before c ≡ true
 
-restarts_back : (spec : Parts) (frames : ℕ) (halts : List HaltAt) (at : List ℕ) (i : ℕ) (whole before rs : List RestartAt) → IsSpec spec → Each (IsRestart spec frames) whole
-    → EachSplit (λ xs r _. restart_follows halts xs r ≡ true) whole → before ++ rs ≡ whole
-    → restarts_from spec frames halts at i before (items_of (map (restart_data spec) rs)) ≡ Ok whole
-restarts_back spec frames halts at i whole before [] is each follow e = ap (λ (xs : List RestartAt). Ok xs) (sym (append-nil before) ∙ e)
-restarts_back spec frames halts at i whole before (r ∷ rs) is each follow e =
-    rw (restart_back spec frames (item_path at i) r is (split_each (IsRestart spec frames) whole before rs r each e), follow before r rs e)
-    (restarts_back spec frames halts at (suc i) whole (before ++ r ∷ []) rs is each follow (append_assoc before (r ∷ []) rs ∙ e))
+changes_back : (spec : Parts) (frames : ℕ) (at : List ℕ) (cs : List Change) → IsSpec spec → length cs ≤ 20000 → Each (IsChange spec frames) cs
+    → EachSplit (λ xs c _. change_follows xs c ≡ true) cs → read_changes spec frames at (list_data (change_data spec) cs) ≡ Ok cs
+changes_back spec frames at cs is few each follow =
+    list_back (NextChange spec frames) (read_next_change spec frames) (change_data spec) (λ path before c fits. rw (change_back spec frames path c is fits.is, fits.follows) refl)
+    0 20000 at cs (omega arith) few (λ i c e. record { is = each i c e; follows = follow (take i cs) c (drop (suc i) cs) (parted cs i c e) })
+
+record NextHalt (spec : Parts) (version : Version) (frames : ℕ) (before : List HaltAt) (h : HaltAt) : Type 0 where
+  is : IsHalt spec frames h
+  follows : halt_follows version before h ≡ true
+
+halts_back : (spec : Parts) (version : Version) (frames : ℕ) (at : List ℕ) (hs : List HaltAt) → IsSpec spec → length hs ≤ halts_limit version → Each (IsHalt spec frames) hs
+    → EachSplit (λ xs h _. halt_follows version xs h ≡ true) hs → read_halts spec version frames at (list_data (halt_data spec) hs) ≡ Ok hs
+halts_back spec version frames at hs is few each follow =
+    list_back (NextHalt spec version frames) (read_next_halt spec version frames) (halt_data spec) (λ path before h fits. rw (halt_back spec frames path h is fits.is, fits.follows) refl)
+    0 (halts_limit version) at hs (omega arith) few (λ i h e. record { is = each i h e; follows = follow (take i hs) h (drop (suc i) hs) (parted hs i h e) })
+
+record NextRestart (spec : Parts) (frames : ℕ) (halts : List HaltAt) (before : List RestartAt) (r : RestartAt) : Type 0 where
+  is : IsRestart spec frames r
+  follows : restart_follows halts before r ≡ true
+
+restarts_back : (spec : Parts) (frames : ℕ) (halts : List HaltAt) (at : List ℕ) (rs : List RestartAt) → IsSpec spec → length rs ≤ 8 → Each (IsRestart spec frames) rs
+    → EachSplit (λ xs r _. restart_follows halts xs r ≡ true) rs → read_restarts spec frames halts at (Some (list_data (restart_data spec) rs)) ≡ Ok rs
+restarts_back spec frames halts at rs is few each follow =
+    list_back (NextRestart spec frames halts) (read_next_restart spec frames halts) (restart_data spec) (λ path before r fits. rw (restart_back spec frames path r is fits.is, fits.follows) refl)
+    0 8 at rs (omega arith) few (λ i r e. record { is = each i r e; follows = follow (take i rs) r (drop (suc i) rs) (parted rs i r e) })
 
 kept_back : (restarts : List RestartAt) (at : List ℕ) (i : ℕ) (whole before hs : List HaltAt)
-    → EachSplit (λ xs h _. may_halt restarts xs h ≡ true) whole → before ++ hs ≡ whole → halts_kept restarts at i before hs ≡ Ok tt
+    → EachSplit (λ xs h _. may_halt restarts xs h ≡ true) whole → before ++ hs ≡ whole → keep_halts restarts at i before hs ≡ Ok tt
 kept_back restarts at i whole before [] may e = refl
 kept_back restarts at i whole before (h ∷ hs) may e =
     rw (may before h hs e) (kept_back restarts at (suc i) whole (before ++ h ∷ []) hs may (append_assoc before (h ∷ []) hs ∙ e))
-
-items_count : {A : Type 0} → (f : A → Data) → (xs : List A) → items_len (items_of (map f xs)) ≡ length xs
-items_count f [] = refl
-items_count f (x ∷ xs) = ap suc (items_count f xs)
-
-list_back : {A : Type 0} → (f : A → Data) → (most : ℕ) → (at : List ℕ) → (xs : List A) → length xs ≤ most → items_within 0 most at (items_of (map f xs)) ≡ Ok (items_of (map f xs))
-list_back f most at xs few = rw (items_count f xs, le-leb 0 (length xs) (omega arith), le-leb (length xs) most few) refl
 
 changes_follow : (spec : Parts) (script : ScriptParts) → Fits spec script → EachSplit (λ xs c _. change_follows xs c ≡ true) script.changes
 changes_follow spec script fits = split_law (EachNext ChangeBefore) (λ xs c _. change_follows xs c ≡ true) script.changes (λ xs c ys. change_follows_by xs ys c) fits.changes_ordered
@@ -113,7 +114,7 @@ halts_may spec script fits xs h ys e =
     may_halt_by script.restarts xs ys h (subst AtMostTwice (sym e) fits.halts_twice) (subst (EachLater (Again script.restarts)) (sym e) fits.halts_again)
 
 first_back : (spec : Parts) (frames : ℕ) (changes : List Change) (halts : List HaltAt) → IsSpec spec → Fits spec (make_script frames changes halts [])
-    → script_in spec (first_data spec (make_script frames changes halts [])) ≡ Ok (make_script frames changes halts [])
+    → script_in spec (data_without_restarts spec (make_script frames changes halts [])) ≡ Ok (make_script frames changes halts [])
 first_back spec frames changes halts is fits =
     let apart = apart_without_restarts halts fits.halts_again in
     let few = halts_few (length spec.procs) halts apart (λ i h there. (fits.halts i h there).proc) in
@@ -121,24 +122,19 @@ first_back spec frames changes halts is fits =
     let last = fits.frames in
     rw (
       whole_back 0 20001 frames (omega arith) (omega (arith, last)),
-      list_back (change_data spec) 20000 (member_path [] (codes "changes")) changes fits.changes_count,
-      changes_back spec frames (member_path [] (codes "changes")) 0 changes [] changes is fits.changes (changes_follow spec (make_script frames changes halts []) fits) refl,
-      list_back (halt_data spec) 8 (member_path [] (codes "halts")) halts (omega (arith, few, procs)),
-      halts_back spec First frames (member_path [] (codes "halts")) 0 halts [] halts is fits.halts (halts_follow_once spec (make_script frames changes halts []) fits apart) refl,
+      changes_back spec frames (member_path [] (codes "changes")) changes is fits.changes_count fits.changes (changes_follow spec (make_script frames changes halts []) fits),
+      halts_back spec First frames (member_path [] (codes "halts")) halts is (omega (arith, few, procs)) fits.halts (halts_follow_once spec (make_script frames changes halts []) fits apart),
       kept_back [] (member_path [] (codes "halts")) 0 halts [] halts (halts_may spec (make_script frames changes halts []) fits) refl,
     ) refl
 
-second_back : (spec : Parts) (script : ScriptParts) → IsSpec spec → Fits spec script → script_in spec (second_data spec script) ≡ Ok script
+second_back : (spec : Parts) (script : ScriptParts) → IsSpec spec → Fits spec script → script_in spec (data_with_restarts spec script) ≡ Ok script
 second_back spec script is fits =
     let last = fits.frames in
     rw (
       whole_back 0 20001 script.frames (omega arith) (omega (arith, last)),
-      list_back (change_data spec) 20000 (member_path [] (codes "changes")) script.changes fits.changes_count,
-      changes_back spec script.frames (member_path [] (codes "changes")) 0 script.changes [] script.changes is fits.changes (changes_follow spec script fits) refl,
-      list_back (halt_data spec) 16 (member_path [] (codes "halts")) script.halts fits.halts_count,
-      halts_back spec Second script.frames (member_path [] (codes "halts")) 0 script.halts [] script.halts is fits.halts (halts_follow spec script fits) refl,
-      list_back (restart_data spec) 8 (member_path [] (codes "restarts")) script.restarts fits.restarts_count,
-      restarts_back spec script.frames script.halts (member_path [] (codes "restarts")) 0 script.restarts [] script.restarts is fits.restarts (restarts_follow spec script fits) refl,
+      changes_back spec script.frames (member_path [] (codes "changes")) script.changes is fits.changes_count fits.changes (changes_follow spec script fits),
+      halts_back spec Second script.frames (member_path [] (codes "halts")) script.halts is fits.halts_count fits.halts (halts_follow spec script fits),
+      restarts_back spec script.frames script.halts (member_path [] (codes "restarts")) script.restarts is fits.restarts_count fits.restarts (restarts_follow spec script fits),
       kept_back script.restarts (member_path [] (codes "halts")) 0 script.halts [] script.halts (halts_may spec script fits) refl,
     ) refl
 

@@ -8,6 +8,8 @@ use Rattle.std.proofs.lemmas.Option.{option_and_then_some, same_Some}
 use Rattle.serde_json.specs.Data.{Data, Items, item, no_items}
 use Rattle.serde_json.specs.Events.{items_len}
 use Rattle.scram_doc.specs.declared.fault.DocError.{DocError}
+use Rattle.scram_doc.specs.declared.fault.DocFault.{DocFault}
+use Rattle.scram_doc.specs.Lists.{elements_at, elements_from}
 use Rattle.scram_doc.specs.Documents.{parsed}
 use Rattle.scram_doc.specs.Faults.{Answers}
 use Rattle.scram_doc.specs.Members.{needed, no_more_than, object_at}
@@ -26,44 +28,44 @@ use Rattle.fault_script.specs.declared.rule.TheConstants.{OUT_OF_ORDER, WRONG_RE
 use Rattle.fault_script.specs.declared.version.Version.{Version}
 use Rattle.fault_script.specs.declared.version.Version.TheVariants.{First, Second}
 use Rattle.fault_script.specs.Fits.{Before, ChangeBefore, EachLater, EachNext, Fits, HaltBefore, HaltsWellBefore, IsChange, IsHalt, IsRestart, RestartBefore}
-use Rattle.fault_script.specs.Lookups.{place_from, proc_id, value_named}
+use Rattle.scram_types.specs.Lookups.{number_named, proc_id, value_named}
 use Rattle.fault_script.specs.Orders.{change_after, change_follows, comes_after, halt_after, halt_follows, is_halt_before, last_of, restart_after, restart_follows}
-use Rattle.fault_script.specs.Reading.{change_at, change_values, changes_at, changes_from, factor_named_at, frames_in, halts_kept, kept, members_in, scram_at, halt_at, halt_values, halts_at, halts_from, make_change, make_halt, make_restart, make_script, proc_at, restart_at, restart_values, restarts_at, restarts_from, script_in, script_of, script_values, ScriptMembers, value_named_at}
+use Rattle.fault_script.specs.Reading.{ScriptMembers, change_values, find_members, find_value, halt_values, keep, keep_halts, make_change, make_halt, make_restart, make_script, read_change, read_changes, read_frames, read_halt, read_halts, read_named_factor, read_named_proc, read_named_value, read_next_change, read_next_halt, read_next_restart, read_restart, read_restarts, read_scram, read_values, restart_values, script_in, script_of}
 use Rattle.fault_script.specs.Times.{is_halt_of, is_restart_of, words}
 use Rattle.fault_script.specs.Versions.{halts_limit, version_of}
 use Rattle.fault_script.proofs.Alternation.{Alternate, alternate_none, halts_alternate}
 use Rattle.fault_script.proofs.Ends.{each_end, each_later_end, each_later_none, each_next_end, each_next_none, each_none}
-use Rattle.fault_script.proofs.Taken.{chain_ok, if_ok, kept_ok, list_at_ok, none_passes, or_broken_ok, place_from_within, some_passes, whole_at_ok}
+use Rattle.fault_script.proofs.Taken.{chain_ok, if_ok, kept_ok, list_at_ok, none_passes, or_broken_ok, number_from_within, some_passes, whole_at_ok}
 
 id_within : (n : ℕ) (o : Option ℕ) (p : ProcId) → ((k : ℕ) → o ≡ Some k → k < 0 + n) → option_map proc_id o ≡ Some p → p.0 < n
 id_within n (Some k) p within e = let same : k ≡ p.0 = ap (λ (q : ProcId). q.0) (same_Some (proc_id k) p e) in let less = within k refl in omega (arith, less, same)
 id_within n None p within e = absurd cc
 
-proc_at_ok : (spec : Parts) (at : List ℕ) (d : Data) (p : ProcId) → proc_at spec at d ≡ Ok p → p.0 < length spec.procs
+proc_at_ok : (spec : Parts) (at : List ℕ) (d : Data) (p : ProcId) → read_named_proc spec at d ≡ Ok p → p.0 < length spec.procs
 proc_at_ok spec at d p e = chain_ok (text_at at d) _ p e (λ text _ found.
-    id_within (length spec.procs) (place_from (λ (proc : Proc). proc.name) text 0 spec.procs) p
-    (λ k there. place_from_within (λ (proc : Proc). proc.name) text 0 k spec.procs there) (or_broken_ok _ at _ p found))
+    id_within (length spec.procs) (number_named (λ (proc : Proc). proc.name) spec.procs text) p
+    (λ k there. number_from_within (λ (proc : Proc). proc.name) text 0 k spec.procs there) (or_broken_ok _ at _ p found))
 
-make_is_change : (spec : Parts) (frames frame : ℕ) (x : FactorId) (value : ℕ) (text : List ℕ) → 1 ≤ frame → frame < frames → value_named spec x text ≡ Some value
+make_is_change : (spec : Parts) (frames frame : ℕ) (x : FactorId) (value : ℕ) (text : List ℕ) → 1 ≤ frame → frame < frames → find_value spec x text ≡ Some value
     → IsChange spec frames (make_change frame x value)
 make_is_change spec frames frame x value text low high e =
-    option_and_then_some (λ (factor : Factor). place_from (λ (name : List ℕ). name) text 0 factor.values) (slice_get spec.factors x.0) value e
+    option_and_then_some (λ (factor : Factor). value_named factor text) (slice_get spec.factors x.0) value e
     (λ factor there found.
-    let within = place_from_within (λ (name : List ℕ). name) text 0 value factor.values found in
+    let within = number_from_within (λ (name : List ℕ). name) text 0 value factor.values found in
     record { least = low; most = high; factor = factor; there = there; value = omega (arith, within) })
 
 change_values_ok : (spec : Parts) (frames : ℕ) (at : List ℕ) (df dx dv : Data) (c : Change) → change_values spec frames at df dx dv ≡ Ok c → IsChange spec frames c
 change_values_ok spec frames at df dx dv c e =
     chain_ok (whole_at 1 frames (member_path at (codes "frame")) df) _ c e (λ frame is_frame e1.
-    chain_ok (factor_named_at spec (member_path at (codes "factor")) dx) _ c e1 (λ x is_factor e2.
-    chain_ok (value_named_at spec x (member_path at (codes "value")) dv) _ c e2 (λ value is_value same.
+    chain_ok (read_named_factor spec (member_path at (codes "factor")) dx) _ c e1 (λ x is_factor e2.
+    chain_ok (read_named_value spec x (member_path at (codes "value")) dv) _ c e2 (λ value is_value same.
     chain_ok (text_at (member_path at (codes "value")) dv) _ value is_value (λ text _ found.
     let range = whole_at_ok 1 frames _ df frame is_frame in
     let known = or_broken_ok _ _ _ value found in
     let is : make_change frame x value ≡ c = cc in
     subst (IsChange spec frames) is (make_is_change spec frames frame x value text range.low range.high known)))))
 
-change_at_ok : (spec : Parts) (frames : ℕ) (at : List ℕ) (d : Data) (c : Change) → change_at spec frames at d ≡ Ok c → IsChange spec frames c
+change_at_ok : (spec : Parts) (frames : ℕ) (at : List ℕ) (d : Data) (c : Change) → read_change spec frames at d ≡ Ok c → IsChange spec frames c
 change_at_ok spec frames at d c e =
     chain_ok (object_at at d) _ c e (λ _ _ e1.
     chain_ok (needed (codes "frame") at d) _ c e1 (λ df _ e2.
@@ -93,22 +95,45 @@ pub record Read {A : Type 0} (Good : List A → Type 0) (count : ℕ) (xs : List
   pub good : Good xs
   pub count_is : length xs ≡ count
 
-changes_from_ok : (spec : Parts) (frames : ℕ) (at : List ℕ) (i : ℕ) (before cs : List Change) (ds : Items) → GoodChanges spec frames before
-    → changes_from spec frames at i before ds ≡ Ok cs → Read (GoodChanges spec frames) (length before + items_len ds) cs
-changes_from_ok spec frames at i before cs no_items good e =
-    let same : before ≡ cs = cc in let long = ap length same in
-    record { good = subst (GoodChanges spec frames) same good; count_is = omega (arith, long) }
-changes_from_ok spec frames at i before cs (item d ds) good e =
-    chain_ok (change_at spec frames (item_path at i) d) _ cs e (λ c is e1.
-    chain_ok (kept (change_follows before c) OUT_OF_ORDER (item_path at i)) _ cs e1 (λ u kept rest.
-    let more = changes_from_ok spec frames at (suc i) (before ++ c ∷ []) cs ds
-    (good_changes_end spec frames before c good (change_at_ok spec frames _ d c is) (kept_ok _ _ _ u kept)) rest in
-    let long = length-append before (c ∷ []) in let count = more.count_is in
-    record { good = more.good; count_is = omega (arith, long, count) }))
+-- where each element that is read keeps what those before it keep, the whole list keeps it
+elements_ok : {A : Type 0} (Good : List A → Type 0) (read : List ℕ → List A → Data → Result A DocFault)
+    → ((at : List ℕ) (before : List A) (x : A) (d : Data) → Good before → read at before d ≡ Ok x → Good (before ++ x ∷ []))
+    → (at : List ℕ) (i : ℕ) (before xs : List A) (ds : Items) → Good before → elements_from read at i before ds ≡ Ok xs → Read Good (length before + items_len ds) xs
+elements_ok Good read more at i before xs no_items good e =
+    let same : before ≡ xs = cc in let long = ap length same in
+    record { good = subst Good same good; count_is = omega (arith, long) }
+elements_ok Good read more at i before xs (item d ds) good e =
+    chain_ok (read (item_path at i) before d) _ xs e (λ x is rest.
+    let next = elements_ok Good read more at (suc i) (before ++ x ∷ []) xs ds (more (item_path at i) before x d good is) rest in
+    let long = length-append before (x ∷ []) in let count = next.count_is in
+    record { good = next.good; count_is = omega (arith, long, count) })
+
+-- what is read of a list, and how long it can be
+pub record Listed {A : Type 0} (Good : List A → Type 0) (most : ℕ) (xs : List A) : Type 0 where
+  pub good : Good xs
+  pub few : length xs ≤ most
+
+list_ok : {A : Type 0} (Good : List A → Type 0) (read : List ℕ → List A → Data → Result A DocFault)
+    → ((at : List ℕ) (before : List A) (x : A) (d : Data) → Good before → read at before d ≡ Ok x → Good (before ++ x ∷ []))
+    → (most : ℕ) (at : List ℕ) (d : Data) (xs : List A) → Good [] → elements_at read 0 most at d ≡ Ok xs → Listed Good most xs
+list_ok Good read more most at d xs none e = chain_ok (list_at 0 most at d) _ xs e (λ ds is rest.
+    let short = list_at_ok 0 most at d ds is in
+    let all = elements_ok Good read more at 0 [] xs ds none rest in
+    let count = all.count_is in
+    record { good = all.good; few = omega (arith, short, count) })
+
+next_change_ok : (spec : Parts) (frames : ℕ) (at : List ℕ) (before : List Change) (c : Change) (d : Data) → GoodChanges spec frames before
+    → read_next_change spec frames at before d ≡ Ok c → GoodChanges spec frames (before ++ c ∷ [])
+next_change_ok spec frames at before c d good e =
+    chain_ok (read_change spec frames at d) _ c e (λ one is e1.
+    chain_ok (keep (change_follows before one) OUT_OF_ORDER at) _ c e1 (λ u kept same.
+    let one_is : one ≡ c = cc in
+    subst (λ (x : Change). GoodChanges spec frames (before ++ x ∷ [])) one_is
+    (good_changes_end spec frames before one good (change_at_ok spec frames at d one is) (kept_ok _ _ _ u kept))))
 
 make_is_halt : (spec : Parts) (frames : ℕ) (at : List ℕ) (dp df ds : Data) (h : HaltAt) → halt_values spec frames at dp df ds ≡ Ok h → IsHalt spec frames h
 make_is_halt spec frames at dp df ds h e =
-    chain_ok (proc_at spec (member_path at (codes "processor")) dp) _ h e (λ p is_proc e1.
+    chain_ok (read_named_proc spec (member_path at (codes "processor")) dp) _ h e (λ p is_proc e1.
     chain_ok (whole_at 0 frames (member_path at (codes "frame")) df) _ h e1 (λ frame is_frame e2.
     chain_ok (whole_at 0 (words spec + 2) (member_path at (codes "step")) ds) _ h e2 (λ step is_step same.
     let within = proc_at_ok spec _ dp p is_proc in
@@ -118,7 +143,7 @@ make_is_halt spec frames at dp df ds h e =
     let is : make_halt p frame step ≡ h = cc in
     subst (IsHalt spec frames) is (record { proc = within; frame = frames_range.high; step = omega (arith, last) }))))
 
-halt_at_ok : (spec : Parts) (frames : ℕ) (at : List ℕ) (d : Data) (h : HaltAt) → halt_at spec frames at d ≡ Ok h → IsHalt spec frames h
+halt_at_ok : (spec : Parts) (frames : ℕ) (at : List ℕ) (d : Data) (h : HaltAt) → read_halt spec frames at d ≡ Ok h → IsHalt spec frames h
 halt_at_ok spec frames at d h e =
     chain_ok (object_at at d) _ h e (λ _ _ e1.
     chain_ok (needed (codes "processor") at d) _ h e1 (λ dp _ e2.
@@ -142,29 +167,25 @@ good_halts_end spec frames before h good is follows = record {
       (λ l last. comes_after_ok l.frame l.proc.0 h.frame h.proc.0 (ap (λ o. halt_after o h) (sym last) ∙ follows));
 }
 
-halts_from_ok : (spec : Parts) (version : Version) (frames : ℕ) (at : List ℕ) (i : ℕ) (before hs : List HaltAt) (ds : Items) → GoodHalts spec frames before
-    → halts_from spec version frames at i before ds ≡ Ok hs → Read (GoodHalts spec frames) (length before + items_len ds) hs
-halts_from_ok spec version frames at i before hs no_items good e =
-    let same : before ≡ hs = cc in let long = ap length same in
-    record { good = subst (GoodHalts spec frames) same good; count_is = omega (arith, long) }
-halts_from_ok spec version frames at i before hs (item d ds) good e =
-    chain_ok (halt_at spec frames (item_path at i) d) _ hs e (λ h is e1.
-    chain_ok (kept (halt_follows version before h) OUT_OF_ORDER (item_path at i)) _ hs e1 (λ u kept rest.
-    let more = halts_from_ok spec version frames at (suc i) (before ++ h ∷ []) hs ds
-    (good_halts_end spec frames before h good (halt_at_ok spec frames _ d h is) (follows_after version before h (kept_ok _ _ _ u kept))) rest in
-    let long = length-append before (h ∷ []) in let count = more.count_is in
-    record { good = more.good; count_is = omega (arith, long, count) }))
+next_halt_ok : (spec : Parts) (version : Version) (frames : ℕ) (at : List ℕ) (before : List HaltAt) (h : HaltAt) (d : Data) → GoodHalts spec frames before
+    → read_next_halt spec version frames at before d ≡ Ok h → GoodHalts spec frames (before ++ h ∷ [])
+next_halt_ok spec version frames at before h d good e =
+    chain_ok (read_halt spec frames at d) _ h e (λ one is e1.
+    chain_ok (keep (halt_follows version before one) OUT_OF_ORDER at) _ h e1 (λ u kept same.
+    let one_is : one ≡ h = cc in
+    subst (λ (x : HaltAt). GoodHalts spec frames (before ++ x ∷ [])) one_is
+    (good_halts_end spec frames before one good (halt_at_ok spec frames at d one is) (follows_after version before one (kept_ok _ _ _ u kept)))))
 
 make_is_restart : (spec : Parts) (frames : ℕ) (at : List ℕ) (dp df : Data) (r : RestartAt) → restart_values spec frames at dp df ≡ Ok r → IsRestart spec frames r
 make_is_restart spec frames at dp df r e =
-    chain_ok (proc_at spec (member_path at (codes "processor")) dp) _ r e (λ p is_proc e1.
+    chain_ok (read_named_proc spec (member_path at (codes "processor")) dp) _ r e (λ p is_proc e1.
     chain_ok (whole_at 2 frames (member_path at (codes "frame")) df) _ r e1 (λ frame is_frame same.
     let within = proc_at_ok spec _ dp p is_proc in
     let range = whole_at_ok 2 frames _ df frame is_frame in
     let is : make_restart p frame ≡ r = cc in
     subst (IsRestart spec frames) is (record { proc = within; least = range.low; most = range.high })))
 
-restart_at_ok : (spec : Parts) (frames : ℕ) (at : List ℕ) (d : Data) (r : RestartAt) → restart_at spec frames at d ≡ Ok r → IsRestart spec frames r
+restart_at_ok : (spec : Parts) (frames : ℕ) (at : List ℕ) (d : Data) (r : RestartAt) → read_restart spec frames at d ≡ Ok r → IsRestart spec frames r
 restart_at_ok spec frames at d r e =
     chain_ok (object_at at d) _ r e (λ _ _ e1.
     chain_ok (needed (codes "processor") at d) _ r e1 (λ dp _ e2.
@@ -211,56 +232,42 @@ good_restarts_none spec frames halts = record {
   late = each_none (IsLate halts);
 }
 
-restarts_from_ok : (spec : Parts) (frames : ℕ) (halts : List HaltAt) (at : List ℕ) (i : ℕ) (before rs : List RestartAt) (ds : Items) → GoodRestarts spec frames halts before
-    → restarts_from spec frames halts at i before ds ≡ Ok rs → Read (GoodRestarts spec frames halts) (length before + items_len ds) rs
-restarts_from_ok spec frames halts at i before rs no_items good e =
-    let same : before ≡ rs = cc in let long = ap length same in
-    record { good = subst (GoodRestarts spec frames halts) same good; count_is = omega (arith, long) }
-restarts_from_ok spec frames halts at i before rs (item d ds) good e =
-    chain_ok (restart_at spec frames (item_path at i) d) _ rs e (λ r is e1.
-    chain_ok (kept (restart_follows halts before r) WRONG_RESTART (item_path at i)) _ rs e1 (λ u kept rest.
-    let more = restarts_from_ok spec frames halts at (suc i) (before ++ r ∷ []) rs ds
-    (good_restarts_end spec frames halts before r good (restart_at_ok spec frames _ d r is) (kept_ok _ _ _ u kept)) rest in
-    let long = length-append before (r ∷ []) in let count = more.count_is in
-    record { good = more.good; count_is = omega (arith, long, count) }))
+next_restart_ok : (spec : Parts) (frames : ℕ) (halts : List HaltAt) (at : List ℕ) (before : List RestartAt) (r : RestartAt) (d : Data) → GoodRestarts spec frames halts before
+    → read_next_restart spec frames halts at before d ≡ Ok r → GoodRestarts spec frames halts (before ++ r ∷ [])
+next_restart_ok spec frames halts at before r d good e =
+    chain_ok (read_restart spec frames at d) _ r e (λ one is e1.
+    chain_ok (keep (restart_follows halts before one) WRONG_RESTART at) _ r e1 (λ u kept same.
+    let one_is : one ≡ r = cc in
+    subst (λ (x : RestartAt). GoodRestarts spec frames halts (before ++ x ∷ [])) one_is
+    (good_restarts_end spec frames halts before one good (restart_at_ok spec frames at d one is) (kept_ok _ _ _ u kept))))
 
--- what is read of a list, and how long it can be
-pub record Listed {A : Type 0} (Good : List A → Type 0) (most : ℕ) (xs : List A) : Type 0 where
-  pub good : Good xs
-  pub few : length xs ≤ most
-
-changes_at_ok : (spec : Parts) (frames : ℕ) (at : List ℕ) (d : Data) (cs : List Change) → changes_at spec frames at d ≡ Ok cs → Listed (GoodChanges spec frames) 20000 cs
-changes_at_ok spec frames at d cs e = chain_ok (list_at 0 20000 at d) _ cs e (λ ds is rest.
-    let short = list_at_ok 0 20000 at d ds is in
-    let read = changes_from_ok spec frames at 0 [] cs ds (record { each = each_none (IsChange spec frames); ordered = each_next_none ChangeBefore }) rest in
-    let count = read.count_is in
-    record { good = read.good; few = omega (arith, short, count) })
+changes_at_ok : (spec : Parts) (frames : ℕ) (at : List ℕ) (d : Data) (cs : List Change) → read_changes spec frames at d ≡ Ok cs → Listed (GoodChanges spec frames) 20000 cs
+changes_at_ok spec frames at d cs e =
+    list_ok (GoodChanges spec frames) (read_next_change spec frames) (next_change_ok spec frames) 20000 at d cs
+    (record { each = each_none (IsChange spec frames); ordered = each_next_none ChangeBefore }) e
 
 limit_few : (version : Version) → halts_limit version ≤ 16
 limit_few First = omega arith
 limit_few Second = omega arith
 
-halts_at_ok : (spec : Parts) (version : Version) (frames : ℕ) (at : List ℕ) (d : Data) (hs : List HaltAt) → halts_at spec version frames at d ≡ Ok hs → Listed (GoodHalts spec frames) 16 hs
-halts_at_ok spec version frames at d hs e = chain_ok (list_at 0 (halts_limit version) at d) _ hs e (λ ds is rest.
-    let short = list_at_ok 0 (halts_limit version) at d ds is in
+halts_at_ok : (spec : Parts) (version : Version) (frames : ℕ) (at : List ℕ) (d : Data) (hs : List HaltAt) → read_halts spec version frames at d ≡ Ok hs → Listed (GoodHalts spec frames) 16 hs
+halts_at_ok spec version frames at d hs e =
+    let all = list_ok (GoodHalts spec frames) (read_next_halt spec version frames) (next_halt_ok spec version frames) (halts_limit version) at d hs
+    (record { each = each_none (IsHalt spec frames); ordered = each_next_none HaltBefore }) e in
+    let few = all.few in
     let limit = limit_few version in
-    let read = halts_from_ok spec version frames at 0 [] hs ds (record { each = each_none (IsHalt spec frames); ordered = each_next_none HaltBefore }) rest in
-    let count = read.count_is in
-    record { good = read.good; few = omega (arith, short, count, limit) })
+    record { good = all.good; few = omega (arith, few, limit) }
 
-restarts_at_ok : (spec : Parts) (frames : ℕ) (halts : List HaltAt) (at : List ℕ) (o : Option Data) (rs : List RestartAt) → restarts_at spec frames halts at o ≡ Ok rs
+restarts_at_ok : (spec : Parts) (frames : ℕ) (halts : List HaltAt) (at : List ℕ) (o : Option Data) (rs : List RestartAt) → read_restarts spec frames halts at o ≡ Ok rs
     → Listed (GoodRestarts spec frames halts) 8 rs
 restarts_at_ok spec frames halts at None rs e =
     let same : [] ≡ rs = cc in let long : length {A = RestartAt} [] ≡ length rs = ap length same in
     record { good = subst (GoodRestarts spec frames halts) same (good_restarts_none spec frames halts); few = omega (arith, long) }
-restarts_at_ok spec frames halts at (Some d) rs e = chain_ok (list_at 0 8 at d) _ rs e (λ ds is rest.
-    let short = list_at_ok 0 8 at d ds is in
-    let read = restarts_from_ok spec frames halts at 0 [] rs ds (good_restarts_none spec frames halts) rest in
-    let count = read.count_is in
-    record { good = read.good; few = omega (arith, short, count) })
+restarts_at_ok spec frames halts at (Some d) rs e =
+    list_ok (GoodRestarts spec frames halts) (read_next_restart spec frames halts) (next_restart_ok spec frames halts) 8 at d rs (good_restarts_none spec frames halts) e
 
-frames_in_ok : (scram frames : Data) (n : ℕ) → frames_in scram frames ≡ Ok n → n ≤ 20000
-frames_in_ok scram frames n e = chain_ok (scram_at (member_path [] (codes "scram")) scram) _ n e (λ _ _ rest. let range = whole_at_ok 0 20001 _ frames n rest in let high = range.high in omega (arith, high))
+frames_in_ok : (scram frames : Data) (n : ℕ) → read_frames scram frames ≡ Ok n → n ≤ 20000
+frames_in_ok scram frames n e = chain_ok (read_scram (member_path [] (codes "scram")) scram) _ n e (λ _ _ rest. let range = whole_at_ok 0 20001 _ frames n rest in let high = range.high in omega (arith, high))
 
 fits_of : (spec : Parts) (frames : ℕ) (changes : List Change) (halts : List HaltAt) (restarts : List RestartAt) → frames ≤ 20000 → Listed (GoodChanges spec frames) 20000 changes
     → Listed (GoodHalts spec frames) 16 halts → Listed (GoodRestarts spec frames halts) 8 restarts → Alternate restarts halts → Fits spec (make_script frames changes halts restarts)
@@ -281,13 +288,13 @@ fits_of spec frames changes halts restarts few cs hs rs alternate = record {
   halts_again = alternate.again;
 }
 
-script_values_ok : (spec : Parts) (version : Version) (m : ScriptMembers) (script : ScriptParts) → script_values spec version m ≡ Ok script → Fits spec script
+script_values_ok : (spec : Parts) (version : Version) (m : ScriptMembers) (script : ScriptParts) → read_values spec version m ≡ Ok script → Fits spec script
 script_values_ok spec version m script e =
-    chain_ok (frames_in m.scram m.frames) _ script e (λ frames is_frames e1.
-    chain_ok (changes_at spec frames (member_path [] (codes "changes")) m.changes) _ script e1 (λ changes are_changes e2.
-    chain_ok (halts_at spec version frames (member_path [] (codes "halts")) m.halts) _ script e2 (λ halts are_halts e3.
-    chain_ok (restarts_at spec frames halts (member_path [] (codes "restarts")) m.restarts) _ script e3 (λ restarts are_restarts e4.
-    chain_ok (halts_kept restarts (member_path [] (codes "halts")) 0 [] halts) _ script e4 (λ u kept same.
+    chain_ok (read_frames m.scram m.frames) _ script e (λ frames is_frames e1.
+    chain_ok (read_changes spec frames (member_path [] (codes "changes")) m.changes) _ script e1 (λ changes are_changes e2.
+    chain_ok (read_halts spec version frames (member_path [] (codes "halts")) m.halts) _ script e2 (λ halts are_halts e3.
+    chain_ok (read_restarts spec frames halts (member_path [] (codes "restarts")) m.restarts) _ script e3 (λ restarts are_restarts e4.
+    chain_ok (keep_halts restarts (member_path [] (codes "halts")) 0 [] halts) _ script e4 (λ u kept same.
     let is : make_script frames changes halts restarts ≡ script = cc in
     subst (Fits spec) is (fits_of spec frames changes halts restarts
     (frames_in_ok m.scram m.frames frames is_frames)
@@ -297,14 +304,14 @@ script_values_ok spec version m script e =
     (halts_alternate restarts (member_path [] (codes "halts")) 0 [] halts u (alternate_none restarts) kept)))))))
 
 pub script_in_fits : (spec : Parts) (d : Data) (script : ScriptParts) → script_in spec d ≡ Ok script → Fits spec script
-script_in_fits spec d script e = chain_ok (members_in (version_of d) d) _ script e (λ m _ rest. script_values_ok spec _ m script rest)
+script_in_fits spec d script e = chain_ok (find_members (version_of d) d) _ script e (λ m _ rest. script_values_ok spec _ m script rest)
 
 -- whatever document it is
 pub script_of_fits : (spec : Parts) (bytes : List ℕ) (script : ScriptParts) → script_of spec bytes ≡ Ok script → Fits spec script
 script_of_fits spec bytes script e =
     chain_ok (parsed bytes) _ script (if_ok (nat_le (length bytes) 2097152) _ _ _ script e) (λ d _ rest. script_in_fits spec d script rest)
 
-pub answer_fits : (spec : Parts) (version : Version) (m : ScriptMembers) (answer : Result ScriptParts DocError) → Answers (script_values spec version m) (λ (script : ScriptParts). script) answer
+pub answer_fits : (spec : Parts) (version : Version) (m : ScriptMembers) (answer : Result ScriptParts DocError) → Answers (read_values spec version m) (λ (script : ScriptParts). script) answer
     → IfOk answer (λ (script : ScriptParts). Fits spec script)
 answer_fits spec version m (Ok script) e = script_values_ok spec version m script e
 answer_fits spec version m (Err _) e = tt

@@ -14,7 +14,6 @@ pub mod Showing
 pub mod SmallSpec
 pub mod Splits
 pub mod Taken
-pub mod TextLengths
 pub mod TextSizes
 pub mod Unseen
 pub mod Walking

@@ -12,8 +12,8 @@ use Rattle.scram_doc.specs.declared.fault.DocFault.{DocFault}
 use Rattle.scram_doc.specs.Chain.{chain}
 use Rattle.scram_doc.specs.Faults.{broken, or_broken}
 use Rattle.scram_doc.specs.Values.{items_within, list_at, whole_at, whole_below}
-use Rattle.fault_script.specs.Lookups.{place_from}
-use Rattle.fault_script.specs.Reading.{kept}
+use Rattle.scram_types.specs.Lookups.{number_from}
+use Rattle.fault_script.specs.Reading.{keep}
 
 pub chain_ok : {A B E P : Type 0} (x : Result A E) (f : A → Result B E) (b : B) → chain x f ≡ Ok b → ((a : A) → x ≡ Ok a → f a ≡ Ok b → P) → P
 chain_ok (Ok a) f b e then = then a refl e
@@ -23,7 +23,7 @@ pub or_broken_ok : {A : Type 0} (rule : ℕ) (at : List ℕ) (o : Option A) (a :
 or_broken_ok rule at (Some x) a e = cc
 or_broken_ok rule at None a e = absurd cc
 
-pub kept_ok : (test : Bool) (rule : ℕ) (at : List ℕ) (u : ⊤) → kept test rule at ≡ Ok u → test ≡ true
+pub kept_ok : (test : Bool) (rule : ℕ) (at : List ℕ) (u : ⊤) → keep test rule at ≡ Ok u → test ≡ true
 kept_ok true rule at u e = refl
 kept_ok false rule at u e = absurd cc
 
@@ -60,10 +60,10 @@ later : (test : Bool) (i k n : ℕ) (rest : Option ℕ) → (rest ≡ Some k →
 later true i k n rest more e = let same = same_Some i k e in omega (arith, same)
 later false i k n rest more e = let less = more e in omega (arith, less)
 
-pub place_from_within : {A : Type 0} (name : A → List ℕ) (text : List ℕ) (i k : ℕ) (xs : List A) → place_from name text i xs ≡ Some k → k < i + length xs
-place_from_within name text i k [] e = absurd cc
-place_from_within name text i k (x ∷ xs) e =
-    later (bytes_eq (name x) text) i k (length xs) (place_from name text (suc i) xs) (λ rest. place_from_within name text (suc i) k xs rest) e
+pub number_from_within : {A : Type 0} (name : A → List ℕ) (text : List ℕ) (i k : ℕ) (xs : List A) → number_from name i xs text ≡ Some k → k < i + length xs
+number_from_within name text i k [] e = absurd cc
+number_from_within name text i k (x ∷ xs) e =
+    later (bytes_eq (name x) text) i k (length xs) (number_from name (suc i) xs text) (λ rest. number_from_within name text (suc i) k xs rest) e
 
 pub if_ok : {A : Type 0} (test : Bool) (x : Result A DocFault) (rule : ℕ) (at : List ℕ) (a : A) → cond test x (broken rule at) ≡ Ok a → x ≡ Ok a
 if_ok true x rule at a e = e

@@ -2,7 +2,6 @@ pub mod Assumption
 pub mod Environments
 pub mod Fits
 pub mod Laws
-pub mod Lookups
 pub mod Orders
 pub mod Reading
 pub mod Texts

@@ -6,7 +6,6 @@
 
 pub mod assumption;
 pub mod environments;
-mod find;
 pub mod laws;
 mod order;
 mod reading;
@@ -22,8 +21,3 @@ pub use reading::{MAX_SCRIPT_BYTES, read_script};
 pub use scram_doc::{DocError as ScriptError, DocFault as ScriptFault};
 pub use times::{factors_at, halt_in, halt_of, restart_of, up_at};
 pub use writing::write_script;
-
-#[cfg(test)]
-mod small;
-#[cfg(test)]
-mod tests;

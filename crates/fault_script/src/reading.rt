@@ -1,17 +1,16 @@
 //! Reading script documents.
 
 ghost use Rattle.std.specs.Prelude.{◌≡◌, ◌≤◌, [], length, option_map, IfOk};
-ghost use Rattle.serde_json.specs.View.{items_view, view};
+ghost use Rattle.serde_json.specs.View.{view};
 ghost use Rattle.scram_doc.specs.Chain.{ok_map};
 ghost use Rattle.scram_doc.specs.Faults.{Answers};
 ghost use Rattle.fault_script.specs.Fits.{Fits};
-ghost use Rattle.fault_script.specs.Reading.{change_at, changes_at, factor_named_at, frames_in, halt_at, halts_at, halts_kept, kept, make_members, members_in, proc_at, restart_at, restarts_at, restarts_from, restarts_needed, scram_at, script_in, script_of, script_values, value_named_at};
+ghost use Rattle.fault_script.specs.Reading.{find_members, find_value, keep, keep_halts, make_members, need_restarts, read_change, read_changes, read_frames, read_halt, read_halts, read_named_factor, read_named_proc, read_named_value, read_next_change, read_next_halt, read_next_restart, read_restart, read_restarts, read_scram, read_values, script_in, script_of};
 
-use crate::find::{find_factor, find_proc, find_value};
 use crate::order::{change_follows, halt_follows, may_halt, restart_follows};
 use crate::version::{Version, version_of};
 use crate::{ScriptError, ScriptFault, rule};
-use scram_doc::{Path, list, need, no_more, object, parse, text, whole_in};
+use scram_doc::{Elements, Path, need, no_more, object, parse, read_list, text, whole_in};
 use scram_types::limits::MAX_FRAMES;
 use scram_types::{Change, FactorId, HaltAt, List, ProcId, RestartAt, Script, Spec};
 use serde_json::Value;
@@ -19,7 +18,7 @@ use std::alloc::Global;
 
 // Tests that a rule is kept.
 fn keep(test: bool, rule: u8, at: &Path) -> Result<(), ScriptFault>
-    ensures { result ≡ kept test rule at.now }
+    ensures { result ≡ keep test rule at.now }
 {
     if test {
         Ok(())
@@ -29,34 +28,43 @@ fn keep(test: bool, rule: u8, at: &Path) -> Result<(), ScriptFault>
 }
 
 fn read_scram(v: &Value, at: &Path) -> Result<(), ScriptFault>
-    ensures { result ≡ scram_at at.now (view v.now) }
+    ensures { result ≡ read_scram at.now (view v.now) }
 {
     let version = whole_in(v, 0, 1_001, at)?;
     keep(version == 1 || version == 2, rule::UNKNOWN_VERSION, at)
 }
 
-fn read_proc(spec: &Spec, v: &Value, at: &Path) -> Result<ProcId, ScriptFault>
-    ensures { result ≡ proc_at spec.now at.now (view v.now) }
+fn read_named_proc(spec: &Spec, v: &Value, at: &Path) -> Result<ProcId, ScriptFault>
+    ensures { result ≡ read_named_proc spec.now at.now (view v.now) }
 {
-    match find_proc(spec, text(v, at)?) {
+    match spec.proc_named(text(v, at)?.as_bytes()) {
         Some(proc) => Ok(proc),
         None => Err(ScriptFault::new(rule::UNKNOWN_NAME, at)),
     }
 }
 
-fn read_factor(spec: &Spec, v: &Value, at: &Path) -> Result<FactorId, ScriptFault>
-    ensures { result ≡ factor_named_at spec.now at.now (view v.now) }
+fn read_named_factor(spec: &Spec, v: &Value, at: &Path) -> Result<FactorId, ScriptFault>
+    ensures { result ≡ read_named_factor spec.now at.now (view v.now) }
 {
-    match find_factor(spec, text(v, at)?) {
+    match spec.factor_named(text(v, at)?.as_bytes()) {
         Some(factor) => Ok(factor),
         None => Err(ScriptFault::new(rule::UNKNOWN_NAME, at)),
     }
 }
 
-fn read_value(spec: &Spec, factor: FactorId, v: &Value, at: &Path) -> Result<u8, ScriptFault>
-    ensures { result ≡ value_named_at spec.now factor at.now (view v.now) }
+fn find_value(spec: &Spec, factor: FactorId, text: &[u8]) -> Option<u8>
+    ensures { result ≡ find_value spec.now factor text.now }
 {
-    match find_value(spec, factor, text(v, at)?) {
+    match spec.factors.items().get(usize::from(factor.0)) {
+        Some(found) => found.value_named(text),
+        None => None,
+    }
+}
+
+fn read_named_value(spec: &Spec, factor: FactorId, v: &Value, at: &Path) -> Result<u8, ScriptFault>
+    ensures { result ≡ read_named_value spec.now factor at.now (view v.now) }
+{
+    match find_value(spec, factor, text(v, at)?.as_bytes()) {
         Some(value) => Ok(value),
         None => Err(ScriptFault::new(rule::UNKNOWN_NAME, at)),
     }
@@ -64,7 +72,7 @@ fn read_value(spec: &Spec, factor: FactorId, v: &Value, at: &Path) -> Result<u8,
 
 fn read_change(spec: &Spec, frames: u32, v: &Value, at: &Path) -> Result<Change, ScriptFault>
     requires { length at.now ≤ 40 }
-    ensures { result ≡ change_at spec.now frames at.now (view v.now) }
+    ensures { result ≡ read_change spec.now frames at.now (view v.now) }
 {
     object(v, at)?;
     let frame = need(v, "frame", at)?;
@@ -72,13 +80,42 @@ fn read_change(spec: &Spec, frames: u32, v: &Value, at: &Path) -> Result<Change,
     let value = need(v, "value", at)?;
     no_more(v, 3, at)?;
     let frame = whole_in(frame, 1, frames, &at.member("frame"))?;
-    let factor = read_factor(spec, factor, &at.member("factor"))?;
-    let value = read_value(spec, factor, value, &at.member("value"))?;
+    let factor = read_named_factor(spec, factor, &at.member("factor"))?;
+    let value = read_named_value(spec, factor, value, &at.member("value"))?;
     Ok(Change {
         frame,
         factor,
         value,
     })
+}
+
+/// The changes of a script of so many frames, each of which comes after those before it.
+#[derive(Clone, Copy)]
+struct Changes<'a> {
+    spec: &'a Spec,
+    frames: u32,
+}
+
+impl Elements<Change> for Changes<'_> {
+    ghost use Rattle.std.specs.Prelude.{⊤};
+
+    ghost room = { 40 };
+
+    ghost reading = { λ changes. read_next_change changes.spec.now changes.frames };
+
+    ghost Fits = { λ _ _ _. ⊤ };
+
+    fn read(
+        &self,
+        _alloc: Global,
+        before: &[Change],
+        v: &Value,
+        at: &Path,
+    ) -> Result<Change, ScriptError> {
+        let change = read_change(self.spec, self.frames, v, at)?;
+        keep(change_follows(before, &change), rule::OUT_OF_ORDER, at)?;
+        Ok(change)
+    }
 }
 
 fn read_changes(
@@ -89,33 +126,22 @@ fn read_changes(
     at: &Path,
 ) -> Result<List<Change>, ScriptError>
     requires { length at.now ≤ 30 }
-    ensures { Answers (changes_at spec.now frames at.now (view v.now)) (λ changes. changes) result }
+    ensures { Answers (read_changes spec.now frames at.now (view v.now)) (λ changes. changes) result }
 {
-    let items = list(v, 0, 20_000, at).map_err(ScriptError::Fault)?;
-    let mut changes = Vec::new(alloc);
-    for (i, item) in items.iter().enumerate() {
-        let at = at.item(i);
-        let change = read_change(spec, frames, item, &at).map_err(ScriptError::Fault)?;
-        keep(change_follows(&changes, &change), rule::OUT_OF_ORDER, &at).map_err(
-            ScriptError::Fault,
-        )?;
-        if changes.push(change).is_err() {
-            return Err(ScriptError::NoMemory);
-        }
-    }
+    let changes = read_list(alloc, &Changes { spec, frames }, v, 0, 20_000, at)?;
     Ok(List::of(changes))
 }
 
 fn read_halt(spec: &Spec, frames: u32, v: &Value, at: &Path) -> Result<HaltAt, ScriptFault>
     requires { length at.now ≤ 40 }
-    ensures { result ≡ halt_at spec.now frames at.now (view v.now) }
+    ensures { result ≡ read_halt spec.now frames at.now (view v.now) }
 {
     object(v, at)?;
     let proc = need(v, "processor", at)?;
     let frame = need(v, "frame", at)?;
     let step = need(v, "step", at)?;
     no_more(v, 3, at)?;
-    let proc = read_proc(spec, proc, &at.member("processor"))?;
+    let proc = read_named_proc(spec, proc, &at.member("processor"))?;
     let frame = whole_in(frame, 0, frames, &at.member("frame"))?;
     let words = 8 * spec.apps.items().len() as u32;
     let step = whole_in(step, 0, words + 2, &at.member("step"))?;
@@ -124,6 +150,40 @@ fn read_halt(spec: &Spec, frames: u32, v: &Value, at: &Path) -> Result<HaltAt, S
         frame,
         step: step as u8,
     })
+}
+
+/// The halts of a script of so many frames, each of which comes after those before it.
+#[derive(Clone, Copy)]
+struct Halts<'a> {
+    spec: &'a Spec,
+    version: Version,
+    frames: u32,
+}
+
+impl Elements<HaltAt> for Halts<'_> {
+    ghost use Rattle.std.specs.Prelude.{⊤};
+
+    ghost room = { 40 };
+
+    ghost reading = { λ halts. read_next_halt halts.spec.now halts.version halts.frames };
+
+    ghost Fits = { λ _ _ _. ⊤ };
+
+    fn read(
+        &self,
+        _alloc: Global,
+        before: &[HaltAt],
+        v: &Value,
+        at: &Path,
+    ) -> Result<HaltAt, ScriptError> {
+        let halt = read_halt(self.spec, self.frames, v, at)?;
+        keep(
+            halt_follows(self.version, before, &halt),
+            rule::OUT_OF_ORDER,
+            at,
+        )?;
+        Ok(halt)
+    }
 }
 
 fn read_halts(
@@ -135,67 +195,63 @@ fn read_halts(
     at: &Path,
 ) -> Result<List<HaltAt>, ScriptError>
     requires { length at.now ≤ 30 }
-    ensures halts { Answers (halts_at spec.now version frames at.now (view v.now)) (λ halts. halts) result }
+    ensures halts { Answers (read_halts spec.now version frames at.now (view v.now)) (λ halts. halts) result }
     ensures few { IfOk result (λ halts. length halts ≤ 16) }
 {
-    let items = list(v, 0, version.halts_limit(), at).map_err(ScriptError::Fault)?;
-    let mut halts = Vec::new(alloc);
-    for (i, item) in items.iter().enumerate() {
-        let at = at.item(i);
-        let halt = read_halt(spec, frames, item, &at).map_err(ScriptError::Fault)?;
-        keep(
-            halt_follows(version, &halts, &halt),
-            rule::OUT_OF_ORDER,
-            &at,
-        )
-        .map_err(ScriptError::Fault)?;
-        if halts.push(halt).is_err() {
-            return Err(ScriptError::NoMemory);
-        }
-    }
+    let halts = Halts {
+        spec,
+        version,
+        frames,
+    };
+    let halts = read_list(alloc, &halts, v, 0, version.halts_limit(), at)?;
     Ok(List::of(halts))
 }
 
 fn read_restart(spec: &Spec, frames: u32, v: &Value, at: &Path) -> Result<RestartAt, ScriptFault>
     requires { length at.now ≤ 40 }
-    ensures { result ≡ restart_at spec.now frames at.now (view v.now) }
+    ensures { result ≡ read_restart spec.now frames at.now (view v.now) }
 {
     object(v, at)?;
     let proc = need(v, "processor", at)?;
     let frame = need(v, "frame", at)?;
     no_more(v, 2, at)?;
-    let proc = read_proc(spec, proc, &at.member("processor"))?;
+    let proc = read_named_proc(spec, proc, &at.member("processor"))?;
     let frame = whole_in(frame, 2, frames, &at.member("frame"))?;
     Ok(RestartAt { proc, frame })
 }
 
-fn read_restart_items(
-    alloc: Global,
-    spec: &Spec,
+/// The restarts of a script of so many frames, each of which comes after those before it.
+#[derive(Clone, Copy)]
+struct Restarts<'a> {
+    spec: &'a Spec,
     frames: u32,
-    halts: &[HaltAt],
-    items: &[Value],
-    at: &Path,
-) -> Result<List<RestartAt>, ScriptError>
-    requires path { length at.now ≤ 30 }
-    requires few { length items.now ≤ 8 }
-    ensures { Answers (restarts_from spec.now frames halts.now at.now 0 [] (items_view items.now)) (λ restarts. restarts) result }
-{
-    let mut restarts = Vec::new(alloc);
-    for (i, item) in items.iter().enumerate() {
-        let at = at.item(i);
-        let restart = read_restart(spec, frames, item, &at).map_err(ScriptError::Fault)?;
+    halts: &'a [HaltAt],
+}
+
+impl Elements<RestartAt> for Restarts<'_> {
+    ghost use Rattle.std.specs.Prelude.{⊤};
+
+    ghost room = { 40 };
+
+    ghost reading = { λ restarts. read_next_restart restarts.spec.now restarts.frames restarts.halts.now };
+
+    ghost Fits = { λ _ _ _. ⊤ };
+
+    fn read(
+        &self,
+        _alloc: Global,
+        before: &[RestartAt],
+        v: &Value,
+        at: &Path,
+    ) -> Result<RestartAt, ScriptError> {
+        let restart = read_restart(self.spec, self.frames, v, at)?;
         keep(
-            restart_follows(halts, &restarts, &restart),
+            restart_follows(self.halts, before, &restart),
             rule::WRONG_RESTART,
-            &at,
-        )
-        .map_err(ScriptError::Fault)?;
-        if restarts.push(restart).is_err() {
-            return Err(ScriptError::NoMemory);
-        }
+            at,
+        )?;
+        Ok(restart)
     }
-    Ok(List::of(restarts))
 }
 
 // The restarts of a document that has a list of them.
@@ -208,12 +264,17 @@ fn read_restarts(
     at: &Path,
 ) -> Result<List<RestartAt>, ScriptError>
     requires { length at.now ≤ 30 }
-    ensures { Answers (restarts_at spec.now frames halts.now at.now (option_map (λ d. view d.now) v.entry)) (λ restarts. restarts) result }
+    ensures { Answers (read_restarts spec.now frames halts.now at.now (option_map (λ d. view d.now) v.entry)) (λ restarts. restarts) result }
 {
     match v {
         Some(v) => {
-            let items = list(v, 0, 8, at).map_err(ScriptError::Fault)?;
-            read_restart_items(alloc, spec, frames, halts, items, at)
+            let restarts = Restarts {
+                spec,
+                frames,
+                halts,
+            };
+            let restarts = read_list(alloc, &restarts, v, 0, 8, at)?;
+            Ok(List::of(restarts))
         }
         None => Ok(List::of(Vec::new(alloc))),
     }
@@ -223,7 +284,7 @@ fn read_restarts(
 fn keep_halts(restarts: &[RestartAt], halts: &[HaltAt], at: &Path) -> Result<(), ScriptFault>
     requires path { length at.now ≤ 30 }
     requires few { length halts.now ≤ 16 }
-    ensures { result ≡ halts_kept restarts.now at.now 0 [] halts.now }
+    ensures { result ≡ keep_halts restarts.now at.now 0 [] halts.now }
 {
     for (i, halt) in halts.iter().enumerate() {
         keep(
@@ -246,7 +307,7 @@ struct Members<'a> {
 }
 
 fn need_restarts(version: Version, v: &Value) -> Result<Option<&Value>, ScriptFault>
-    ensures { ok_map (λ o. option_map (λ d. view d.now) o) result ≡ restarts_needed version (view v.now) }
+    ensures { ok_map (λ o. option_map (λ d. view d.now) o) result ≡ need_restarts version (view v.now) }
 {
     match version {
         Version::First => Ok(None),
@@ -258,7 +319,7 @@ fn need_restarts(version: Version, v: &Value) -> Result<Option<&Value>, ScriptFa
 }
 
 fn find_members(version: Version, v: &Value) -> Result<Members<'_>, ScriptFault>
-    ensures { ok_map (λ m. make_members (view m.scram.now) (view m.frames.now) (view m.changes.now) (view m.halts.now) (option_map (λ d. view d.now) m.restarts)) result ≡ members_in version (view v.now) }
+    ensures { ok_map (λ m. make_members (view m.scram.now) (view m.frames.now) (view m.changes.now) (view m.halts.now) (option_map (λ d. view d.now) m.restarts)) result ≡ find_members version (view v.now) }
 {
     let at = Path::root();
     object(v, &at)?;
@@ -278,7 +339,7 @@ fn find_members(version: Version, v: &Value) -> Result<Members<'_>, ScriptFault>
 }
 
 fn read_frames(scram: &Value, frames: &Value) -> Result<u32, ScriptFault>
-    ensures { result ≡ frames_in (view scram.now) (view frames.now) }
+    ensures { result ≡ read_frames (view scram.now) (view frames.now) }
 {
     let at = Path::root();
     read_scram(scram, &at.member("scram"))?;
@@ -291,10 +352,10 @@ fn read_values(
     version: Version,
     m: &Members<'_>,
 ) -> Result<Script, ScriptError>
-    ensures { Answers (script_values spec.now version (make_members (view m.now.scram.now) (view m.now.frames.now) (view m.now.changes.now) (view m.now.halts.now) (option_map (λ d. view d.now) m.now.restarts))) (λ script. script) result }
+    ensures { Answers (read_values spec.now version (make_members (view m.now.scram.now) (view m.now.frames.now) (view m.now.changes.now) (view m.now.halts.now) (option_map (λ d. view d.now) m.now.restarts))) (λ script. script) result }
 {
     let at = Path::root();
-    let frames = read_frames(m.scram, m.frames).map_err(ScriptError::Fault)?;
+    let frames = read_frames(m.scram, m.frames)?;
     let changes = read_changes(alloc, spec, frames, m.changes, &at.member("changes"))?;
     let halts = read_halts(alloc, spec, version, frames, m.halts, &at.member("halts"))?;
     let restarts = read_restarts(
@@ -305,7 +366,7 @@ fn read_values(
         m.restarts,
         &at.member("restarts"),
     )?;
-    keep_halts(restarts.items(), halts.items(), &at.member("halts")).map_err(ScriptError::Fault)?;
+    keep_halts(restarts.items(), halts.items(), &at.member("halts"))?;
     Ok(Script {
         frames,
         changes,
@@ -319,7 +380,7 @@ fn read_document(alloc: Global, spec: &Spec, v: &Value) -> Result<Script, Script
     ensures fits { IfOk result (λ script. Fits spec.now script) }
 {
     let version = version_of(v);
-    let members = find_members(version, v).map_err(ScriptError::Fault)?;
+    let members = find_members(version, v)?;
     read_values(alloc, spec, version, &members)
 }
 
@@ -333,7 +394,7 @@ pub fn read_script(alloc: Global, bytes: &[u8], spec: &Spec) -> Result<Script, S
     ensures fits { IfOk result (λ script. Fits spec.now script) }
 {
     if bytes.len() > MAX_SCRIPT_BYTES {
-        return Err(ScriptError::Fault(ScriptFault::new(rule::TOO_LONG, &Path::root())));
+        return Err(ScriptError::from(ScriptFault::new(rule::TOO_LONG, &Path::root())));
     }
     let value = parse(alloc, bytes)?;
     read_document(alloc, spec, &value)

@@ -14,52 +14,53 @@ use Rattle.scram_types.specs.Specification.{AreSpelled, Each, HasLength, IsAppSp
 use Rattle.app_model.specs.Names.{kind_names, mode_names, number_in, name_in}
 use Rattle.app_model.proofs.Spelling.{all_names_agree}
 use Rattle.dep_order.specs.Ranks.{IsRanking, rank_after}
-use Rattle.reconf_spec.specs.Applications.{app_at, app_name, mode_at, modes_at, text_after}
-use Rattle.reconf_spec.specs.Facts.{AllAfter}
-use Rattle.reconf_spec.specs.Lists.{folded_from}
-use Rattle.reconf_spec.specs.Names.{found_from}
-use Rattle.reconf_spec.specs.Needs.{has_app, longest_chains, need_at, needs_at, ranked_at, unranked_at, with_needs, with_ranks}
-use Rattle.reconf_spec.specs.Processors.{proc_at, proc_name, procs_at}
-use Rattle.reconf_spec.specs.Texts.{app_data, kind_text, list_data, mode_data, mode_text, name_of_item, need_data, proc_data, spelled}
+use Rattle.reconf_spec.specs.Applications.{read_app, name_of_app, read_mode, read_modes, check_text}
+use Rattle.scram_doc.specs.Lists.{AllAfter, folded_from}
+use Rattle.scram_types.specs.Lookups.{number_from}
+use Rattle.dep_order.specs.Timetables.{is_named}
+use Rattle.reconf_spec.specs.Needs.{longest_chains, read_need, read_needs, ranked_at, read_unranked, with_needs, with_ranks}
+use Rattle.reconf_spec.specs.Processors.{read_proc, name_of_proc, read_procs}
+use Rattle.reconf_spec.specs.Texts.{app_data, name_of_kind, mode_data, name_of_mode, name_of_item, need_data, proc_data, name_or_nothing}
+use Rattle.scram_doc.specs.Canonical.{list_data}
 use Rattle.reconf_spec.specs.Writable.{IsWritableApp, lists_mode, rank_of}
 use Rattle.reconf_spec.proofs.Lookups.{all_new, number_back}
 use Rattle.reconf_spec.proofs.LongestChains.{all_small, ranks_are}
-use Rattle.reconf_spec.proofs.ListsBack.{elements_given, items_back, list_back, whole_back}
+use Rattle.scram_doc.proofs.ReadBack.{elements_given, items_back, list_back, whole_back}
 
 -- what a processor keeps, with those before it
 record NewProc (done : List Proc) (proc : Proc) : Type 0 where
-  new : found_from proc_name 0 done proc.name ≡ None
+  new : number_from name_of_proc 0 done proc.name ≡ None
   spelled : is_name proc.name ≡ true
   is : IsProc proc
 
-proc_back : (at : List ℕ) (done : List Proc) (proc : Proc) → NewProc done proc → proc_at at done (proc_data proc) ≡ Ok proc
+proc_back : (at : List ℕ) (done : List Proc) (proc : Proc) → NewProc done proc → read_proc at done (proc_data proc) ≡ Ok proc
 proc_back at done proc fits =
     let most = fits.is.capacity in
     rw (fits.spelled, fits.new, whole_back 0 1000001 proc.capacity (omega arith) (omega (arith, most))) refl
 
-pub procs_back : (at : List ℕ) (procs : List Proc) → HasLength 1 8 procs → NamesDiffer proc_name procs → Each IsProc procs → Each (λ (proc : Proc). IsTrue (is_name proc.name)) procs
-    → procs_at at (list_data proc_data procs) ≡ Ok procs
+pub procs_back : (at : List ℕ) (procs : List Proc) → HasLength 1 8 procs → NamesDiffer name_of_proc procs → Each IsProc procs → Each (λ (proc : Proc). IsTrue (is_name proc.name)) procs
+    → read_procs at (list_data proc_data procs) ≡ Ok procs
 procs_back at procs count differ each named =
-    list_back NewProc proc_at proc_data proc_back 1 8 at procs count.enough count.few
-    (λ i x e. record { new = all_new proc_name procs differ i x e; spelled = named i x e; is = each i x e })
+    list_back NewProc read_proc proc_data proc_back 1 8 at procs count.enough count.few
+    (λ i x e. record { new = all_new name_of_proc procs differ i x e; spelled = named i x e; is = each i x e })
 
-spelled_there : (name : Option (List ℕ)) → IsSome name → name ≡ Some (spelled name)
+spelled_there : (name : Option (List ℕ)) → IsSome name → name ≡ Some (name_or_nothing name)
 spelled_there None is = absurd (let wrong : false ≡ true = is in cc)
 spelled_there (Some name) is = refl
 
-pub mode_spelled : (kind mode : ℕ) → kind < 5 → 1 ≤ mode → mode ≤ modes_of_kind kind → number_in (mode_names kind) (mode_text kind mode) ≡ Some mode
+pub mode_spelled : (kind mode : ℕ) → kind < 5 → 1 ≤ mode → mode ≤ modes_of_kind kind → number_in (mode_names kind) (name_of_mode kind mode) ≡ Some mode
 mode_spelled kind mode below first last =
     let agree = all_names_agree.each kind below in
-    agree.modes.named mode (mode_text kind mode) (spelled_there (name_in (mode_names kind) mode) (agree.mode_named mode (record { first = first; last = last })))
+    agree.modes.named mode (name_of_mode kind mode) (spelled_there (name_in (mode_names kind) mode) (agree.mode_named mode (record { first = first; last = last })))
 
-kind_spelled : (kind : ℕ) → kind < 5 → number_in kind_names (kind_text kind) ≡ Some kind
-kind_spelled kind below = all_names_agree.kinds.named kind (kind_text kind) (spelled_there (name_in kind_names kind) (all_names_agree.each kind below).name)
+kind_spelled : (kind : ℕ) → kind < 5 → number_in kind_names (name_of_kind kind) ≡ Some kind
+kind_spelled kind below = all_names_agree.kinds.named kind (name_of_kind kind) (spelled_there (name_in kind_names kind) (all_names_agree.each kind below).name)
 
 record NewMode (kind : ℕ) (done : List ModeSpec) (listed : ModeSpec) : Type 0 where
   new : is_some (mode_in done listed.mode.0) ≡ false
   is : IsModeSpec kind listed
 
-mode_back : (kind : ℕ) → kind < 5 → (at : List ℕ) (done : List ModeSpec) (listed : ModeSpec) → NewMode kind done listed → mode_at kind at done (mode_data kind listed) ≡ Ok listed
+mode_back : (kind : ℕ) → kind < 5 → (at : List ℕ) (done : List ModeSpec) (listed : ModeSpec) → NewMode kind done listed → read_mode kind at done (mode_data kind listed) ≡ Ok listed
 mode_back kind below at done listed fits =
     let is = fits.is in
     let load = is.load in
@@ -76,9 +77,9 @@ mode_back kind below at done listed fits =
     ) refl
 
 modes_back : (kind : ℕ) → kind < 5 → (at : List ℕ) (modes : List ModeSpec) → HasLength 1 3 modes → Each (IsModeSpec kind) modes → AllAfter (λ (done : List ModeSpec) (listed : ModeSpec). lists_mode done listed ≡ false) modes
-    → modes_at kind at (list_data (mode_data kind) modes) ≡ Ok modes
+    → read_modes kind at (list_data (mode_data kind) modes) ≡ Ok modes
 modes_back kind below at modes count each new =
-    list_back (NewMode kind) (mode_at kind) (mode_data kind) (mode_back kind below) 1 3 at modes count.enough count.few (λ i x e. record { new = new i x e; is = each i x e })
+    list_back (NewMode kind) (read_mode kind) (mode_data kind) (mode_back kind below) 1 3 at modes count.enough count.few (λ i x e. record { new = new i x e; is = each i x e })
 
 -- an application without its needs and its rank, and one without its rank
 abbrev pub bare : AppSpec → AppSpec
@@ -90,21 +91,21 @@ unranked app = record { name = app.name; kind = app.kind; needs = app.needs; mod
 abbrev needs_of : AppSpec → List AppId
 needs_of app = app.needs
 
-found_bare : (k : ℕ) (apps : List AppSpec) (text : List ℕ) → found_from app_name k (map bare apps) text ≡ found_from app_name k apps text
+found_bare : (k : ℕ) (apps : List AppSpec) (text : List ℕ) → number_from name_of_app k (map bare apps) text ≡ number_from name_of_app k apps text
 found_bare k [] text = refl
 found_bare k (app ∷ apps) text = rw (found_bare (suc k) apps text) refl
 
-texts_back : (apps : List AppSpec) (at : List ℕ) (i : ℕ) (needs : List AppId) → folded_from text_after at i tt (items_of (map (need_data apps) needs)) ≡ Ok tt
+texts_back : (apps : List AppSpec) (at : List ℕ) (i : ℕ) (needs : List AppId) → folded_from check_text at i tt (items_of (map (need_data apps) needs)) ≡ Ok tt
 texts_back apps at i [] = refl
 texts_back apps at i (need ∷ needs) = texts_back apps at (suc i) needs
 
 record NewApp (apps : List AppSpec) (done : List AppSpec) (app : AppSpec) : Type 0 where
-  new : found_from app_name 0 done app.name ≡ None
+  new : number_from name_of_app 0 done app.name ≡ None
   spelled : is_name app.name ≡ true
   is : IsAppSpec apps app
   writable : IsWritableApp app
 
-app_back : (apps : List AppSpec) (at : List ℕ) (done : List AppSpec) (app : AppSpec) → NewApp apps done app → app_at at (map bare done) (app_data apps app) ≡ Ok (bare app)
+app_back : (apps : List AppSpec) (at : List ℕ) (done : List AppSpec) (app : AppSpec) → NewApp apps done app → read_app at (map bare done) (app_data apps app) ≡ Ok (bare app)
 app_back apps at done app fits =
     let is = fits.is in
     rw (
@@ -118,17 +119,17 @@ app_back apps at done app fits =
     ) refl
 
 record NewNeed (apps : List AppSpec) (done : List AppId) (need : AppId) : Type 0 where
-  new : has_app done need.0 ≡ false
+  new : is_named done need.0 ≡ false
   there : need.0 < length apps
 
-need_back : (apps : List AppSpec) → NamesDiffer app_name apps → (at : List ℕ) (done : List AppId) (need : AppId) → NewNeed apps done need → need_at (map bare apps) at done (need_data apps need) ≡ Ok need
+need_back : (apps : List AppSpec) → NamesDiffer name_of_app apps → (at : List ℕ) (done : List AppId) (need : AppId) → NewNeed apps done need → read_need (map bare apps) at done (need_data apps need) ≡ Ok need
 need_back apps differ at done need fits =
-    rw (found_bare 0 apps (name_of_item app_name apps need.0), number_back app_name apps need.0 differ fits.there, fits.new) refl
+    rw (found_bare 0 apps (name_of_item name_of_app apps need.0), number_back name_of_app apps need.0 differ fits.there, fits.new) refl
 
-needs_back : (apps : List AppSpec) → NamesDiffer app_name apps → (at : List ℕ) (done : List AppSpec) (app : AppSpec) → NewApp apps done app
-    → needs_at (map bare apps) at (map needs_of done) (app_data apps app) ≡ Ok (needs_of app)
+needs_back : (apps : List AppSpec) → NamesDiffer name_of_app apps → (at : List ℕ) (done : List AppSpec) (app : AppSpec) → NewApp apps done app
+    → read_needs (map bare apps) at (map needs_of done) (app_data apps app) ≡ Ok (needs_of app)
 needs_back apps differ at done app fits =
-    list_back (NewNeed apps) (need_at (map bare apps)) (need_data apps) (need_back apps differ) 0 8 (member_path at (codes "needs")) app.needs (omega arith) fits.is.few_needs
+    list_back (NewNeed apps) (read_need (map bare apps)) (need_data apps) (need_back apps differ) 0 8 (member_path at (codes "needs")) app.needs (omega arith) fits.is.few_needs
     (λ i need e. record { new = fits.writable.needs i need e; there = slice_get_within apps need.0 (fits.is.needs i need e).lower (fits.is.needs i need e).there })
 
 joined_back : (apps : List AppSpec) → with_needs (map bare apps) (map needs_of apps) ≡ map unranked apps
@@ -160,13 +161,13 @@ ranks_back at apps each ranks =
     let chains : longest_chains 8 (map unranked apps) ≡ map rank_of apps = chains_unranked 8 apps ∙ ranks_are apps (map rank_of apps) ranks small in
     rw (chains, all_small (map rank_of apps) small, ranked_back apps) refl
 
-pub unranked_back : (at : List ℕ) (apps : List AppSpec) → HasLength 1 8 apps → NamesDiffer app_name apps → AreSpelled app_name apps → Each (IsAppSpec apps) apps → Each IsWritableApp apps
-    → unranked_at at (list_data (app_data apps) apps) ≡ Ok (map unranked apps)
+pub unranked_back : (at : List ℕ) (apps : List AppSpec) → HasLength 1 8 apps → NamesDiffer name_of_app apps → AreSpelled name_of_app apps → Each (IsAppSpec apps) apps → Each IsWritableApp apps
+    → read_unranked at (list_data (app_data apps) apps) ≡ Ok (map unranked apps)
 unranked_back at apps count differ spelled each writable =
-    let new : AllAfter (NewApp apps) apps = λ i app e. record { new = all_new app_name apps differ i app e; spelled = spelled i app e; is = each i app e; writable = writable i app e } in
+    let new : AllAfter (NewApp apps) apps = λ i app e. record { new = all_new name_of_app apps differ i app e; spelled = spelled i app e; is = each i app e; writable = writable i app e } in
     rw (
       items_back (app_data apps) 1 8 at apps count.enough count.few,
-      elements_given (NewApp apps) app_at (app_data apps) bare (app_back apps) at 0 [] apps apps refl new,
-      elements_given (NewApp apps) (needs_at (map bare apps)) (app_data apps) needs_of (needs_back apps differ) at 0 [] apps apps refl new,
+      elements_given (NewApp apps) read_app (app_data apps) bare (app_back apps) at 0 [] apps apps refl new,
+      elements_given (NewApp apps) (read_needs (map bare apps)) (app_data apps) needs_of (needs_back apps differ) at 0 [] apps apps refl new,
       joined_back apps,
     ) refl

@@ -9,9 +9,10 @@ use Rattle.scram_types.specs.declared.specification.ModeSpec.{ModeSpec}
 use Rattle.scram_types.specs.Names.{is_name}
 use Rattle.scram_types.specs.Specification.{IsModeSpec, IsAppSpec}
 use Rattle.dep_order.specs.Ranks.{IsRanking, RanksFall, NeedsInRange, rank_after}
-use Rattle.reconf_spec.specs.Applications.{app_name}
+use Rattle.reconf_spec.specs.Applications.{name_of_app}
 use Rattle.reconf_spec.specs.Needs.{with_needs, with_ranks}
-use Rattle.reconf_spec.specs.Facts.{AllAfter, IsNewApp, IsNewMode, IsNewNeed, AreNeeds}
+use Rattle.scram_doc.specs.Lists.{AllAfter}
+use Rattle.reconf_spec.specs.Facts.{IsNewApp, IsNewMode, IsNewNeed, AreNeeds}
 use Rattle.reconf_spec.specs.Kept.{AreApps}
 use Rattle.reconf_spec.specs.Writable.{IsWritableApp, rank_of}
 use Rattle.reconf_spec.specs.Unranked.{IsUnranked, AreUnranked}
@@ -60,29 +61,29 @@ unranked apps needs whole a j fits named =
 
 pub unranked_fit : (apps : List AppSpec) (needs : List (List AppId)) → 1 ≤ length apps → length apps ≤ 8 → length needs ≡ length apps → AllAfter IsNewApp apps → AllAfter (λ _. AreNeeds apps) needs → AreUnranked (with_needs apps needs)
 unranked_fit apps needs least most same fits named =
-    let names = new_differ app_name apps (λ i x e. (fits i x e).name.new) in
+    let names = new_differ name_of_app apps (λ i x e. (fits i x e).name.new) in
     let count = joined_length apps needs in
     record {
       count = record { enough = omega (arith, least, count); few = omega (arith, most, count) };
       differ = λ i j x y there too spelled.
           let one = joined apps needs i x same there in
           let two = joined apps needs j y same too in
-          let first : app_name x ≡ app_name one.app = ap app_name one.is in
-          let second : app_name y ≡ app_name two.app = ap app_name two.is in
+          let first : name_of_app x ≡ name_of_app one.app = ap name_of_app one.is in
+          let second : name_of_app y ≡ name_of_app two.app = ap name_of_app two.is in
           names i j one.app two.app one.there two.there (sym first ∙ spelled ∙ second);
       each = λ i x e. rw (count) (unranked apps needs x i (joined apps needs i x same e) fits named);
     }
 
 -- needs and ranks leave the names
-pub joined_names : (apps : List AppSpec) (needs : List (List AppId)) → map app_name (with_needs apps needs) ≡ map app_name apps
+pub joined_names : (apps : List AppSpec) (needs : List (List AppId)) → map name_of_app (with_needs apps needs) ≡ map name_of_app apps
 joined_names [] needs = refl
 joined_names (app ∷ apps) [] = refl
-joined_names (app ∷ apps) (named ∷ needs) = ap (λ (names : List (List ℕ)). app_name app ∷ names) (joined_names apps needs)
+joined_names (app ∷ apps) (named ∷ needs) = ap (λ (names : List (List ℕ)). name_of_app app ∷ names) (joined_names apps needs)
 
-pub graded_names : (apps : List AppSpec) (ranks : List ℕ) → map app_name (with_ranks apps ranks) ≡ map app_name apps
+pub graded_names : (apps : List AppSpec) (ranks : List ℕ) → map name_of_app (with_ranks apps ranks) ≡ map name_of_app apps
 graded_names [] ranks = refl
 graded_names (app ∷ apps) [] = refl
-graded_names (app ∷ apps) (rank ∷ ranks) = ap (λ (names : List (List ℕ)). app_name app ∷ names) (graded_names apps ranks)
+graded_names (app ∷ apps) (rank ∷ ranks) = ap (λ (names : List (List ℕ)). name_of_app app ∷ names) (graded_names apps ranks)
 
 -- an application with its rank, and where both come from
 record Graded (apps : List AppSpec) (ranks : List ℕ) (a : ℕ) (whole : AppSpec) : Type 0 where
@@ -165,8 +166,8 @@ ranked_fit apps ranks is small fall fits =
       differ = λ i j x y there too spelled.
           let one = graded apps ranks i x same there in
           let two = graded apps ranks j y same too in
-          let first : app_name x ≡ app_name one.app = ap app_name one.is in
-          let second : app_name y ≡ app_name two.app = ap app_name two.is in
+          let first : name_of_app x ≡ name_of_app one.app = ap name_of_app one.is in
+          let second : name_of_app y ≡ name_of_app two.app = ap name_of_app two.is in
           fits.differ i j one.app two.app one.there two.there (sym first ∙ spelled ∙ second);
       each = λ i x e. ranked apps ranks i x same small fall fits e;
       writable = λ i x e.
@@ -175,7 +176,7 @@ ranked_fit apps ranks is small fall fits =
           subst IsWritableApp (sym g.is) (record { needs = w.needs; modes = w.modes });
       spelled = λ i x e.
           let g = graded apps ranks i x same e in
-          subst (λ (z : AppSpec). is_name (app_name z) ≡ true) (sym g.is) (fits.each i g.app g.there).spelled;
+          subst (λ (z : AppSpec). is_name (name_of_app z) ≡ true) (sym g.is) (fits.each i g.app g.there).spelled;
       ranks = subst (λ (rs : List ℕ). IsRanking (with_ranks apps ranks) rs) (sym (ranks_given apps ranks same)) (still_ranking apps ranks is);
     }
 

@@ -1,6 +1,7 @@
-pub mod Growing
 pub mod Placed
 pub mod Distinct
+pub mod Tested
+pub mod Found
 pub mod Handing
 pub mod Joined
 pub mod LongestChains
@@ -9,7 +10,6 @@ pub mod Specs
 pub mod Plain
 pub mod Written
 pub mod Lookups
-pub mod ListsBack
 pub mod Sets
 pub mod AppsBack
 pub mod ConfsBack
@@ -18,4 +18,3 @@ pub mod SpecBack
 pub mod TextLengths
 pub mod TextSizes
 pub mod Spelled
-pub mod Found

@@ -3,49 +3,32 @@ use Rattle.std.proofs.Common.{◌≡◌, ◌+◌, ◌<◌, ℕ, zero, suc, Bool,
 use Rattle.std.specs.Prelude.{Option, Some, None, slice_get}
 use Rattle.std.specs.Bool.{Decides}
 use Rattle.std.specs.Str.{bytes_eq}
-use Rattle.std.proofs.Math.Seq.{take-append_seam}
 use Rattle.std.proofs.lemmas.Slice.Eq.{bytes_eq-Decides}
+use Rattle.scram_types.proofs.Items.{next_part, some_item}
+use Rattle.scram_types.proofs.Options.{same_some}
 use Rattle.scram_types.specs.Specification.{NamesDiffer}
-use Rattle.reconf_spec.specs.Names.{found_from}
-use Rattle.reconf_spec.specs.Facts.{AllAfter}
+use Rattle.scram_types.specs.Lookups.{number_from}
+use Rattle.scram_doc.specs.Lists.{AllAfter}
 use Rattle.reconf_spec.specs.Texts.{name_of_item}
-
-pub same_item : {A : Type 0} (x y : A) → Some x ≡ Some y → x ≡ y
-same_item x y e = cc
-
--- an item that stands in a list
-pub some_item : {A P : Type 0} (xs : List A) (i : ℕ) → i < length xs → ((x : A) → slice_get xs i ≡ Some x → P) → P
-some_item [] i less then = absurd (omega (arith, less))
-some_item (x ∷ xs) zero less then = then x refl
-some_item (x ∷ xs) (suc i) less then = some_item xs i (omega (arith, less)) then
-
-pub seam : {A : Type 0} (xs : List A) (x : A) (ys : List A) → slice_get (xs ++ x ∷ ys) (length xs) ≡ Some x
-seam [] x ys = refl
-seam (y ∷ xs) x ys = seam xs x ys
-
--- what an element keeps with those before it
-pub fact_after : {A : Type 0} (Fact : List A → A → Type 0) (before : List A) (x : A) (after : List A) → AllAfter Fact (before ++ x ∷ after) → Fact before x
-fact_after {A} Fact before x after all =
-    subst (λ (ys : List A). Fact ys x) (take-append_seam before (x ∷ after)) (all (length before) x (seam before x after))
 
 later : (test : Bool) (P : Type 0) (k i : ℕ) (rest : Option ℕ) → Decides test P → (P → ⊥) → rest ≡ Some (suc k + i) → cond test (Some k) rest ≡ Some (k + suc i)
 later true P k i rest decides apart e = absurd (apart (decides.0 refl))
 later false P k i rest decides apart e = e ∙ ap (λ (n : ℕ). Some n) (omega arith)
 
 -- an item is found by its name
-pub found_there : {A : Type 0} (name : A → List ℕ) (k i : ℕ) (xs : List A) (x : A) → NamesDiffer name xs → slice_get xs i ≡ Some x → found_from name k xs (name x) ≡ Some (k + i)
+pub found_there : {A : Type 0} (name : A → List ℕ) (k i : ℕ) (xs : List A) (x : A) → NamesDiffer name xs → slice_get xs i ≡ Some x → number_from name k xs (name x) ≡ Some (k + i)
 found_there name k i [] x differ e = absurd (let none : None ≡ Some x = e in cc)
 found_there name k zero (y ∷ ys) x differ e =
-    let same : name y ≡ name x = ap name (same_item y x e) in
+    let same : name y ≡ name x = ap name (same_some y x e) in
     rw ((bytes_eq-Decides (name y) (name x)).1 same) (ap (λ (m : ℕ). Some m) (omega arith))
 found_there name k (suc i) (y ∷ ys) x differ e =
     let rest = found_there name (suc k) i ys x (λ a b p q there other same. let next : suc a ≡ suc b = differ (suc a) (suc b) p q there other same in omega (arith, next)) e in
-    later (bytes_eq (name y) (name x)) (name y ≡ name x) k i (found_from name (suc k) ys (name x)) (bytes_eq-Decides (name y) (name x))
+    later (bytes_eq (name y) (name x)) (name y ≡ name x) k i (number_from name (suc k) ys (name x)) (bytes_eq-Decides (name y) (name x))
     (λ same. let first : 0 ≡ suc i = differ 0 (suc i) y x refl e same in absurd (omega (arith, first))) rest
 
-pub number_back : {A : Type 0} (name : A → List ℕ) (xs : List A) (n : ℕ) → NamesDiffer name xs → n < length xs → found_from name 0 xs (name_of_item name xs n) ≡ Some n
+pub number_back : {A : Type 0} (name : A → List ℕ) (xs : List A) (n : ℕ) → NamesDiffer name xs → n < length xs → number_from name 0 xs (name_of_item name xs n) ≡ Some n
 number_back name xs n differ below = some_item xs n below (λ x there.
-    let is : found_from name 0 xs (name x) ≡ Some (0 + n) = found_there name 0 n xs x differ there in
+    let is : number_from name 0 xs (name x) ≡ Some (0 + n) = found_there name 0 n xs x differ there in
     let number : 0 + n ≡ n = omega arith in
     rw (there, is, number) refl)
 
@@ -54,21 +37,21 @@ not_so true P decides apart = absurd (apart (decides.0 refl))
 not_so false P decides apart = refl
 
 -- the name of an element is none of those before it
-none_before : {A : Type 0} (name : A → List ℕ) (k : ℕ) (xs : List A) (x : A) (after : List A) → NamesDiffer name (xs ++ x ∷ after) → found_from name k xs (name x) ≡ None
+none_before : {A : Type 0} (name : A → List ℕ) (k : ℕ) (xs : List A) (x : A) (after : List A) → NamesDiffer name (xs ++ x ∷ after) → number_from name k xs (name x) ≡ None
 none_before name k [] x after differ = refl
 none_before name k (y ∷ ys) x after differ =
     let apart = not_so (bytes_eq (name y) (name x)) (name y ≡ name x) (bytes_eq-Decides (name y) (name x))
-    (λ same. let first : 0 ≡ suc (length ys) = differ 0 (suc (length ys)) y x refl (seam ys x after) same in omega (arith, first)) in
+    (λ same. let first : 0 ≡ suc (length ys) = differ 0 (suc (length ys)) y x refl (next_part ys after x) same in omega (arith, first)) in
     rw (apart) (none_before name (suc k) ys x after
     (λ a b p q there other same. let next : suc a ≡ suc b = differ (suc a) (suc b) p q there other same in omega (arith, next)))
 
 cut : {A : Type 0} (xs : List A) (i : ℕ) (x : A) (P : Type 0) → slice_get xs i ≡ Some x → ((after : List A) → take i xs ++ x ∷ after ≡ xs → P) → P
 cut [] i x P e then = absurd (let none : None ≡ Some x = e in cc)
-cut (y ∷ ys) zero x P e then = then ys (ap (λ z. z ∷ ys) (sym (same_item y x e)))
+cut (y ∷ ys) zero x P e then = then ys (ap (λ z. z ∷ ys) (sym (same_some y x e)))
 cut (y ∷ ys) (suc i) x P e then = cut ys i x P e (λ after is. then after (ap (λ zs. y ∷ zs) is))
 
 -- names that differ are new as they come
-pub all_new : {A : Type 0} (name : A → List ℕ) (xs : List A) → NamesDiffer name xs → AllAfter (λ (done : List A) (x : A). found_from name 0 done (name x) ≡ None) xs
+pub all_new : {A : Type 0} (name : A → List ℕ) (xs : List A) → NamesDiffer name xs → AllAfter (λ (done : List A) (x : A). number_from name 0 done (name x) ≡ None) xs
 all_new {A} name xs differ i x e = cut xs i x _ e (λ after is.
     none_before name 0 (take i xs) x after (subst (NamesDiffer name) (sym is) differ))
 

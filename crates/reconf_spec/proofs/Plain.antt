@@ -6,6 +6,7 @@ use Rattle.serde_json.specs.Find.{is_float, of_integer}
 use Rattle.serde_json.specs.Read.{max_depth, read}
 use Rattle.serde_json.specs.View.{items_of}
 use Rattle.serde_json.specs.Written.{compact_text, has_float, items_have_float}
+use Rattle.scram_doc.proofs.Plain.{integer_no_float, low, no_float}
 use Rattle.scram_types.specs.declared.flights.Goal.{Goal}
 use Rattle.scram_types.specs.declared.specification.AppSpec.{AppSpec}
 use Rattle.scram_types.specs.declared.specification.Choice.{Choice}
@@ -18,20 +19,8 @@ use Rattle.scram_types.specs.declared.specification.Policy.TheVariants.{Retarget
 use Rattle.scram_types.specs.declared.specification.Precondition.{Precondition}
 use Rattle.scram_types.specs.declared.specification.Proc.{Proc}
 use Rattle.scram_types.specs.Specification.{Parts}
-use Rattle.reconf_spec.specs.Choices.{has_proc}
+use Rattle.scram_types.specs.Bits.{has_bit}
 use Rattle.reconf_spec.specs.Texts.{app_data, bound_data, choice_data, conf_data, data_by, factor_data, goal_data, invariant_data, mode_data, need_data, places_data, precondition_data, proc_data, spec_data, up_data, want_data}
-
-no_float : {A : Type 0} → (f : A → Data) → ((a : A) → has_float (f a) ≡ false) → (xs : List A) → items_have_float (items_of (map f xs)) ≡ false
-no_float f h [] = refl
-no_float f h (x ∷ xs) = rw (h x, no_float f h xs) refl
-
-low : {A : Type 0} → (f : A → Data) → (most : ℕ) → ((a : A) → depth (f a) ≤ most) → (xs : List A) → items_depth (items_of (map f xs)) ≤ most
-low f most h [] = omega arith
-low f most h (x ∷ xs) = let here = h x in let rest = low f most h xs in omega (arith, here, rest)
-
-integer_no_float : (n : ℤ) → is_float (of_integer n) ≡ false
-integer_no_float (pos n) = refl
-integer_no_float (negsuc n) = refl
 
 places_no_float : (spec : Parts) (a : ℕ) (places : List (Option Place)) → items_have_float (items_of (places_data spec a places)) ≡ false
 places_no_float spec a [] = refl
@@ -49,7 +38,7 @@ up_no_float_by false name rest h = h
 
 up_no_float : (set p : ℕ) (procs : List Proc) → items_have_float (items_of (up_data set p procs)) ≡ false
 up_no_float set p [] = refl
-up_no_float set p (proc ∷ procs) = up_no_float_by (has_proc set p) proc.name (up_data set (suc p) procs) (up_no_float set (suc p) procs)
+up_no_float set p (proc ∷ procs) = up_no_float_by (has_bit set p) proc.name (up_data set (suc p) procs) (up_no_float set (suc p) procs)
 
 up_low_by : (b : Bool) (name : List ℕ) (rest : List Data) → items_depth (items_of rest) ≤ 0 → items_depth (items_of (cond b (string name ∷ rest) rest)) ≤ 0
 up_low_by true name rest h = omega (arith, h)
@@ -57,7 +46,7 @@ up_low_by false name rest h = h
 
 up_low : (set p : ℕ) (procs : List Proc) → items_depth (items_of (up_data set p procs)) ≤ 0
 up_low set p [] = omega arith
-up_low set p (proc ∷ procs) = up_low_by (has_proc set p) proc.name (up_data set (suc p) procs) (up_low set (suc p) procs)
+up_low set p (proc ∷ procs) = up_low_by (has_bit set p) proc.name (up_data set (suc p) procs) (up_low set (suc p) procs)
 
 app_no_float : (apps : List AppSpec) (app : AppSpec) → has_float (app_data apps app) ≡ false
 app_no_float apps app = rw (no_float (mode_data app.kind.0) (λ x. refl) app.modes, no_float (need_data apps) (λ x. refl) app.needs) refl
@@ -151,9 +140,3 @@ depth_by Settle spec =
 
 pub spec_depth : (spec : Parts) → depth (spec_data spec) ≤ max_depth
 spec_depth spec = depth_by spec.policy spec
-
-pub written_text : (d e : Data) (bytes : List ℕ) → d ≡ e → has_float e ≡ false → (has_float d ≡ false → bytes ≡ compact_text d) → bytes ≡ compact_text e
-written_text d e bytes eq plain text = text (rw eq plain) ∙ ap compact_text eq
-
-pub written_value : (d e : Data) (bytes : List ℕ) → d ≡ e → depth e ≤ max_depth → (depth d ≤ max_depth → read bytes ≡ Some d) → read bytes ≡ Some e
-written_value d e bytes eq deep value = value (rw eq deep) ∙ ap (λ (x : Data). Some x) eq

@@ -1,11 +1,12 @@
 -- Rules, bounds and intervals are read back as they were written.
-use Rattle.std.proofs.Common.{◌≡◌, ◌≤◌, ◌<◌, ◌^◌, ◌%◌, ℕ, suc, Bool, true, false, cond, List, [], ◌∷◌, length, arith, refl, ◌∙◌, sym, subst}
+use Rattle.std.proofs.Common.{int_le, ◌≡◌, ◌≤◌, ◌<◌, ◌^◌, ◌%◌, ℕ, suc, Bool, true, false, cond, List, [], ◌∷◌, length, arith, refl, ◌∙◌, sym, subst}
 use Rattle.std.specs.Prelude.{Option, Some, None, Ok, ℤ, pos, negsuc, ◌≤ℤ◌, codes, slice_get, is_some}
 use Rattle.std.specs.Str.{bytes_eq}
 use Rattle.std.proofs.lemmas.Bool.{lt-ltb}
 use Rattle.std.proofs.lemmas.Int.{ints}
 use Rattle.std.proofs.lemmas.Option.{slice_get_within}
 use Rattle.std.proofs.lemmas.Slice.Eq.{bytes_eq-Decides}
+use lib.Dec.{T}
 use Rattle.serde_json.specs.Data.{Data, array, string}
 use Rattle.serde_json.specs.Events.{items_len}
 use Rattle.serde_json.specs.Find.{as_i64, of_integer}
@@ -29,21 +30,32 @@ use Rattle.scram_types.specs.Numbers.{minus}
 use Rattle.scram_types.specs.Specification.{Each, IsBound, IsChoice, IsFactor, IsGoal, IsInIfNamed, IsInterval, IsInvariant, IsPrecondition, IsSpec, IsWant, NamesDiffer, Parts, bound_in}
 use Rattle.app_model.specs.Names.{variable_names, number_in}
 use Rattle.app_model.proofs.Spelling.{all_names_agree}
-use Rattle.reconf_spec.specs.Applications.{app_name}
-use Rattle.reconf_spec.specs.Bounds.{bound_at, bounds_at}
-use Rattle.reconf_spec.specs.Choices.{choice_at, choices_at, has_factor, has_proc, source_named, up_after, up_at, want_at}
-use Rattle.reconf_spec.specs.Configurations.{conf_name}
-use Rattle.reconf_spec.specs.Documents.{goal_at}
-use Rattle.reconf_spec.specs.Facts.{AllAfter, IsVariable}
-use Rattle.reconf_spec.specs.Factors.{factor_name, own_name}
-use Rattle.reconf_spec.specs.Intervals.{interval_at, invariant_at, invariants_at, precondition_at, preconditions_at}
-use Rattle.reconf_spec.specs.Lists.{folded_from}
-use Rattle.reconf_spec.specs.Processors.{proc_name}
-use Rattle.reconf_spec.specs.Texts.{bound_data, choice_data, goal_data, integer_data, invariant_data, list_data, name_of_item, precondition_data, source_text, up_data, variable_of_kind, variable_text, want_data}
+use Rattle.reconf_spec.specs.Applications.{name_of_app}
+use Rattle.reconf_spec.specs.Bounds.{read_bound, read_bounds}
+use Rattle.reconf_spec.specs.Choices.{read_choice, read_choices, wants_factor, source_named, read_up, read_up_list, read_want}
+use Rattle.scram_types.specs.Bits.{has_bit}
+use Rattle.reconf_spec.specs.Configurations.{name_of_conf}
+use Rattle.reconf_spec.specs.Documents.{read_goal}
+use Rattle.scram_doc.specs.Lists.{AllAfter, folded_from}
+use Rattle.reconf_spec.specs.Facts.{IsVariable}
+use Rattle.reconf_spec.specs.Factors.{name_of_factor}
+use Rattle.scram_doc.specs.Numbering.{itself}
+use Rattle.reconf_spec.specs.Intervals.{read_interval, read_invariant, read_invariants, read_precondition, read_preconditions}
+use Rattle.reconf_spec.specs.Processors.{name_of_proc}
+use Rattle.reconf_spec.specs.Texts.{bound_data, choice_data, goal_data, invariant_data, name_of_item, precondition_data, source_name, up_data, name_of_kind_variable, name_of_variable, want_data}
+use Rattle.scram_doc.specs.Canonical.{integer_data, list_data}
 use Rattle.reconf_spec.specs.Writable.{IsWritableInterval, lists_pair, lists_want}
-use Rattle.reconf_spec.proofs.Lookups.{number_back, some_item}
-use Rattle.reconf_spec.proofs.ListsBack.{int_is, list_back, whole_back, within_back}
+use Rattle.reconf_spec.proofs.Lookups.{number_back}
+use Rattle.scram_types.proofs.Items.{some_item}
+use Rattle.scram_doc.proofs.ReadBack.{list_back, whole_back, within_back}
 use Rattle.reconf_spec.proofs.Sets.{up_back}
+
+truth : (b : Bool) → T b → b ≡ true
+truth true h = refl
+truth false h = absurd h
+
+int_is : (a b : ℤ) → a ≤ℤ b → int_le a b ≡ true
+int_is a b h = truth (int_le a b) h.le
 
 -- the name of a configuration is not `*`
 no_star_by : (b : Bool) (text : List ℕ) → (b ≡ true → text ≡ codes "*") → is_name text ≡ true → b ≡ false
@@ -56,24 +68,24 @@ no_star text named = no_star_by (bytes_eq text (codes "*")) text (λ e. (bytes_e
 abbrev pub AreNamed : List Conf → Type 0
 AreNamed confs = Each (λ (conf : Conf). is_name conf.name ≡ true) confs
 
-source_back : (confs : List Conf) (at : List ℕ) (from : Option ConfId) → NamesDiffer conf_name confs → AreNamed confs → IsInIfNamed confs from → source_named confs at (source_text confs from) ≡ Ok from
+source_back : (confs : List Conf) (at : List ℕ) (from : Option ConfId) → NamesDiffer name_of_conf confs → AreNamed confs → IsInIfNamed confs from → source_named confs at (source_name confs from) ≡ Ok from
 source_back confs at None differ named there = refl
 source_back confs at (Some c) differ named there = some_item confs c.0 there (λ conf is.
-    let found = number_back conf_name confs c.0 differ there in
-    let text : name_of_item conf_name confs c.0 ≡ conf.name = rw (is) refl in
-    let other : bytes_eq (name_of_item conf_name confs c.0) (codes "*") ≡ false = rw (text) (no_star conf.name (named c.0 conf is)) in
+    let found = number_back name_of_conf confs c.0 differ there in
+    let text : name_of_item name_of_conf confs c.0 ≡ conf.name = rw (is) refl in
+    let other : bytes_eq (name_of_item name_of_conf confs c.0) (codes "*") ≡ false = rw (text) (no_star conf.name (named c.0 conf is)) in
     rw (other, found) refl)
 
 record NewWant (factors : List Factor) (done : List Want) (want : Want) : Type 0 where
-  new : has_factor done want.factor.0 ≡ false
+  new : wants_factor done want.factor.0 ≡ false
   is : IsWant factors want
 
-want_back : (factors : List Factor) → NamesDiffer factor_name factors → Each IsFactor factors → (at : List ℕ) (done : List Want) (want : Want) → NewWant factors done want
-    → want_at factors at done (want_data factors want) ≡ Ok want
+want_back : (factors : List Factor) → NamesDiffer name_of_factor factors → Each IsFactor factors → (at : List ℕ) (done : List Want) (want : Want) → NewWant factors done want
+    → read_want factors at done (want_data factors want) ≡ Ok want
 want_back factors differ each at done want fits =
     let is = fits.is in
-    let found = number_back factor_name factors want.factor.0 differ (slice_get_within factors want.factor.0 is.factor is.there) in
-    let value = number_back own_name is.factor.values want.value (each want.factor.0 is.factor is.there).differ is.value in
+    let found = number_back name_of_factor factors want.factor.0 differ (slice_get_within factors want.factor.0 is.factor is.there) in
+    let value = number_back itself is.factor.values want.value (each want.factor.0 is.factor is.there).differ is.value in
     rw (found, fits.new, is.there, value) refl
 
 few_up_by : (b : Bool) (name : List ℕ) (rest : List Data) (most : ℕ) → items_len (items_of rest) ≤ most → items_len (items_of (cond b (string name ∷ rest) rest)) ≤ suc most
@@ -82,55 +94,55 @@ few_up_by false name rest most few = omega (arith, few)
 
 few_up : (set p : ℕ) (procs : List Proc) → items_len (items_of (up_data set p procs)) ≤ length procs
 few_up set p [] = omega arith
-few_up set p (proc ∷ procs) = few_up_by (has_proc set p) proc.name (up_data set (suc p) procs) (length procs) (few_up set (suc p) procs)
+few_up set p (proc ∷ procs) = few_up_by (has_bit set p) proc.name (up_data set (suc p) procs) (length procs) (few_up set (suc p) procs)
 
-ups_back : (procs : List Proc) (at : List ℕ) (set : ℕ) → length procs ≤ 8 → NamesDiffer proc_name procs → set < 2 ^ length procs → up_at procs at (array (items_of (up_data set 0 procs))) ≡ Ok set
+ups_back : (procs : List Proc) (at : List ℕ) (set : ℕ) → length procs ≤ 8 → NamesDiffer name_of_proc procs → set < 2 ^ length procs → read_up_list procs at (array (items_of (up_data set 0 procs))) ≡ Ok set
 ups_back procs at set few differ below =
     let count = few_up set 0 procs in
     let none : set % 2 ^ 0 ≡ 0 = omega arith in
     rw (within_back 0 8 at (items_of (up_data set 0 procs)) (omega arith) (omega (arith, count, few)))
-    (subst (λ (n : ℕ). folded_from (up_after procs) at 0 n (items_of (up_data set 0 procs)) ≡ Ok set) none (up_back procs [] procs at 0 set differ refl below))
+    (subst (λ (n : ℕ). folded_from (read_up procs) at 0 n (items_of (up_data set 0 procs)) ≡ Ok set) none (up_back procs [] procs at 0 set differ refl below))
 
 record WritableChoice (spec : Parts) (rule : Choice) : Type 0 where
   is : IsChoice spec.procs spec.confs spec.factors rule
   wants : AllAfter (λ (done : List Want) (want : Want). lists_want done want ≡ false) rule.wants
 
 choice_back : (spec : Parts) → IsSpec spec → AreNamed spec.confs → (at : List ℕ) (done : List Choice) (rule : Choice) → WritableChoice spec rule
-    → choice_at spec.procs spec.confs spec.factors at done (choice_data spec rule) ≡ Ok rule
+    → read_choice spec.procs spec.confs spec.factors at done (choice_data spec rule) ≡ Ok rule
 choice_back spec is named at done rule fits =
-    let wants = list_back (NewWant spec.factors) (want_at spec.factors) (want_data spec.factors) (want_back spec.factors is.factors_differ is.factors) 0 6 (member_path at (codes "when")) rule.wants (omega arith) fits.is.few
+    let wants = list_back (NewWant spec.factors) (read_want spec.factors) (want_data spec.factors) (want_back spec.factors is.factors_differ is.factors) 0 6 (member_path at (codes "when")) rule.wants (omega arith) fits.is.few
     (λ i x e. record { new = fits.wants i x e; is = fits.is.wants i x e }) in
     rw (
       source_back spec.confs (member_path at (codes "from")) rule.from is.confs_differ named fits.is.from,
       wants,
       ups_back spec.procs (member_path at (codes "up")) rule.up is.procs_count.few is.procs_differ fits.is.up,
-      number_back conf_name spec.confs rule.to.0 is.confs_differ fits.is.to,
+      number_back name_of_conf spec.confs rule.to.0 is.confs_differ fits.is.to,
     ) refl
 
 pub choices_back : (spec : Parts) → IsSpec spec → AreNamed spec.confs → Each (λ (rule : Choice). AllAfter (λ (done : List Want) (want : Want). lists_want done want ≡ false) rule.wants) spec.rules → (at : List ℕ)
-    → choices_at spec.procs spec.confs spec.factors at (list_data (choice_data spec) spec.rules) ≡ Ok spec.rules
+    → read_choices spec.procs spec.confs spec.factors at (list_data (choice_data spec) spec.rules) ≡ Ok spec.rules
 choices_back spec is named wants at =
-    list_back (λ _. WritableChoice spec) (choice_at spec.procs spec.confs spec.factors) (choice_data spec) (choice_back spec is named) 0 64 at spec.rules (omega arith) is.rules_count
+    list_back (λ _. WritableChoice spec) (read_choice spec.procs spec.confs spec.factors) (choice_data spec) (choice_back spec is named) 0 64 at spec.rules (omega arith) is.rules_count
     (λ i x e. record { is = is.rules i x e; wants = wants i x e })
 
 record NewBound (confs : List Conf) (done : List Bound) (bound : Bound) : Type 0 where
   new : is_some (bound_in done bound.from.0 bound.to.0) ≡ false
   is : IsBound confs bound
 
-bound_back : (confs : List Conf) → NamesDiffer conf_name confs → (at : List ℕ) (done : List Bound) (bound : Bound) → NewBound confs done bound → bound_at confs at done (bound_data confs bound) ≡ Ok bound
+bound_back : (confs : List Conf) → NamesDiffer name_of_conf confs → (at : List ℕ) (done : List Bound) (bound : Bound) → NewBound confs done bound → read_bound confs at done (bound_data confs bound) ≡ Ok bound
 bound_back confs differ at done bound fits =
     let most = fits.is.most in
     rw (
-      number_back conf_name confs bound.from.0 differ fits.is.from,
-      number_back conf_name confs bound.to.0 differ fits.is.to,
+      number_back name_of_conf confs bound.from.0 differ fits.is.from,
+      number_back name_of_conf confs bound.to.0 differ fits.is.to,
       fits.new,
       whole_back 1 1001 bound.frames fits.is.least (omega (arith, most)),
     ) refl
 
 pub bounds_back : (spec : Parts) → IsSpec spec → AllAfter (λ (done : List Bound) (bound : Bound). lists_pair done bound ≡ false) spec.bounds → (at : List ℕ)
-    → bounds_at spec.confs at (list_data (bound_data spec.confs) spec.bounds) ≡ Ok spec.bounds
+    → read_bounds spec.confs at (list_data (bound_data spec.confs) spec.bounds) ≡ Ok spec.bounds
 bounds_back spec is new at =
-    list_back (NewBound spec.confs) (bound_at spec.confs) (bound_data spec.confs) (bound_back spec.confs is.confs_differ) 0 144 at spec.bounds (omega arith) is.bounds_count
+    list_back (NewBound spec.confs) (read_bound spec.confs) (bound_data spec.confs) (bound_back spec.confs is.confs_differ) 0 144 at spec.bounds (omega arith) is.bounds_count
     (λ i x e. record { new = new i x e; is = is.bounds i x e })
 
 -- a whole number is read back
@@ -141,7 +153,7 @@ number_small (negsuc n) small = refl
 within : (low high n : ℤ) → low ≤ℤ n → n ≤ℤ high → int_within low high n ≡ Some n
 within low high n least most = rw (int_is low n least, int_is n high most) refl
 
-pub goal_back : (at : List ℕ) (goal : Goal) → IsGoal goal → goal_at at (goal_data goal) ≡ Ok goal
+pub goal_back : (at : List ℕ) (goal : Goal) → IsGoal goal → read_goal at (goal_data goal) ≡ Ok goal
 goal_back at goal is =
     let low = is.highest in
     let far = is.last in
@@ -156,7 +168,7 @@ some_same : (x y : AppSpec) → Some x ≡ Some y → x ≡ y
 some_same x y e = cc
 
 variable_back : (apps : List AppSpec) (app : AppSpec) (a variable : ℕ) → slice_get apps a ≡ Some app → app.kind.0 < 5 → IsVariable (slice_get apps a) variable
-    → number_in (variable_names app.kind.0) (variable_of_kind app.kind.0 variable) ≡ Some variable
+    → number_in (variable_names app.kind.0) (name_of_kind_variable app.kind.0 variable) ≡ Some variable
 variable_back apps app a variable there below is =
     let agree = (all_names_agree.each app.kind.0 below).variables in
     let same : is.app ≡ app = some_same is.app app (sym is.there ∙ there) in
@@ -165,11 +177,11 @@ variable_back apps app a variable there below is =
 
 -- what invariants and preconditions have in common, as it is read back
 interval_back : (spec : Parts) → IsSpec spec → (at : List ℕ) (app : AppId) (variable : ℕ) (least greatest : ℤ) → IsInterval spec.apps app variable least greatest → IsWritableInterval spec.apps app variable least greatest
-    → interval_at spec.apps at (string (name_of_item app_name spec.apps app.0)) (string (variable_text spec.apps app.0 variable)) (integer_data least) (integer_data greatest)
+    → read_interval spec.apps at (string (name_of_item name_of_app spec.apps app.0)) (string (name_of_variable spec.apps app.0 variable)) (integer_data least) (integer_data greatest)
     ≡ Ok (record { app = app; variable = variable; ends = record { least = least; greatest = greatest } })
 interval_back spec is at app variable least greatest fits writable = some_item spec.apps app.0 fits.there (λ found there.
     rw (
-      number_back app_name spec.apps app.0 is.apps_differ fits.there,
+      number_back name_of_app spec.apps app.0 is.apps_differ fits.there,
       there,
       variable_back spec.apps found app.0 variable there (is.apps app.0 found there).kind writable.named,
       number_small least fits.low_most,
@@ -184,7 +196,7 @@ record WritableInvariant (spec : Parts) (inv : Invariant) : Type 0 where
   writable : IsWritableInterval spec.apps inv.app inv.variable inv.least inv.greatest
 
 invariant_back : (spec : Parts) → IsSpec spec → AreNamed spec.confs → (at : List ℕ) (done : List Invariant) (inv : Invariant) → WritableInvariant spec inv
-    → invariant_at spec.apps spec.confs at done (invariant_data spec inv) ≡ Ok inv
+    → read_invariant spec.apps spec.confs at done (invariant_data spec inv) ≡ Ok inv
 invariant_back spec is named at done inv fits =
     rw (
       source_back spec.confs (member_path at (codes "from")) inv.from is.confs_differ named fits.is.from,
@@ -192,9 +204,9 @@ invariant_back spec is named at done inv fits =
     ) refl
 
 pub invariants_back : (spec : Parts) → IsSpec spec → AreNamed spec.confs → Each (λ (inv : Invariant). IsWritableInterval spec.apps inv.app inv.variable inv.least inv.greatest) spec.invariants → (at : List ℕ)
-    → invariants_at spec.apps spec.confs at (list_data (invariant_data spec) spec.invariants) ≡ Ok spec.invariants
+    → read_invariants spec.apps spec.confs at (list_data (invariant_data spec) spec.invariants) ≡ Ok spec.invariants
 invariants_back spec is named writable at =
-    list_back (λ _. WritableInvariant spec) (invariant_at spec.apps spec.confs) (invariant_data spec) (invariant_back spec is named) 0 64 at spec.invariants (omega arith) is.invariants_count
+    list_back (λ _. WritableInvariant spec) (read_invariant spec.apps spec.confs) (invariant_data spec) (invariant_back spec is named) 0 64 at spec.invariants (omega arith) is.invariants_count
     (λ i x e. record { is = is.invariants i x e; writable = writable i x e })
 
 record WritablePrecondition (spec : Parts) (pre : Precondition) : Type 0 where
@@ -202,15 +214,15 @@ record WritablePrecondition (spec : Parts) (pre : Precondition) : Type 0 where
   writable : IsWritableInterval spec.apps pre.app pre.variable pre.least pre.greatest
 
 precondition_back : (spec : Parts) → IsSpec spec → (at : List ℕ) (done : List Precondition) (pre : Precondition) → WritablePrecondition spec pre
-    → precondition_at spec.apps spec.confs at done (precondition_data spec pre) ≡ Ok pre
+    → read_precondition spec.apps spec.confs at done (precondition_data spec pre) ≡ Ok pre
 precondition_back spec is at done pre fits =
     rw (
-      number_back conf_name spec.confs pre.conf.0 is.confs_differ fits.is.conf,
+      number_back name_of_conf spec.confs pre.conf.0 is.confs_differ fits.is.conf,
       interval_back spec is at pre.app pre.variable pre.least pre.greatest fits.is.interval fits.writable,
     ) refl
 
 pub preconditions_back : (spec : Parts) → IsSpec spec → Each (λ (pre : Precondition). IsWritableInterval spec.apps pre.app pre.variable pre.least pre.greatest) spec.preconditions → (at : List ℕ)
-    → preconditions_at spec.apps spec.confs at (list_data (precondition_data spec) spec.preconditions) ≡ Ok spec.preconditions
+    → read_preconditions spec.apps spec.confs at (list_data (precondition_data spec) spec.preconditions) ≡ Ok spec.preconditions
 preconditions_back spec is writable at =
-    list_back (λ _. WritablePrecondition spec) (precondition_at spec.apps spec.confs) (precondition_data spec) (precondition_back spec is) 0 64 at spec.preconditions (omega arith) is.preconditions_count
+    list_back (λ _. WritablePrecondition spec) (read_precondition spec.apps spec.confs) (precondition_data spec) (precondition_back spec is) 0 64 at spec.preconditions (omega arith) is.preconditions_count
     (λ i x e. record { is = is.preconditions i x e; writable = writable i x e })

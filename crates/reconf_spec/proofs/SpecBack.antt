@@ -9,24 +9,24 @@ use Rattle.scram_types.specs.declared.specification.Policy.{Policy}
 use Rattle.scram_types.specs.declared.specification.Policy.TheVariants.{Retarget, Settle}
 use Rattle.scram_types.specs.Specification.{IsSpec, Parts}
 use Rattle.reconf_spec.specs.declared.documents.Assumption.{Assumption}
-use Rattle.reconf_spec.specs.Choices.{conf_id_at}
-use Rattle.reconf_spec.specs.Configurations.{conf_name}
-use Rattle.reconf_spec.specs.Documents.{Names, assumption_at, names_in, rest_in, spec_in, spec_of}
+use Rattle.reconf_spec.specs.Choices.{read_conf_id}
+use Rattle.reconf_spec.specs.Configurations.{name_of_conf}
+use Rattle.reconf_spec.specs.Documents.{Names, read_assumption, names_in, rest_in, spec_in, spec_of}
 use Rattle.reconf_spec.specs.Texts.{assumption_data, data_by, spec_data, start_data}
 use Rattle.reconf_spec.specs.Writable.{IsWritable}
 use Rattle.reconf_spec.proofs.AppsBack.{procs_back, ranks_back, unranked_back}
 use Rattle.reconf_spec.proofs.ConfsBack.{confs_back, factors_back}
-use Rattle.reconf_spec.proofs.ListsBack.{whole_back}
+use Rattle.scram_doc.proofs.ReadBack.{whole_back}
 use Rattle.reconf_spec.proofs.Lookups.{number_back}
 use Rattle.reconf_spec.proofs.RestBack.{bounds_back, choices_back, goal_back, invariants_back, preconditions_back}
 
-start_back : (spec : Parts) → IsSpec spec → (at : List ℕ) → conf_id_at spec.confs at (start_data spec) ≡ Ok spec.start
-start_back spec is at = rw (number_back conf_name spec.confs spec.start.0 is.confs_differ is.start) refl
+start_back : (spec : Parts) → IsSpec spec → (at : List ℕ) → read_conf_id spec.confs at (start_data spec) ≡ Ok spec.start
+start_back spec is at = rw (number_back name_of_conf spec.confs spec.start.0 is.confs_differ is.start) refl
 
 abbrev assumed : Parts → Assumption
 assumed spec = record { halts = spec.halts; changes = spec.changes; window = spec.window }
 
-assumption_back : (spec : Parts) → IsSpec spec → (at : List ℕ) → assumption_at at (assumption_data spec) ≡ Ok (assumed spec)
+assumption_back : (spec : Parts) → IsSpec spec → (at : List ℕ) → read_assumption at (assumption_data spec) ≡ Ok (assumed spec)
 assumption_back spec is at =
     let halts = is.halts in
     let changes = is.changes in

@@ -11,13 +11,15 @@ use Rattle.scram_types.specs.declared.specification.Invariant.{Invariant}
 use Rattle.scram_types.specs.declared.specification.Precondition.{Precondition}
 use Rattle.scram_types.specs.Specification.{Parts, IsSpec, IsProc, IsConf, IsFactor, IsChoice, IsBound, IsGoal, IsInvariant, IsPrecondition, IsIn}
 use Rattle.app_model.proofs.Spelling.{variable_number_below}
-use Rattle.reconf_spec.specs.Processors.{proc_name}
-use Rattle.reconf_spec.specs.Configurations.{conf_name}
-use Rattle.reconf_spec.specs.Factors.{factor_name, own_name}
-use Rattle.reconf_spec.specs.Facts.{AllAfter, IsNewProc, IsNewConf, IsNewFactor, IsNewWant, FitsChoice, IsNewBound, FitsInvariant, FitsPrecondition, IsVariable}
+use Rattle.reconf_spec.specs.Processors.{name_of_proc}
+use Rattle.reconf_spec.specs.Configurations.{name_of_conf}
+use Rattle.reconf_spec.specs.Factors.{name_of_factor}
+use Rattle.scram_doc.specs.Numbering.{itself}
+use Rattle.scram_doc.specs.Lists.{AllAfter}
+use Rattle.reconf_spec.specs.Facts.{IsNewProc, IsNewConf, IsNewFactor, IsNewWant, FitsChoice, IsNewBound, FitsInvariant, FitsPrecondition, IsVariable}
 use Rattle.reconf_spec.specs.Documents.{Names, with_rest}
 use Rattle.reconf_spec.specs.Writable.{IsWritable}
-use Rattle.reconf_spec.specs.Kept.{IsNamed, FitsAssumption, FitsRest}
+use Rattle.reconf_spec.specs.Kept.{AreNames, FitsAssumption, FitsRest}
 use Rattle.reconf_spec.specs.declared.documents.Rest.{Rest}
 use Rattle.reconf_spec.proofs.Distinct.{each_of, new_differ}
 
@@ -26,7 +28,7 @@ variable_below found variable is =
     omega (arith, variable_number_below is.app.kind.0 is.text variable is.named)
 
 factor_fits : (done : List Factor) (factor : Factor) → IsNewFactor done factor → IsFactor factor
-factor_fits done factor fits = record { count = fits.count; differ = new_differ own_name factor.values (λ i x e. (fits.values i x e).new) }
+factor_fits done factor fits = record { count = fits.count; differ = new_differ itself factor.values (λ i x e. (fits.values i x e).new) }
 
 choice_fits : (procs : List Proc) (confs : List Conf) (factors : List Factor) (rule : Choice) → FitsChoice procs confs factors rule → IsChoice procs confs factors rule
 choice_fits procs confs factors rule fits = record {
@@ -63,7 +65,7 @@ precondition_fits apps confs pre fits = let i = fits.interval in record {
   };
 }
 
-pub spec_fits : (spec : Parts) → IsNamed spec.procs spec.apps spec.confs spec.factors
+pub spec_fits : (spec : Parts) → AreNames spec.procs spec.apps spec.confs spec.factors
     → length spec.rules ≤ 64 → AllAfter (λ _. FitsChoice spec.procs spec.confs spec.factors) spec.rules
     → length spec.bounds ≤ 144 → AllAfter (IsNewBound spec.confs) spec.bounds
     → IsIn spec.confs spec.start → IsGoal spec.goal
@@ -80,16 +82,16 @@ spec_fits spec named few_rules rules few_bounds bounds start goal few_invariants
     values = λ i x e j y f. ((named.factors_fit i x e).values j y f).spelled;
   };
   procs_count = named.procs_count;
-  procs_differ = new_differ proc_name spec.procs (λ i x e. (named.procs_fit i x e).name.new);
+  procs_differ = new_differ name_of_proc spec.procs (λ i x e. (named.procs_fit i x e).name.new);
   procs = each_of IsNewProc IsProc spec.procs (λ done x f. f.is) named.procs_fit;
   apps_count = named.apps_fit.count;
   apps_differ = named.apps_fit.differ;
   apps = named.apps_fit.each;
   confs_count = named.confs_count;
-  confs_differ = new_differ conf_name spec.confs (λ i x e. (named.confs_fit i x e).name.new);
+  confs_differ = new_differ name_of_conf spec.confs (λ i x e. (named.confs_fit i x e).name.new);
   confs = each_of (IsNewConf spec.procs spec.apps) (IsConf spec.procs spec.apps) spec.confs (λ done x f. record { width = f.width; places = f.places }) named.confs_fit;
   factors_count = named.factors_count.few;
-  factors_differ = new_differ factor_name spec.factors (λ i x e. (named.factors_fit i x e).name.new);
+  factors_differ = new_differ name_of_factor spec.factors (λ i x e. (named.factors_fit i x e).name.new);
   factors = each_of IsNewFactor IsFactor spec.factors factor_fits named.factors_fit;
   rules_count = few_rules;
   rules = each_of (λ _. FitsChoice spec.procs spec.confs spec.factors) (IsChoice spec.procs spec.confs spec.factors) spec.rules (λ done x f. choice_fits spec.procs spec.confs spec.factors x f) rules;
@@ -108,14 +110,14 @@ spec_fits spec named few_rules rules few_bounds bounds start goal few_invariants
 }
 
 -- the same, for what was read by names that are those of the specification
-pub joined_fits : (names own : Names) (rest : Rest) → names ≡ own → IsNamed own.procs own.apps own.confs own.factors → FitsRest names.procs names.apps names.confs names.factors rest
+pub joined_fits : (names own : Names) (rest : Rest) → names ≡ own → AreNames own.procs own.apps own.confs own.factors → FitsRest names.procs names.apps names.confs names.factors rest
     → IsSpec (with_rest own rest)
 joined_fits names own rest same named fits =
     subst (λ (z : Names). IsSpec (with_rest z rest)) same
-    (spec_fits (with_rest names rest) (subst (λ (z : Names). IsNamed z.procs z.apps z.confs z.factors) (sym same) named)
+    (spec_fits (with_rest names rest) (subst (λ (z : Names). AreNames z.procs z.apps z.confs z.factors) (sym same) named)
     fits.few_rules fits.rules fits.few_bounds fits.bounds fits.start fits.goal fits.few_invariants fits.invariants fits.few_preconditions fits.preconditions fits.assumed)
 
-spec_writable : (spec : Parts) → IsNamed spec.procs spec.apps spec.confs spec.factors
+spec_writable : (spec : Parts) → AreNames spec.procs spec.apps spec.confs spec.factors
     → AllAfter (λ _. FitsChoice spec.procs spec.confs spec.factors) spec.rules
     → AllAfter (IsNewBound spec.confs) spec.bounds
     → AllAfter (λ _. FitsInvariant spec.apps spec.confs) spec.invariants
@@ -130,9 +132,9 @@ spec_writable spec named rules bounds invariants preconditions = record {
   preconditions = λ i x e. record { named = (preconditions i x e).interval.is_variable; in_order = (preconditions i x e).interval.ends_fit.in_order };
 }
 
-pub joined_writable : (names own : Names) (rest : Rest) → names ≡ own → IsNamed own.procs own.apps own.confs own.factors → FitsRest names.procs names.apps names.confs names.factors rest
+pub joined_writable : (names own : Names) (rest : Rest) → names ≡ own → AreNames own.procs own.apps own.confs own.factors → FitsRest names.procs names.apps names.confs names.factors rest
     → IsWritable (with_rest own rest)
 joined_writable names own rest same named fits =
     subst (λ (z : Names). IsWritable (with_rest z rest)) same
-    (spec_writable (with_rest names rest) (subst (λ (z : Names). IsNamed z.procs z.apps z.confs z.factors) (sym same) named)
+    (spec_writable (with_rest names rest) (subst (λ (z : Names). AreNames z.procs z.apps z.confs z.factors) (sym same) named)
     fits.rules fits.bounds fits.invariants fits.preconditions)

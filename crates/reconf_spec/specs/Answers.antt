@@ -8,14 +8,14 @@ use Rattle.scram_doc.specs.declared.fault.DocError.TheVariants as doc
 use Rattle.dep_order.specs.Ranks.{IsCycle}
 use Rattle.reconf_spec.specs.declared.fault.SpecError.{SpecError}
 use Rattle.reconf_spec.specs.declared.fault.SpecError.TheVariants.{Fault, NoMemory}
-use Rattle.reconf_spec.specs.Applications.{app_name}
+use Rattle.reconf_spec.specs.Applications.{name_of_app}
 use Rattle.reconf_spec.specs.Needs.{are_ranked}
 
 -- the answer is that of the reading, unless memory is wanting
-abbrev pub Tells : {A : Type 0} → Result A DocFault → Result A SpecError → Type 0
-Tells reading (Ok a) = reading ≡ Ok a
-Tells reading (Err (Fault fault)) = reading ≡ Err (record { rule = fault.rule; path = fault.path })
-Tells reading (Err NoMemory) = ⊤
+abbrev pub AnswersSpec : {A : Type 0} → Result A DocFault → Result A SpecError → Type 0
+AnswersSpec reading (Ok a) = reading ≡ Ok a
+AnswersSpec reading (Err (Fault fault)) = reading ≡ Err (record { rule = fault.rule; path = fault.path })
+AnswersSpec reading (Err NoMemory) = ⊤
 
 -- A cycle is that of applications that cannot be ranked, and else there is none.
 abbrev pub CycleIf : Bool → List AppSpec → List AppId → Type 0
@@ -29,7 +29,7 @@ CycleAmong (Ok apps) cycle = CycleIf (are_ranked apps) apps cycle
 -- Each name is that of the application that stands at its place in a list.
 abbrev pub AreNamed : List AppSpec → List AppId → List (List ℕ) → Type 0
 AreNamed apps named names =
-    map (λ (a : AppId). option_map app_name (slice_get apps a.0)) named ≡ map (λ (name : List ℕ). Some name) names
+    map (λ (a : AppId). option_map name_of_app (slice_get apps a.0)) named ≡ map (λ (name : List ℕ). Some name) names
 
 abbrev pub NamedAmong : Result (List AppSpec) DocFault → List AppId → List (List ℕ) → Type 0
 NamedAmong (Err fault) named names = names ≡ []

@@ -12,26 +12,26 @@ use Rattle.scram_doc.specs.Paths.{member_path}
 use Rattle.scram_doc.specs.Members.{object_at, needed, no_more_than}
 use Rattle.scram_doc.specs.Values.{whole_at}
 use Rattle.reconf_spec.specs.declared.rule.TheConstants.{TWICE_IN_LIST}
-use Rattle.reconf_spec.specs.Lists.{elements_at}
-use Rattle.reconf_spec.specs.Choices.{conf_id_at}
+use Rattle.scram_doc.specs.Lists.{elements_at}
+use Rattle.reconf_spec.specs.Choices.{read_conf_id}
 
 -- the target of a pair that has no bound yet
-abbrev pub new_target_at : List Conf → List Bound → ConfId → List ℕ → Data → Result ConfId DocFault
-new_target_at confs done from at d =
-    chain (conf_id_at confs at d) (λ (to : ConfId).
+abbrev pub read_new_target : List Conf → List Bound → ConfId → List ℕ → Data → Result ConfId DocFault
+read_new_target confs done from at d =
+    chain (read_conf_id confs at d) (λ (to : ConfId).
     if is_some (bound_in done from.0 to.0) then broken TWICE_IN_LIST at else Ok to)
 
-abbrev pub bound_at : List Conf → List ℕ → List Bound → Data → Result Bound DocFault
-bound_at confs at done d =
+abbrev pub read_bound : List Conf → List ℕ → List Bound → Data → Result Bound DocFault
+read_bound confs at done d =
     chain (object_at at d) (λ (_ : ⊤).
     chain (needed (codes "from") at d) (λ (from : Data).
     chain (needed (codes "to") at d) (λ (to : Data).
     chain (needed (codes "frames") at d) (λ (frames : Data).
     chain (no_more_than 3 at d) (λ (_ : ⊤).
-    chain (conf_id_at confs (member_path at (codes "from")) from) (λ (from : ConfId).
-    chain (new_target_at confs done from (member_path at (codes "to")) to) (λ (to : ConfId).
+    chain (read_conf_id confs (member_path at (codes "from")) from) (λ (from : ConfId).
+    chain (read_new_target confs done from (member_path at (codes "to")) to) (λ (to : ConfId).
     chain (whole_at 1 1001 (member_path at (codes "frames")) frames) (λ (frames : ℕ).
     Ok (record { from = from; to = to; frames = frames })))))))))
 
-abbrev pub bounds_at : List Conf → List ℕ → Data → Result (List Bound) DocFault
-bounds_at confs at d = elements_at (bound_at confs) 0 144 at d
+abbrev pub read_bounds : List Conf → List ℕ → Data → Result (List Bound) DocFault
+read_bounds confs at d = elements_at (read_bound confs) 0 144 at d

@@ -10,6 +10,7 @@ use Rattle.scram_types.specs.declared.specification.Conf.{Conf}
 use Rattle.scram_types.specs.declared.specification.Factor.{Factor}
 use Rattle.scram_types.specs.declared.specification.Want.{Want}
 use Rattle.scram_types.specs.declared.specification.Choice.{Choice}
+use Rattle.scram_types.specs.Bits.{has_bit}
 use Rattle.scram_doc.specs.declared.fault.DocFault.{DocFault}
 use Rattle.scram_doc.specs.Chain.{chain, ok_map}
 use Rattle.scram_doc.specs.Faults.{broken, or_broken}
@@ -17,74 +18,72 @@ use Rattle.scram_doc.specs.Paths.{member_path}
 use Rattle.scram_doc.specs.Members.{object_at, needed, no_more_than}
 use Rattle.scram_doc.specs.Values.{list_at, text_at}
 use Rattle.reconf_spec.specs.declared.rule.TheConstants.{UNKNOWN_PROCESSOR, UNKNOWN_CONFIGURATION, UNKNOWN_FACTOR_OR_VALUE, TWICE_IN_LIST}
-use Rattle.reconf_spec.specs.Lists.{elements_at, folded_from}
-use Rattle.reconf_spec.specs.Names.{found, named_at}
-use Rattle.reconf_spec.specs.Processors.{proc_name}
-use Rattle.reconf_spec.specs.Configurations.{conf_name}
-use Rattle.reconf_spec.specs.Factors.{factor_name, own_name}
+use Rattle.scram_doc.specs.Lists.{elements_at, folded_from}
+use Rattle.scram_types.specs.Lookups.{number_named}
+use Rattle.reconf_spec.specs.Names.{read_named}
+use Rattle.reconf_spec.specs.Processors.{name_of_proc}
+use Rattle.reconf_spec.specs.Configurations.{name_of_conf}
+use Rattle.reconf_spec.specs.Factors.{name_of_factor}
+use Rattle.scram_doc.specs.Numbering.{itself}
 
-abbrev pub conf_id_at : List Conf → List ℕ → Data → Result ConfId DocFault
-conf_id_at confs at d = ok_map (λ (c : ℕ). record { 0 = c }) (named_at conf_name confs UNKNOWN_CONFIGURATION at d)
+abbrev pub read_conf_id : List Conf → List ℕ → Data → Result ConfId DocFault
+read_conf_id confs at d = ok_map (λ (c : ℕ). record { 0 = c }) (read_named name_of_conf confs UNKNOWN_CONFIGURATION at d)
 
 -- the configuration that a text names, or none where it is `*`
 abbrev pub source_named : List Conf → List ℕ → List ℕ → Result (Option ConfId) DocFault
 source_named confs at text =
     if bytes_eq text (codes "*") then Ok None
-    else ok_map (λ (c : ℕ). Some (record { 0 = c })) (or_broken UNKNOWN_CONFIGURATION at (found conf_name confs text))
+    else ok_map (λ (c : ℕ). Some (record { 0 = c })) (or_broken UNKNOWN_CONFIGURATION at (number_named name_of_conf confs text))
 
-abbrev pub source_at : List Conf → List ℕ → Data → Result (Option ConfId) DocFault
-source_at confs at d = chain (text_at at d) (λ (text : List ℕ). source_named confs at text)
+abbrev pub read_source : List Conf → List ℕ → Data → Result (Option ConfId) DocFault
+read_source confs at d = chain (text_at at d) (λ (text : List ℕ). source_named confs at text)
 
-abbrev pub has_factor : List Want → ℕ → Bool
-has_factor wants f = list_any (λ (want : Want). want.factor.0 == f) wants
+abbrev pub wants_factor : List Want → ℕ → Bool
+wants_factor wants f = list_any (λ (want : Want). want.factor.0 == f) wants
 
 -- a factor that is not yet among the wanted ones
-abbrev pub new_factor_at : List Factor → List Want → List ℕ → Data → Result ℕ DocFault
-new_factor_at factors done at d =
-    chain (named_at factor_name factors UNKNOWN_FACTOR_OR_VALUE at d) (λ (f : ℕ).
-    if has_factor done f then broken TWICE_IN_LIST at else Ok f)
+abbrev pub read_new_factor : List Factor → List Want → List ℕ → Data → Result ℕ DocFault
+read_new_factor factors done at d =
+    chain (read_named name_of_factor factors UNKNOWN_FACTOR_OR_VALUE at d) (λ (f : ℕ).
+    if wants_factor done f then broken TWICE_IN_LIST at else Ok f)
 
 -- a value of the factor
-abbrev pub value_of_at : Option Factor → List ℕ → Data → Result ℕ DocFault
-value_of_at None at d = broken UNKNOWN_FACTOR_OR_VALUE at
-value_of_at (Some factor) at d = named_at own_name factor.values UNKNOWN_FACTOR_OR_VALUE at d
+abbrev pub read_value_of : Option Factor → List ℕ → Data → Result ℕ DocFault
+read_value_of None at d = broken UNKNOWN_FACTOR_OR_VALUE at
+read_value_of (Some factor) at d = read_named itself factor.values UNKNOWN_FACTOR_OR_VALUE at d
 
-abbrev pub want_at : List Factor → List ℕ → List Want → Data → Result Want DocFault
-want_at factors at done d =
+abbrev pub read_want : List Factor → List ℕ → List Want → Data → Result Want DocFault
+read_want factors at done d =
     chain (object_at at d) (λ (_ : ⊤).
     chain (needed (codes "factor") at d) (λ (factor : Data).
     chain (needed (codes "value") at d) (λ (value : Data).
     chain (no_more_than 2 at d) (λ (_ : ⊤).
-    chain (new_factor_at factors done (member_path at (codes "factor")) factor) (λ (f : ℕ).
-    chain (value_of_at (slice_get factors f) (member_path at (codes "value")) value) (λ (value : ℕ).
+    chain (read_new_factor factors done (member_path at (codes "factor")) factor) (λ (f : ℕ).
+    chain (read_value_of (slice_get factors f) (member_path at (codes "value")) value) (λ (value : ℕ).
     Ok (record { factor = record { 0 = f }; value = value })))))))
 
--- Bit p of a set stands for processor p.
-abbrev pub has_proc : ℕ → ℕ → Bool
-has_proc set p = bit_at set p == 1
-
 -- the set with a processor that is not yet in it
-abbrev pub up_after : List Proc → List ℕ → ℕ → Data → Result ℕ DocFault
-up_after procs at set d =
-    chain (named_at proc_name procs UNKNOWN_PROCESSOR at d) (λ (p : ℕ).
-    if has_proc set p then broken TWICE_IN_LIST at else Ok (bit_or set (2 ^ p)))
+abbrev pub read_up : List Proc → List ℕ → ℕ → Data → Result ℕ DocFault
+read_up procs at set d =
+    chain (read_named name_of_proc procs UNKNOWN_PROCESSOR at d) (λ (p : ℕ).
+    if has_bit set p then broken TWICE_IN_LIST at else Ok (bit_or set (2 ^ p)))
 
-abbrev pub up_at : List Proc → List ℕ → Data → Result ℕ DocFault
-up_at procs at d = chain (list_at 0 8 at d) (λ (ds : Items). folded_from (up_after procs) at 0 0 ds)
+abbrev pub read_up_list : List Proc → List ℕ → Data → Result ℕ DocFault
+read_up_list procs at d = chain (list_at 0 8 at d) (λ (ds : Items). folded_from (read_up procs) at 0 0 ds)
 
-abbrev pub choice_at : List Proc → List Conf → List Factor → List ℕ → List Choice → Data → Result Choice DocFault
-choice_at procs confs factors at done d =
+abbrev pub read_choice : List Proc → List Conf → List Factor → List ℕ → List Choice → Data → Result Choice DocFault
+read_choice procs confs factors at done d =
     chain (object_at at d) (λ (_ : ⊤).
     chain (needed (codes "from") at d) (λ (from : Data).
     chain (needed (codes "when") at d) (λ (wants : Data).
     chain (needed (codes "up") at d) (λ (up : Data).
     chain (needed (codes "to") at d) (λ (to : Data).
     chain (no_more_than 4 at d) (λ (_ : ⊤).
-    chain (source_at confs (member_path at (codes "from")) from) (λ (from : Option ConfId).
-    chain (elements_at (want_at factors) 0 6 (member_path at (codes "when")) wants) (λ (wants : List Want).
-    chain (up_at procs (member_path at (codes "up")) up) (λ (up : ℕ).
-    chain (conf_id_at confs (member_path at (codes "to")) to) (λ (to : ConfId).
+    chain (read_source confs (member_path at (codes "from")) from) (λ (from : Option ConfId).
+    chain (elements_at (read_want factors) 0 6 (member_path at (codes "when")) wants) (λ (wants : List Want).
+    chain (read_up_list procs (member_path at (codes "up")) up) (λ (up : ℕ).
+    chain (read_conf_id confs (member_path at (codes "to")) to) (λ (to : ConfId).
     Ok (record { from = from; wants = wants; up = up; to = to })))))))))))
 
-abbrev pub choices_at : List Proc → List Conf → List Factor → List ℕ → Data → Result (List Choice) DocFault
-choices_at procs confs factors at d = elements_at (choice_at procs confs factors) 0 64 at d
+abbrev pub read_choices : List Proc → List Conf → List Factor → List ℕ → Data → Result (List Choice) DocFault
+read_choices procs confs factors at d = elements_at (read_choice procs confs factors) 0 64 at d

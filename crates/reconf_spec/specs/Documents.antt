@@ -1,8 +1,7 @@
 -- What specification some bytes are: the first broken rule with its path, or the specification.
-use Rattle.std.specs.Prelude.{ℕ, ℤ, pos, ◌==◌, Bool, false, List, [], ◌∷◌, codes, Option, Some, None, nat_le, option_and_then, Result, Ok, length, ⊤, if◌then◌else◌}
+use Rattle.std.specs.Prelude.{ℕ, ℤ, pos, ◌==◌, List, [], codes, nat_le, Result, Ok, length, ⊤, if◌then◌else◌}
 use Rattle.std.specs.Str.{bytes_eq}
 use Rattle.serde_json.specs.Data.{Data}
-use Rattle.serde_json.specs.Find.{get, as_number, as_u64}
 use Rattle.scram_types.specs.declared.ids.ConfId.{ConfId}
 use Rattle.scram_types.specs.declared.flights.Goal.{Goal}
 use Rattle.scram_types.specs.declared.specification.Proc.{Proc}
@@ -27,16 +26,17 @@ use Rattle.reconf_spec.specs.declared.documents.Assumption.{Assumption}
 use Rattle.reconf_spec.specs.declared.documents.Rest.{Rest}
 use Rattle.reconf_spec.specs.declared.rule.TheConstants.{UNKNOWN_VERSION, TOO_LONG, UNKNOWN_POLICY}
 use Rattle.reconf_spec.specs.Members.{members_at, member_in}
-use Rattle.reconf_spec.specs.Processors.{procs_at}
-use Rattle.reconf_spec.specs.Needs.{apps_in, unranked_at}
-use Rattle.reconf_spec.specs.Configurations.{confs_at}
-use Rattle.reconf_spec.specs.Factors.{factors_at}
-use Rattle.reconf_spec.specs.Choices.{conf_id_at, choices_at}
-use Rattle.reconf_spec.specs.Bounds.{bounds_at}
-use Rattle.reconf_spec.specs.Intervals.{invariants_at, preconditions_at}
+use Rattle.reconf_spec.specs.Versions.{is_second, members_of}
+use Rattle.reconf_spec.specs.Processors.{read_procs}
+use Rattle.reconf_spec.specs.Needs.{apps_in, read_unranked}
+use Rattle.reconf_spec.specs.Configurations.{read_confs}
+use Rattle.reconf_spec.specs.Factors.{read_factors}
+use Rattle.reconf_spec.specs.Choices.{read_conf_id, read_choices}
+use Rattle.reconf_spec.specs.Bounds.{read_bounds}
+use Rattle.reconf_spec.specs.Intervals.{read_invariants, read_preconditions}
 
-abbrev pub goal_at : List ℕ → Data → Result Goal DocFault
-goal_at at d =
+abbrev pub read_goal : List ℕ → Data → Result Goal DocFault
+read_goal at d =
     chain (object_at at d) (λ (_ : ⊤).
     chain (needed (codes "altitude") at d) (λ (altitude : Data).
     chain (needed (codes "heading") at d) (λ (heading : Data).
@@ -45,8 +45,8 @@ goal_at at d =
     chain (int_at (pos 0) (pos 3599) (member_path at (codes "heading")) heading) (λ (heading : ℤ).
     Ok (record { altitude = altitude; heading = heading })))))))
 
-abbrev pub assumption_at : List ℕ → Data → Result Assumption DocFault
-assumption_at at d =
+abbrev pub read_assumption : List ℕ → Data → Result Assumption DocFault
+read_assumption at d =
     chain (object_at at d) (λ (_ : ⊤).
     chain (needed (codes "halts") at d) (λ (halts : Data).
     chain (needed (codes "changes") at d) (λ (changes : Data).
@@ -62,40 +62,18 @@ policy_named at text =
     if bytes_eq text (codes "retarget") then Ok Retarget
     else (if bytes_eq text (codes "settle") then Ok Settle else broken UNKNOWN_POLICY at)
 
-abbrev pub policy_at : List ℕ → Data → Result Policy DocFault
-policy_at at d = chain (text_at at d) (λ (text : List ℕ). policy_named at text)
+abbrev pub read_policy : List ℕ → Data → Result Policy DocFault
+read_policy at d = chain (text_at at d) (λ (text : List ℕ). policy_named at text)
 
 -- the number of a version
-abbrev pub version_at : List ℕ → Data → Result ⊤ DocFault
-version_at at d =
+abbrev pub check_version : List ℕ → Data → Result ⊤ DocFault
+check_version at d =
     chain (whole_at 0 1001 at d) (λ (version : ℕ).
     if version == 1 then Ok tt else (if version == 2 then Ok tt else broken UNKNOWN_VERSION at))
 
--- A document has the members of version 2 where its `scram` is the whole number 2.
-abbrev pub is_two : Option ℕ → Bool
-is_two None = false
-is_two (Some version) = version == 2
-
-abbrev pub is_second : Data → Bool
-is_second d = is_two (option_and_then as_u64 (option_and_then as_number (get (codes "scram") d)))
-
-abbrev pub first_members : List (List ℕ)
-first_members =
-    codes "scram" ∷ codes "processors" ∷ codes "apps" ∷ codes "configurations" ∷ codes "factors" ∷ codes "rules" ∷ codes "bounds"
-    ∷ codes "start" ∷ codes "goal" ∷ codes "invariants" ∷ codes "preconditions" ∷ codes "assumption" ∷ []
-
-abbrev pub second_members : List (List ℕ)
-second_members =
-    codes "scram" ∷ codes "processors" ∷ codes "apps" ∷ codes "configurations" ∷ codes "factors" ∷ codes "rules" ∷ codes "bounds"
-    ∷ codes "start" ∷ codes "goal" ∷ codes "invariants" ∷ codes "preconditions" ∷ codes "assumption" ∷ codes "policy" ∷ []
-
--- the members that a document has
-abbrev pub members_of : Data → List (List ℕ)
-members_of d = if is_second d then second_members else first_members
-
 -- the policy of version 2; a document of version 1 has none, and retargets
 abbrev pub policy_in : Data → Result Policy DocFault
-policy_in d = if is_second d then member_in (codes "policy") policy_at d else Ok Retarget
+policy_in d = if is_second d then member_in (codes "policy") read_policy d else Ok Retarget
 
 -- what the rest of a document names
 pub record Names : Type 0 where
@@ -107,14 +85,14 @@ pub record Names : Type 0 where
 -- the configurations and factors, once the processors and applications are known
 abbrev pub names_with : List Proc → List AppSpec → Data → Result Names DocFault
 names_with procs apps d =
-    chain (member_in (codes "configurations") (confs_at procs apps) d) (λ (confs : List Conf).
-    chain (member_in (codes "factors") factors_at d) (λ (factors : List Factor).
+    chain (member_in (codes "configurations") (read_confs procs apps) d) (λ (confs : List Conf).
+    chain (member_in (codes "factors") read_factors d) (λ (factors : List Factor).
     Ok (record { procs = procs; apps = apps; confs = confs; factors = factors })))
 
 abbrev pub names_in : Data → Result Names DocFault
 names_in d =
-    chain (member_in (codes "scram") version_at d) (λ (_ : ⊤).
-    chain (member_in (codes "processors") procs_at d) (λ (procs : List Proc).
+    chain (member_in (codes "scram") check_version d) (λ (_ : ⊤).
+    chain (member_in (codes "processors") read_procs d) (λ (procs : List Proc).
     chain (apps_in d) (λ (apps : List AppSpec). names_with procs apps d)))
 
 -- the specification of these names and of what stands behind them
@@ -139,13 +117,13 @@ with_rest names rest = record {
 -- the specification, once the names are known
 abbrev pub rest_in : Names → Data → Result Parts DocFault
 rest_in names d =
-    chain (member_in (codes "rules") (choices_at names.procs names.confs names.factors) d) (λ (rules : List Choice).
-    chain (member_in (codes "bounds") (bounds_at names.confs) d) (λ (bounds : List Bound).
-    chain (member_in (codes "start") (conf_id_at names.confs) d) (λ (start : ConfId).
-    chain (member_in (codes "goal") goal_at d) (λ (goal : Goal).
-    chain (member_in (codes "invariants") (invariants_at names.apps names.confs) d) (λ (invariants : List Invariant).
-    chain (member_in (codes "preconditions") (preconditions_at names.apps names.confs) d) (λ (preconditions : List Precondition).
-    chain (member_in (codes "assumption") assumption_at d) (λ (assumed : Assumption).
+    chain (member_in (codes "rules") (read_choices names.procs names.confs names.factors) d) (λ (rules : List Choice).
+    chain (member_in (codes "bounds") (read_bounds names.confs) d) (λ (bounds : List Bound).
+    chain (member_in (codes "start") (read_conf_id names.confs) d) (λ (start : ConfId).
+    chain (member_in (codes "goal") read_goal d) (λ (goal : Goal).
+    chain (member_in (codes "invariants") (read_invariants names.apps names.confs) d) (λ (invariants : List Invariant).
+    chain (member_in (codes "preconditions") (read_preconditions names.apps names.confs) d) (λ (preconditions : List Precondition).
+    chain (member_in (codes "assumption") read_assumption d) (λ (assumed : Assumption).
     chain (policy_in d) (λ (policy : Policy).
     Ok (record {
       procs = names.procs;
@@ -176,9 +154,9 @@ spec_of bytes =
 -- the applications with their needs, before they are ranked
 abbrev pub unranked_names_in : Data → Result (List AppSpec) DocFault
 unranked_names_in d =
-    chain (member_in (codes "scram") version_at d) (λ (_ : ⊤).
-    chain (member_in (codes "processors") procs_at d) (λ (_ : List Proc).
-    member_in (codes "apps") unranked_at d))
+    chain (member_in (codes "scram") check_version d) (λ (_ : ⊤).
+    chain (member_in (codes "processors") read_procs d) (λ (_ : List Proc).
+    member_in (codes "apps") read_unranked d))
 
 abbrev pub unranked_in : Data → Result (List AppSpec) DocFault
 unranked_in d = chain (members_at (members_of d) [] d) (λ (_ : ⊤). unranked_names_in d)

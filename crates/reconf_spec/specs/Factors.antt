@@ -6,27 +6,25 @@ use Rattle.scram_doc.specs.declared.fault.DocFault.{DocFault}
 use Rattle.scram_doc.specs.Chain.{chain}
 use Rattle.scram_doc.specs.Paths.{member_path}
 use Rattle.scram_doc.specs.Members.{object_at, needed, no_more_than}
-use Rattle.reconf_spec.specs.Lists.{elements_at}
-use Rattle.reconf_spec.specs.Names.{new_name_at}
+use Rattle.scram_doc.specs.Lists.{elements_at}
+use Rattle.scram_doc.specs.Numbering.{itself}
+use Rattle.reconf_spec.specs.Names.{read_new_name}
 
-abbrev pub factor_name : Factor → List ℕ
-factor_name factor = factor.name
+abbrev pub name_of_factor : Factor → List ℕ
+name_of_factor factor = factor.name
 
-abbrev pub own_name : List ℕ → List ℕ
-own_name name = name
+abbrev pub read_value_name : List ℕ → List (List ℕ) → Data → Result (List ℕ) DocFault
+read_value_name at done d = read_new_name itself done at d
 
-abbrev pub value_at : List ℕ → List (List ℕ) → Data → Result (List ℕ) DocFault
-value_at at done d = new_name_at own_name done at d
-
-abbrev pub factor_at : List ℕ → List Factor → Data → Result Factor DocFault
-factor_at at done d =
+abbrev pub read_factor : List ℕ → List Factor → Data → Result Factor DocFault
+read_factor at done d =
     chain (object_at at d) (λ (_ : ⊤).
     chain (needed (codes "name") at d) (λ (name : Data).
     chain (needed (codes "values") at d) (λ (values : Data).
     chain (no_more_than 2 at d) (λ (_ : ⊤).
-    chain (new_name_at factor_name done (member_path at (codes "name")) name) (λ (name : List ℕ).
-    chain (elements_at value_at 2 4 (member_path at (codes "values")) values) (λ (values : List (List ℕ)).
+    chain (read_new_name name_of_factor done (member_path at (codes "name")) name) (λ (name : List ℕ).
+    chain (elements_at read_value_name 2 4 (member_path at (codes "values")) values) (λ (values : List (List ℕ)).
     Ok (record { name = name; values = values })))))))
 
-abbrev pub factors_at : List ℕ → Data → Result (List Factor) DocFault
-factors_at at d = elements_at factor_at 0 6 at d
+abbrev pub read_factors : List ℕ → Data → Result (List Factor) DocFault
+read_factors at d = elements_at read_factor 0 6 at d

@@ -18,21 +18,18 @@ use Rattle.scram_types.specs.Numbers.{minus}
 use Rattle.app_model.specs.Names.{variable_names, number_in}
 use Rattle.reconf_spec.specs.declared.intervals.Ends.{Ends}
 use Rattle.reconf_spec.specs.declared.intervals.Interval.{Interval}
-use Rattle.reconf_spec.specs.Names.{found}
-use Rattle.reconf_spec.specs.Processors.{proc_name}
-use Rattle.reconf_spec.specs.Applications.{app_name}
-use Rattle.reconf_spec.specs.Configurations.{conf_name}
-use Rattle.reconf_spec.specs.Factors.{factor_name, own_name}
-use Rattle.reconf_spec.specs.Needs.{has_app}
-use Rattle.reconf_spec.specs.Choices.{has_factor}
-
--- Each element keeps a fact with the elements before it.
-abbrev pub AllAfter : {A : Type 0} → (List A → A → Type 0) → List A → Type 0
-AllAfter {A} Fact xs = (i : ℕ) (x : A) → slice_get xs i ≡ Some x → Fact (take i xs) x
+use Rattle.scram_doc.specs.Lists.{AllAfter}
+use Rattle.reconf_spec.specs.Processors.{name_of_proc}
+use Rattle.reconf_spec.specs.Applications.{name_of_app}
+use Rattle.reconf_spec.specs.Configurations.{name_of_conf}
+use Rattle.reconf_spec.specs.Factors.{name_of_factor}
+use Rattle.scram_doc.specs.Numbering.{itself, place_named}
+use Rattle.dep_order.specs.Timetables.{is_named}
+use Rattle.reconf_spec.specs.Choices.{wants_factor}
 
 -- A text is a name, which no item has yet.
 pub record IsFresh {A : Type 0} (name : A → List ℕ) (items : List A) (text : List ℕ) : Type 0 where
-  pub new : found name items text ≡ None
+  pub new : place_named name items text ≡ None
   pub spelled : IsTrue (is_name text)
 
 -- A number is what some text is found to be.
@@ -41,7 +38,7 @@ pub record IsListed (find : List ℕ → Option ℕ) (number : ℕ) : Type 0 whe
   pub there : find text ≡ Some number
 
 pub record IsNewProc (done : List Proc) (proc : Proc) : Type 0 where
-  pub name : IsFresh proc_name done proc.name
+  pub name : IsFresh name_of_proc done proc.name
   pub is : IsProc proc
 
 pub record IsNewMode (kind : ℕ) (done : List ModeSpec) (mode : ModeSpec) : Type 0 where
@@ -49,22 +46,22 @@ pub record IsNewMode (kind : ℕ) (done : List ModeSpec) (mode : ModeSpec) : Typ
   pub is : kind < 5 → IsModeSpec kind mode
 
 pub record IsNewApp (done : List AppSpec) (app : AppSpec) : Type 0 where
-  pub name : IsFresh app_name done app.name
+  pub name : IsFresh name_of_app done app.name
   pub kind : app.kind.0 < 5
   pub count : HasLength 1 3 app.modes
   pub modes : AllAfter (IsNewMode app.kind.0) app.modes
 
 abbrev pub IsNewName : List (List ℕ) → List ℕ → Type 0
-IsNewName done name = IsFresh own_name done name
+IsNewName done name = IsFresh itself done name
 
 pub record IsNewFactor (done : List Factor) (factor : Factor) : Type 0 where
-  pub name : IsFresh factor_name done factor.name
+  pub name : IsFresh name_of_factor done factor.name
   pub count : HasLength 2 4 factor.values
   pub values : AllAfter IsNewName factor.values
 
 -- an application that does not yet stand among the needs
 pub record IsNewNeed (apps : List AppSpec) (done : List AppId) (need : AppId) : Type 0 where
-  pub new : has_app done need.0 ≡ false
+  pub new : is_named done need.0 ≡ false
   pub there : need.0 < length apps
 
 pub record AreNeeds (apps : List AppSpec) (needs : List AppId) : Type 0 where
@@ -91,12 +88,12 @@ abbrev pub ArePlaces : List Proc → List AppSpec → List (Option Place) → Ty
 ArePlaces procs apps places = (a : ℕ) (place : Place) → placed places a ≡ Some place → IsPlace procs apps a place
 
 pub record IsNewConf (procs : List Proc) (apps : List AppSpec) (done : List Conf) (conf : Conf) : Type 0 where
-  pub name : IsFresh conf_name done conf.name
+  pub name : IsFresh name_of_conf done conf.name
   pub width : length conf.places ≡ 8
   pub places : ArePlaces procs apps conf.places
 
 pub record IsNewWant (factors : List Factor) (done : List Want) (want : Want) : Type 0 where
-  pub new : has_factor done want.factor.0 ≡ false
+  pub new : wants_factor done want.factor.0 ≡ false
   pub is : IsWant factors want
 
 pub record FitsChoice (procs : List Proc) (confs : List Conf) (factors : List Factor) (rule : Choice) : Type 0 where

@@ -18,41 +18,41 @@ use Rattle.scram_doc.specs.Values.{text_at, int_at}
 use Rattle.reconf_spec.specs.declared.rule.TheConstants.{UNKNOWN_APPLICATION, UNKNOWN_VARIABLE, EMPTY_INTERVAL}
 use Rattle.reconf_spec.specs.declared.intervals.Ends.{Ends}
 use Rattle.reconf_spec.specs.declared.intervals.Interval.{Interval}
-use Rattle.reconf_spec.specs.Lists.{elements_at}
-use Rattle.reconf_spec.specs.Names.{named_at}
-use Rattle.reconf_spec.specs.Applications.{app_name}
-use Rattle.reconf_spec.specs.Choices.{conf_id_at, source_at}
+use Rattle.scram_doc.specs.Lists.{elements_at}
+use Rattle.reconf_spec.specs.Names.{read_named}
+use Rattle.reconf_spec.specs.Applications.{name_of_app}
+use Rattle.reconf_spec.specs.Choices.{read_conf_id, read_source}
 
-abbrev pub app_id_at : List AppSpec → List ℕ → Data → Result AppId DocFault
-app_id_at apps at d = ok_map (λ (a : ℕ). record { 0 = a }) (named_at app_name apps UNKNOWN_APPLICATION at d)
+abbrev pub read_app_id : List AppSpec → List ℕ → Data → Result AppId DocFault
+read_app_id apps at d = ok_map (λ (a : ℕ). record { 0 = a }) (read_named name_of_app apps UNKNOWN_APPLICATION at d)
 
 -- a variable of the application's kind
-abbrev pub variable_at : Option AppSpec → List ℕ → Data → Result ℕ DocFault
-variable_at None at d = broken UNKNOWN_VARIABLE at
-variable_at (Some app) at d =
+abbrev pub read_variable : Option AppSpec → List ℕ → Data → Result ℕ DocFault
+read_variable None at d = broken UNKNOWN_VARIABLE at
+read_variable (Some app) at d =
     chain (text_at at d) (λ (text : List ℕ). or_broken UNKNOWN_VARIABLE at (number_in (variable_names app.kind.0) text))
 
 -- an end of an interval
-abbrev pub end_at : List ℕ → Data → Result ℤ DocFault
-end_at at d = int_at (minus 1000000000) (pos 1000000000) at d
+abbrev pub read_end : List ℕ → Data → Result ℤ DocFault
+read_end at d = int_at (minus 1000000000) (pos 1000000000) at d
 
 -- the ends of the interval of an object at a path, by its members
-abbrev pub ends_at : List ℕ → Data → Data → Result Ends DocFault
-ends_at at least greatest =
-    chain (end_at (member_path at (codes "least")) least) (λ (low : ℤ).
-    chain (end_at (member_path at (codes "greatest")) greatest) (λ (high : ℤ).
+abbrev pub read_ends : List ℕ → Data → Data → Result Ends DocFault
+read_ends at least greatest =
+    chain (read_end (member_path at (codes "least")) least) (λ (low : ℤ).
+    chain (read_end (member_path at (codes "greatest")) greatest) (λ (high : ℤ).
     if int_le low high then Ok (record { least = low; greatest = high }) else broken EMPTY_INTERVAL (member_path at (codes "greatest"))))
 
 -- the interval of an object at a path, by its members
-abbrev pub interval_at : List AppSpec → List ℕ → Data → Data → Data → Data → Result Interval DocFault
-interval_at apps at app variable least greatest =
-    chain (app_id_at apps (member_path at (codes "app")) app) (λ (app : AppId).
-    chain (variable_at (slice_get apps app.0) (member_path at (codes "variable")) variable) (λ (variable : ℕ).
-    chain (ends_at at least greatest) (λ (ends : Ends).
+abbrev pub read_interval : List AppSpec → List ℕ → Data → Data → Data → Data → Result Interval DocFault
+read_interval apps at app variable least greatest =
+    chain (read_app_id apps (member_path at (codes "app")) app) (λ (app : AppId).
+    chain (read_variable (slice_get apps app.0) (member_path at (codes "variable")) variable) (λ (variable : ℕ).
+    chain (read_ends at least greatest) (λ (ends : Ends).
     Ok (record { app = app; variable = variable; ends = ends }))))
 
-abbrev pub invariant_at : List AppSpec → List Conf → List ℕ → List Invariant → Data → Result Invariant DocFault
-invariant_at apps confs at done d =
+abbrev pub read_invariant : List AppSpec → List Conf → List ℕ → List Invariant → Data → Result Invariant DocFault
+read_invariant apps confs at done d =
     chain (object_at at d) (λ (_ : ⊤).
     chain (needed (codes "from") at d) (λ (from : Data).
     chain (needed (codes "app") at d) (λ (app : Data).
@@ -60,15 +60,15 @@ invariant_at apps confs at done d =
     chain (needed (codes "least") at d) (λ (least : Data).
     chain (needed (codes "greatest") at d) (λ (greatest : Data).
     chain (no_more_than 5 at d) (λ (_ : ⊤).
-    chain (source_at confs (member_path at (codes "from")) from) (λ (from : Option ConfId).
-    chain (interval_at apps at app variable least greatest) (λ (i : Interval).
+    chain (read_source confs (member_path at (codes "from")) from) (λ (from : Option ConfId).
+    chain (read_interval apps at app variable least greatest) (λ (i : Interval).
     Ok (record { from = from; app = i.app; variable = i.variable; least = i.ends.least; greatest = i.ends.greatest }))))))))))
 
-abbrev pub invariants_at : List AppSpec → List Conf → List ℕ → Data → Result (List Invariant) DocFault
-invariants_at apps confs at d = elements_at (invariant_at apps confs) 0 64 at d
+abbrev pub read_invariants : List AppSpec → List Conf → List ℕ → Data → Result (List Invariant) DocFault
+read_invariants apps confs at d = elements_at (read_invariant apps confs) 0 64 at d
 
-abbrev pub precondition_at : List AppSpec → List Conf → List ℕ → List Precondition → Data → Result Precondition DocFault
-precondition_at apps confs at done d =
+abbrev pub read_precondition : List AppSpec → List Conf → List ℕ → List Precondition → Data → Result Precondition DocFault
+read_precondition apps confs at done d =
     chain (object_at at d) (λ (_ : ⊤).
     chain (needed (codes "configuration") at d) (λ (conf : Data).
     chain (needed (codes "app") at d) (λ (app : Data).
@@ -76,9 +76,9 @@ precondition_at apps confs at done d =
     chain (needed (codes "least") at d) (λ (least : Data).
     chain (needed (codes "greatest") at d) (λ (greatest : Data).
     chain (no_more_than 5 at d) (λ (_ : ⊤).
-    chain (conf_id_at confs (member_path at (codes "configuration")) conf) (λ (conf : ConfId).
-    chain (interval_at apps at app variable least greatest) (λ (i : Interval).
+    chain (read_conf_id confs (member_path at (codes "configuration")) conf) (λ (conf : ConfId).
+    chain (read_interval apps at app variable least greatest) (λ (i : Interval).
     Ok (record { conf = conf; app = i.app; variable = i.variable; least = i.ends.least; greatest = i.ends.greatest }))))))))))
 
-abbrev pub preconditions_at : List AppSpec → List Conf → List ℕ → Data → Result (List Precondition) DocFault
-preconditions_at apps confs at d = elements_at (precondition_at apps confs) 0 64 at d
+abbrev pub read_preconditions : List AppSpec → List Conf → List ℕ → Data → Result (List Precondition) DocFault
+read_preconditions apps confs at d = elements_at (read_precondition apps confs) 0 64 at d

@@ -8,19 +8,20 @@ use Rattle.scram_types.specs.Specification.{AreSpelled, HasLength, Each, NamesDi
 use Rattle.dep_order.specs.Ranks.{IsRanking}
 use Rattle.reconf_spec.specs.declared.documents.Assumption.{Assumption}
 use Rattle.reconf_spec.specs.declared.documents.Rest.{Rest}
-use Rattle.reconf_spec.specs.Applications.{app_name}
+use Rattle.reconf_spec.specs.Applications.{name_of_app}
 use Rattle.reconf_spec.specs.Writable.{IsWritableApp, rank_of}
-use Rattle.reconf_spec.specs.Facts.{AllAfter, IsNewProc, IsNewConf, IsNewFactor, FewValues, FitsChoice, IsNewBound, FitsInvariant, FitsPrecondition}
+use Rattle.scram_doc.specs.Lists.{AllAfter}
+use Rattle.reconf_spec.specs.Facts.{IsNewProc, IsNewConf, IsNewFactor, FewValues, FitsChoice, IsNewBound, FitsInvariant, FitsPrecondition}
 
 pub record AreApps (apps : List AppSpec) : Type 0 where
   pub count : HasLength 1 8 apps
-  pub differ : NamesDiffer app_name apps
+  pub differ : NamesDiffer name_of_app apps
   pub each : Each (IsAppSpec apps) apps
-  pub spelled : AreSpelled app_name apps
+  pub spelled : AreSpelled name_of_app apps
   pub writable : Each IsWritableApp apps
   pub ranks : IsRanking apps (map rank_of apps)
 
-pub record IsNamed (procs : List Proc) (apps : List AppSpec) (confs : List Conf) (factors : List Factor) : Type 0 where
+pub record AreNames (procs : List Proc) (apps : List AppSpec) (confs : List Conf) (factors : List Factor) : Type 0 where
   pub procs_count : HasLength 1 8 procs
   pub procs_fit : AllAfter IsNewProc procs
   pub apps_fit : AreApps apps

@@ -1,9 +1,10 @@
 pub mod Facts
 pub mod Kept
 pub mod Unranked
-pub mod Lists
 pub mod Names
 pub mod Members
+pub mod Found
+pub mod Versions
 pub mod Processors
 pub mod Applications
 pub mod Needs

@@ -11,26 +11,24 @@ use Rattle.scram_doc.specs.Paths.{member_path}
 use Rattle.scram_doc.specs.Members.{needed}
 use Rattle.scram_doc.specs.Values.{list_at}
 use Rattle.dep_order.specs.Ranks.{rank_after}
+use Rattle.dep_order.specs.Timetables.{is_named}
 use Rattle.reconf_spec.specs.declared.rule.TheConstants.{UNKNOWN_APPLICATION, TWICE_IN_LIST, CYCLE_OF_NEEDS}
-use Rattle.reconf_spec.specs.Lists.{elements_at, elements_from}
+use Rattle.scram_doc.specs.Lists.{elements_at, elements_from}
 use Rattle.reconf_spec.specs.Members.{member_in}
-use Rattle.reconf_spec.specs.Names.{named_at}
-use Rattle.reconf_spec.specs.Applications.{app_name, app_at}
-
-abbrev pub has_app : List AppId → ℕ → Bool
-has_app needs a = list_any (λ (needed : AppId). needed.0 == a) needs
+use Rattle.reconf_spec.specs.Names.{read_named}
+use Rattle.reconf_spec.specs.Applications.{name_of_app, read_app}
 
 -- an application that is not yet among the needs
-abbrev pub need_at : List AppSpec → List ℕ → List AppId → Data → Result AppId DocFault
-need_at apps at done d =
-    chain (named_at app_name apps UNKNOWN_APPLICATION at d) (λ (a : ℕ).
-    if has_app done a then broken TWICE_IN_LIST at else Ok (record { 0 = a }))
+abbrev pub read_need : List AppSpec → List ℕ → List AppId → Data → Result AppId DocFault
+read_need apps at done d =
+    chain (read_named name_of_app apps UNKNOWN_APPLICATION at d) (λ (a : ℕ).
+    if is_named done a then broken TWICE_IN_LIST at else Ok (record { 0 = a }))
 
 -- the needs of the application that stands at a path
-abbrev pub needs_at : List AppSpec → List ℕ → List (List AppId) → Data → Result (List AppId) DocFault
-needs_at apps at done d =
+abbrev pub read_needs : List AppSpec → List ℕ → List (List AppId) → Data → Result (List AppId) DocFault
+read_needs apps at done d =
     chain (needed (codes "needs") at d) (λ (needs : Data).
-    elements_at (need_at apps) 0 8 (member_path at (codes "needs")) needs)
+    elements_at (read_need apps) 0 8 (member_path at (codes "needs")) needs)
 
 -- the applications, in order, with their needs
 abbrev pub with_needs : List AppSpec → List (List AppId) → List AppSpec
@@ -61,13 +59,13 @@ abbrev pub ranked_at : List ℕ → List AppSpec → Result (List AppSpec) DocFa
 ranked_at at apps = if are_ranked apps then Ok (with_ranks apps (longest_chains 8 apps)) else broken CYCLE_OF_NEEDS at
 
 -- All applications are read first, and then the needs of each.
-abbrev pub unranked_at : List ℕ → Data → Result (List AppSpec) DocFault
-unranked_at at d =
+abbrev pub read_unranked : List ℕ → Data → Result (List AppSpec) DocFault
+read_unranked at d =
     chain (list_at 1 8 at d) (λ (ds : Items).
-    chain (elements_from app_at at 0 [] ds) (λ (apps : List AppSpec).
-    chain (elements_from (needs_at apps) at 0 [] ds) (λ (needs : List (List AppId)).
+    chain (elements_from read_app at 0 [] ds) (λ (apps : List AppSpec).
+    chain (elements_from (read_needs apps) at 0 [] ds) (λ (needs : List (List AppId)).
     Ok (with_needs apps needs))))
 
 abbrev pub apps_in : Data → Result (List AppSpec) DocFault
 apps_in d =
-    chain (member_in (codes "apps") unranked_at d) (λ (apps : List AppSpec). ranked_at (member_path [] (codes "apps")) apps)
+    chain (member_in (codes "apps") read_unranked d) (λ (apps : List AppSpec). ranked_at (member_path [] (codes "apps")) apps)

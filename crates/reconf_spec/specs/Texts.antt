@@ -24,45 +24,37 @@ use Rattle.scram_types.specs.declared.specification.Policy.{Policy}
 use Rattle.scram_types.specs.declared.specification.Policy.TheVariants.{Retarget, Settle}
 use Rattle.scram_types.specs.Specification.{Parts}
 use Rattle.app_model.specs.Names.{kind_names, mode_names, variable_names, name_in}
-use Rattle.reconf_spec.specs.Processors.{proc_name}
-use Rattle.reconf_spec.specs.Applications.{app_name}
-use Rattle.reconf_spec.specs.Configurations.{conf_name}
-use Rattle.reconf_spec.specs.Factors.{factor_name, own_name}
-use Rattle.reconf_spec.specs.Choices.{has_proc}
-
-abbrev pub count_data : ℕ → Data
-count_data n = number (unsigned n)
-
-abbrev pub integer_data : ℤ → Data
-integer_data n = number (of_integer n)
-
-abbrev pub list_data : {A : Type 0} → (A → Data) → List A → Data
-list_data f xs = array (items_of (map f xs))
+use Rattle.scram_doc.specs.Canonical.{count_data, integer_data, list_data}
+use Rattle.reconf_spec.specs.Processors.{name_of_proc}
+use Rattle.reconf_spec.specs.Applications.{name_of_app}
+use Rattle.reconf_spec.specs.Configurations.{name_of_conf}
+use Rattle.reconf_spec.specs.Factors.{name_of_factor}
+use Rattle.scram_doc.specs.Numbering.{itself}
+use Rattle.scram_types.specs.Bits.{has_bit}
 
 -- the name of the item of this number
 abbrev pub name_of_item : {A : Type 0} → (A → List ℕ) → List A → ℕ → List ℕ
 name_of_item name xs n = option_map_or name (slice_get xs n) []
 
--- what has no name is spelled by no byte
-abbrev pub spelled : Option (List ℕ) → List ℕ
-spelled None = []
-spelled (Some name) = name
+-- no bytes for what has no name
+abbrev pub name_or_nothing : Option (List ℕ) → List ℕ
+name_or_nothing name = option_map_or itself name []
 
-abbrev pub kind_text : ℕ → List ℕ
-kind_text kind = spelled (name_in kind_names kind)
+abbrev pub name_of_kind : ℕ → List ℕ
+name_of_kind kind = name_or_nothing (name_in kind_names kind)
 
-abbrev pub mode_text : ℕ → ℕ → List ℕ
-mode_text kind mode = spelled (name_in (mode_names kind) mode)
+abbrev pub name_of_mode : ℕ → ℕ → List ℕ
+name_of_mode kind mode = name_or_nothing (name_in (mode_names kind) mode)
 
-abbrev pub variable_of_kind : ℕ → ℕ → List ℕ
-variable_of_kind kind variable = spelled (name_in (variable_names kind) variable)
+abbrev pub name_of_kind_variable : ℕ → ℕ → List ℕ
+name_of_kind_variable kind variable = name_or_nothing (name_in (variable_names kind) variable)
 
 -- the name of a mode, and of a variable, of the kind of application a
-abbrev pub app_mode_text : List AppSpec → ℕ → ℕ → List ℕ
-app_mode_text apps a mode = option_map_or (λ (app : AppSpec). mode_text app.kind.0 mode) (slice_get apps a) []
+abbrev pub name_of_app_mode : List AppSpec → ℕ → ℕ → List ℕ
+name_of_app_mode apps a mode = option_map_or (λ (app : AppSpec). name_of_mode app.kind.0 mode) (slice_get apps a) []
 
-abbrev pub variable_text : List AppSpec → ℕ → ℕ → List ℕ
-variable_text apps a variable = option_map_or (λ (app : AppSpec). variable_of_kind app.kind.0 variable) (slice_get apps a) []
+abbrev pub name_of_variable : List AppSpec → ℕ → ℕ → List ℕ
+name_of_variable apps a variable = option_map_or (λ (app : AppSpec). name_of_kind_variable app.kind.0 variable) (slice_get apps a) []
 
 abbrev pub proc_data : Proc → Data
 proc_data proc = object (member (codes "capacity") (count_data proc.capacity) (member (codes "name") (string proc.name) no_members))
@@ -72,24 +64,24 @@ mode_data kind listed = object (
     member (codes "halt") (count_data listed.halt) (
     member (codes "init") (count_data listed.init) (
     member (codes "load") (count_data listed.load) (
-    member (codes "mode") (string (mode_text kind listed.mode.0)) (
+    member (codes "mode") (string (name_of_mode kind listed.mode.0)) (
     member (codes "prepare") (count_data listed.prepare) no_members)))))
 
 abbrev pub need_data : List AppSpec → AppId → Data
-need_data apps need = string (name_of_item app_name apps need.0)
+need_data apps need = string (name_of_item name_of_app apps need.0)
 
 abbrev pub app_data : List AppSpec → AppSpec → Data
 app_data apps app = object (
-    member (codes "kind") (string (kind_text app.kind.0)) (
+    member (codes "kind") (string (name_of_kind app.kind.0)) (
     member (codes "modes") (list_data (mode_data app.kind.0) app.modes) (
     member (codes "name") (string app.name) (
     member (codes "needs") (list_data (need_data apps) app.needs) no_members))))
 
 abbrev pub place_data : Parts → ℕ → Place → Data
 place_data spec a place = object (
-    member (codes "app") (string (name_of_item app_name spec.apps a)) (
-    member (codes "mode") (string (app_mode_text spec.apps a place.mode.0)) (
-    member (codes "on") (string (name_of_item proc_name spec.procs place.proc.0)) no_members)))
+    member (codes "app") (string (name_of_item name_of_app spec.apps a)) (
+    member (codes "mode") (string (name_of_app_mode spec.apps a place.mode.0)) (
+    member (codes "on") (string (name_of_item name_of_proc spec.procs place.proc.0)) no_members)))
 
 -- the places that are given, in the order of applications
 abbrev pub places_data : Parts → ℕ → List (Option Place) → List Data
@@ -107,54 +99,54 @@ factor_data factor = object (
     member (codes "name") (string factor.name) (
     member (codes "values") (list_data (λ (name : List ℕ). string name) factor.values) no_members))
 
-abbrev pub source_text : List Conf → Option ConfId → List ℕ
-source_text confs None = codes "*"
-source_text confs (Some c) = name_of_item conf_name confs c.0
+abbrev pub source_name : List Conf → Option ConfId → List ℕ
+source_name confs None = codes "*"
+source_name confs (Some c) = name_of_item name_of_conf confs c.0
 
-abbrev pub value_text : List Factor → ℕ → ℕ → List ℕ
-value_text factors f value = option_map_or (λ (factor : Factor). name_of_item own_name factor.values value) (slice_get factors f) []
+abbrev pub name_of_value : List Factor → ℕ → ℕ → List ℕ
+name_of_value factors f value = option_map_or (λ (factor : Factor). name_of_item itself factor.values value) (slice_get factors f) []
 
 abbrev pub want_data : List Factor → Want → Data
 want_data factors want = object (
-    member (codes "factor") (string (name_of_item factor_name factors want.factor.0)) (
-    member (codes "value") (string (value_text factors want.factor.0 want.value)) no_members))
+    member (codes "factor") (string (name_of_item name_of_factor factors want.factor.0)) (
+    member (codes "value") (string (name_of_value factors want.factor.0 want.value)) no_members))
 
 -- the names of the processors of a set, in order
 abbrev pub up_data : ℕ → ℕ → List Proc → List Data
 up_data set p [] = []
-up_data set p (proc ∷ procs) = if has_proc set p then string proc.name ∷ up_data set (suc p) procs else up_data set (suc p) procs
+up_data set p (proc ∷ procs) = if has_bit set p then string proc.name ∷ up_data set (suc p) procs else up_data set (suc p) procs
 
 abbrev pub choice_data : Parts → Choice → Data
 choice_data spec rule = object (
-    member (codes "from") (string (source_text spec.confs rule.from)) (
-    member (codes "to") (string (name_of_item conf_name spec.confs rule.to.0)) (
+    member (codes "from") (string (source_name spec.confs rule.from)) (
+    member (codes "to") (string (name_of_item name_of_conf spec.confs rule.to.0)) (
     member (codes "up") (array (items_of (up_data rule.up 0 spec.procs))) (
     member (codes "when") (list_data (want_data spec.factors) rule.wants) no_members))))
 
 abbrev pub bound_data : List Conf → Bound → Data
 bound_data confs bound = object (
     member (codes "frames") (count_data bound.frames) (
-    member (codes "from") (string (name_of_item conf_name confs bound.from.0)) (
-    member (codes "to") (string (name_of_item conf_name confs bound.to.0)) no_members)))
+    member (codes "from") (string (name_of_item name_of_conf confs bound.from.0)) (
+    member (codes "to") (string (name_of_item name_of_conf confs bound.to.0)) no_members)))
 
 abbrev pub goal_data : Goal → Data
 goal_data goal = object (member (codes "altitude") (integer_data goal.altitude) (member (codes "heading") (integer_data goal.heading) no_members))
 
 abbrev pub invariant_data : Parts → Invariant → Data
 invariant_data spec inv = object (
-    member (codes "app") (string (name_of_item app_name spec.apps inv.app.0)) (
-    member (codes "from") (string (source_text spec.confs inv.from)) (
+    member (codes "app") (string (name_of_item name_of_app spec.apps inv.app.0)) (
+    member (codes "from") (string (source_name spec.confs inv.from)) (
     member (codes "greatest") (integer_data inv.greatest) (
     member (codes "least") (integer_data inv.least) (
-    member (codes "variable") (string (variable_text spec.apps inv.app.0 inv.variable)) no_members)))))
+    member (codes "variable") (string (name_of_variable spec.apps inv.app.0 inv.variable)) no_members)))))
 
 abbrev pub precondition_data : Parts → Precondition → Data
 precondition_data spec pre = object (
-    member (codes "app") (string (name_of_item app_name spec.apps pre.app.0)) (
-    member (codes "configuration") (string (name_of_item conf_name spec.confs pre.conf.0)) (
+    member (codes "app") (string (name_of_item name_of_app spec.apps pre.app.0)) (
+    member (codes "configuration") (string (name_of_item name_of_conf spec.confs pre.conf.0)) (
     member (codes "greatest") (integer_data pre.greatest) (
     member (codes "least") (integer_data pre.least) (
-    member (codes "variable") (string (variable_text spec.apps pre.app.0 pre.variable)) no_members)))))
+    member (codes "variable") (string (name_of_variable spec.apps pre.app.0 pre.variable)) no_members)))))
 
 abbrev pub assumption_data : Parts → Data
 assumption_data spec = object (
@@ -163,10 +155,10 @@ assumption_data spec = object (
     member (codes "window") (count_data spec.window) no_members)))
 
 abbrev pub start_data : Parts → Data
-start_data spec = string (name_of_item conf_name spec.confs spec.start.0)
+start_data spec = string (name_of_item name_of_conf spec.confs spec.start.0)
 
-abbrev pub first_data : Parts → Data
-first_data spec = object (
+abbrev pub retarget_data : Parts → Data
+retarget_data spec = object (
     member (codes "apps") (list_data (app_data spec.apps) spec.apps) (
     member (codes "assumption") (assumption_data spec) (
     member (codes "bounds") (list_data (bound_data spec.confs) spec.bounds) (
@@ -180,8 +172,8 @@ first_data spec = object (
     member (codes "scram") (count_data 1) (
     member (codes "start") (start_data spec) no_members))))))))))))
 
-abbrev pub second_data : Parts → Data
-second_data spec = object (
+abbrev pub settle_data : Parts → Data
+settle_data spec = object (
     member (codes "apps") (list_data (app_data spec.apps) spec.apps) (
     member (codes "assumption") (assumption_data spec) (
     member (codes "bounds") (list_data (bound_data spec.confs) spec.bounds) (
@@ -198,8 +190,8 @@ second_data spec = object (
 
 -- the first version where the policy is to retarget, and else the second
 abbrev pub data_by : Policy → Parts → Data
-data_by Retarget spec = first_data spec
-data_by Settle spec = second_data spec
+data_by Retarget spec = retarget_data spec
+data_by Settle spec = settle_data spec
 
 abbrev pub spec_data : Parts → Data
 spec_data spec = data_by spec.policy spec

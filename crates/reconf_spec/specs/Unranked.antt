@@ -4,7 +4,7 @@ use Rattle.scram_types.specs.declared.ids.AppId.{AppId}
 use Rattle.scram_types.specs.declared.specification.AppSpec.{AppSpec}
 use Rattle.scram_types.specs.Names.{is_name}
 use Rattle.scram_types.specs.Specification.{HasLength, Each, NamesDiffer, IsModeSpec}
-use Rattle.reconf_spec.specs.Applications.{app_name}
+use Rattle.reconf_spec.specs.Applications.{name_of_app}
 use Rattle.reconf_spec.specs.Writable.{IsWritableApp}
 
 -- an application whose needs are not ranked yet, among so many applications
@@ -19,5 +19,5 @@ pub record IsUnranked (count : ℕ) (app : AppSpec) : Type 0 where
 
 pub record AreUnranked (apps : List AppSpec) : Type 0 where
   pub count : HasLength 1 8 apps
-  pub differ : NamesDiffer app_name apps
+  pub differ : NamesDiffer name_of_app apps
   pub each : Each (IsUnranked (length apps)) apps

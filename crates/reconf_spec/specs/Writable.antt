@@ -10,9 +10,10 @@ use Rattle.scram_types.specs.declared.specification.Invariant.{Invariant}
 use Rattle.scram_types.specs.declared.specification.Precondition.{Precondition}
 use Rattle.scram_types.specs.Specification.{Parts, Each, bound_in, mode_in}
 use Rattle.dep_order.specs.Ranks.{IsRanking}
-use Rattle.reconf_spec.specs.Needs.{has_app}
-use Rattle.reconf_spec.specs.Choices.{has_factor}
-use Rattle.reconf_spec.specs.Facts.{AllAfter, IsVariable}
+use Rattle.dep_order.specs.Timetables.{is_named}
+use Rattle.reconf_spec.specs.Choices.{wants_factor}
+use Rattle.scram_doc.specs.Lists.{AllAfter}
+use Rattle.reconf_spec.specs.Facts.{IsVariable}
 
 -- No element stands among those before it.
 abbrev pub NoneAgain : {A : Type 0} → (List A → A → Bool) → List A → Type 0
@@ -22,10 +23,10 @@ abbrev pub lists_mode : List ModeSpec → ModeSpec → Bool
 lists_mode done listed = is_some (mode_in done listed.mode.0)
 
 abbrev pub lists_need : List AppId → AppId → Bool
-lists_need done need = has_app done need.0
+lists_need done need = is_named done need.0
 
 abbrev pub lists_want : List Want → Want → Bool
-lists_want done want = has_factor done want.factor.0
+lists_want done want = wants_factor done want.factor.0
 
 abbrev pub lists_pair : List Bound → Bound → Bool
 lists_pair done bound = is_some (bound_in done bound.from.0 bound.to.0)

@@ -6,16 +6,17 @@ ghost use Rattle.app_model.specs.Names.{mode_names, number_in};
 ghost use Rattle.scram_types.specs.Specification.{mode_in};
 ghost use Rattle.scram_doc.specs.Chain.{ok_map};
 ghost use Rattle.scram_doc.specs.Faults.{Answers};
-ghost use Rattle.reconf_spec.specs.Lists.{folded_from};
-ghost use Rattle.reconf_spec.specs.Applications.{kind_mode_at, new_mode_at, phase_at, mode_at, modes_at, kind_at, text_after, texts_at, app_at};
-ghost use Rattle.reconf_spec.specs.Facts.{AllAfter, IsListed, IsNewMode, IsNewApp};
+ghost use Rattle.scram_doc.specs.Lists.{folded_from, AllAfter};
+ghost use Rattle.reconf_spec.specs.Applications.{read_kind_mode, read_new_mode, read_phase, read_mode, read_modes, read_kind, check_text, check_text_list, read_app};
+ghost use Rattle.reconf_spec.specs.Facts.{IsListed, IsNewMode, IsNewApp};
 
-use crate::elements::{Elements, read_list};
-use crate::names::read_new_name;
-use crate::numbered::{NamedElements, Numbered};
+use crate::names::{ByName, read_new_name};
 use crate::rule;
 use app_model::{kind_named, mode_named};
-use scram_doc::{DocError, DocFault, Path, list, need, no_more, object, text, whole_in};
+use scram_doc::{
+    DocError, DocFault, Elements, NamedElements, Numbered, Path, list, need, no_more, object,
+    read_list, text, whole_in,
+};
 use scram_types::limits::{MAX_LOAD, MAX_MODES, MAX_PHASE};
 use scram_types::{AppSpec, KindId, List, Mode, ModeSpec};
 use serde_json::Value;
@@ -23,7 +24,7 @@ use std::alloc::Global;
 
 /// The mode of the kind that the value names.
 pub(crate) fn read_kind_mode(kind: KindId, v: &Value, at: &Path) -> Result<Mode, DocFault>
-    ensures value { ok_map (λ mode. mode.0) result ≡ kind_mode_at kind.0 at.now (view v.now) }
+    ensures value { ok_map (λ mode. mode.0) result ≡ read_kind_mode kind.0 at.now (view v.now) }
     ensures of_kind { IfOk result (λ mode. IsListed (number_in (mode_names kind.0)) mode.0) }
 {
     mode_named(kind, text(v, at)?).ok_or_else(|| DocFault::new(rule::UNKNOWN_MODE, at))
@@ -41,7 +42,7 @@ fn is_listed(modes: &[ModeSpec], mode: Mode) -> bool
 }
 
 fn read_new_mode(kind: KindId, done: &[ModeSpec], v: &Value, at: &Path) -> Result<Mode, DocFault>
-    ensures value { ok_map (λ mode. mode.0) result ≡ new_mode_at kind.0 done.now at.now (view v.now) }
+    ensures value { ok_map (λ mode. mode.0) result ≡ read_new_mode kind.0 done.now at.now (view v.now) }
     ensures of_kind { IfOk result (λ mode. IsListed (number_in (mode_names kind.0)) mode.0) }
     ensures new { IfOk result (λ mode. mode_in done.now mode.0 ≡ None) }
 {
@@ -54,7 +55,7 @@ fn read_new_mode(kind: KindId, done: &[ModeSpec], v: &Value, at: &Path) -> Resul
 }
 
 fn read_phase(v: &Value, at: &Path) -> Result<u8, DocFault>
-    ensures value { result ≡ phase_at at.now (view v.now) }
+    ensures value { result ≡ read_phase at.now (view v.now) }
     ensures least { IfOk result (λ frames. 1 ≤ frames) }
     ensures most { IfOk result (λ frames. frames ≤ 16) }
 {
@@ -64,7 +65,7 @@ fn read_phase(v: &Value, at: &Path) -> Result<u8, DocFault>
 
 fn read_mode(kind: KindId, done: &[ModeSpec], v: &Value, at: &Path) -> Result<ModeSpec, DocFault>
     requires room { length at.now ≤ 40 }
-    ensures value { result ≡ mode_at kind.0 at.now done.now (view v.now) }
+    ensures value { result ≡ read_mode kind.0 at.now done.now (view v.now) }
     ensures fits { IfOk result (λ mode. IsNewMode kind.0 done.now mode) }
 {
     object(v, at)?;
@@ -96,7 +97,7 @@ struct Modes {
 impl Elements<ModeSpec> for Modes {
     ghost room = { 40 };
 
-    ghost reading = { λ modes. mode_at modes.kind.0 };
+    ghost reading = { λ modes. read_mode modes.kind.0 };
 
     ghost Fits = { λ modes. IsNewMode modes.kind.0 };
 
@@ -107,22 +108,22 @@ impl Elements<ModeSpec> for Modes {
         v: &Value,
         at: &Path,
     ) -> Result<ModeSpec, DocError> {
-        read_mode(self.kind, done, v, at).map_err(DocError::Fault)
+        Ok(read_mode(self.kind, done, v, at)?)
     }
 }
 
-fn read_modes(alloc: Global, kind: KindId, v: &Value, at: &Path) -> Result<List<ModeSpec>, DocError>
+fn read_modes(alloc: Global, kind: KindId, v: &Value, at: &Path) -> Result<Vec<ModeSpec>, DocError>
     requires room { length at.now ≤ 34 }
-    ensures value { Answers (modes_at kind.0 at.now (view v.now)) (λ l. l) result }
-    ensures least { IfOk result (λ l. 1 ≤ length l) }
-    ensures most { IfOk result (λ l. length l ≤ 3) }
-    ensures fits { IfOk result (λ l. AllAfter (IsNewMode kind.0) l) }
+    ensures value { Answers (read_modes kind.0 at.now (view v.now)) (λ l. l.items) result }
+    ensures least { IfOk result (λ l. 1 ≤ length l.items) }
+    ensures most { IfOk result (λ l. length l.items ≤ 3) }
+    ensures fits { IfOk result (λ l. AllAfter (IsNewMode kind.0) l.items) }
 {
     read_list(alloc, &Modes { kind }, v, 1, MAX_MODES, at)
 }
 
 fn read_kind(v: &Value, at: &Path) -> Result<KindId, DocFault>
-    ensures value { ok_map (λ kind. kind.0) result ≡ kind_at at.now (view v.now) }
+    ensures value { ok_map (λ kind. kind.0) result ≡ read_kind at.now (view v.now) }
     ensures built { IfOk result (λ kind. kind.0 < 5) }
 {
     kind_named(text(v, at)?).ok_or_else(|| DocFault::new(rule::UNKNOWN_KIND, at))
@@ -131,7 +132,7 @@ fn read_kind(v: &Value, at: &Path) -> Result<KindId, DocFault>
 fn check_texts(items: &[Value], at: &Path) -> Result<(), DocFault>
     requires room { length at.now ≤ 40 }
     requires few { length items.now ≤ 8 }
-    ensures { result ≡ folded_from text_after at.now 0 tt (items_view items.now) }
+    ensures { result ≡ folded_from check_text at.now 0 tt (items_view items.now) }
 {
     for (i, v) in items.iter().enumerate() {
         text(v, &at.item(i))?;
@@ -142,36 +143,36 @@ fn check_texts(items: &[Value], at: &Path) -> Result<(), DocFault>
 /// Tests that the value is a list of 0 to 8 texts.
 fn check_text_list(v: &Value, at: &Path) -> Result<(), DocFault>
     requires room { length at.now ≤ 40 }
-    ensures { result ≡ texts_at at.now (view v.now) }
+    ensures { result ≡ check_text_list at.now (view v.now) }
 {
     check_texts(list(v, 0, 8, at)?, at)
 }
 
 fn read_app(
     alloc: Global,
-    done: &Numbered<AppSpec>,
+    done: &Numbered<AppSpec, ByName>,
     v: &Value,
     at: &Path,
 ) -> Result<AppSpec, DocError>
     requires room { length at.now ≤ 24 }
-    ensures value { Answers (app_at at.now done.now (view v.now)) (λ app. app) result }
+    ensures value { Answers (read_app at.now done.now (view v.now)) (λ app. app) result }
     ensures fits { IfOk result (λ app. IsNewApp done.now app) }
 {
-    object(v, at).map_err(DocError::Fault)?;
-    let name = need(v, "name", at).map_err(DocError::Fault)?;
-    let kind = need(v, "kind", at).map_err(DocError::Fault)?;
-    let needs = need(v, "needs", at).map_err(DocError::Fault)?;
-    let modes = need(v, "modes", at).map_err(DocError::Fault)?;
-    no_more(v, 4, at).map_err(DocError::Fault)?;
-    let name = read_new_name(done, name, &at.member("name")).map_err(DocError::Fault)?;
-    let kind = read_kind(kind, &at.member("kind")).map_err(DocError::Fault)?;
-    check_text_list(needs, &at.member("needs")).map_err(DocError::Fault)?;
+    object(v, at)?;
+    let name = need(v, "name", at)?;
+    let kind = need(v, "kind", at)?;
+    let needs = need(v, "needs", at)?;
+    let modes = need(v, "modes", at)?;
+    no_more(v, 4, at)?;
+    let name = read_new_name(done, name, &at.member("name"))?;
+    let kind = read_kind(kind, &at.member("kind"))?;
+    check_text_list(needs, &at.member("needs"))?;
     let modes = read_modes(alloc, kind, modes, &at.member("modes"))?;
     Ok(AppSpec {
         name,
         kind,
         needs: List::of(Vec::new(alloc)),
-        modes,
+        modes: List::of(modes),
         rank: 0,
     })
 }
@@ -179,10 +180,10 @@ fn read_app(
 /// Applications, without their needs and their ranks.
 pub(crate) struct Apps;
 
-impl NamedElements<AppSpec> for Apps {
+impl NamedElements<AppSpec, ByName> for Apps {
     ghost room = { 24 };
 
-    ghost reading = { λ _. app_at };
+    ghost reading = { λ _. read_app };
 
     ghost Fits = { λ _. IsNewApp };
 
@@ -191,7 +192,7 @@ impl NamedElements<AppSpec> for Apps {
     fn read(
         &self,
         alloc: Global,
-        done: &Numbered<AppSpec>,
+        done: &Numbered<AppSpec, ByName>,
         v: &Value,
         at: &Path,
     ) -> Result<AppSpec, DocError> {

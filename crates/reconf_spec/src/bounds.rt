@@ -4,18 +4,22 @@ ghost use Rattle.std.specs.Prelude.{◌≡◌, ◌≤◌, None, codes, length, i
 ghost use Rattle.serde_json.specs.View.{view};
 ghost use Rattle.scram_types.specs.Specification.{IsIn, bound_in};
 ghost use Rattle.scram_doc.specs.Faults.{Answers};
-ghost use Rattle.reconf_spec.specs.Bounds.{new_target_at, bound_at, bounds_at};
+ghost use Rattle.reconf_spec.specs.Bounds.{read_new_target, read_bound, read_bounds};
 ghost use Rattle.reconf_spec.specs.Members.{member_in};
-ghost use Rattle.reconf_spec.specs.Facts.{AllAfter, IsNewBound};
+ghost use Rattle.scram_doc.specs.Lists.{AllAfter};
+ghost use Rattle.reconf_spec.specs.Facts.{IsNewBound};
+ghost use Rattle.reconf_spec.specs.Found.{AreMembers};
 
 use crate::choices::read_conf_id;
-use crate::elements::{Elements, read_list};
-use crate::named::Named;
-use crate::numbered::Numbered;
+use crate::members::Members;
+use crate::names::ByName;
 use crate::rule;
-use scram_doc::{DocError, DocFault, Path, need, no_more, object, whole_in};
+use crate::vocabulary::Vocabulary;
+use scram_doc::{
+    DocError, DocFault, Elements, Numbered, Path, need, no_more, object, read_list, whole_in,
+};
 use scram_types::limits::{MAX_BOUND, MAX_BOUNDS};
-use scram_types::{Bound, Conf, ConfId, List};
+use scram_types::{Bound, Conf, ConfId};
 use serde_json::Value;
 use std::alloc::Global;
 
@@ -31,14 +35,14 @@ fn is_bounded(bounds: &[Bound], from: ConfId, to: ConfId) -> bool
 }
 
 fn read_new_target(
-    confs: &Numbered<Conf>,
+    confs: &Numbered<Conf, ByName>,
     done: &[Bound],
     from: ConfId,
     v: &Value,
     at: &Path,
 ) -> Result<ConfId, DocFault>
     requires few { length confs.now ≤ 12 }
-    ensures value { result ≡ new_target_at confs.now done.now from at.now (view v.now) }
+    ensures value { result ≡ read_new_target confs.now done.now from at.now (view v.now) }
     ensures there { IfOk result (λ to. IsIn confs.now to) }
     ensures new { IfOk result (λ to. bound_in done.now from.0 to.0 ≡ None) }
 {
@@ -50,17 +54,22 @@ fn read_new_target(
     }
 }
 
-fn read_bound(named: &Named, done: &[Bound], v: &Value, at: &Path) -> Result<Bound, DocFault>
+fn read_bound(
+    vocabulary: &Vocabulary,
+    done: &[Bound],
+    v: &Value,
+    at: &Path,
+) -> Result<Bound, DocFault>
     requires room { length at.now ≤ 40 }
-    ensures value { result ≡ bound_at named.now.confs at.now done.now (view v.now) }
-    ensures fits { IfOk result (λ bound. IsNewBound named.now.confs done.now bound) }
+    ensures value { result ≡ read_bound vocabulary.now.confs at.now done.now (view v.now) }
+    ensures fits { IfOk result (λ bound. IsNewBound vocabulary.now.confs done.now bound) }
 {
     object(v, at)?;
     let from = need(v, "from", at)?;
     let to = need(v, "to", at)?;
     let frames = need(v, "frames", at)?;
     no_more(v, 3, at)?;
-    let confs = &named.confs;
+    let confs = &vocabulary.confs;
     let from = read_conf_id(confs, from, &at.member("from"))?;
     let to = read_new_target(confs, done, from, to, &at.member("to"))?;
     let frames = whole_in(frames, 1, MAX_BOUND + 1, &at.member("frames"))?;
@@ -69,15 +78,15 @@ fn read_bound(named: &Named, done: &[Bound], v: &Value, at: &Path) -> Result<Bou
 
 #[derive(Clone, Copy)]
 struct Bounds<'a> {
-    named: &'a Named,
+    vocabulary: &'a Vocabulary,
 }
 
 impl Elements<Bound> for Bounds<'_> {
     ghost room = { 40 };
 
-    ghost reading = { λ bounds. bound_at bounds.named.now.confs };
+    ghost reading = { λ bounds. read_bound bounds.vocabulary.now.confs };
 
-    ghost Fits = { λ bounds. IsNewBound bounds.named.now.confs };
+    ghost Fits = { λ bounds. IsNewBound bounds.vocabulary.now.confs };
 
     fn read(
         &self,
@@ -86,28 +95,28 @@ impl Elements<Bound> for Bounds<'_> {
         v: &Value,
         at: &Path,
     ) -> Result<Bound, DocError> {
-        read_bound(self.named, done, v, at).map_err(DocError::Fault)
+        Ok(read_bound(self.vocabulary, done, v, at)?)
     }
 }
 
 /// The bounds of a document, 0 to 144 of them.
 pub(crate) fn read_bounds(
     alloc: Global,
-    named: &Named,
-    document: &Value,
-) -> Result<List<Bound>, DocError>
-    ensures value { Answers (member_in (codes "bounds") (bounds_at named.now.confs) (view document.now)) (λ l. l) result }
-    ensures few { IfOk result (λ l. length l ≤ 144) }
-    ensures fits { IfOk result (λ l. AllAfter (IsNewBound named.now.confs) l) }
+    vocabulary: &Vocabulary,
+    members: &Members<'_>,
+) -> Result<Vec<Bound>, DocError>
+    requires members { AreMembers members.now }
+    ensures value { Answers (member_in (codes "bounds") (read_bounds vocabulary.now.confs) (view members.now.document.now)) (λ l. l.items) result }
+    ensures few { IfOk result (λ l. length l.items ≤ 144) }
+    ensures fits { IfOk result (λ l. AllAfter (IsNewBound vocabulary.now.confs) l.items) }
 {
-    let root = Path::root();
-    let bounds = need(document, "bounds", &root).map_err(DocError::Fault)?;
+    let at = Path::root().member("bounds");
     read_list(
         alloc,
-        &Bounds { named },
-        bounds,
+        &Bounds { vocabulary },
+        members.bounds,
         0,
         MAX_BOUNDS,
-        &root.member("bounds"),
+        &at,
     )
 }

@@ -5,16 +5,19 @@ ghost use Rattle.std.specs.Option.{option_copied};
 ghost use Rattle.serde_json.specs.View.{view, items_view};
 ghost use Rattle.scram_doc.specs.Chain.{ok_map};
 ghost use Rattle.scram_doc.specs.Faults.{Answers};
-ghost use Rattle.reconf_spec.specs.Lists.{folded_from};
-ghost use Rattle.reconf_spec.specs.Configurations.{is_placed, unplaced_at, listed_mode_at, places_after, conf_at, confs_at};
+ghost use Rattle.scram_doc.specs.Lists.{folded_from, AllAfter};
+ghost use Rattle.reconf_spec.specs.Configurations.{has_place, read_unplaced, read_listed_mode, read_place, read_conf, read_confs};
 ghost use Rattle.reconf_spec.specs.Members.{member_in};
-ghost use Rattle.reconf_spec.specs.Facts.{AllAfter, ListsMode, IsPlacedAfter, ArePlaces, IsNewConf};
+ghost use Rattle.reconf_spec.specs.Facts.{ListsMode, IsPlacedAfter, ArePlaces, IsNewConf};
+ghost use Rattle.reconf_spec.specs.Found.{AreMembers};
 
 use crate::applications::read_kind_mode;
-use crate::names::{read_named, read_new_name};
-use crate::numbered::{NamedElements, Numbered, read_named_list};
+use crate::members::Members;
+use crate::names::{ByName, read_named, read_new_name};
 use crate::rule;
-use scram_doc::{DocError, DocFault, Path, list, need, no_more, object};
+use scram_doc::{
+    DocError, DocFault, NamedElements, Numbered, Path, list, need, no_more, object, read_named_list,
+};
 use scram_types::limits::{MAX_APPLICATIONS, MAX_CONFIGURATIONS};
 use scram_types::{AppId, AppSpec, Conf, Mode, Place, Proc, ProcId};
 use serde_json::Value;
@@ -23,7 +26,7 @@ use std::alloc::Global;
 type Places = [Option<Place>; 8];
 
 fn has_place(places: &Places, app: AppId) -> bool
-    ensures { result ≡ is_placed places.now app.0 }
+    ensures { result ≡ has_place places.now app.0 }
 {
     match places.get(usize::from(app.0)) {
         Some(Some(_)) => true,
@@ -32,13 +35,13 @@ fn has_place(places: &Places, app: AppId) -> bool
 }
 
 fn read_unplaced(
-    apps: &Numbered<AppSpec>,
+    apps: &Numbered<AppSpec, ByName>,
     places: &Places,
     v: &Value,
     at: &Path,
 ) -> Result<AppId, DocFault>
     requires few { length apps.now ≤ 8 }
-    ensures value { ok_map (λ app. app.0) result ≡ unplaced_at apps.now places.now at.now (view v.now) }
+    ensures value { ok_map (λ app. app.0) result ≡ read_unplaced apps.now places.now at.now (view v.now) }
     ensures there { IfOk result (λ app. app.0 < length apps.now) }
 {
     let app = AppId(read_named(apps, rule::UNKNOWN_APPLICATION, v, at)?);
@@ -50,7 +53,7 @@ fn read_unplaced(
 }
 
 fn read_listed_mode(app: Option<&AppSpec>, v: &Value, at: &Path) -> Result<Mode, DocFault>
-    ensures value { ok_map (λ mode. mode.0) result ≡ listed_mode_at (option_copied app.entry) at.now (view v.now) }
+    ensures value { ok_map (λ mode. mode.0) result ≡ read_listed_mode (option_copied app.entry) at.now (view v.now) }
     ensures listed { IfOk result (λ mode. ListsMode (option_copied app.entry) mode.0) }
 {
     let Some(app) = app else {
@@ -65,8 +68,8 @@ fn read_listed_mode(app: Option<&AppSpec>, v: &Value, at: &Path) -> Result<Mode,
 
 /// The places with the one that the value adds.
 fn read_place(
-    procs: &Numbered<Proc>,
-    apps: &Numbered<AppSpec>,
+    procs: &Numbered<Proc, ByName>,
+    apps: &Numbered<AppSpec, ByName>,
     places: Places,
     v: &Value,
     at: &Path,
@@ -74,7 +77,7 @@ fn read_place(
     requires room { length at.now ≤ 40 }
     requires procs { length procs.now ≤ 8 }
     requires apps { length apps.now ≤ 8 }
-    ensures value { result ≡ places_after procs.now apps.now at.now places (view v.now) }
+    ensures value { result ≡ read_place procs.now apps.now at.now places (view v.now) }
     ensures fits { IfOk result (λ more. IsPlacedAfter procs.now apps.now places more) }
 {
     object(v, at)?;
@@ -95,8 +98,8 @@ fn read_place(
 }
 
 fn read_places(
-    procs: &Numbered<Proc>,
-    apps: &Numbered<AppSpec>,
+    procs: &Numbered<Proc, ByName>,
+    apps: &Numbered<AppSpec, ByName>,
     items: &[Value],
     at: &Path,
 ) -> Result<Places, DocFault>
@@ -104,7 +107,7 @@ fn read_places(
     requires few { length items.now ≤ 8 }
     requires procs { length procs.now ≤ 8 }
     requires apps { length apps.now ≤ 8 }
-    ensures value { result ≡ folded_from (places_after procs.now apps.now) at.now 0 (replicate 8 None) (items_view items.now) }
+    ensures value { result ≡ folded_from (read_place procs.now apps.now) at.now 0 (replicate 8 None) (items_view items.now) }
     ensures fits { IfOk result (λ places. ArePlaces procs.now apps.now places) }
 {
     let mut places = [None; 8];
@@ -115,16 +118,16 @@ fn read_places(
 }
 
 fn read_conf(
-    procs: &Numbered<Proc>,
-    apps: &Numbered<AppSpec>,
-    done: &Numbered<Conf>,
+    procs: &Numbered<Proc, ByName>,
+    apps: &Numbered<AppSpec, ByName>,
+    done: &Numbered<Conf, ByName>,
     v: &Value,
     at: &Path,
 ) -> Result<Conf, DocFault>
     requires room { length at.now ≤ 24 }
     requires procs { length procs.now ≤ 8 }
     requires apps { length apps.now ≤ 8 }
-    ensures value { result ≡ conf_at procs.now apps.now at.now done.now (view v.now) }
+    ensures value { result ≡ read_conf procs.now apps.now at.now done.now (view v.now) }
     ensures fits { IfOk result (λ conf. IsNewConf procs.now apps.now done.now conf) }
 {
     object(v, at)?;
@@ -139,17 +142,17 @@ fn read_conf(
 
 #[derive(Clone, Copy)]
 struct Confs<'a> {
-    procs: &'a Numbered<Proc>,
-    apps: &'a Numbered<AppSpec>,
+    procs: &'a Numbered<Proc, ByName>,
+    apps: &'a Numbered<AppSpec, ByName>,
 
     ghost few_procs: { length procs.now ≤ 8 },
     ghost few_apps: { length apps.now ≤ 8 },
 }
 
-impl NamedElements<Conf> for Confs<'_> {
+impl NamedElements<Conf, ByName> for Confs<'_> {
     ghost room = { 24 };
 
-    ghost reading = { λ confs. conf_at confs.procs.now confs.apps.now };
+    ghost reading = { λ confs. read_conf confs.procs.now confs.apps.now };
 
     ghost Fits = { λ confs. IsNewConf confs.procs.now confs.apps.now };
 
@@ -158,35 +161,34 @@ impl NamedElements<Conf> for Confs<'_> {
     fn read(
         &self,
         _alloc: Global,
-        done: &Numbered<Conf>,
+        done: &Numbered<Conf, ByName>,
         v: &Value,
         at: &Path,
     ) -> Result<Conf, DocError> {
-        read_conf(self.procs, self.apps, done, v, at).map_err(DocError::Fault)
+        Ok(read_conf(self.procs, self.apps, done, v, at)?)
     }
 }
 
 /// The configurations of a document, 1 to 12 of them.
 pub(crate) fn read_confs(
     alloc: Global,
-    procs: &Numbered<Proc>,
-    apps: &Numbered<AppSpec>,
-    document: &Value,
-) -> Result<Numbered<Conf>, DocError>
+    procs: &Numbered<Proc, ByName>,
+    apps: &Numbered<AppSpec, ByName>,
+    members: &Members<'_>,
+) -> Result<Numbered<Conf, ByName>, DocError>
+    requires members { AreMembers members.now }
     requires procs { length procs.now ≤ 8 }
     requires apps { length apps.now ≤ 8 }
-    ensures value { Answers (member_in (codes "configurations") (confs_at procs.now apps.now) (view document.now)) (λ l. l) result }
+    ensures value { Answers (member_in (codes "configurations") (read_confs procs.now apps.now) (view members.now.document.now)) (λ l. l) result }
     ensures least { IfOk result (λ l. 1 ≤ length l) }
     ensures few { IfOk result (λ l. length l ≤ 12) }
     ensures fits { IfOk result (λ l. AllAfter (IsNewConf procs.now apps.now) l) }
 {
-    let root = Path::root();
-    let confs = need(document, "configurations", &root).map_err(DocError::Fault)?;
-    let at = root.member("configurations");
+    let at = Path::root().member("configurations");
     read_named_list(
         alloc,
         &Confs { procs, apps },
-        confs,
+        members.confs,
         1,
         MAX_CONFIGURATIONS,
         &at,

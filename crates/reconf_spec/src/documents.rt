@@ -1,22 +1,22 @@
 //! Whole documents.
 
-ghost use Rattle.std.specs.Prelude.{◌≡◌, ◌≤◌, [], All, codes, length, map, IfOk};
+ghost use Rattle.std.specs.Prelude.{◌≡◌, ◌≤◌, length, IfOk};
 ghost use Rattle.serde_json.specs.View.{view};
-ghost use Rattle.scram_types.specs.Specification.{IsGoal, IsIn};
-ghost use Rattle.reconf_spec.specs.Choices.{conf_id_at};
+ghost use Rattle.scram_types.specs.Specification.{IsGoal};
 ghost use Rattle.reconf_spec.specs.Kept.{FitsAssumption, FitsRest};
 ghost use Rattle.reconf_spec.specs.Writable.{IsWritable};
 ghost use Rattle.scram_doc.specs.Faults.{Answers};
-ghost use Rattle.reconf_spec.specs.Members.{has_members, members_at, member_in};
-ghost use Rattle.reconf_spec.specs.Documents.{goal_at, assumption_at, policy_at, policy_in, version_at, is_second, members_of, rest_in, with_rest};
+ghost use Rattle.reconf_spec.specs.Documents.{read_goal, read_assumption, read_policy, policy_in, check_version, rest_in, with_rest};
+ghost use Rattle.reconf_spec.specs.Found.{AreMembers};
 
 use crate::bounds::read_bounds;
 use crate::choices::{read_choices, read_conf_id};
 use crate::factors::plain_factors;
 use crate::intervals::{read_invariants, read_preconditions};
-use crate::named::Named;
+use crate::members::Members;
 use crate::rule;
-use scram_doc::{DocError, DocFault, Path, field, int_in, need, no_more, object, text, whole_in};
+use crate::vocabulary::Vocabulary;
+use scram_doc::{DocError, DocFault, Path, int_in, need, no_more, object, text, whole_in};
 use scram_types::limits::{
     MAX_ALTITUDE, MAX_ASSUMED_CHANGES, MAX_ASSUMED_HALTS, MAX_HEADING, MAX_WINDOW,
 };
@@ -28,7 +28,7 @@ use std::alloc::Global;
 
 fn read_goal(v: &Value, at: &Path) -> Result<Goal, DocFault>
     requires room { length at.now ≤ 40 }
-    ensures value { result ≡ goal_at at.now (view v.now) }
+    ensures value { result ≡ read_goal at.now (view v.now) }
     ensures fits { IfOk result (λ goal. IsGoal goal) }
 {
     object(v, at)?;
@@ -50,7 +50,7 @@ struct Assumption {
 
 fn read_assumption(v: &Value, at: &Path) -> Result<Assumption, DocFault>
     requires room { length at.now ≤ 40 }
-    ensures value { result ≡ assumption_at at.now (view v.now) }
+    ensures value { result ≡ read_assumption at.now (view v.now) }
     ensures fits { IfOk result (λ assumed. FitsAssumption assumed) }
 {
     object(v, at)?;
@@ -79,7 +79,7 @@ fn read_assumption(v: &Value, at: &Path) -> Result<Assumption, DocFault>
 }
 
 fn read_policy(v: &Value, at: &Path) -> Result<Policy, DocFault>
-    ensures { result ≡ policy_at at.now (view v.now) }
+    ensures { result ≡ read_policy at.now (view v.now) }
 {
     match text(v, at)? {
         "retarget" => Ok(Policy::Retarget),
@@ -88,8 +88,8 @@ fn read_policy(v: &Value, at: &Path) -> Result<Policy, DocFault>
     }
 }
 
-fn check_version(v: &Value, at: &Path) -> Result<(), DocFault>
-    ensures { result ≡ version_at at.now (view v.now) }
+pub(crate) fn check_version(v: &Value, at: &Path) -> Result<(), DocFault>
+    ensures { result ≡ check_version at.now (view v.now) }
 {
     let version = whole_in(v, 0, 1001, at)?;
     if version == 1 || version == 2 {
@@ -99,118 +99,13 @@ fn check_version(v: &Value, at: &Path) -> Result<(), DocFault>
     }
 }
 
-/// The document has the members of version 2.
-fn is_second_version(document: &Value) -> bool
-    ensures { result ≡ is_second (view document.now) }
+fn read_policy_of(members: &Members<'_>) -> Result<Policy, DocFault>
+    requires members { AreMembers members.now }
+    ensures { result ≡ policy_in (view members.now.document.now) }
 {
-    match field(document, "scram") {
-        Some(version) => version.as_u64() == Some(2),
-        None => false,
-    }
-}
-
-/// The members of version 1, in the order in which they are tested.
-const FIRST_MEMBERS: [&str; 12] = [
-    "scram",
-    "processors",
-    "apps",
-    "configurations",
-    "factors",
-    "rules",
-    "bounds",
-    "start",
-    "goal",
-    "invariants",
-    "preconditions",
-    "assumption",
-];
-
-/// The members of version 2.
-const SECOND_MEMBERS: [&str; 13] = [
-    "scram",
-    "processors",
-    "apps",
-    "configurations",
-    "factors",
-    "rules",
-    "bounds",
-    "start",
-    "goal",
-    "invariants",
-    "preconditions",
-    "assumption",
-    "policy",
-];
-
-fn check_has_members(names: &[&str], document: &Value) -> Result<(), DocFault>
-    requires { All (λ name. length name.now ≤ 32) names.now }
-    ensures { result ≡ has_members (map (λ name. name.now) names.now) [] (view document.now) }
-{
-    let root = Path::root();
-    for name in names {
-        need(document, name, &root)?;
-    }
-    Ok(())
-}
-
-/// Tests that the document is an object with the members of its version and no other.
-pub(crate) fn check_members(document: &Value) -> Result<(), DocFault>
-    ensures { result ≡ members_at (members_of (view document.now)) [] (view document.now) }
-{
-    let root = Path::root();
-    object(document, &root)?;
-    let names: &[&str] = if is_second_version(document) {
-        &SECOND_MEMBERS
-    } else {
-        &FIRST_MEMBERS
-    };
-    check_has_members(names, document)?;
-    no_more(document, names.len(), &root)
-}
-
-pub(crate) fn check_scram(document: &Value) -> Result<(), DocFault>
-    ensures { result ≡ member_in (codes "scram") version_at (view document.now) }
-{
-    let root = Path::root();
-    check_version(need(document, "scram", &root)?, &root.member("scram"))
-}
-
-fn read_start(named: &Named, document: &Value) -> Result<ConfId, DocFault>
-    ensures value { result ≡ member_in (codes "start") (conf_id_at named.now.confs) (view document.now) }
-    ensures there { IfOk result (λ c. IsIn named.now.confs c) }
-{
-    let root = Path::root();
-    let start = need(document, "start", &root)?;
-    read_conf_id(&named.confs, start, &root.member("start"))
-}
-
-fn read_goal_of(document: &Value) -> Result<Goal, DocFault>
-    ensures value { result ≡ member_in (codes "goal") goal_at (view document.now) }
-    ensures fits { IfOk result (λ goal. IsGoal goal) }
-{
-    let root = Path::root();
-    read_goal(need(document, "goal", &root)?, &root.member("goal"))
-}
-
-fn read_assumption_of(document: &Value) -> Result<Assumption, DocFault>
-    ensures value { result ≡ member_in (codes "assumption") assumption_at (view document.now) }
-    ensures fits { IfOk result (λ a. FitsAssumption a) }
-{
-    let root = Path::root();
-    read_assumption(
-        need(document, "assumption", &root)?,
-        &root.member("assumption"),
-    )
-}
-
-fn read_policy_of(document: &Value) -> Result<Policy, DocFault>
-    ensures { result ≡ policy_in (view document.now) }
-{
-    if is_second_version(document) {
-        let root = Path::root();
-        read_policy(need(document, "policy", &root)?, &root.member("policy"))
-    } else {
-        Ok(Policy::Retarget)
+    match members.policy {
+        Some(policy) => read_policy(policy, &Path::root().member("policy")),
+        None => Ok(Policy::Retarget),
     }
 }
 
@@ -227,41 +122,47 @@ struct Rest {
     policy: Policy,
 }
 
-fn read_behind_names(alloc: Global, named: &Named, document: &Value) -> Result<Rest, DocError>
-    ensures value { Answers (rest_in named.now (view document.now)) (with_rest named.now) result }
-    ensures fits { IfOk result (FitsRest named.now.procs named.now.apps named.now.confs named.now.factors) }
+fn read_behind_names(
+    alloc: Global,
+    vocabulary: &Vocabulary,
+    members: &Members<'_>,
+) -> Result<Rest, DocError>
+    requires members { AreMembers members.now }
+    ensures value { Answers (rest_in vocabulary.now (view members.now.document.now)) (with_rest vocabulary.now) result }
+    ensures fits { IfOk result (FitsRest vocabulary.now.procs vocabulary.now.apps vocabulary.now.confs vocabulary.now.factors) }
 {
-    let rules = read_choices(alloc, named, document)?;
-    let bounds = read_bounds(alloc, named, document)?;
-    let start = read_start(named, document).map_err(DocError::Fault)?;
-    let goal = read_goal_of(document).map_err(DocError::Fault)?;
-    let invariants = read_invariants(alloc, named, document)?;
-    let preconditions = read_preconditions(alloc, named, document)?;
-    let assumed = read_assumption_of(document).map_err(DocError::Fault)?;
-    let policy = read_policy_of(document).map_err(DocError::Fault)?;
+    let root = Path::root();
+    let rules = read_choices(alloc, vocabulary, members)?;
+    let bounds = read_bounds(alloc, vocabulary, members)?;
+    let start = read_conf_id(&vocabulary.confs, members.start, &root.member("start"))?;
+    let goal = read_goal(members.goal, &root.member("goal"))?;
+    let invariants = read_invariants(alloc, vocabulary, members)?;
+    let preconditions = read_preconditions(alloc, vocabulary, members)?;
+    let assumed = read_assumption(members.assumption, &root.member("assumption"))?;
+    let policy = read_policy_of(members)?;
     Ok(Rest {
-        rules,
-        bounds,
+        rules: List::of(rules),
+        bounds: List::of(bounds),
         start,
         goal,
-        invariants,
-        preconditions,
+        invariants: List::of(invariants),
+        preconditions: List::of(preconditions),
         assumed,
         policy,
     })
 }
 
 /// The specification of these names and of what stands behind them.
-fn join(alloc: Global, named: Named, rest: Rest) -> Result<Spec, NoMemory>
-    requires fits { FitsRest named.procs named.apps named.confs named.factors rest }
-    ensures value { IfOk result (λ spec. spec ≡ with_rest named rest) }
+fn join(alloc: Global, vocabulary: Vocabulary, rest: Rest) -> Result<Spec, NoMemory>
+    requires fits { FitsRest vocabulary.procs vocabulary.apps vocabulary.confs vocabulary.factors rest }
+    ensures value { IfOk result (λ spec. spec ≡ with_rest vocabulary rest) }
     ensures writable { IfOk result IsWritable }
 {
-    let factors = plain_factors(alloc, named.factors)?;
+    let factors = plain_factors(alloc, vocabulary.factors)?;
     Ok(Spec {
-        procs: named.procs.into_list(),
-        apps: named.apps.into_list(),
-        confs: named.confs.into_list(),
+        procs: List::of(vocabulary.procs.into_items()),
+        apps: List::of(vocabulary.apps.into_items()),
+        confs: List::of(vocabulary.confs.into_items()),
         factors,
         rules: rest.rules,
         bounds: rest.bounds,
@@ -277,12 +178,17 @@ fn join(alloc: Global, named: Named, rest: Rest) -> Result<Spec, NoMemory>
 }
 
 /// The specification, once the names are known.
-pub(crate) fn read_rest(alloc: Global, named: Named, document: &Value) -> Result<Spec, DocError>
-    ensures value { Answers (rest_in named (view document.now)) (λ spec. spec) result }
+pub(crate) fn read_rest(
+    alloc: Global,
+    vocabulary: Vocabulary,
+    members: &Members<'_>,
+) -> Result<Spec, DocError>
+    requires members { AreMembers members.now }
+    ensures value { Answers (rest_in vocabulary (view members.now.document.now)) (λ spec. spec) result }
     ensures writable { IfOk result IsWritable }
 {
-    let rest = read_behind_names(alloc, &named, document)?;
-    match join(alloc, named, rest) {
+    let rest = read_behind_names(alloc, &vocabulary, members)?;
+    match join(alloc, vocabulary, rest) {
         Ok(spec) => Ok(spec),
         Err(_) => Err(DocError::NoMemory),
     }

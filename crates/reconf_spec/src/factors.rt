@@ -3,13 +3,17 @@
 ghost use Rattle.std.specs.Prelude.{◌≡◌, ◌≤◌, codes, length, IfOk};
 ghost use Rattle.serde_json.specs.View.{view};
 ghost use Rattle.scram_doc.specs.Faults.{Answers};
-ghost use Rattle.reconf_spec.specs.Factors.{factor_name, value_at, factor_at, factors_at};
+ghost use Rattle.reconf_spec.specs.Factors.{name_of_factor, read_value_name, read_factor, read_factors};
 ghost use Rattle.reconf_spec.specs.Members.{member_in};
-ghost use Rattle.reconf_spec.specs.Facts.{AllAfter, IsNewName, IsNewFactor};
+ghost use Rattle.scram_doc.specs.Lists.{AllAfter};
+ghost use Rattle.reconf_spec.specs.Facts.{IsNewName, IsNewFactor};
+ghost use Rattle.reconf_spec.specs.Found.{AreMembers};
 
-use crate::names::{Named, read_new_name};
-use crate::numbered::{NamedElements, Numbered, read_named_list};
-use scram_doc::{DocError, Path, need, no_more, object};
+use crate::members::Members;
+use crate::names::{ByName, read_new_name};
+use scram_doc::{
+    DocError, NamedElements, Naming, Numbered, Path, need, no_more, object, read_named_list,
+};
 use scram_types::limits::{MAX_FACTORS, MAX_VALUES, MIN_VALUES};
 use scram_types::{Factor, List, Name, NoMemory};
 use serde_json::Value;
@@ -18,10 +22,10 @@ use std::marker::Model;
 
 struct Values;
 
-impl NamedElements<Name> for Values {
+impl NamedElements<Name, ByName> for Values {
     ghost room = { 40 };
 
-    ghost reading = { λ _. value_at };
+    ghost reading = { λ _. read_value_name };
 
     ghost Fits = { λ _. IsNewName };
 
@@ -30,29 +34,29 @@ impl NamedElements<Name> for Values {
     fn read(
         &self,
         _alloc: Global,
-        done: &Numbered<Name>,
+        done: &Numbered<Name, ByName>,
         v: &Value,
         at: &Path,
     ) -> Result<Name, DocError> {
-        read_new_name(done, v, at).map_err(DocError::Fault)
+        Ok(read_new_name(done, v, at)?)
     }
 }
 
 fn read_factor(
     alloc: Global,
-    done: &Numbered<NumberedFactor>,
+    done: &Numbered<NumberedFactor, ByName>,
     v: &Value,
     at: &Path,
 ) -> Result<NumberedFactor, DocError>
     requires room { length at.now ≤ 24 }
-    ensures value { Answers (factor_at at.now done.now (view v.now)) (λ factor. factor) result }
+    ensures value { Answers (read_factor at.now done.now (view v.now)) (λ factor. factor) result }
     ensures fits { IfOk result (λ factor. IsNewFactor done.now factor) }
 {
-    object(v, at).map_err(DocError::Fault)?;
-    let name = need(v, "name", at).map_err(DocError::Fault)?;
-    let values = need(v, "values", at).map_err(DocError::Fault)?;
-    no_more(v, 2, at).map_err(DocError::Fault)?;
-    let name = read_new_name(done, name, &at.member("name")).map_err(DocError::Fault)?;
+    object(v, at)?;
+    let name = need(v, "name", at)?;
+    let values = need(v, "values", at)?;
+    no_more(v, 2, at)?;
+    let name = read_new_name(done, name, &at.member("name"))?;
     let at = at.member("values");
     let values = read_named_list(alloc, &Values, values, MIN_VALUES, MAX_VALUES, &at)?;
     Ok(NumberedFactor { name, values })
@@ -62,7 +66,7 @@ fn read_factor(
 #[derive(Drop)]
 pub(crate) struct NumberedFactor {
     name: Name,
-    pub(crate) values: Numbered<Name>,
+    pub(crate) values: Numbered<Name, ByName>,
 }
 
 impl Model for NumberedFactor {
@@ -73,18 +77,18 @@ impl Model for NumberedFactor {
     ghost view = { λ f. record { name = f.name; values = f.values } };
 }
 
-impl Named for NumberedFactor {
-    ghost spelling = { factor_name };
+impl Naming<NumberedFactor> for ByName {
+    ghost spelling = { name_of_factor };
 
-    fn name(&self) -> &Name {
-        &self.name
+    fn name(factor: &NumberedFactor) -> &str {
+        factor.name.as_str()
     }
 }
 
 /// The factors as a specification has them.
 pub(crate) fn plain_factors(
     alloc: Global,
-    factors: Numbered<NumberedFactor>,
+    factors: Numbered<NumberedFactor, ByName>,
 ) -> Result<List<Factor>, NoMemory>
     ensures { IfOk result (λ l. l ≡ factors) }
 {
@@ -94,7 +98,7 @@ pub(crate) fn plain_factors(
         let NumberedFactor { name, values } = factor;
         let factor = Factor {
             name,
-            values: values.into_list(),
+            values: List::of(values.into_items()),
         };
         if plain.push(factor).is_err() {
             return Err(NoMemory);
@@ -105,10 +109,10 @@ pub(crate) fn plain_factors(
 
 struct Factors;
 
-impl NamedElements<NumberedFactor> for Factors {
+impl NamedElements<NumberedFactor, ByName> for Factors {
     ghost room = { 24 };
 
-    ghost reading = { λ _. factor_at };
+    ghost reading = { λ _. read_factor };
 
     ghost Fits = { λ _. IsNewFactor };
 
@@ -117,7 +121,7 @@ impl NamedElements<NumberedFactor> for Factors {
     fn read(
         &self,
         alloc: Global,
-        done: &Numbered<NumberedFactor>,
+        done: &Numbered<NumberedFactor, ByName>,
         v: &Value,
         at: &Path,
     ) -> Result<NumberedFactor, DocError> {
@@ -128,20 +132,13 @@ impl NamedElements<NumberedFactor> for Factors {
 /// The environment factors of a document, 0 to 6 of them.
 pub(crate) fn read_factors(
     alloc: Global,
-    document: &Value,
-) -> Result<Numbered<NumberedFactor>, DocError>
-    ensures value { Answers (member_in (codes "factors") factors_at (view document.now)) (λ l. l) result }
+    members: &Members<'_>,
+) -> Result<Numbered<NumberedFactor, ByName>, DocError>
+    requires members { AreMembers members.now }
+    ensures value { Answers (member_in (codes "factors") read_factors (view members.now.document.now)) (λ l. l) result }
     ensures few { IfOk result (λ l. length l ≤ 6) }
     ensures fits { IfOk result (λ l. AllAfter IsNewFactor l) }
 {
-    let root = Path::root();
-    let factors = need(document, "factors", &root).map_err(DocError::Fault)?;
-    read_named_list(
-        alloc,
-        &Factors,
-        factors,
-        0,
-        MAX_FACTORS,
-        &root.member("factors"),
-    )
+    let at = Path::root().member("factors");
+    read_named_list(alloc, &Factors, members.factors, 0, MAX_FACTORS, &at)
 }

@@ -27,11 +27,11 @@ pub enum SpecError {
     NoMemory,
 }
 
-impl SpecError {
-    /// A broken rule, with no cycle.
-    pub(crate) fn broken(fault: DocFault) -> SpecError
-        ensures { result ≡ plain_fault fault }
-    {
+/// A broken rule, with no cycle.
+impl From<DocFault> for SpecError {
+    ghost from_gives = { λ fault error. error ≡ plain_fault fault };
+
+    fn from(fault: DocFault) -> SpecError {
         SpecError::Fault(SpecFault {
             rule: fault.rule,
             path: fault.path,
@@ -39,13 +39,15 @@ impl SpecError {
             names: ArrayVec::new(),
         })
     }
+}
 
-    /// Why a part of the document was not read.
-    pub(crate) fn unread(error: DocError) -> SpecError
-        ensures { result ≡ plain_error error }
-    {
-        match error {
-            DocError::Fault(fault) => SpecError::broken(fault),
+/// Why a part of the document was not read.
+impl From<DocError> for SpecError {
+    ghost from_gives = { λ why error. error ≡ plain_error why };
+
+    fn from(why: DocError) -> SpecError {
+        match why {
+            DocError::Fault(fault) => SpecError::from(fault),
             DocError::NoMemory => SpecError::NoMemory,
         }
     }

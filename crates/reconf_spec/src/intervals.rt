@@ -4,33 +4,36 @@ ghost use Rattle.std.specs.Prelude.{◌≡◌, ◌≤◌, ◌≤ℤ◌, ◌<◌,
 ghost use Rattle.serde_json.specs.View.{view};
 ghost use Rattle.scram_types.specs.Numbers.{minus};
 ghost use Rattle.scram_doc.specs.Faults.{Answers};
-ghost use Rattle.reconf_spec.specs.Intervals.{app_id_at, variable_at, end_at, ends_at, interval_at, invariant_at, invariants_at, precondition_at, preconditions_at};
+ghost use Rattle.reconf_spec.specs.Intervals.{read_app_id, read_variable, read_end, read_ends, read_interval, read_invariant, read_invariants, read_precondition, read_preconditions};
 ghost use Rattle.reconf_spec.specs.Members.{member_in};
-ghost use Rattle.reconf_spec.specs.Facts.{AllAfter, IsVariable, FitsEnds, FitsInterval, FitsInvariant, FitsPrecondition};
+ghost use Rattle.scram_doc.specs.Lists.{AllAfter};
+ghost use Rattle.reconf_spec.specs.Facts.{IsVariable, FitsEnds, FitsInterval, FitsInvariant, FitsPrecondition};
+ghost use Rattle.reconf_spec.specs.Found.{AreMembers};
 
 use crate::choices::{read_conf_id, read_source};
-use crate::elements::{Elements, read_list};
-use crate::named::Named;
-use crate::names::read_named;
-use crate::numbered::Numbered;
+use crate::members::Members;
+use crate::names::{ByName, read_named};
 use crate::rule;
+use crate::vocabulary::Vocabulary;
 use app_model::variable_named;
-use scram_doc::{DocError, DocFault, Path, int_in, need, no_more, object, text};
+use scram_doc::{
+    DocError, DocFault, Elements, Numbered, Path, int_in, need, no_more, object, read_list, text,
+};
 use scram_types::limits::{MAX_INTERVAL_END, MAX_INTERVALS};
-use scram_types::{AppId, AppSpec, Invariant, List, Precondition};
+use scram_types::{AppId, AppSpec, Invariant, Precondition};
 use serde_json::Value;
 use std::alloc::Global;
 
-fn read_app_id(apps: &Numbered<AppSpec>, v: &Value, at: &Path) -> Result<AppId, DocFault>
+fn read_app_id(apps: &Numbered<AppSpec, ByName>, v: &Value, at: &Path) -> Result<AppId, DocFault>
     requires few { length apps.now ≤ 8 }
-    ensures value { result ≡ app_id_at apps.now at.now (view v.now) }
+    ensures value { result ≡ read_app_id apps.now at.now (view v.now) }
     ensures there { IfOk result (λ app. app.0 < length apps.now) }
 {
     Ok(AppId(read_named(apps, rule::UNKNOWN_APPLICATION, v, at)?))
 }
 
 fn read_variable(apps: &[AppSpec], app: AppId, v: &Value, at: &Path) -> Result<u8, DocFault>
-    ensures value { result ≡ variable_at (slice_get apps.now app.0) at.now (view v.now) }
+    ensures value { result ≡ read_variable (slice_get apps.now app.0) at.now (view v.now) }
     ensures is { IfOk result (λ variable. IsVariable (slice_get apps.now app.0) variable) }
 {
     match apps.get(usize::from(app.0)) {
@@ -43,7 +46,7 @@ fn read_variable(apps: &[AppSpec], app: AppId, v: &Value, at: &Path) -> Result<u
 }
 
 fn read_end(v: &Value, at: &Path) -> Result<i64, DocFault>
-    ensures value { result ≡ end_at at.now (view v.now) }
+    ensures value { result ≡ read_end at.now (view v.now) }
     ensures least { IfOk result (λ end. minus 1000000000 ≤ℤ end) }
     ensures most { IfOk result (λ end. end ≤ℤ pos 1000000000) }
 {
@@ -60,7 +63,7 @@ struct Ends {
 /// The ends of the interval of the object at this path, by its members.
 fn read_ends(least: &Value, greatest: &Value, at: &Path) -> Result<Ends, DocFault>
     requires room { length at.now ≤ 40 }
-    ensures value { result ≡ ends_at at.now (view least.now) (view greatest.now) }
+    ensures value { result ≡ read_ends at.now (view least.now) (view greatest.now) }
     ensures fits { IfOk result (λ ends. FitsEnds ends) }
 {
     let least = read_end(least, &at.member("least"))?;
@@ -83,7 +86,7 @@ struct Interval {
 
 /// The interval of the object at this path, by its members.
 fn read_interval(
-    apps: &Numbered<AppSpec>,
+    apps: &Numbered<AppSpec, ByName>,
     app: &Value,
     variable: &Value,
     least: &Value,
@@ -92,7 +95,7 @@ fn read_interval(
 ) -> Result<Interval, DocFault>
     requires room { length at.now ≤ 40 }
     requires few { length apps.now ≤ 8 }
-    ensures value { result ≡ interval_at apps.now at.now (view app.now) (view variable.now) (view least.now) (view greatest.now) }
+    ensures value { result ≡ read_interval apps.now at.now (view app.now) (view variable.now) (view least.now) (view greatest.now) }
     ensures fits { IfOk result (λ i. FitsInterval apps.now i) }
 {
     let app = read_app_id(apps, app, &at.member("app"))?;
@@ -105,10 +108,10 @@ fn read_interval(
     })
 }
 
-fn read_invariant(named: &Named, v: &Value, at: &Path) -> Result<Invariant, DocFault>
+fn read_invariant(vocabulary: &Vocabulary, v: &Value, at: &Path) -> Result<Invariant, DocFault>
     requires room { length at.now ≤ 40 }
-    ensures value { result ≡ invariant_at named.now.apps named.now.confs at.now [] (view v.now) }
-    ensures fits { IfOk result (λ inv. FitsInvariant named.now.apps named.now.confs inv) }
+    ensures value { result ≡ read_invariant vocabulary.now.apps vocabulary.now.confs at.now [] (view v.now) }
+    ensures fits { IfOk result (λ inv. FitsInvariant vocabulary.now.apps vocabulary.now.confs inv) }
 {
     object(v, at)?;
     let from = need(v, "from", at)?;
@@ -117,8 +120,8 @@ fn read_invariant(named: &Named, v: &Value, at: &Path) -> Result<Invariant, DocF
     let least = need(v, "least", at)?;
     let greatest = need(v, "greatest", at)?;
     no_more(v, 5, at)?;
-    let from = read_source(&named.confs, from, &at.member("from"))?;
-    let apps = &named.apps;
+    let from = read_source(&vocabulary.confs, from, &at.member("from"))?;
+    let apps = &vocabulary.apps;
     let interval = read_interval(apps, app, variable, least, greatest, at)?;
     Ok(Invariant {
         from,
@@ -129,10 +132,14 @@ fn read_invariant(named: &Named, v: &Value, at: &Path) -> Result<Invariant, DocF
     })
 }
 
-fn read_precondition(named: &Named, v: &Value, at: &Path) -> Result<Precondition, DocFault>
+fn read_precondition(
+    vocabulary: &Vocabulary,
+    v: &Value,
+    at: &Path,
+) -> Result<Precondition, DocFault>
     requires room { length at.now ≤ 40 }
-    ensures value { result ≡ precondition_at named.now.apps named.now.confs at.now [] (view v.now) }
-    ensures fits { IfOk result (λ pre. FitsPrecondition named.now.apps named.now.confs pre) }
+    ensures value { result ≡ read_precondition vocabulary.now.apps vocabulary.now.confs at.now [] (view v.now) }
+    ensures fits { IfOk result (λ pre. FitsPrecondition vocabulary.now.apps vocabulary.now.confs pre) }
 {
     object(v, at)?;
     let conf = need(v, "configuration", at)?;
@@ -141,8 +148,8 @@ fn read_precondition(named: &Named, v: &Value, at: &Path) -> Result<Precondition
     let least = need(v, "least", at)?;
     let greatest = need(v, "greatest", at)?;
     no_more(v, 5, at)?;
-    let conf = read_conf_id(&named.confs, conf, &at.member("configuration"))?;
-    let apps = &named.apps;
+    let conf = read_conf_id(&vocabulary.confs, conf, &at.member("configuration"))?;
+    let apps = &vocabulary.apps;
     let interval = read_interval(apps, app, variable, least, greatest, at)?;
     Ok(Precondition {
         conf,
@@ -155,15 +162,15 @@ fn read_precondition(named: &Named, v: &Value, at: &Path) -> Result<Precondition
 
 #[derive(Clone, Copy)]
 struct Intervals<'a> {
-    named: &'a Named,
+    vocabulary: &'a Vocabulary,
 }
 
 impl Elements<Invariant> for Intervals<'_> {
     ghost room = { 40 };
 
-    ghost reading = { λ i. invariant_at i.named.now.apps i.named.now.confs };
+    ghost reading = { λ i. read_invariant i.vocabulary.now.apps i.vocabulary.now.confs };
 
-    ghost Fits = { λ i _. FitsInvariant i.named.now.apps i.named.now.confs };
+    ghost Fits = { λ i _. FitsInvariant i.vocabulary.now.apps i.vocabulary.now.confs };
 
     fn read(
         &self,
@@ -172,16 +179,16 @@ impl Elements<Invariant> for Intervals<'_> {
         v: &Value,
         at: &Path,
     ) -> Result<Invariant, DocError> {
-        read_invariant(self.named, v, at).map_err(DocError::Fault)
+        Ok(read_invariant(self.vocabulary, v, at)?)
     }
 }
 
 impl Elements<Precondition> for Intervals<'_> {
     ghost room = { 40 };
 
-    ghost reading = { λ i. precondition_at i.named.now.apps i.named.now.confs };
+    ghost reading = { λ i. read_precondition i.vocabulary.now.apps i.vocabulary.now.confs };
 
-    ghost Fits = { λ i _. FitsPrecondition i.named.now.apps i.named.now.confs };
+    ghost Fits = { λ i _. FitsPrecondition i.vocabulary.now.apps i.vocabulary.now.confs };
 
     fn read(
         &self,
@@ -190,50 +197,43 @@ impl Elements<Precondition> for Intervals<'_> {
         v: &Value,
         at: &Path,
     ) -> Result<Precondition, DocError> {
-        read_precondition(self.named, v, at).map_err(DocError::Fault)
+        Ok(read_precondition(self.vocabulary, v, at)?)
     }
 }
 
 /// The invariants of a document, 0 to 64 of them.
 pub(crate) fn read_invariants(
     alloc: Global,
-    named: &Named,
-    document: &Value,
-) -> Result<List<Invariant>, DocError>
-    ensures value { Answers (member_in (codes "invariants") (invariants_at named.now.apps named.now.confs) (view document.now)) (λ l. l) result }
-    ensures few { IfOk result (λ l. length l ≤ 64) }
-    ensures fits { IfOk result (λ l. AllAfter (λ _. FitsInvariant named.now.apps named.now.confs) l) }
+    vocabulary: &Vocabulary,
+    members: &Members<'_>,
+) -> Result<Vec<Invariant>, DocError>
+    requires members { AreMembers members.now }
+    ensures value { Answers (member_in (codes "invariants") (read_invariants vocabulary.now.apps vocabulary.now.confs) (view members.now.document.now)) (λ l. l.items) result }
+    ensures few { IfOk result (λ l. length l.items ≤ 64) }
+    ensures fits { IfOk result (λ l. AllAfter (λ _. FitsInvariant vocabulary.now.apps vocabulary.now.confs) l.items) }
 {
-    let root = Path::root();
-    let invariants = need(document, "invariants", &root).map_err(DocError::Fault)?;
-    let at = root.member("invariants");
-    read_list(
-        alloc,
-        &Intervals { named },
-        invariants,
-        0,
-        MAX_INTERVALS,
-        &at,
-    )
+    let at = Path::root().member("invariants");
+    let intervals = Intervals { vocabulary };
+    read_list(alloc, &intervals, members.invariants, 0, MAX_INTERVALS, &at)
 }
 
 /// The preconditions of a document, 0 to 64 of them.
 pub(crate) fn read_preconditions(
     alloc: Global,
-    named: &Named,
-    document: &Value,
-) -> Result<List<Precondition>, DocError>
-    ensures value { Answers (member_in (codes "preconditions") (preconditions_at named.now.apps named.now.confs) (view document.now)) (λ l. l) result }
-    ensures few { IfOk result (λ l. length l ≤ 64) }
-    ensures fits { IfOk result (λ l. AllAfter (λ _. FitsPrecondition named.now.apps named.now.confs) l) }
+    vocabulary: &Vocabulary,
+    members: &Members<'_>,
+) -> Result<Vec<Precondition>, DocError>
+    requires members { AreMembers members.now }
+    ensures value { Answers (member_in (codes "preconditions") (read_preconditions vocabulary.now.apps vocabulary.now.confs) (view members.now.document.now)) (λ l. l.items) result }
+    ensures few { IfOk result (λ l. length l.items ≤ 64) }
+    ensures fits { IfOk result (λ l. AllAfter (λ _. FitsPrecondition vocabulary.now.apps vocabulary.now.confs) l.items) }
 {
-    let root = Path::root();
-    let preconditions = need(document, "preconditions", &root).map_err(DocError::Fault)?;
-    let at = root.member("preconditions");
+    let at = Path::root().member("preconditions");
+    let intervals = Intervals { vocabulary };
     read_list(
         alloc,
-        &Intervals { named },
-        preconditions,
+        &intervals,
+        members.preconditions,
         0,
         MAX_INTERVALS,
         &at,

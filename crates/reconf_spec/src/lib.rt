@@ -7,18 +7,17 @@ mod bounds;
 mod choices;
 mod configurations;
 mod documents;
-mod elements;
 mod factors;
 mod fault;
 mod intervals;
-mod named;
+mod members;
 mod names;
 mod needs;
-mod numbered;
 mod processors;
 mod reading;
 pub mod rule;
 mod values;
+mod vocabulary;
 mod writing;
 
 pub use fault::{SpecError, SpecFault};
@@ -27,5 +26,3 @@ pub use writing::write_spec;
 
 #[cfg(test)]
 mod tests;
-#[cfg(test)]
-mod uav;

@@ -3,74 +3,57 @@
 ghost use Rattle.std.specs.Prelude.{◌≡◌, ◌<◌, ◌≤◌, length, IfOk, IsTrue};
 ghost use Rattle.serde_json.specs.View.{view};
 ghost use Rattle.scram_types.specs.Names.{is_name};
-ghost use Rattle.reconf_spec.specs.Names.{name_at, new_name_at, named_at};
+ghost use Rattle.scram_doc.specs.Numbering.{itself};
+ghost use Rattle.reconf_spec.specs.Names.{read_name, read_new_name, read_named};
 ghost use Rattle.reconf_spec.specs.Facts.{IsFresh};
-ghost use Rattle.reconf_spec.specs.Processors.{proc_name};
-ghost use Rattle.reconf_spec.specs.Applications.{app_name};
-ghost use Rattle.reconf_spec.specs.Configurations.{conf_name};
-ghost use Rattle.reconf_spec.specs.Factors.{factor_name, own_name};
+ghost use Rattle.reconf_spec.specs.Processors.{name_of_proc};
+ghost use Rattle.reconf_spec.specs.Applications.{name_of_app};
+ghost use Rattle.reconf_spec.specs.Configurations.{name_of_conf};
 
-use crate::numbered::Numbered;
 use crate::rule;
-use scram_doc::{DocFault, Path, text};
-use scram_types::{AppSpec, Conf, Factor, Name, Proc};
+use scram_doc::{DocFault, Naming, Numbered, Path, text};
+use scram_types::{AppSpec, Conf, Name, Proc};
 use serde_json::Value;
 
-/// What has a name.
-pub(crate) trait Named {
-    ghost use Rattle.std.specs.Prelude.{List, ℕ};
+/// The things of a specification are named by their names, and a name by itself.
+pub(crate) struct ByName;
 
-    ghost spelling: { Self → List ℕ };
+impl Naming<Proc> for ByName {
+    ghost spelling = { name_of_proc };
 
-    /// Its name.
-    fn name(&self) -> &Name
-        ensures { result.now ≡ spelling self.now };
-}
-
-impl Named for Proc {
-    ghost spelling = { proc_name };
-
-    fn name(&self) -> &Name {
-        &self.name
+    fn name(proc: &Proc) -> &str {
+        proc.name.as_str()
     }
 }
 
-impl Named for AppSpec {
-    ghost spelling = { app_name };
+impl Naming<AppSpec> for ByName {
+    ghost spelling = { name_of_app };
 
-    fn name(&self) -> &Name {
-        &self.name
+    fn name(app: &AppSpec) -> &str {
+        app.name.as_str()
     }
 }
 
-impl Named for Conf {
-    ghost spelling = { conf_name };
+impl Naming<Conf> for ByName {
+    ghost spelling = { name_of_conf };
 
-    fn name(&self) -> &Name {
-        &self.name
+    fn name(conf: &Conf) -> &str {
+        conf.name.as_str()
     }
 }
 
-impl Named for Factor {
-    ghost spelling = { factor_name };
+impl Naming<Name> for ByName {
+    ghost spelling = { itself };
 
-    fn name(&self) -> &Name {
-        &self.name
-    }
-}
-
-impl Named for Name {
-    ghost spelling = { own_name };
-
-    fn name(&self) -> &Name {
-        self
+    fn name(name: &Name) -> &str {
+        name.as_str()
     }
 }
 
 /// The name that the value is.
 #[tactic(auto, using(crate::proofs::Spelled::name_spelled))]
 fn read_name(v: &Value, at: &Path) -> Result<Name, DocFault>
-    ensures value { result ≡ name_at at.now (view v.now) }
+    ensures value { result ≡ read_name at.now (view v.now) }
     ensures spelled { IfOk result (λ name. IsTrue (is_name name)) }
 {
     match Name::of(text(v, at)?) {
@@ -80,13 +63,14 @@ fn read_name(v: &Value, at: &Path) -> Result<Name, DocFault>
 }
 
 /// The name that the value is, if no item has it yet.
-pub(crate) fn read_new_name<T: Named>(
-    done: &Numbered<T>,
+#[tactic(auto, using(crate::proofs::Found::place_found))]
+pub(crate) fn read_new_name<T, N: Naming<T>>(
+    done: &Numbered<T, N>,
     v: &Value,
     at: &Path,
 ) -> Result<Name, DocFault>
-    ensures value { result ≡ new_name_at T.spelling done.now at.now (view v.now) }
-    ensures fresh { IfOk result (λ name. IsFresh T.spelling done.now name) }
+    ensures value { result ≡ read_new_name N.spelling done.now at.now (view v.now) }
+    ensures fresh { IfOk result (λ name. IsFresh N.spelling done.now name) }
 {
     let name = read_name(v, at)?;
     match done.number(name.as_str()) {
@@ -96,14 +80,15 @@ pub(crate) fn read_new_name<T: Named>(
 }
 
 /// The number of the item that the value names, or else the rule is broken.
-pub(crate) fn read_named<T: Named>(
-    items: &Numbered<T>,
+#[tactic(auto, using(crate::proofs::Found::place_found))]
+pub(crate) fn read_named<T, N: Naming<T>>(
+    items: &Numbered<T, N>,
     unknown: u8,
     v: &Value,
     at: &Path,
 ) -> Result<u8, DocFault>
     requires few { length items.now ≤ 255 }
-    ensures value { result ≡ named_at T.spelling items.now unknown at.now (view v.now) }
+    ensures value { result ≡ read_named N.spelling items.now unknown at.now (view v.now) }
     ensures below { IfOk result (λ number. number < length items.now) }
 {
     match items.number(text(v, at)?) {

@@ -6,41 +6,45 @@ ghost use Rattle.scram_types.specs.declared.ids.AppId.{AppId};
 ghost use Rattle.scram_types.specs.Specification.{Each};
 ghost use Rattle.scram_doc.specs.Faults.{Answers};
 ghost use Rattle.reconf_spec.specs.Members.{member_in};
-ghost use Rattle.reconf_spec.specs.Applications.{app_name};
-ghost use Rattle.reconf_spec.specs.Needs.{apps_in, are_ranked, has_app, need_at, needs_at, with_needs, with_ranks, ranked_at, unranked_at};
+ghost use Rattle.reconf_spec.specs.Applications.{name_of_app};
+ghost use Rattle.reconf_spec.specs.Needs.{apps_in, are_ranked, read_need, read_needs, with_needs, with_ranks, ranked_at, read_unranked};
+ghost use Rattle.dep_order.specs.Timetables.{is_named};
 ghost use Rattle.reconf_spec.specs.Facts.{IsNewNeed, AreNeeds};
 ghost use Rattle.dep_order.specs.Ranks.{IsCycle, IsRanking, RanksFall};
-ghost use Rattle.reconf_spec.specs.Answers.{AreNamed, Tells, ShowsCycle, CycleAmong};
+ghost use Rattle.reconf_spec.specs.Answers.{AreNamed, AnswersSpec, ShowsCycle, CycleAmong};
 ghost use Rattle.reconf_spec.specs.Kept.{AreApps};
 ghost use Rattle.reconf_spec.specs.Unranked.{AreUnranked};
+ghost use Rattle.reconf_spec.specs.Found.{AreMembers};
 
 use crate::applications::Apps;
-use crate::elements::{Elements, read_items, read_list};
-use crate::names::read_named;
-use crate::numbered::{Numbered, read_named_items};
+use crate::members::Members;
+use crate::names::{ByName, read_named};
 use crate::{SpecError, SpecFault, rule};
 use arrayvec::ArrayVec;
 use dep_order::{Cycle, rank};
-use scram_doc::{DocError, DocFault, Path, list, need};
+use scram_doc::{
+    DocError, DocFault, Elements, Numbered, Path, list, need, read_items, read_list,
+    read_named_items,
+};
 use scram_types::limits::MAX_APPLICATIONS;
 use scram_types::{AppId, AppSpec, List, Name};
 use serde_json::Value;
 use std::alloc::Global;
 
 fn is_needed(needs: &[AppId], app: AppId) -> bool
-    ensures { result ≡ has_app needs.now app.0 }
+    ensures { result ≡ is_named needs.now app.0 }
 {
     needs.iter().any(|needed| needed.0 == app.0)
 }
 
 fn read_need(
-    apps: &Numbered<AppSpec>,
+    apps: &Numbered<AppSpec, ByName>,
     done: &[AppId],
     v: &Value,
     at: &Path,
 ) -> Result<AppId, DocFault>
     requires few { length apps.now ≤ 8 }
-    ensures value { result ≡ need_at apps.now at.now done.now (view v.now) }
+    ensures value { result ≡ read_need apps.now at.now done.now (view v.now) }
     ensures fits { IfOk result (λ need. IsNewNeed apps.now done.now need) }
 {
     let app = AppId(read_named(apps, rule::UNKNOWN_APPLICATION, v, at)?);
@@ -54,7 +58,7 @@ fn read_need(
 /// Needs, among these applications.
 #[derive(Clone, Copy)]
 struct Needs<'a> {
-    apps: &'a Numbered<AppSpec>,
+    apps: &'a Numbered<AppSpec, ByName>,
 
     ghost few: { length apps.now ≤ 8 },
 }
@@ -62,7 +66,7 @@ struct Needs<'a> {
 impl Elements<AppId> for Needs<'_> {
     ghost room = { 40 };
 
-    ghost reading = { λ needs. need_at needs.apps.now };
+    ghost reading = { λ needs. read_need needs.apps.now };
 
     ghost Fits = { λ needs. IsNewNeed needs.apps.now };
 
@@ -73,30 +77,31 @@ impl Elements<AppId> for Needs<'_> {
         v: &Value,
         at: &Path,
     ) -> Result<AppId, DocError> {
-        read_need(self.apps, done, v, at).map_err(DocError::Fault)
+        Ok(read_need(self.apps, done, v, at)?)
     }
 }
 
 fn read_needs(
     alloc: Global,
-    apps: &Numbered<AppSpec>,
+    apps: &Numbered<AppSpec, ByName>,
     v: &Value,
     at: &Path,
 ) -> Result<List<AppId>, DocError>
     requires room { length at.now ≤ 24 }
     requires few { length apps.now ≤ 8 }
-    ensures value { Answers (needs_at apps.now at.now [] (view v.now)) (λ l. l) result }
+    ensures value { Answers (read_needs apps.now at.now [] (view v.now)) (λ l. l) result }
     ensures fits { IfOk result (λ l. AreNeeds apps.now l) }
 {
-    let needs = need(v, "needs", at).map_err(DocError::Fault)?;
+    let needs = need(v, "needs", at)?;
     let at = at.member("needs");
-    read_list(alloc, &Needs { apps }, needs, 0, MAX_APPLICATIONS, &at)
+    let needs = read_list(alloc, &Needs { apps }, needs, 0, MAX_APPLICATIONS, &at)?;
+    Ok(List::of(needs))
 }
 
 impl Elements<List<AppId>> for Needs<'_> {
     ghost room = { 24 };
 
-    ghost reading = { λ needs. needs_at needs.apps.now };
+    ghost reading = { λ needs. read_needs needs.apps.now };
 
     ghost Fits = { λ needs _. AreNeeds needs.apps.now };
 
@@ -134,23 +139,23 @@ fn set_ranks(apps: &mut [AppSpec], ranks: ArrayVec<u8, 8>)
 }
 
 /// The applications with their needs, not ranked yet.
-fn read_unranked(alloc: Global, v: &Value, at: &Path) -> Result<Numbered<AppSpec>, DocError>
+fn read_unranked(alloc: Global, v: &Value, at: &Path) -> Result<Numbered<AppSpec, ByName>, DocError>
     requires room { length at.now ≤ 18 }
-    ensures value { Answers (unranked_at at.now (view v.now)) (λ apps. apps) result }
+    ensures value { Answers (read_unranked at.now (view v.now)) (λ apps. apps) result }
     ensures fits { IfOk result (λ apps. AreUnranked apps) }
 {
-    let items = list(v, 1, MAX_APPLICATIONS, at).map_err(DocError::Fault)?;
-    let apps: Numbered<AppSpec> = read_named_items(alloc, &Apps, items, at)?;
+    let items = list(v, 1, MAX_APPLICATIONS, at)?;
+    let apps: Numbered<AppSpec, ByName> = read_named_items(alloc, &Apps, items, at)?;
     let known = Needs { apps: &apps };
-    let needs: List<List<AppId>> = read_items(alloc, &known, items, at)?;
+    let needs: Vec<List<AppId>> = read_items(alloc, &known, items, at)?;
     let (mut apps, numbers) = apps.into_parts();
-    set_needs(&mut apps, needs.into_items());
+    set_needs(&mut apps, needs);
     Ok(Numbered::of(apps, numbers))
 }
 
 fn name_of(apps: &[AppSpec], app: AppId) -> Name
     requires { app.0 < length apps.now }
-    ensures { option_map app_name (slice_get apps.now app.0) ≡ Some result }
+    ensures { option_map name_of_app (slice_get apps.now app.0) ≡ Some result }
 {
     apps[usize::from(app.0)].name.copy()
 }
@@ -170,16 +175,16 @@ fn names_of(apps: &[AppSpec], listed: &[AppId]) -> ArrayVec<Name, 8>
 
 /// The applications with their ranks, or the cycle that keeps them from having any.
 fn finish_apps(
-    apps: Numbered<AppSpec>,
+    apps: Numbered<AppSpec, ByName>,
     ranked: Result<ArrayVec<u8, 8>, Cycle>,
     at: &Path,
-) -> Result<Numbered<AppSpec>, SpecError>
+) -> Result<Numbered<AppSpec, ByName>, SpecError>
     requires fits { AreUnranked apps }
     requires ranks { IfOk ranked (λ ranks. IsRanking apps ranks.items) }
     requires falls { IfOk ranked (λ ranks. RanksFall apps ranks.items) }
     requires small { IfOk ranked (λ ranks. All (λ (rank : ℕ). rank < 8) ranks.items) }
     requires cycle { IfErr ranked (λ cycle. IsCycle apps cycle.0.items) }
-    ensures value { Tells (ranked_at at.now apps) result }
+    ensures value { AnswersSpec (ranked_at at.now apps) result }
     ensures cycle { IfErr result (λ error. ShowsCycle (Ok apps) error) }
     ensures no_cycle { OnOk result (are_ranked apps ≡ true) }
     ensures fits { IfOk result (λ l. AreApps l) }
@@ -202,27 +207,19 @@ fn finish_apps(
     }
 }
 
-fn read_unranked_of(alloc: Global, document: &Value) -> Result<Numbered<AppSpec>, DocError>
-    ensures value { Answers (member_in (codes "apps") unranked_at (view document.now)) (λ apps. apps) result }
-    ensures fits { IfOk result (λ apps. AreUnranked apps) }
-{
-    let root = Path::root();
-    let apps = need(document, "apps", &root).map_err(DocError::Fault)?;
-    read_unranked(alloc, apps, &root.member("apps"))
-}
-
 /// The applications of a document, 1 to 8 of them, ranked by what they need.
-pub(crate) fn read_apps(alloc: Global, document: &Value) -> Result<Numbered<AppSpec>, SpecError>
-    ensures value { Tells (apps_in (view document.now)) result }
-    ensures cycle { IfErr result (λ error. ShowsCycle (member_in (codes "apps") unranked_at (view document.now)) error) }
-    ensures no_cycle { OnOk result (CycleAmong (member_in (codes "apps") unranked_at (view document.now)) []) }
+pub(crate) fn read_apps(
+    alloc: Global,
+    members: &Members<'_>,
+) -> Result<Numbered<AppSpec, ByName>, SpecError>
+    requires members { AreMembers members.now }
+    ensures value { AnswersSpec (apps_in (view members.now.document.now)) result }
+    ensures cycle { IfErr result (λ error. ShowsCycle (member_in (codes "apps") read_unranked (view members.now.document.now)) error) }
+    ensures no_cycle { OnOk result (CycleAmong (member_in (codes "apps") read_unranked (view members.now.document.now)) []) }
     ensures fits { IfOk result (λ l. AreApps l) }
 {
-    match read_unranked_of(alloc, document) {
-        Ok(apps) => {
-            let ranked = rank(apps.items());
-            finish_apps(apps, ranked, &Path::root().member("apps"))
-        }
-        Err(error) => Err(SpecError::unread(error)),
-    }
+    let at = Path::root().member("apps");
+    let apps = read_unranked(alloc, members.apps, &at)?;
+    let ranked = rank(apps.items());
+    finish_apps(apps, ranked, &at)
 }

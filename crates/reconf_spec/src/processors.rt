@@ -3,13 +3,18 @@
 ghost use Rattle.std.specs.Prelude.{◌≡◌, ◌≤◌, codes, length, IfOk};
 ghost use Rattle.serde_json.specs.View.{view};
 ghost use Rattle.scram_doc.specs.Faults.{Answers};
-ghost use Rattle.reconf_spec.specs.Processors.{proc_at, procs_at};
+ghost use Rattle.reconf_spec.specs.Processors.{read_proc, read_procs};
 ghost use Rattle.reconf_spec.specs.Members.{member_in};
-ghost use Rattle.reconf_spec.specs.Facts.{AllAfter, IsNewProc};
+ghost use Rattle.scram_doc.specs.Lists.{AllAfter};
+ghost use Rattle.reconf_spec.specs.Facts.{IsNewProc};
+ghost use Rattle.reconf_spec.specs.Found.{AreMembers};
 
-use crate::names::read_new_name;
-use crate::numbered::{NamedElements, Numbered, read_named_list};
-use scram_doc::{DocError, DocFault, Path, need, no_more, object, whole_in};
+use crate::members::Members;
+use crate::names::{ByName, read_new_name};
+use scram_doc::{
+    DocError, DocFault, NamedElements, Numbered, Path, need, no_more, object, read_named_list,
+    whole_in,
+};
 use scram_types::Proc;
 use scram_types::limits::{MAX_LOAD, MAX_PROCESSORS};
 use serde_json::Value;
@@ -17,10 +22,10 @@ use std::alloc::Global;
 
 struct Procs;
 
-impl NamedElements<Proc> for Procs {
+impl NamedElements<Proc, ByName> for Procs {
     ghost room = { 40 };
 
-    ghost reading = { λ _. proc_at };
+    ghost reading = { λ _. read_proc };
 
     ghost Fits = { λ _. IsNewProc };
 
@@ -29,17 +34,17 @@ impl NamedElements<Proc> for Procs {
     fn read(
         &self,
         _alloc: Global,
-        done: &Numbered<Proc>,
+        done: &Numbered<Proc, ByName>,
         v: &Value,
         at: &Path,
     ) -> Result<Proc, DocError> {
-        read_proc(done, v, at).map_err(DocError::Fault)
+        Ok(read_proc(done, v, at)?)
     }
 }
 
-fn read_proc(done: &Numbered<Proc>, v: &Value, at: &Path) -> Result<Proc, DocFault>
+fn read_proc(done: &Numbered<Proc, ByName>, v: &Value, at: &Path) -> Result<Proc, DocFault>
     requires room { length at.now ≤ 40 }
-    ensures value { result ≡ proc_at at.now done.now (view v.now) }
+    ensures value { result ≡ read_proc at.now done.now (view v.now) }
     ensures fits { IfOk result (λ proc. IsNewProc done.now proc) }
 {
     object(v, at)?;
@@ -52,20 +57,16 @@ fn read_proc(done: &Numbered<Proc>, v: &Value, at: &Path) -> Result<Proc, DocFau
 }
 
 /// The processors of a document, 1 to 8 of them.
-pub(crate) fn read_procs(alloc: Global, document: &Value) -> Result<Numbered<Proc>, DocError>
-    ensures value { Answers (member_in (codes "processors") procs_at (view document.now)) (λ l. l) result }
+pub(crate) fn read_procs(
+    alloc: Global,
+    members: &Members<'_>,
+) -> Result<Numbered<Proc, ByName>, DocError>
+    requires members { AreMembers members.now }
+    ensures value { Answers (member_in (codes "processors") read_procs (view members.now.document.now)) (λ l. l) result }
     ensures least { IfOk result (λ l. 1 ≤ length l) }
     ensures few { IfOk result (λ l. length l ≤ 8) }
     ensures fits { IfOk result (λ l. AllAfter IsNewProc l) }
 {
-    let root = Path::root();
-    let procs = need(document, "processors", &root).map_err(DocError::Fault)?;
-    read_named_list(
-        alloc,
-        &Procs,
-        procs,
-        1,
-        MAX_PROCESSORS,
-        &root.member("processors"),
-    )
+    let at = Path::root().member("processors");
+    read_named_list(alloc, &Procs, members.procs, 1, MAX_PROCESSORS, &at)
 }

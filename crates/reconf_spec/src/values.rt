@@ -1,67 +1,44 @@
-//! The canonical values of lists and of what their items name.
+//! The names of what the items of a specification refer to.
 
-ghost use Rattle.std.specs.Prelude.{◌≡◌, map, IfOk};
-ghost use Rattle.serde_json.specs.View.{view};
-ghost use Rattle.reconf_spec.specs.Texts.{app_mode_text, kind_text, mode_text, name_of_item, source_text, variable_text};
+ghost use Rattle.std.specs.Prelude.{◌≡◌};
+ghost use Rattle.reconf_spec.specs.Texts.{name_of_app_mode, name_of_item, name_of_kind, name_of_mode, name_of_value, name_of_variable, source_name};
+ghost use Rattle.reconf_spec.specs.Applications.{name_of_app};
 
-use crate::names::Named;
 use app_model::{kind_name, mode_name, variable_name};
-use scram_types::{AppId, AppSpec, Conf, ConfId, KindId, Mode};
-use serde_json::Value;
-use std::alloc::{AllocError, Global};
+use scram_types::{AppId, AppSpec, ConfId, KindId, Mode, Spec, Want};
 
-/// How the items of a list are written.
-pub(crate) trait Values<T> {
-    ghost use Rattle.std.specs.Prelude.{◌≡◌, IfOk};
-    ghost use Rattle.serde_json.specs.Data.{Data};
-    ghost use Rattle.serde_json.specs.View.{view};
-
-    /// What is written for an item.
-    ghost written: { Self → T → Data };
-
-    /// The value of an item.
-    fn value(&self, alloc: Global, item: &T) -> Result<Value, AllocError>
-        ensures { IfOk result (λ v. view v ≡ written self.now item.now) };
-}
-
-/// The values of the items of a list, in order.
-pub(crate) fn make_list<T, W: Values<T>>(
-    alloc: Global,
-    writer: &W,
-    items: &[T],
-) -> Result<Vec<Value>, AllocError>
-    ensures { IfOk result (λ vs. map view vs.items ≡ map (W.written writer.now) items.now) }
+/// The name of an application; no bytes where it does not exist.
+pub(crate) fn name_of_app(apps: &[AppSpec], app: usize) -> &str
+    ensures { result.now ≡ name_of_item name_of_app apps.now app }
 {
-    let mut values = Vec::new(alloc);
-    for item in items {
-        let value = writer.value(alloc, item)?;
-        serde_json::push(&mut values, value)?;
-    }
-    Ok(values)
-}
-
-/// The name of the item of this number; what is not there has no name.
-pub(crate) fn name_at<T: Named>(items: &[T], number: usize) -> &str
-    ensures { result.now ≡ name_of_item T.spelling items.now number }
-{
-    match items.get(number) {
-        Some(item) => item.name().as_str(),
+    match apps.get(app) {
+        Some(app) => app.name.as_str(),
         None => "",
     }
 }
 
 /// The name of a configuration, or `*` for any.
-pub(crate) fn source_name(confs: &[Conf], from: Option<ConfId>) -> &str
-    ensures { result.now ≡ source_text confs.now from }
+pub(crate) fn source_name(spec: &Spec, from: Option<ConfId>) -> &str
+    ensures { result.now ≡ source_name spec.now.confs from }
 {
     match from {
-        Some(conf) => name_at(confs, usize::from(conf.0)),
+        Some(conf) => spec.conf_name(conf),
         None => "*",
     }
 }
 
+/// The name of the value that is wanted; no bytes where its factor has no such value.
+pub(crate) fn name_of_value(spec: &Spec, want: Want) -> &str
+    ensures { result.now ≡ name_of_value spec.now.factors want.factor.0 want.value }
+{
+    match spec.factors.items().get(usize::from(want.factor.0)) {
+        Some(factor) => factor.value_name(want.value),
+        None => "",
+    }
+}
+
 pub(crate) fn name_of_kind(kind: KindId) -> &'static str
-    ensures { result.now ≡ kind_text kind.0 }
+    ensures { result.now ≡ name_of_kind kind.0 }
 {
     match kind_name(kind) {
         Some(name) => name,
@@ -70,7 +47,7 @@ pub(crate) fn name_of_kind(kind: KindId) -> &'static str
 }
 
 pub(crate) fn name_of_mode(kind: KindId, mode: Mode) -> &'static str
-    ensures { result.now ≡ mode_text kind.0 mode.0 }
+    ensures { result.now ≡ name_of_mode kind.0 mode.0 }
 {
     match mode_name(kind, mode) {
         Some(name) => name,
@@ -80,7 +57,7 @@ pub(crate) fn name_of_mode(kind: KindId, mode: Mode) -> &'static str
 
 /// The name of a mode of an application's kind.
 pub(crate) fn name_of_app_mode(apps: &[AppSpec], app: usize, mode: Mode) -> &'static str
-    ensures { result.now ≡ app_mode_text apps.now app mode.0 }
+    ensures { result.now ≡ name_of_app_mode apps.now app mode.0 }
 {
     match apps.get(app) {
         Some(app) => name_of_mode(app.kind, mode),
@@ -90,7 +67,7 @@ pub(crate) fn name_of_app_mode(apps: &[AppSpec], app: usize, mode: Mode) -> &'st
 
 /// The name of a variable of an application's kind.
 pub(crate) fn name_of_variable(apps: &[AppSpec], app: AppId, variable: u8) -> &'static str
-    ensures { result.now ≡ variable_text apps.now app.0 variable }
+    ensures { result.now ≡ name_of_variable apps.now app.0 variable }
 {
     match apps.get(usize::from(app.0)) {
         Some(app) => match variable_name(app.kind, variable) {

@@ -6,13 +6,15 @@ ghost use Rattle.serde_json.specs.Read.{read};
 ghost use Rattle.serde_json.specs.View.{members_view, view};
 ghost use Rattle.reconf_spec.specs.Documents.{spec_of};
 ghost use Rattle.reconf_spec.specs.Writable.{IsWritable};
-ghost use Rattle.reconf_spec.specs.Texts.{app_data, assumption_data, bound_data, choice_data, conf_data, factor_data, goal_data, invariant_data, list_data, mode_data, need_data, place_data, places_data, precondition_data, proc_data, spec_data, spec_text, up_data, value_text, want_data, with_limits, with_named, with_table, with_version};
+ghost use Rattle.reconf_spec.specs.Texts.{app_data, assumption_data, bound_data, choice_data, conf_data, factor_data, goal_data, invariant_data, mode_data, need_data, place_data, places_data, precondition_data, proc_data, spec_data, spec_text, up_data, want_data, with_limits, with_named, with_table, with_version};
+ghost use Rattle.scram_doc.specs.Canonical.{list_data};
 
-use crate::choices::is_in_set;
 use crate::values::{
-    Values, make_list, name_at, name_of_app_mode, name_of_kind, name_of_mode, name_of_variable,
+    name_of_app, name_of_app_mode, name_of_kind, name_of_mode, name_of_value, name_of_variable,
     source_name,
 };
+use scram_doc::{Writes, put_list, write_list};
+use scram_types::bits::has_bit;
 use scram_types::{
     AppId, AppSpec, Bound, Choice, Conf, Factor, Goal, Invariant, KindId, ModeSpec, Name, NoMemory,
     Place, Policy, Precondition, Proc, Spec, Want,
@@ -32,7 +34,7 @@ struct ModeWriter {
     kind: KindId,
 }
 
-impl Values<Proc> for Writer<'_> {
+impl Writes<Proc> for Writer<'_> {
     ghost written = { λ _. proc_data };
 
     fn value(&self, alloc: Global, proc: &Proc) -> Result<Value, AllocError> {
@@ -41,7 +43,7 @@ impl Values<Proc> for Writer<'_> {
     }
 }
 
-impl Values<ModeSpec> for ModeWriter {
+impl Writes<ModeSpec> for ModeWriter {
     ghost written = { λ w. mode_data w.kind.0 };
 
     fn value(&self, alloc: Global, listed: &ModeSpec) -> Result<Value, AllocError> {
@@ -56,24 +58,24 @@ impl Values<ModeSpec> for ModeWriter {
     }
 }
 
-impl Values<AppId> for Writer<'_> {
+impl Writes<AppId> for Writer<'_> {
     ghost written = { λ w. need_data w.spec.now.apps };
 
     fn value(&self, alloc: Global, need: &AppId) -> Result<Value, AllocError> {
         let spec = self.spec;
-        let name = name_at(spec.apps.items(), usize::from(need.0));
+        let name = spec.app_name(*need);
         json!(in alloc; name)
     }
 }
 
-impl Values<AppSpec> for Writer<'_> {
+impl Writes<AppSpec> for Writer<'_> {
     ghost written = { λ w. app_data w.spec.now.apps };
 
     fn value(&self, alloc: Global, app: &AppSpec) -> Result<Value, AllocError> {
         let kind = name_of_kind(app.kind);
-        let modes = make_list(alloc, &ModeWriter { kind: app.kind }, app.modes.items())?;
+        let modes = write_list(alloc, &ModeWriter { kind: app.kind }, app.modes.items())?;
         let name = app.name.as_str();
-        let needs = make_list(alloc, self, app.needs.items())?;
+        let needs = write_list(alloc, self, app.needs.items())?;
         json!(in alloc; {"kind": kind, "modes": modes, "name": name, "needs": needs})
     }
 }
@@ -82,9 +84,9 @@ fn make_place(alloc: Global, spec: &Spec, app: usize, place: &Place) -> Result<V
     ensures { IfOk result (λ v. view v ≡ place_data spec.now app place.now) }
 {
     let apps = spec.apps.items();
-    let name = name_at(apps, app);
+    let name = name_of_app(apps, app);
     let mode = name_of_app_mode(apps, app, place.mode);
-    let on = name_at(spec.procs.items(), usize::from(place.proc.0));
+    let on = spec.proc_name(place.proc);
     json!(in alloc; {"app": name, "mode": mode, "on": on})
 }
 
@@ -105,7 +107,7 @@ fn make_places(
     Ok(values)
 }
 
-impl Values<Conf> for Writer<'_> {
+impl Writes<Conf> for Writer<'_> {
     ghost written = { λ w. conf_data w.spec.now };
 
     fn value(&self, alloc: Global, conf: &Conf) -> Result<Value, AllocError> {
@@ -116,7 +118,7 @@ impl Values<Conf> for Writer<'_> {
     }
 }
 
-impl Values<Name> for Writer<'_> {
+impl Writes<Name> for Writer<'_> {
     ghost use Rattle.serde_json.specs.Data.{string};
 
     ghost written = { λ _ name. string name };
@@ -127,32 +129,23 @@ impl Values<Name> for Writer<'_> {
     }
 }
 
-impl Values<Factor> for Writer<'_> {
+impl Writes<Factor> for Writer<'_> {
     ghost written = { λ _. factor_data };
 
     fn value(&self, alloc: Global, factor: &Factor) -> Result<Value, AllocError> {
         let name = factor.name.as_str();
-        let values = make_list(alloc, self, factor.values.items())?;
+        let values = write_list(alloc, self, factor.values.items())?;
         json!(in alloc; {"name": name, "values": values})
     }
 }
 
-fn value_name(spec: &Spec, want: Want) -> &str
-    ensures { result.now ≡ value_text spec.now.factors want.factor.0 want.value }
-{
-    match spec.factors.items().get(usize::from(want.factor.0)) {
-        Some(factor) => name_at(factor.values.items(), usize::from(want.value)),
-        None => "",
-    }
-}
-
-impl Values<Want> for Writer<'_> {
+impl Writes<Want> for Writer<'_> {
     ghost written = { λ w. want_data w.spec.now.factors };
 
     fn value(&self, alloc: Global, want: &Want) -> Result<Value, AllocError> {
         let spec = self.spec;
-        let factor = name_at(spec.factors.items(), usize::from(want.factor.0));
-        let value = value_name(spec, *want);
+        let factor = spec.factor_name(want.factor);
+        let value = name_of_value(spec, *want);
         json!(in alloc; {"factor": factor, "value": value})
     }
 }
@@ -164,7 +157,7 @@ fn make_up(alloc: Global, procs: &[Proc], set: u8) -> Result<Vec<Value>, AllocEr
 {
     let mut values = Vec::new(alloc);
     for (p, proc) in procs.iter().enumerate() {
-        if is_in_set(set, p as u8) {
+        if has_bit(set, p as u8) {
             let name = proc.name.as_str();
             let value = json!(in alloc; name)?;
             serde_json::push(&mut values, value)?;
@@ -173,40 +166,38 @@ fn make_up(alloc: Global, procs: &[Proc], set: u8) -> Result<Vec<Value>, AllocEr
     Ok(values)
 }
 
-impl Values<Choice> for Writer<'_> {
+impl Writes<Choice> for Writer<'_> {
     ghost written = { λ w. choice_data w.spec.now };
 
     fn value(&self, alloc: Global, rule: &Choice) -> Result<Value, AllocError> {
         let spec = self.spec;
-        let confs = spec.confs.items();
-        let from = source_name(confs, rule.from);
-        let to = name_at(confs, usize::from(rule.to.0));
+        let from = source_name(spec, rule.from);
+        let to = spec.conf_name(rule.to);
         let up = make_up(alloc, spec.procs.items(), rule.up)?;
-        let wants = make_list(alloc, self, rule.wants.items())?;
+        let wants = write_list(alloc, self, rule.wants.items())?;
         json!(in alloc; {"from": from, "to": to, "up": up, "when": wants})
     }
 }
 
-impl Values<Bound> for Writer<'_> {
+impl Writes<Bound> for Writer<'_> {
     ghost written = { λ w. bound_data w.spec.now.confs };
 
     fn value(&self, alloc: Global, bound: &Bound) -> Result<Value, AllocError> {
         let spec = self.spec;
-        let confs = spec.confs.items();
-        let from = name_at(confs, usize::from(bound.from.0));
-        let to = name_at(confs, usize::from(bound.to.0));
+        let from = spec.conf_name(bound.from);
+        let to = spec.conf_name(bound.to);
         json!(in alloc; {"frames": bound.frames, "from": from, "to": to})
     }
 }
 
-impl Values<Invariant> for Writer<'_> {
+impl Writes<Invariant> for Writer<'_> {
     ghost written = { λ w. invariant_data w.spec.now };
 
     fn value(&self, alloc: Global, inv: &Invariant) -> Result<Value, AllocError> {
         let spec = self.spec;
         let apps = spec.apps.items();
-        let app = name_at(apps, usize::from(inv.app.0));
-        let from = source_name(spec.confs.items(), inv.from);
+        let app = spec.app_name(inv.app);
+        let from = source_name(spec, inv.from);
         let variable = name_of_variable(apps, inv.app, inv.variable);
         json!(in alloc; {
             "app": app,
@@ -218,14 +209,14 @@ impl Values<Invariant> for Writer<'_> {
     }
 }
 
-impl Values<Precondition> for Writer<'_> {
+impl Writes<Precondition> for Writer<'_> {
     ghost written = { λ w. precondition_data w.spec.now };
 
     fn value(&self, alloc: Global, pre: &Precondition) -> Result<Value, AllocError> {
         let spec = self.spec;
         let apps = spec.apps.items();
-        let app = name_at(apps, usize::from(pre.app.0));
-        let conf = name_at(spec.confs.items(), usize::from(pre.conf.0));
+        let app = spec.app_name(pre.app);
+        let conf = spec.conf_name(pre.conf);
         let variable = name_of_variable(apps, pre.app, pre.variable);
         json!(in alloc; {
             "app": app,
@@ -247,20 +238,6 @@ fn make_assumption(alloc: Global, spec: &Spec) -> Result<Value, AllocError>
     ensures { IfOk result (λ v. view v ≡ assumption_data spec.now) }
 {
     json!(in alloc; {"changes": spec.changes, "halts": spec.halts, "window": spec.window})
-}
-
-fn put_list<T, W: Values<T>>(
-    members: &mut Map<String, Value>,
-    alloc: Global,
-    name: &str,
-    writer: &W,
-    items: &[T],
-) -> Result<(), AllocError>
-    ensures { OnOk result (members_view members.new.entries ≡ put name.now (list_data (W.written writer.now) items.now) (members_view members.old.entries)) }
-{
-    let values = make_list(alloc, writer, items)?;
-    serde_json::put(members, alloc, name, Value::Array(values))?;
-    Ok(())
 }
 
 /// Puts what the rest of the document names.
@@ -288,7 +265,7 @@ fn put_table(members: &mut Map<String, Value>, alloc: Global, spec: &Spec) -> Re
     let writer = Writer { spec };
     put_list(members, alloc, "rules", &writer, spec.rules.items())?;
     put_list(members, alloc, "bounds", &writer, spec.bounds.items())?;
-    let start = name_at(spec.confs.items(), usize::from(spec.start.0));
+    let start = spec.conf_name(spec.start);
     serde_json::put(members, alloc, "start", json!(in alloc; start)?)?;
     serde_json::put(members, alloc, "goal", make_goal(alloc, &spec.goal)?)?;
     Ok(())

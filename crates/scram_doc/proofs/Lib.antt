@@ -1,2 +1,7 @@
+pub mod Growing
 pub mod Indexes
+pub mod Numbering
 pub mod Parsed
+pub mod Plain
+pub mod ReadBack
+pub mod TextLengths

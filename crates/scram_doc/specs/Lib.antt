@@ -1,7 +1,10 @@
+pub mod Canonical
 pub mod Chain
 pub mod Documents
 pub mod Faults
+pub mod Lists
 pub mod Members
 pub mod Names
+pub mod Numbering
 pub mod Paths
 pub mod Values

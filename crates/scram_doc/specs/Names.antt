@@ -3,14 +3,15 @@ use Rattle.std.specs.Prelude.{ℕ, List, [], ◌∷◌, length, Bool, false, ◌
 use Rattle.std.specs.List.{list_all}
 use Rattle.std.specs.Char.{is_ascii_lowercase, is_ascii_digit}
 
--- 95 is '_'
-abbrev pub is_name_byte : ℕ → Bool
-is_name_byte b = is_ascii_lowercase b || is_ascii_digit b || b == 95
+-- a lower-case letter, a digit or `_`, which is 95
+abbrev pub is_letter_of_name : ℕ → Bool
+is_letter_of_name b = is_ascii_lowercase b || is_ascii_digit b || b == 95
 
-abbrev pub is_name : List ℕ → Bool
-is_name [] = false
-is_name (first ∷ rest) = is_ascii_lowercase first && list_all is_name_byte rest && nat_le (length (first ∷ rest)) 16
+-- a text spells a name
+abbrev pub is_spelled_name : List ℕ → Bool
+is_spelled_name [] = false
+is_spelled_name (first ∷ rest) = is_ascii_lowercase first && list_all is_letter_of_name rest && nat_le (length (first ∷ rest)) 16
 
--- the name that a text is
-abbrev pub named : List ℕ → Option (List ℕ)
-named text = if is_name text then Some text else None
+-- the name that a text spells
+abbrev pub spelled_name : List ℕ → Option (List ℕ)
+spelled_name text = if is_spelled_name text then Some text else None

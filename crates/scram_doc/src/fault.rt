@@ -1,6 +1,8 @@
 ghost use Rattle.std.specs.Prelude.{◌≡◌};
+ghost use Rattle.scram_doc.specs.declared.fault.DocError.TheVariants.{Fault, NoMemory};
 
 use crate::Path;
+use std::alloc::{AllocError, AllocFailed};
 
 /// A broken rule of a document, with the path of the value where it is broken.
 #[derive(Debug, Drop)]
@@ -29,4 +31,28 @@ pub enum DocError {
 
     /// The allocator had no memory.
     NoMemory,
+}
+
+impl From<DocFault> for DocError {
+    ghost from_gives = { λ fault error. error ≡ Fault fault };
+
+    fn from(fault: DocFault) -> DocError {
+        DocError::Fault(fault)
+    }
+}
+
+impl From<AllocError> for DocError {
+    ghost from_gives = { λ _ error. error ≡ NoMemory };
+
+    fn from(_error: AllocError) -> DocError {
+        DocError::NoMemory
+    }
+}
+
+impl<T: Drop> From<AllocFailed<T>> for DocError {
+    ghost from_gives = { λ _ error. error ≡ NoMemory };
+
+    fn from(_error: AllocFailed<T>) -> DocError {
+        DocError::NoMemory
+    }
 }

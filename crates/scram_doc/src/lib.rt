@@ -1,21 +1,28 @@
 //! JSON documents read by path: each call gives the value that stands there, or the number of the broken rule
-//! and the path where it is broken, exactly as its definition says.
+//! and the path where it is broken, exactly as its definition says. Lists are read element by element, things with
+//! names are numbered as they come, and lists are written as their canonical values.
 #![tactic(auto)]
 
 mod document;
+mod elements;
 mod fault;
 mod members;
 mod name;
+mod numbered;
 mod path;
 pub mod rule;
 mod values;
+mod writers;
 
 pub use document::parse;
+pub use elements::{Elements, read_items, read_list};
 pub use fault::{DocError, DocFault};
 pub use members::{field, need, no_more, object};
 pub use name::name_of;
+pub use numbered::{NamedElements, Naming, Numbered, Numbers, read_named_items, read_named_list};
 pub use path::Path;
 pub use values::{int_in, list, text, whole_in};
+pub use writers::{Writes, put_list, write_list};
 
 #[cfg(test)]
 mod tests;

@@ -1,13 +1,13 @@
 ghost use Rattle.std.specs.Prelude.{◌≡◌, option_map};
 ghost use Rattle.std.specs.List.{list_all};
-ghost use Rattle.scram_doc.specs.Names.{is_name, is_name_byte, named};
+ghost use Rattle.scram_doc.specs.Names.{is_spelled_name, is_letter_of_name, spelled_name};
 
 use arrayvec::ArrayString;
 
 /// The name that the text is: 1 to 16 bytes, a lower-case letter first and then lower-case letters, digits
 /// or `_`. None where it is no name.
 pub fn name_of(s: &str) -> Option<ArrayString<16>>
-    ensures { option_map (λ n. n.bytes) result ≡ named s.now }
+    ensures { option_map (λ n. n.bytes) result ≡ spelled_name s.now }
 {
     if is_well_formed(s.as_bytes()) {
         ArrayString::from(s).ok()
@@ -17,7 +17,7 @@ pub fn name_of(s: &str) -> Option<ArrayString<16>>
 }
 
 fn is_well_formed(text: &[u8]) -> bool
-    ensures { result ≡ is_name text.now }
+    ensures { result ≡ is_spelled_name text.now }
 {
     match text {
         [] => false,
@@ -28,13 +28,13 @@ fn is_well_formed(text: &[u8]) -> bool
 }
 
 fn are_allowed(bytes: &[u8]) -> bool
-    ensures { result ≡ list_all is_name_byte bytes.now }
+    ensures { result ≡ list_all is_letter_of_name bytes.now }
 {
     bytes.iter().all(|byte| is_allowed(*byte))
 }
 
 fn is_allowed(byte: u8) -> bool
-    ensures { result ≡ is_name_byte byte }
+    ensures { result ≡ is_letter_of_name byte }
 {
     byte.is_ascii_lowercase() || byte.is_ascii_digit() || byte == b'_'
 }

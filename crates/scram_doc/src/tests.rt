@@ -49,26 +49,29 @@ fn first_fault(alloc: Global, bytes: &[u8]) -> Result<(u8, Path), DocError> {
     }
 }
 
+/// The first row whose document is not refused by its rule at its path; 0 and `.` stand for no fault.
+fn first_wrong(alloc: Global, rows: &[(&str, u8, &str)]) -> Result<Option<usize>, DocError> {
+    for (i, (document, rule, path)) in rows.iter().enumerate() {
+        let fault = first_fault(alloc, document.as_bytes())?;
+        if fault.0 != *rule || fault.1.as_str() != *path {
+            return Ok(Some(i));
+        }
+    }
+    Ok(None)
+}
+
 #[test]
-fn documents_are_refused_at_the_first_broken_rule(rt: HostRuntime) -> Result<(), Fail> {
+fn objects_and_lists_are_refused_at_the_first_broken_rule(rt: HostRuntime) -> Result<(), Fail> {
+    let at = ".processors";
     let rows = [
-        (
-            r#"{"scram":1,"processors":[{"name":"p0","capacity":5}]}"#,
-            0,
-            ".",
-        ),
         ("", 1, "."),
         ("[]", 2, "."),
         ("{}", 3, ".scram"),
-        (r#"{"scram":9}"#, 3, ".processors"),
+        (r#"{"scram":9}"#, 3, at),
         (r#"{"scram":1,"processors":{},"extra":0}"#, 4, "."),
-        (r#"{"scram":1,"processors":{}}"#, 5, ".processors"),
-        (r#"{"scram":1,"processors":[]}"#, 6, ".processors"),
-        (
-            r#"{"scram":1,"processors":[0,0,0,0,0,0,0,0,0]}"#,
-            6,
-            ".processors",
-        ),
+        (r#"{"scram":1,"processors":{}}"#, 5, at),
+        (r#"{"scram":1,"processors":[]}"#, 6, at),
+        (r#"{"scram":1,"processors":[0,0,0,0,0,0,0,0,0]}"#, 6, at),
         (
             r#"{"scram":1,"processors":[0,0,0,0,0,0,0,0]}"#,
             2,
@@ -79,20 +82,41 @@ fn documents_are_refused_at_the_first_broken_rule(rt: HostRuntime) -> Result<(),
             3,
             ".processors.0.capacity",
         ),
+        (r#"{"scram":1,"scram":5000,"processors":[]}"#, 8, ".scram"),
+        (
+            r#"{"scram":5000,"scram":1,"processors":[{"name":"p0","capacity":5}]}"#,
+            0,
+            ".",
+        ),
+    ];
+    assert_eq!(rt; first_wrong(rt.alloc(), &rows)?, None);
+    Ok(())
+}
+
+#[test]
+fn texts_and_numbers_are_refused_at_the_first_broken_rule(rt: HostRuntime) -> Result<(), Fail> {
+    let at = ".processors.0.capacity";
+    let name = ".processors.0.name";
+    let rows = [
+        (
+            r#"{"scram":1,"processors":[{"name":"p0","capacity":5}]}"#,
+            0,
+            ".",
+        ),
         (
             r#"{"scram":1,"processors":[{"name":5,"capacity":5}]}"#,
             7,
-            ".processors.0.name",
+            name,
         ),
         (
             r#"{"scram":1,"processors":[{"name":"p0","capacity":-1}]}"#,
             8,
-            ".processors.0.capacity",
+            at,
         ),
         (
             r#"{"scram":1,"processors":[{"name":"p0","capacity":"5"}]}"#,
             8,
-            ".processors.0.capacity",
+            at,
         ),
         (
             r#"{"scram":1,"processors":[{"name":"p0","capacity":1000000}]}"#,
@@ -102,20 +126,10 @@ fn documents_are_refused_at_the_first_broken_rule(rt: HostRuntime) -> Result<(),
         (
             r#"{"scram":1,"processors":[{"name":"p0","capacity":1000001}]}"#,
             8,
-            ".processors.0.capacity",
-        ),
-        (r#"{"scram":1,"scram":5000,"processors":[]}"#, 8, ".scram"),
-        (
-            r#"{"scram":5000,"scram":1,"processors":[{"name":"p0","capacity":5}]}"#,
-            0,
-            ".",
+            at,
         ),
     ];
-    for (document, rule, path) in rows {
-        let fault = first_fault(rt.alloc(), document.as_bytes())?;
-        assert_eq!(rt; fault.0, rule, "the rule for {document}");
-        assert_eq!(rt; fault.1.as_str(), path, "the path for {document}");
-    }
+    assert_eq!(rt; first_wrong(rt.alloc(), &rows)?, None);
     Ok(())
 }
 

@@ -2,7 +2,8 @@ use Rattle.std.proofs.Common.{◌≡◌, ◌≤◌, length, subst, sym}
 use Rattle.scram_types.specs.Specification.{IsSpec}
 use Rattle.fault_script.specs.Texts.{script_text}
 use Rattle.fault_script.proofs.Back.{text_back}
-use Rattle.fault_script.proofs.Plain.{script_depth, script_no_float, written_text, written_value}
+use Rattle.scram_doc.proofs.Plain.{written_text, written_value}
+use Rattle.fault_script.proofs.Plain.{script_depth, script_no_float}
 use Rattle.fault_script.proofs.TextSizes.{script_text_short}
 use Rattle.fault_script.proofs.writing.write_script.Goals as goal
 

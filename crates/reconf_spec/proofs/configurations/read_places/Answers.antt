@@ -1,11 +1,11 @@
 use Rattle.std.proofs.Common.{rules}
 use Rattle.reconf_spec.proofs.Placed.{one_more}
-use Rattle.reconf_spec.proofs.Growing.{step_made}
-use Rattle.reconf_spec.specs.Configurations.{places_after}
+use Rattle.scram_doc.proofs.Growing.{step_made}
+use Rattle.reconf_spec.specs.Configurations.{read_place}
 use Rattle.reconf_spec.proofs.configurations.read_places.Goals as goal
 
 pub loop-i-preserved : goal.loop-i-preserved
 loop-i-preserved c = (
-  step_made (places_after c.args.procs.now c.args.apps.now) c.args.at.now c.loop-i.i c.loop-i.places c.args.items.now c.index-items-i.result c.in_ok-places.places _ (search rules) (search rules) (search rules) c.loop-i.invariant.0,
+  step_made (read_place c.args.procs.now c.args.apps.now) c.args.at.now c.loop-i.i c.loop-i.places c.args.items.now c.index-items-i.result c.in_ok-places.places _ (search rules) (search rules) (search rules) c.loop-i.invariant.0,
   one_more c.args.procs.now c.args.apps.now c.loop-i.places c.in_ok-places.places c.loop-i.invariant.1 c.in_ok-places.ensures.fits,
 )

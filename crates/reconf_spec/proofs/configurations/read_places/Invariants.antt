@@ -1,13 +1,13 @@
 use Rattle.std.proofs.Common.{◌≡◌, drop}
 use Rattle.std.specs.Prelude.{None, replicate}
 use Rattle.serde_json.specs.View.{items_view}
-use Rattle.reconf_spec.specs.Lists.{folded_from}
-use Rattle.reconf_spec.specs.Configurations.{places_after}
+use Rattle.scram_doc.specs.Lists.{folded_from}
+use Rattle.reconf_spec.specs.Configurations.{read_place}
 use Rattle.reconf_spec.specs.Facts.{ArePlaces}
 use Rattle.reconf_spec.proofs.configurations.read_places.Given as goal
 
 abbrev pub invariant-loop-i : goal.invariant-loop-i
 invariant-loop-i l =
-    (folded_from (places_after l.procs l.apps) l.at l.i l.places (items_view (drop l.i l.items))
-    ≡ folded_from (places_after l.procs l.apps) l.at 0 (replicate 8 None) (items_view l.items))
+    (folded_from (read_place l.procs l.apps) l.at l.i l.places (items_view (drop l.i l.items))
+    ≡ folded_from (read_place l.procs l.apps) l.at 0 (replicate 8 None) (items_view l.items))
     × ArePlaces l.procs l.apps l.places

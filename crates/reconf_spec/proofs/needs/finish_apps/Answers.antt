@@ -4,7 +4,7 @@ use Rattle.scram_types.specs.declared.ids.AppId.{AppId}
 use Rattle.scram_types.specs.declared.specification.AppSpec.{AppSpec}
 use Rattle.scram_types.specs.Specification.{Each}
 use Rattle.dep_order.specs.Ranks.{IsCycle, IsRanking, RanksFall}
-use Rattle.reconf_spec.specs.Applications.{app_name}
+use Rattle.reconf_spec.specs.Applications.{name_of_app}
 use Rattle.reconf_spec.specs.Needs.{with_ranks}
 use Rattle.reconf_spec.proofs.Cycles.{cycle_there}
 use Rattle.reconf_spec.proofs.Joined.{graded_length, graded_names, ranked_fit, written_whole}
@@ -35,7 +35,7 @@ of-requires c =
     let all : length c.args.apps ≡ c.into_parts-apps.result.0.len = search rules in
     let long : length c.set_ranks.new.apps ≡ c.into_parts-apps.result.0.len = rw (ranks) (graded_length c.args.apps c.in-Ok.ranks.items ∙ all) in
     let whole = written_whole c.into_parts-apps.result.0.len c.set_ranks.new.apps c.into_parts-apps.result.0.items long in
-    c.into_parts-apps.ensures.numbers ∙ sym (graded_names c.args.apps c.in-Ok.ranks.items) ∙ ap (map app_name) (sym (whole ∙ ranks))
+    c.into_parts-apps.ensures.numbers ∙ sym (graded_names c.args.apps c.in-Ok.ranks.items) ∙ ap (map name_of_app) (sym (whole ∙ ranks))
 
 given : (c : goal.After-of) → c.of.result ≡ with_ranks c.args.apps c.in-Ok.ranks.items
 given c =

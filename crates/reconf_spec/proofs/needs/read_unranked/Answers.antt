@@ -1,5 +1,5 @@
 use Rattle.std.proofs.Common.{rules, ap, sym, ◌≡◌, map, length, ◌∙◌}
-use Rattle.reconf_spec.specs.Applications.{app_name}
+use Rattle.reconf_spec.specs.Applications.{name_of_app}
 use Rattle.reconf_spec.specs.Needs.{with_needs}
 use Rattle.reconf_spec.proofs.Joined.{joined_length, joined_names, unranked_fit, written_whole}
 use Rattle.reconf_spec.proofs.needs.read_unranked.Goals as goal
@@ -7,17 +7,17 @@ use Rattle.reconf_spec.proofs.needs.read_unranked.Goals as goal
 pub of-requires : goal.of-requires
 of-requires c =
     let apps = c.in_ok-apps.apps in
-    let needs = c.in_ok-needs.needs in
+    let needs = c.in_ok-needs.needs.items in
     let given : c.set_needs.new.apps ≡ with_needs apps needs = search rules in
     let all : length apps ≡ c.into_parts-apps.result.0.len = search rules in
     let long : length c.set_needs.new.apps ≡ c.into_parts-apps.result.0.len = rw (given) (joined_length apps needs ∙ all) in
     let whole = written_whole c.into_parts-apps.result.0.len c.set_needs.new.apps c.into_parts-apps.result.0.items long in
-    c.into_parts-apps.ensures.numbers ∙ sym (joined_names apps needs) ∙ ap (map app_name) (sym (whole ∙ given))
+    c.into_parts-apps.ensures.numbers ∙ sym (joined_names apps needs) ∙ ap (map name_of_app) (sym (whole ∙ given))
 
 pub returns-clause-fits : goal.returns-clause-fits
 returns-clause-fits c =
     let apps = c.in_ok-apps.apps in
-    let needs = c.in_ok-needs.needs in
+    let needs = c.in_ok-needs.needs.items in
     let given : c.set_needs.new.apps ≡ with_needs apps needs = search rules in
     let all : length apps ≡ c.into_parts-apps.result.0.len = search rules in
     let long : length c.set_needs.new.apps ≡ c.into_parts-apps.result.0.len = rw (given) (joined_length apps needs ∙ all) in

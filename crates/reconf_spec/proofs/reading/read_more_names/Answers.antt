@@ -1,6 +1,7 @@
 use Rattle.std.proofs.Common.{rules, ◌≡◌, ◌≤◌, length}
 use Rattle.std.specs.Prelude.{Ok}
-use Rattle.reconf_spec.specs.Facts.{AllAfter, IsNewConf, IsNewFactor}
+use Rattle.scram_doc.specs.Lists.{AllAfter}
+use Rattle.reconf_spec.specs.Facts.{IsNewConf, IsNewFactor}
 use Rattle.reconf_spec.proofs.Distinct.{kept}
 use Rattle.reconf_spec.proofs.reading.read_more_names.Goals as goal
 

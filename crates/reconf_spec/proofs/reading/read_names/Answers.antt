@@ -1,6 +1,7 @@
 use Rattle.std.proofs.Common.{rules, ◌≡◌}
 use Rattle.std.specs.Prelude.{Ok}
-use Rattle.reconf_spec.specs.Facts.{AllAfter, IsNewProc}
+use Rattle.scram_doc.specs.Lists.{AllAfter}
+use Rattle.reconf_spec.specs.Facts.{IsNewProc}
 use Rattle.reconf_spec.proofs.Distinct.{kept}
 use Rattle.reconf_spec.proofs.reading.read_names.Goals as goal
 

@@ -1,7 +1,8 @@
 use Rattle.std.proofs.Common.{◌≡◌, ◌≤◌, length, subst, sym}
 use Rattle.scram_types.specs.Specification.{IsSpec}
 use Rattle.reconf_spec.specs.Texts.{spec_text}
-use Rattle.reconf_spec.proofs.Plain.{spec_depth, spec_no_float, written_text, written_value}
+use Rattle.reconf_spec.proofs.Plain.{spec_depth, spec_no_float}
+use Rattle.scram_doc.proofs.Plain.{written_text, written_value}
 use Rattle.reconf_spec.proofs.SpecBack.{text_back}
 use Rattle.reconf_spec.proofs.TextSizes.{spec_text_short}
 use Rattle.reconf_spec.proofs.writing.write_spec.Goals as goal

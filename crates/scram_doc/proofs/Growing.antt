@@ -1,0 +1,40 @@
+-- Lists that grow as their elements are read.
+use Rattle.std.proofs.Common.{◌≡◌, ◌<◌, ◌+◌, ℕ, zero, suc, List, [], ◌∷◌, ◌++◌, length, drop, get_or, arith, refl, sym, subst, ◌∙◌}
+use Rattle.std.specs.Prelude.{Some, None, Result, Ok}
+use Rattle.std.proofs.lemmas.List.{at_drop_more}
+use Rattle.serde_json.specs.Data.{Data}
+use Rattle.serde_json.specs.View.{view, items_view}
+use Rattle.serde_json.specs.declared.value.Value.{Value}
+use Rattle.scram_doc.specs.declared.fault.DocFault.{DocFault}
+use Rattle.scram_doc.specs.Paths.{item_path}
+use Rattle.scram_doc.specs.Lists.{elements_from, folded_from}
+use Rattle.scram_doc.specs.Lists.{AllAfter}
+
+same : {A : Type 0} (x y : A) → Some x ≡ Some y → x ≡ y
+same x y e = cc
+
+-- What each element keeps, it keeps as one more is put behind them.
+pub after_push : {A : Type 0} → (Fact : List A → A → Type 0) → (xs : List A) → (x : A) → AllAfter Fact xs → Fact xs x → AllAfter Fact (xs ++ x ∷ [])
+after_push Fact [] x all new zero y e = subst (λ (z : _). Fact [] z) (same x y e) new
+after_push Fact [] x all new (suc i) y e = absurd (let none : None ≡ Some y = e in cc)
+after_push Fact (a ∷ rest) x all new zero y e = all zero y e
+after_push {A} Fact (a ∷ rest) x all new (suc i) y e =
+    after_push (λ (ys : List A) (z : A). Fact (a ∷ ys) z) rest x (λ j z f. all (suc j) z f) new i y e
+
+-- an element is read, and what is left to read begins behind it
+pub element_read : {A : Type 0} → (read : List ℕ → List A → Data → Result A DocFault) → (at : List ℕ) (i : ℕ) (done : List A) (vs : List Value) (v : Value) (x : A) (whole : Result (List A) DocFault)
+    → i < length vs → v ≡ get_or vs i v → read (item_path at i) done (view v) ≡ Ok x
+    → elements_from read at i done (items_view (drop i vs)) ≡ whole
+    → elements_from read at (i + 1) (done ++ x ∷ []) (items_view (drop (i + 1) vs)) ≡ whole
+element_read read at i done vs v x whole below is value so_far =
+    let more : suc i ≡ i + 1 = omega arith in
+    sym (at_drop_more (λ (ws : List Value). elements_from read at i done (items_view ws)) vs i v below ∙ rw (← is, value, more) refl) ∙ so_far
+
+-- an element has made its step, and what is left to read begins behind it
+pub step_made : {S : Type 0} → (step : List ℕ → S → Data → Result S DocFault) → (at : List ℕ) (i : ℕ) (made : S) (vs : List Value) (v : Value) (next : S) (whole : Result S DocFault)
+    → i < length vs → v ≡ get_or vs i v → step (item_path at i) made (view v) ≡ Ok next
+    → folded_from step at i made (items_view (drop i vs)) ≡ whole
+    → folded_from step at (i + 1) next (items_view (drop (i + 1) vs)) ≡ whole
+step_made step at i made vs v next whole below is value so_far =
+    let more : suc i ≡ i + 1 = omega arith in
+    sym (at_drop_more (λ (ws : List Value). folded_from step at i made (items_view ws)) vs i v below ∙ rw (← is, value, more) refl) ∙ so_far

@@ -1,0 +1,10 @@
+-- Things that are numbered by their places in a list, and found by their names.
+use Rattle.std.specs.Prelude.{ℕ, List, Option, position}
+use Rattle.std.specs.Str.{bytes_eq}
+
+-- the number of the first thing whose name is the text
+abbrev pub place_named : {A : Type 0} → (A → List ℕ) → List A → List ℕ → Option ℕ
+place_named {A} name xs text = position (λ (x : A). bytes_eq text (name x)) xs
+
+abbrev pub itself : List ℕ → List ℕ
+itself name = name

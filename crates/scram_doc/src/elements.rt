@@ -1,0 +1,79 @@
+//! Lists that are read element by element.
+
+ghost use Rattle.std.specs.Prelude.{◌≡◌, ◌≤◌, ◌+◌, [], length, IfOk};
+ghost use Rattle.serde_json.specs.View.{view, items_view};
+ghost use Rattle.scram_doc.specs.Faults.{Answers};
+ghost use Rattle.scram_doc.specs.Lists.{AllAfter, elements_from, elements_at};
+
+use crate::{DocError, Path, list};
+use serde_json::Value;
+use std::alloc::Global;
+
+/// How the elements of a list are read, each with those before it.
+pub trait Elements<T: Drop> {
+    ghost use Rattle.std.specs.Prelude.{◌≡◌, ◌≤◌, List, ℕ, Result, IfOk, length};
+    ghost use Rattle.serde_json.specs.Data.{Data};
+    ghost use Rattle.serde_json.specs.View.{view};
+    ghost use Rattle.scram_doc.specs.declared.fault.DocFault.{DocFault};
+    ghost use Rattle.scram_doc.specs.Faults.{Answers};
+
+    /// The longest path that an element may have.
+    ghost room: { ℕ };
+
+    /// What an element is.
+    ghost reading: { Self → List ℕ → List T → Data → Result T DocFault };
+
+    /// What each element keeps, with those before it.
+    ghost Fits: { Self → List T → T → Type 0 };
+
+    /// The element that the value is, `done` being the elements before it.
+    fn read(&self, alloc: Global, done: &[T], v: &Value, at: &Path) -> Result<T, DocError>
+        requires room { length at.now ≤ room }
+        ensures value { Answers (reading self.now at.now done.now (view v.now)) (λ x. x) result }
+        ensures fits { IfOk result (λ x. Fits self.now done.now x) };
+}
+
+/// The elements of a list whose length was tested.
+pub fn read_items<T: Drop, E: Elements<T>>(
+    alloc: Global,
+    elements: &E,
+    items: &[Value],
+    at: &Path,
+) -> Result<Vec<T>, DocError>
+    requires room { length at.now + 6 ≤ E.room }
+    requires path { length at.now ≤ 58 }
+    requires few { length items.now ≤ 100000 }
+    ensures value { Answers (elements_from (E.reading elements.now) at.now 0 [] (items_view items.now)) (λ l. l.items) result }
+    ensures count { IfOk result (λ l. length l.items ≡ length items.now) }
+    ensures fits { IfOk result (λ l. AllAfter (E.Fits elements.now) l.items) }
+{
+    let mut done = Vec::new(alloc);
+    for (i, v) in items.iter().enumerate() {
+        let element = elements.read(alloc, &done, v, &at.item(i))?;
+        if done.push(element).is_err() {
+            return Err(DocError::NoMemory);
+        }
+    }
+    Ok(done)
+}
+
+/// A list of `least` to `most` elements.
+pub fn read_list<T: Drop, E: Elements<T>>(
+    alloc: Global,
+    elements: &E,
+    v: &Value,
+    least: usize,
+    most: usize,
+    at: &Path,
+) -> Result<Vec<T>, DocError>
+    requires room { length at.now + 6 ≤ E.room }
+    requires path { length at.now ≤ 58 }
+    requires few { most ≤ 100000 }
+    ensures value { Answers (elements_at (E.reading elements.now) least most at.now (view v.now)) (λ l. l.items) result }
+    ensures least { IfOk result (λ l. least ≤ length l.items) }
+    ensures most { IfOk result (λ l. length l.items ≤ most) }
+    ensures fits { IfOk result (λ l. AllAfter (E.Fits elements.now) l.items) }
+{
+    let items = list(v, least, most, at)?;
+    read_items(alloc, elements, items, at)
+}

@@ -1,0 +1,231 @@
+//! Lists of things with names, which are numbered in the order in which they are listed.
+
+ghost use Rattle.std.specs.Prelude.{◌≡◌, ◌≤◌, ◌<◌, ◌+◌, ◌++◌, [], ◌∷◌, None, length, map, IfSome, IfOk};
+ghost use Rattle.serde_json.specs.View.{view, items_view};
+ghost use Rattle.scram_doc.specs.Faults.{Answers};
+ghost use Rattle.scram_doc.specs.Lists.{AllAfter, elements_from, elements_at};
+ghost use Rattle.scram_doc.specs.Numbering.{itself, place_named};
+
+use crate::{DocError, Path, list};
+use indexmap::IndexSet;
+use serde_json::Value;
+use std::alloc::{AllocError, Global};
+use std::marker::{Model, PhantomData};
+
+/// How things are named.
+pub trait Naming<T> {
+    ghost use Rattle.std.specs.Prelude.{◌≡◌, List, ℕ};
+
+    /// The bytes of a thing's name.
+    ghost spelling: { T → List ℕ };
+
+    /// The name of a thing.
+    fn name(item: &T) -> &str
+        ensures { result.now ≡ spelling item.now };
+}
+
+/// Names, each of which is numbered by its place.
+#[derive(Drop)]
+pub struct Numbers {
+    names: IndexSet<String>,
+}
+
+impl Model for Numbers {
+    ghost use Rattle.std.specs.Prelude.{List, ℕ, map};
+    ghost use Rattle.std.specs.String.{string_bytes};
+
+    ghost Value = { List (List ℕ) };
+
+    ghost view = { λ n. map string_bytes n.names.keys };
+}
+
+impl Numbers {
+    fn new(alloc: Global) -> Numbers
+        ensures { result ≡ [] }
+    {
+        Numbers {
+            names: IndexSet::new(alloc),
+        }
+    }
+
+    fn number(&self, name: &str) -> Option<usize>
+        ensures number { result ≡ place_named itself self.now name.now }
+        ensures below { IfSome result (λ number. number < length self.now) }
+    {
+        self.names.get_index_of(name)
+    }
+
+    /// The names with one more, which is not among them.
+    fn with(self, alloc: Global, name: &str) -> Result<Numbers, AllocError>
+        requires { place_named itself self name.now ≡ None }
+        ensures { IfOk result (λ numbers. numbers ≡ self ++ name.now ∷ []) }
+    {
+        let mut names = self.names;
+        names.insert(String::from_str(alloc, name)?)?;
+        Ok(Numbers { names })
+    }
+}
+
+/// Items, each with a name of its own.
+#[derive(Drop)]
+pub struct Numbered<T, N: Naming<T>> {
+    items: Vec<T>,
+    numbers: Numbers,
+    naming: PhantomData<N>,
+}
+
+impl<T, N: Naming<T>> Model for Numbered<T, N> {
+    ghost use Rattle.std.specs.Prelude.{List, map, ◌≡◌};
+
+    ghost Value = { List T };
+
+    ghost view = { λ n. n.items.items };
+
+    ghost invariant = { λ n. n.numbers ≡ map N.spelling n.items.items };
+}
+
+impl<T, N: Naming<T>> Numbered<T, N> {
+    /// These items, whose names the numbers are of.
+    pub fn of(items: Vec<T>, numbers: Numbers) -> Numbered<T, N>
+        requires { numbers ≡ map N.spelling items.items }
+        ensures { result ≡ items.items }
+    {
+        Numbered {
+            items,
+            numbers,
+            naming: PhantomData,
+        }
+    }
+
+    pub fn items(&self) -> &[T]
+        ensures { result.now ≡ self.now }
+    {
+        &self.items
+    }
+
+    /// The number of the item of this name.
+    pub fn number(&self, name: &str) -> Option<usize>
+        ensures number { result ≡ place_named N.spelling self.now name.now }
+        ensures below { IfSome result (λ number. number < length self.now) }
+    {
+        self.numbers.number(name)
+    }
+
+    /// The items, and the numbers of their names.
+    pub fn into_parts(self) -> (Vec<T>, Numbers)
+        ensures items { result.0.items ≡ self }
+        ensures numbers { result.1 ≡ map N.spelling self }
+    {
+        (self.items, self.numbers)
+    }
+
+    /// The items, in order.
+    pub fn into_items(self) -> Vec<T>
+        ensures { result.items ≡ self }
+    {
+        self.items
+    }
+}
+
+impl<T: Drop, N: Naming<T>> Numbered<T, N> {
+    fn new(alloc: Global) -> Numbered<T, N>
+        ensures { result ≡ [] }
+    {
+        Numbered {
+            items: Vec::new(alloc),
+            numbers: Numbers::new(alloc),
+            naming: PhantomData,
+        }
+    }
+
+    /// The items with one more, whose name none of them has.
+    fn with(self, alloc: Global, item: T) -> Result<Numbered<T, N>, AllocError>
+        requires { place_named N.spelling self (N.spelling item) ≡ None }
+        ensures { IfOk result (λ numbered. numbered ≡ self ++ item ∷ []) }
+    {
+        let numbers = self.numbers.with(alloc, N::name(&item))?;
+        let mut items = self.items;
+        items.push(item)?;
+        Ok(Numbered {
+            items,
+            numbers,
+            naming: PhantomData,
+        })
+    }
+}
+
+/// How the elements of a list are read that have names, each with those before it.
+pub trait NamedElements<T: Drop, N: Naming<T>> {
+    ghost use Rattle.std.specs.Prelude.{◌≡◌, ◌≤◌, List, ℕ, None, Result, IfOk, length};
+    ghost use Rattle.serde_json.specs.Data.{Data};
+    ghost use Rattle.serde_json.specs.View.{view};
+    ghost use Rattle.scram_doc.specs.declared.fault.DocFault.{DocFault};
+    ghost use Rattle.scram_doc.specs.Faults.{Answers};
+    ghost use Rattle.scram_doc.specs.Numbering.{place_named};
+
+    /// The longest path that an element may have.
+    ghost room: { ℕ };
+
+    /// What an element is.
+    ghost reading: { Self → List ℕ → List T → Data → Result T DocFault };
+
+    /// What each element keeps, with those before it.
+    ghost Fits: { Self → List T → T → Type 0 };
+
+    /// The element that the value is, `done` being the elements before it.
+    fn read(
+        &self,
+        alloc: Global,
+        done: &Numbered<T, N>,
+        v: &Value,
+        at: &Path,
+    ) -> Result<T, DocError>
+        requires room { length at.now ≤ room }
+        ensures value { Answers (reading self.now at.now done.now (view v.now)) (λ x. x) result }
+        ensures fits { IfOk result (λ x. Fits self.now done.now x) };
+
+    /// No element has the name of one before it.
+    ghost is_new: { (e : Self) (done : List T) (x : T) → Fits e done x → place_named N.spelling done (N.spelling x) ≡ None };
+}
+
+pub fn read_named_items<T: Drop, N: Naming<T>, E: NamedElements<T, N>>(
+    alloc: Global,
+    elements: &E,
+    items: &[Value],
+    at: &Path,
+) -> Result<Numbered<T, N>, DocError>
+    requires room { length at.now + 6 ≤ E.room }
+    requires path { length at.now ≤ 58 }
+    requires few { length items.now ≤ 100000 }
+    ensures value { Answers (elements_from (E.reading elements.now) at.now 0 [] (items_view items.now)) (λ l. l) result }
+    ensures count { IfOk result (λ l. length l ≡ length items.now) }
+    ensures fits { IfOk result (λ l. AllAfter (E.Fits elements.now) l) }
+{
+    let mut done = Numbered::new(alloc);
+    for (i, v) in items.iter().enumerate() {
+        let element = elements.read(alloc, &done, v, &at.item(i))?;
+        done = done.with(alloc, element)?;
+    }
+    Ok(done)
+}
+
+/// A list of `least` to `most` elements that have names.
+pub fn read_named_list<T: Drop, N: Naming<T>, E: NamedElements<T, N>>(
+    alloc: Global,
+    elements: &E,
+    v: &Value,
+    least: usize,
+    most: usize,
+    at: &Path,
+) -> Result<Numbered<T, N>, DocError>
+    requires room { length at.now + 6 ≤ E.room }
+    requires path { length at.now ≤ 58 }
+    requires few { most ≤ 100000 }
+    ensures value { Answers (elements_at (E.reading elements.now) least most at.now (view v.now)) (λ l. l) result }
+    ensures least { IfOk result (λ l. least ≤ length l) }
+    ensures most { IfOk result (λ l. length l ≤ most) }
+    ensures fits { IfOk result (λ l. AllAfter (E.Fits elements.now) l) }
+{
+    let items = list(v, least, most, at)?;
+    read_named_items(alloc, elements, items, at)
+}

@@ -1,0 +1,54 @@
+//! The canonical values of lists, as their items are written.
+
+ghost use Rattle.std.specs.Prelude.{◌≡◌, map, IfOk, OnOk};
+ghost use Rattle.serde_json.specs.Data.{put};
+ghost use Rattle.serde_json.specs.View.{members_view, view};
+ghost use Rattle.scram_doc.specs.Canonical.{list_data};
+
+use serde_json::{Map, Value};
+use std::alloc::{AllocError, Global};
+
+/// How the items of a list are written.
+pub trait Writes<T> {
+    ghost use Rattle.std.specs.Prelude.{◌≡◌, IfOk};
+    ghost use Rattle.serde_json.specs.Data.{Data};
+    ghost use Rattle.serde_json.specs.View.{view};
+
+    /// What is written for an item.
+    ghost written: { Self → T → Data };
+
+    /// The value of an item.
+    fn value(&self, alloc: Global, item: &T) -> Result<Value, AllocError>
+        ensures { IfOk result (λ v. view v ≡ written self.now item.now) };
+}
+
+/// The values of the items of a list, in order.
+pub fn write_list<T, W: Writes<T>>(
+    alloc: Global,
+    writer: &W,
+    items: &[T],
+) -> Result<Vec<Value>, AllocError>
+    ensures { IfOk result (λ vs. map view vs.items ≡ map (W.written writer.now) items.now) }
+{
+    let mut values = Vec::new(alloc);
+    for item in items {
+        let value = writer.value(alloc, item)?;
+        serde_json::push(&mut values, value)?;
+    }
+    Ok(values)
+}
+
+/// Puts a member of this name into an object: the list of the items.
+pub fn put_list<T, W: Writes<T>>(
+    members: &mut Map<String, Value>,
+    alloc: Global,
+    name: &str,
+    writer: &W,
+    items: &[T],
+) -> Result<(), AllocError>
+    ensures { OnOk result (members_view members.new.entries ≡ put name.now (list_data (W.written writer.now) items.now) (members_view members.old.entries)) }
+{
+    let values = write_list(alloc, writer, items)?;
+    serde_json::put(members, alloc, name, Value::Array(values))?;
+    Ok(())
+}
