@@ -1,14 +1,12 @@
 -- Numbers of environments in which the same processors are down.
-use Rattle.std.proofs.Common.{◌≡◌, ℕ, ◌+◌, ◌*◌, ◌<◌, ◌≤◌, ◌/◌, arith, ap, ◌∙◌, ◌⊎◌, false, true}
+use Rattle.std.proofs.Common.{◌≡◌, ℕ, ◌+◌, ◌*◌, ◌<◌, ◌≤◌, ◌/◌, arith, ap, ◌∙◌, false, true}
 use mathlib.Core.Logic.{inl, inr}
 use Rattle.std.specs.Prelude.{max}
 use Rattle.std.proofs.Math.Nat.{div-eq_of_lt-le, lt-div-mul-add}
 use Rattle.std.proofs.lemmas.Nat.{mul-le}
+use Rattle.scram_types.proofs.Naturals.{low_or_high}
 use Rattle.scram_types.specs.Specification.{Parts}
 use Rattle.choice_table.specs.Numbering.{IsNextInScope, combinations, environments, is_down_in_scope, is_number_in_scope}
-
-low_or_high : (a b : ℕ) → (a < b) ⊎ (b ≤ a)
-low_or_high a b = grind arith
 
 pub in_block : (k d m : ℕ) → d * m ≤ k → k < (d + 1) * m → k / m ≡ d
 in_block k d m low high = div-eq_of_lt-le m low high

@@ -1,20 +1,9 @@
 -- Counts of the numbers that pass a test.
-use Rattle.std.proofs.Common.{◌≡◌, ℕ, zero, suc, ◌+◌, ◌*◌, ◌<◌, ◌≤◌, ◌/◌, refl, arith, ap, ◌∙◌, Bool, true, false}
+use Rattle.std.proofs.Common.{◌≡◌, ℕ, zero, suc, ◌+◌, ◌*◌, ◌<◌, ◌/◌, refl, arith, ap, ◌∙◌, Bool, true, false}
 use Rattle.std.specs.Prelude.{if◌then◌else◌}
 use Rattle.std.proofs.lemmas.Nat.{div-mul-add}
-use Rattle.choice_table.specs.Environments.{count_below}
-
-one_or_none : (b : Bool) → (if b then 1 else 0) ≤ 1
-one_or_none true = omega arith
-one_or_none false = omega arith
-
-pub count_most : (test : ℕ → Bool) (n : ℕ) → count_below test n ≤ n
-count_most test zero = omega arith
-count_most test (suc n) = let before = count_most test n in let here = one_or_none (test n) in omega arith
-
-pub count_same : (f g : ℕ → Bool) (n : ℕ) → ((k : ℕ) → k < n → f k ≡ g k) → count_below f n ≡ count_below g n
-count_same f g zero same = refl
-count_same f g (suc n) same = rw (same n (omega arith), count_same f g n (λ k less. same k (omega arith))) refl
+use Rattle.scram_types.proofs.BitSets.{count_same}
+use Rattle.scram_types.specs.Bits.{count_below}
 
 count_split : (test : ℕ → Bool) (a b : ℕ) → count_below test (a + b) ≡ count_below test a + count_below (λ k. test (a + k)) b
 count_split test a zero = let e : a + 0 ≡ a = omega arith in rw e (omega arith)

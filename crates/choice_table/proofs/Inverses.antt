@@ -1,11 +1,13 @@
 -- An environment's number and a number's environment are each other's inverse.
-use Rattle.std.proofs.Common.{◌≡◌, ℕ, zero, suc, ◌+◌, ◌-◌, ◌<◌, ◌≤◌, ◌^◌, ◌/◌, ◌%◌, refl, arith, ap, ◌∙◌, List, [], ◌∷◌, ◌++◌, length, drop, take, get_or, subst, true, length-drop}
-use Rattle.std.specs.Prelude.{Option, Some, nat_lt, replicate, slice_get, slice_index, unwrap_or}
+use Rattle.std.proofs.Common.{◌≡◌, ℕ, zero, suc, ◌+◌, ◌-◌, ◌<◌, ◌≤◌, ◌^◌, ◌/◌, ◌%◌, refl, arith, ap, ◌∙◌, List, [], ◌∷◌, ◌++◌, length, drop, take, get_or, subst, length-drop}
+use Rattle.std.specs.Prelude.{Option, Some, replicate, slice_get, slice_index, unwrap_or}
 use Rattle.std.proofs.Math.Nat.{mod-eq_of_lt, mod-lt}
-use Rattle.std.proofs.lemmas.Bool.Decides.{nat_tests}
 use Rattle.std.proofs.lemmas.Option.{slice_get_within}
 use Rattle.std.proofs.lemmas.List.{get_or-drop, length-append, length-replicate, take-append-drop}
 use Rattle.std.proofs.lemmas.Nat.{div_below, div-mul-add, mod-mul-add, mul-add-lt, div-add-mod'}
+use Rattle.scram_types.proofs.Naturals.{below_test}
+use Rattle.scram_types.proofs.Equality.{same_env}
+use Rattle.scram_types.proofs.Items.{zeros_everywhere}
 use Rattle.scram_types.specs.declared.flights.Env.{Env}
 use Rattle.scram_types.specs.declared.specification.Factor.{Factor}
 use Rattle.scram_types.specs.Specification.{Each, IsFactor, Parts}
@@ -67,11 +69,6 @@ values_length : (fs : List Factor) (digits : ℕ) → length (values_of fs digit
 values_length [] digits = refl
 values_length (f ∷ fs) digits = ap suc (values_length fs (digits % combinations fs))
 
-zeros_everywhere : (n x : ℕ) → ◌≡◌ {A = ℕ} (get_or (replicate n 0) x 0) 0
-zeros_everywhere zero x = refl
-zeros_everywhere (suc n) zero = refl
-zeros_everywhere (suc n) (suc x) = zeros_everywhere n x
-
 zeros_past : (fs : List Factor) (digits n x : ℕ) → length fs ≤ x → get_or (values_of fs digits ++ replicate n 0) x 0 ≡ 0
 zeros_past [] digits n x h = zeros_everywhere n x
 zeros_past (f ∷ fs) digits n zero h = absurd (omega arith)
@@ -82,12 +79,6 @@ all_zero [] zero h zeros = refl
 all_zero [] (suc n) h zeros = absurd (omega arith)
 all_zero (v ∷ vs) zero h zeros = absurd (omega arith)
 all_zero (v ∷ vs) (suc n) h zeros = rw (zeros 0, all_zero vs n (omega arith) (λ x. zeros (suc x))) refl
-
-same_env : (a b : ℕ) (c d : List ℕ) → a ≡ b → c ≡ d → ◌≡◌ {A = Env} (record { up = a; factors = c }) (record { up = b; factors = d })
-same_env a b c d e f = rw (e, f) refl
-
-below_test : (a b : ℕ) → a < b → nat_lt a b ≡ true
-below_test a b h = grind (arith, nat_tests)
 
 module _ (spec : Parts) (known : Each IsFactor spec.factors) (few : length spec.factors ≤ 6) where
   down_is : (v : Env) → v.up < 2 ^ length spec.procs → down_set spec v + v.up + 1 ≡ 2 ^ length spec.procs

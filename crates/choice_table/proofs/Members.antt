@@ -1,38 +1,20 @@
 -- What is up, place by place and bit by bit.
-use Rattle.std.proofs.Common.{◌≡◌, ℕ, zero, suc, ◌<◌, ◌^◌, ◌/◌, ◌%◌, refl, arith, sym, ap, ◌∙◌, Bool, true, false, List, [], ◌∷◌}
+use Rattle.std.proofs.Common.{◌≡◌, ℕ, zero, suc, ◌<◌, ◌^◌, ◌/◌, ◌%◌, refl, arith, sym, ap, ◌∙◌, true, List}
 use mathlib.Core.Logic.{inl, inr}
-use Rattle.std.specs.Prelude.{Option, Some, None, ◌&&◌, bit_and, ◌==◌, slice_get, unwrap_or}
-use Rattle.std.specs.List.{list_all}
+use Rattle.std.specs.Prelude.{Option, Some, None, bit_and, slice_get}
 use Rattle.std.specs.Int.{bit_at}
 use Rattle.std.proofs.Math.Nat.{mod-eq_of_lt, mod-one}
 use Rattle.std.proofs.lemmas.Bool.Decides.{nat_tests}
 use Rattle.std.proofs.lemmas.Nat.{and_le_l, and_mod, and_shr}
-use Rattle.std.proofs.lemmas.Option.{slice_get_within}
+use Rattle.scram_types.proofs.Naturals.{equal_test}
+use Rattle.scram_types.proofs.Items.{all_pass, each_passes}
 use Rattle.scram_types.specs.declared.flights.Env.{Env}
 use Rattle.scram_types.specs.declared.specification.Place.{Place}
-use Rattle.choice_table.specs.Environments.{has_bit, is_up_in}
+use Rattle.scram_types.specs.Bits.{has_bit}
+use Rattle.scram_types.proofs.BitSets.{twice, low_bits, bit_cases}
+use Rattle.choice_table.specs.Environments.{is_up_in}
 use Rattle.choice_table.specs.Choices.{all_up, is_place_up, places_of}
 use Rattle.choice_table.specs.Laws.{RunsWherePlacesAreUp, SetsAreUpByMembers}
-use Rattle.choice_table.proofs.Bits.{bit_cases, low_bits, twice}
-
-both_left : (a b : Bool) → (a && b) ≡ true → a ≡ true
-both_left true b h = refl
-both_left false b h = h
-
-both_right : (a b : Bool) → (a && b) ≡ true → b ≡ true
-both_right true b h = h
-both_right false b h = cc
-
-pub each_passes : {A : Type 0} (test : A → Bool) (xs : List A) → list_all test xs ≡ true → (i : ℕ) (x : A) → slice_get xs i ≡ Some x → test x ≡ true
-each_passes test [] h i x e = let none : i < 0 = slice_get_within [] i x e in absurd (omega arith)
-each_passes test (y ∷ ys) h zero x e =
-    let same : y ≡ x = ap (λ o. unwrap_or o y) e in
-    rw (← same) (both_left (test y) (list_all test ys) h)
-each_passes test (y ∷ ys) h (suc i) x e = each_passes test ys (both_right (test y) (list_all test ys) h) i x e
-
-pub all_pass : {A : Type 0} (test : A → Bool) (xs : List A) → ((i : ℕ) (x : A) → slice_get xs i ≡ Some x → test x ≡ true) → list_all test xs ≡ true
-all_pass test [] h = refl
-all_pass test (x ∷ xs) h = rw (h 0 x refl, all_pass test xs (λ i y e. h (suc i) y e)) refl
 
 up_places : (v : Env) (places : List (Option Place)) → ((a : ℕ) (place : Place) → slice_get places a ≡ Some (Some place) → is_up_in v place.proc.0 ≡ true)
     → (a : ℕ) (place : Option Place) → slice_get places a ≡ Some place → is_place_up v place ≡ true
@@ -51,9 +33,6 @@ common_bit a b p = ap (λ n. n % 2) (and_shr a b p) ∙ and_mod (a / 2 ^ p) (b /
 
 bit_known : (set p : ℕ) → has_bit set p ≡ true → bit_at set p ≡ 1
 bit_known set p h = grind (arith, nat_tests)
-
-equal_test : (a b : ℕ) → a ≡ b → (a == b) ≡ true
-equal_test a b h = grind (arith, nat_tests)
 
 bit_told : (set p : ℕ) → bit_at set p ≡ 1 → has_bit set p ≡ true
 bit_told set p h = rw (h) refl

@@ -1,13 +1,9 @@
 -- Which processors are up, and which environments are in scope.
-use Rattle.std.specs.Prelude.{◌≡◌, ℕ, zero, suc, ◌+◌, ◌^◌, ◌<◌, ◌≤◌, Bool, not, ◌==◌, nat_le, length, slice_get, slice_index, Some, if◌then◌else◌}
-use Rattle.std.specs.Int.{bit_at}
+use Rattle.std.specs.Prelude.{◌≡◌, ℕ, ◌^◌, ◌<◌, ◌≤◌, Bool, not, nat_le, length, slice_get, slice_index, Some}
+use Rattle.scram_types.specs.Bits.{count_below, has_bit}
 use Rattle.scram_types.specs.declared.flights.Env.{Env}
 use Rattle.scram_types.specs.declared.specification.Factor.{Factor}
 use Rattle.scram_types.specs.Specification.{Parts}
-
--- Number p is in a set of numbers that is kept as bits.
-abbrev pub has_bit : ℕ → ℕ → Bool
-has_bit set p = bit_at set p == 1
 
 abbrev pub is_up_in : Env → ℕ → Bool
 is_up_in v p = has_bit v.up p
@@ -15,11 +11,6 @@ is_up_in v p = has_bit v.up p
 -- The value of factor x, by its number among the factor's values.
 abbrev pub factor_in : Env → ℕ → ℕ
 factor_in v x = slice_index v.factors x
-
--- How many numbers below n pass a test.
-abbrev pub count_below : (ℕ → Bool) → ℕ → ℕ
-count_below test zero = 0
-count_below test (suc n) = count_below test n + (if test n then 1 else 0)
 
 abbrev pub down_count : Parts → Env → ℕ
 down_count spec v = count_below (λ p. not (is_up_in v p)) (length spec.procs)

@@ -4,7 +4,8 @@ use Rattle.scram_types.specs.declared.ids.ConfId.{ConfId}
 use Rattle.scram_types.specs.declared.flights.Env.{Env}
 use Rattle.scram_types.specs.declared.specification.Place.{Place}
 use Rattle.scram_types.specs.Specification.{Parts}
-use Rattle.choice_table.specs.Environments.{has_bit, is_up_in}
+use Rattle.scram_types.specs.Bits.{has_bit}
+use Rattle.choice_table.specs.Environments.{is_up_in}
 use Rattle.choice_table.specs.Choices.{all_up, is_runnable, places_of}
 
 -- A configuration is runnable exactly where each processor on which it places an application is up.

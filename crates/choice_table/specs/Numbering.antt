@@ -1,15 +1,11 @@
 -- The number of an environment, and the environment of a number.
-use Rattle.std.specs.Prelude.{◌≡◌, ℕ, zero, suc, ◌+◌, ◌-◌, ◌*◌, ◌/◌, ◌%◌, ◌^◌, ◌<◌, ◌≤◌, Bool, true, false, not, nat_le, nat_lt, List, [], ◌∷◌, ◌++◌, length, replicate, slice_get, Option, Some, None, if◌then◌else◌}
+use Rattle.std.specs.Prelude.{◌≡◌, ℕ, ◌+◌, ◌-◌, ◌*◌, ◌/◌, ◌%◌, ◌^◌, ◌<◌, ◌≤◌, Bool, true, false, not, nat_le, nat_lt, List, [], ◌∷◌, ◌++◌, length, replicate, slice_get, Option, Some, None, if◌then◌else◌}
 use Rattle.std.specs.Option.{option_map_or}
+use Rattle.scram_types.specs.Bits.{bits_below, count_below, has_bit}
 use Rattle.scram_types.specs.declared.flights.Env.{Env}
 use Rattle.scram_types.specs.declared.specification.Factor.{Factor}
 use Rattle.scram_types.specs.Specification.{Parts}
-use Rattle.choice_table.specs.Environments.{count_below, has_bit, in_scope, is_up_in}
-
--- The numbers below n that pass a test, as bits: the sum of 2 ^ p over them.
-abbrev pub bits_below : (ℕ → Bool) → ℕ → ℕ
-bits_below test zero = 0
-bits_below test (suc n) = bits_below test n + (if test n then 2 ^ n else 0)
+use Rattle.choice_table.specs.Environments.{in_scope, is_up_in}
 
 -- The processors that are down, as bits.
 abbrev pub down_set : Parts → Env → ℕ

@@ -4,7 +4,7 @@ ghost use Rattle.std.specs.Prelude.{◌≡◌, ◌<◌, length};
 ghost use Rattle.std.specs.List.{list_all};
 ghost use Rattle.choice_table.specs.Choices.{all_up, choose, has_rule, has_source, has_wanted, is_place_up, is_runnable, rule_fits};
 
-use crate::environments::is_in_set;
+use scram_types::bits::has_bit;
 use scram_types::{Choice, ConfId, Env, Place, Spec, Want};
 
 /// The target of the first rule that fits configuration `c` and the environment, and `c` where none
@@ -43,7 +43,7 @@ fn has_processor(place: &Option<Place>, env: &Env) -> bool
     ensures { result ≡ is_place_up env.now place.now }
 {
     match place {
-        Some(place) => is_in_set(env.up, place.proc.0),
+        Some(place) => has_bit(env.up, place.proc.0),
         None => true,
     }
 }

@@ -1,8 +1,10 @@
 //! Which processors are up, and which environments are in scope.
 
 ghost use Rattle.std.specs.Prelude.{◌≡◌, ◌≤◌, not};
-ghost use Rattle.choice_table.specs.Environments.{count_below, has_bit, in_scope};
+ghost use Rattle.scram_types.specs.Bits.{count_below, has_bit};
+ghost use Rattle.choice_table.specs.Environments.{in_scope};
 
+use scram_types::bits::has_bit;
 use scram_types::{Env, Spec};
 
 /// Whether at most as many processors are down as the specification's failure assumption lets be down.
@@ -20,16 +22,9 @@ pub(crate) fn count_down(processors: u8, up: u8) -> u8
 {
     let mut down = 0;
     for p in 0..processors {
-        if !is_in_set(up, p) {
+        if !has_bit(up, p) {
             down += 1;
         }
     }
     down
-}
-
-// Whether number `p` is in a set that is kept as bits.
-pub(crate) fn is_in_set(set: u8, p: u8) -> bool
-    ensures { result ≡ has_bit set p }
-{
-    p < 8 && set >> p & 1 == 1
 }

@@ -2,8 +2,9 @@
 
 ghost use Rattle.std.specs.Prelude.{◌≡◌, ◌+◌, ◌-◌, ◌*◌, ◌/◌, ◌%◌, ◌^◌, ◌<◌, ◌≤◌, ◌++◌, length, not, replicate, IfSome, MatchOption, Some};
 ghost use Rattle.scram_types.specs.Specification.{Each, IsFactor};
-ghost use Rattle.choice_table.specs.Environments.{IsEnv, has_bit};
-ghost use Rattle.choice_table.specs.Numbering.{IsNextInScope, NoneInScope, bits_below, combinations, digits_of, env_of, environments, is_down_in_scope, number_of, numbered, states, value_count, values_of};
+ghost use Rattle.scram_types.specs.Bits.{has_bit, bits_below};
+ghost use Rattle.choice_table.specs.Environments.{IsEnv};
+ghost use Rattle.choice_table.specs.Numbering.{IsNextInScope, NoneInScope, combinations, digits_of, env_of, environments, is_down_in_scope, number_of, numbered, states, value_count, values_of};
 
 use crate::environments::count_down;
 use scram_types::{Env, Spec};

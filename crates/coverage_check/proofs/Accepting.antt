@@ -1,41 +1,34 @@
 -- A specification has no refusal exactly where it is accepted.
 use Rattle.std.proofs.Common.{◌≡◌, ◌≢◌, ℕ, zero, suc, ◌+◌, ◌<◌, ◌≤◌, Bool, true, false, not, refl, arith, ◌⊎◌, ap, sym, subst, ◌∙◌, List, [], ◌∷◌, length}
 use mathlib.Core.Logic.{inl, inr}
-use Rattle.std.specs.Prelude.{◌&&◌, ◌||◌, ◌==◌, Option, Some, None, if◌then◌else◌, nat_le, nat_lt, option_map, slice_get}
+use Rattle.std.specs.Prelude.{◌&&◌, ◌||◌, ◌==◌, Option, Some, None, if◌then◌else◌, nat_le, option_map, slice_get}
 use Rattle.std.specs.Option.{option_map_or, option_or}
 use Rattle.std.proofs.lemmas.Option.{slice_get_within}
-use Rattle.std.proofs.lemmas.Bool.Decides.{nat_tests}
+use Rattle.std.proofs.lemmas.Bool.{not-true, not-false, not_from_true}
+use Rattle.scram_types.proofs.Naturals.{below, at_most_test, at_most, not_below_test, not_below, below_test, equal_test, equal}
 use Rattle.scram_types.specs.declared.ids.ConfId.{ConfId}
 use Rattle.scram_types.specs.declared.flights.Env.{Env}
 use Rattle.scram_types.specs.declared.specification.Bound.{Bound}
 use Rattle.scram_types.specs.declared.specification.Invariant.{Invariant}
 use Rattle.scram_types.specs.declared.specification.Precondition.{Precondition}
 use Rattle.scram_types.specs.Specification.{IsSpec, Parts, bound_in}
+use Rattle.scram_types.specs.Lookups.{place_of, conf_id, opening_env}
+use Rattle.scram_types.proofs.Searches.{all_each, below_none, each_all, none_below}
+use Rattle.scram_types.proofs.Booleans.{and_left, and_right, by_bool, or_cases, true_false, and_true, and_false}
+use Rattle.scram_types.proofs.Options.{none_both, none_left, none_right, some_none}
+use Rattle.scram_types.proofs.Equality.{same_conf}
 use Rattle.choice_table.specs.Environments.{IsEnv, in_scope}
 use Rattle.choice_table.specs.Choices.{IsTarget, choose, has_rule, has_source, is_runnable}
 use Rattle.choice_table.specs.Numbering.{environments, is_number_in_scope, number_of, numbered, states}
-use Rattle.dep_order.specs.Timetables.{place_of}
 use Rattle.coverage_check.specs.declared.choosing.Demand.{Demand}
 use Rattle.coverage_check.specs.declared.choosing.Demand.TheVariants as demand
-use Rattle.coverage_check.specs.Showing.{conf}
 use Rattle.coverage_check.specs.Form.{is_empty, is_overloaded, is_same, lacks_need, load_refusal, load_refusal_in, need_refusal, need_refusal_in, shape_refusal, shape_refusal_of, state_refusal, twin_refusal_of}
-use Rattle.coverage_check.specs.Choosing.{demand_refusal, demand_refusal_of, first_unmet_env, is_unmet, leaves_start, opening_env, start_refusal, unmet_env_at}
+use Rattle.coverage_check.specs.Choosing.{demand_refusal, demand_refusal_of, first_unmet_env, is_unmet, leaves_start, start_refusal, unmet_env_at}
 use Rattle.coverage_check.specs.Timing.{bound_refusal, bound_refusal_of, can_return, further, greatest_bound, has_short_window, is_bound_asked, is_bounded, is_target, lacks_bound, least, window_refusal}
 use Rattle.coverage_check.specs.Holding.{breaks_entering, breaks_from, holds_entering, holds_from, holds_leaving, holds_on_way, holds_reached, invariant_refusal, invariant_refusal_at, invariant_refusal_of, precondition_refusal, precondition_refusal_at, precondition_refusal_of}
 use Rattle.coverage_check.specs.Acceptance.{Accepts, AcceptsWhereUnrefused, IsKept, IsServed, IsShaped, choice_refusal, first_refusal, form_refusal, range_refusal, time_refusal}
-use Rattle.coverage_check.proofs.Searching.{all_each, and_left, and_right, below_none, by_bool, each_all, none_below, none_both, none_left, none_right, none_shown, not_not, not_shown, or_cases, some_none, true_false}
-use Rattle.coverage_check.proofs.Reaching.{at_most, at_most_test, belongs_numbered, choose_inside, equal, equal_test, below_test, not_below, not_below_test, number_inside, numbered_number, same_conf, target_test, target_tested}
-
-not_false : (b : Bool) → not b ≡ false → b ≡ true
-not_false true e = refl
-not_false false e = absurd (cc)
-
-not_true : (b : Bool) → b ≡ true → not b ≡ false
-not_true b e = rw (e) refl
-
-second_false : (a b : Bool) → (a && b) ≡ false → a ≡ true → b ≡ false
-second_false true b e h = e
-second_false false b e h = absurd (cc)
+use Rattle.coverage_check.proofs.Showing.{none_shown, not_shown}
+use Rattle.coverage_check.proofs.Reaching.{belongs_numbered, choose_inside, number_inside, numbered_number, target_test, target_tested}
 
 either_false : (a b : Bool) → (a ≡ true → b ≡ false) → (a && b) ≡ false
 either_false true b f = f refl
@@ -62,12 +55,6 @@ implied false b e h = absurd (cc)
 implies : (a b : Bool) → (a ≡ true → b ≡ true) → (not a || b) ≡ true
 implies true b f = f refl
 implies false b f = refl
-
-both : (a b : Bool) → a ≡ true → b ≡ true → (a && b) ≡ true
-both a b e f = rw (e, f) refl
-
-below : (a b : ℕ) → nat_lt a b ≡ true → a < b
-below a b h = grind (arith, nat_tests)
 
 -- an item that is there refuses nothing
 at_none : {A B : Type 0} (o : Option A) (f : A → Option B) → ((x : A) → o ≡ Some x → f x ≡ None) → option_map_or f o None ≡ None
@@ -103,7 +90,7 @@ module _ (spec : Parts) (made : IsSpec spec) where
       let nowhere = map_none _ (first_unmet_env spec asked c) (below_none (demand_refusal_of spec asked) (length spec.confs) c.0 e known) in
       let here = not_shown (is_number_in_scope spec n && is_unmet spec asked c (numbered spec n)) _
       (below_none (unmet_env_at spec asked c) (environments spec) n nowhere (number_inside spec made v belongs)) in
-      ap (is_unmet spec asked c) (sym same) ∙ second_false (is_number_in_scope spec n) _ here (ap (in_scope spec) same ∙ scope)
+      ap (is_unmet spec asked c) (sym same) ∙ and_false (is_number_in_scope spec n) _ here (ap (in_scope spec) same ∙ scope)
 
   served : (i j : ConfId) (o : Option ℕ) → bound_in spec.bounds i.0 j.0 ≡ o → option_map_or (λ (t : ℕ). nat_le (least spec i j) t) o false ≡ true → IsServed spec i j
   served i j None given test = absurd (cc)
@@ -121,7 +108,7 @@ module _ (spec : Parts) (made : IsSpec spec) where
   bounded e i j known target asked =
       let inside : j.0 < length spec.confs = subst (λ (k : ConfId). k.0 < length spec.confs) target.chosen (choose_inside spec made i target.seen known) in
       let free = not_shown (lacks_bound spec i j.0) _ (below_none _ (length spec.confs) j.0 (below_none (bound_refusal_of spec) (length spec.confs) i.0 e known) inside) in
-      let given = not_false (is_bounded spec i j) (second_false (is_bound_asked spec i j.0) _ free (both _ _ (target_test spec made i j target) (asked_true i j asked))) in
+      let given = not-false (is_bounded spec i j) (and_false (is_bound_asked spec i j.0) _ free (and_true _ _ (target_test spec made i j target) (asked_true i j asked))) in
       served i j (bound_in spec.bounds i.0 j.0) refl given
 
   invariant_none : invariant_refusal spec ≡ None → (k : ℕ) (inv : Invariant) → slice_get spec.invariants k ≡ Some inv → invariant_refusal_of spec k inv ≡ None
@@ -173,17 +160,17 @@ module _ (spec : Parts) (made : IsSpec spec) where
         few_states = not_below 16384 (states spec) (not_shown _ _ state);
         shaped = shaped shape;
         carried = λ c p known there. not_shown (is_overloaded spec c p) _ (below_none _ (length spec.procs) p (below_none (load_refusal_in spec) (length spec.confs) c.0 load known) there);
-        ruled = λ c v known belongs scope. not_false (has_rule spec c v) (met demand.HasRule rule c v known belongs scope);
-        runs = λ c v known belongs scope. not_false (is_runnable spec (choose spec c v) v) (met demand.CanRun run c v known belongs scope);
+        ruled = λ c v known belongs scope. not-false (has_rule spec c v) (met demand.HasRule rule c v known belongs scope);
+        runs = λ c v known belongs scope. not-false (is_runnable spec (choose spec c v) v) (met demand.CanRun run c v known belongs scope);
         stays = λ c v known belongs scope. same_conf (choose spec (choose spec c v) v) (choose spec c v)
-            (equal _ _ (not_false ((choose spec (choose spec c v) v).0 == (choose spec c v).0) (met demand.Stays stay c v known belongs scope)));
+            (equal _ _ (not-false ((choose spec (choose spec c v) v).0 == (choose spec c v).0) (met demand.Stays stay c v known belongs scope)));
         starts = same_conf (choose spec spec.start (opening_env spec)) spec.start
-            (equal _ _ (not_false ((choose spec spec.start (opening_env spec)).0 == spec.start.0) (not_shown (leaves_start spec) _ start)));
+            (equal _ _ (not-false ((choose spec spec.start (opening_env spec)).0 == spec.start.0) (not_shown (leaves_start spec) _ start)));
         bounded = bounded bound;
         windowed = λ k given there. (let most = bounds_most spec.bounds k given there in let wide = not_below spec.window (greatest_bound spec.bounds + 1) (not_shown _ _ window) in omega arith);
         kept = λ k inv there i known speaks. kept inv i known
-            (not_false (holds_from spec inv i) (second_false (has_source inv.from i) _ (not_shown (breaks_from spec inv i) _ (below_none _ (length spec.confs) i.0 (invariant_none invariant k inv there) known)) speaks));
-        entered = λ k pre there. not_false (holds_entering spec pre (place_of spec pre.conf pre.app.0))
+            (not-false (holds_from spec inv i) (and_false (has_source inv.from i) _ (not_shown (breaks_from spec inv i) _ (below_none _ (length spec.confs) i.0 (invariant_none invariant k inv there) known)) speaks));
+        entered = λ k pre there. not-false (holds_entering spec pre (place_of spec pre.conf pre.app.0))
             (not_shown (breaks_entering spec pre) _ (precondition_none precondition k pre there));
       }
 
@@ -192,37 +179,37 @@ module _ (spec : Parts) (made : IsSpec spec) where
   module _ (accepts : Accepts spec) where
     no_need : need_refusal spec ≡ None
     no_need = none_below (need_refusal_in spec) (length spec.confs) (λ c known.
-        none_below _ (length spec.apps) (λ a there. none_shown (lacks_need spec (conf c) a) _ (accepts.needs_on (conf c) a known there)))
+        none_below _ (length spec.apps) (λ a there. none_shown (lacks_need spec (conf_id c) a) _ (accepts.needs_on (conf_id c) a known there)))
 
     no_state : state_refusal spec ≡ None
     no_state = none_shown _ _ (not_below_test 16384 (states spec) accepts.few_states)
 
     no_shape : shape_refusal spec ≡ None
     no_shape = none_below (shape_refusal_of spec) (length spec.confs) (λ c known.
-        none_if (is_empty spec (conf c)) _ (twin_refusal_of spec c) (accepts.shaped (conf c) known).something_on
-        (none_below _ c (λ d less. none_shown (is_same spec (conf c) (conf d)) _ ((accepts.shaped (conf c) known).differs (conf d) less))))
+        none_if (is_empty spec (conf_id c)) _ (twin_refusal_of spec c) (accepts.shaped (conf_id c) known).something_on
+        (none_below _ c (λ d less. none_shown (is_same spec (conf_id c) (conf_id d)) _ ((accepts.shaped (conf_id c) known).differs (conf_id d) less))))
 
     no_load : load_refusal spec ≡ None
     no_load = none_below (load_refusal_in spec) (length spec.confs) (λ c known.
-        none_below _ (length spec.procs) (λ p there. none_shown (is_overloaded spec (conf c) p) _ (accepts.carried (conf c) p known there)))
+        none_below _ (length spec.procs) (λ p there. none_shown (is_overloaded spec (conf_id c) p) _ (accepts.carried (conf_id c) p known there)))
 
     all_met : (asked : Demand) (c : ConfId) (v : Env) → c.0 < length spec.confs → IsEnv spec v → in_scope spec v ≡ true → is_unmet spec asked c v ≡ false
-    all_met demand.HasRule c v known belongs scope = not_true (has_rule spec c v) (accepts.ruled c v known belongs scope)
-    all_met demand.CanRun c v known belongs scope = not_true (is_runnable spec (choose spec c v) v) (accepts.runs c v known belongs scope)
-    all_met demand.Stays c v known belongs scope = not_true _ (equal_test _ _ (ap (λ (k : ConfId). k.0) (accepts.stays c v known belongs scope)))
+    all_met demand.HasRule c v known belongs scope = not_from_true (has_rule spec c v) (accepts.ruled c v known belongs scope)
+    all_met demand.CanRun c v known belongs scope = not_from_true (is_runnable spec (choose spec c v) v) (accepts.runs c v known belongs scope)
+    all_met demand.Stays c v known belongs scope = not_from_true _ (equal_test _ _ (ap (λ (k : ConfId). k.0) (accepts.stays c v known belongs scope)))
 
     no_demand : (asked : Demand) → demand_refusal spec asked ≡ None
     no_demand asked = none_below (demand_refusal_of spec asked) (length spec.confs) (λ c known.
-        none_map _ (first_unmet_env spec asked (conf c)) (none_below (unmet_env_at spec asked (conf c)) (environments spec) (λ n inside.
-        none_shown (is_number_in_scope spec n && is_unmet spec asked (conf c) (numbered spec n)) _
-        (either_false (is_number_in_scope spec n) _ (λ scope. all_met asked (conf c) (numbered spec n) known (belongs_numbered spec made n inside) scope)))))
+        none_map _ (first_unmet_env spec asked (conf_id c)) (none_below (unmet_env_at spec asked (conf_id c)) (environments spec) (λ n inside.
+        none_shown (is_number_in_scope spec n && is_unmet spec asked (conf_id c) (numbered spec n)) _
+        (either_false (is_number_in_scope spec n) _ (λ scope. all_met asked (conf_id c) (numbered spec n) known (belongs_numbered spec made n inside) scope)))))
 
     no_start : start_refusal spec ≡ None
-    no_start = none_shown (leaves_start spec) _ (not_true _ (equal_test _ _ (ap (λ (k : ConfId). k.0) accepts.starts)))
+    no_start = none_shown (leaves_start spec) _ (not_from_true _ (equal_test _ _ (ap (λ (k : ConfId). k.0) accepts.starts)))
 
     way_open : (i j : ConfId) → (not (i.0 == j.0) || can_return spec) ≡ true → (i.0 ≢ j.0) ⊎ (1 ≤ further spec.policy spec.changes)
     way_open i j test = elim (or_cases (not (i.0 == j.0)) (can_return spec) test) [
-      | inl away ↦ inl (λ same. true_false (i.0 == j.0) (equal_test i.0 j.0 same) (not_not (i.0 == j.0) away))
+      | inl away ↦ inl (λ same. true_false (i.0 == j.0) (equal_test i.0 j.0 same) (not-true (i.0 == j.0) away))
       | inr returns ↦ inr (below 0 (further spec.policy spec.changes) returns)
     ]
 
@@ -232,32 +219,32 @@ module _ (spec : Parts) (made : IsSpec spec) where
     no_bound : bound_refusal spec ≡ None
     no_bound = none_below (bound_refusal_of spec) (length spec.confs) (λ i known.
         none_below _ (length spec.confs) (λ j there.
-        none_shown (lacks_bound spec (conf i) j) _ (either_false (is_bound_asked spec (conf i) j) _ (λ wanted.
-        let target = and_left (is_target spec (conf i) j) _ wanted in
-        let asked = and_right (is_target spec (conf i) j) _ wanted in
-        not_true (is_bounded spec (conf i) (conf j)) (bound_serves (conf i) (conf j)
-        (accepts.bounded (conf i) (conf j) known (target_tested spec made (conf i) (conf j) target) (way_open (conf i) (conf j) asked)))))))
+        none_shown (lacks_bound spec (conf_id i) j) _ (either_false (is_bound_asked spec (conf_id i) j) _ (λ wanted.
+        let target = and_left (is_target spec (conf_id i) j) _ wanted in
+        let asked = and_right (is_target spec (conf_id i) j) _ wanted in
+        not_from_true (is_bounded spec (conf_id i) (conf_id j)) (bound_serves (conf_id i) (conf_id j)
+        (accepts.bounded (conf_id i) (conf_id j) known (target_tested spec made (conf_id i) (conf_id j) target) (way_open (conf_id i) (conf_id j) asked)))))))
 
     no_window : window_refusal spec ≡ None
     no_window = none_shown (has_short_window spec) _ (not_below_test spec.window (greatest_bound spec.bounds + 1)
         (most_bounds spec.bounds spec.window made.window_least accepts.windowed))
 
     each_held : (inv : Invariant) (i : ConfId) → IsKept spec inv i → holds_from spec inv i ≡ true
-    each_held inv i is = both (holds_leaving spec inv (place_of spec i inv.app.0)) _ is.leaving
+    each_held inv i is = and_true (holds_leaving spec inv (place_of spec i inv.app.0)) _ is.leaving
         (each_all (holds_on_way spec inv i) (length spec.confs) (λ j there.
-        implies (is_target spec i j) _ (λ target. is.reaching (conf j) (target_tested spec made i (conf j) target))))
+        implies (is_target spec i j) _ (λ target. is.reaching (conf_id j) (target_tested spec made i (conf_id j) target))))
 
     no_invariant : invariant_refusal spec ≡ None
     no_invariant = none_below (invariant_refusal_at spec) (length spec.invariants) (λ k inside.
         at_none (slice_get spec.invariants k) (invariant_refusal_of spec k) (λ inv there.
         none_below _ (length spec.confs) (λ i known.
-        none_shown (breaks_from spec inv (conf i)) _ (either_false (has_source inv.from (conf i)) _ (λ speaks.
-        not_true (holds_from spec inv (conf i)) (each_held inv (conf i) (accepts.kept k inv there (conf i) known speaks)))))))
+        none_shown (breaks_from spec inv (conf_id i)) _ (either_false (has_source inv.from (conf_id i)) _ (λ speaks.
+        not_from_true (holds_from spec inv (conf_id i)) (each_held inv (conf_id i) (accepts.kept k inv there (conf_id i) known speaks)))))))
 
     no_precondition : precondition_refusal spec ≡ None
     no_precondition = none_below (precondition_refusal_at spec) (length spec.preconditions) (λ k inside.
         at_none (slice_get spec.preconditions k) (precondition_refusal_of spec k) (λ pre there.
-        none_shown (breaks_entering spec pre) _ (not_true _ (accepts.entered k pre there))))
+        none_shown (breaks_entering spec pre) _ (not_from_true _ (accepts.entered k pre there))))
 
     pub unrefused : first_refusal spec ≡ None
     unrefused = none_both (form_refusal spec) _

@@ -4,17 +4,20 @@ use mathlib.Core.Logic.{inl, inr}
 use Rattle.std.specs.Prelude.{◌&&◌, Option, Some, None, option_map, slice_get}
 use Rattle.std.specs.Option.{option_map_or, option_or}
 use Rattle.scram_types.specs.Specification.{Parts}
+use Rattle.scram_types.specs.Lookups.{conf_id}
+use Rattle.scram_types.proofs.Booleans.{and_left, and_right}
+use Rattle.scram_types.proofs.Searches.{found_below}
+use Rattle.scram_types.proofs.Options.{same_some, some_either, some_none}
 use Rattle.choice_table.specs.Numbering.{environments, is_number_in_scope, numbered}
 use Rattle.coverage_check.specs.declared.choosing.Demand.{Demand}
 use Rattle.coverage_check.specs.declared.choosing.Demand.TheVariants as demand
 use Rattle.coverage_check.specs.declared.shown.Shown.{Shown}
-use Rattle.coverage_check.specs.Showing.{conf}
 use Rattle.coverage_check.specs.Form.{has_too_many_states, is_empty, is_overloaded, is_same, lacks_need, load_refusal, load_refusal_in, need_refusal, need_refusal_in, shape_refusal, shape_refusal_of, state_refusal, twin_refusal_of}
 use Rattle.coverage_check.specs.Choosing.{demand_refusal, demand_refusal_of, first_unmet_env, is_unmet, leaves_start, start_refusal, unmet_env_at}
 use Rattle.coverage_check.specs.Timing.{bound_refusal, bound_refusal_of, has_short_window, lacks_bound, window_refusal}
 use Rattle.coverage_check.specs.Holding.{breaks_entering, breaks_from, invariant_refusal, invariant_refusal_at, invariant_refusal_of, precondition_refusal, precondition_refusal_at, precondition_refusal_of}
 use Rattle.coverage_check.specs.Acceptance.{IsBroken, IsBroken.NeedOff, IsBroken.ManyStates, IsBroken.NothingOn, IsBroken.SameAgain, IsBroken.Overloaded, IsBroken.Unmet, IsBroken.StartLeft, IsBroken.BoundWanting, IsBroken.WindowShort, IsBroken.InvariantBroken, IsBroken.PreconditionBroken, ShownIsBroken, choice_refusal, form_refusal, range_refusal, time_refusal}
-use Rattle.coverage_check.proofs.Searching.{and_left, and_right, found_below, same_some, shown_where, some_either, some_none}
+use Rattle.coverage_check.proofs.Showing.{shown_where}
 
 at_some : {A B : Type 0} (o : Option A) (f : A → Option B) (y : B) → option_map_or f o None ≡ Some y → (x : A) × (o ≡ Some x) × (f x ≡ Some y)
 at_some None f y e = some_none y (sym e)
@@ -29,7 +32,7 @@ module _ (spec : Parts) (shown : Shown) where
   need_broken e =
       let c = found_below (need_refusal_in spec) (length spec.confs) shown e in
       let a = found_below _ (length spec.apps) shown c.2 in
-      let is = shown_where (lacks_need spec (conf c.0) a.0) _ shown a.2 in
+      let is = shown_where (lacks_need spec (conf_id c.0) a.0) _ shown a.2 in
       NeedOff c.0 a.0 c.1 a.1 is.0 is.1
 
   state_broken : state_refusal spec ≡ Some shown → IsBroken spec shown
@@ -38,31 +41,31 @@ module _ (spec : Parts) (shown : Shown) where
   twin_broken : (c : ℕ) → c < length spec.confs → twin_refusal_of spec c ≡ Some shown → IsBroken spec shown
   twin_broken c known e =
       let d = found_below _ c shown e in
-      let is = shown_where (is_same spec (conf c) (conf d.0)) _ shown d.2 in
+      let is = shown_where (is_same spec (conf_id c) (conf_id d.0)) _ shown d.2 in
       SameAgain c d.0 known d.1 is.0 is.1
 
-  shaped_broken : (c : ℕ) (empty : Bool) → c < length spec.confs → is_empty spec (conf c) ≡ empty → shape_refusal_of spec c ≡ Some shown → IsBroken spec shown
+  shaped_broken : (c : ℕ) (empty : Bool) → c < length spec.confs → is_empty spec (conf_id c) ≡ empty → shape_refusal_of spec c ≡ Some shown → IsBroken spec shown
   shaped_broken c true known is e = NothingOn c known is (sym (same_some _ shown (rw (is) at e)))
   shaped_broken c false known is e = twin_broken c known (rw (is) at e)
 
   shape_broken : shape_refusal spec ≡ Some shown → IsBroken spec shown
   shape_broken e =
       let c = found_below (shape_refusal_of spec) (length spec.confs) shown e in
-      shaped_broken c.0 (is_empty spec (conf c.0)) c.1 refl c.2
+      shaped_broken c.0 (is_empty spec (conf_id c.0)) c.1 refl c.2
 
   load_broken : load_refusal spec ≡ Some shown → IsBroken spec shown
   load_broken e =
       let c = found_below (load_refusal_in spec) (length spec.confs) shown e in
       let p = found_below _ (length spec.procs) shown c.2 in
-      let is = shown_where (is_overloaded spec (conf c.0) p.0) _ shown p.2 in
+      let is = shown_where (is_overloaded spec (conf_id c.0) p.0) _ shown p.2 in
       Overloaded c.0 p.0 c.1 p.1 is.0 is.1
 
   demand_broken : (asked : Demand) → demand_refusal spec asked ≡ Some shown → IsBroken spec shown
   demand_broken asked e =
       let c = found_below (demand_refusal_of spec asked) (length spec.confs) shown e in
-      let v = mapped _ (first_unmet_env spec asked (conf c.0)) shown c.2 in
-      let n = found_below (unmet_env_at spec asked (conf c.0)) (environments spec) v.0 v.1 in
-      let is = shown_where (is_number_in_scope spec n.0 && is_unmet spec asked (conf c.0) (numbered spec n.0)) (numbered spec n.0) v.0 n.2 in
+      let v = mapped _ (first_unmet_env spec asked (conf_id c.0)) shown c.2 in
+      let n = found_below (unmet_env_at spec asked (conf_id c.0)) (environments spec) v.0 v.1 in
+      let is = shown_where (is_number_in_scope spec n.0 && is_unmet spec asked (conf_id c.0) (numbered spec n.0)) (numbered spec n.0) v.0 n.2 in
       Unmet asked c.0 n.0 c.1 n.1 (and_left (is_number_in_scope spec n.0) _ is.0) (and_right (is_number_in_scope spec n.0) _ is.0) (rw (is.1) at v.2)
 
   start_broken : start_refusal spec ≡ Some shown → IsBroken spec shown
@@ -72,7 +75,7 @@ module _ (spec : Parts) (shown : Shown) where
   bound_broken e =
       let i = found_below (bound_refusal_of spec) (length spec.confs) shown e in
       let j = found_below _ (length spec.confs) shown i.2 in
-      let is = shown_where (lacks_bound spec (conf i.0) j.0) _ shown j.2 in
+      let is = shown_where (lacks_bound spec (conf_id i.0) j.0) _ shown j.2 in
       BoundWanting i.0 j.0 i.1 j.1 is.0 is.1
 
   window_broken : window_refusal spec ≡ Some shown → IsBroken spec shown
@@ -83,7 +86,7 @@ module _ (spec : Parts) (shown : Shown) where
       let k = found_below (invariant_refusal_at spec) (length spec.invariants) shown e in
       let inv = at_some (slice_get spec.invariants k.0) (invariant_refusal_of spec k.0) shown k.2 in
       let i = found_below _ (length spec.confs) shown inv.2 in
-      let is = shown_where (breaks_from spec inv.0 (conf i.0)) _ shown i.2 in
+      let is = shown_where (breaks_from spec inv.0 (conf_id i.0)) _ shown i.2 in
       InvariantBroken k.0 i.0 inv.0 inv.1 i.1 is.0 is.1
 
   precondition_broken : precondition_refusal spec ≡ Some shown → IsBroken spec shown

@@ -10,11 +10,12 @@ use Rattle.scram_types.specs.declared.specification.ModeSpec.{ModeSpec}
 use Rattle.scram_types.specs.declared.specification.Policy.{Policy}
 use Rattle.scram_types.specs.declared.specification.Policy.TheVariants as policy
 use Rattle.scram_types.specs.Specification.{Parts}
+use Rattle.scram_types.specs.Lookups.{proc_id, app_id, conf_id}
 use Rattle.app_model.specs.Bounds.{during}
 use Rattle.coverage_check.specs.declared.shown.Other.TheVariants as other
 use Rattle.coverage_check.specs.Acceptance.{first_refusal}
-use Rattle.coverage_check.specs.Showing.{app, conf, proc, shown_at, shown_in}
-use Rattle.coverage_check.specs.Timing.{least, targets}
+use Rattle.coverage_check.specs.Showing.{shown_at, shown_in}
+use Rattle.coverage_check.specs.Timing.{targets}
 
 abbrev mode : ℕ → ℕ → ModeSpec
 mode m load = record { mode = record { 0 = m }; load = load; halt = 1; prepare = 1; init = 1 }
@@ -24,17 +25,17 @@ abbrev monitor : AppSpec
 monitor = record { name = []; kind = record { 0 = 2 }; needs = []; modes = mode 1 40 ∷ mode 2 20 ∷ []; rank = 0 }
 
 abbrev placed : ℕ → Conf
-placed m = record { name = []; places = Some (record { mode = record { 0 = m }; proc = proc 0 }) ∷ replicate 7 None }
+placed m = record { name = []; places = Some (record { mode = record { 0 = m }; proc = proc_id 0 }) ∷ replicate 7 None }
 
 abbrev bound : ℕ → ℕ → ℕ → Bound
-bound i j frames = record { from = conf i; to = conf j; frames = frames }
+bound i j frames = record { from = conf_id i; to = conf_id j; frames = frames }
 
 -- configuration 0 where the factor has its first value
 abbrev first_rule : Choice
-first_rule = record { from = None; wants = record { factor = record { 0 = 0 }; value = 0 } ∷ []; up = 0; to = conf 0 }
+first_rule = record { from = None; wants = record { factor = record { 0 = 0 }; value = 0 } ∷ []; up = 0; to = conf_id 0 }
 
 abbrev other_rule : Choice
-other_rule = record { from = None; wants = []; up = 0; to = conf 1 }
+other_rule = record { from = None; wants = []; up = 0; to = conf_id 1 }
 
 abbrev bounds : ℕ → List Bound
 bounds frames = bound 0 0 8 ∷ bound 0 1 frames ∷ bound 1 0 8 ∷ bound 1 1 8 ∷ []
@@ -48,7 +49,7 @@ made capacity rules frames which invariants = record {
   factors = record { name = []; values = [] ∷ [] ∷ [] } ∷ [];
   rules = rules;
   bounds = bounds frames;
-  start = conf 0;
+  start = conf_id 0;
   goal = record { altitude = pos 0; heading = pos 0 };
   invariants = invariants;
   preconditions = [];
@@ -64,23 +65,23 @@ rules = first_rule ∷ other_rule ∷ []
 accepted : first_refusal (made 100 rules 8 policy.Retarget []) ≡ None
 accepted = refl
 
-short_bound : first_refusal (made 100 rules 7 policy.Retarget []) ≡ Some (shown_at 9 0 (other.Least (conf 1) 8))
+short_bound : first_refusal (made 100 rules 7 policy.Retarget []) ≡ Some (shown_at 9 0 (other.Least (conf_id 1) 8))
 short_bound = refl
 
 no_rule : first_refusal (made 100 (first_rule ∷ []) 8 policy.Retarget []) ≡ Some (shown_in 5 0 (record { up = 1; factors = 1 ∷ replicate 5 0 }) other.Nothing)
 no_rule = refl
 
-too_heavy : first_refusal (made 30 rules 8 policy.Retarget []) ≡ Some (shown_at 4 0 (other.Proc (proc 0)))
+too_heavy : first_refusal (made 30 rules 8 policy.Retarget []) ≡ Some (shown_at 4 0 (other.Proc (proc_id 0)))
 too_heavy = refl
 
 -- a target that is kept may see one change more
-settling : first_refusal (made 100 rules 8 policy.Settle []) ≡ Some (shown_at 9 0 (other.Least (conf 0) 12))
+settling : first_refusal (made 100 rules 8 policy.Settle []) ≡ Some (shown_at 9 0 (other.Least (conf_id 0) 12))
 settling = refl
 
-both_targets : targets (made 100 rules 8 policy.Retarget []) (conf 0) ≡ 3
+both_targets : targets (made 100 rules 8 policy.Retarget []) (conf_id 0) ≡ 3
 both_targets = refl
 
 -- the status is 4 while a mode initialises
-short_status : first_refusal (made 100 rules 8 policy.Retarget (record { from = Some (conf 1); app = app 0; variable = 0; least = pos 1; greatest = pos 3 } ∷ [])) ≡ Some (shown_at 11 1 (other.Item 0))
+short_status : first_refusal (made 100 rules 8 policy.Retarget (record { from = Some (conf_id 1); app = app_id 0; variable = 0; least = pos 1; greatest = pos 3 } ∷ [])) ≡ Some (shown_at 11 1 (other.Item 0))
 unfolding during
 short_status = refl

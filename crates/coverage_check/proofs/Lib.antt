@@ -4,4 +4,4 @@ pub mod Examples
 pub mod Flights
 pub mod Keeping
 pub mod Reaching
-pub mod Searching
+pub mod Showing

@@ -1,57 +1,31 @@
 -- Environments by number, and possible targets.
-use Rattle.std.proofs.Common.{◌≡◌, ℕ, zero, suc, ◌+◌, ◌<◌, ◌≤◌, Bool, true, false, refl, arith, ap, sym, ◌∙◌, ◌^◌, List, [], ◌∷◌, length, set}
-use Rattle.std.specs.Prelude.{◌&&◌, ◌||◌, ◌==◌, Some, None, if◌then◌else◌, nat_le, nat_lt, slice_get}
-use Rattle.std.proofs.lemmas.Bool.Decides.{nat_tests}
+use Rattle.std.proofs.Common.{◌≡◌, ℕ, suc, ◌+◌, ◌<◌, ◌≤◌, Bool, true, false, refl, arith, ap, sym, ◌∙◌, ◌^◌, List, [], ◌∷◌, length, set}
+use Rattle.std.specs.Prelude.{◌&&◌, ◌||◌, ◌==◌, Some, None, if◌then◌else◌, nat_lt, slice_get}
 use Rattle.std.proofs.lemmas.Nat.{mul-le}
 use Rattle.std.proofs.lemmas.List.{get_or-set_other, get_or-set_same}
 use Rattle.std.proofs.lemmas.Option.{unwrap_or-slice_get}
 use Rattle.std.proofs.Math.Nat.{pow-le-pow_right}
+use Rattle.std.proofs.Math.Bool.{or-false, or-true}
+use Rattle.scram_types.proofs.Equality.{same_conf}
+use Rattle.scram_types.proofs.Naturals.{not_below, below_test, equal_test, equal, plus_one, below}
 use Rattle.scram_types.specs.declared.ids.ConfId.{ConfId}
 use Rattle.scram_types.specs.declared.flights.Env.{Env}
 use Rattle.scram_types.specs.declared.specification.Choice.{Choice}
 use Rattle.scram_types.specs.Specification.{IsSpec, Parts}
+use Rattle.scram_types.specs.Searches.{any_below, first_below}
+use Rattle.scram_types.specs.Lookups.{conf_id}
+use Rattle.scram_types.proofs.Booleans.{and_left, and_right, by_bool, true_false, and_true}
+use Rattle.scram_types.proofs.Searches.{any_below_found, any_below_is, any_skip, below_none, first_found, none_below}
+use Rattle.scram_types.proofs.Options.{none_both, same_some}
 use Rattle.choice_table.specs.Environments.{IsEnv, in_scope}
 use Rattle.choice_table.specs.Choices.{IsTarget, choose, rule_fits, target_among}
-use Rattle.choice_table.specs.Numbering.{IsNextInScope, NoneInScope, bits_below, combinations, env_of, environments, is_number_in_scope, number_of, numbered}
+use Rattle.choice_table.specs.Numbering.{IsNextInScope, NoneInScope, combinations, env_of, environments, is_number_in_scope, number_of, numbered}
 use Rattle.choice_table.proofs.Digits.{most_combinations}
 use Rattle.choice_table.proofs.Inverses.{env_of-number_of, is_env, number_below}
 use Rattle.coverage_check.specs.declared.choosing.Demand.{Demand}
-use Rattle.coverage_check.specs.Search.{any_below, first_below}
 use Rattle.coverage_check.specs.Choosing.{first_unmet_env, is_unmet, unmet_env_at}
-use Rattle.coverage_check.specs.Showing.{conf}
 use Rattle.coverage_check.specs.Timing.{is_chosen_in, is_target}
 use Rattle.coverage_check.specs.TargetSets.{is_in}
-use Rattle.coverage_check.proofs.Searching.{and_left, and_right, any_found, any_is, any_skip, below_none, by_bool, first_found, none_below, none_both, or_false, plus_one, same_some, true_false}
-
-pub equal : (a b : ℕ) → (a == b) ≡ true → a ≡ b
-equal a b h = grind (arith, nat_tests)
-
-pub equal_test : (a b : ℕ) → a ≡ b → (a == b) ≡ true
-equal_test a b h = grind (arith, nat_tests)
-
-pub below_test : (a b : ℕ) → a < b → nat_lt a b ≡ true
-below_test a b h = grind (arith, nat_tests)
-
-below_of : (a b : ℕ) → nat_lt a b ≡ true → a < b
-below_of a b h = grind (arith, nat_tests)
-
-pub not_below : (a b : ℕ) → nat_lt a b ≡ false → b ≤ a
-not_below a b h = grind (arith, nat_tests)
-
-pub not_below_test : (a b : ℕ) → b ≤ a → nat_lt a b ≡ false
-not_below_test a b h = grind (arith, nat_tests)
-
-pub at_most : (a b : ℕ) → nat_le a b ≡ true → a ≤ b
-at_most a b h = grind (arith, nat_tests)
-
-pub at_most_test : (a b : ℕ) → a ≤ b → nat_le a b ≡ true
-at_most_test a b h = grind (arith, nat_tests)
-
-pub same_conf : (x y : ConfId) → x.0 ≡ y.0 → x ≡ y
-same_conf x y e = ap conf e
-
-both : (a b : Bool) → a ≡ true → b ≡ true → (a && b) ≡ true
-both a b e f = rw (e, f) refl
 
 pick_inside : (n : ℕ) (first : Bool) (x y : ConfId) → x.0 < n → y.0 < n → (if first then x else y).0 < n
 pick_inside n true x y a b = a
@@ -85,15 +59,15 @@ module _ (spec : Parts) (made : IsSpec spec) where
   pub target_test : (i j : ConfId) → IsTarget spec i j → is_target spec i j.0 ≡ true
   target_test i j target =
       let same = numbered_number target.seen target.belongs in
-      any_is (is_chosen_in spec i j.0) (environments spec) (number_of spec target.seen)
-      (both (is_number_in_scope spec (number_of spec target.seen)) _
+      any_below_is (is_chosen_in spec i j.0) (environments spec) (number_of spec target.seen)
+      (and_true (is_number_in_scope spec (number_of spec target.seen)) _
       (ap (in_scope spec) same ∙ target.scope)
       (equal_test _ j.0 (ap (λ (v : Env). (choose spec i v).0) same ∙ ap (λ (c : ConfId). c.0) target.chosen)))
       (number_inside target.seen target.belongs)
 
   pub target_tested : (i j : ConfId) → is_target spec i j.0 ≡ true → IsTarget spec i j
   target_tested i j test =
-      let found = any_found (is_chosen_in spec i j.0) (environments spec) test in
+      let found = any_below_found (is_chosen_in spec i j.0) (environments spec) test in
       record {
         seen = numbered spec found.0;
         belongs = belongs_numbered found.0 found.1;
@@ -113,7 +87,7 @@ module _ (spec : Parts) where
   unmet_upto : (asked : Demand) (c : ConfId) (low n : ℕ) → first_below (unmet_env_at spec asked c) low ≡ None → ((k : ℕ) → low ≤ k → k < n → is_number_in_scope spec k ≡ false)
       → first_below (unmet_env_at spec asked c) n ≡ None
   unmet_upto asked c low n before out = none_below (unmet_env_at spec asked c) n (λ k less. by_bool (nat_lt k low)
-      (λ t. below_none (unmet_env_at spec asked c) low k before (below_of k low t))
+      (λ t. below_none (unmet_env_at spec asked c) low k before (below k low t))
       (λ f. out_of_scope asked c k (out k (not_below k low f) less)))
 
   pub unmet_more : (asked : Demand) (c : ConfId) (low n : ℕ) (v : Env) → first_below (unmet_env_at spec asked c) low ≡ None → IsNextInScope spec low n
@@ -145,34 +119,26 @@ environments_most spec made =
 
 -- the targets of one environment more
 
-or_true : (b : Bool) → (b || true) ≡ true
-or_true true = refl
-or_true false = refl
-
 is_set : (tests : List Bool) (t j : ℕ) (here : Bool) → (t == j) ≡ here → t < length tests → is_in (set tests t true) j ≡ (is_in tests j || here)
 is_set tests t j true same inside =
     let e : j ≡ t = sym (equal t j same) in
-    rw (e) (unwrap_or-slice_get (set tests t true) t false ∙ get_or-set_same tests t true false inside ∙ sym (or_true (is_in tests t)))
+    rw (e) (unwrap_or-slice_get (set tests t true) t false ∙ get_or-set_same tests t true false inside ∙ sym (or-true (is_in tests t)))
 is_set tests t j false other inside =
     unwrap_or-slice_get (set tests t true) j false
     ∙ get_or-set_other tests t j true false (λ e. true_false (t == j) (equal_test t j (sym e)) other)
-    ∙ sym (unwrap_or-slice_get tests j false) ∙ sym (or_false (is_in tests j))
+    ∙ sym (unwrap_or-slice_get tests j false) ∙ sym (or-false (is_in tests j))
 
-pub out_chosen : (spec : Parts) (i j k : ℕ) → is_number_in_scope spec k ≡ false → is_chosen_in spec (conf i) j k ≡ false
+pub out_chosen : (spec : Parts) (i j k : ℕ) → is_number_in_scope spec k ≡ false → is_chosen_in spec (conf_id i) j k ≡ false
 out_chosen spec i j k out = rw (out) refl
 
 pub target_more : (spec : Parts) (i low n : ℕ) (v : Env) (tests : List Bool) (t j : ℕ) → IsNextInScope spec low n → env_of spec n ≡ Some v
-    → t ≡ (choose spec (conf i) v).0 → t < length tests → is_in tests j ≡ any_below (is_chosen_in spec (conf i) j) low
-    → is_in (set tests t true) j ≡ any_below (is_chosen_in spec (conf i) j) (n + 1)
+    → t ≡ (choose spec (conf_id i) v).0 → t < length tests → is_in tests j ≡ any_below (is_chosen_in spec (conf_id i) j) low
+    → is_in (set tests t true) j ≡ any_below (is_chosen_in spec (conf_id i) j) (n + 1)
 target_more spec i low n v tests t j next is chosen inside before =
     let same = env_numbered spec n v next.inside is in
-    let here : (t == j) ≡ is_chosen_in spec (conf i) j n =
-    ap (λ (k : ℕ). k == j) (chosen ∙ ap (λ (w : Env). (choose spec (conf i) w).0) (sym same)) ∙ sym (ap (λ (b : Bool). b && ((choose spec (conf i) (numbered spec n)).0 == j)) next.scope) in
+    let here : (t == j) ≡ is_chosen_in spec (conf_id i) j n =
+    ap (λ (k : ℕ). k == j) (chosen ∙ ap (λ (w : Env). (choose spec (conf_id i) w).0) (sym same)) ∙ sym (ap (λ (b : Bool). b && ((choose spec (conf_id i) (numbered spec n)).0 == j)) next.scope) in
     is_set tests t j (t == j) refl inside
-    ∙ ap (λ (b : Bool). b || (t == j)) (before ∙ sym (any_skip (is_chosen_in spec (conf i) j) n low next.from (λ k from less. out_chosen spec i j k (next.least k from less))))
-    ∙ ap (λ (b : Bool). any_below (is_chosen_in spec (conf i) j) n || b) here
-    ∙ ap (any_below (is_chosen_in spec (conf i) j)) (plus_one n)
-
-pub bits_same : (f g : ℕ → Bool) (n : ℕ) → ((k : ℕ) → k < n → f k ≡ g k) → bits_below f n ≡ bits_below g n
-bits_same f g zero each = refl
-bits_same f g (suc n) each = rw (bits_same f g n (λ k less. each k (omega arith)), each n (omega arith)) refl
+    ∙ ap (λ (b : Bool). b || (t == j)) (before ∙ sym (any_skip (is_chosen_in spec (conf_id i) j) n low next.from (λ k from less. out_chosen spec i j k (next.least k from less))))
+    ∙ ap (λ (b : Bool). any_below (is_chosen_in spec (conf_id i) j) n || b) here
+    ∙ ap (any_below (is_chosen_in spec (conf_id i) j)) (plus_one n)

@@ -7,17 +7,17 @@ use Rattle.scram_types.specs.declared.specification.Bound.{Bound}
 use Rattle.scram_types.specs.declared.specification.Invariant.{Invariant}
 use Rattle.scram_types.specs.declared.specification.Precondition.{Precondition}
 use Rattle.scram_types.specs.Specification.{Each, IsSpec, Parts, bound_in}
+use Rattle.scram_types.specs.Lookups.{place_of, conf_id, app_id, proc_id, opening_env}
 use Rattle.choice_table.specs.Environments.{IsEnv, in_scope}
 use Rattle.choice_table.specs.Choices.{IsTarget, choose, has_rule, has_source, is_runnable}
 use Rattle.choice_table.specs.Numbering.{environments, is_number_in_scope, numbered, states}
-use Rattle.dep_order.specs.Timetables.{place_of}
 use Rattle.coverage_check.specs.declared.shown.Shown.{Shown}
 use Rattle.coverage_check.specs.declared.shown.Other.TheVariants as other
 use Rattle.coverage_check.specs.declared.choosing.Demand.{Demand}
 use Rattle.coverage_check.specs.declared.choosing.Demand.TheVariants as demand
-use Rattle.coverage_check.specs.Showing.{app, conf, proc, shown_at, shown_in, shown_nowhere}
+use Rattle.coverage_check.specs.Showing.{shown_at, shown_in, shown_nowhere}
 use Rattle.coverage_check.specs.Form.{has_too_many_states, is_empty, is_overloaded, is_same, lacks_need, load_refusal, need_refusal, shape_refusal, state_refusal}
-use Rattle.coverage_check.specs.Choosing.{demand_refusal, is_unmet, leaves_start, number_of_demand, opening_env, start_refusal, target_shown}
+use Rattle.coverage_check.specs.Choosing.{demand_refusal, is_unmet, leaves_start, number_of_demand, start_refusal, target_shown}
 use Rattle.coverage_check.specs.Timing.{bound_refusal, further, greatest_bound, has_short_window, lacks_bound, least, window_refusal}
 use Rattle.coverage_check.specs.Holding.{breaks_entering, breaks_from, holds_entering, holds_leaving, holds_reaching, invariant_refusal, precondition_refusal}
 
@@ -80,23 +80,23 @@ AcceptsWhereUnrefused = (spec : Parts) → IsSpec spec → RefusesTheRest spec
 
 -- What is shown exists in the specification, and the condition is false there.
 pub data IsBroken (spec : Parts) (shown : Shown) : Type 0 where
-  NeedOff : (c a : ℕ) → c < length spec.confs → a < length spec.apps → lacks_need spec (conf c) a ≡ true
-      → shown ≡ shown_at 1 c (other.App (app a)) → IsBroken spec shown
+  NeedOff : (c a : ℕ) → c < length spec.confs → a < length spec.apps → lacks_need spec (conf_id c) a ≡ true
+      → shown ≡ shown_at 1 c (other.App (app_id a)) → IsBroken spec shown
   ManyStates : has_too_many_states spec ≡ true → shown ≡ shown_nowhere 2 (other.Count (states spec)) → IsBroken spec shown
-  NothingOn : (c : ℕ) → c < length spec.confs → is_empty spec (conf c) ≡ true → shown ≡ shown_at 3 c other.Nothing → IsBroken spec shown
-  SameAgain : (c d : ℕ) → c < length spec.confs → d < c → is_same spec (conf c) (conf d) ≡ true
-      → shown ≡ shown_at 3 c (other.Conf (conf d)) → IsBroken spec shown
-  Overloaded : (c p : ℕ) → c < length spec.confs → p < length spec.procs → is_overloaded spec (conf c) p ≡ true
-      → shown ≡ shown_at 4 c (other.Proc (proc p)) → IsBroken spec shown
+  NothingOn : (c : ℕ) → c < length spec.confs → is_empty spec (conf_id c) ≡ true → shown ≡ shown_at 3 c other.Nothing → IsBroken spec shown
+  SameAgain : (c d : ℕ) → c < length spec.confs → d < c → is_same spec (conf_id c) (conf_id d) ≡ true
+      → shown ≡ shown_at 3 c (other.Conf (conf_id d)) → IsBroken spec shown
+  Overloaded : (c p : ℕ) → c < length spec.confs → p < length spec.procs → is_overloaded spec (conf_id c) p ≡ true
+      → shown ≡ shown_at 4 c (other.Proc (proc_id p)) → IsBroken spec shown
   Unmet : (asked : Demand) (c n : ℕ) → c < length spec.confs → n < environments spec → is_number_in_scope spec n ≡ true
-      → is_unmet spec asked (conf c) (numbered spec n) ≡ true
-      → shown ≡ shown_in (number_of_demand asked) c (numbered spec n) (target_shown spec asked (conf c) (numbered spec n)) → IsBroken spec shown
+      → is_unmet spec asked (conf_id c) (numbered spec n) ≡ true
+      → shown ≡ shown_in (number_of_demand asked) c (numbered spec n) (target_shown spec asked (conf_id c) (numbered spec n)) → IsBroken spec shown
   StartLeft : leaves_start spec ≡ true
       → shown ≡ shown_in 8 spec.start.0 (opening_env spec) (other.Conf (choose spec spec.start (opening_env spec))) → IsBroken spec shown
-  BoundWanting : (i j : ℕ) → i < length spec.confs → j < length spec.confs → lacks_bound spec (conf i) j ≡ true
-      → shown ≡ shown_at 9 i (other.Least (conf j) (least spec (conf i) (conf j))) → IsBroken spec shown
+  BoundWanting : (i j : ℕ) → i < length spec.confs → j < length spec.confs → lacks_bound spec (conf_id i) j ≡ true
+      → shown ≡ shown_at 9 i (other.Least (conf_id j) (least spec (conf_id i) (conf_id j))) → IsBroken spec shown
   WindowShort : has_short_window spec ≡ true → shown ≡ shown_nowhere 10 (other.Count (greatest_bound spec.bounds)) → IsBroken spec shown
-  InvariantBroken : (k i : ℕ) (inv : Invariant) → slice_get spec.invariants k ≡ Some inv → i < length spec.confs → breaks_from spec inv (conf i) ≡ true
+  InvariantBroken : (k i : ℕ) (inv : Invariant) → slice_get spec.invariants k ≡ Some inv → i < length spec.confs → breaks_from spec inv (conf_id i) ≡ true
       → shown ≡ shown_at 11 i (other.Item k) → IsBroken spec shown
   PreconditionBroken : (k : ℕ) (pre : Precondition) → slice_get spec.preconditions k ≡ Some pre → breaks_entering spec pre ≡ true
       → shown ≡ shown_at 12 pre.conf.0 (other.Item k) → IsBroken spec shown

@@ -1,8 +1,10 @@
 -- What the choice table has to give in each environment in scope.
-use Rattle.std.specs.Prelude.{ℕ, ◌-◌, ◌^◌, Bool, not, ◌&&◌, ◌==◌, length, replicate, Option, option_map}
+use Rattle.std.specs.Prelude.{ℕ, Bool, not, ◌&&◌, ◌==◌, length, Option, option_map}
+use Rattle.scram_types.specs.Lookups.{opening_env, conf_id}
 use Rattle.scram_types.specs.declared.ids.ConfId.{ConfId}
 use Rattle.scram_types.specs.declared.flights.Env.{Env}
 use Rattle.scram_types.specs.Specification.{Parts}
+use Rattle.scram_types.specs.Searches.{first_below}
 use Rattle.choice_table.specs.Choices.{choose, has_rule, is_runnable}
 use Rattle.choice_table.specs.Numbering.{environments, is_number_in_scope, numbered}
 use Rattle.coverage_check.specs.declared.shown.Shown.{Shown}
@@ -10,8 +12,8 @@ use Rattle.coverage_check.specs.declared.shown.Other.{Other}
 use Rattle.coverage_check.specs.declared.shown.Other.TheVariants as other
 use Rattle.coverage_check.specs.declared.choosing.Demand.{Demand}
 use Rattle.coverage_check.specs.declared.choosing.Demand.TheVariants as demand
-use Rattle.coverage_check.specs.Search.{first_below, shown_if}
-use Rattle.coverage_check.specs.Showing.{conf, shown_in}
+use Rattle.coverage_check.specs.Search.{shown_if}
+use Rattle.coverage_check.specs.Showing.{shown_in}
 
 -- No rule fits; the target cannot run; another target is chosen from the target.
 abbrev pub is_unmet : Parts → Demand → ConfId → Env → Bool
@@ -40,14 +42,10 @@ first_unmet_env spec asked c = first_below (unmet_env_at spec asked c) (environm
 
 abbrev pub demand_refusal_of : Parts → Demand → ℕ → Option Shown
 demand_refusal_of spec asked c =
-    option_map (λ (v : Env). shown_in (number_of_demand asked) c v (target_shown spec asked (conf c) v)) (first_unmet_env spec asked (conf c))
+    option_map (λ (v : Env). shown_in (number_of_demand asked) c v (target_shown spec asked (conf_id c) v)) (first_unmet_env spec asked (conf_id c))
 
 abbrev pub demand_refusal : Parts → Demand → Option Shown
 demand_refusal spec asked = first_below (demand_refusal_of spec asked) (length spec.confs)
-
--- The environment that a flight opens in: all processors up, each factor at its first value.
-abbrev pub opening_env : Parts → Env
-opening_env spec = record { up = 2 ^ length spec.procs - 1; factors = replicate 6 0 }
 
 -- The start configuration is left at once.
 abbrev pub leaves_start : Parts → Bool

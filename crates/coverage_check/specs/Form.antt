@@ -9,12 +9,13 @@ use Rattle.scram_types.specs.declared.specification.ModeSpec.{ModeSpec}
 use Rattle.scram_types.specs.declared.specification.Place.{Place}
 use Rattle.scram_types.specs.declared.specification.Proc.{Proc}
 use Rattle.scram_types.specs.Specification.{Parts}
+use Rattle.scram_types.specs.Lookups.{mode_of, is_on, place_of, conf_id, app_id, proc_id}
+use Rattle.scram_types.specs.Searches.{all_below, first_below}
 use Rattle.choice_table.specs.Numbering.{states}
-use Rattle.dep_order.specs.Timetables.{is_on, mode_of, place_of}
 use Rattle.coverage_check.specs.declared.shown.Shown.{Shown}
 use Rattle.coverage_check.specs.declared.shown.Other.TheVariants as other
-use Rattle.coverage_check.specs.Search.{all_below, first_below, shown_if}
-use Rattle.coverage_check.specs.Showing.{app, conf, proc, shown_at, shown_nowhere}
+use Rattle.coverage_check.specs.Search.{shown_if}
+use Rattle.coverage_check.specs.Showing.{shown_at, shown_nowhere}
 
 -- Some of these applications is off in configuration c.
 abbrev pub has_off : Parts → ConfId → List AppId → Bool
@@ -66,7 +67,7 @@ is_overloaded spec c p = nat_lt (capacity_of spec p) (load_below spec c p (lengt
 
 -- The first refusal of each of these four.
 abbrev pub need_refusal_in : Parts → ℕ → Option Shown
-need_refusal_in spec c = first_below (λ a. shown_if (lacks_need spec (conf c) a) (shown_at 1 c (other.App (app a)))) (length spec.apps)
+need_refusal_in spec c = first_below (λ a. shown_if (lacks_need spec (conf_id c) a) (shown_at 1 c (other.App (app_id a)))) (length spec.apps)
 
 abbrev pub need_refusal : Parts → Option Shown
 need_refusal spec = first_below (need_refusal_in spec) (length spec.confs)
@@ -75,16 +76,16 @@ abbrev pub state_refusal : Parts → Option Shown
 state_refusal spec = shown_if (has_too_many_states spec) (shown_nowhere 2 (other.Count (states spec)))
 
 abbrev pub twin_refusal_of : Parts → ℕ → Option Shown
-twin_refusal_of spec c = first_below (λ d. shown_if (is_same spec (conf c) (conf d)) (shown_at 3 c (other.Conf (conf d)))) c
+twin_refusal_of spec c = first_below (λ d. shown_if (is_same spec (conf_id c) (conf_id d)) (shown_at 3 c (other.Conf (conf_id d)))) c
 
 abbrev pub shape_refusal_of : Parts → ℕ → Option Shown
-shape_refusal_of spec c = if is_empty spec (conf c) then Some (shown_at 3 c other.Nothing) else twin_refusal_of spec c
+shape_refusal_of spec c = if is_empty spec (conf_id c) then Some (shown_at 3 c other.Nothing) else twin_refusal_of spec c
 
 abbrev pub shape_refusal : Parts → Option Shown
 shape_refusal spec = first_below (shape_refusal_of spec) (length spec.confs)
 
 abbrev pub load_refusal_in : Parts → ℕ → Option Shown
-load_refusal_in spec c = first_below (λ p. shown_if (is_overloaded spec (conf c) p) (shown_at 4 c (other.Proc (proc p)))) (length spec.procs)
+load_refusal_in spec c = first_below (λ p. shown_if (is_overloaded spec (conf_id c) p) (shown_at 4 c (other.Proc (proc_id p)))) (length spec.procs)
 
 abbrev pub load_refusal : Parts → Option Shown
 load_refusal spec = first_below (load_refusal_in spec) (length spec.confs)

@@ -1,32 +1,29 @@
 -- What invariants and preconditions have to hold.
 use Rattle.std.specs.Prelude.{ℕ, ℤ, pos, Bool, not, ◌&&◌, ◌||◌, int_le, length, slice_get, Option, Some, None}
 use Rattle.std.specs.Option.{option_map_or}
+use Rattle.scram_types.specs.Lookups.{kind_of_app, place_of, conf_id}
 use Rattle.scram_types.specs.declared.ids.ConfId.{ConfId}
-use Rattle.scram_types.specs.declared.specification.AppSpec.{AppSpec}
 use Rattle.scram_types.specs.declared.specification.Invariant.{Invariant}
 use Rattle.scram_types.specs.declared.specification.Place.{Place}
 use Rattle.scram_types.specs.declared.specification.Precondition.{Precondition}
 use Rattle.scram_types.specs.Specification.{Parts}
+use Rattle.scram_types.specs.Searches.{all_below, first_below}
 use Rattle.choice_table.specs.Choices.{has_source}
 use Rattle.app_model.specs.Bounds.{after_init, during}
-use Rattle.dep_order.specs.Timetables.{place_of}
 use Rattle.coverage_check.specs.declared.shown.Shown.{Shown}
 use Rattle.coverage_check.specs.declared.shown.Other.TheVariants as other
-use Rattle.coverage_check.specs.Search.{all_below, first_below, shown_if}
-use Rattle.coverage_check.specs.Showing.{conf, shown_at}
+use Rattle.coverage_check.specs.Search.{shown_if}
+use Rattle.coverage_check.specs.Showing.{shown_at}
 use Rattle.coverage_check.specs.Timing.{is_target}
 
 -- An interval from low to high holds a range.
 abbrev pub holds : ℤ → ℤ → ℤ × ℤ → Bool
 holds low high range = int_le low range.0 && int_le range.1 high
 
-abbrev pub kind_of : Parts → ℕ → ℕ
-kind_of spec a = option_map_or (λ (running : AppSpec). running.kind.0) (slice_get spec.apps a) 0
-
 -- An invariant's interval holds the range of its variable during an act in a mode: 1 run, 2 halt,
 -- 3 prepare, 4 init.
 abbrev pub holds_during : Parts → Invariant → ℕ → ℕ → Bool
-holds_during spec inv act mode = holds inv.least inv.greatest (during (kind_of spec inv.app.0) act mode inv.variable)
+holds_during spec inv act mode = holds inv.least inv.greatest (during (kind_of_app spec inv.app.0) act mode inv.variable)
 
 -- It holds the zeros of an application that is off.
 abbrev pub holds_off : Invariant → Bool
@@ -45,7 +42,7 @@ holds_reaching spec inv (Some place) = holds_during spec inv 3 place.mode.0 && h
 
 -- It holds what is seen on the way from i to j, if j is a possible target.
 abbrev pub holds_on_way : Parts → Invariant → ConfId → ℕ → Bool
-holds_on_way spec inv i j = not (is_target spec i j) || holds_reaching spec inv (place_of spec (conf j) inv.app.0)
+holds_on_way spec inv i j = not (is_target spec i j) || holds_reaching spec inv (place_of spec (conf_id j) inv.app.0)
 
 abbrev pub holds_reached : Parts → Invariant → ConfId → Bool
 holds_reached spec inv i = all_below (holds_on_way spec inv i) (length spec.confs)
@@ -59,7 +56,7 @@ abbrev pub breaks_from : Parts → Invariant → ConfId → Bool
 breaks_from spec inv i = has_source inv.from i && not (holds_from spec inv i)
 
 abbrev pub invariant_refusal_of : Parts → ℕ → Invariant → Option Shown
-invariant_refusal_of spec k inv = first_below (λ i. shown_if (breaks_from spec inv (conf i)) (shown_at 11 i (other.Item k))) (length spec.confs)
+invariant_refusal_of spec k inv = first_below (λ i. shown_if (breaks_from spec inv (conf_id i)) (shown_at 11 i (other.Item k))) (length spec.confs)
 
 abbrev pub invariant_refusal_at : Parts → ℕ → Option Shown
 invariant_refusal_at spec k = option_map_or (invariant_refusal_of spec k) (slice_get spec.invariants k) None
@@ -70,7 +67,7 @@ invariant_refusal spec = first_below (invariant_refusal_at spec) (length spec.in
 -- A precondition's interval holds what its application has after its init phase, and zeros where it is off.
 abbrev pub holds_entering : Parts → Precondition → Option Place → Bool
 holds_entering spec pre None = holds pre.least pre.greatest (pos 0, pos 0)
-holds_entering spec pre (Some place) = holds pre.least pre.greatest (after_init (kind_of spec pre.app.0) place.mode.0 pre.variable)
+holds_entering spec pre (Some place) = holds pre.least pre.greatest (after_init (kind_of_app spec pre.app.0) place.mode.0 pre.variable)
 
 abbrev pub breaks_entering : Parts → Precondition → Bool
 breaks_entering spec pre = not (holds_entering spec pre (place_of spec pre.conf pre.app.0))

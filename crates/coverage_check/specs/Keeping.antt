@@ -2,9 +2,9 @@
 use Rattle.std.specs.Prelude.{◌≡◌, ℕ, ◌≤◌, true}
 use Rattle.scram_types.specs.Specification.{IsSpec, Parts}
 use Rattle.scram_types.specs.Scripts.{ScriptParts}
+use Rattle.scram_types.specs.Lookups.{opening_env}
 use Rattle.choice_table.specs.Environments.{IsEnv, in_scope}
 use Rattle.fault_script.specs.Environments.{env_at}
-use Rattle.coverage_check.specs.Choosing.{opening_env}
 use Rattle.coverage_check.specs.Missions.{IsMission, MissionParts}
 
 -- The environment of frame f belongs to the specification and is in scope.

@@ -1,9 +1,9 @@
 -- Sets of possible targets, kept as a test for each configuration.
 use Rattle.std.specs.Prelude.{◌≡◌, ℕ, ◌<◌, Bool, false, List, length, slice_get, unwrap_or, Some}
 use Rattle.scram_types.specs.Specification.{Parts}
+use Rattle.scram_types.specs.Searches.{any_below}
+use Rattle.scram_types.specs.Lookups.{conf_id}
 use Rattle.coverage_check.specs.declared.target_sets.TargetSet.{TargetSet}
-use Rattle.coverage_check.specs.Search.{any_below}
-use Rattle.coverage_check.specs.Showing.{conf}
 use Rattle.coverage_check.specs.Timing.{is_chosen_in, is_target}
 
 abbrev pub is_in : List Bool → ℕ → Bool
@@ -12,11 +12,11 @@ is_in tests j = unwrap_or (slice_get tests j) false
 -- The configurations that are chosen from i in environments below a number.
 pub record HasChosenBelow (spec : Parts) (i low : ℕ) (set : TargetSet) : Type 0 where
   pub width : length set.tests ≡ 12
-  pub chosen : (j : ℕ) → j < length spec.confs → is_in set.tests j ≡ any_below (is_chosen_in spec (conf i) j) low
+  pub chosen : (j : ℕ) → j < length spec.confs → is_in set.tests j ≡ any_below (is_chosen_in spec (conf_id i) j) low
 
 -- The possible targets of configuration i.
 abbrev pub HasTargets : Parts → ℕ → TargetSet → Type 0
-HasTargets spec i set = (j : ℕ) → j < length spec.confs → is_in set.tests j ≡ is_target spec (conf i) j
+HasTargets spec i set = (j : ℕ) → j < length spec.confs → is_in set.tests j ≡ is_target spec (conf_id i) j
 
 -- The possible targets of each configuration.
 abbrev pub HasAllTargets : Parts → List TargetSet → Type 0

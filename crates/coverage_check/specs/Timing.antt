@@ -6,14 +6,16 @@ use Rattle.scram_types.specs.declared.specification.Bound.{Bound}
 use Rattle.scram_types.specs.declared.specification.Policy.{Policy}
 use Rattle.scram_types.specs.declared.specification.Policy.TheVariants as policy
 use Rattle.scram_types.specs.Specification.{Parts, bound_in}
+use Rattle.scram_types.specs.Bits.{bits_below}
+use Rattle.scram_types.specs.Searches.{greatest_below, first_below, any_below}
+use Rattle.scram_types.specs.Lookups.{conf_id}
 use Rattle.choice_table.specs.Choices.{choose}
-use Rattle.choice_table.specs.Numbering.{bits_below, environments, is_number_in_scope, numbered}
-use Rattle.dep_order.specs.Chains.{greatest}
+use Rattle.choice_table.specs.Numbering.{environments, is_number_in_scope, numbered}
 use Rattle.dep_order.specs.Timetables.{halting_time, initialising_time, preparing_time}
 use Rattle.coverage_check.specs.declared.shown.Shown.{Shown}
 use Rattle.coverage_check.specs.declared.shown.Other.TheVariants as other
-use Rattle.coverage_check.specs.Search.{any_below, first_below, shown_if}
-use Rattle.coverage_check.specs.Showing.{conf, shown_at, shown_nowhere}
+use Rattle.coverage_check.specs.Search.{shown_if}
+use Rattle.coverage_check.specs.Showing.{shown_at, shown_nowhere}
 
 -- Configuration j is chosen from i in environment number n, which is in scope.
 abbrev pub is_chosen_in : Parts → ConfId → ℕ → ℕ → Bool
@@ -35,7 +37,7 @@ further policy.Settle changes = suc changes
 -- The longest way from one target's choice to the next one's, over all configurations.
 abbrev pub slowest : Parts → ℕ
 slowest spec =
-    greatest (λ k. preparing_time spec (conf k) + initialising_time spec (conf k) + 1 + halting_time spec (conf k)) (length spec.confs)
+    greatest_below (λ k. preparing_time spec (conf_id k) + initialising_time spec (conf_id k) + 1 + halting_time spec (conf_id k)) (length spec.confs)
 
 -- The least bound that serves a reconfiguration from i to j, in frames.
 abbrev pub least : Parts → ConfId → ConfId → ℕ
@@ -55,7 +57,7 @@ may_end_in spec i j = not (i.0 == j.0) || can_return spec
 
 -- A bound from i to j is asked for: j is a possible target of i in which a reconfiguration from i may end.
 abbrev pub is_bound_asked : Parts → ConfId → ℕ → Bool
-is_bound_asked spec i j = is_target spec i j && may_end_in spec i (conf j)
+is_bound_asked spec i j = is_target spec i j && may_end_in spec i (conf_id j)
 
 -- The configurations to which a bound from i is asked for, as bits.
 abbrev pub asked_bounds : Parts → ConfId → ℕ
@@ -63,11 +65,11 @@ asked_bounds spec i = bits_below (is_bound_asked spec i) (length spec.confs)
 
 -- A bound from i to j is asked for, and none that serves is given.
 abbrev pub lacks_bound : Parts → ConfId → ℕ → Bool
-lacks_bound spec i j = is_bound_asked spec i j && not (is_bounded spec i (conf j))
+lacks_bound spec i j = is_bound_asked spec i j && not (is_bounded spec i (conf_id j))
 
 abbrev pub bound_refusal_of : Parts → ℕ → Option Shown
 bound_refusal_of spec i =
-    first_below (λ j. shown_if (lacks_bound spec (conf i) j) (shown_at 9 i (other.Least (conf j) (least spec (conf i) (conf j))))) (length spec.confs)
+    first_below (λ j. shown_if (lacks_bound spec (conf_id i) j) (shown_at 9 i (other.Least (conf_id j) (least spec (conf_id i) (conf_id j))))) (length spec.confs)
 
 abbrev pub bound_refusal : Parts → Option Shown
 bound_refusal spec = first_below (bound_refusal_of spec) (length spec.confs)

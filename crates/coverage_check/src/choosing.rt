@@ -2,9 +2,9 @@
 
 ghost use Rattle.std.specs.Prelude.{◌≡◌};
 ghost use Rattle.scram_types.specs.Specification.{IsSpec};
-ghost use Rattle.coverage_check.specs.Choosing.{demand_refusal, demand_refusal_of, first_unmet_env, is_unmet, number_of_demand, opening_env, start_refusal, target_shown};
+ghost use Rattle.coverage_check.specs.Choosing.{demand_refusal, demand_refusal_of, first_unmet_env, is_unmet, number_of_demand, start_refusal, target_shown};
 
-use crate::places::{count_confs, count_procs};
+use crate::places::count_confs;
 use crate::shown::{Other, Shown};
 use choice_table::{choose, has_rule, next_in_scope, runnable};
 use scram_types::{ConfId, Env, Spec};
@@ -95,21 +95,11 @@ fn target_shown(spec: &Spec, demand: Demand, c: ConfId, env: &Env) -> Other
 pub(crate) fn refuse_start(spec: &Spec) -> Option<Shown>
     ensures { result ≡ start_refusal spec.now }
 {
-    let env = opening_env(spec);
+    let env = spec.opening_env();
     let target = choose(spec, spec.start, &env);
     if target.0 == spec.start.0 {
         None
     } else {
         Some(Shown::within(8, spec.start.0, env, Other::Conf(target)))
-    }
-}
-
-// The environment that a flight opens in.
-fn opening_env(spec: &Spec) -> Env
-    ensures { result ≡ opening_env spec.now }
-{
-    Env {
-        up: ((1u16 << count_procs(spec)) - 1) as u8,
-        factors: [0; 6],
     }
 }

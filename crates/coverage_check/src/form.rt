@@ -3,10 +3,10 @@
 ghost use Rattle.std.specs.Prelude.{◌≡◌, length};
 ghost use Rattle.std.specs.Option.{option_map_or};
 ghost use Rattle.scram_types.specs.declared.specification.ModeSpec.{ModeSpec};
-ghost use Rattle.dep_order.specs.Timetables.{mode_of_app};
+ghost use Rattle.scram_types.specs.Lookups.{mode_of_app};
 ghost use Rattle.coverage_check.specs.Form.{capacity_of, has_off, has_off_need, is_empty, is_overloaded, is_same, is_same_place, lacks_need, load_below, load_of, load_refusal, load_refusal_in, need_refusal, need_refusal_in, shape_refusal, shape_refusal_of, state_refusal, twin_refusal_of};
 
-use crate::places::{count_apps, count_confs, count_procs, is_on, place_of};
+use crate::places::{count_apps, count_confs, count_procs};
 use crate::shown::{Other, Shown};
 use choice_table::states;
 use scram_types::{AppId, ConfId, Mode, ModeSpec, Place, ProcId, Spec};
@@ -41,7 +41,7 @@ fn refuse_need_in(spec: &Spec, c: u8) -> Option<Shown>
 fn lacks_need(spec: &Spec, c: ConfId, a: u8) -> bool
     ensures { result ≡ lacks_need spec.now c a }
 {
-    is_on(spec, c, AppId(a)) && has_off_need(spec, c, a)
+    spec.is_on(c, AppId(a)) && has_off_need(spec, c, a)
 }
 
 fn has_off_need(spec: &Spec, c: ConfId, a: u8) -> bool
@@ -56,7 +56,7 @@ fn has_off_need(spec: &Spec, c: ConfId, a: u8) -> bool
 fn has_off(spec: &Spec, c: ConfId, needs: &[AppId]) -> bool
     ensures { result ≡ has_off spec.now c needs.now }
 {
-    needs.iter().any(|needed| !is_on(spec, c, *needed))
+    needs.iter().any(|needed| !spec.is_on(c, *needed))
 }
 
 /// More environments in scope than an acceptance looks through, and how many there are. It takes no memory.
@@ -98,7 +98,7 @@ fn is_empty(spec: &Spec, c: ConfId) -> bool
     ensures { result ≡ is_empty spec.now c }
 {
     for a in 0..8 {
-        if is_on(spec, c, AppId(a)) {
+        if spec.is_on(c, AppId(a)) {
             return false;
         }
     }
@@ -120,7 +120,7 @@ fn is_same(spec: &Spec, c: ConfId, d: ConfId) -> bool
     ensures { result ≡ is_same spec.now c d }
 {
     for a in 0..8 {
-        if !is_same_place(place_of(spec, c, AppId(a)), place_of(spec, d, AppId(a))) {
+        if !is_same_place(spec.place_of(c, AppId(a)), spec.place_of(d, AppId(a))) {
             return false;
         }
     }
@@ -190,7 +190,7 @@ fn load_on(spec: &Spec, c: ConfId, p: u8) -> u64
 fn load_of(spec: &Spec, c: ConfId, p: u8, a: u8) -> u32
     ensures { result ≡ load_of spec.now c p a }
 {
-    match place_of(spec, c, AppId(a)) {
+    match spec.place_of(c, AppId(a)) {
         Some(place) => {
             if place.proc.0 == p {
                 load_in_mode(spec, a, place.mode)
@@ -205,14 +205,8 @@ fn load_of(spec: &Spec, c: ConfId, p: u8, a: u8) -> u32
 fn load_in_mode(spec: &Spec, a: u8, mode: Mode) -> u32
     ensures { result ≡ option_map_or (λ (listed : ModeSpec). listed.load) (mode_of_app spec.now a mode.0) 0 }
 {
-    match mode_of(spec, AppId(a), mode) {
+    match spec.mode_of_app(AppId(a), mode) {
         Some(listed) => listed.load,
         None => 0,
     }
-}
-
-fn mode_of(spec: &Spec, a: AppId, mode: Mode) -> Option<ModeSpec>
-    ensures { result ≡ mode_of_app spec.now a.0 mode.0 }
-{
-    spec.app(a)?.mode(mode)
 }

@@ -2,10 +2,10 @@
 
 ghost use Rattle.std.specs.Prelude.{◌≡◌, ◌<◌, length};
 ghost use Rattle.choice_table.specs.Choices.{has_source};
-ghost use Rattle.coverage_check.specs.Holding.{breaks_entering, breaks_from, holds, holds_during, holds_from, holds_leaving, holds_off, holds_on_way, holds_reached, holds_reaching, invariant_refusal, invariant_refusal_at, invariant_refusal_of, kind_of, precondition_refusal, precondition_refusal_at, precondition_refusal_of};
+ghost use Rattle.coverage_check.specs.Holding.{breaks_entering, breaks_from, holds, holds_during, holds_from, holds_leaving, holds_off, holds_on_way, holds_reached, holds_reaching, invariant_refusal, invariant_refusal_at, invariant_refusal_of, precondition_refusal, precondition_refusal_at, precondition_refusal_of};
 ghost use Rattle.coverage_check.specs.TargetSets.{HasAllTargets, HasTargets};
 
-use crate::places::{count_confs, place_of};
+use crate::places::count_confs;
 use crate::shown::{Other, Shown};
 use crate::target_sets::TargetSet;
 use app_model::{after_init, during};
@@ -72,7 +72,7 @@ fn holds_from(spec: &Spec, set: &TargetSet, inv: &Invariant, i: u8) -> bool
     requires { HasTargets spec.now i set.now }
     ensures { result ≡ holds_from spec.now inv.now (record { 0 = i }) }
 {
-    holds_leaving(spec, inv, place_of(spec, ConfId(i), inv.app)) && holds_reached(spec, set, inv, i)
+    holds_leaving(spec, inv, spec.place_of(ConfId(i), inv.app)) && holds_reached(spec, set, inv, i)
 }
 
 // Whether the interval holds what is seen on the way to each possible target.
@@ -93,7 +93,7 @@ fn holds_on_way(spec: &Spec, set: &TargetSet, inv: &Invariant, i: u8, j: u8) -> 
     requires inside { j < length spec.now.confs }
     ensures { result ≡ holds_on_way spec.now inv.now (record { 0 = i }) j }
 {
-    !set.has(j) || holds_reaching(spec, inv, place_of(spec, ConfId(j), inv.app))
+    !set.has(j) || holds_reaching(spec, inv, spec.place_of(ConfId(j), inv.app))
 }
 
 // Whether it holds what is seen while the application leaves its mode, or zeros where it is off.
@@ -128,7 +128,7 @@ fn holds_during(spec: &Spec, inv: &Invariant, act: u8, mode: Mode) -> bool
     holds(
         inv.least,
         inv.greatest,
-        during(kind_of(spec, inv.app), act, mode, inv.variable),
+        during(spec.kind_of_app(inv.app), act, mode, inv.variable),
     )
 }
 
@@ -143,15 +143,6 @@ fn holds(low: i64, high: i64, range: (i64, i64)) -> bool
     ensures { result ≡ holds low high range }
 {
     low <= range.0 && range.1 <= high
-}
-
-fn kind_of(spec: &Spec, a: AppId) -> KindId
-    ensures { result.0 ≡ kind_of spec.now a.0 }
-{
-    match spec.apps.items().get(usize::from(a.0)) {
-        Some(app) => app.kind,
-        None => KindId(0),
-    }
 }
 
 // The first precondition that may not hold as its configuration begins to run.
@@ -189,9 +180,9 @@ fn refuse_precondition_of(spec: &Spec, k: u32, pre: &Precondition) -> Option<Sho
 fn breaks_entering(spec: &Spec, pre: &Precondition) -> bool
     ensures { result ≡ breaks_entering spec.now pre.now }
 {
-    match place_of(spec, pre.conf, pre.app) {
+    match spec.place_of(pre.conf, pre.app) {
         Some(place) => {
-            let kind = kind_of(spec, pre.app);
+            let kind = spec.kind_of_app(pre.app);
             !holds(
                 pre.least,
                 pre.greatest,

@@ -1,22 +1,9 @@
-//! Where a configuration places applications, and how many items a specification has.
+//! How many items a specification has.
 
 ghost use Rattle.std.specs.Prelude.{◌≡◌, ◌≤◌, length};
 ghost use Rattle.scram_types.specs.Specification.{IsSpec};
-ghost use Rattle.dep_order.specs.Timetables.{is_on, place_of};
 
-use scram_types::{AppId, ConfId, Place, Spec};
-
-pub(crate) fn place_of(spec: &Spec, c: ConfId, a: AppId) -> Option<Place>
-    ensures { result ≡ place_of spec.now c a.0 }
-{
-    spec.conf(c)?.place(a)
-}
-
-pub(crate) fn is_on(spec: &Spec, c: ConfId, a: AppId) -> bool
-    ensures { result ≡ is_on spec.now c a.0 }
-{
-    place_of(spec, c, a).is_some()
-}
+use scram_types::Spec;
 
 pub(crate) fn count_confs(spec: &Spec) -> u8
     ensures value { result ≡ length spec.now.confs }

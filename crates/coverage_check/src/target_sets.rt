@@ -2,7 +2,7 @@
 
 ghost use Rattle.std.specs.Prelude.{◌≡◌, ◌<◌, ◌≤◌, length, set, true, IfOk};
 ghost use Rattle.scram_types.specs.Specification.{IsSpec};
-ghost use Rattle.choice_table.specs.Numbering.{bits_below};
+ghost use Rattle.scram_types.specs.Bits.{bits_below};
 ghost use Rattle.coverage_check.specs.TargetSets.{HasAllTargets, HasTargets, is_in};
 ghost use Rattle.coverage_check.specs.Timing.{targets};
 

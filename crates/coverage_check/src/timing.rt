@@ -1,8 +1,8 @@
 //! How long reconfigurations may take.
 
 ghost use Rattle.std.specs.Prelude.{◌≡◌, ◌<◌, ◌≤◌, ◌+◌, IfOk, length};
+ghost use Rattle.scram_types.specs.Lookups.{conf_id};
 ghost use Rattle.dep_order.specs.Timetables.{halting_time, initialising_time, preparing_time};
-ghost use Rattle.coverage_check.specs.Showing.{conf};
 ghost use Rattle.coverage_check.specs.TargetSets.{HasAllTargets, HasTargets};
 ghost use Rattle.coverage_check.specs.Timing.{asked_bounds, bound_refusal, bound_refusal_of, can_return, further, greatest_bound, is_bound_asked, is_bounded, least, may_end_in, slowest, window_refusal};
 
@@ -43,7 +43,7 @@ fn find_asked(spec: &Spec, set: &TargetSet, i: u8, count: u8) -> u16
     requires targets { HasTargets spec.now i set.now }
     requires all { count ≡ length spec.now.confs }
     requires few { count ≤ 12 }
-    ensures { result ≡ asked_bounds spec.now (conf i) }
+    ensures { result ≡ asked_bounds spec.now (conf_id i) }
 {
     let mut bits = 0;
     for j in 0..count {
@@ -116,7 +116,7 @@ fn refuse_bound_of(spec: &Spec, set: &TargetSet, i: u8) -> Option<Shown>
 fn is_bound_asked(spec: &Spec, set: &TargetSet, i: u8, j: u8) -> bool
     requires targets { HasTargets spec.now i set.now }
     requires inside { j < length spec.now.confs }
-    ensures { result ≡ is_bound_asked spec.now (conf i) j }
+    ensures { result ≡ is_bound_asked spec.now (conf_id i) j }
 {
     set.has(j) && may_end_in(spec, ConfId(i), ConfId(j))
 }

@@ -2,8 +2,10 @@
 use Rattle.std.proofs.Common.{◌≡◌, ℕ, zero, suc, ◌+◌, ◌*◌, ◌-◌, ◌<◌, ◌≤◌, Bool, true, false, refl, arith, ◌⊎◌, ap, sym, ◌∙◌, List, [], ◌∷◌, length}
 use mathlib.Core.Logic.{inl, inr}
 use Rattle.std.specs.Prelude.{◌&&◌, if◌then◌else◌}
+use Rattle.scram_types.proofs.Booleans.{true_false}
+use Rattle.scram_types.proofs.Naturals.{below_or_at}
+use Rattle.scram_types.proofs.Searches.{greatest_most, greatest_reached, greatest_within, greatest_zero}
 use Rattle.dep_order.specs.Chains.{Chain, Chart, HasFirst, IsOffset, chain_time, longest, step}
-use Rattle.dep_order.proofs.Charts.{below_or_last, greatest_below, greatest_most, greatest_reached, greatest_zero, true_false}
 
 -- what goes before has the higher rank, and ranks are below 8
 pub record IsRanked (chart : Chart) (rank : ℕ → ℕ) : Type 0 where
@@ -71,7 +73,7 @@ module _ (chart : Chart) (rank : ℕ → ℕ) (ranked : IsRanked chart rank) whe
     app = n;
     inside = omega arith;
     on = here;
-    highest = λ b less on. elim (below_or_last b n less) [ inl e ↦ absurd (none b e on) | inr e ↦ rw e (omega arith) ];
+    highest = λ b less on. elim (below_or_at b n less) [ inl e ↦ absurd (none b e on) | inr e ↦ rw e (omega arith) ];
   }
 
   top_more : (n : ℕ) → chart.on n ≡ true → Top n → Top (suc n)
@@ -80,13 +82,13 @@ module _ (chart : Chart) (rank : ℕ → ℕ) (ranked : IsRanked chart rank) whe
       app = t.app;
       inside = (let i = t.inside in omega arith);
       on = t.on;
-      highest = λ b less on. elim (below_or_last b n less) [ inl e ↦ t.highest b e on | inr e ↦ rw e low ];
+      highest = λ b less on. elim (below_or_at b n less) [ inl e ↦ t.highest b e on | inr e ↦ rw e low ];
     }
     | inr high ↦ record {
       app = n;
       inside = omega arith;
       on = here;
-      highest = λ b less on. elim (below_or_last b n less) [ inl e ↦ (let h = t.highest b e on in omega arith) | inr e ↦ rw e (omega arith) ];
+      highest = λ b less on. elim (below_or_at b n less) [ inl e ↦ (let h = t.highest b e on in omega arith) | inr e ↦ rw e (omega arith) ];
     }
   ]
 
@@ -95,14 +97,14 @@ module _ (chart : Chart) (rank : ℕ → ℕ) (ranked : IsRanked chart rank) whe
     app = t.app;
     inside = (let i = t.inside in omega arith);
     on = t.on;
-    highest = λ b less on. elim (below_or_last b n less) [ inl e ↦ t.highest b e on | inr e ↦ true_false (chart.on b) on (rw e off) ];
+    highest = λ b less on. elim (below_or_at b n less) [ inl e ↦ t.highest b e on | inr e ↦ true_false (chart.on b) on (rw e off) ];
   }
 
   top_step : (n : ℕ) (b : Bool) → chart.on n ≡ b → NoneOn n ⊎ Top n → NoneOn (suc n) ⊎ Top (suc n)
   unfolding NoneOn
   top_step n true here before = elim before [ inl none ↦ inr (top_here n here none) | inr t ↦ inr (top_more n here t) ]
   top_step n false off before = elim before [
-    | inl none ↦ inl (λ a less on. elim (below_or_last a n less) [ inl e ↦ none a e on | inr e ↦ true_false (chart.on a) on (rw e off) ])
+    | inl none ↦ inl (λ a less on. elim (below_or_at a n less) [ inl e ↦ none a e on | inr e ↦ true_false (chart.on a) on (rw e off) ])
     | inr t ↦ inr (top_same n off t)
   ]
 
@@ -129,7 +131,7 @@ module _ (chart : Chart) (rank : ℕ → ℕ) (ranked : IsRanked chart rank) whe
   -- with times of at most 16 frames, a chain above rank r sums to at most 16 times (7 - r)
   pub longest_ranked : ((b : ℕ) → b < chart.apps → chart.time b ≤ 16) → (links a : ℕ) → a < chart.apps → longest chart links a ≤ 112 - 16 * rank a
   longest_ranked few zero a known = omega arith
-  longest_ranked few (suc links) a known = greatest_below (step chart (longest chart links) a) chart.apps (112 - 16 * rank a) (λ b less.
+  longest_ranked few (suc links) a known = greatest_within (step chart (longest chart links) a) chart.apps (112 - 16 * rank a) (λ b less.
       elim (by_if (chart.on b) (chart.before b a) (chart.time b + longest chart links b)) [
         | inl z ↦ rw (z) (omega arith)
         | inr r ↦ (

@@ -1,28 +1,24 @@
 -- Listed times and offsets give the timetable.
-use Rattle.std.proofs.Common.{◌≡◌, ℕ, zero, suc, get_or, ◌+◌, ◌<◌, ◌≤◌, Bool, true, false, refl, arith, ap, sym, ◌∙◌, List, length}
-use Rattle.std.specs.Prelude.{if◌then◌else◌, nat_lt, replicate, slice_index}
+use Rattle.std.proofs.Common.{◌≡◌, ℕ, ◌+◌, ◌<◌, ◌≤◌, Bool, true, false, refl, arith, ap, sym, ◌∙◌, List, length}
+use Rattle.std.specs.Prelude.{if◌then◌else◌, nat_lt, slice_index}
 use Rattle.std.proofs.lemmas.Bool.Decides.{nat_tests}
+use Rattle.scram_types.proofs.Eights.{eight_same}
 use Rattle.scram_types.specs.declared.ids.ConfId.{ConfId}
 use Rattle.scram_types.specs.Specification.{IsSpec, Parts}
+use Rattle.scram_types.specs.Searches.{greatest_below}
+use Rattle.scram_types.specs.Eights.{eight}
+use Rattle.scram_types.specs.Lookups.{is_on}
+use Rattle.scram_types.proofs.Searches.{greatest_same}
 use Rattle.dep_order.specs.declared.timetables.Phase.{Phase}
 use Rattle.dep_order.specs.declared.timetables.Times.{Times}
-use Rattle.dep_order.specs.Chains.{Chart, greatest}
-use Rattle.dep_order.specs.Timetables.{Holds, eight, goes_before, is_on, offset_where_on, phase_length, timed_chart, where_on}
-use Rattle.dep_order.proofs.Charts.{Agree, greatest_same}
+use Rattle.dep_order.specs.Chains.{Chart}
+use Rattle.dep_order.specs.Timetables.{Holds, goes_before, offset_where_on, phase_length, timed_chart, where_on}
+use Rattle.dep_order.proofs.Charts.{Agree}
 use Rattle.dep_order.proofs.Modes.{IsTimed, timed}
 
 pub same_times : (a b c d : List ℕ) (e f g h i j : ℕ) → a ≡ b → c ≡ d → e ≡ f → g ≡ h → i ≡ j
     → ◌≡◌ {A = Times} (record { halt = a; init = c; h = e; p = g; i = i }) (record { halt = b; init = d; h = f; p = h; i = j })
 same_times a b c d e f g h i j one two three four five = rw (one, two, three, four, five) refl
-
-pub eight_same : (f g : ℕ → ℕ) → ((a : ℕ) → a < 8 → f a ≡ g a) → eight f ≡ eight g
-eight_same f g same =
-    rw (same 0 (omega arith), same 1 (omega arith), same 2 (omega arith), same 3 (omega arith), same 4 (omega arith), same 5 (omega arith), same 6 (omega arith), same 7 (omega arith)) refl
-
-pub zeros_everywhere : (n x : ℕ) → ◌≡◌ {A = ℕ} (get_or (replicate n 0) x 0) 0
-zeros_everywhere zero x = refl
-zeros_everywhere (suc n) zero = refl
-zeros_everywhere (suc n) (suc x) = zeros_everywhere n x
 
 if_same : (b : Bool) (x y : ℕ) → (b ≡ true → x ≡ y) → (if b then x else 0) ≡ (if b then y else 0)
 if_same true x y h = h refl
@@ -61,7 +57,7 @@ module _ (spec : Parts) (known : IsSpec spec) (c : ConfId) (times offsets : List
       ∙ if_same (is_on spec c a) (slice_index offsets a) (value a) (λ on. holds a ((timed spec known c a).inside on)))
 
   pub length_is : (value : ℕ → ℕ) → Holds value (length spec.apps) offsets
-      → phase_length times offsets (length spec.apps) ≡ greatest (λ a. where_on spec c a (value a + time a)) (length spec.apps)
+      → phase_length times offsets (length spec.apps) ≡ greatest_below (λ a. where_on spec c a (value a + time a)) (length spec.apps)
   length_is value holds =
       let few = known.apps_count.few in
       greatest_same (λ a. if nat_lt 0 (slice_index times a) then slice_index offsets a + slice_index times a else 0) (λ a. where_on spec c a (value a + time a)) (length spec.apps) (λ a less.
@@ -69,7 +65,7 @@ module _ (spec : Parts) (known : IsSpec spec) (c : ConfId) (times offsets : List
       ∙ if_same (is_on spec c a) (slice_index offsets a + slice_index times a) (value a + time a) (λ on. rw (holds a less, listed a (omega arith)) refl))
 
   -- where nothing goes before anything, the length is the greatest time
-  pub length_alone : ((a : ℕ) → a < length spec.apps → slice_index offsets a ≡ 0) → phase_length times offsets (length spec.apps) ≡ greatest time (length spec.apps)
+  pub length_alone : ((a : ℕ) → a < length spec.apps → slice_index offsets a ≡ 0) → phase_length times offsets (length spec.apps) ≡ greatest_below time (length spec.apps)
   length_alone zeros =
       length_is (λ a. 0) zeros
       ∙ greatest_same (λ a. where_on spec c a (0 + time a)) time (length spec.apps) (λ a less.

@@ -1,6 +1,6 @@
 -- What a specification tells of the modes of a configuration's applications.
-use Rattle.std.proofs.Common.{◌≡◌, ℕ, suc, ◌<◌, ◌≤◌, Bool, true, false, refl, arith, ap, sym, List, [], ◌∷◌, length, subst}
-use Rattle.std.specs.Prelude.{Option, Some, None, if◌then◌else◌, nat_lt, slice_get, unwrap_or, IsSome, option_and_then, ◌==◌}
+use Rattle.std.proofs.Common.{◌≡◌, ℕ, suc, ◌<◌, ◌≤◌, Bool, true, false, refl, arith, sym, List, [], ◌∷◌, length, subst}
+use Rattle.std.specs.Prelude.{Option, Some, None, if◌then◌else◌, nat_lt, slice_get, IsSome, option_and_then, ◌==◌}
 use Rattle.std.proofs.lemmas.Bool.Decides.{nat_tests}
 use Rattle.std.proofs.lemmas.Option.{slice_get_within}
 use Rattle.scram_types.specs.declared.ids.ConfId.{ConfId}
@@ -9,21 +9,17 @@ use Rattle.scram_types.specs.declared.specification.Conf.{Conf}
 use Rattle.scram_types.specs.declared.specification.ModeSpec.{ModeSpec}
 use Rattle.scram_types.specs.declared.specification.Place.{Place}
 use Rattle.scram_types.specs.Specification.{Each, IsModeSpec, IsPhase, IsPlace, IsSpec, Parts, mode_in, place_in}
-use Rattle.dep_order.specs.Timetables.{halt_time, init_time, is_on, mode_of_app, place_of, prepare_time}
-
-pub none_or_some : {A : Type 0} {P : Type 0} (x : A) → None ≡ Some x → P
-none_or_some {A} {P} x e = absurd (cc)
-
-pub some_same : {A : Type 0} (x y : A) → Some x ≡ Some y → x ≡ y
-some_same x y e = ap (λ o. unwrap_or o x) e
+use Rattle.scram_types.specs.Lookups.{mode_of_app, is_on, place_of}
+use Rattle.scram_types.proofs.Options.{none_some, same_some}
+use Rattle.dep_order.specs.Timetables.{halt_time, init_time, prepare_time}
 
 mode_case : (P : ModeSpec → Type 0) (b : Bool) (y x : ModeSpec) (rest : Option ModeSpec) → P y → (rest ≡ Some x → P x)
     → (if b then Some y else rest) ≡ Some x → P x
-mode_case P true y x rest here later e = subst P (some_same y x e) here
+mode_case P true y x rest here later e = subst P (same_some y x e) here
 mode_case P false y x rest here later e = later e
 
 pub mode_in_each : (P : ModeSpec → Type 0) (modes : List ModeSpec) (mode : ℕ) (x : ModeSpec) → Each P modes → mode_in modes mode ≡ Some x → P x
-mode_in_each P [] mode x each e = none_or_some x e
+mode_in_each P [] mode x each e = none_some x e
 mode_in_each P (y ∷ ys) mode x each e =
     mode_case P (y.mode.0 == mode) y x (mode_in ys mode) (each 0 y refl) (mode_in_each P ys mode x (λ i z f. each (suc i) z f)) e
 
@@ -66,7 +62,7 @@ timed_on spec c a place listed on found inside halt prepare init = record {
 
 placed : (spec : Parts) → IsSpec spec → (c : ConfId) (a : ℕ) (place : Place) (conf : Option Conf) → slice_get spec.confs c.0 ≡ conf
     → option_and_then (λ (conf : Conf). place_in conf a) conf ≡ Some place → IsPlace spec.procs spec.apps a place
-placed spec known c a place None is e = none_or_some place e
+placed spec known c a place None is e = none_some place e
 placed spec known c a place (Some conf) is e = (known.confs c.0 conf is).places a place e
 
 timed_listed : (spec : Parts) → IsSpec spec → (c : ConfId) (a : ℕ) (place : Place) (app : AppSpec) (listed : Option ModeSpec)

@@ -3,14 +3,16 @@ use Rattle.std.proofs.Common.{◌≡◌, ℕ, suc, ◌+◌, ◌-◌, ◌<◌, �
 use Rattle.std.specs.Prelude.{Option, Some, None, ◌==◌, ◌||◌, if◌then◌else◌, nat_lt, slice_get}
 use Rattle.std.specs.Option.{option_map_or}
 use Rattle.std.proofs.lemmas.Bool.Decides.{nat_tests}
+use Rattle.scram_types.proofs.Naturals.{equal}
 use Rattle.scram_types.specs.declared.ids.AppId.{AppId}
 use Rattle.scram_types.specs.declared.ids.ConfId.{ConfId}
 use Rattle.scram_types.specs.declared.specification.AppSpec.{AppSpec}
 use Rattle.scram_types.specs.Specification.{IsSpec, Parts}
-use Rattle.dep_order.specs.Chains.{greatest}
-use Rattle.dep_order.specs.Timetables.{OffsetsAreGreatestSums, PhasesEndInTime, halt_chart, halt_offset, halt_time, init_chart, init_offset, init_time, is_named, is_on, needs, prepare_time, where_on}
+use Rattle.scram_types.specs.Searches.{greatest_below}
+use Rattle.scram_types.specs.Lookups.{is_on}
+use Rattle.scram_types.proofs.Searches.{greatest_most, greatest_within}
+use Rattle.dep_order.specs.Timetables.{OffsetsAreGreatestSums, PhasesEndInTime, halt_chart, halt_offset, halt_time, init_chart, init_offset, init_time, is_named, needs, prepare_time, where_on}
 use Rattle.dep_order.proofs.Chains.{IsRanked, has_first, is_offset, longest_ranked}
-use Rattle.dep_order.proofs.Charts.{greatest_below, greatest_most}
 use Rattle.dep_order.proofs.Modes.{IsTimed, timed}
 
 abbrev pub rank_of : Parts → ℕ → ℕ
@@ -20,9 +22,6 @@ rank_of spec a = option_map_or (λ (app : AppSpec). app.rank) (slice_get spec.ap
 record Rises (spec : Parts) (b a : ℕ) : Type 0 where
   rises : rank_of spec a < rank_of spec b
   few : rank_of spec b < 8
-
-equal : (a b : ℕ) → (a == b) ≡ true → a ≡ b
-equal a b h = grind (arith, nat_tests)
 
 Named : List AppId → ℕ → Type 0
 Named ids a = (k : ℕ) × (id : AppId) × (slice_get ids k ≡ Some id) × (id.0 ≡ a)
@@ -93,7 +92,7 @@ some_time on n time h = let test : nat_lt 0 n ≡ true = sym time.test ∙ h in 
 
 -- an application that is on is through by the end of the greatest of such ends
 ends : (spec : Parts) → IsSpec spec → (c : ConfId) (value : ℕ → ℕ) (a : ℕ) → is_on spec c a ≡ true
-    → value a ≤ greatest (λ a. where_on spec c a (value a)) (length spec.apps)
+    → value a ≤ greatest_below (λ a. where_on spec c a (value a)) (length spec.apps)
 ends spec known c value a on =
     let last = greatest_most (λ a. where_on spec c a (value a)) (length spec.apps) a ((timed spec known c a).inside on) in
     rw (on_value (is_on spec c a) (value a) on) at last
@@ -108,13 +107,13 @@ phases_in_time spec known c = record {
   init_least = λ a on. some_time (is_on spec c a) (init_time spec c a) (timed spec known c a).init on;
   halt_first = has_first (halt_chart spec c) (rank_of spec) (halt_ranked spec known c);
   init_first = has_first (init_chart spec c) (λ a. 7 - rank_of spec a) (init_ranked spec known c);
-  halt_most = greatest_below (λ a. where_on spec c a (halt_offset spec c a + halt_time spec c a)) (length spec.apps) 128 (λ a less.
+  halt_most = greatest_within (λ a. where_on spec c a (halt_offset spec c a + halt_time spec c a)) (length spec.apps) 128 (λ a less.
       if_below (is_on spec c a) (halt_offset spec c a + halt_time spec c a) 128 (λ on.
       let before = longest_ranked (halt_chart spec c) (rank_of spec) (halt_ranked spec known c) (λ b inside. (timed spec known c b).halt.most) 8 a less in
       let own = (timed spec known c a).halt.most in
       omega arith));
-  prepare_most = greatest_below (prepare_time spec c) (length spec.apps) 16 (λ a less. (timed spec known c a).prepare.most);
-  init_most = greatest_below (λ a. where_on spec c a (init_offset spec c a + init_time spec c a)) (length spec.apps) 128 (λ a less.
+  prepare_most = greatest_within (prepare_time spec c) (length spec.apps) 16 (λ a less. (timed spec known c a).prepare.most);
+  init_most = greatest_within (λ a. where_on spec c a (init_offset spec c a + init_time spec c a)) (length spec.apps) 128 (λ a less.
       if_below (is_on spec c a) (init_offset spec c a + init_time spec c a) 128 (λ on.
       let before = longest_ranked (init_chart spec c) (λ a. 7 - rank_of spec a) (init_ranked spec known c) (λ b inside. (timed spec known c b).init.most) 8 a less in
       let own = (timed spec known c a).init.most in

@@ -5,16 +5,16 @@ use Rattle.std.proofs.lemmas.Option.{get_or_from_slice_get, slice_get-get_or, sl
 use Rattle.scram_types.specs.declared.ids.AppId.{AppId}
 use Rattle.scram_types.specs.declared.specification.AppSpec.{AppSpec}
 use Rattle.scram_types.specs.Specification.{Each}
+use Rattle.scram_types.proofs.Options.{same_some, none_some}
 use Rattle.dep_order.specs.Ranks.{IsRanking, NeedsInRange, NeedsInTurn, RanksFall, RankingExcludesCycles, rank_after}
 use Rattle.dep_order.specs.Ranking.{AreSmall, IsSound, rank_in, ready}
-use Rattle.dep_order.proofs.Modes.{none_or_some, some_same}
 
 module _ (ranks : List (Option ℕ)) (listed : List ℕ) (count : ℕ) (long : length listed ≡ count) (same : (a : ℕ) → a < count → rank_in ranks a ≡ slice_get listed a) where
   found : (a : ℕ) → a < count → rank_in ranks a ≡ Some (slice_index listed a)
   found a inside = same a inside ∙ slice_get-get_or listed a 0 (rw (long) inside)
 
   ready_is : (needs : List AppId) → Each (λ (needed : AppId). needed.0 < count) needs → (t least : ℕ) → ready least ranks needs ≡ Some t → t ≡ max least (rank_after listed needs)
-  ready_is [] each t least e = let this = some_same least t e in omega arith
+  ready_is [] each t least e = let this = same_some least t e in omega arith
   ready_is (needed ∷ needs) each t least e =
       let next : ready (max least (slice_index listed needed.0 + 1)) ranks needs ≡ Some t =
       ap (option_and_then (λ (rank : ℕ). ready (max least (rank + 1)) ranks needs)) (sym (found needed.0 (each 0 needed refl))) ∙ e in
@@ -40,8 +40,8 @@ module _ (ranks : List (Option ℕ)) (listed : List ℕ) (count : ℕ) (long : l
       rw (here) at_zero
 
 below_after : (ranks : List ℕ) (needs : List AppId) (k : ℕ) (needed : AppId) → slice_get needs k ≡ Some needed → slice_index ranks needed.0 < rank_after ranks needs
-below_after ranks [] k needed e = none_or_some needed e
-below_after ranks (n ∷ needs) zero needed e = let this : slice_index ranks n.0 ≡ slice_index ranks needed.0 = ap (λ (x : AppId). slice_index ranks x.0) (some_same n needed e) in omega arith
+below_after ranks [] k needed e = none_some needed e
+below_after ranks (n ∷ needs) zero needed e = let this : slice_index ranks n.0 ≡ slice_index ranks needed.0 = ap (λ (x : AppId). slice_index ranks x.0) (same_some n needed e) in omega arith
 below_after ranks (n ∷ needs) (suc k) needed e = let rest = below_after ranks needs k needed e in omega arith
 
 pub ranks_fall : (apps : List AppSpec) (ranks : List ℕ) → IsRanking apps ranks → RanksFall apps ranks

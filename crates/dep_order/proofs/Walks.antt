@@ -1,14 +1,16 @@
 -- A walk along needs: it cannot go on for ever without coming back.
-use Rattle.std.proofs.Common.{◌≡◌, ℕ, zero, suc, ◌+◌, ◌<◌, ◌≤◌, ◌≢◌, Bool, true, false, refl, arith, ◌⊎◌, ap, sym, ◌∙◌, List, [], ◌∷◌, ◌++◌, length, get_or}
+use Rattle.std.proofs.Common.{◌≡◌, ℕ, zero, suc, ◌+◌, ◌<◌, ◌≤◌, ◌≢◌, Bool, true, false, refl, arith, ap, sym, ◌∙◌, List, [], ◌∷◌, ◌++◌, length, get_or}
 use mathlib.Core.Logic.{inl, inr}
 use Rattle.std.specs.Prelude.{Option, Some, None, ◌||◌, ◌==◌, find, if◌then◌else◌, is_none, max, option_and_then, slice_get}
-use Rattle.std.proofs.lemmas.Bool.Decides.{nat_tests}
+use Rattle.std.proofs.Math.Bool.{or-false, or-true, or_assoc}
 use Rattle.scram_types.specs.declared.ids.AppId.{AppId}
 use Rattle.scram_types.specs.declared.specification.AppSpec.{AppSpec}
+use Rattle.scram_types.proofs.Options.{same_some, none_some}
+use Rattle.scram_types.proofs.Booleans.{or_false}
+use Rattle.scram_types.proofs.Naturals.{below_or_at, differ_test, equal_test}
 use Rattle.dep_order.specs.Ranks.{Needs, NeedsInTurn}
 use Rattle.dep_order.specs.Ranking.{is_unranked, rank_in, ready}
 use Rattle.dep_order.specs.Timetables.{is_named}
-use Rattle.dep_order.proofs.Modes.{none_or_some, some_same}
 
 -- where needs give no rank, one of them has none
 
@@ -16,22 +18,22 @@ wait_case : (ranks : List (Option ℕ)) (least : ℕ) (needed : AppId) (needs : 
     → ((more : ℕ) → find (λ (n : AppId). is_unranked ranks n.0) needs ≡ None → ready more ranks needs ≡ None → ⊥)
     → (if is_none rank then Some needed else find (λ (n : AppId). is_unranked ranks n.0) needs) ≡ None
     → option_and_then (λ (r : ℕ). ready (max least (r + 1)) ranks needs) rank ≡ None → ⊥
-wait_case ranks least needed needs None rest none stuck = none_or_some needed (sym none)
+wait_case ranks least needed needs None rest none stuck = none_some needed (sym none)
 wait_case ranks least needed needs (Some r) rest none stuck = rest (max least (r + 1)) none stuck
 
 pub someone_waits : (ranks : List (Option ℕ)) (needs : List AppId) (least : ℕ) → find (λ (n : AppId). is_unranked ranks n.0) needs ≡ None → ready least ranks needs ≡ None → ⊥
-someone_waits ranks [] least none stuck = none_or_some least (sym stuck)
+someone_waits ranks [] least none stuck = none_some least (sym stuck)
 someone_waits ranks (needed ∷ needs) least none stuck =
     wait_case ranks least needed needs (rank_in ranks needed.0) (λ more. someone_waits ranks needs more) none stuck
 
 found_case : (test : AppId → Bool) (x y : AppId) (xs : List AppId) (here : Bool) → test x ≡ here
     → (find test xs ≡ Some y → (k : ℕ) × (slice_get xs k ≡ Some y) × (test y ≡ true))
     → (if here then Some x else find test xs) ≡ Some y → (k : ℕ) × (slice_get (x ∷ xs) k ≡ Some y) × (test y ≡ true)
-found_case test x y xs true is rest e = (0, e, ap test (sym (some_same x y e)) ∙ is)
+found_case test x y xs true is rest e = (0, e, ap test (sym (same_some x y e)) ∙ is)
 found_case test x y xs false is rest e = let later = rest e in (suc later.0, later.1, later.2)
 
 pub found_at : (test : AppId → Bool) (xs : List AppId) (y : AppId) → find test xs ≡ Some y → (k : ℕ) × (slice_get xs k ≡ Some y) × (test y ≡ true)
-found_at test [] y e = none_or_some y e
+found_at test [] y e = none_some y e
 found_at test (x ∷ xs) y e = found_case test x y xs (test x) refl (found_at test xs y) e
 
 none_by : (rank : Option ℕ) → is_none rank ≡ true → rank ≡ None
@@ -74,53 +76,28 @@ pub free_start : count_free [] 8 ≡ 8
 unfolding count_free
 free_start = refl
 
-or_false : (b : Bool) → (b || false) ≡ b
-or_false true = refl
-or_false false = refl
-
-or_true : (b : Bool) → (b || true) ≡ true
-or_true true = refl
-or_true false = refl
-
-or_right : (a b : Bool) → (a || b) ≡ false → b ≡ false
-or_right true b h = absurd (cc)
-or_right false b h = h
-
-or_assoc : (a b c : Bool) → (a || (b || c)) ≡ ((a || b) || c)
-or_assoc true b c = refl
-or_assoc false b c = refl
-
 named_push : (path : List AppId) (at : AppId) (a : ℕ) → is_named (path ++ at ∷ []) a ≡ (is_named path a || (at.0 == a))
-named_push [] at a = or_false (at.0 == a)
-named_push (x ∷ xs) at a = ap (λ b. (x.0 == a) || b) (named_push xs at a) ∙ or_assoc (x.0 == a) (is_named xs a) (at.0 == a)
-
-other_number : (a b : ℕ) → a ≢ b → (a == b) ≡ false
-other_number a b h = grind (arith, nat_tests)
-
-same_number : (a b : ℕ) → a ≡ b → (a == b) ≡ true
-same_number a b h = grind (arith, nat_tests)
+named_push [] at a = or-false (at.0 == a)
+named_push (x ∷ xs) at a = ap (λ b. (x.0 == a) || b) (named_push xs at a) ∙ sym (or_assoc (x.0 == a) (is_named xs a) (at.0 == a))
 
 -- past the numbers counted, one more name changes nothing
 free_above : (path : List AppId) (at : AppId) (n : ℕ) → n ≤ at.0 → count_free (path ++ at ∷ []) n ≡ count_free path n
 unfolding count_free
 free_above path at zero above = refl
 free_above path at (suc n) above =
-    rw (free_above path at n (omega arith), named_push path at n, other_number at.0 n (λ e. omega arith), or_false (is_named path n)) refl
-
-below_or_last : (k n : ℕ) → k < suc n → (k < n) ⊎ (k ≡ n)
-below_or_last k n h = grind arith
+    rw (free_above path at n (omega arith), named_push path at n, differ_test at.0 n (λ e. omega arith), or-false (is_named path n)) refl
 
 pub free_push : (path : List AppId) (at : AppId) (n : ℕ) → at.0 < n → is_named path at.0 ≡ false → count_free (path ++ at ∷ []) n + 1 ≡ count_free path n
 unfolding count_free
 free_push path at zero inside free = absurd (omega arith)
-free_push path at (suc n) inside free = elim (below_or_last at.0 n inside) [
+free_push path at (suc n) inside free = elim (below_or_at at.0 n inside) [
   | inl lower ↦ (
       let rest = free_push path at n lower free in
-      let same : is_named (path ++ at ∷ []) n ≡ is_named path n = named_push path at n ∙ (rw (other_number at.0 n (λ e. omega arith)) (or_false (is_named path n))) in
+      let same : is_named (path ++ at ∷ []) n ≡ is_named path n = named_push path at n ∙ (rw (differ_test at.0 n (λ e. omega arith)) (or-false (is_named path n))) in
       rw (same) (omega arith))
   | inr last ↦ (
       let rest = free_above path at n (omega arith) in
-      let now : is_named (path ++ at ∷ []) n ≡ true = named_push path at n ∙ (rw (same_number at.0 n last) (or_true (is_named path n))) in
+      let now : is_named (path ++ at ∷ []) n ≡ true = named_push path at n ∙ (rw (equal_test at.0 n last) (or-true (is_named path n))) in
       let before : is_named path n ≡ false = ap (is_named path) (sym last) ∙ free in
       rw (now, before, rest) (omega arith))
 ]
@@ -129,5 +106,5 @@ free_push path at (suc n) inside free = elim (below_or_last at.0 n inside) [
 
 pub not_named : (path : List AppId) (a : ℕ) → is_named path a ≡ false → (i : ℕ) (d : AppId) → i < length path → (get_or path i d).0 ≢ a
 not_named [] a free i d inside = absurd (omega arith)
-not_named (x ∷ xs) a free zero d inside = λ e. (let clash = same_number x.0 a e in absurd (let both = rw (clash) at free in cc))
-not_named (x ∷ xs) a free (suc i) d inside = not_named xs a (or_right (x.0 == a) (is_named xs a) free) i d (omega arith)
+not_named (x ∷ xs) a free zero d inside = λ e. (let clash = equal_test x.0 a e in absurd (let both = rw (clash) at free in cc))
+not_named (x ∷ xs) a free (suc i) d inside = not_named xs a (or_false (x.0 == a) (is_named xs a) free).1 i d (omega arith)

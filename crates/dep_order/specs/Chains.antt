@@ -1,10 +1,6 @@
 -- Chains of applications that wait for one another, and the greatest sum of times along them.
-use Rattle.std.specs.Prelude.{◌≡◌, ℕ, zero, suc, ◌+◌, ◌<◌, ◌≤◌, max, Bool, true, ◌&&◌, List, [], ◌∷◌, if◌then◌else◌}
-
--- The greatest value of a function below n, and 0 where n is 0.
-abbrev pub greatest : (ℕ → ℕ) → ℕ → ℕ
-greatest value zero = 0
-greatest value (suc n) = max (value n) (greatest value n)
+use Rattle.std.specs.Prelude.{◌≡◌, ℕ, zero, suc, ◌+◌, ◌<◌, ◌≤◌, Bool, true, ◌&&◌, List, [], ◌∷◌, if◌then◌else◌}
+use Rattle.scram_types.specs.Searches.{greatest_below}
 
 -- Applications by number: which are on, which goes before which, and how long each takes.
 pub record Chart : Type 0 where
@@ -20,7 +16,7 @@ step chart summed a b = if chart.on b && chart.before b a then chart.time b + su
 -- The greatest sum of times along chains of at most `links` applications that go before a.
 abbrev pub longest : Chart → ℕ → ℕ → ℕ
 longest chart zero a = 0
-longest chart (suc links) a = greatest (step chart (longest chart links) a) chart.apps
+longest chart (suc links) a = greatest_below (step chart (longest chart links) a) chart.apps
 
 -- No chain has more applications than there are ranks.
 abbrev pub offset : Chart → ℕ → ℕ

@@ -1,33 +1,19 @@
 -- When the applications of a configuration halt, prepare and initialise, and how long that takes.
-use Rattle.std.specs.Prelude.{◌≡◌, ℕ, ◌+◌, ◌<◌, ◌≤◌, Bool, true, false, ◌==◌, List, [], ◌∷◌, length, map, nat_lt, slice_get, slice_index, Option, option_and_then, is_some, if◌then◌else◌}
+use Rattle.std.specs.Prelude.{◌≡◌, ℕ, ◌+◌, ◌<◌, ◌≤◌, Bool, true, false, ◌==◌, List, length, nat_lt, slice_get, slice_index, if◌then◌else◌}
 use Rattle.std.specs.Option.{option_map_or}
 use Rattle.std.specs.List.{list_any}
+use Rattle.scram_types.specs.Eights.{eight}
+use Rattle.scram_types.specs.Lookups.{mode_of, is_on}
 use Rattle.scram_types.specs.declared.ids.AppId.{AppId}
 use Rattle.scram_types.specs.declared.ids.ConfId.{ConfId}
 use Rattle.scram_types.specs.declared.specification.ModeSpec.{ModeSpec}
 use Rattle.scram_types.specs.declared.specification.AppSpec.{AppSpec}
-use Rattle.scram_types.specs.declared.specification.Place.{Place}
-use Rattle.scram_types.specs.declared.specification.Conf.{Conf}
-use Rattle.scram_types.specs.Specification.{Parts, IsSpec, mode_in, place_in}
+use Rattle.scram_types.specs.Specification.{Parts, IsSpec}
+use Rattle.scram_types.specs.Searches.{greatest_below}
 use Rattle.dep_order.specs.declared.timetables.Phase.{Phase}
 use Rattle.dep_order.specs.declared.timetables.Phase.TheVariants as phase
 use Rattle.dep_order.specs.declared.timetables.Times.{Times}
-use Rattle.dep_order.specs.Chains.{Chart, HasFirst, IsOffset, greatest, offset}
-
--- Where configuration c places application a: nowhere where it is off.
-abbrev pub place_of : Parts → ConfId → ℕ → Option Place
-place_of spec c a = option_and_then (λ (conf : Conf). place_in conf a) (slice_get spec.confs c.0)
-
-abbrev pub is_on : Parts → ConfId → ℕ → Bool
-is_on spec c a = is_some (place_of spec c a)
-
--- What application a costs in mode m.
-abbrev pub mode_of_app : Parts → ℕ → ℕ → Option ModeSpec
-mode_of_app spec a m = option_and_then (λ (app : AppSpec). mode_in app.modes m) (slice_get spec.apps a)
-
--- What the mode of application a in configuration c costs, if a is on there.
-abbrev pub mode_of : Parts → ConfId → ℕ → Option ModeSpec
-mode_of spec c a = option_and_then (λ (place : Place). mode_of_app spec a place.mode.0) (place_of spec c a)
+use Rattle.dep_order.specs.Chains.{Chart, HasFirst, IsOffset, offset}
 
 -- How many frames its halt, its preparation and its initialisation take there: 0 where it is off.
 abbrev pub halt_time : Parts → ConfId → ℕ → ℕ
@@ -66,13 +52,13 @@ where_on spec c a n = if is_on spec c a then n else 0
 
 -- How long a configuration takes to halt, to prepare and to initialise: 0 where nothing is on.
 abbrev pub halting_time : Parts → ConfId → ℕ
-halting_time spec c = greatest (λ a. where_on spec c a (halt_offset spec c a + halt_time spec c a)) (length spec.apps)
+halting_time spec c = greatest_below (λ a. where_on spec c a (halt_offset spec c a + halt_time spec c a)) (length spec.apps)
 
 abbrev pub preparing_time : Parts → ConfId → ℕ
-preparing_time spec c = greatest (prepare_time spec c) (length spec.apps)
+preparing_time spec c = greatest_below (prepare_time spec c) (length spec.apps)
 
 abbrev pub initialising_time : Parts → ConfId → ℕ
-initialising_time spec c = greatest (λ a. where_on spec c a (init_offset spec c a + init_time spec c a)) (length spec.apps)
+initialising_time spec c = greatest_below (λ a. where_on spec c a (init_offset spec c a + init_time spec c a)) (length spec.apps)
 
 -- How many frames a phase of application a takes.
 abbrev pub phase_time : Parts → ConfId → Phase → ℕ → ℕ
@@ -98,7 +84,7 @@ timed_chart spec phase times = record {
 -- The length of a phase, of listed times and offsets.
 abbrev pub phase_length : List ℕ → List ℕ → ℕ → ℕ
 phase_length times offsets n =
-    greatest (λ a. if nat_lt 0 (slice_index times a) then slice_index offsets a + slice_index times a else 0) n
+    greatest_below (λ a. if nat_lt 0 (slice_index times a) then slice_index offsets a + slice_index times a else 0) n
 
 -- Offsets where some time is taken, and 0 elsewhere.
 abbrev pub offset_where_on : List ℕ → List ℕ → ℕ → ℕ
@@ -111,10 +97,6 @@ Holds value n xs = (a : ℕ) → a < n → slice_index xs a ≡ value a
 -- No number below n of a list is above `most`.
 abbrev pub AtMost : ℕ → ℕ → List ℕ → Type 0
 AtMost most n xs = (a : ℕ) → a < n → slice_index xs a ≤ most
-
--- A value for each of eight applications.
-abbrev pub eight : (ℕ → ℕ) → List ℕ
-eight value = map value (0 ∷ 1 ∷ 2 ∷ 3 ∷ 4 ∷ 5 ∷ 6 ∷ 7 ∷ [])
 
 abbrev pub timetable : Parts → ConfId → Times
 timetable spec c = record {

@@ -2,10 +2,12 @@
 
 ghost use Rattle.std.specs.Prelude.{◌≡◌, ◌≤◌, length, slice_index};
 ghost use Rattle.scram_types.specs.Specification.{IsSpec};
-ghost use Rattle.dep_order.specs.Chains.{greatest, offset, step};
-ghost use Rattle.dep_order.specs.Timetables.{AtMost, Holds, eight, goes_before, is_named, mode_of, needs, offset_where_on, phase_length, phase_time, timed_chart, timetable};
+ghost use Rattle.scram_types.specs.Searches.{greatest_below};
+ghost use Rattle.scram_types.specs.Eights.{eight};
+ghost use Rattle.dep_order.specs.Chains.{offset, step};
+ghost use Rattle.dep_order.specs.Timetables.{AtMost, Holds, goes_before, is_named, needs, offset_where_on, phase_length, phase_time, timed_chart, timetable};
 
-use scram_types::{AppId, ConfId, ModeSpec, Spec};
+use scram_types::{AppId, ConfId, Spec};
 
 /// The timetable of a configuration, in frames. `halt` and `init` hold the offset of each application
 /// from the beginning of the halting and of the initialising phase, 0 where it is off; `h`, `p` and `i`
@@ -65,7 +67,7 @@ fn offsets_in(spec: &Spec, phase: Phase, times: &[u8; 8]) -> [u16; 8]
 fn offsets_after(spec: &Spec, phase: Phase, times: &[u8; 8], before: &[u16; 8]) -> [u16; 8]
     requires times { AtMost 16 (length spec.now.apps) times.now }
     requires before { AtMost 112 (length spec.now.apps) before.now }
-    ensures { Holds (λ a. greatest (step (timed_chart spec.now phase times.now) (slice_index before.now) a) (length spec.now.apps)) (length spec.now.apps) result }
+    ensures { Holds (λ a. greatest_below (step (timed_chart spec.now phase times.now) (slice_index before.now) a) (length spec.now.apps)) (length spec.now.apps) result }
 {
     let mut offsets = [0; 8];
     for a in 0..count_apps(spec) {
@@ -78,7 +80,7 @@ fn offsets_after(spec: &Spec, phase: Phase, times: &[u8; 8], before: &[u16; 8]) 
 fn offset_after(spec: &Spec, phase: Phase, times: &[u8; 8], offsets: &[u16; 8], a: usize) -> u16
     requires times { AtMost 16 (length spec.now.apps) times.now }
     requires offsets { AtMost 112 (length spec.now.apps) offsets.now }
-    ensures { result ≡ greatest (step (timed_chart spec.now phase times.now) (slice_index offsets.now) a) (length spec.now.apps) }
+    ensures { result ≡ greatest_below (step (timed_chart spec.now phase times.now) (slice_index offsets.now) a) (length spec.now.apps) }
 {
     let mut last = 0;
     for b in 0..count_apps(spec) {
@@ -155,7 +157,7 @@ fn times_in(spec: &Spec, c: ConfId, phase: Phase) -> [u8; 8]
 fn time_in(spec: &Spec, c: ConfId, phase: Phase, a: u8) -> u8
     ensures { result ≡ phase_time spec.now c phase a }
 {
-    match mode_in_conf(spec, c, AppId(a)) {
+    match spec.mode_of(c, AppId(a)) {
         Some(listed) => match phase {
             Phase::Halt => listed.halt,
             Phase::Prepare => listed.prepare,
@@ -163,14 +165,6 @@ fn time_in(spec: &Spec, c: ConfId, phase: Phase, a: u8) -> u8
         },
         None => 0,
     }
-}
-
-// What the mode of application `a` in configuration `c` costs, or `None` where it is off.
-fn mode_in_conf(spec: &Spec, c: ConfId, a: AppId) -> Option<ModeSpec>
-    ensures { result ≡ mode_of spec.now c a.0 }
-{
-    let place = spec.conf(c)?.place(a)?;
-    spec.app(a)?.mode(place.mode)
 }
 
 fn count_apps(spec: &Spec) -> usize

@@ -1,88 +1,28 @@
 -- A script leaves the failure assumption nowhere exactly where it is within.
-use Rattle.std.proofs.Common.{◌≡◌, ℕ, zero, suc, ◌+◌, ◌-◌, ◌<◌, ◌≤◌, Bool, true, false, not, refl, arith, ◌⊎◌, ap, sym, ◌∙◌, length}
-use mathlib.Core.Logic.{inl, inr}
-use Rattle.std.specs.Prelude.{◌&&◌, ◌==◌, Option, Some, None, if◌then◌else◌, nat_le, nat_lt}
-use Rattle.std.specs.Option.{option_or}
+use Rattle.std.proofs.Common.{◌≡◌, ℕ, zero, suc, ◌+◌, ◌-◌, ◌<◌, ◌≤◌, Bool, true, false, not, refl, arith, ap, sym, ◌∙◌, length}
+use Rattle.std.specs.Prelude.{◌&&◌, ◌==◌, Option, Some, None, if◌then◌else◌, nat_le}
 use Rattle.std.proofs.lemmas.Bool.Decides.{nat_tests}
+use Rattle.scram_types.proofs.Naturals.{differ_test, plus_one, not_below_test, not_below}
+use Rattle.scram_types.proofs.Options.{some_none}
+use Rattle.scram_types.proofs.Searches.{below_none, none_below}
+use Rattle.scram_types.specs.Searches.{first_below}
 use Rattle.scram_types.specs.Scripts.{ScriptParts}
 use Rattle.scram_types.specs.Specification.{Parts}
+use Rattle.scram_types.proofs.Booleans.{and_false, right_false}
 use Rattle.fault_script.specs.declared.assumption.Outside.{Outside}
-use Rattle.fault_script.specs.Assumption.{IsWithin, WithinWhereNowhereOutside, brings_too_many_down, changes_upto, down_below, first_outside, has_too_many_down, is_change_frame, is_change_too_many, outside_at, outside_below}
+use Rattle.fault_script.specs.Assumption.{IsWithin, WithinWhereNowhereOutside, brings_too_many_down, changes_upto, down_below, first_outside, has_too_many_down, is_change_frame, is_change_too_many, outside_at}
 
-pub next : (f : ℕ) → suc f ≡ f + 1
-next f = omega arith
-
-below_or_at : (k n : ℕ) → k < suc n → (k < n) ⊎ (k ≡ n)
-below_or_at k n h = grind arith
-
-none_is : {A : Type 0} {P : Type 0} (x : A) → Some x ≡ None → P
-none_is x e = absurd (cc)
-
-none_left : {A : Type 0} (o p : Option A) → option_or o p ≡ None → o ≡ None
-none_left None p e = refl
-none_left (Some x) p e = none_is x e
-
-none_right : {A : Type 0} (o p : Option A) → option_or o p ≡ None → p ≡ None
-none_right None p e = e
-none_right (Some x) p e = none_is x e
-
-nowhere_at : (spec : Parts) (script : ScriptParts) (n f : ℕ) → outside_below spec script n ≡ None → f < n → outside_at spec script f ≡ None
-nowhere_at spec script zero f e less = absurd (omega arith)
-nowhere_at spec script (suc n) f e less = elim (below_or_at f n less) [
-  | inl earlier ↦ nowhere_at spec script n f (none_left (outside_below spec script n) (outside_at spec script n) e) earlier
-  | inr same ↦ ap (outside_at spec script) same ∙ none_right (outside_below spec script n) (outside_at spec script n) e
-]
-
-pub nowhere_below : (spec : Parts) (script : ScriptParts) (n : ℕ) → ((f : ℕ) → f < n → outside_at spec script f ≡ None) → outside_below spec script n ≡ None
-nowhere_below spec script zero each = refl
-nowhere_below spec script (suc n) each = rw (nowhere_below spec script n (λ f less. each f (omega arith)), each n (omega arith)) refl
-
--- the first frame found stays the first
-pub outside_first : (spec : Parts) (script : ScriptParts) (n k : ℕ) (x : Outside) → outside_below spec script k ≡ None → outside_at spec script k ≡ Some x → k < n
-    → outside_below spec script n ≡ Some x
-outside_first spec script zero k x before here less = absurd (omega arith)
-outside_first spec script (suc n) k x before here less = elim (below_or_at k n less) [
-  | inl earlier ↦ rw (outside_first spec script n k x before here earlier) refl
-  | inr same ↦ rw (ap (outside_below spec script) (sym same) ∙ before) (ap (outside_at spec script) (sym same) ∙ here)
-]
-
-pub outside_more : (spec : Parts) (script : ScriptParts) (f : ℕ) → outside_below spec script f ≡ None → outside_at spec script f ≡ None → outside_below spec script (f + 1) ≡ None
-outside_more spec script f before here = ap (outside_below spec script) (sym (next f)) ∙ rw (before) here
-
-pub outside_end : (spec : Parts) (script : ScriptParts) (f : ℕ) (o : Option Outside) → f ≡ script.frames → outside_below spec script f ≡ None → outside_at spec script script.frames ≡ o
+pub outside_end : (spec : Parts) (script : ScriptParts) (f : ℕ) (o : Option Outside) → f ≡ script.frames → first_below (outside_at spec script) f ≡ None → outside_at spec script script.frames ≡ o
     → first_outside spec script ≡ o
-outside_end spec script f o last before here = rw (ap (outside_below spec script) (sym last) ∙ before) here
+outside_end spec script f o last before here = rw (ap (first_below (outside_at spec script)) (sym last) ∙ before) here
 
 two_tests : (a b : Bool) (x y : Outside) → (if a then Some x else (if b then Some y else None)) ≡ None → (a ≡ false) × (b ≡ false)
-two_tests true b x y e = none_is x e
-two_tests false true x y e = none_is y e
+two_tests true b x y e = some_none x e
+two_tests false true x y e = some_none y e
 two_tests false false x y e = (refl, refl)
 
 tests_two : (a b : Bool) (x y : Outside) → a ≡ false → b ≡ false → (if a then Some x else (if b then Some y else None)) ≡ None
 tests_two a b x y p q = rw (p, q) refl
-
-not_both : (a b : Bool) → (a && b) ≡ false → a ≡ true → b ≡ false
-not_both true b e h = e
-not_both false b e h = absurd (cc)
-
-left_false : (a b : Bool) → a ≡ false → (a && b) ≡ false
-left_false a b e = rw (e) refl
-
-right_false : (a b : Bool) → b ≡ false → (a && b) ≡ false
-right_false true b e = e
-right_false false b e = refl
-
-below_test : (a b : ℕ) → a < b → nat_lt a b ≡ true
-below_test a b h = grind (arith, nat_tests)
-
-not_below : (a b : ℕ) → nat_lt a b ≡ false → b ≤ a
-not_below a b h = grind (arith, nat_tests)
-
-not_below_test : (a b : ℕ) → b ≤ a → nat_lt a b ≡ false
-not_below_test a b h = grind (arith, nat_tests)
-
-differ_test : (a b : ℕ) → a < b → (a == b) ≡ false
-differ_test a b h = grind (arith, nat_tests)
 
 earlier : (a b : ℕ) → a < suc b → (a == b) ≡ false → a < b
 earlier a b h e = grind (arith, nat_tests)
@@ -125,10 +65,10 @@ module _ (spec : Parts) (script : ScriptParts) where
   in_scope : first_outside spec script ≡ None → (f : ℕ) → f ≤ script.frames → down_below script f (length spec.procs) ≤ spec.halts
   in_scope e zero h = rw (start_up script (length spec.procs)) (omega arith)
   in_scope e (suc f) h =
-      let at = nowhere_at spec script (suc script.frames) f e (omega arith) in
+      let at = below_none (outside_at spec script) (suc script.frames) f e (omega arith) in
       let tests = two_tests (brings_too_many_down spec script f) (is_change_too_many spec script f) _ _ at in
       not_below spec.halts (down_below script (suc f) (length spec.procs))
-      (ap (has_too_many_down spec script) (next f) ∙ not_both (not (f == script.frames)) (has_too_many_down spec script (f + 1)) tests.0 (rw (differ_test f script.frames (omega arith)) refl))
+      (ap (has_too_many_down spec script) (plus_one f) ∙ and_false (not (f == script.frames)) (has_too_many_down spec script (f + 1)) tests.0 (rw (differ_test f script.frames (λ e. omega arith)) refl))
 
   Few : ℕ → Type 0
   Few f = changes_upto spec script f ≤ changes_upto spec script (f - spec.window) + spec.changes + 1
@@ -137,7 +77,7 @@ module _ (spec : Parts) (script : ScriptParts) where
   unfolding Few
   few_next f true is few before =
       let window = not_below (spec.changes + 1) (changes_upto spec script (suc f) - changes_upto spec script (suc f - spec.window))
-      (not_both (is_change_frame spec script (suc f)) _ few is) in
+      (and_false (is_change_frame spec script (suc f)) _ few is) in
       omega arith
   few_next f false is few before =
       let same : changes_upto spec script (suc f) ≡ changes_upto spec script f = rw (is) (omega arith) in
@@ -148,7 +88,7 @@ module _ (spec : Parts) (script : ScriptParts) where
   unfolding Few
   few_all e zero h = omega arith
   few_all e (suc f) h =
-      let at = nowhere_at spec script (suc script.frames) (suc f) e (omega arith) in
+      let at = below_none (outside_at spec script) (suc script.frames) (suc f) e (omega arith) in
       let tests = two_tests (brings_too_many_down spec script (suc f)) (is_change_too_many spec script (suc f)) _ _ at in
       few_next f (is_change_frame spec script (suc f)) refl tests.1 (few_all e f (omega arith))
 
@@ -168,5 +108,5 @@ pub leaves_nowhere : WithinWhereNowhereOutside
 unfolding Few
 leaves_nowhere spec script = record {
   within = λ e. record { scope = in_scope spec script e; few = few_all spec script e };
-  nowhere = λ within. nowhere_below spec script (suc script.frames) (at_nowhere spec script within);
+  nowhere = λ within. none_below (outside_at spec script) (suc script.frames) (at_nowhere spec script within);
 }

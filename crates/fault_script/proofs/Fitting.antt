@@ -1,5 +1,5 @@
 -- The script that is read of a document fits the specification.
-use Rattle.std.proofs.Common.{◌≡◌, ◌≤◌, ◌<◌, ◌+◌, ◌==◌, ◌-◌, ℕ, suc, true, ◌&&◌, List, [], ◌∷◌, ◌++◌, length, arith, refl, ap, sym, ◌∙◌, subst, inl, inr, nat_lt, length-append}
+use Rattle.std.proofs.Common.{◌≡◌, ◌≤◌, ◌<◌, ◌+◌, ◌==◌, ℕ, suc, true, ◌&&◌, List, [], ◌∷◌, ◌++◌, length, arith, refl, ap, sym, ◌∙◌, subst, inl, inr, nat_lt, length-append}
 use Rattle.std.specs.Prelude.{Option, Some, None, Ok, Err, Result, slice_get, nat_le, not, option_map, codes, IfOk}
 use Rattle.std.specs.List.{list_any}
 use Rattle.std.proofs.lemmas.Bool.{and_parts, not-true, or_cases}
@@ -24,6 +24,12 @@ use Rattle.scram_types.specs.declared.specification.Factor.{Factor}
 use Rattle.scram_types.specs.declared.specification.Proc.{Proc}
 use Rattle.scram_types.specs.Scripts.{ScriptParts}
 use Rattle.scram_types.specs.Specification.{Each, Parts}
+use Rattle.scram_doc.specs.declared.fault.DocError.{DocError}
+use Rattle.scram_doc.specs.Documents.{parsed}
+use Rattle.scram_doc.specs.Faults.{Answers}
+use Rattle.scram_doc.specs.Members.{needed, no_more_than, object_at}
+use Rattle.scram_doc.specs.Values.{list_at, text_at, whole_at}
+use Rattle.scram_doc.specs.Paths.{item_path, member_path}
 use Rattle.fault_script.specs.declared.rule.TheConstants.{OUT_OF_ORDER, WRONG_RESTART}
 use Rattle.fault_script.specs.declared.version.Version.{Version}
 use Rattle.fault_script.specs.declared.version.Version.TheVariants.{First, Second}

@@ -1,10 +1,11 @@
 -- Who is up after which halts.
-use Rattle.std.proofs.Common.{◌≡◌, ℕ, zero, suc, ◌<◌, ◌≤◌, Bool, true, false, not, refl, arith, ◌⊎◌, ap, sym, ◌∙◌, List, [], ◌∷◌}
+use Rattle.std.proofs.Common.{◌≡◌, ℕ, zero, suc, ◌<◌, ◌≤◌, Bool, true, false, not, refl, arith, ap, sym, ◌∙◌}
 use mathlib.Core.Logic.{inl, inr}
-use Rattle.std.specs.Prelude.{◌&&◌, ◌||◌, ◌==◌, Some, if◌then◌else◌, nat_le, nat_lt, slice_get, unwrap_or}
-use Rattle.std.specs.List.{list_all, list_any}
-use Rattle.std.proofs.lemmas.Bool.Decides.{nat_tests}
-use Rattle.std.proofs.lemmas.Option.{slice_get_within}
+use Rattle.std.specs.Prelude.{◌&&◌, ◌==◌, Some, if◌then◌else◌, nat_le, nat_lt}
+use Rattle.std.specs.List.{list_all}
+use Rattle.scram_types.proofs.Items.{all_pass, each_passes, any_is, any_found}
+use Rattle.scram_types.proofs.Naturals.{at_most_test, at_most, below_test, below, equal_test, equal, below_or_at}
+use Rattle.scram_types.proofs.Booleans.{same_test, true_false, and_right, and_left}
 use Rattle.scram_types.specs.declared.scripts.HaltAt.{HaltAt}
 use Rattle.scram_types.specs.declared.scripts.RestartAt.{RestartAt}
 use Rattle.scram_types.specs.Scripts.{ScriptParts}
@@ -13,70 +14,7 @@ use Rattle.fault_script.specs.Laws.{UpAfterEachHalt}
 
 -- tests
 
-pub and_left : (a b : Bool) → (a && b) ≡ true → a ≡ true
-and_left true b h = refl
-and_left false b h = h
-
-pub and_right : (a b : Bool) → (a && b) ≡ true → b ≡ true
-and_right true b h = h
-and_right false b h = cc
-
-pub equal : (a b : ℕ) → (a == b) ≡ true → a ≡ b
-equal a b h = grind (arith, nat_tests)
-
-equal_test : (a b : ℕ) → a ≡ b → (a == b) ≡ true
-equal_test a b h = grind (arith, nat_tests)
-
-below : (a b : ℕ) → nat_lt a b ≡ true → a < b
-below a b h = grind (arith, nat_tests)
-
-below_test : (a b : ℕ) → a < b → nat_lt a b ≡ true
-below_test a b h = grind (arith, nat_tests)
-
-at_most : (a b : ℕ) → nat_le a b ≡ true → a ≤ b
-at_most a b h = grind (arith, nat_tests)
-
-at_most_test : (a b : ℕ) → a ≤ b → nat_le a b ≡ true
-at_most_test a b h = grind (arith, nat_tests)
-
-below_or_last : (k n : ℕ) → k < suc n → (k < n) ⊎ (k ≡ n)
-below_or_last k n h = grind arith
-
-pub some_same : {A : Type 0} (x y : A) → Some x ≡ Some y → x ≡ y
-some_same x y e = ap (λ o. unwrap_or o x) e
-
 -- lists
-
-or_cases : (a b : Bool) → (a || b) ≡ true → (a ≡ true) ⊎ (b ≡ true)
-or_cases true b h = inl refl
-or_cases false b h = inr h
-
-pub any_found : {A : Type 0} (test : A → Bool) (xs : List A) → list_any test xs ≡ true → (i : ℕ) × (x : A) × (slice_get xs i ≡ Some x) × (test x ≡ true)
-any_found test [] h = absurd (cc)
-any_found test (x ∷ xs) h = elim (or_cases (test x) (list_any test xs) h) [
-  | inl here ↦ (0, x, refl, here)
-  | inr later ↦ (let rest = any_found test xs later in (suc rest.0, rest.1, rest.2, rest.3))
-]
-
-or_true : (a : Bool) → (a || true) ≡ true
-or_true true = refl
-or_true false = refl
-
-pub any_is : {A : Type 0} (test : A → Bool) (xs : List A) (i : ℕ) (x : A) → slice_get xs i ≡ Some x → test x ≡ true → list_any test xs ≡ true
-any_is test [] i x e t = let none : i < 0 = slice_get_within [] i x e in absurd (omega arith)
-any_is test (y ∷ ys) zero x e t = let same : y ≡ x = some_same y x e in rw (same, t) refl
-any_is test (y ∷ ys) (suc i) x e t = rw (any_is test ys i x e t) (or_true (test y))
-
-pub each_passes : {A : Type 0} (test : A → Bool) (xs : List A) → list_all test xs ≡ true → (i : ℕ) (x : A) → slice_get xs i ≡ Some x → test x ≡ true
-each_passes test [] h i x e = let none : i < 0 = slice_get_within [] i x e in absurd (omega arith)
-each_passes test (y ∷ ys) h zero x e =
-    let same : y ≡ x = some_same y x e in
-    rw (← same) (and_left (test y) (list_all test ys) h)
-each_passes test (y ∷ ys) h (suc i) x e = each_passes test ys (and_right (test y) (list_all test ys) h) i x e
-
-pub all_pass : {A : Type 0} (test : A → Bool) (xs : List A) → ((i : ℕ) (x : A) → slice_get xs i ≡ Some x → test x ≡ true) → list_all test xs ≡ true
-all_pass test [] h = refl
-all_pass test (x ∷ xs) h = rw (h 0 x refl, all_pass test xs (λ i y e. h (suc i) y e)) refl
 
 -- a restart between two frames
 
@@ -110,14 +48,11 @@ restarted_earlier script p h g f earlier t =
 EachOver : ScriptParts → ℕ → ℕ → ℕ → Type 0
 EachOver script p f n = (h : ℕ) → h < n → halts_in script p h ≡ true → restarted script p h f ≡ true
 
-true_false : {P : Type 0} (b : Bool) → b ≡ true → b ≡ false → P
-true_false b t f = absurd (cc)
-
 each_more : (script : ScriptParts) (p f n : ℕ) (here : Bool) → halts_in script p n ≡ here → (is_up_since script p f (latest_halt script p n) ≡ true → EachOver script p f n)
     → is_up_since script p f (if here then Some n else latest_halt script p n) ≡ true → EachOver script p f (suc n)
 unfolding EachOver
 each_more script p f n true is before up h less halts = restarted_earlier script p h n f (omega arith) up
-each_more script p f n false is before up h less halts = elim (below_or_last h n less) [
+each_more script p f n false is before up h less halts = elim (below_or_at h n less) [
   | inl earlier ↦ before up h earlier halts
   | inr same ↦ true_false (halts_in script p h) halts (ap (halts_in script p) same ∙ is)
 ]
@@ -172,11 +107,6 @@ over_listed script p f over = all_pass (is_over script p f) script.halts (λ i h
     over_of (halt.proc.0 == p) (nat_lt halt.frame f) (restarted script p halt.frame f) (λ proc early.
     over halt.frame (below halt.frame f early)
     (any_is (is_halt_in p halt.frame) script.halts i halt there (halt_test p halt.frame halt (equal halt.proc.0 p proc) refl))))
-
-same_test : (a b : Bool) → (a ≡ true → b ≡ true) → (b ≡ true → a ≡ true) → a ≡ b
-same_test true b h k = sym (h refl)
-same_test false true h k = k refl
-same_test false false h k = refl
 
 pub up_by_lists : (script : ScriptParts) (p f : ℕ) → list_all (is_over script p f) script.halts ≡ is_up script p f
 up_by_lists script p f = same_test (list_all (is_over script p f) script.halts) (is_up script p f)

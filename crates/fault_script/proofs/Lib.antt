@@ -1,7 +1,6 @@
 pub mod Alternation
 pub mod Assuming
 pub mod Back
-pub mod Bits
 pub mod Ends
 pub mod Examples
 pub mod Fitting

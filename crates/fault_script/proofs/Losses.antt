@@ -4,23 +4,21 @@ use mathlib.Core.Logic.{inl, inr}
 use Rattle.std.specs.Prelude.{◌&&◌, ◌==◌, Some, nat_le, slice_get}
 use Rattle.std.specs.Int.{bit_at}
 use Rattle.std.proofs.lemmas.Option.{slice_get-get_or, slice_get_within}
+use Rattle.scram_types.proofs.Booleans.{not_true, and_right, and_left}
+use Rattle.scram_types.proofs.Naturals.{low_or_high, equal}
 use Rattle.scram_types.specs.declared.scripts.HaltAt.{HaltAt}
 use Rattle.scram_types.specs.declared.scripts.RestartAt.{RestartAt}
 use Rattle.scram_types.specs.Scripts.{ScriptParts}
 use Rattle.scram_types.specs.Specification.{Parts}
+use Rattle.scram_types.specs.Bits.{bits_below}
+use Rattle.scram_types.proofs.BitSets.{bit_is, bits_lt, no_bit}
+use Rattle.scram_types.proofs.Items.{any_is, any_found}
+use Rattle.scram_types.proofs.Options.{same_some}
 use Rattle.fault_script.specs.Times.{halts_before_mark, halts_in, is_halt_in, is_restart_between, is_up, restarted, words}
-use Rattle.fault_script.specs.Environments.{bits_below, env_at}
+use Rattle.fault_script.specs.Environments.{env_at}
 use Rattle.fault_script.specs.Fits.{EachNext, Fits, HaltBefore}
 use Rattle.fault_script.specs.Laws.{HaltsShow, LossesShow}
-use Rattle.fault_script.proofs.Bits.{bit_is, bits_few, no_bit}
-use Rattle.fault_script.proofs.Halts.{and_left, and_right, any_found, any_is, between, equal, some_same, up_after_each_halt}
-
-low_or_high : (a b : ℕ) → (a < b) ⊎ (b ≤ a)
-low_or_high a b = grind arith
-
-not_true : (b : Bool) → (b ≡ true → ⊥) → b ≡ false
-not_true true h = absurd (h refl)
-not_true false h = refl
+use Rattle.fault_script.proofs.Halts.{between, up_after_each_halt}
 
 -- the halts of a list stand by frame
 next_frame : (a b : HaltAt) → HaltBefore a b → a.frame ≤ b.frame
@@ -29,7 +27,7 @@ next_frame a b before = elim before [ inl less ↦ omega arith | inr same ↦ (l
 later_frame : (halts : List HaltAt) → EachNext HaltBefore halts → (i d : ℕ) (x y : HaltAt) → slice_get halts i ≡ Some x → slice_get halts (i + d) ≡ Some y → x.frame ≤ y.frame
 later_frame halts ordered i zero x y first second =
     let plain : i + 0 ≡ i = omega arith in
-    let same : x ≡ y = some_same x y (sym first ∙ ap (slice_get halts) (sym plain) ∙ second) in
+    let same : x ≡ y = same_some x y (sym first ∙ ap (slice_get halts) (sym plain) ∙ second) in
     let frames = ap (λ (h : HaltAt). h.frame) same in
     omega arith
 later_frame halts ordered i (suc d) x y first second =
@@ -59,7 +57,7 @@ one_restart spec script fits i j x y first second proc = elim (low_or_high i j) 
     | inl less ↦ absurd (fits.restarts_once j i y x less second first (sym proc))
     | inr low ↦ (
         let place : i ≡ j = omega arith in
-        ap (λ (r : RestartAt). r.frame) (some_same x y (sym first ∙ ap (slice_get script.restarts) place ∙ second)))
+        ap (λ (r : RestartAt). r.frame) (same_some x y (sym first ∙ ap (slice_get script.restarts) place ∙ second)))
   ]
 ]
 
@@ -87,7 +85,7 @@ down_after spec script fits p h halts = not_true (is_up script p (suc h)) (λ up
 down_bit : (spec : Parts) (script : ScriptParts) (p f : ℕ) → is_up script p f ≡ false → bit_at (env_at spec script f).up p ≡ 0
 down_bit spec script p f down = elim (low_or_high p (length spec.procs)) [
   | inl less ↦ bit_is (λ q. is_up script q f) (length spec.procs) p less ∙ (rw (down) refl)
-  | inr past ↦ no_bit (bits_below (λ q. is_up script q f) (length spec.procs)) (length spec.procs) p (bits_few (λ q. is_up script q f) (length spec.procs)) past
+  | inr past ↦ no_bit (bits_below (λ q. is_up script q f) (length spec.procs)) (length spec.procs) p (bits_lt (λ q. is_up script q f) (length spec.procs)) past
 ]
 
 pub halts_show : HaltsShow

@@ -5,11 +5,13 @@ use Rattle.std.proofs.lemmas.Option.{slice_get_within}
 use Rattle.scram_types.specs.declared.scripts.Change.{Change}
 use Rattle.scram_types.specs.declared.specification.Factor.{Factor}
 use Rattle.scram_types.specs.Specification.{Parts}
+use Rattle.scram_types.proofs.BitSets.{bit_is, bits_lt}
+use Rattle.scram_types.proofs.Options.{same_some}
+use Rattle.scram_types.proofs.Naturals.{equal}
+use Rattle.scram_types.proofs.Booleans.{and_left}
 use Rattle.fault_script.specs.Times.{is_up, value_after}
 use Rattle.fault_script.specs.Fits.{IsChange}
 use Rattle.fault_script.specs.Laws.{EnvironmentsShow}
-use Rattle.fault_script.proofs.Bits.{bit_is, bits_few}
-use Rattle.fault_script.proofs.Halts.{and_left, equal, some_same}
 
 -- the value after changes keeps a fact that the value before has and each change of the factor gives
 keeps : (P : ℕ → Type 0) (b : Bool) (new old : ℕ) → (b ≡ true → P new) → P old → P (if b then new else old)
@@ -26,14 +28,14 @@ value_keeps P (change ∷ changes) x f value made had =
 
 changed_value : (spec : Parts) (frames : ℕ) (change : Change) → IsChange spec frames change → (x : ℕ) (factor : Factor) → change.factor.0 ≡ x → slice_get spec.factors x ≡ Some factor → change.value < length factor.values
 changed_value spec frames change fits x factor is there =
-    let same : fits.factor ≡ factor = some_same fits.factor factor (sym fits.there ∙ ap (slice_get spec.factors) is ∙ there) in
+    let same : fits.factor ≡ factor = same_some fits.factor factor (sym fits.there ∙ ap (slice_get spec.factors) is ∙ there) in
     subst (λ (z : Factor). change.value < length z.values) same fits.value
 
 pub environments_show : EnvironmentsShow
 environments_show spec script known fits f = record {
   up = λ p less up. bit_is (λ q. is_up script q f) (length spec.procs) p less ∙ (rw (up) refl);
   down = λ p less down. bit_is (λ q. is_up script q f) (length spec.procs) p less ∙ (rw (down) refl);
-  past = bits_few (λ q. is_up script q f) (length spec.procs);
+  past = bits_lt (λ q. is_up script q f) (length spec.procs);
   values = λ x factor there. value_keeps (λ v. v < length factor.values) script.changes x f 0
       (λ i change listed is. changed_value spec script.frames change (fits.changes i change listed) x factor is there)
       (let some = (known.factors x factor there).count.enough in omega arith);

@@ -1,17 +1,18 @@
 -- What a script says after a frame does not show in it.
+use Rattle.std.proofs.Math.Bool.{and-false}
 use Rattle.std.proofs.Common.{◌≡◌, ℕ, Bool, true, false, refl, arith, ap, sym, ◌∙◌, List, [], ◌∷◌, length}
 use Rattle.std.specs.Prelude.{◌&&◌, ◌||◌, ◌==◌, filter, if◌then◌else◌, nat_le, nat_lt}
 use Rattle.std.specs.List.{list_all, list_any}
 use Rattle.std.proofs.lemmas.Bool.Decides.{nat_tests}
-use Rattle.scram_types.specs.declared.flights.Env.{Env}
+use Rattle.scram_types.proofs.Equality.{same_env}
 use Rattle.scram_types.specs.declared.scripts.Change.{Change}
 use Rattle.scram_types.specs.declared.scripts.HaltAt.{HaltAt}
 use Rattle.scram_types.specs.declared.scripts.RestartAt.{RestartAt}
 use Rattle.scram_types.specs.Scripts.{ScriptParts}
 use Rattle.scram_types.specs.Specification.{Parts}
+use Rattle.scram_types.proofs.BitSets.{same_bits}
 use Rattle.fault_script.specs.Times.{commits, factor_at, factors_at, halts_before_mark, is_halt_in, is_over, is_restart_between, is_up, restarted, value_after, words}
 use Rattle.fault_script.specs.Laws.{AgreeUpTo, LaterIsUnseen}
-use Rattle.fault_script.proofs.Bits.{bits_same}
 use Rattle.fault_script.proofs.Halts.{up_by_lists}
 
 later_not : (frame f : ℕ) → nat_le frame f ≡ false → nat_lt frame f ≡ false
@@ -19,10 +20,6 @@ later_not frame f h = grind (arith, nat_tests)
 
 later_other : (frame f : ℕ) → nat_le frame f ≡ false → (frame == f) ≡ false
 later_other frame f h = grind (arith, nat_tests)
-
-and_false : (a : Bool) → (a && false) ≡ false
-and_false true = refl
-and_false false = refl
 
 -- a test that only kept items can pass, or fail, tells the same of the kept items
 
@@ -53,7 +50,7 @@ kept_change : (change : Change) (changes : List Change) (x f value : ℕ) (kept 
     → value_after (if kept then change ∷ filter (λ (c : Change). nat_le c.frame f) changes else filter (λ (c : Change). nat_le c.frame f) changes) x f value
     ≡ value_after changes x f (if change.factor.0 == x && nat_le change.frame f then change.value else value)
 kept_change change changes x f value true is same = same (if change.factor.0 == x && nat_le change.frame f then change.value else value)
-kept_change change changes x f value false is same = rw (is, and_false (change.factor.0 == x)) (same value)
+kept_change change changes x f value false is same = rw (is, and-false (change.factor.0 == x)) (same value)
 
 kept_value : (changes : List Change) (x f value : ℕ) → value_after (filter (λ (c : Change). nat_le c.frame f) changes) x f value ≡ value_after changes x f value
 kept_value [] x f value = refl
@@ -65,12 +62,12 @@ module _ (one other : ScriptParts) (f : ℕ) (agree : AgreeUpTo f one other) whe
 
   same_restarted : (p h : ℕ) → restarted one p h f ≡ restarted other p h f
   same_restarted p h =
-      sym (any_kept (is_restart_between p h f) (λ (r : RestartAt). nat_le r.frame f) one.restarts (λ r late. rw (late) (and_false _)))
+      sym (any_kept (is_restart_between p h f) (λ (r : RestartAt). nat_le r.frame f) one.restarts (λ r late. rw (late) (and-false _)))
       ∙ ap (list_any (is_restart_between p h f)) agree.restarts
-      ∙ any_kept (is_restart_between p h f) (λ (r : RestartAt). nat_le r.frame f) other.restarts (λ r late. rw (late) (and_false _))
+      ∙ any_kept (is_restart_between p h f) (λ (r : RestartAt). nat_le r.frame f) other.restarts (λ r late. rw (late) (and-false _))
 
   over_late : (script : ScriptParts) (p : ℕ) (halt : HaltAt) → nat_le halt.frame f ≡ false → is_over script p f halt ≡ true
-  over_late script p halt late = rw (later_not halt.frame f late, and_false (halt.proc.0 == p)) refl
+  over_late script p halt late = rw (later_not halt.frame f late, and-false (halt.proc.0 == p)) refl
 
   same_up : (p : ℕ) → is_up one p f ≡ is_up other p f
   same_up p =
@@ -82,7 +79,7 @@ module _ (one other : ScriptParts) (f : ℕ) (agree : AgreeUpTo f one other) whe
       ∙ up_by_lists other p f
 
   early_late : (spec : Parts) (p : ℕ) (halt : HaltAt) → nat_le halt.frame f ≡ false → (is_halt_in p f halt && nat_le halt.step (words spec)) ≡ false
-  early_late spec p halt late = rw (later_other halt.frame f late, and_false (halt.proc.0 == p)) refl
+  early_late spec p halt late = rw (later_other halt.frame f late, and-false (halt.proc.0 == p)) refl
 
   same_early : (spec : Parts) (p : ℕ) → halts_before_mark spec one p f ≡ halts_before_mark spec other p f
   same_early spec p =
@@ -96,11 +93,8 @@ module _ (one other : ScriptParts) (f : ℕ) (agree : AgreeUpTo f one other) whe
   same_factors : factors_at one f ≡ factors_at other f
   same_factors = rw (same_factor 0, same_factor 1, same_factor 2, same_factor 3, same_factor 4, same_factor 5) refl
 
-same_env : (a b : ℕ) (c d : List ℕ) → a ≡ b → c ≡ d → ◌≡◌ {A = Env} (record { up = a; factors = c }) (record { up = b; factors = d })
-same_env a b c d e f = rw (e, f) refl
-
 pub later_is_unseen : LaterIsUnseen
 later_is_unseen spec one other f agree = (
-  same_env _ _ _ _ (bits_same (λ p. is_up one p f) (λ p. is_up other p f) (length spec.procs) (same_up one other f agree)) (same_factors one other f agree),
+  same_env _ _ _ _ (same_bits (λ p. is_up one p f) (λ p. is_up other p f) (length spec.procs) (λ p low. same_up one other f agree p)) (same_factors one other f agree),
   same_commits one other f agree spec,
 )

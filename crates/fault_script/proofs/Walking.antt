@@ -1,49 +1,32 @@
 -- What the changes that came so far make of the factors' values.
-use Rattle.std.proofs.Common.{◌≡◌, ℕ, zero, suc, ◌+◌, ◌-◌, ◌<◌, ◌≤◌, Bool, true, false, not, refl, arith, ◌⊎◌, ap, sym, subst, ◌∙◌, List, [], ◌∷◌, length}
+use Rattle.std.proofs.Common.{◌≡◌, ℕ, zero, suc, ◌+◌, ◌-◌, ◌<◌, ◌≤◌, Bool, true, false, not, refl, arith, ap, sym, subst, ◌∙◌, List, [], ◌∷◌, length, get_or}
 use mathlib.Core.Logic.{inl, inr}
+use Rattle.scram_types.proofs.Naturals.{at_or_below, above_test, below_or_at, at_most_test}
 use mir.Val.{bool_byte}
-use Rattle.std.specs.Prelude.{◌&&◌, ◌==◌, Option, Some, None, if◌then◌else◌, nat_le, nat_lt, slice_get}
-use Rattle.std.proofs.Common.{get_or}
-use Rattle.std.proofs.lemmas.Bool.Decides.{nat_tests}
+use Rattle.std.specs.Prelude.{◌&&◌, ◌==◌, Option, Some, None, if◌then◌else◌, nat_lt, slice_get}
 use Rattle.std.proofs.lemmas.Option.{slice_get-get_or, slice_get_within}
+use Rattle.std.proofs.Math.Bool.{and-false, and-true}
+use Rattle.scram_types.proofs.Naturals.{plus_one}
 use Rattle.scram_types.specs.declared.scripts.Change.{Change}
 use Rattle.scram_types.specs.declared.flights.Env.{Env}
 use Rattle.scram_types.specs.Scripts.{ScriptParts}
 use Rattle.scram_types.specs.Specification.{Parts}
+use Rattle.scram_types.specs.Bits.{bits_below}
+use Rattle.scram_types.proofs.Options.{same_some, none_some}
+use Rattle.scram_types.proofs.Equality.{same_env}
 use Rattle.fault_script.specs.Times.{factors_at, is_up, value_after}
-use Rattle.fault_script.specs.Environments.{bits_below, env_at}
+use Rattle.fault_script.specs.Environments.{env_at}
 use Rattle.fault_script.specs.Assumption.{changes_in_window, changes_upto, is_change_frame, is_change_too_many, is_same_env}
 use Rattle.fault_script.specs.declared.walks.Walk.{Walk}
 use Rattle.fault_script.specs.declared.walks.Window.{Window}
 use Rattle.fault_script.specs.Fits.{ChangeBefore, EachNext, Fits}
 use Rattle.fault_script.specs.Walks.{IsTaken, IsWalk, IsWhole, IsWindow, changed_values, newest, value_taken, values_taken}
-use Rattle.fault_script.proofs.Halts.{some_same}
-use Rattle.fault_script.proofs.Assuming.{next, upto_grows, upto_most}
-
-below_or_at : (k n : ℕ) → k < suc n → (k < n) ⊎ (k ≡ n)
-below_or_at k n h = grind arith
-
-le_test : (a b : ℕ) → a ≤ b → nat_le a b ≡ true
-le_test a b h = grind (arith, nat_tests)
-
-above_test : (a b : ℕ) → b < a → nat_le a b ≡ false
-above_test a b h = grind (arith, nat_tests)
-
-and_true : (a : Bool) → (a && true) ≡ a
-and_true true = refl
-and_true false = refl
-
-and_false : (a : Bool) → (a && false) ≡ false
-and_false true = refl
-and_false false = refl
-
-none_is : {A : Type 0} {P : Type 0} (x : A) → None ≡ Some x → P
-none_is x e = absurd (cc)
+use Rattle.fault_script.proofs.Assuming.{upto_grows, upto_most}
 
 pub taken_more : (changes : List Change) (f n : ℕ) (change : Change) → IsTaken changes f n → slice_get changes n ≡ Some change → change.frame ≤ f → IsTaken changes f (n + 1)
 taken_more changes f n change taken there by = λ k other less found. elim (below_or_at k n (omega arith)) [
   | inl earlier ↦ taken k other earlier found
-  | inr same ↦ (let is : change ≡ other = some_same change other (sym there ∙ ap (slice_get changes) (sym same) ∙ found) in subst (λ (c : Change). c.frame ≤ f) is by)
+  | inr same ↦ (let is : change ≡ other = same_some change other (sym there ∙ ap (slice_get changes) (sym same) ∙ found) in subst (λ (c : Change). c.frame ≤ f) is by)
 ]
 
 taken_none : (rest : List Change) (x value : ℕ) → value_taken rest x zero value ≡ value
@@ -52,9 +35,9 @@ taken_none (c ∷ rest) x value = refl
 
 pub value_more : (changes : List Change) (x n value : ℕ) (change : Change) → slice_get changes n ≡ Some change
     → value_taken changes x (suc n) value ≡ newest change x (value_taken changes x n value)
-value_more [] x n value change there = none_is change there
+value_more [] x n value change there = none_some change there
 value_more (first ∷ changes) x zero value change there =
-    let is : first ≡ change = some_same first change there in
+    let is : first ≡ change = same_some first change there in
     taken_none changes x (newest first x value) ∙ ap (λ (c : Change). newest c x value) is
 value_more (first ∷ changes) x (suc n) value change there = value_more changes x n (newest first x value) change there
 
@@ -64,7 +47,7 @@ six a b c d e f g h i j k l p q r s t u = rw (p, q, r, s, t, u) refl
 
 pub values_more : (changes : List Change) (n : ℕ) (change : Change) → slice_get changes n ≡ Some change
     → values_taken changes (n + 1) ≡ changed_values change (values_taken changes n)
-values_more changes n change there = ap (values_taken changes) (sym (next n)) ∙ six _ _ _ _ _ _ _ _ _ _ _ _
+values_more changes n change there = ap (values_taken changes) (sym (plus_one n)) ∙ six _ _ _ _ _ _ _ _ _ _ _ _
     (value_more changes 0 n 0 change there) (value_more changes 1 n 0 change there) (value_more changes 2 n 0 change there)
     (value_more changes 3 n 0 change there) (value_more changes 4 n 0 change there) (value_more changes 5 n 0 change there)
 
@@ -77,15 +60,15 @@ unfolding IsLater
 unseen [] x f value later = refl
 unseen (change ∷ changes) x f value later =
     let late = above_test change.frame f (later 0 change (omega arith) refl) in
-    rw (late, and_false (change.factor.0 == x)) (unseen changes x f value (λ k other h there. later (suc k) other (omega arith) there))
+    rw (late, and-false (change.factor.0 == x)) (unseen changes x f value (λ k other h there. later (suc k) other (omega arith) there))
 
 value_is : (changes : List Change) (x f n value : ℕ) → IsTaken changes f n → IsLater changes f n → value_after changes x f value ≡ value_taken changes x n value
 unfolding IsLater
 value_is [] x f n value taken later = refl
 value_is (change ∷ changes) x f zero value taken later = unseen (change ∷ changes) x f value later
 value_is (change ∷ changes) x f (suc n) value taken later =
-    let by = le_test change.frame f (taken 0 change (omega arith) refl) in
-    rw (by, and_true (change.factor.0 == x)) (value_is changes x f n (newest change x value)
+    let by = at_most_test change.frame f (taken 0 change (omega arith) refl) in
+    rw (by, and-true (change.factor.0 == x)) (value_is changes x f n (newest change x value)
     (λ k other h there. taken (suc k) other (omega arith) there) (λ k other h there. later (suc k) other (omega arith) there))
 
 ordered : (a b : Change) → ChangeBefore a b → a.frame ≤ b.frame
@@ -99,7 +82,7 @@ missing (c ∷ cs) (suc i) h e = missing cs i (omega arith) e
 
 same_item : (changes : List Change) (n k : ℕ) (x y : Change) → n ≡ k → slice_get changes n ≡ Some x → slice_get changes k ≡ Some y → x.frame ≤ y.frame
 same_item changes n k x y e at_n at_k =
-    let is : x ≡ y = some_same x y (sym at_n ∙ ap (slice_get changes) e ∙ at_k) in subst (λ (c : Change). x.frame ≤ c.frame) is (omega arith)
+    let is : x ≡ y = same_some x y (sym at_n ∙ ap (slice_get changes) e ∙ at_k) in subst (λ (c : Change). x.frame ≤ c.frame) is (omega arith)
 
 ascend_step : (changes : List Change) → EachNext ChangeBefore changes → (k : ℕ) (x y : Change) → slice_get changes (suc k) ≡ Some y → ((z : Change) → slice_get changes k ≡ Some z → x.frame ≤ z.frame)
     → (o : Option Change) → slice_get changes k ≡ o → x.frame ≤ y.frame
@@ -108,11 +91,8 @@ ascend_step changes later k x y at_k before None e =
     missing changes k (omega arith) e
 ascend_step changes later k x y at_k before (Some z) e =
     let less = before z e in
-    let after = ordered z y (later k z y e (ap (slice_get changes) (sym (next k)) ∙ at_k)) in
+    let after = ordered z y (later k z y e (ap (slice_get changes) (sym (plus_one k)) ∙ at_k)) in
     omega arith
-
-at_or_below : (n k : ℕ) → n ≤ suc k → (n ≤ k) ⊎ (n ≡ suc k)
-at_or_below n k h = grind arith
 
 -- changes go by frame
 ascending : (changes : List Change) → EachNext ChangeBefore changes → (k n : ℕ) (x y : Change) → n ≤ k → slice_get changes n ≡ Some x → slice_get changes k ≡ Some y → x.frame ≤ y.frame
@@ -158,36 +138,42 @@ nothing_taken (change ∷ changes) = refl
 pub first_later : (spec : Parts) (script : ScriptParts) → Fits spec script → IsWhole script.changes 0 0
 first_later spec script fits = λ change there. (let least = (fits.changes 0 change there).least in omega arith)
 
-pub env_made : (a b : ℕ) (c d : List ℕ) → a ≡ b → c ≡ d → ◌≡◌ {A = Env} (record { up = a; factors = c }) (record { up = b; factors = d })
-env_made a b c d p q = rw (p, q) refl
-
 -- walks
 
 env_whole : (spec : Parts) (script : ScriptParts) (f : ℕ) (env : Env) → env.up ≡ bits_below (λ p. is_up script p f) (length spec.procs) → env.factors ≡ factors_at script f
     → env ≡ env_at spec script f
-env_whole spec script f env up factors = env_made env.up _ env.factors _ up factors
+env_whole spec script f env up factors = same_env env.up _ env.factors _ up factors
 
-pub walk_opens : (spec : Parts) (script : ScriptParts) → Fits spec script → (walk : Walk) → walk.taken ≡ 0
+pub walk_opens : (spec : Parts) (script : ScriptParts) → Fits spec script → (walk : Walk) → walk.frame ≡ 0 → walk.taken ≡ 0
     → walk.env.up ≡ bits_below (λ p. is_up script p 0) (length spec.procs) → walk.env.factors ≡ 0 ∷ 0 ∷ 0 ∷ 0 ∷ 0 ∷ 0 ∷ []
     → IsWalk spec script 0 walk
-walk_opens spec script fits walk none up factors =
+walk_opens spec script fits walk at none up factors =
     let values : walk.env.factors ≡ values_taken script.changes walk.taken = factors ∙ sym (nothing_taken script.changes) ∙ ap (values_taken script.changes) (sym none) in
     record {
+      frame = at;
       taken = λ k change less there. absurd (omega arith);
       values = values;
       env = env_whole spec script 0 walk.env up
           (factors ∙ sym (nothing_taken script.changes) ∙ values_are script 0 0 fits.changes_ordered (none_taken script.changes 0) (first_later spec script fits));
     }
 
-pub walk_moves : (spec : Parts) (script : ScriptParts) → Fits spec script → (f : ℕ) (after : Walk)
+pub walk_moves : (spec : Parts) (script : ScriptParts) → Fits spec script → (f : ℕ) (after : Walk) → after.frame ≡ f + 1
     → IsTaken script.changes (f + 1) after.taken → after.env.factors ≡ values_taken script.changes after.taken → IsWhole script.changes (f + 1) after.taken
     → after.env.up ≡ bits_below (λ p. is_up script p (f + 1)) (length spec.procs)
     → IsWalk spec script (f + 1) after
-walk_moves spec script fits f after taken values whole up = record {
+walk_moves spec script fits f after at taken values whole up = record {
+  frame = at;
   taken = taken;
   values = values;
   env = env_whole spec script (f + 1) after.env up (values ∙ values_are script (f + 1) after.taken fits.changes_ordered taken whole);
 }
+
+-- a walk stands at its own frame
+pub stands_there : (spec : Parts) (script : ScriptParts) (f : ℕ) (walk : Walk) → IsWalk spec script f walk → IsWalk spec script walk.frame walk
+stands_there spec script f walk is = subst (λ g. IsWalk spec script g walk) (sym is.frame) is
+
+pub stands_next : (spec : Parts) (script : ScriptParts) (f : ℕ) (walk after : Walk) → IsWalk spec script f walk → IsWalk spec script (walk.frame + 1) after → IsWalk spec script (f + 1) after
+stands_next spec script f walk after is there = subst (λ g. IsWalk spec script (g + 1) after) is.frame there
 
 -- windows
 
@@ -195,14 +181,14 @@ pub changes_more : (spec : Parts) (script : ScriptParts) (f : ℕ) (walk after :
     → changed ≡ not (is_same_env walk.env after.env) → changed ≡ is_change_frame spec script (f + 1)
 changes_more spec script f walk after changed here there is =
     is ∙ ap (λ (v : Env). not (is_same_env v after.env)) here.env
-    ∙ ap (λ (v : Env). not (is_same_env (env_at spec script f) v)) (there.env ∙ ap (env_at spec script) (sym (next f)))
-    ∙ ap (is_change_frame spec script) (next f)
+    ∙ ap (λ (v : Env). not (is_same_env (env_at spec script f) v)) (there.env ∙ ap (env_at spec script) (sym (plus_one f)))
+    ∙ ap (is_change_frame spec script) (plus_one f)
 
 upto_more : (spec : Parts) (script : ScriptParts) (f : ℕ) (changed : Bool) → changed ≡ is_change_frame spec script (f + 1)
     → changes_upto spec script (f + 1) ≡ changes_upto spec script f + (if changed then 1 else 0)
 upto_more spec script f changed is =
-    ap (changes_upto spec script) (sym (next f))
-    ∙ ap (λ (b : Bool). changes_upto spec script f + (if b then 1 else 0)) (ap (is_change_frame spec script) (next f) ∙ sym is)
+    ap (changes_upto spec script) (sym (plus_one f))
+    ∙ ap (λ (b : Bool). changes_upto spec script f + (if b then 1 else 0)) (ap (is_change_frame spec script) (plus_one f) ∙ sym is)
 
 pub changes_most : (spec : Parts) (script : ScriptParts) (f : ℕ) (window : Window) → IsWindow spec script f window → window.changes ≤ f
 changes_most spec script f window is =

@@ -1,8 +1,9 @@
 -- The failure assumption: how many processors are down, and how often the environment changes.
 use Rattle.std.specs.Prelude.{◌≡◌, ℕ, zero, suc, ◌+◌, ◌-◌, ◌≤◌, Bool, false, not, ◌&&◌, ◌==◌, nat_lt, length, Option, Some, None, if◌then◌else◌}
-use Rattle.std.specs.Option.{option_or}
 use Rattle.std.specs.Str.{bytes_eq}
 use Rattle.scram_types.specs.declared.flights.Env.{Env}
+use Rattle.scram_types.specs.Bits.{count_below}
+use Rattle.scram_types.specs.Searches.{first_below}
 use Rattle.scram_types.specs.Scripts.{ScriptParts}
 use Rattle.scram_types.specs.Specification.{Parts}
 use Rattle.fault_script.specs.declared.assumption.Outside.{Outside}
@@ -12,13 +13,13 @@ use Rattle.fault_script.specs.Environments.{env_at}
 
 -- How many of the first n processors are down in frame f.
 abbrev pub down_below : ScriptParts → ℕ → ℕ → ℕ
-down_below script f zero = 0
-down_below script f (suc n) = down_below script f n + (if is_up script n f then 0 else 1)
+down_below script f n = count_below (λ p. not (is_up script p f)) n
 
 -- More processors are down in frame f than are assumed ever to be.
 abbrev pub has_too_many_down : Parts → ScriptParts → ℕ → Bool
 has_too_many_down spec script f = nat_lt spec.halts (down_below script f (length spec.procs))
 
+-- Two environments are equal.
 abbrev pub is_same_env : Env → Env → Bool
 is_same_env v w = v.up == w.up && bytes_eq v.factors w.factors
 
@@ -51,14 +52,9 @@ outside_at spec script f =
     if brings_too_many_down spec script f then Some (record { frame = f; kind = kind.Halts })
     else (if is_change_too_many spec script f then Some (record { frame = f; kind = kind.Changes }) else None)
 
--- The first of the first n frames that leaves the assumption.
-abbrev pub outside_below : Parts → ScriptParts → ℕ → Option Outside
-outside_below spec script zero = None
-outside_below spec script (suc n) = option_or (outside_below spec script n) (outside_at spec script n)
-
 -- The first frame from 0 to the number of frames that leaves the assumption.
 abbrev pub first_outside : Parts → ScriptParts → Option Outside
-first_outside spec script = outside_below spec script (suc script.frames)
+first_outside spec script = first_below (outside_at spec script) (suc script.frames)
 
 -- A script keeps to the failure assumption. A window of frames holds at most one change and the changes
 -- that are assumed beyond it; it may stick out of the script at either end.

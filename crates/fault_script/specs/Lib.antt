@@ -1,6 +1,7 @@
 pub mod Assumption
 pub mod Environments
 pub mod Fits
+pub mod Inputs
 pub mod Laws
 pub mod Orders
 pub mod Reading

@@ -59,6 +59,10 @@ latest_halt script p (suc f) = if halts_in script p f then Some f else latest_ha
 abbrev pub restarted : ScriptParts → ℕ → ℕ → ℕ → Bool
 restarted script p h f = list_any (is_restart_between p h f) script.restarts
 
+-- Processor p restarts in frame f.
+abbrev pub restarts_in : ScriptParts → ℕ → ℕ → Bool
+restarts_in script p f = list_any (λ (restart : RestartAt). restart.proc.0 == p && restart.frame == f) script.restarts
+
 abbrev pub is_up_since : ScriptParts → ℕ → ℕ → Option ℕ → Bool
 is_up_since script p f None = true
 is_up_since script p f (Some h) = restarted script p h f
@@ -78,6 +82,10 @@ words spec = 8 * length spec.apps
 -- Processor p halts in frame f before its mark.
 abbrev pub halts_before_mark : Parts → ScriptParts → ℕ → ℕ → Bool
 halts_before_mark spec script p f = list_any (λ (halt : HaltAt). is_halt_in p f halt && nat_le halt.step (words spec)) script.halts
+
+-- Processor p halts in frame f after its mark.
+abbrev pub halts_after_mark : Parts → ScriptParts → ℕ → ℕ → Bool
+halts_after_mark spec script p f = halts_in script p f && not (halts_before_mark spec script p f)
 
 -- Processor p commits frame f: it is up in f, and does not halt in f before its mark.
 abbrev pub commits : Parts → ScriptParts → ℕ → ℕ → Bool

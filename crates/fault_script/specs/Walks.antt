@@ -37,8 +37,9 @@ IsTaken changes f n = (k : ℕ) (change : Change) → k < n → slice_get change
 abbrev pub IsWhole : List Change → ℕ → ℕ → Type 0
 IsWhole changes f n = (change : Change) → slice_get changes n ≡ Some change → f < change.frame
 
--- A walk stands at frame f.
+-- A walk stands at frame f: it has the environment of that frame, and has taken the changes up to it.
 pub record IsWalk (spec : Parts) (script : ScriptParts) (f : ℕ) (walk : Walk) : Type 0 where
+  pub frame : walk.frame ≡ f
   pub taken : IsTaken script.changes f walk.taken
   pub values : walk.env.factors ≡ values_taken script.changes walk.taken
   pub env : walk.env ≡ env_at spec script f

@@ -5,19 +5,20 @@
 #![tactic(auto)]
 
 pub mod assumption;
-pub mod environments;
+pub mod inputs;
 pub mod laws;
 mod order;
 mod reading;
 pub mod rule;
 pub mod times;
 mod version;
-mod walks;
+pub mod walks;
 mod writing;
 
 pub use assumption::{Outside, OutsideKind, within};
-pub use environments::env_at;
+pub use inputs::Input;
 pub use reading::{MAX_SCRIPT_BYTES, read_script};
 pub use scram_doc::{DocError as ScriptError, DocFault as ScriptFault};
 pub use times::{factors_at, halt_in, halt_of, restart_of, up_at};
+pub use walks::Walk;
 pub use writing::write_script;

@@ -1,20 +1,81 @@
 //! Going along the frames of a script once, with the changes of a window counted.
 
 ghost use Rattle.std.specs.Prelude.{◌≡◌, ◌+◌, ◌<◌, length, not};
+ghost use Rattle.scram_types.specs.Bits.{bits_below};
 ghost use Rattle.fault_script.specs.Assumption.{is_same_env};
-ghost use Rattle.fault_script.specs.Environments.{bits_below};
 ghost use Rattle.fault_script.specs.Fits.{Fits};
 ghost use Rattle.fault_script.specs.Times.{is_up};
 ghost use Rattle.fault_script.specs.Walks.{IsTaken, IsWalk, IsWhole, IsWindow, changed_values, newest, values_taken};
 
+use crate::inputs::{Input, input_at};
 use crate::times::up_at;
 use scram_types::{Change, Env, ProcId, Script, Spec};
 
-// Where a walk stands: the environment of its frame, and how many changes came up to it.
-#[derive(Clone, Copy)]
-pub(crate) struct Walk {
+/// A walk along the frames of a script, which looks at each change once: the frame at which it stands,
+/// and the environment of that frame.
+#[derive(Clone, Copy, Debug)]
+pub struct Walk {
+    pub frame: u32,
+    pub env: Env,
     taken: usize,
-    env: Env,
+}
+
+impl Walk {
+    ghost use Rattle.std.specs.Prelude.{◌≡◌, ◌+◌, ◌<◌};
+    ghost use Rattle.scram_types.specs.Specification.{IsSpec};
+    ghost use Rattle.fault_script.specs.Fits.{Fits};
+    ghost use Rattle.fault_script.specs.Inputs.{input_at};
+    ghost use Rattle.fault_script.specs.Walks.{IsWalk};
+
+    /// The walk that stands at frame 0. It takes no memory.
+    pub fn first(spec: &Spec, script: &Script) -> Walk
+        requires { Fits spec.now script.now }
+        ensures { IsWalk spec.now script.now 0 result }
+    {
+        Walk {
+            frame: 0,
+            env: Env {
+                up: up_set_at(spec, script, 0),
+                factors: [0; 6],
+            },
+            taken: 0,
+        }
+    }
+
+    /// The walk that stands at the next frame; the last one is that after the script's last frame. It
+    /// takes no memory.
+    pub fn next(&self, spec: &Spec, script: &Script) -> Walk
+        requires fits { Fits spec.now script.now }
+        requires walk { IsWalk spec.now script.now self.now.frame self.now }
+        requires frame { self.now.frame < script.now.frames }
+        ensures { IsWalk spec.now script.now (self.now.frame + 1) result }
+    {
+        let frame = self.frame + 1;
+        let (taken, factors) = take_changes(
+            script.changes.items(),
+            self.taken,
+            self.env.factors,
+            frame,
+        );
+        Walk {
+            frame,
+            env: Env {
+                up: up_set_at(spec, script, frame),
+                factors,
+            },
+            taken,
+        }
+    }
+
+    /// What happens to the frame at which the walk stands. It takes no memory.
+    pub fn input(&self, spec: &Spec, script: &Script) -> Input
+        requires { IsWalk spec.now script.now self.now.frame self.now }
+        ensures input { result ≡ input_at spec.now script.now self.now.frame }
+        ensures known { IsSpec spec.now }
+    {
+        let factors = self.env.factors;
+        input_at(spec, script, self.frame, &factors)
+    }
 }
 
 // A window that ends with a frame: how many frames in it changed the environment, and whether its last
@@ -31,7 +92,7 @@ pub(crate) fn opening_window(spec: &Spec, script: &Script) -> Window
     requires { Fits spec.now script.now }
     ensures { IsWindow spec.now script.now 0 result }
 {
-    let walk = opening_walk(spec, script);
+    let walk = Walk::first(spec, script);
     Window {
         lead: walk,
         trail: walk,
@@ -47,7 +108,7 @@ pub(crate) fn next_window(spec: &Spec, script: &Script, window: &Window, frame: 
     requires frame { frame < script.now.frames }
     ensures { IsWindow spec.now script.now (frame + 1) result }
 {
-    let lead = next_walk(spec, script, &window.lead, frame);
+    let lead = window.lead.next(spec, script);
     let changed = differs(&window.lead.env, &lead.env);
     let changes = window.changes + u32::from(changed);
     if frame < spec.window {
@@ -58,48 +119,13 @@ pub(crate) fn next_window(spec: &Spec, script: &Script, window: &Window, frame: 
             changes,
         };
     }
-    let trail = next_walk(spec, script, &window.trail, frame - spec.window);
+    let trail = window.trail.next(spec, script);
     let left = u32::from(differs(&window.trail.env, &trail.env));
     Window {
         lead,
         trail,
         changed,
         changes: changes - left,
-    }
-}
-
-fn opening_walk(spec: &Spec, script: &Script) -> Walk
-    requires { Fits spec.now script.now }
-    ensures { IsWalk spec.now script.now 0 result }
-{
-    Walk {
-        taken: 0,
-        env: Env {
-            up: up_set_at(spec, script, 0),
-            factors: [0; 6],
-        },
-    }
-}
-
-// The walk that stands at the next frame.
-fn next_walk(spec: &Spec, script: &Script, walk: &Walk, frame: u32) -> Walk
-    requires fits { Fits spec.now script.now }
-    requires walk { IsWalk spec.now script.now frame walk.now }
-    requires frame { frame < script.now.frames }
-    ensures { IsWalk spec.now script.now (frame + 1) result }
-{
-    let (taken, factors) = take_changes(
-        script.changes.items(),
-        walk.taken,
-        walk.env.factors,
-        frame + 1,
-    );
-    Walk {
-        taken,
-        env: Env {
-            up: up_set_at(spec, script, frame + 1),
-            factors,
-        },
     }
 }
 

@@ -1,7 +1,6 @@
 -- A frame looks only at processors that exist.
 use Rattle.std.proofs.Common.{◌≡◌, ◌∙◌, ℕ, ◌<◌, refl, ap, length, Bool, List}
 use Rattle.std.specs.Prelude.{ℤ, Option, Some, None, IfSome, option_and_then, slice_get}
-use Rattle.std.proofs.Math.Path.{fun_ext}
 use Rattle.scram_types.specs.declared.ids.ConfId.{ConfId}
 use Rattle.scram_types.specs.declared.ids.ProcId.{ProcId}
 use Rattle.scram_types.specs.declared.flights.Env.{Env}
@@ -13,12 +12,14 @@ use Rattle.scram_types.specs.declared.orders.Order.TheVariants.{Run}
 use Rattle.scram_types.specs.declared.specification.Conf.{Conf}
 use Rattle.scram_types.specs.declared.specification.Place.{Place}
 use Rattle.scram_types.specs.Specification.{IsSpec, Parts, place_in}
-use Rattle.dep_order.specs.Timetables.{halt_offset, halt_time, init_offset, init_time, place_of, prepare_time}
+use Rattle.scram_types.specs.Lookups.{place_of}
+use Rattle.scram_types.proofs.Eights.{eight_same}
+use Rattle.dep_order.specs.Timetables.{halt_offset, halt_time, init_offset, init_time, prepare_time}
 use Rattle.frame_model.specs.declared.phases.Phase.{Phase}
 use Rattle.frame_model.specs.declared.phases.Phase.TheVariants.{Running, Halting, Preparing, Initialising}
 use Rattle.frame_model.specs.declared.tasks.Task.{Task}
 use Rattle.frame_model.specs.Phases.{phase_at}
-use Rattle.frame_model.specs.States.{State, has_arrived, act_after, act_on, acts_in, area_after, area_at, area_on, areas_in, for_eight, keeper_after, keeper_at, keeper_on, keepers_in, law_of, mode_in, row_of, step, step_with, world_in}
+use Rattle.frame_model.specs.States.{State, has_arrived, act_after, act_on, acts_in, area_after, area_at, area_on, areas_in, keeper_after, keeper_at, keeper_on, keepers_in, law_of, mode_in, row_of, step, step_with, world_in}
 use Rattle.frame_model.specs.Tasks.{halting_order, initialising_order, preparing_order, task_for, task_in}
 
 pub Exists : Parts → Option ProcId → Type 0
@@ -67,20 +68,17 @@ unfolding Agree Exists
 keeper_same spec s t old agree None there = refl
 keeper_same spec s t old agree (Some proc) there = rw (agree proc.0 there) refl
 
-eight_same : {A : Type 0} (v w : ℕ → A) → ((a : ℕ) → v a ≡ w a) → for_eight v ≡ for_eight w
-eight_same v w is = ap for_eight (fun_ext is)
-
 acts_same : (spec : Parts) → IsSpec spec → (s t : ℕ → Bool) (phase : Phase) → Agree spec s t → acts_in spec phase s ≡ acts_in spec phase t
 acts_same spec facts s t phase agree = eight_same (λ a. act_after s (task_in spec phase a)) (λ a. act_after t (task_in spec phase a))
-    (λ a. act_same spec s t (task_in spec phase a) agree (task_in spec phase a).proc (task_exists spec facts phase a))
+    (λ a low. act_same spec s t (task_in spec phase a) agree (task_in spec phase a).proc (task_exists spec facts phase a))
 
 areas_same : (spec : Parts) → IsSpec spec → (v : Env) (s t : ℕ → Bool) (state : State) (phase : Phase) → Agree spec s t → areas_in spec v s state phase ≡ areas_in spec v t state phase
 areas_same spec facts v s t state phase agree = eight_same (λ a. area_after spec v s state (task_in spec phase a) a) (λ a. area_after spec v t state (task_in spec phase a) a)
-    (λ a. area_same spec s t (law_of spec v state (task_in spec phase a) a) (area_at state.areas a) agree (task_in spec phase a).proc (task_exists spec facts phase a))
+    (λ a low. area_same spec s t (law_of spec v state (task_in spec phase a) a) (area_at state.areas a) agree (task_in spec phase a).proc (task_exists spec facts phase a))
 
 keepers_same : (spec : Parts) → IsSpec spec → (s t : ℕ → Bool) (state : State) (phase : Phase) → Agree spec s t → keepers_in spec s state phase ≡ keepers_in spec t state phase
 keepers_same spec facts s t state phase agree = eight_same (λ a. keeper_after s state (task_in spec phase a) a) (λ a. keeper_after t state (task_in spec phase a) a)
-    (λ a. keeper_same spec s t (keeper_at state.keepers a) agree (task_in spec phase a).proc (task_exists spec facts phase a))
+    (λ a low. keeper_same spec s t (keeper_at state.keepers a) agree (task_in spec phase a).proc (task_exists spec facts phase a))
 
 abbrev row_with : Parts → ℕ → Env → State → KMode → List Act → List (List ℤ) → Row
 row_with spec f v state mode acts areas = record { frame = f; env = v; mode = mode; acts = acts; areas = areas; world = world_in spec state.world areas }

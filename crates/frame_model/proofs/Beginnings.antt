@@ -1,13 +1,13 @@
 -- Where reconfigurations began.
 use Rattle.std.proofs.Common.{◌≡◌, ◌∙◌, ℕ, suc, ◌+◌, ◌<◌, ◌≤◌, refl, ap, sym, arith, append_assoc, length, Bool, true, false, List, [], ◌∷◌, ◌++◌}
 use Rattle.std.specs.Prelude.{Option, Some, None, filter, map, nat_lt, if◌then◌else◌}
-use Rattle.std.proofs.lemmas.Bool.Decides.{nat_tests}
 use Rattle.std.proofs.lemmas.List.{map-append}
 use Rattle.std.proofs.lemmas.List.Elements.{filter-append}
 use Rattle.scram_types.specs.declared.ids.ConfId.{ConfId}
 use Rattle.scram_types.specs.declared.flights.Report.{Report}
 use Rattle.scram_types.specs.declared.flights.Row.{Row}
 use Rattle.scram_types.specs.Specification.{Parts}
+use Rattle.scram_types.proofs.Naturals.{not_below_test, below_test}
 use Rattle.frame_model.specs.declared.readings.Reading.{Reading}
 use Rattle.frame_model.specs.declared.readings.Reading.TheVariants.{Steady, Leaving}
 use Rattle.frame_model.specs.Laws.{BeginningsAreRead, beginning, begins_below}
@@ -19,13 +19,7 @@ use Rattle.frame_model.proofs.ReadLaws.{ended_append, reading_append}
 abbrev below : ℕ → List Report → List (ConfId × ℕ)
 below m reports = map beginning (filter (begins_below m) reports)
 
-not_under : (s m : ℕ) → m ≤ s → nat_lt s m ≡ false
-not_under s m le = grind (arith, nat_tests, le)
-
-under : (s m : ℕ) → s < m → nat_lt s m ≡ true
-under s m low = grind (arith, nat_tests, low)
-
--- what is under way counts by its begin alone
+-- what is below_test way counts by its begin alone
 open_same : (b : Bool) (x y : Report) → beginning x ≡ beginning y → map beginning (if b then x ∷ [] else []) ≡ map beginning (if b then y ∷ [] else [])
 open_same true x y same = ap (λ z. z ∷ []) same
 open_same false x y same = refl
@@ -46,7 +40,7 @@ steady_more : (spec : Parts) (m g n : ℕ) (c : ConfId) (rows : List Row) (b : B
     → ((r : Reading) → below m (shown_from spec (suc g) n r rows) ≡ below m (as_list (close r m)))
     → below m (shown_from spec (suc g) n (if b then Steady c else Leaving c g) rows) ≡ []
 steady_more spec m g n c rows true le more = more (Steady c)
-steady_more spec m g n c rows false le more = let out : nat_lt g m ≡ false = not_under g m le in more (Leaving c g) ∙ rw out refl
+steady_more spec m g n c rows false le more = let out : nat_lt g m ≡ false = not_below_test g m le in more (Leaving c g) ∙ rw out refl
 
 leaving_more : (spec : Parts) (m g n : ℕ) (c : ConfId) (s : ℕ) (rows : List Row) (o : Option ConfId)
     → ((r : Reading) → below m (shown_from spec (suc g) n r rows) ≡ below m (as_list (close r m)))
@@ -59,7 +53,7 @@ later spec m g n r [] le = closed_same m n m r
 later spec m g n (Steady c) (row ∷ rows) le = steady_more spec m g n c rows (runs spec row.acts c) le (λ r. later spec m (suc g) n r rows (omega arith))
 later spec m g n (Leaving c s) (row ∷ rows) le = leaving_more spec m g n c s rows (running spec row.acts) (λ r. later spec m (suc g) n r rows (omega arith))
 
--- what is under way began before frame f
+-- what is below_test way began before frame f
 Opened : Reading → ℕ → Type 0
 Opened (Steady c) f = Unit {0}
 Opened (Leaving c s) f = s < f
@@ -88,7 +82,7 @@ opened_after spec r f (row ∷ rows) m is before = opened_after spec (read_row s
 kept_one : (c : ConfId) (s f m : ℕ) (o : Option ConfId) → Opened (Leaving c s) f → f ≤ m → filter (begins_below m) (as_list (arrival c s f o)) ≡ as_list (arrival c s f o)
 unfolding Opened
 kept_one c s f m None before le = refl
-kept_one c s f m (Some j) before le = let low : nat_lt s m ≡ true = under s m (omega arith) in rw low refl
+kept_one c s f m (Some j) before le = let low : nat_lt s m ≡ true = below_test s m (omega arith) in rw low refl
 
 kept_row : (spec : Parts) (r : Reading) (f m : ℕ) (row : Row) → Opened r f → f ≤ m → filter (begins_below m) (as_list (report_of spec r f row.acts)) ≡ as_list (report_of spec r f row.acts)
 kept_row spec (Steady c) f m row before le = refl
@@ -104,7 +98,7 @@ kept_all spec r f m (row ∷ rows) le before =
 kept_open : (r : Reading) (m : ℕ) → Opened r m → filter (begins_below m) (as_list (close r m)) ≡ as_list (close r m)
 unfolding Opened
 kept_open (Steady c) m before = refl
-kept_open (Leaving c s) m before = let low : nat_lt s m ≡ true = under s m before in rw low refl
+kept_open (Leaving c s) m before = let low : nat_lt s m ≡ true = below_test s m before in rw low refl
 
 opened_start : (c : ConfId) → Opened (Steady c) 0
 unfolding Opened

@@ -4,7 +4,7 @@ use mathlib.Core.Logic.{inl, inr}
 use Rattle.std.specs.Prelude.{slice_index_or, slice_set}
 use Rattle.std.proofs.lemmas.Grind.{get_or-set_at}
 use Rattle.std.proofs.lemmas.List.{get_or-set_other, length-set}
-use Rattle.frame_model.specs.States.{for_eight}
+use Rattle.scram_types.specs.Eights.{eight}
 
 -- The first n of eight items are the values of their places.
 pub record Filled {A : Type 0} (value : ℕ → A) (xs : List A) (n : ℕ) : Type 0 where
@@ -30,7 +30,7 @@ filled_more value xs n x filled low is = record {
   front = set_front value xs n x filled low is;
 }
 
-all_eight : {A : Type 0} (value : ℕ → A) (xs : List A) → length xs ≡ 8 → ((k : ℕ) (d : A) → k < 8 → slice_index_or xs k d ≡ value k) → xs ≡ for_eight value
+all_eight : {A : Type 0} (value : ℕ → A) (xs : List A) → length xs ≡ 8 → ((k : ℕ) (d : A) → k < 8 → slice_index_or xs k d ≡ value k) → xs ≡ eight value
 all_eight value [] eight is = absurd (omega arith)
 all_eight value (a ∷ []) eight is = absurd (omega arith)
 all_eight value (a ∷ b ∷ []) eight is = absurd (omega arith)
@@ -52,5 +52,5 @@ all_eight value (a ∷ b ∷ c ∷ d ∷ e ∷ f ∷ g ∷ h ∷ []) eight is =
     ) refl
 all_eight value (a ∷ b ∷ c ∷ d ∷ e ∷ f ∷ g ∷ h ∷ i ∷ more) eight is = absurd (omega arith)
 
-pub filled_all : {A : Type 0} (value : ℕ → A) (xs : List A) → Filled value xs 8 → xs ≡ for_eight value
+pub filled_all : {A : Type 0} (value : ℕ → A) (xs : List A) → Filled value xs 8 → xs ≡ eight value
 filled_all value xs filled = all_eight value xs filled.eight filled.front

@@ -1,24 +1,25 @@
 -- One more frame of a script.
-use Rattle.std.proofs.Common.{◌≡◌, ◌∙◌, ℕ, zero, suc, ◌+◌, ◌-◌, ◌^◌, refl, ap, arith, length, List, [], ◌∷◌, ◌++◌}
+use Rattle.std.proofs.Common.{◌≡◌, ◌∙◌, ℕ, suc, ◌+◌, ◌-◌, ◌^◌, refl, ap, arith, length, List, [], ◌∷◌, ◌++◌}
 use Rattle.std.specs.Prelude.{bit_and, bit_or}
-use Rattle.std.proofs.lemmas.List.{length-append}
 use Rattle.std.specs.Int.{bit_not, w8}
 use Rattle.scram_types.specs.declared.flights.Env.{Env}
 use Rattle.scram_types.specs.declared.flights.Row.{Row}
 use Rattle.scram_types.specs.Scripts.{ScriptParts}
 use Rattle.scram_types.specs.Specification.{IsSpec, Parts}
-use Rattle.choice_table.specs.Environments.{has_bit}
+use Rattle.scram_types.specs.Bits.{has_bit}
+use Rattle.scram_types.specs.Searches.{listed_below}
+use Rattle.scram_types.proofs.BitSets.{bits_all}
 use Rattle.fault_script.specs.Environments.{env_at}
 use Rattle.fault_script.specs.Times.{commits, factors_at}
-use Rattle.frame_model.specs.declared.inputs.Factors.{Factors}
+use Rattle.fault_script.specs.declared.walks.Walk.{Walk}
+use Rattle.fault_script.specs.Walks.{IsWalk}
+use Rattle.fault_script.specs.Inputs.{input_at}
 use Rattle.frame_model.specs.declared.systems.Sys.{Sys}
-use Rattle.frame_model.specs.Flights.{listed_below, row_at, state_after}
+use Rattle.frame_model.specs.Flights.{row_at, state_after}
 use Rattle.frame_model.specs.Frames.{commits_in, env_of, row_given, state_given, state_of, sys_after, sys_of, up_after}
-use Rattle.frame_model.specs.Inputs.{Follows, StandsBefore, input_at, up_before}
+use Rattle.frame_model.specs.Standing.{StandsBefore, up_before}
 use Rattle.frame_model.specs.States.{row_of, start_state, step}
 use Rattle.frame_model.proofs.Agreeing.{Agree, agreeing, row_same, step_same}
-use Rattle.frame_model.proofs.Bits.{bits_all}
-use Rattle.frame_model.proofs.Changing.{follows_later}
 use Rattle.frame_model.proofs.Ups.{commits_same, env_up, up_next}
 
 abbrev env_with : Parts → ScriptParts → ℕ → ℕ → Env
@@ -40,48 +41,42 @@ up_given spec facts script f sys is =
     let few = facts.procs_count.few in
     ap (λ (v : Env). bit_and v.up (bit_not w8 (bit_or (input_at spec script f).early (input_at spec script f).late))) (env_given spec script f sys is) ∙ up_next spec script f few
 
-pub row_is : (spec : Parts) → IsSpec spec → (script : ScriptParts) (sys : Sys) (factors : Factors) → StandsBefore spec script sys.frame sys factors
+pub row_is : (spec : Parts) → IsSpec spec → (script : ScriptParts) (sys : Sys) (walk : Walk) → StandsBefore spec script sys.frame sys walk
     → row_given spec sys (input_at spec script sys.frame) ≡ row_at spec script sys.frame
-row_is spec facts script sys factors stands =
+row_is spec facts script sys walk stands =
     row_same spec facts sys.frame (env_of sys (input_at spec script sys.frame)) (commits_in sys (input_at spec script sys.frame)) (λ p. commits spec script p sys.frame) (state_of sys)
     (agree_given spec facts script sys.frame sys stands.up)
     ∙ ap (λ v. row_of spec sys.frame v (λ p. commits spec script p sys.frame) (state_of sys)) (env_given spec script sys.frame sys stands.up)
     ∙ ap (row_of spec sys.frame (env_at spec script sys.frame) (λ p. commits spec script p sys.frame)) stands.state
 
-state_is : (spec : Parts) → IsSpec spec → (script : ScriptParts) (sys : Sys) (factors : Factors) → StandsBefore spec script sys.frame sys factors
+state_is : (spec : Parts) → IsSpec spec → (script : ScriptParts) (sys : Sys) (walk : Walk) → StandsBefore spec script sys.frame sys walk
     → state_given spec sys (input_at spec script sys.frame) ≡ state_after spec script (suc sys.frame)
-state_is spec facts script sys factors stands =
+state_is spec facts script sys walk stands =
     step_same spec facts sys.frame (env_of sys (input_at spec script sys.frame)) (commits_in sys (input_at spec script sys.frame)) (λ p. commits spec script p sys.frame) (state_of sys)
     (agree_given spec facts script sys.frame sys stands.up)
     ∙ ap (λ v. step spec sys.frame v (λ p. commits spec script p sys.frame) (state_of sys)) (env_given spec script sys.frame sys stands.up)
     ∙ ap (step spec sys.frame (env_at spec script sys.frame) (λ p. commits spec script p sys.frame)) stands.state
 
-stands_next : (spec : Parts) → IsSpec spec → (script : ScriptParts) (sys : Sys) (old new : Factors) → StandsBefore spec script sys.frame sys old → Follows script sys.frame new
+stands_next : (spec : Parts) → IsSpec spec → (script : ScriptParts) (sys : Sys) (old new : Walk) → StandsBefore spec script sys.frame sys old → IsWalk spec script (suc sys.frame) new
     → StandsBefore spec script (suc sys.frame) (sys_after spec sys (input_at spec script sys.frame)) new
-stands_next spec facts script sys old new stands follows = record {
+stands_next spec facts script sys old new stands there = record {
   frame = refl;
   state = state_is spec facts script sys old stands;
   up = up_given spec facts script sys.frame sys stands.up;
-  follows = follows_later script sys.frame (suc sys.frame) new (omega arith) follows;
+  walks = there;
 }
 
-pub stands_more : (spec : Parts) → IsSpec spec → (script : ScriptParts) (sys next : Sys) (old new : Factors) → StandsBefore spec script sys.frame sys old → Follows script sys.frame new
+pub stands_more : (spec : Parts) → IsSpec spec → (script : ScriptParts) (sys next : Sys) (old new : Walk) → StandsBefore spec script sys.frame sys old → IsWalk spec script (sys.frame + 1) new
     → next ≡ sys_after spec sys (input_at spec script sys.frame) → StandsBefore spec script (sys.frame + 1) next new
-stands_more spec facts script sys next old new stands follows is =
+stands_more spec facts script sys next old new stands there is =
     let e : sys.frame + 1 ≡ suc sys.frame = omega arith in
-    rw (e, is) (stands_next spec facts script sys old new stands follows)
+    rw (e, is) (stands_next spec facts script sys old new stands (rw (← e) there))
 
-pub stands_first : (spec : Parts) (script : ScriptParts) (sys : Sys) (factors : Factors) → sys ≡ sys_of 0 (2 ^ length spec.procs - 1) (start_state spec) → Follows script 0 factors → StandsBefore spec script 0 sys factors
-stands_first spec script sys factors is follows =
-    rw is (record { frame = refl; state = refl; up = bits_all (length spec.procs); follows = follows })
+pub stands_first : (spec : Parts) (script : ScriptParts) (sys : Sys) (walk : Walk) → sys ≡ sys_of 0 (2 ^ length spec.procs - 1) (start_state spec) → IsWalk spec script 0 walk → StandsBefore spec script 0 sys walk
+stands_first spec script sys walk is there =
+    rw is (record { frame = refl; state = refl; up = bits_all (length spec.procs); walks = there })
 
 pub rows_more : (value : ℕ → Row) (n at : ℕ) (front all : List Row) (row : Row) → front ≡ listed_below value n → all ≡ front ++ row ∷ [] → row ≡ value at → at ≡ n → all ≡ listed_below value (n + 1)
 rows_more value n at front all row before more is same =
     let e : n + 1 ≡ suc n = omega arith in
     rw (e, more, before, is, same) refl
-
-pub length_listed : {X : Type 0} (value : ℕ → X) (n : ℕ) → length (listed_below value n) ≡ n
-length_listed value zero = refl
-length_listed value (suc n) =
-    let before = length_listed value n in
-    length-append (listed_below value n) (value n ∷ []) ∙ omega arith

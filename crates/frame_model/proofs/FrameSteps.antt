@@ -8,31 +8,32 @@ use Rattle.scram_types.specs.declared.flights.World.{World}
 use Rattle.scram_types.specs.declared.orders.Act.{Act}
 use Rattle.scram_types.specs.declared.orders.KMode.{KMode}
 use Rattle.scram_types.specs.Specification.{Parts}
+use Rattle.scram_types.specs.Eights.{eight}
 use Rattle.app_model.specs.declared.seen.Seen.{Seen}
+use Rattle.fault_script.specs.declared.inputs.Input.{Input}
 use Rattle.frame_model.specs.declared.phases.Phase.{Phase}
-use Rattle.frame_model.specs.declared.systems.Input.{Input}
 use Rattle.frame_model.specs.declared.systems.Sys.{Sys}
 use Rattle.frame_model.specs.Frames.{commits_in, committing, env_of, row_given, state_of, sys_after, up_after}
 use Rattle.frame_model.specs.Outcomes.{act_made, area_made, keeper_made}
 use Rattle.frame_model.specs.Phases.{phase_at}
-use Rattle.frame_model.specs.States.{acts_in, areas_in, for_eight, has_arrived, keepers_in, mode_in, shown, world_in}
+use Rattle.frame_model.specs.States.{acts_in, areas_in, has_arrived, keepers_in, mode_in, shown, world_in}
 
 pub acts_are : (spec : Parts) (sys : Sys) (input : Input) (phase told : Phase) (set : ℕ) (acts : List Act)
-    → told ≡ phase → set ≡ committing sys input → acts ≡ for_eight (act_made spec told set) → acts ≡ acts_in spec phase (commits_in sys input)
+    → told ≡ phase → set ≡ committing sys input → acts ≡ eight (act_made spec told set) → acts ≡ acts_in spec phase (commits_in sys input)
 acts_are spec sys input phase told set acts is_phase is_set is =
-    is ∙ ap (λ p. for_eight (act_made spec p set)) is_phase ∙ ap (λ s. for_eight (act_made spec phase s)) is_set
+    is ∙ ap (λ p. eight (act_made spec p set)) is_phase ∙ ap (λ s. eight (act_made spec phase s)) is_set
 
 pub areas_are : (spec : Parts) (sys : Sys) (input : Input) (env : Env) (phase told : Phase) (seen : Seen) (set : ℕ) (areas : List (List ℤ))
-    → told ≡ phase → set ≡ committing sys input → seen ≡ shown spec env (state_of sys) → areas ≡ for_eight (area_made spec sys told set seen)
+    → told ≡ phase → set ≡ committing sys input → seen ≡ shown spec env (state_of sys) → areas ≡ eight (area_made spec sys told set seen)
     → areas ≡ areas_in spec env (commits_in sys input) (state_of sys) phase
 areas_are spec sys input env phase told seen set areas is_phase is_set is_seen is =
-    is ∙ ap (λ p. for_eight (area_made spec sys p set seen)) is_phase ∙ ap (λ s. for_eight (area_made spec sys phase s seen)) is_set
-    ∙ ap (λ s. for_eight (area_made spec sys phase (committing sys input) s)) is_seen
+    is ∙ ap (λ p. eight (area_made spec sys p set seen)) is_phase ∙ ap (λ s. eight (area_made spec sys phase s seen)) is_set
+    ∙ ap (λ s. eight (area_made spec sys phase (committing sys input) s)) is_seen
 
 pub keepers_are : (spec : Parts) (sys : Sys) (input : Input) (phase told : Phase) (set : ℕ) (keepers : List (Option ProcId))
-    → told ≡ phase → set ≡ committing sys input → keepers ≡ for_eight (keeper_made spec sys told set) → keepers ≡ keepers_in spec (commits_in sys input) (state_of sys) phase
+    → told ≡ phase → set ≡ committing sys input → keepers ≡ eight (keeper_made spec sys told set) → keepers ≡ keepers_in spec (commits_in sys input) (state_of sys) phase
 keepers_are spec sys input phase told set keepers is_phase is_set is =
-    is ∙ ap (λ p. for_eight (keeper_made spec sys p set)) is_phase ∙ ap (λ s. for_eight (keeper_made spec sys phase s)) is_set
+    is ∙ ap (λ p. eight (keeper_made spec sys p set)) is_phase ∙ ap (λ s. eight (keeper_made spec sys phase s)) is_set
 
 abbrev row_made : Sys → Env → KMode → List Act → List (List ℤ) → World → Row
 row_made sys env mode acts areas world = record { frame = sys.frame; env = env; mode = mode; acts = acts; areas = areas; world = world }

@@ -1,37 +1,22 @@
 -- Areas and their keepers' slots.
-use Rattle.std.proofs.Common.{◌≡◌, ◌∙◌, ℕ, zero, suc, ◌<◌, refl, sym, arith, Bool, true, false, List, ◌⊎◌}
+use Rattle.std.proofs.Common.{◌≡◌, ◌∙◌, ℕ, zero, suc, refl, sym, arith, Bool, true, false, List}
 use mathlib.Core.Logic.{inl, inr}
-use Rattle.std.specs.Prelude.{ℤ, ◌==◌, Option, Some, None, option_map, slice_index_or, if◌then◌else◌}
+use Rattle.std.specs.Prelude.{ℤ, ◌==◌, Option, Some, None, option_map, if◌then◌else◌}
 use Rattle.std.proofs.lemmas.Bool.Decides.{nat_tests}
+use Rattle.scram_types.proofs.Naturals.{same_or_not, differ_test}
 use Rattle.scram_types.specs.declared.ids.ProcId.{ProcId}
 use Rattle.scram_types.specs.declared.specification.Place.{Place}
 use Rattle.scram_types.specs.Specification.{Parts}
-use Rattle.dep_order.specs.Timetables.{place_of}
+use Rattle.scram_types.specs.Lookups.{place_of}
+use Rattle.scram_types.proofs.Eights.{eight_at}
 use Rattle.fault_script.specs.Environments.{env_at}
 use Rattle.fault_script.specs.Times.{commits}
 use Rattle.frame_model.specs.Flights.{is_proc, slot_after, state_after, task_given}
 use Rattle.frame_model.specs.Laws.{AreasAreKept, IsKept}
-use Rattle.frame_model.specs.States.{area_after, area_at, area_on, for_eight, keeper_after, keeper_at, keeper_on, law_of, start_area_at, start_area_of, start_keeper_of, zeros}
-
-eight_at : {A : Type 0} (value : ℕ → A) (a : ℕ) (d : A) → a < 8 → slice_index_or (for_eight value) a d ≡ value a
-eight_at value zero d low = refl
-eight_at value (suc zero) d low = refl
-eight_at value (suc (suc zero)) d low = refl
-eight_at value (suc (suc (suc zero))) d low = refl
-eight_at value (suc (suc (suc (suc zero)))) d low = refl
-eight_at value (suc (suc (suc (suc (suc zero))))) d low = refl
-eight_at value (suc (suc (suc (suc (suc (suc zero)))))) d low = refl
-eight_at value (suc (suc (suc (suc (suc (suc (suc zero))))))) d low = refl
-eight_at value (suc (suc (suc (suc (suc (suc (suc (suc a)))))))) d low = absurd (omega arith)
+use Rattle.frame_model.specs.States.{area_after, area_at, area_on, keeper_after, keeper_at, keeper_on, law_of, start_area_at, start_area_of, start_keeper_of, zeros}
 
 itself : (p : ℕ) → (p == p) ≡ true
 itself p = grind (arith, nat_tests)
-
-differs : (p q : ℕ) → (p ≡ q → ⊥) → (p == q) ≡ false
-differs p q apart = grind (arith, nat_tests, apart)
-
-same_or_not : (p q : ℕ) → (p ≡ q) ⊎ (p ≡ q → ⊥)
-same_or_not p q = grind arith
 
 abbrev slot_next : (ℕ → Bool) → List ℤ → (ℕ → List ℤ) → Option ProcId → ℕ → List ℤ
 slot_next c made slot proc q = if c q then (if is_proc q proc then made else slot q) else slot q
@@ -44,7 +29,7 @@ idle false x = refl
 slot_stays : (c : ℕ → Bool) (made : List ℤ) (slot : ℕ → List ℤ) (proc : ProcId) (q : ℕ) → c proc.0 ≡ false → slot_next c made slot (Some proc) q ≡ slot q
 slot_stays c made slot proc q lost = elim (same_or_not proc.0 q) [
   | inl same ↦ let here : c q ≡ false = rw (sym same) lost in rw here refl
-  | inr other ↦ rw (differs proc.0 q other) (idle (c q) (slot q))
+  | inr other ↦ rw (differ_test proc.0 q other) (idle (c q) (slot q))
 ]
 
 stays : (keeper : Option ProcId) (area : List ℤ) (slot next : ℕ → List ℤ) → ((q : ℕ) → next q ≡ slot q) → IsKept keeper area slot → IsKept keeper area next

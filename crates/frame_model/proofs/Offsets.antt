@@ -1,26 +1,18 @@
 -- What a phase asks, by a timetable in which what is off has offset 0.
-use Rattle.std.proofs.Common.{◌≡◌, ◌∙◌, ℕ, zero, suc, ◌<◌, refl, ap, arith, List}
+use Rattle.std.proofs.Common.{◌≡◌, ◌∙◌, ℕ, ◌<◌, refl, ap, List}
 use Rattle.std.specs.Prelude.{Option, Some, None, is_some, slice_index_or, if◌then◌else◌}
 use Rattle.scram_types.specs.declared.ids.ConfId.{ConfId}
 use Rattle.scram_types.specs.declared.orders.Order.{Order}
 use Rattle.scram_types.specs.declared.specification.Place.{Place}
 use Rattle.scram_types.specs.Specification.{Parts}
-use Rattle.dep_order.specs.Timetables.{eight, halt_offset, halt_time, init_offset, init_time, place_of, where_on}
+use Rattle.scram_types.specs.Eights.{eight}
+use Rattle.scram_types.specs.Lookups.{place_of}
+use Rattle.scram_types.proofs.Eights.{eight_at}
+use Rattle.dep_order.specs.Timetables.{halt_offset, halt_time, init_offset, init_time, where_on}
 use Rattle.frame_model.specs.declared.phases.Phase.{Phase}
 use Rattle.frame_model.specs.declared.phases.Phase.TheVariants.{Halting, Initialising}
 use Rattle.frame_model.specs.Phases.{offsets_in}
 use Rattle.frame_model.specs.Tasks.{halting_order, initialising_order, task_for, task_in}
-
-eight_at : (value : ℕ → ℕ) (a d : ℕ) → a < 8 → slice_index_or (eight value) a d ≡ value a
-eight_at value zero d low = refl
-eight_at value (suc zero) d low = refl
-eight_at value (suc (suc zero)) d low = refl
-eight_at value (suc (suc (suc zero))) d low = refl
-eight_at value (suc (suc (suc (suc zero)))) d low = refl
-eight_at value (suc (suc (suc (suc (suc zero))))) d low = refl
-eight_at value (suc (suc (suc (suc (suc (suc zero)))))) d low = refl
-eight_at value (suc (suc (suc (suc (suc (suc (suc zero))))))) d low = refl
-eight_at value (suc (suc (suc (suc (suc (suc (suc (suc a)))))))) d low = absurd (omega arith)
 
 same_task : (order : ℕ → Order) (place : Option Place) (n : ℕ) → task_for (order (if is_some place then n else 0)) place ≡ task_for (order n) place
 same_task order None n = refl

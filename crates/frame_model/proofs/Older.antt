@@ -8,6 +8,7 @@ use Rattle.scram_types.specs.declared.orders.KMode.TheVariants.{Stable, Moving}
 use Rattle.scram_types.specs.declared.scripts.HaltAt.{HaltAt}
 use Rattle.scram_types.specs.Scripts.{ScriptParts}
 use Rattle.scram_types.specs.Specification.{Parts}
+use Rattle.scram_types.proofs.Items.{any_or, any_same}
 use Rattle.dep_order.specs.Timetables.{halting_time, initialising_time, preparing_time}
 use Rattle.fault_script.specs.Times.{halts_in, is_halt_in, is_restart_between, is_up_since, latest_halt}
 use Rattle.frame_model.specs.declared.phases.Phase.{Phase}
@@ -15,7 +16,6 @@ use Rattle.frame_model.specs.declared.phases.Phase.TheVariants.{Running, Halting
 use Rattle.frame_model.specs.Decisions.{moving_decision, stable_decision, wanted}
 use Rattle.frame_model.specs.Laws.{HaltsLastWithoutRestarts, RetargetChoosesAnew, SettlesWithItsPhases, has_halted}
 use Rattle.frame_model.specs.Phases.{after_halting, is_running}
-use Rattle.frame_model.proofs.Ups.{any_or, any_same}
 
 earlier : (b : Bool) (h f : ℕ) → (b && nat_lt h (suc f)) ≡ ((b && h == f) || (b && nat_lt h f))
 earlier true h f = grind (arith, nat_tests)

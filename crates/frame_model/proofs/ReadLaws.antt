@@ -5,11 +5,13 @@ use Rattle.std.specs.Prelude.{All, Some, None, option_map}
 use Rattle.scram_types.specs.declared.ids.ConfId.{ConfId}
 use Rattle.scram_types.specs.declared.flights.Row.{Row}
 use Rattle.scram_types.specs.Specification.{Parts}
+use Rattle.scram_types.specs.Lookups.{conf_id}
+use Rattle.scram_types.specs.Searches.{least_from}
 use Rattle.frame_model.specs.declared.readings.Reading.{Reading}
 use Rattle.frame_model.specs.declared.readings.Reading.TheVariants.{Steady, Leaving}
 use Rattle.frame_model.specs.Laws.{ReadsReconfigurations, ReadsRowByRow, Runs, RunsFirst, RunsNone}
 use Rattle.frame_model.specs.Readings.{arrival, arrive, as_list, ended_in, read_row, reading_after, report_of}
-use Rattle.frame_model.specs.Runs.{conf_of, least_from, running, runs}
+use Rattle.frame_model.specs.Runs.{running, runs}
 
 append_none : {A : Type 0} (xs : List A) → xs ++ [] ≡ xs
 append_none [] = refl
@@ -59,12 +61,12 @@ least_some test i (suc n) j le high is fails = elim (here_or_later i j le) [
 ]
 
 running_none : (spec : Parts) (row : Row) → RunsNone spec row → running spec row.acts ≡ None
-running_none spec row none = ap (option_map conf_of) (least_none (λ c. runs spec row.acts (conf_of c)) 0 (length spec.confs) (λ c low high. none c (omega arith)))
+running_none spec row none = ap (option_map conf_id) (least_none (λ c. runs spec row.acts (conf_id c)) 0 (length spec.confs) (λ c low high. none c (omega arith)))
 
 running_first : (spec : Parts) (row : Row) (j : ConfId) → RunsFirst spec j row → running spec row.acts ≡ Some j
 running_first spec row j first =
     let inside = first.inside in
-    ap (option_map conf_of) (least_some (λ c. runs spec row.acts (conf_of c)) 0 (length spec.confs) j.0 (omega arith) (omega arith) first.here (λ c low under. first.least c under))
+    ap (option_map conf_id) (least_some (λ c. runs spec row.acts (conf_id c)) 0 (length spec.confs) j.0 (omega arith) (omega arith) first.here (λ c low under. first.least c under))
 
 tail_all : {A : Type 0} (P : A → Type 0) (x : A) (xs : List A) → All P (x ∷ xs) → All P xs
 tail_all P x xs all k d low = all (suc k) d (omega arith)

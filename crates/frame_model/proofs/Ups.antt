@@ -4,30 +4,18 @@ use Rattle.std.specs.Prelude.{◌==◌, nat_le, nat_lt, Option, Some, None, IfSo
 use Rattle.std.specs.List.{list_any}
 use Rattle.std.specs.Int.{bit_not, w8}
 use Rattle.std.proofs.lemmas.Bool.Decides.{nat_tests}
+use Rattle.std.proofs.Math.Bool.{and-false, and-true}
 use Rattle.scram_types.specs.declared.scripts.HaltAt.{HaltAt}
 use Rattle.scram_types.specs.declared.scripts.RestartAt.{RestartAt}
 use Rattle.scram_types.specs.Scripts.{ScriptParts}
 use Rattle.scram_types.specs.Specification.{Parts}
-use Rattle.choice_table.specs.Environments.{has_bit}
-use Rattle.fault_script.specs.Environments.{bits_below, env_at}
-use Rattle.fault_script.specs.Times.{commits, halts_before_mark, halts_in, is_halt_in, is_restart_between, is_up, is_up_since, latest_halt, restarted, words}
-use Rattle.frame_model.specs.Inputs.{halts_after_mark, input_at, is_up_before, restarts_in, up_before}
-use Rattle.frame_model.proofs.Bits.{bits_but, bits_or, has_bits, same_bits}
-
-pub any_same : {A : Type 0} (s t : A → Bool) (xs : List A) → ((x : A) → s x ≡ t x) → list_any s xs ≡ list_any t xs
-any_same s t [] is = refl
-any_same s t (x ∷ xs) is = rw (is x, any_same s t xs is) refl
-
-or_mixed : (a b c d : Bool) → ((a || b) || (c || d)) ≡ ((a || c) || (b || d))
-or_mixed true b c d = refl
-or_mixed false true true d = refl
-or_mixed false true false d = refl
-or_mixed false false true d = refl
-or_mixed false false false d = refl
-
-pub any_or : {A : Type 0} (s t : A → Bool) (xs : List A) → list_any (λ x. s x || t x) xs ≡ (list_any s xs || list_any t xs)
-any_or s t [] = refl
-any_or s t (x ∷ xs) = rw (any_or s t xs) (or_mixed (s x) (t x) (list_any s xs) (list_any t xs))
+use Rattle.scram_types.specs.Bits.{has_bit, bits_below}
+use Rattle.scram_types.proofs.Items.{any_or, any_same, none_any}
+use Rattle.scram_types.proofs.BitSets.{bits_but, bits_or, has_bits, same_bits}
+use Rattle.fault_script.specs.Environments.{env_at}
+use Rattle.fault_script.specs.Times.{commits, halts_before_mark, halts_in, is_halt_in, is_restart_between, is_up, is_up_since, latest_halt, restarted, words, halts_after_mark, restarts_in}
+use Rattle.fault_script.specs.Inputs.{input_at}
+use Rattle.frame_model.specs.Standing.{is_up_before, up_before}
 
 -- up to the next frame: up to this one, or in the next
 one_more : (b : Bool) (h f r : ℕ) → h ≤ f → ((b && nat_lt h r) && nat_le r (suc f)) ≡ (((b && nat_lt h r) && nat_le r f) || (b && (r == suc f)))
@@ -44,10 +32,6 @@ no_time : (b : Bool) (f r : ℕ) → ((b && nat_lt f r) && nat_le r f) ≡ false
 no_time true f r = grind (arith, nat_tests)
 no_time false f r = refl
 
-none_any : {A : Type 0} (s : A → Bool) (xs : List A) → ((x : A) → s x ≡ false) → list_any s xs ≡ false
-none_any s [] is = refl
-none_any s (x ∷ xs) is = rw (is x, none_any s xs is) refl
-
 not_restarted : (script : ScriptParts) (p f : ℕ) → restarted script p f f ≡ false
 not_restarted script p f = none_any (is_restart_between p f f) script.restarts (λ r. no_time (r.proc.0 == p) f r.frame)
 
@@ -60,22 +44,14 @@ latest_below : (script : ScriptParts) (p f : ℕ) → IfSome (latest_halt script
 latest_below script p zero = tt
 latest_below script p (suc f) = latest_in (halts_in script p f) f (latest_halt script p f) (latest_below script p f)
 
-and_true : (b : Bool) → (b && true) ≡ b
-and_true true = refl
-and_true false = refl
-
-and_false : (b : Bool) → (b && false) ≡ false
-and_false true = refl
-and_false false = refl
-
 since_more : (script : ScriptParts) (p f : ℕ) (o : Option ℕ) → IfSome o (λ h. h < f) → is_up_since script p (suc f) o ≡ (is_up_since script p f o || restarts_in script p (suc f))
 since_more script p f None below = refl
 since_more script p f (Some h) below = restarted_more script p h f (omega arith)
 
 up_step : (script : ScriptParts) (p f : ℕ) (b : Bool) → IfSome (latest_halt script p f) (λ h. h < f)
     → is_up_since script p (suc f) (if b then Some f else latest_halt script p f) ≡ ((is_up script p f && not b) || restarts_in script p (suc f))
-up_step script p f true below = restarted_more script p f f (omega arith) ∙ rw (not_restarted script p f, and_false (is_up script p f)) refl
-up_step script p f false below = since_more script p f (latest_halt script p f) below ∙ rw (and_true (is_up script p f)) refl
+up_step script p f true below = restarted_more script p f f (omega arith) ∙ rw (not_restarted script p f, and-false (is_up script p f)) refl
+up_step script p f false below = since_more script p f (latest_halt script p f) below ∙ rw (and-true (is_up script p f)) refl
 
 -- Up in a frame: up at the end of the frame before, or up again from this frame on.
 pub up_again : (script : ScriptParts) (p f : ℕ) → is_up script p f ≡ (is_up_before script p f || restarts_in script p f)

@@ -1,6 +1,7 @@
 -- The one-thread trace of a script, and the images of its processors.
-use Rattle.std.specs.Prelude.{ℕ, zero, suc, ◌==◌, ℤ, Bool, false, List, [], ◌∷◌, ◌++◌, Option, if◌then◌else◌}
+use Rattle.std.specs.Prelude.{ℕ, zero, suc, ◌==◌, ℤ, Bool, false, List, ◌++◌, Option, if◌then◌else◌}
 use Rattle.std.specs.Option.{option_map_or}
+use Rattle.scram_types.specs.Searches.{listed_below}
 use Rattle.scram_types.specs.declared.ids.ProcId.{ProcId}
 use Rattle.scram_types.specs.declared.flights.Row.{Row}
 use Rattle.scram_types.specs.declared.flights.Report.{Report}
@@ -26,11 +27,6 @@ decided spec script f = mode_in spec f (env_at spec script f) (state_after spec 
 -- The row of frame f.
 abbrev pub row_at : Parts → ScriptParts → ℕ → Row
 row_at spec script f = row_of spec f (env_at spec script f) (λ p. commits spec script p f) (state_after spec script f)
-
--- A value for each number below n.
-abbrev pub listed_below : {X : Type 0} → (ℕ → X) → ℕ → List X
-listed_below value zero = []
-listed_below value (suc n) = listed_below value n ++ value n ∷ []
 
 -- The rows of all frames, and the reconfigurations that they show.
 abbrev pub rows_of : Parts → ScriptParts → List Row

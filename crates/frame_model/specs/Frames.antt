@@ -4,8 +4,8 @@ use Rattle.std.specs.Int.{bit_not, w8}
 use Rattle.scram_types.specs.declared.flights.Env.{Env}
 use Rattle.scram_types.specs.declared.flights.Row.{Row}
 use Rattle.scram_types.specs.Specification.{Parts}
-use Rattle.choice_table.specs.Environments.{has_bit}
-use Rattle.frame_model.specs.declared.systems.Input.{Input}
+use Rattle.scram_types.specs.Bits.{has_bit}
+use Rattle.fault_script.specs.declared.inputs.Input.{Input}
 use Rattle.frame_model.specs.declared.systems.Sys.{Sys}
 use Rattle.frame_model.specs.States.{State, row_of, step}
 

@@ -12,6 +12,7 @@ use Rattle.scram_types.specs.declared.scripts.HaltAt.{HaltAt}
 use Rattle.scram_types.specs.declared.specification.Policy.TheVariants.{Retarget}
 use Rattle.scram_types.specs.Scripts.{ScriptParts}
 use Rattle.scram_types.specs.Specification.{Parts}
+use Rattle.scram_types.specs.Lookups.{conf_id}
 use Rattle.choice_table.specs.Choices.{choose}
 use Rattle.fault_script.specs.Laws.{AgreeUpTo}
 use Rattle.fault_script.specs.Times.{is_up}
@@ -20,7 +21,7 @@ use Rattle.frame_model.specs.Decisions.{decision, moving_decision, stable_decisi
 use Rattle.frame_model.specs.Flights.{row_at, slot_after, state_after}
 use Rattle.frame_model.specs.Phases.{is_running, is_settled, phase_at}
 use Rattle.frame_model.specs.Readings.{as_list, ended, ended_in, read_row, reading_after, reading_of, report_of, reports}
-use Rattle.frame_model.specs.Runs.{conf_of, runs}
+use Rattle.frame_model.specs.Runs.{runs}
 use Rattle.frame_model.specs.States.{area_at, keeper_at, zeros}
 
 -- An area is the slot of its keeper, and zeros without a keeper.
@@ -66,13 +67,13 @@ abbrev pub Runs : Parts → ConfId → Row → Type 0
 Runs spec c row = runs spec row.acts c ≡ true
 
 abbrev pub RunsNone : Parts → Row → Type 0
-RunsNone spec row = (c : ℕ) → c < length spec.confs → runs spec row.acts (conf_of c) ≡ false
+RunsNone spec row = (c : ℕ) → c < length spec.confs → runs spec row.acts (conf_id c) ≡ false
 
 -- The row runs configuration j, and none with a lesser number.
 pub record RunsFirst (spec : Parts) (j : ConfId) (row : Row) : Type 0 where
   pub inside : j.0 < length spec.confs
   pub here : runs spec row.acts j ≡ true
-  pub least : (c : ℕ) → c < j.0 → runs spec row.acts (conf_of c) ≡ false
+  pub least : (c : ℕ) → c < j.0 → runs spec row.acts (conf_id c) ≡ false
 
 -- What is read off rows from frame f on, c running before them.
 pub record ReadsAsTold (spec : Parts) (c : ConfId) (f : ℕ) : Type 0 where

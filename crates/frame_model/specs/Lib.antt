@@ -6,6 +6,6 @@ pub mod Readings
 pub mod States
 pub mod Frames
 pub mod Outcomes
-pub mod Inputs
 pub mod Flights
 pub mod Laws
+pub mod Standing

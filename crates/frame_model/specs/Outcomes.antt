@@ -4,13 +4,14 @@ use Rattle.std.specs.Prelude.{ℕ, ℤ, List, Option}
 use Rattle.scram_types.specs.declared.ids.ProcId.{ProcId}
 use Rattle.scram_types.specs.declared.orders.Act.{Act}
 use Rattle.scram_types.specs.Specification.{Parts}
-use Rattle.choice_table.specs.Environments.{has_bit}
+use Rattle.scram_types.specs.Bits.{has_bit}
+use Rattle.scram_types.specs.Lookups.{kind_of_app}
 use Rattle.app_model.specs.declared.seen.Seen.{Seen}
 use Rattle.app_model.specs.Law.{law}
 use Rattle.frame_model.specs.declared.phases.Phase.{Phase}
 use Rattle.frame_model.specs.declared.systems.Sys.{Sys}
 use Rattle.frame_model.specs.declared.tasks.Task.{Task}
-use Rattle.frame_model.specs.States.{act_after, area_at, area_on, keeper_at, keeper_on, kind_of_app, seen_in}
+use Rattle.frame_model.specs.States.{act_after, area_at, area_on, keeper_at, keeper_on, seen_in}
 use Rattle.frame_model.specs.Tasks.{task_in}
 
 abbrev pub act_made : Parts → Phase → ℕ → ℕ → Act

@@ -1,21 +1,12 @@
 -- Which configuration a row's acts run.
-use Rattle.std.specs.Prelude.{ℕ, zero, suc, Bool, true, false, ◌&&◌, ◌==◌, List, length, slice_index_or, Option, Some, None, option_map, if◌then◌else◌}
+use Rattle.std.specs.Prelude.{ℕ, Bool, true, false, ◌&&◌, ◌==◌, List, length, slice_index_or, Option, Some, None, option_map}
+use Rattle.scram_types.specs.Lookups.{conf_id, place_of}
+use Rattle.scram_types.specs.Searches.{least_from, all_below}
 use Rattle.scram_types.specs.declared.ids.ConfId.{ConfId}
 use Rattle.scram_types.specs.declared.specification.Place.{Place}
 use Rattle.scram_types.specs.declared.orders.Act.{Act}
 use Rattle.scram_types.specs.declared.orders.Act.TheVariants as act
 use Rattle.scram_types.specs.Specification.{Parts}
-use Rattle.dep_order.specs.Timetables.{place_of}
-
--- A test holds of each number below n.
-abbrev pub all_below : (ℕ → Bool) → ℕ → Bool
-all_below test zero = true
-all_below test (suc n) = test n && all_below test n
-
--- The least number of which a test holds, of n numbers from i on.
-abbrev pub least_from : (ℕ → Bool) → ℕ → ℕ → Option ℕ
-least_from test i zero = None
-least_from test i (suc n) = if test i then Some i else least_from test (suc i) n
 
 abbrev pub is_ran_at : Place → Act → Bool
 is_ran_at place (act.Ran mode proc) = mode.0 == place.mode.0 && proc.0 == place.proc.0
@@ -47,9 +38,6 @@ act_at acts a = slice_index_or acts a act.Off
 abbrev pub runs : Parts → List Act → ConfId → Bool
 runs spec acts c = all_below (λ a. is_run_by (place_of spec c a) (act_at acts a)) (length spec.apps)
 
-abbrev pub conf_of : ℕ → ConfId
-conf_of c = record { 0 = c }
-
 -- The least-numbered configuration that the acts run.
 abbrev pub running : Parts → List Act → Option ConfId
-running spec acts = option_map conf_of (least_from (λ c. runs spec acts (conf_of c)) 0 (length spec.confs))
+running spec acts = option_map conf_id (least_from (λ c. runs spec acts (conf_id c)) 0 (length spec.confs))

@@ -1,6 +1,7 @@
 -- What a frame makes of the state, by its environment and by who commits it.
-use Rattle.std.specs.Prelude.{ℕ, ◌-◌, ◌==◌, ℤ, pos, Bool, false, ◌&&◌, List, [], ◌∷◌, replicate, slice_get, slice_index_or, Option, Some, None, option_map, if◌then◌else◌}
-use Rattle.std.specs.Option.{option_map_or}
+use Rattle.std.specs.Prelude.{ℕ, ◌-◌, ◌==◌, ℤ, pos, Bool, false, ◌&&◌, List, [], ◌∷◌, replicate, slice_index_or, Option, Some, None, option_map, if◌then◌else◌}
+use Rattle.scram_types.specs.Lookups.{kind_of_app, place_of}
+use Rattle.scram_types.specs.Eights.{eight}
 use Rattle.scram_types.specs.declared.ids.ProcId.{ProcId}
 use Rattle.scram_types.specs.declared.ids.Mode.{Mode}
 use Rattle.scram_types.specs.declared.flights.Env.{Env}
@@ -16,7 +17,6 @@ use Rattle.scram_types.specs.declared.specification.AppSpec.{AppSpec}
 use Rattle.scram_types.specs.declared.specification.Place.{Place}
 use Rattle.scram_types.specs.Numbers.{word}
 use Rattle.scram_types.specs.Specification.{Parts}
-use Rattle.dep_order.specs.Timetables.{place_of}
 use Rattle.app_model.specs.declared.seen.Seen.{Seen}
 use Rattle.app_model.specs.Law.{law}
 use Rattle.app_model.specs.Starts.{start_of}
@@ -37,10 +37,6 @@ pub record State : Type 0 where
   pub keepers : List (Option ProcId)
   pub world : World
 
--- A value for each of eight applications.
-abbrev pub for_eight : {A : Type 0} → (ℕ → A) → List A
-for_eight value = value 0 ∷ value 1 ∷ value 2 ∷ value 3 ∷ value 4 ∷ value 5 ∷ value 6 ∷ value 7 ∷ []
-
 abbrev pub zeros : List ℤ
 zeros = replicate 8 (pos 0)
 
@@ -49,9 +45,6 @@ area_at areas a = slice_index_or areas a zeros
 
 abbrev pub keeper_at : List (Option ProcId) → ℕ → Option ProcId
 keeper_at keepers a = slice_index_or keepers a None
-
-abbrev pub kind_of_app : Parts → ℕ → ℕ
-kind_of_app spec a = option_map_or (λ (app : AppSpec). app.kind.0) (slice_get spec.apps a) 0
 
 -- The area of the first of some applications that is of a kind, the areas standing beside them.
 abbrev pub lead_among : List AppSpec → List (List ℤ) → ℕ → List ℤ
@@ -68,7 +61,7 @@ abbrev pub shown : Parts → Env → State → Seen
 shown spec v state = record {
   mode = record { 0 = 0 };
   own = zeros;
-  lead = for_eight (lead_of spec state.areas);
+  lead = eight (lead_of spec state.areas);
   world = state.world;
   factors = v.factors;
   goal = spec.goal;
@@ -119,13 +112,13 @@ abbrev pub keeper_after : (ℕ → Bool) → State → Task → ℕ → Option P
 keeper_after commits state task a = keeper_on commits (keeper_at state.keepers a) task.proc
 
 abbrev pub acts_in : Parts → Phase → (ℕ → Bool) → List Act
-acts_in spec phase commits = for_eight (λ a. act_after commits (task_in spec phase a))
+acts_in spec phase commits = eight (λ a. act_after commits (task_in spec phase a))
 
 abbrev pub areas_in : Parts → Env → (ℕ → Bool) → State → Phase → List (List ℤ)
-areas_in spec v commits state phase = for_eight (λ a. area_after spec v commits state (task_in spec phase a) a)
+areas_in spec v commits state phase = eight (λ a. area_after spec v commits state (task_in spec phase a) a)
 
 abbrev pub keepers_in : Parts → (ℕ → Bool) → State → Phase → List (Option ProcId)
-keepers_in spec commits state phase = for_eight (λ a. keeper_after commits state (task_in spec phase a) a)
+keepers_in spec commits state phase = eight (λ a. keeper_after commits state (task_in spec phase a) a)
 
 -- The airframe's step, by the surfaces of the least-numbered flight control as they stand after the frame.
 abbrev pub world_in : Parts → World → List (List ℤ) → World
@@ -185,7 +178,7 @@ abbrev pub start_state : Parts → State
 start_state spec = record {
   mode = Stable spec.start;
   arrived = false;
-  areas = for_eight (start_area_of spec);
-  keepers = for_eight (start_keeper_of spec);
+  areas = eight (start_area_of spec);
+  keepers = eight (start_keeper_of spec);
   world = start_world;
 }

@@ -5,7 +5,8 @@ use Rattle.scram_types.specs.declared.orders.Order.{Order}
 use Rattle.scram_types.specs.declared.orders.Order.TheVariants.{Run, Halt, Hold, Prepare, Init, Off}
 use Rattle.scram_types.specs.declared.specification.Place.{Place}
 use Rattle.scram_types.specs.Specification.{Parts}
-use Rattle.dep_order.specs.Timetables.{halt_offset, halt_time, init_offset, init_time, place_of, prepare_time}
+use Rattle.scram_types.specs.Lookups.{place_of}
+use Rattle.dep_order.specs.Timetables.{halt_offset, halt_time, init_offset, init_time, prepare_time}
 use Rattle.frame_model.specs.declared.phases.Phase.{Phase}
 use Rattle.frame_model.specs.declared.phases.Phase.TheVariants.{Running, Halting, Preparing, Initialising}
 use Rattle.frame_model.specs.declared.tasks.Task.{Task}

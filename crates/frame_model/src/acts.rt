@@ -1,7 +1,6 @@
 //! Which configuration a row runs.
 
 ghost use Rattle.std.specs.Prelude.{◌≡◌, ◌<◌, IfSome};
-ghost use Rattle.dep_order.specs.Timetables.{place_of};
 ghost use Rattle.frame_model.specs.Runs.{act_at, is_off, is_ran_at, is_run_by, running, runs};
 
 use scram_types::{Act, AppId, ConfId, Place, Spec};
@@ -12,7 +11,7 @@ pub fn runs(spec: &Spec, acts: &[Act; 8], c: ConfId) -> bool
     ensures { result ≡ runs spec.now acts.now c }
 {
     for a in 0..spec.apps.items().len() as u8 {
-        if !is_run(place_of(spec, c, AppId(a)), act_of(acts, a)) {
+        if !is_run(spec.place_of(c, AppId(a)), act_of(acts, a)) {
             return false;
         }
     }
@@ -30,17 +29,6 @@ pub fn running(spec: &Spec, acts: &[Act; 8]) -> Option<ConfId>
         }
     }
     None
-}
-
-// Where configuration `c` places an application, or `None` where it is off.
-pub(crate) fn place_of(spec: &Spec, c: ConfId, app: AppId) -> Option<Place>
-    ensures place { result ≡ place_of spec.now c app.0 }
-    ensures proc { IfSome result (λ place. place.proc.0 < 8) }
-{
-    match spec.confs.items().get(usize::from(c.0)) {
-        Some(conf) => conf.place(app),
-        None => None,
-    }
 }
 
 fn act_of(acts: &[Act; 8], a: u8) -> Act

@@ -4,12 +4,12 @@ ghost use Rattle.std.specs.Prelude.{◌≡◌, ◌<◌, ◌+◌, IfOk, length};
 ghost use Rattle.app_model.specs.Racks.{RacksFit};
 ghost use Rattle.fault_script.specs.Fits.{Fits};
 ghost use Rattle.frame_model.specs.Flights.{row_at, rows_of};
-ghost use Rattle.frame_model.specs.Inputs.{StandsBefore};
+ghost use Rattle.frame_model.specs.Standing.{StandsBefore};
 
 use crate::frames::frame;
-use crate::inputs::{Factors, input_at};
 use crate::systems::Sys;
 use app_model::Rack;
+use fault_script::Walk;
 use scram_types::{NoMemory, Row, Script, Spec};
 use std::alloc::Global;
 
@@ -28,7 +28,7 @@ pub fn rows(
     fly_all(alloc, spec, script, &mut racks)
 }
 
-#[tactic(auto, using(crate::proofs::Flying::length_listed))]
+#[tactic(auto, using(scram_types::proofs::Searches::length_listed))]
 fn fly_all(
     alloc: Global,
     spec: &Spec,
@@ -42,30 +42,24 @@ fn fly_all(
 {
     let mut rows = Vec::with_capacity(alloc, script.frames as usize)?;
     let mut sys = Sys::start(spec);
-    let mut factors = Factors::first(script);
+    let mut walk = Walk::first(spec, script);
     for _frame in 0..script.frames {
-        rows.push(fly(spec, script, &mut sys, &mut factors, racks))?;
+        rows.push(fly(spec, script, &mut sys, &mut walk, racks))?;
     }
     Ok(rows)
 }
 
 // Flies the next frame of the script.
-fn fly(
-    spec: &Spec,
-    script: &Script,
-    sys: &mut Sys,
-    factors: &mut Factors,
-    racks: &mut [Rack],
-) -> Row
+fn fly(spec: &Spec, script: &Script, sys: &mut Sys, walk: &mut Walk, racks: &mut [Rack]) -> Row
     requires script { Fits spec.now script.now }
     requires racks { RacksFit (λ b. kind_of (b.vtable, b.value)) (λ r. r.boxes.items) racks.old }
-    requires frame { sys.old.frame < 20000 }
-    requires before { StandsBefore spec.now script.now sys.old.frame sys.old factors.old }
+    requires frame { sys.old.frame < script.now.frames }
+    requires before { StandsBefore spec.now script.now sys.old.frame sys.old walk.old }
     ensures row { result ≡ row_at spec.now script.now sys.old.frame }
-    ensures after { StandsBefore spec.now script.now (sys.old.frame + 1) sys.new factors.new }
+    ensures after { StandsBefore spec.now script.now (sys.old.frame + 1) sys.new walk.new }
     ensures racks { RacksFit (λ b. kind_of (b.vtable, b.value)) (λ r. r.boxes.items) racks.new }
 {
-    let values = factors.at(script, sys.frame);
-    let input = input_at(spec, script, sys.frame, &values);
+    let input = walk.input(spec, script);
+    *walk = walk.next(spec, script);
     frame(spec, sys, &input, racks)
 }

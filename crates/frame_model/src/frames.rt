@@ -3,19 +3,21 @@
 ghost use Rattle.std.specs.Prelude.{◌≡◌, ◌<◌, ℕ};
 ghost use Rattle.scram_types.specs.Numbers.{word};
 ghost use Rattle.scram_types.specs.Specification.{Parts};
+ghost use Rattle.scram_types.specs.Eights.{eight};
 ghost use Rattle.app_model.specs.Racks.{RacksFit};
 ghost use Rattle.frame_model.specs.Frames.{committing, env_of, row_given, state_of, sys_after, up_after};
 ghost use Rattle.frame_model.specs.Phases.{is_running, is_settled, phase_at};
-ghost use Rattle.frame_model.specs.States.{for_eight, has_arrived, lead_of, shown, world_in};
+ghost use Rattle.frame_model.specs.States.{has_arrived, lead_of, shown, world_in};
 
 use crate::acts::runs;
 use crate::decisions::decide;
 use crate::outcomes::{Setting, lead_of, perform_all};
 use crate::phases::{Phase, stage_at, target};
-use crate::systems::{Input, Sys};
+use crate::systems::Sys;
 use airframe::step;
 use app_model::kinds::flight_control;
 use app_model::{Rack, Seen};
+use fault_script::Input;
 use scram_types::{Area, Env, KMode, Mode, Row, Spec, World};
 
 /// Flies one frame: whoever restarts is up; the kernel decides on the frame's environment; each
@@ -101,7 +103,7 @@ fn shown(spec: &Spec, sys: &Sys, env: &Env) -> Seen
 }
 
 fn leads(spec: &Spec, areas: &[Area; 8]) -> [Area; 8]
-    ensures { result ≡ for_eight (lead_of spec.now areas.now) }
+    ensures { result ≡ eight (lead_of spec.now areas.now) }
 {
     [
         lead_of(spec, areas, 0),

@@ -1,14 +1,15 @@
 //! What becomes of each application in a frame.
 
 ghost use Rattle.std.specs.Prelude.{◌≡◌, ◌<◌, slice_set};
-ghost use Rattle.choice_table.specs.Environments.{has_bit};
+ghost use Rattle.scram_types.specs.Bits.{has_bit};
+ghost use Rattle.scram_types.specs.Eights.{eight};
 ghost use Rattle.app_model.specs.Racks.{RacksFit};
 ghost use Rattle.frame_model.specs.Phases.{offsets_in};
-ghost use Rattle.frame_model.specs.States.{act_of_order, for_eight, lead_of, seen_in};
+ghost use Rattle.frame_model.specs.States.{act_of_order, lead_of, seen_in};
 ghost use Rattle.frame_model.specs.Outcomes.{act_made, area_made, keeper_made};
 
 use crate::phases::Stage;
-use crate::systems::{Sys, kind_of};
+use crate::systems::Sys;
 use crate::tasks::task_in;
 use app_model::racks::racks_frame;
 use app_model::{Rack, Seen};
@@ -42,9 +43,9 @@ struct Outcome {
 pub(crate) fn perform_all(spec: &Spec, sys: &Sys, setting: &Setting, racks: &mut [Rack]) -> Outcomes
     requires offsets { setting.now.stage.offsets ≡ offsets_in spec.now setting.now.stage.phase }
     requires fits { RacksFit (λ b. kind_of (b.vtable, b.value)) (λ r. r.boxes.items) racks.old }
-    ensures acts { let s = setting.now in result.acts ≡ for_eight (act_made spec.now s.stage.phase s.committing) }
-    ensures areas { let s = setting.now in result.areas ≡ for_eight (area_made spec.now sys.now s.stage.phase s.committing s.seen) }
-    ensures keepers { let s = setting.now in result.keepers ≡ for_eight (keeper_made spec.now sys.now s.stage.phase s.committing) }
+    ensures acts { let s = setting.now in result.acts ≡ eight (act_made spec.now s.stage.phase s.committing) }
+    ensures areas { let s = setting.now in result.areas ≡ eight (area_made spec.now sys.now s.stage.phase s.committing s.seen) }
+    ensures keepers { let s = setting.now in result.keepers ≡ eight (keeper_made spec.now sys.now s.stage.phase s.committing) }
     ensures fits { RacksFit (λ b. kind_of (b.vtable, b.value)) (λ r. r.boxes.items) racks.new }
 {
     let mut outcomes = Outcomes {
@@ -88,7 +89,7 @@ fn perform(spec: &Spec, sys: &Sys, setting: &Setting, a: u8, racks: &mut [Rack])
         Some(proc) => {
             if has(setting.committing, proc.0) {
                 let seen = seen_in(&setting.seen, task.mode, &own);
-                let area = racks_frame(racks, proc, kind_of(spec, AppId(a)), task.order, &seen);
+                let area = racks_frame(racks, proc, spec.kind_of_app(AppId(a)), task.order, &seen);
                 Outcome {
                     act: act_of_order(task.order, task.mode, proc),
                     area,
@@ -146,7 +147,7 @@ pub(crate) fn lead_of(spec: &Spec, areas: &[Area; 8], kind: u8) -> Area
     ensures { result ≡ lead_of spec.now areas.now kind }
 {
     for a in 0..spec.apps.items().len() as u8 {
-        if kind_of(spec, AppId(a)).0 == kind {
+        if spec.kind_of_app(AppId(a)).0 == kind {
             return areas[usize::from(a)];
         }
     }

@@ -1,12 +1,12 @@
-//! The state of the whole system between frames, and what a frame is given.
+//! The state of the whole system between frames.
 
 ghost use Rattle.std.specs.Prelude.{◌≡◌, ◌-◌, ◌^◌, ◌<◌, length};
+ghost use Rattle.scram_types.specs.Eights.{eight};
 ghost use Rattle.frame_model.specs.Frames.{sys_of};
-ghost use Rattle.frame_model.specs.States.{for_eight, kind_of_app, start_area_of, start_keeper_of, start_state};
+ghost use Rattle.frame_model.specs.States.{start_area_of, start_keeper_of, start_state};
 
-use crate::acts::place_of;
 use app_model::start_area;
-use scram_types::{AppId, Area, KMode, KindId, ProcId, Spec, World};
+use scram_types::{AppId, Area, KMode, ProcId, Spec, World};
 
 /// The world before frame 0: 5,000 feet, level, east, wings level.
 pub const START_WORLD: World = World {
@@ -29,16 +29,6 @@ pub struct Sys {
     pub world: World,
     pub up: u8,
     pub settled: bool,
-}
-
-/// What happens to a frame: the factors' values in it, and the processors, as bits, that halt in it
-/// before their mark, that halt in it after their mark, and that are up again from it on.
-#[derive(Clone, Copy, Debug, PartialEq, Eq)]
-pub struct Input {
-    pub factors: [u8; 6],
-    pub early: u8,
-    pub late: u8,
-    pub back: u8,
 }
 
 impl Sys {
@@ -66,7 +56,7 @@ fn all_processors(spec: &Spec) -> u8
 }
 
 fn start_areas(spec: &Spec) -> [Area; 8]
-    ensures { result ≡ for_eight (start_area_of spec.now) }
+    ensures { result ≡ eight (start_area_of spec.now) }
 {
     [
         start_area_in(spec, 0),
@@ -83,25 +73,14 @@ fn start_areas(spec: &Spec) -> [Area; 8]
 fn start_area_in(spec: &Spec, a: u8) -> Area
     ensures { result ≡ start_area_of spec.now a }
 {
-    match place_of(spec, spec.start, AppId(a)) {
-        Some(_) => start_area(kind_of(spec, AppId(a))),
+    match spec.place_of(spec.start, AppId(a)) {
+        Some(_) => start_area(spec.kind_of_app(AppId(a))),
         None => [0; 8],
     }
 }
 
-// The kind of an application, and 0 where it does not exist.
-pub(crate) fn kind_of(spec: &Spec, app: AppId) -> KindId
-    ensures kind { result.0 ≡ kind_of_app spec.now app.0 }
-    ensures built { result.0 < 5 }
-{
-    match spec.apps.items().get(usize::from(app.0)) {
-        Some(app) => app.kind,
-        None => KindId(0),
-    }
-}
-
 fn start_keepers(spec: &Spec) -> [Option<ProcId>; 8]
-    ensures { result ≡ for_eight (start_keeper_of spec.now) }
+    ensures { result ≡ eight (start_keeper_of spec.now) }
 {
     [
         start_keeper(spec, 0),
@@ -118,5 +97,5 @@ fn start_keepers(spec: &Spec) -> [Option<ProcId>; 8]
 fn start_keeper(spec: &Spec, a: u8) -> Option<ProcId>
     ensures { result ≡ start_keeper_of spec.now a }
 {
-    place_of(spec, spec.start, AppId(a)).map(|place| place.proc)
+    spec.place_of(spec.start, AppId(a)).map(|place| place.proc)
 }

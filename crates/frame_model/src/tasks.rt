@@ -1,13 +1,12 @@
 //! What a mode asks of an application in a frame.
 
 ghost use Rattle.std.specs.Prelude.{◌≡◌, ◌<◌, IfSome};
-ghost use Rattle.dep_order.specs.Timetables.{halt_time, init_time, mode_of, prepare_time};
+ghost use Rattle.dep_order.specs.Timetables.{halt_time, init_time, prepare_time};
 ghost use Rattle.frame_model.specs.Phases.{offsets_in};
 ghost use Rattle.frame_model.specs.Tasks.{halting_order, initialising_order, preparing_order, task_for, task_in, task_of};
 
-use crate::acts::place_of;
 use crate::phases::{Phase, Stage, stage_at};
-use scram_types::{AppId, ConfId, KMode, Mode, ModeSpec, Order, Place, ProcId, Spec};
+use scram_types::{AppId, ConfId, KMode, Mode, Order, Place, ProcId, Spec};
 
 /// What an application is to do in a frame, in which mode and on which processor. One that is off has
 /// the order `Off`, mode 0 and no processor.
@@ -38,18 +37,18 @@ pub(crate) fn task_in(spec: &Spec, stage: &Stage, app: AppId) -> Task
 {
     let offset = stage.offsets[usize::from(app.0)];
     match stage.phase {
-        Phase::Running(c) => task_for(Order::Run, place_of(spec, c, app)),
+        Phase::Running(c) => task_for(Order::Run, spec.place_of(c, app)),
         Phase::Halting(c, age) => task_for(
             halting_order(offset, halt_time(spec, c, app), age),
-            place_of(spec, c, app),
+            spec.place_of(c, app),
         ),
         Phase::Preparing(c, age) => task_for(
             preparing_order(prepare_time(spec, c, app), age),
-            place_of(spec, c, app),
+            spec.place_of(c, app),
         ),
         Phase::Initialising(c, age) => task_for(
             initialising_order(offset, init_time(spec, c, app), age),
-            place_of(spec, c, app),
+            spec.place_of(c, app),
         ),
     }
 }
@@ -108,17 +107,10 @@ fn initialising_order(offset: u16, time: u8, age: u32) -> Order
     }
 }
 
-fn mode_of(spec: &Spec, c: ConfId, app: AppId) -> Option<ModeSpec>
-    ensures { result ≡ mode_of spec.now c app.0 }
-{
-    let place = place_of(spec, c, app)?;
-    spec.app(app)?.mode(place.mode)
-}
-
 fn halt_time(spec: &Spec, c: ConfId, app: AppId) -> u8
     ensures { result ≡ halt_time spec.now c app.0 }
 {
-    match mode_of(spec, c, app) {
+    match spec.mode_of(c, app) {
         Some(listed) => listed.halt,
         None => 0,
     }
@@ -127,7 +119,7 @@ fn halt_time(spec: &Spec, c: ConfId, app: AppId) -> u8
 fn prepare_time(spec: &Spec, c: ConfId, app: AppId) -> u8
     ensures { result ≡ prepare_time spec.now c app.0 }
 {
-    match mode_of(spec, c, app) {
+    match spec.mode_of(c, app) {
         Some(listed) => listed.prepare,
         None => 0,
     }
@@ -136,7 +128,7 @@ fn prepare_time(spec: &Spec, c: ConfId, app: AppId) -> u8
 fn init_time(spec: &Spec, c: ConfId, app: AppId) -> u8
     ensures { result ≡ init_time spec.now c app.0 }
 {
-    match mode_of(spec, c, app) {
+    match spec.mode_of(c, app) {
         Some(listed) => listed.init,
         None => 0,
     }

@@ -18,13 +18,13 @@ use Rattle.serde_json.specs.Data.{Data}
 use Rattle.serde_json.specs.Read.{read, number_of}
 use Rattle.scram_types.specs.declared.specification.Factor.{Factor}
 use Rattle.scram_types.specs.Specification.{Parts}
+use Rattle.scram_types.proofs.Booleans.{and_right, and_left}
 use Rattle.scram_doc.specs.declared.fault.DocFault.{DocFault}
 use Rattle.scram_doc.specs.declared.rule.TheConstants.{NO_JSON_TEXT}
 use Rattle.scram_doc.specs.Chain.{chain, ok_map}
 use Rattle.scram_doc.specs.Faults.{or_broken}
 use Rattle.reconf_spec.specs.Texts.{spec_text}
 use Rattle.reconf_spec.specs.Documents.{spec_in, spec_of}
-use Rattle.fault_script.proofs.Halts.{and_left, and_right}
 use Rattle.mission_gen.specs.Specifications.{GivesSpecification, generated_text, uav_text, with_further_factors}
 use Rattle.mission_gen.proofs.Fitting.{HasCounts}
 

@@ -11,10 +11,11 @@ use Rattle.scram_types.specs.declared.scripts.Change.{Change}
 use Rattle.scram_types.specs.declared.scripts.HaltAt.{HaltAt}
 use Rattle.scram_types.specs.Scripts.{ScriptParts}
 use Rattle.scram_types.specs.Specification.{Parts}
+use Rattle.scram_types.specs.Bits.{bits_below}
+use Rattle.scram_types.proofs.BitSets.{same_bits}
 use Rattle.fault_script.specs.Assumption.{IsWithin, changes_upto, down_below, is_change_frame, is_same_env}
-use Rattle.fault_script.specs.Environments.{bits_below, env_at}
+use Rattle.fault_script.specs.Environments.{env_at}
 use Rattle.fault_script.specs.Times.{factors_at, is_up, value_after}
-use Rattle.fault_script.proofs.Bits.{bits_same}
 use Rattle.fault_script.proofs.Halts.{up_by_lists}
 use Rattle.mission_gen.specs.Blocks.{alternator, delay, first_frame, random, turns_both}
 use Rattle.mission_gen.specs.Changes.{changes_by, changes_of, frames_of, generated_script, halt_of, last_block, value_by, values_by}
@@ -118,7 +119,7 @@ up_kept frames changes h p f other =
 
 -- of two processors at most one is down
 one_down : (first second gone : Bool) → (first ≡ true → second ≡ true → ⊥) →
-    (0 + (if (not (first && gone && true) && true) then 0 else 1)) + (if (not (second && gone && true) && true) then 0 else 1) ≤ 1
+    (0 + (if not (not (first && gone && true) && true) then 1 else 0)) + (if not (not (second && gone && true) && true) then 1 else 0) ≤ 1
 one_down true true gone apart = absurd (apart refl refl)
 one_down true false true apart = omega arith
 one_down true false false apart = omega arith
@@ -150,7 +151,7 @@ env_kept spec frames ts h f none other =
     let changes = changes_by (replicate 6 0) ts in
     let script = with_halt frames changes h in
     let up : bits_below (λ p. is_up script p f) (length spec.procs) ≡ bits_below (λ p. is_up script p (suc f)) (length spec.procs) =
-    bits_same (λ p. is_up script p f) (λ p. is_up script p (suc f)) (length spec.procs) (λ p. up_kept frames changes h p f other) in
+    same_bits (λ p. is_up script p f) (λ p. is_up script p (suc f)) (length spec.procs) (λ p low. up_kept frames changes h p f other) in
     let factors : factors_at script f ≡ factors_at script (suc f) =
     six_same _ _ _ _ _ _ _ _ _ _ _ _
     (value_kept (replicate 6 0) ts 0 f 0 none) (value_kept (replicate 6 0) ts 1 f 0 none) (value_kept (replicate 6 0) ts 2 f 0 none)

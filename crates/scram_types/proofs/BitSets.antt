@@ -4,7 +4,7 @@ use mathlib.Core.Logic.{inl, inr}
 use Rattle.std.specs.Prelude.{◌==◌, max, min, bit_and, bit_or, if◌then◌else◌}
 use Rattle.std.specs.Int.{bit_at, bit_not, w8}
 use Rattle.std.proofs.Math.Nat.{div-eq_of_lt, pow-le-pow_right, pow-suc}
-use Rattle.std.proofs.lemmas.Nat.{and_le_l, mod-pow-add, mod_below, or_lt}
+use Rattle.std.proofs.lemmas.Nat.{and_le_l, mod-pow-add, mod_below, one_shl, or_comm, or_lt, or_shifted}
 use Rattle.std.proofs.lemmas.Nat.Bits.{bit_at_and, bit_at_cat_high, bit_at_cat_low, bit_at_not, bit_at_or, same_from_bits_below}
 use Rattle.scram_types.specs.Bits.{bits_below, count_below, has_bit}
 use Rattle.scram_types.proofs.Naturals.{below_or_at}
@@ -99,6 +99,13 @@ bits_but s t n few =
     bits_are _ (λ i. s i && not (t i)) n (omega arith)
     (λ i under. bit_at_and (bits_below s n) (bit_not w8 (bits_below t n)) i
     ∙ rw (bit_at_not w8 (bits_below t n) i (within t n few) (omega arith), bit_is s n i under, bit_is t n i under) (but (s i) (t i)))
+
+-- a number more
+pub bit_more : (set p : ℕ) → p < 8 → set < 2 ^ p → bit_or set ((1 * 2 ^ p) % 256) ≡ set + 2 ^ p
+bit_more set p low few =
+    let shifted : (1 * 2 ^ p) % 256 ≡ 2 ^ p = one_shl p 8 low in
+    let single : 2 ^ p ≡ 1 * 2 ^ p = omega arith in
+    rw (shifted, or_comm set (2 ^ p)) (ap (λ x. bit_or x set) single ∙ or_shifted 1 p set few ∙ omega arith)
 
 -- all numbers below n
 

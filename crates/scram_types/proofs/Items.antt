@@ -1,7 +1,7 @@
 -- Tests of lists, and items by their places.
-use Rattle.std.proofs.Common.{◌≡◌, ℕ, zero, suc, ◌<◌, Bool, true, false, refl, arith, List, [], ◌∷◌, ◌++◌, length}
+use Rattle.std.proofs.Common.{◌≡◌, ℕ, zero, suc, ◌<◌, Bool, true, false, refl, arith, List, [], ◌∷◌, ◌++◌, length, get_or}
 use mathlib.Core.Logic.{inl, inr}
-use Rattle.std.specs.Prelude.{◌||◌, Some, slice_get}
+use Rattle.std.specs.Prelude.{◌||◌, Some, replicate, slice_get}
 use Rattle.std.specs.List.{list_all, list_any}
 use Rattle.std.proofs.Math.Bool.{or-true}
 use Rattle.std.proofs.lemmas.Option.{slice_get_within}
@@ -70,3 +70,9 @@ first_part (y ∷ xs) ys (suc k) x h = first_part xs ys k x h
 pub next_part : {A : Type 0} (xs ys : List A) (y : A) → slice_get (xs ++ y ∷ ys) (length xs) ≡ Some y
 next_part [] ys y = refl
 next_part (x ∷ xs) ys y = next_part xs ys y
+
+-- zeros stand everywhere in a list of zeros, and past it
+pub zeros_everywhere : (n x : ℕ) → ◌≡◌ {A = ℕ} (get_or (replicate n 0) x 0) 0
+zeros_everywhere zero x = refl
+zeros_everywhere (suc n) zero = refl
+zeros_everywhere (suc n) (suc x) = zeros_everywhere n x

@@ -1,6 +1,8 @@
 pub mod BitSets
 pub mod Booleans
 pub mod Clamping
+pub mod Eights
+pub mod Equality
 pub mod Items
 pub mod Naturals
 pub mod Options

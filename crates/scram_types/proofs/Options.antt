@@ -8,14 +8,16 @@ pub use Rattle.std.proofs.lemmas.Option.{same_Some as same_some}
 pub some_none : {A : Type 0} {P : Type 0} (x : A) → Some x ≡ None → P
 some_none x e = absurd (cc)
 
+pub none_some : {A : Type 0} {P : Type 0} (x : A) → None ≡ Some x → P
+none_some x e = absurd (cc)
+
 pub none_or_some : {A : Type 0} (o : Option A) → (o ≡ None) ⊎ ((x : A) × (o ≡ Some x))
 none_or_some None = inl refl
 none_or_some (Some x) = inr (x, refl)
 
--- one that is not some is none
-pub none_some : {A : Type 0} (o : Option A) → is_some o ≡ false → o ≡ None
-none_some None e = refl
-none_some (Some x) e = absurd (cc)
+pub none_where_not_some : {A : Type 0} (o : Option A) → is_some o ≡ false → o ≡ None
+none_where_not_some None e = refl
+none_where_not_some (Some x) e = absurd (cc)
 
 -- one of two
 

@@ -1,14 +1,15 @@
 -- What looking through the numbers below n tells.
-use Rattle.std.proofs.Common.{◌≡◌, ℕ, zero, suc, ◌+◌, ◌-◌, ◌<◌, ◌≤◌, Bool, true, false, refl, arith, ap, sym, ◌∙◌, [], ◌∷◌, ◌++◌, length}
+use Rattle.std.proofs.Common.{◌≡◌, ℕ, zero, suc, ◌+◌, ◌-◌, ◌<◌, ◌≤◌, Bool, true, false, refl, arith, ap, sym, ◌∙◌, ◌⊎◌, [], ◌∷◌, ◌++◌, length}
 use mathlib.Core.Logic.{inl, inr}
-use Rattle.std.specs.Prelude.{Option, Some, None, is_some, slice_get}
+use Rattle.std.specs.Prelude.{Option, Some, None, is_some, max, slice_get}
 use Rattle.std.proofs.Math.Bool.{or-false}
 use Rattle.std.proofs.Math.ListN.{length-append}
+use Rattle.std.proofs.lemmas.Bool.{and_cases}
 use Rattle.scram_types.specs.Searches.{all_below, any_below, first_below, greatest_below, least_from, listed_below}
 use Rattle.scram_types.proofs.Booleans.{and_left, and_right, by_bool, or_cases, or_left, or_right, true_false}
 use Rattle.scram_types.proofs.Items.{first_part, next_part}
 use Rattle.scram_types.proofs.Naturals.{at_or_below, below_or_at, plus_one}
-use Rattle.scram_types.proofs.Options.{none_both, none_left, none_right, none_some, some_either, some_none}
+use Rattle.scram_types.proofs.Options.{none_both, none_left, none_right, none_where_not_some, some_either, some_none}
 
 -- tests of all
 
@@ -25,6 +26,14 @@ each_all test (suc n) each = rw (each_all test n (λ k less. each k (omega arith
 
 pub all_false : (test : ℕ → Bool) (n k : ℕ) → k < n → test k ≡ false → all_below test n ≡ false
 all_false test n k less here = by_bool (all_below test n) (λ t. true_false (test k) (all_each test n k t less) here) (λ f. f)
+
+-- where not all pass, one fails
+pub fails_below : (test : ℕ → Bool) (n : ℕ) → all_below test n ≡ false → (k : ℕ) × (k < n) × (test k ≡ false)
+fails_below test zero h = absurd (cc)
+fails_below test (suc n) h = elim (and_cases (all_below test n) (test n) h) [
+  | inl earlier ↦ (let found = fails_below test n earlier in (found.0, omega arith, found.2))
+  | inr here ↦ (n, omega arith, here)
+]
 
 pub all_more : (test : ℕ → Bool) (n : ℕ) → all_below test n ≡ true → test n ≡ true → all_below test (n + 1) ≡ true
 all_more test n before here = rw (← plus_one n, before) here
@@ -77,8 +86,11 @@ pub first_is : {A : Type 0} (answer : ℕ → Option A) (n k : ℕ) (o : Option 
 first_is answer n k None before here some less = absurd (cc)
 first_is answer n k (Some x) before here some less = sym (first_found answer n k x before (sym here) less)
 
+pub none_more : {A : Type 0} (answer : ℕ → Option A) (n : ℕ) → first_below answer n ≡ None → answer n ≡ None → first_below answer (n + 1) ≡ None
+none_more answer n before here = ap (first_below answer) (sym (plus_one n)) ∙ none_both (first_below answer n) (answer n) before here
+
 pub first_more : {A : Type 0} (answer : ℕ → Option A) (k : ℕ) (o : Option A) → first_below answer k ≡ None → o ≡ answer k → is_some o ≡ false → first_below answer (k + 1) ≡ None
-first_more answer k o before here none = ap (first_below answer) (sym (plus_one k)) ∙ none_both (first_below answer k) (answer k) before (sym here ∙ none_some o none)
+first_more answer k o before here none = none_more answer k before (sym here ∙ none_where_not_some o none)
 
 pub found_below : {A : Type 0} (answer : ℕ → Option A) (n : ℕ) (x : A) → first_below answer n ≡ Some x → (k : ℕ) × (k < n) × (answer k ≡ Some x)
 found_below answer zero x e = some_none x (sym e)
@@ -107,15 +119,41 @@ greatest_most value (suc n) k less = elim (below_or_at k n less) [
   | inr same ↦ rw same (omega arith)
 ]
 
+max_or : (a b : ℕ) → (max a b ≡ a) ⊎ (max a b ≡ b)
+max_or a b = grind arith
+
+-- the greatest value is 0 or that of some number
+pub greatest_reached : (value : ℕ → ℕ) (n : ℕ) → (greatest_below value n ≡ 0) ⊎ ((k : ℕ) × (k < n) × (greatest_below value n ≡ value k))
+greatest_reached value zero = inl refl
+greatest_reached value (suc n) = elim (max_or (value n) (greatest_below value n)) [
+  | inl e ↦ inr (n, omega arith, e)
+  | inr e ↦ elim (greatest_reached value n) [
+    | inl z ↦ inl (e ∙ z)
+    | inr r ↦ inr (r.0, omega arith, e ∙ r.2)
+  ]
+]
+
+pub greatest_zero : (value : ℕ → ℕ) (n : ℕ) → ((k : ℕ) → k < n → value k ≡ 0) → greatest_below value n ≡ 0
+greatest_zero value zero h = refl
+greatest_zero value (suc n) h = let here = h n (omega arith) in let before = greatest_zero value n (λ k less. h k (omega arith)) in omega arith
+
+pub greatest_within : (value : ℕ → ℕ) (n most : ℕ) → ((k : ℕ) → k < n → value k ≤ most) → greatest_below value n ≤ most
+greatest_within value zero most h = omega arith
+greatest_within value (suc n) most h = let here = h n (omega arith) in let before = greatest_within value n most (λ k less. h k (omega arith)) in omega arith
+
+pub greatest_same : (f g : ℕ → ℕ) (n : ℕ) → ((k : ℕ) → k < n → f k ≡ g k) → greatest_below f n ≡ greatest_below g n
+greatest_same f g zero h = refl
+greatest_same f g (suc n) h = rw (h n (omega arith), greatest_same f g n (λ k less. h k (omega arith))) refl
+
 -- listed values
 
-pub length-listed_below : {A : Type 0} (value : ℕ → A) (n : ℕ) → length (listed_below value n) ≡ n
-length-listed_below value zero = refl
-length-listed_below value (suc n) = length-append (listed_below value n) (value n ∷ []) ∙ (let before = length-listed_below value n in omega arith)
+pub length_listed : {A : Type 0} (value : ℕ → A) (n : ℕ) → length (listed_below value n) ≡ n
+length_listed value zero = refl
+length_listed value (suc n) = length-append (listed_below value n) (value n ∷ []) ∙ (let before = length_listed value n in omega arith)
 
-pub get-listed_below : {A : Type 0} (value : ℕ → A) (n k : ℕ) → k < n → slice_get (listed_below value n) k ≡ Some (value k)
-get-listed_below value zero k h = absurd (omega arith)
-get-listed_below value (suc n) k h = elim (below_or_at k n h) [
-  | inl low ↦ first_part (listed_below value n) (value n ∷ []) k (value k) (get-listed_below value n k low)
-  | inr last ↦ rw last (ap (slice_get (listed_below value n ++ value n ∷ [])) (sym (length-listed_below value n)) ∙ next_part (listed_below value n) [] (value n))
+pub get_listed : {A : Type 0} (value : ℕ → A) (n k : ℕ) → k < n → slice_get (listed_below value n) k ≡ Some (value k)
+get_listed value zero k h = absurd (omega arith)
+get_listed value (suc n) k h = elim (below_or_at k n h) [
+  | inl low ↦ first_part (listed_below value n) (value n ∷ []) k (value k) (get_listed value n k low)
+  | inr last ↦ rw last (ap (slice_get (listed_below value n ++ value n ∷ [])) (sym (length_listed value n)) ∙ next_part (listed_below value n) [] (value n))
 ]

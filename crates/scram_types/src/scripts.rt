@@ -38,11 +38,12 @@ pub struct Script {
 
 impl std::marker::Model for Script {
     ghost use Rattle.std.specs.Prelude.{◌≤◌};
+    ghost use Rattle.scram_types.specs.declared.limits.TheConstants.{MAX_FRAMES};
     ghost use Rattle.scram_types.specs.Scripts.{ScriptParts};
 
     ghost Value = { ScriptParts };
 
     ghost view = { λ s. record { frames = s.frames; changes = s.changes; halts = s.halts; restarts = s.restarts } };
 
-    ghost invariant = { λ s. s.frames ≤ 20000 };
+    ghost invariant = { λ s. s.frames ≤ MAX_FRAMES };
 }

@@ -6,6 +6,7 @@ use Rattle.std.specs.Option.{option_map_or}
 use Rattle.std.specs.Str.{bytes_eq}
 use Rattle.std.proofs.lemmas.Option.{slice_get_within, slice_get_past}
 use Rattle.std.proofs.lemmas.Slice.Eq.{bytes_eq-Decides}
+use Rattle.std.proofs.lemmas.Bool.{not-false}
 use Rattle.scram_types.specs.declared.ids.ConfId.{ConfId}
 use Rattle.scram_types.specs.declared.flights.Env.{Env}
 use Rattle.scram_types.specs.declared.specification.Bound.{Bound}
@@ -18,14 +19,14 @@ use Rattle.scram_types.specs.declared.specification.Policy.TheVariants.{Retarget
 use Rattle.scram_types.specs.Specification.{IsSpec, Parts, bound_in, place_in}
 use Rattle.scram_types.proofs.Booleans.{and_left, and_right, true_false}
 use Rattle.scram_types.proofs.Naturals.{equal, below, low_or_high}
+use Rattle.scram_types.specs.Lookups.{is_on, place_of, conf_id}
+use Rattle.scram_types.proofs.Searches.{fails_below, greatest_most}
+use Rattle.scram_types.specs.Searches.{all_below}
 use Rattle.choice_table.specs.Choices.{IsTarget, choose, rule_fits, target_among}
 use Rattle.choice_table.specs.Environments.{IsEnv, factor_in, in_scope}
-use Rattle.dep_order.specs.Timetables.{IsInTime, halting_time, initialising_time, is_on, place_of, preparing_time}
-use Rattle.dep_order.proofs.Charts.{greatest_most}
+use Rattle.dep_order.specs.Timetables.{IsInTime, halting_time, initialising_time, preparing_time}
 use Rattle.fault_script.specs.Assumption.{is_same_env}
-use Rattle.frame_model.specs.Runs.{conf_of}
 use Rattle.coverage_check.specs.Acceptance.{Accepts}
-use Rattle.coverage_check.specs.Search as search
 use Rattle.coverage_check.specs.Timing.{further}
 use Rattle.trace_props.proofs.Plans as plans
 use Rattle.trace_props.proofs.Plans.{IsAcceptedPlan}
@@ -51,19 +52,9 @@ pub further_same : (policy : Policy) (n : ℕ) → (if settles_under policy then
 further_same Retarget n = refl
 further_same Settle n = refl
 
-and_true_left : (a : Bool) → (a && true) ≡ false → a ≡ false
-and_true_left true h = h
-and_true_left false h = refl
-
 -- where not each number fails a test, one passes
-pub some_passes : (test : ℕ → Bool) (n : ℕ) → search.all_below (λ a. not (test a)) n ≡ false → (a : ℕ) × (a < n) × (test a ≡ true)
-some_passes test zero h = absurd (true_false true refl h)
-some_passes test (suc n) h = some_passes_in test n (test n) refl h (some_passes test n)
-  where
-    some_passes_in : (test : ℕ → Bool) (n : ℕ) (b : Bool) → test n ≡ b → (search.all_below (λ a. not (test a)) n && not b) ≡ false
-        → (search.all_below (λ a. not (test a)) n ≡ false → (a : ℕ) × (a < n) × (test a ≡ true)) → (a : ℕ) × (a < suc n) × (test a ≡ true)
-    some_passes_in test n true e h before = (n, omega arith, e)
-    some_passes_in test n false e h before = let r = before (and_true_left _ h) in (r.0, omega arith, r.2)
+pub some_passes : (test : ℕ → Bool) (n : ℕ) → all_below (λ a. not (test a)) n ≡ false → (a : ℕ) × (a < n) × (test a ≡ true)
+some_passes test n h = let found = fails_below (λ a. not (test a)) n h in (found.0, found.1, not-false (test found.0) found.2)
 
 on_placed : (o : Option Place) → is_some o ≡ true → (p : Place) × (o ≡ Some p)
 on_placed None h = absurd (true_false false h refl)
@@ -135,18 +126,18 @@ not_not true h = refl
 not_not false h = absurd (true_false true refl h)
 
 -- something is on, in each configuration
-pub some_on : (spec : Parts) → Accepts spec → (c : ℕ) → c < length spec.confs → (a : ℕ) × (a < 8) × (is_on spec (conf_of c) a ≡ true)
-some_on spec accepts c known = some_passes (is_on spec (conf_of c)) 8 (accepts.shaped (conf_of c) known).something_on
+pub some_on : (spec : Parts) → Accepts spec → (c : ℕ) → c < length spec.confs → (a : ℕ) × (a < 8) × (is_on spec (conf_id c) a ≡ true)
+some_on spec accepts c known = some_passes (is_on spec (conf_id c)) 8 (accepts.shaped (conf_id c) known).something_on
 
 pub accepted_of : (spec : Parts) → IsSpec spec → Accepts spec → ((c : ConfId) → IsInTime spec c) → IsAcceptedPlan (plan_of spec)
 accepted_of spec sound accepts timed = record {
   start_in = sound.start;
-  choose_in = λ c v known. target_known (length spec.confs) (conf_of c) v spec.rules (λ k rule there. (sound.rules k rule there).to) known;
-  runnable = λ c v known scope. accepts.runs (conf_of c) v known (belongs v scope) (and_right (is_env spec v) _ scope);
-  stays = λ c v known scope. ap (λ (t : ConfId). t.0) (accepts.stays (conf_of c) v known (belongs v scope) (and_right (is_env spec v) _ scope));
+  choose_in = λ c v known. target_known (length spec.confs) (conf_id c) v spec.rules (λ k rule there. (sound.rules k rule there).to) known;
+  runnable = λ c v known scope. accepts.runs (conf_id c) v known (belongs v scope) (and_right (is_env spec v) _ scope);
+  stays = λ c v known scope. ap (λ (t : ConfId). t.0) (accepts.stays (conf_id c) v known (belongs v scope) (and_right (is_env spec v) _ scope));
   starts = ap (λ (t : ConfId). t.0) accepts.starts;
   lasts = λ c known. lasts c known;
-  slow = λ k known. greatest_most (λ c. preparing_time spec (conf_of c) + initialising_time spec (conf_of c) + 1 + halting_time spec (conf_of c)) (length spec.confs) k known;
+  slow = λ k known. greatest_most (λ c. preparing_time spec (conf_id c) + initialising_time spec (conf_id c) + 1 + halting_time spec (conf_id c)) (length spec.confs) k known;
   bounded = λ i v known scope asked. bounded i v known scope asked;
   windowed = λ i j t given. bound_each (λ frames. frames + 1 ≤ spec.window) i j t spec.bounds accepts.windowed given;
   tells = λ v w same. same_env v w (not_not (is_same_env v w) same);
@@ -155,17 +146,17 @@ accepted_of spec sound accepts timed = record {
     belongs : (v : Env) → (is_env spec v && in_scope spec v) ≡ true → IsEnv spec v
     belongs v scope = env_of_test spec sound v (and_left (is_env spec v) _ scope)
 
-    lasts : (c : ℕ) → c < length spec.confs → 1 ≤ initialising_time spec (conf_of c)
+    lasts : (c : ℕ) → c < length spec.confs → 1 ≤ initialising_time spec (conf_id c)
     lasts c known =
         let on = some_on spec accepts c known in
-        let some = (timed (conf_of c)).init_least on.0 on.2 in
-        let most = (timed (conf_of c)).initialises on.0 on.2 in
+        let some = (timed (conf_id c)).init_least on.0 on.2 in
+        let most = (timed (conf_id c)).initialises on.0 on.2 in
         omega arith
 
-    bounded : (i : ℕ) (v : Env) → i < length spec.confs → (is_env spec v && in_scope spec v) ≡ true → ((choose spec (conf_of i) v).0 ≢ i) ⊎ (1 ≤ plans.plan_further (plan_of spec))
-        → (t : ℕ) × (bound_in spec.bounds i (choose spec (conf_of i) v).0 ≡ Some t) × (plans.plan_least_bound (plan_of spec) i (choose spec (conf_of i) v).0 ≤ t)
+    bounded : (i : ℕ) (v : Env) → i < length spec.confs → (is_env spec v && in_scope spec v) ≡ true → ((choose spec (conf_id i) v).0 ≢ i) ⊎ (1 ≤ plans.plan_further (plan_of spec))
+        → (t : ℕ) × (bound_in spec.bounds i (choose spec (conf_id i) v).0 ≡ Some t) × (plans.plan_least_bound (plan_of spec) i (choose spec (conf_id i) v).0 ≤ t)
     bounded i v known scope asked =
         let same = further_same spec.policy spec.changes in
-        let target : IsTarget spec (conf_of i) (choose spec (conf_of i) v) = record { seen = v; belongs = belongs v scope; scope = and_right (is_env spec v) _ scope; chosen = refl } in
-        let served = accepts.bounded (conf_of i) (choose spec (conf_of i) v) known target (elim asked [ inl away ↦ inl (λ e. away (sym e)) | inr some ↦ inr (rw same at some) ]) in
+        let target : IsTarget spec (conf_id i) (choose spec (conf_id i) v) = record { seen = v; belongs = belongs v scope; scope = and_right (is_env spec v) _ scope; chosen = refl } in
+        let served = accepts.bounded (conf_id i) (choose spec (conf_id i) v) known target (elim asked [ inl away ↦ inl (λ e. away (sym e)) | inr some ↦ inr (rw same at some) ]) in
         (served.frames, served.given, rw same served.serves)

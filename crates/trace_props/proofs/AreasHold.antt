@@ -8,11 +8,11 @@ use Rattle.scram_types.specs.declared.flights.Row.{Row}
 use Rattle.scram_types.specs.Numbers.{word}
 use Rattle.scram_types.specs.Scripts.{ScriptParts}
 use Rattle.scram_types.specs.Specification.{IsSpec, Parts}
+use Rattle.scram_types.specs.Lookups.{conf_id}
+use Rattle.coverage_check.specs.Acceptance.{Accepts}
 use Rattle.frame_model.specs.Flights.{row_at, rows_of}
 use Rattle.frame_model.specs.Laws.{ReadsRowByRow}
 use Rattle.frame_model.specs.Readings as readings
-use Rattle.frame_model.specs.Runs.{conf_of}
-use Rattle.coverage_check.specs.Acceptance.{Accepts}
 use Rattle.trace_props.proofs.Courses.{CourseReading, CourseReading.Steady, CourseReading.Leaving, CourseReport, course_reading_before, course_report_at}
 use Rattle.trace_props.proofs.CourseAreas.{AreasKept}
 use Rattle.trace_props.specs.Properties.{KeepsSp4}
@@ -44,19 +44,19 @@ module _ (spec : Parts) (sound : IsSpec spec) (accepts : Accepts spec) (kinds : 
       holds f r inside reported = record {
         throughout = λ k inv there speaks g row from to at.
             rw (row_is g row at) (lies_of inv.least inv.greatest (word (area spec sound kinds script (suc g) inv.app.0) inv.variable)
-            (areas.throughout f r (invariant_of inv) g inside reported (kept_of spec sound accepts k inv there) (speaks_in inv.from (conf_of r.from) speaks) from to));
+            (areas.throughout f r (invariant_of inv) g inside reported (kept_of spec sound accepts k inv there) (speaks_in inv.from (conf_id r.from) speaks) from to));
         ready = λ k pre there to g row last at.
-            let aimed : conf_of r.to ≡ pre.conf = cc in
+            let aimed : conf_id r.to ≡ pre.conf = cc in
             rw (row_is g row at) (lies_of pre.least pre.greatest (word (area spec sound kinds script (suc g) pre.app.0) pre.variable)
             (subst (λ e. lies_in pre.least pre.greatest (word (area spec sound kinds script e pre.app.0) pre.variable) ≡ true) (sym last)
             (areas.ready f r (precondition_of pre) inside reported (ready_of spec sound accepts k pre there) (sym (ap (λ (c : ConfId). c.0) aimed)))));
       }
 
-  cut_off_holds : (c s n : ℕ) → course_reading_before (plan_of spec) (course_of spec script) script.frames ≡ Leaving c s → KeepsSp4 spec (rows_of spec script) (record { from = conf_of c; to = None; begin = s; end = n })
+  cut_off_holds : (c s n : ℕ) → course_reading_before (plan_of spec) (course_of spec script) script.frames ≡ Leaving c s → KeepsSp4 spec (rows_of spec script) (record { from = conf_id c; to = None; begin = s; end = n })
   cut_off_holds c s n is = record {
     throughout = λ k inv there speaks g row from to at.
         rw (row_is g row at) (lies_of inv.least inv.greatest (word (area spec sound kinds script (suc g) inv.app.0) inv.variable)
-        (areas.cut_off c s (invariant_of inv) g is (kept_of spec sound accepts k inv there) (speaks_in inv.from (conf_of c) speaks) from (inside_rows g row at)));
+        (areas.cut_off c s (invariant_of inv) g is (kept_of spec sound accepts k inv there) (speaks_in inv.from (conf_id c) speaks) from (inside_rows g row at)));
     ready = λ k pre there to g row last at. cc;
   }
 
@@ -64,7 +64,7 @@ module _ (spec : Parts) (sound : IsSpec spec) (accepts : Accepts spec) (kinds : 
       → (x : told_reports.Report) → readings.close (told_reading rd) (length (rows_of spec script)) ≡ Some x → KeepsSp4 spec (rows_of spec script) x
   closed_holds (Steady c) e x h = cc
   closed_holds (Leaving c s) e x h =
-      let same : ◌≡◌ {A = told_reports.Report} (record { from = conf_of c; to = None; begin = s; end = length (rows_of spec script) }) x = cc in
+      let same : ◌≡◌ {A = told_reports.Report} (record { from = conf_id c; to = None; begin = s; end = length (rows_of spec script) }) x = cc in
       rw (← same) (cut_off_holds c s (length (rows_of spec script)) e)
 
   pub each_holds : (k : ℕ) (x : told_reports.Report) → slice_get (readings.reports spec (rows_of spec script)) k ≡ Some x → KeepsSp4 spec (rows_of spec script) x

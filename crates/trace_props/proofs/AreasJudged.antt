@@ -3,6 +3,7 @@ use Rattle.std.proofs.Common.{◌≡◌, ℕ, zero, suc, ◌+◌, ◌-◌, ◌�
 use mathlib.Core.Logic.{inl, inr}
 use Rattle.std.specs.Prelude.{Option, Some, None, ℤ, slice_get, not, option_and_then, if◌then◌else◌}
 use Rattle.std.proofs.lemmas.Option.{slice_get_past}
+use Rattle.std.proofs.lemmas.Bool.{not-true, not_from_false}
 use Rattle.scram_types.specs.declared.ids.ConfId.{ConfId}
 use Rattle.scram_types.specs.declared.flights.Report.{Report}
 use Rattle.scram_types.specs.declared.flights.Row.{Row}
@@ -14,11 +15,10 @@ use Rattle.scram_types.proofs.Booleans.{and_left, and_right, true_false, and_tru
 use Rattle.scram_types.proofs.Options.{same_some, some_none}
 use Rattle.scram_types.proofs.Naturals.{equal_test}
 use Rattle.scram_types.proofs.Items.{any_found, any_is}
-use Rattle.std.proofs.lemmas.Bool.{not-true, not_from_false}
+use Rattle.scram_types.specs.Searches.{least_from}
 use Rattle.choice_table.specs.Choices.{has_source}
-use Rattle.frame_model.specs.Runs.{least_from}
-use Rattle.frame_model.specs.States.{area_at}
 use Rattle.app_model.specs.Areas.{Between}
+use Rattle.frame_model.specs.States.{area_at}
 use Rattle.trace_props.specs.declared.breaks.Property.TheVariants.{Sp4}
 use Rattle.trace_props.specs.Breaks.{BreaksIn, BreaksInvariant, BreaksPrecondition, Fails}
 use Rattle.trace_props.specs.Judging.{breaks_at, breaks_target_precondition, row_breaks, goes_to, least_unkept, lesser_frame, lies_in, unkept_at, unkept_from, unmet_at, unmet_before, unmet_in}

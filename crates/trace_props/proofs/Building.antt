@@ -9,25 +9,22 @@ use Rattle.scram_types.specs.declared.specification.Place.{Place}
 use Rattle.scram_types.specs.Specification.{IsSpec, Parts}
 use Rattle.scram_types.proofs.Booleans.{true_false}
 use Rattle.scram_types.proofs.Naturals.{equal_test, low_or_high}
+use Rattle.scram_types.specs.Lookups.{is_on, place_of, conf_id}
+use Rattle.scram_types.proofs.Searches.{each_all}
+use Rattle.scram_types.specs.Searches.{all_below}
 use Rattle.choice_table.specs.Choices.{is_runnable, places_of}
 use Rattle.choice_table.specs.Environments.{is_up_in}
 use Rattle.choice_table.specs.Laws.{RunsWherePlacesAreUp}
-use Rattle.dep_order.specs.Timetables.{IsInTime, halt_offset, is_on, place_of}
-use Rattle.frame_model.specs.Runs.{conf_of}
+use Rattle.dep_order.specs.Timetables.{IsInTime, halt_offset}
 use Rattle.coverage_check.specs.Acceptance.{Accepts}
 use Rattle.coverage_check.specs.Form.{is_same, is_same_place}
-use Rattle.coverage_check.specs.Search as search
 use Rattle.trace_props.proofs.CourseRows.{IsBuilt}
 use Rattle.trace_props.proofs.Products.{build_of, plan_of}
 use Rattle.trace_props.proofs.Accepting.{app_known, conf_known, is_there, placed, some_on}
 
 -- where a test holds of each number below n
-pub all_pass : (test : ℕ → Bool) (n : ℕ) → ((a : ℕ) → a < n → test a ≡ true) → search.all_below test n ≡ true
-all_pass test zero h = refl
-all_pass test (suc n) h =
-    let before = all_pass test n (λ a below. h a (omega arith)) in
-    let here = h n (omega arith) in
-    rw (before, here) refl
+pub all_pass : (test : ℕ → Bool) (n : ℕ) → ((a : ℕ) → a < n → test a ≡ true) → all_below test n ≡ true
+all_pass test n h = each_all test n h
 
 same_self : (o : Option Place) → is_same_place o o ≡ true
 same_self None = refl
@@ -60,35 +57,35 @@ places_are spec c conf h = rw h refl
 
 pub built_of : (spec : Parts) → IsSpec spec → Accepts spec → ((c : ConfId) → IsInTime spec c) → RunsWherePlacesAreUp → IsBuilt (plan_of spec) (build_of spec)
 built_of spec sound accepts timed runs_up = record {
-  placed_in = λ c a p e. conf_known spec (conf_of c) a p e;
+  placed_in = λ c a p e. conf_known spec (conf_id c) a p e;
   first_halts = λ c known. first_halts c known;
-  inits = λ c a p below e. ((timed (conf_of c)).init_least a (on c a p e), (timed (conf_of c)).initialises a (on c a p e));
+  inits = λ c a p below e. ((timed (conf_id c)).init_least a (on c a p e), (timed (conf_id c)).initialises a (on c a p e));
   differ = λ i j known aimed same. differ i j known aimed same;
   needs_up = λ c a p v below e runs. needs_up c a p v e runs;
 }
   where
-    on : (c a : ℕ) (p : Place) → place_of spec (conf_of c) a ≡ Some p → is_on spec (conf_of c) a ≡ true
+    on : (c a : ℕ) (p : Place) → place_of spec (conf_id c) a ≡ Some p → is_on spec (conf_id c) a ≡ true
     on c a p e = rw e refl
 
-    first_halts : (c : ℕ) → c < length spec.confs → (a : ℕ) × (p : Place) × (a < length spec.apps) × (place_of spec (conf_of c) a ≡ Some p) × (halt_offset spec (conf_of c) a ≡ 0)
+    first_halts : (c : ℕ) → c < length spec.confs → (a : ℕ) × (p : Place) × (a < length spec.apps) × (place_of spec (conf_id c) a ≡ Some p) × (halt_offset spec (conf_id c) a ≡ 0)
     first_halts c known =
         let some = some_on spec accepts c known in
-        let at = placed spec (conf_of c) some.0 some.2 in
-        let first = (timed (conf_of c)).halt_first some.0 (app_known spec sound (conf_of c) some.0 at.0 at.1) some.2 in
-        let there = placed spec (conf_of c) first.0 first.2 in
+        let at = placed spec (conf_id c) some.0 some.2 in
+        let first = (timed (conf_id c)).halt_first some.0 (app_known spec sound (conf_id c) some.0 at.0 at.1) some.2 in
+        let there = placed spec (conf_id c) first.0 first.2 in
         (first.0, there.0, first.1, there.1, first.3)
 
-    differ : (i j : ℕ) → i < length spec.confs → j < length spec.confs → ((a : ℕ) → a < length spec.apps → place_of spec (conf_of i) a ≡ place_of spec (conf_of j) a) → i ≡ j
+    differ : (i j : ℕ) → i < length spec.confs → j < length spec.confs → ((a : ℕ) → a < length spec.apps → place_of spec (conf_id i) a ≡ place_of spec (conf_id j) a) → i ≡ j
     differ i j known aimed same = elim (trichotomy i j) [
       | inl e ↦ e
       | inr k ↦ elim k [
-        | inl less ↦ absurd (true_false _ (same_places spec sound (conf_of j) (conf_of i) (λ a below. sym (same a below))) ((accepts.shaped (conf_of j) aimed).differs (conf_of i) less))
-        | inr less ↦ absurd (true_false _ (same_places spec sound (conf_of i) (conf_of j) same) ((accepts.shaped (conf_of i) known).differs (conf_of j) less))
+        | inl less ↦ absurd (true_false _ (same_places spec sound (conf_id j) (conf_id i) (λ a below. sym (same a below))) ((accepts.shaped (conf_id j) aimed).differs (conf_id i) less))
+        | inr less ↦ absurd (true_false _ (same_places spec sound (conf_id i) (conf_id j) same) ((accepts.shaped (conf_id i) known).differs (conf_id j) less))
       ]
     ]
 
-    needs_up : (c a : ℕ) (p : Place) (v : Env) → place_of spec (conf_of c) a ≡ Some p → is_runnable spec (conf_of c) v ≡ true → is_up_in v p.proc.0 ≡ true
+    needs_up : (c a : ℕ) (p : Place) (v : Env) → place_of spec (conf_id c) a ≡ Some p → is_runnable spec (conf_id c) v ≡ true → is_up_in v p.proc.0 ≡ true
     needs_up c a p v e runs =
-        let t = is_there spec (conf_of c) a p e in
-        let at : slice_get (places_of spec (conf_of c)) a ≡ Some (Some p) = rw (places_are spec (conf_of c) t.conf t.there) (placed_there (slice_get t.conf.places a) p t.place) in
-        (runs_up spec (conf_of c) v).0 runs a p at
+        let t = is_there spec (conf_id c) a p e in
+        let at : slice_get (places_of spec (conf_id c)) a ≡ Some (Some p) = rw (places_are spec (conf_id c) t.conf t.there) (placed_there (slice_get t.conf.places a) p t.place) in
+        (runs_up spec (conf_id c) v).0 runs a p at

@@ -3,15 +3,16 @@ use Rattle.std.proofs.Common.{◌≡◌, ℕ, zero, suc, ◌+◌, ◌-◌, ◌<�
 use mathlib.Core.Logic.{inl, inr}
 use Rattle.std.specs.Prelude.{Option, Some, None, if◌then◌else◌, nat_eq, nat_lt, nat_le, ◌&&◌}
 use Rattle.scram_types.specs.declared.flights.Env.{Env}
+use Rattle.scram_types.specs.declared.specification.Place.{Place}
+use Rattle.scram_types.proofs.Searches.{all_each, fails_below}
+use Rattle.scram_types.specs.Searches.{least_from, all_below}
+use Rattle.scram_types.proofs.Booleans.{not_true, true_false, and_left, and_right, and_true}
+use Rattle.scram_types.proofs.Naturals.{equal, below, not_below, equal_test, at_most_test, above_test, below_or_at}
 use Rattle.trace_props.proofs.Plans.{Plan, IsAcceptedPlan, plan_halting}
 use Rattle.trace_props.proofs.CourseModes.{CourseMode, CourseMode.Stable, CourseMode.Moving, course_target, course_is_running, course_stable_decision, course_wanted, course_turn}
 use Rattle.trace_props.proofs.Courses.{Course, IsCourseFlown, CourseRowUnder, course_mode_at, course_decision_after}
-use Rattle.scram_types.specs.declared.specification.Place.{Place}
 use Rattle.trace_props.proofs.CourseRows.{CoursePhase, CoursePhase.Running, CoursePhase.Halting, CoursePhase.Preparing, CoursePhase.Initialising, CourseOrder, CourseOrder.Run, CourseOrder.Halt, CourseOrder.Hold, CourseOrder.Prepare, CourseOrder.Init, CourseOrder.Off, CourseAct, CourseAct.Ran, CourseAct.Lost, Build, course_after_halting, course_phase, course_running_order, course_halting_order, course_preparing_order, course_initialising_order, course_order_in, course_act_of, place_eq, course_is_ran, course_is_off, course_fits_place, course_runs, course_acts_at, IsBuilt, IsRun, ReconfiguresBuilt}
-use Rattle.frame_model.specs.Runs.{all_below, least_from}
 use Rattle.trace_props.proofs.Tests.{by_test}
-use Rattle.scram_types.proofs.Booleans.{not_true, true_false, and_left, and_right, and_true}
-use Rattle.scram_types.proofs.Naturals.{equal, below, not_below, equal_test, at_most_test, above_test, below_or_at}
 use Rattle.trace_props.proofs.Assurances.{reconfigures}
 
 le_or : (a b : ℕ) → a ≤ b → (suc a ≤ b) ⊎ (a ≡ b)
@@ -19,19 +20,7 @@ le_or a b h = grind arith
 
 -- all_below and least_from, as facts
 pub all_at : (test : ℕ → Bool) (n : ℕ) → all_below test n ≡ true → (a : ℕ) → a < n → test a ≡ true
-all_at test zero h a below = absurd (omega arith)
-all_at test (suc n) h a below = elim (below_or_at a n below) [
-  | inl k ↦ all_at test n (and_right _ _ h) a k
-  | inr e ↦ rw e (and_left _ _ h)
-]
-
-some_fails_in : (test : ℕ → Bool) (n : ℕ) (b : Bool) → test n ≡ b → (b && all_below test n) ≡ false → (all_below test n ≡ false → (a : ℕ) × (a < n) × (test a ≡ false)) → (a : ℕ) × (a < suc n) × (test a ≡ false)
-some_fails_in test n true e h before = let r = before h in (r.0, omega arith, r.2)
-some_fails_in test n false e h before = (n, omega arith, e)
-
-some_fails : (test : ℕ → Bool) (n : ℕ) → all_below test n ≡ false → (a : ℕ) × (a < n) × (test a ≡ false)
-some_fails test zero h = absurd (true_false true refl h)
-some_fails test (suc n) h = some_fails_in test n (test n) refl h (some_fails test n)
+all_at test n h a below = all_each test n a h below
 
 least_holds_in : (test : ℕ → Bool) (i n j : ℕ) (b : Bool) → test i ≡ b → (if b then Some i else least_from test (suc i) n) ≡ Some j → (least_from test (suc i) n ≡ Some j → test j ≡ true) → test j ≡ true
 least_holds_in test i n j true e h below = let same : i ≡ j = cc in rw (← same) e
@@ -221,7 +210,7 @@ module _ (plan : Plan) (course : Course) (accepted : IsAcceptedPlan plan) where
     lost_in : (acts : ℕ → CourseAct) (committed : ℕ → Bool) (ph : CoursePhase) → runs_in ph ≡ true → ((a : ℕ) → acts a ≡ course_act_of committed (course_order_in build ph a)) → course_runs build acts (conf_of ph) ≡ false
         → (a : ℕ) × (p : Place) × (a < build.apps) × (build.place (conf_of ph) a ≡ Some p) × (committed p.proc.0 ≡ false)
     lost_in acts committed (Running c) r is h =
-        let some = some_fails (λ a. course_fits_place (build.place c a) (acts a)) build.apps h in
+        let some = fails_below (λ a. course_fits_place (build.place c a) (acts a)) build.apps h in
         let l = lost_running committed (build.place c some.0) (rw (is some.0) at some.2) in
         (some.0, l.0, some.1, l.1, l.2)
     lost_in acts committed (Halting c age) r is h = absurd (true_false false r refl)

@@ -3,6 +3,7 @@ use Rattle.std.proofs.Common.{◌≡◌, ℕ, zero, suc, ◌+◌, ◌-◌, ◌<�
 use mathlib.Core.Logic.{inl, inr}
 use Rattle.std.specs.Prelude.{Option, Some, None, slice_get, ◌==◌, ◌&&◌, ◌||◌, nat_le, is_some, option_map}
 use Rattle.std.proofs.lemmas.Option.{slice_get_within}
+use Rattle.std.proofs.lemmas.Bool.{not_from_false}
 use Rattle.scram_types.specs.declared.flights.Env.{Env}
 use Rattle.scram_types.specs.declared.flights.Report.{Report}
 use Rattle.scram_types.specs.declared.flights.Row.{Row}
@@ -12,10 +13,9 @@ use Rattle.scram_types.specs.Specification.{Parts}
 use Rattle.scram_types.proofs.Booleans.{and_left, and_right, true_false, and_true, or_cases, or_left, or_right, or_false, by_bool}
 use Rattle.scram_types.proofs.Naturals.{equal, above, at_most, equal_test, plus_one}
 use Rattle.scram_types.proofs.Options.{same_some, some_none}
-use Rattle.std.proofs.lemmas.Bool.{not_from_false}
+use Rattle.scram_types.specs.Searches.{least_from}
 use Rattle.fault_script.specs.Assumption.{is_same_env}
 use Rattle.frame_model.specs.Readings.{reports}
-use Rattle.frame_model.specs.Runs.{least_from}
 use Rattle.trace_props.specs.Judging.{causeless_at, changes_in, follows, has_cause, is_another_env, settles}
 use Rattle.trace_props.specs.Properties.{ChangesIn, FollowsAnother, KeepsSp5, env_before, env_in}
 use Rattle.trace_props.proofs.Firsts.{InSpan, IsLeastOf, least_span}

@@ -1,12 +1,12 @@
 -- Phases, orders, acts and rows, and what ties a course's rows to its modes.
 use Rattle.std.specs.Prelude.{◌≡◌, ℕ, suc, ◌+◌, ◌-◌, ◌<◌, ◌≤◌, ◌⊎◌, Bool, true, false, ◌&&◌, Option, Some, None, if◌then◌else◌, nat_eq, nat_lt}
 use Rattle.scram_types.specs.declared.flights.Env.{Env}
+use Rattle.scram_types.specs.declared.specification.Place.{Place}
+use Rattle.scram_types.specs.Searches.{least_from, all_below}
 use Rattle.trace_props.proofs.Plans.{Plan, IsAcceptedPlan}
 use Rattle.trace_props.proofs.CourseModes.{CourseMode, CourseMode.Stable, CourseMode.Moving}
 use Rattle.trace_props.proofs.Courses.{Course, course_mode_at, IsCourseWithin}
 use Rattle.trace_props.proofs.Promises.{IsCourseAllAssured}
-use Rattle.scram_types.specs.declared.specification.Place.{Place}
-use Rattle.frame_model.specs.Runs.{all_below, least_from}
 
 pub data CoursePhase : Type 0 where
   Running : ℕ → CoursePhase

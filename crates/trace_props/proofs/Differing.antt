@@ -9,7 +9,7 @@ use Rattle.scram_types.specs.declared.flights.Row.{Row}
 use Rattle.scram_types.specs.Specification.{Parts}
 use Rattle.scram_types.proofs.Booleans.{and_left, and_right, true_false, and_true}
 use Rattle.scram_types.proofs.Naturals.{equal, below_or_at, equal_test, low_or_high}
-use Rattle.frame_model.specs.Runs.{conf_of}
+use Rattle.scram_types.specs.Lookups.{conf_id}
 use Rattle.trace_props.specs.declared.comparing.Agreement.{Agreement}
 use Rattle.trace_props.specs.declared.comparing.Agreement.TheVariants.{Alike, Apart}
 use Rattle.trace_props.specs.declared.judging.Judgement.{Judgement}
@@ -20,7 +20,7 @@ use Rattle.trace_props.proofs.Tests.{by_test}
 
 -- equal reports
 pub same_id : (c d : ConfId) → (c.0 == d.0) ≡ true → c ≡ d
-same_id c d h = ap conf_of (equal c.0 d.0 h)
+same_id c d h = ap conf_id (equal c.0 d.0 h)
 
 same_target : (one other : Option ConfId) → is_same_target one other ≡ true → one ≡ other
 same_target None None h = refl

@@ -19,7 +19,7 @@ use Rattle.scram_types.specs.declared.specification.Policy.TheVariants.{Retarget
 use Rattle.scram_types.specs.declared.specification.Precondition.{Precondition}
 use Rattle.scram_types.specs.Numbers.{word}
 use Rattle.scram_types.specs.Specification.{Parts}
-use Rattle.frame_model.specs.Runs.{conf_of}
+use Rattle.scram_types.specs.Lookups.{conf_id}
 use Rattle.trace_props.specs.declared.breaks.Broken.{Broken}
 use Rattle.trace_props.specs.declared.breaks.Property.{Property}
 use Rattle.trace_props.specs.declared.breaks.Property.TheVariants.{Sp1, Sp2, Sp3, Sp4, Sp5}
@@ -36,14 +36,14 @@ abbrev pub placed : ℕ → Conf
 placed m = record { name = (96 + m) ∷ []; places = Some (record { mode = record { 0 = m }; proc = record { 0 = 0 } }) ∷ replicate 7 None }
 
 abbrev pub bound : ℕ → ℕ → ℕ → Bound
-bound i j frames = record { from = conf_of i; to = conf_of j; frames = frames }
+bound i j frames = record { from = conf_id i; to = conf_id j; frames = frames }
 
 -- configuration 0 while the factor has its first value, then configuration 1
 abbrev pub to_first : Choice
-to_first = record { from = None; wants = record { factor = record { 0 = 0 }; value = 0 } ∷ []; up = 0; to = conf_of 0 }
+to_first = record { from = None; wants = record { factor = record { 0 = 0 }; value = 0 } ∷ []; up = 0; to = conf_id 0 }
 
 abbrev pub to_second : Choice
-to_second = record { from = None; wants = []; up = 0; to = conf_of 1 }
+to_second = record { from = None; wants = []; up = 0; to = conf_id 1 }
 
 abbrev spec_of : List Bound → Policy → List Invariant → List Precondition → Parts
 spec_of bounds policy invariants preconditions = record {
@@ -53,7 +53,7 @@ spec_of bounds policy invariants preconditions = record {
   factors = record { name = 120 ∷ []; values = (97 ∷ []) ∷ (98 ∷ []) ∷ [] } ∷ [];
   rules = to_first ∷ to_second ∷ [];
   bounds = bounds;
-  start = conf_of 0;
+  start = conf_id 0;
   goal = record { altitude = pos 0; heading = pos 0 };
   invariants = invariants;
   preconditions = preconditions;
@@ -74,7 +74,7 @@ abbrev row : Env → Act → ℕ → ℕ → Row
 row v done status charge = record {
   frame = 0;
   env = v;
-  mode = kmode.Stable (conf_of 0);
+  mode = kmode.Stable (conf_id 0);
   acts = done ∷ replicate 7 act.Off;
   areas = (pos status ∷ pos charge ∷ replicate 6 (pos 0)) ∷ replicate 7 (replicate 8 (pos 0));
   world = record { alt = pos 0; climb = pos 0; heading = pos 0; bank = pos 0 };
@@ -94,10 +94,10 @@ abbrev other : Env
 other = env 0 0
 
 abbrev pub moved : ℕ → ℕ → ℕ → Report
-moved to begin end = record { from = conf_of 0; to = Some (conf_of to); begin = begin; end = end }
+moved to begin end = record { from = conf_id 0; to = Some (conf_id to); begin = begin; end = end }
 
 abbrev cut_off : ℕ → ℕ → Report
-cut_off begin end = record { from = conf_of 0; to = None; begin = begin; end = end }
+cut_off begin end = record { from = conf_id 0; to = None; begin = begin; end = end }
 
 abbrev broken : Property → ℕ → Option Broken
 broken property frame = Some (record { property = property; frame = frame })
@@ -159,7 +159,7 @@ abbrev charged : Option ConfId → ℕ → Invariant
 charged from greatest = record { from = from; app = record { 0 = 0 }; variable = 1; least = pos 0; greatest = pos greatest }
 
 abbrev begun : ℕ → Precondition
-begun status = record { conf = conf_of 1; app = record { 0 = 0 }; variable = 0; least = pos status; greatest = pos status }
+begun status = record { conf = conf_id 1; app = record { 0 = 0 }; variable = 0; least = pos status; greatest = pos status }
 
 abbrev spec_with : List Invariant → List Precondition → Parts
 spec_with invariants preconditions = spec_of (bound 0 1 8 ∷ []) Retarget invariants preconditions
@@ -167,7 +167,7 @@ spec_with invariants preconditions = spec_of (bound 0 1 8 ∷ []) Retarget invar
 abbrev discharged : List Row
 discharged = row before (ran 1) 1 10 ∷ row before (ran 1) 1 99 ∷ row after act.Held 1 10 ∷ row after act.Held 4 50 ∷ row after (ran 2) 1 60 ∷ []
 
-unkept : first_break (spec_with (charged (Some (conf_of 0)) 40 ∷ []) []) discharged (moved 1 2 4 ∷ []) ≡ broken Sp4 3
+unkept : first_break (spec_with (charged (Some (conf_id 0)) 40 ∷ []) []) discharged (moved 1 2 4 ∷ []) ≡ broken Sp4 3
 unfolding word
 unkept = refl
 
@@ -175,7 +175,7 @@ unkept_first : first_break (spec_with (charged None 55 ∷ charged None 40 ∷ [
 unfolding word
 unkept_first = refl
 
-of_another_source : first_break (spec_with (charged (Some (conf_of 1)) 40 ∷ []) []) discharged (moved 1 2 4 ∷ []) ≡ None
+of_another_source : first_break (spec_with (charged (Some (conf_id 1)) 40 ∷ []) []) discharged (moved 1 2 4 ∷ []) ≡ None
 unfolding word
 of_another_source = refl
 
@@ -213,7 +213,7 @@ followed =
     row before (ran 1) 1 10 ∷ row after act.Held 1 10 ∷ row before act.Held 4 10 ∷ row before (ran 2) 1 10 ∷ row before act.Held 1 10 ∷ row before act.Held 4 10 ∷ row before (ran 1) 1 10 ∷ []
 
 abbrev back : Report
-back = record { from = conf_of 1; to = Some (conf_of 0); begin = 4; end = 6 }
+back = record { from = conf_id 1; to = Some (conf_id 0); begin = 4; end = 6 }
 
 settled : first_break (spec_of (bound 0 1 8 ∷ bound 1 0 8 ∷ []) Settle [] []) followed (moved 1 1 3 ∷ back ∷ []) ≡ None
 settled = refl

@@ -5,7 +5,7 @@ use Rattle.std.specs.Prelude.{Option, Some, None, min, nat_eq, nat_lt}
 use Rattle.std.proofs.Math.Nat.{min-le_left, min-le_right, min-eq_left, min-eq_right}
 use Rattle.scram_types.proofs.Booleans.{and_left, and_right, true_false, and_false, or_cases, or_false}
 use Rattle.scram_types.proofs.Naturals.{equal, not_below, below, equal_test}
-use Rattle.frame_model.specs.Runs.{least_from}
+use Rattle.scram_types.specs.Searches.{least_from}
 use Rattle.trace_props.specs.declared.breaks.Broken.{Broken}
 use Rattle.trace_props.specs.declared.breaks.Property.{Property}
 use Rattle.trace_props.specs.Breaks.{ComesBefore, property_number}

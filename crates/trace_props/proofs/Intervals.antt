@@ -10,11 +10,10 @@ use Rattle.scram_types.specs.Numbers.{word}
 use Rattle.scram_types.specs.Specification.{IsSpec, Parts}
 use Rattle.scram_types.proofs.Booleans.{and_left, and_right}
 use Rattle.scram_types.proofs.Naturals.{equal, equal_test}
+use Rattle.scram_types.specs.Lookups.{conf_id, kind_of_app}
 use Rattle.choice_table.specs.Choices as choices
 use Rattle.choice_table.specs.Choices.{has_source}
 use Rattle.app_model.specs.Bounds.{after_init, during}
-use Rattle.frame_model.specs.Runs.{conf_of}
-use Rattle.frame_model.specs.States.{kind_of_app}
 use Rattle.coverage_check.specs.Acceptance as acceptance
 use Rattle.coverage_check.specs.Acceptance.{Accepts}
 use Rattle.coverage_check.specs.Holding.{holds_during, holds_leaving, holds_off, holds_reaching}
@@ -33,7 +32,7 @@ abbrev pub precondition_of : told_preconditions.Precondition → CoursePrecondit
 precondition_of pre = record { conf = pre.conf.0; app = pre.app.0; holds = λ v. lies_in pre.least pre.greatest (word v pre.variable) }
 
 -- the source of an invariant
-source_is : (from : Option ConfId) (i : ℕ) → SpeaksOfSource (halting_number from) i → has_source from (conf_of i) ≡ true
+source_is : (from : Option ConfId) (i : ℕ) → SpeaksOfSource (halting_number from) i → has_source from (conf_id i) ≡ true
 source_is None i h = refl
 source_is (Some c) i h = rw h (equal_test i i refl)
 
@@ -42,12 +41,12 @@ speaks_in None c h = tt
 speaks_in (Some k) c h = equal k.0 c.0 h
 
 module _ (spec : Parts) (sound : IsSpec spec) (accepts : Accepts spec) where
-  target_of : (i j : ℕ) → plans.IsPlanTarget (plan_of spec) i j → choices.IsTarget spec (conf_of i) (conf_of j)
+  target_of : (i j : ℕ) → plans.IsPlanTarget (plan_of spec) i j → choices.IsTarget spec (conf_id i) (conf_id j)
   target_of i j t = record {
     seen = t.seen;
     belongs = env_of_test spec sound t.seen (and_left (is_env spec t.seen) _ t.scope);
     scope = and_right (is_env spec t.seen) _ t.scope;
-    chosen = ap conf_of t.chosen;
+    chosen = ap conf_id t.chosen;
   }
 
   module _ (k : ℕ) (inv : told_invariants.Invariant) (there : slice_get spec.invariants k ≡ Some inv) where
@@ -80,18 +79,18 @@ module _ (spec : Parts) (sound : IsSpec spec) (accepts : Accepts spec) where
     leaving_held (Some p) h = and_right (holds_during spec inv 3 p.mode.0) _ h
 
     module _ (i : ℕ) (known : i < length spec.confs) (speaks : SpeaksOfSource (halting_number inv.from) i) where
-      kept : acceptance.IsKept spec inv (conf_of i)
-      kept = accepts.kept k inv there (conf_of i) known (source_is inv.from i speaks)
+      kept : acceptance.IsKept spec inv (conf_id i)
+      kept = accepts.kept k inv there (conf_id i) known (source_is inv.from i speaks)
 
       -- where the application stands so in i or in a possible target of i
       left_at : (o : Option Place) → IsPlacedInEither (plan_of spec) (build_of spec) i inv.app.0 o → holds_leaving spec inv o ≡ true
       left_at o site = elim site [
         | inl here ↦ rw here at kept.leaving
-        | inr t ↦ leaving_held o (rw t.2 at (kept.reaching (conf_of t.0) (target_of i t.0 t.1)))
+        | inr t ↦ leaving_held o (rw t.2 at (kept.reaching (conf_id t.0) (target_of i t.0 t.1)))
       ]
 
       reached_at : (o : Option Place) → IsPlacedInTarget (plan_of spec) (build_of spec) i inv.app.0 o → holds_reaching spec inv o ≡ true
-      reached_at o t = rw t.2 at (kept.reaching (conf_of t.0) (target_of i t.0 t.1))
+      reached_at o t = rw t.2 at (kept.reaching (conf_id t.0) (target_of i t.0 t.1))
 
       listed : (w : Written) (v : List ℤ) → IsListed (plan_of spec) (build_of spec) i inv.app.0 w → area_test (range_of (kind_of_app spec inv.app.0) w) v ≡ true → lies_in inv.least inv.greatest (word v inv.variable) ≡ true
       listed (DidRun p) v site lies = held_during 1 p.mode.0 v (run_held p (left_at (Some p) site)) lies

@@ -7,7 +7,7 @@ use Rattle.std.proofs.Math.ListN.{length-append}
 use Rattle.scram_types.specs.Specification.{Each}
 use Rattle.scram_types.proofs.Naturals.{below_or_at}
 use Rattle.scram_types.proofs.Items.{first_part, next_part}
-use Rattle.frame_model.specs.Flights.{listed_below}
+use Rattle.scram_types.specs.Searches.{listed_below}
 use Rattle.frame_model.specs.Readings.{as_list}
 
 pub each_append : {A : Type 0} (P : A → Type 0) (xs ys : List A) → Each P xs → Each P ys → (k : ℕ) (y : A) → slice_get (xs ++ ys) k ≡ Some y → P y

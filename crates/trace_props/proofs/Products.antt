@@ -10,17 +10,18 @@ use Rattle.scram_types.specs.declared.specification.Policy.{Policy}
 use Rattle.scram_types.specs.declared.specification.Policy.TheVariants.{Retarget, Settle}
 use Rattle.scram_types.specs.Scripts.{ScriptParts}
 use Rattle.scram_types.specs.Specification.{Parts, bound_in}
+use Rattle.scram_types.specs.Lookups.{place_of, opening_env, conf_id}
+use Rattle.scram_types.specs.Searches.{least_from, all_below}
 use Rattle.choice_table.specs.Choices.{choose, is_runnable}
 use Rattle.choice_table.specs.Environments.{factor_in, in_scope, is_up_in}
-use Rattle.dep_order.specs.Timetables.{halt_offset, halt_time, halting_time, init_offset, init_time, initialising_time, place_of, prepare_time, preparing_time}
+use Rattle.dep_order.specs.Timetables.{halt_offset, halt_time, halting_time, init_offset, init_time, initialising_time, prepare_time, preparing_time}
 use Rattle.fault_script.specs.Assumption.{is_same_env}
 use Rattle.fault_script.specs.Environments.{env_at}
+use Rattle.coverage_check.specs.Timing.{slowest}
 use Rattle.frame_model.specs.declared.phases.Phase as told
 use Rattle.frame_model.specs.declared.phases.Phase.TheVariants as told_phase
 use Rattle.frame_model.specs.Flights.{row_at}
-use Rattle.frame_model.specs.Runs.{all_below, conf_of, least_from, runs}
-use Rattle.coverage_check.specs.Choosing.{opening_env}
-use Rattle.coverage_check.specs.Timing.{slowest}
+use Rattle.frame_model.specs.Runs.{runs}
 use Rattle.trace_props.proofs.Plans.{Plan}
 use Rattle.trace_props.proofs.CourseModes.{CourseMode, CourseMode.Stable, CourseMode.Moving}
 use Rattle.trace_props.proofs.Courses.{Course}
@@ -47,11 +48,11 @@ plan_of spec = record {
   changes = spec.changes;
   window = spec.window;
   slowest = slowest spec;
-  halting = λ c. halting_time spec (conf_of c);
-  preparing = λ c. preparing_time spec (conf_of c);
-  initialising = λ c. initialising_time spec (conf_of c);
-  choose = λ c v. (choose spec (conf_of c) v).0;
-  is_runnable = λ c v. is_runnable spec (conf_of c) v;
+  halting = λ c. halting_time spec (conf_id c);
+  preparing = λ c. preparing_time spec (conf_id c);
+  initialising = λ c. initialising_time spec (conf_id c);
+  choose = λ c v. (choose spec (conf_id c) v).0;
+  is_runnable = λ c v. is_runnable spec (conf_id c) v;
   in_scope = λ v. is_env spec v && in_scope spec v;
   differ = λ v w. not (is_same_env v w);
   bound = bound_in spec.bounds;
@@ -60,18 +61,18 @@ plan_of spec = record {
 abbrev pub build_of : Parts → Build
 build_of spec = record {
   apps = length spec.apps;
-  place = λ c a. place_of spec (conf_of c) a;
-  halt_offset = λ c a. halt_offset spec (conf_of c) a;
-  halt_time = λ c a. halt_time spec (conf_of c) a;
-  prepare_time = λ c a. prepare_time spec (conf_of c) a;
-  init_offset = λ c a. init_offset spec (conf_of c) a;
-  init_time = λ c a. init_time spec (conf_of c) a;
+  place = λ c a. place_of spec (conf_id c) a;
+  halt_offset = λ c a. halt_offset spec (conf_id c) a;
+  halt_time = λ c a. halt_time spec (conf_id c) a;
+  prepare_time = λ c a. prepare_time spec (conf_id c) a;
+  init_offset = λ c a. init_offset spec (conf_id c) a;
+  init_time = λ c a. init_time spec (conf_id c) a;
   is_up = λ p v. is_up_in v p;
 }
 
 -- Row f runs configuration c.
 abbrev pub runs_in_row : Parts → ScriptParts → ℕ → ℕ → Bool
-runs_in_row spec script f c = runs spec (row_at spec script f).acts (conf_of c)
+runs_in_row spec script f c = runs spec (row_at spec script f).acts (conf_id c)
 
 abbrev pub course_of : Parts → ScriptParts → Course
 course_of spec script = record {

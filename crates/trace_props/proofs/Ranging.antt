@@ -14,8 +14,10 @@ use Rattle.scram_types.specs.Numbers.{word}
 use Rattle.scram_types.specs.Scripts.{ScriptParts}
 use Rattle.scram_types.specs.Specification.{IsSpec, Parts}
 use Rattle.scram_types.proofs.Booleans.{and_left, and_right, and_true}
-use Rattle.trace_props.proofs.SameCourses.{all_pass}
-use Rattle.dep_order.specs.Timetables.{halt_offset, halt_time, init_offset, init_time, place_of, prepare_time}
+use Rattle.scram_types.specs.Lookups.{place_of, kind_of_app}
+use Rattle.scram_types.specs.Searches.{all_below}
+use Rattle.scram_types.specs.Eights.{eight}
+use Rattle.dep_order.specs.Timetables.{halt_offset, halt_time, init_offset, init_time, prepare_time}
 use Rattle.app_model.specs.Areas.{AllTablesNarrow, AreaLies, Between, LawLiesAfterInit, LawLiesDuring, StartLiesAfterInit}
 use Rattle.app_model.specs.Bounds.{after_init, during}
 use Rattle.app_model.specs.Starts.{start_of}
@@ -25,9 +27,9 @@ use Rattle.frame_model.specs.declared.phases.Phase.TheVariants as told
 use Rattle.frame_model.specs.declared.tasks.Task.{Task}
 use Rattle.frame_model.specs.Flights.{decided, state_after}
 use Rattle.frame_model.specs.Phases.{phase_at}
-use Rattle.frame_model.specs.Runs.{all_below}
-use Rattle.frame_model.specs.States.{State, area_after, area_at, for_eight, kind_of_app, law_of, seen_by, start_area_at, start_area_of, zeros}
+use Rattle.frame_model.specs.States.{State, area_after, area_at, law_of, seen_by, start_area_at, start_area_of, zeros}
 use Rattle.frame_model.specs.Tasks as tasks
+use Rattle.trace_props.proofs.SameCourses.{all_pass}
 use Rattle.trace_props.proofs.Courses.{course_mode_at}
 use Rattle.trace_props.proofs.CourseRows.{CourseOrder, CourseOrder.Run, CourseOrder.Halt, CourseOrder.Hold, CourseOrder.Prepare, CourseOrder.Init, CourseOrder.Off, CourseAct.Ran, CourseAct.Halted, CourseAct.Held, CourseAct.Prepared, CourseAct.Initialised, CourseAct.Lost, course_phase, course_running_order, course_halting_order, course_preparing_order, course_initialising_order, course_order_in, course_act_of, course_acts_at}
 use Rattle.trace_props.specs.Judging.{lies_in}
@@ -111,7 +113,7 @@ kind_by spec a sound (Some app) e = (sound.apps a app e).kind
 pub kind_known : (spec : Parts) → IsSpec spec → (a : ℕ) → kind_of_app spec a < 5
 kind_known spec sound a = kind_by spec a sound (slice_get spec.apps a) refl
 
-pub eight_or : {A : Type 0} (value : ℕ → A) (d : A) (a : ℕ) → a < 8 → slice_index_or (for_eight value) a d ≡ value a
+pub eight_or : {A : Type 0} (value : ℕ → A) (d : A) (a : ℕ) → a < 8 → slice_index_or (eight value) a d ≡ value a
 eight_or value d zero h = refl
 eight_or value d (suc zero) h = refl
 eight_or value d (suc (suc zero)) h = refl

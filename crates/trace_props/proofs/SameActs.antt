@@ -11,14 +11,17 @@ use Rattle.scram_types.specs.declared.orders.Order.TheVariants as order
 use Rattle.scram_types.specs.declared.specification.Place.{Place}
 use Rattle.scram_types.specs.Scripts.{ScriptParts}
 use Rattle.scram_types.specs.Specification.{IsSpec, Parts}
-use Rattle.dep_order.specs.Timetables.{halt_offset, halt_time, halting_time, init_offset, init_time, initialising_time, place_of, prepare_time, preparing_time}
+use Rattle.scram_types.specs.Lookups.{place_of, conf_id}
+use Rattle.scram_types.specs.Searches.{all_below}
+use Rattle.scram_types.specs.Eights.{eight}
+use Rattle.dep_order.specs.Timetables.{halt_offset, halt_time, halting_time, init_offset, init_time, initialising_time, prepare_time, preparing_time}
 use Rattle.fault_script.specs.Times.{commits}
 use Rattle.frame_model.specs.declared.phases.Phase as told_phases
 use Rattle.frame_model.specs.declared.phases.Phase.TheVariants as told
 use Rattle.frame_model.specs.Flights.{decided, row_at}
 use Rattle.frame_model.specs.Phases as phases
-use Rattle.frame_model.specs.Runs.{act_at, all_below, conf_of, is_run_by}
-use Rattle.frame_model.specs.States.{act_after, act_of_order, for_eight}
+use Rattle.frame_model.specs.Runs.{act_at, is_run_by}
+use Rattle.frame_model.specs.States.{act_after, act_of_order}
 use Rattle.frame_model.specs.Tasks as tasks
 use Rattle.trace_props.proofs.CourseRows.{CoursePhase, CourseOrder, CourseAct, CourseAct.Ran, CourseAct.Halted, CourseAct.Held, CourseAct.Prepared, CourseAct.Initialised, CourseAct.WasOff, CourseAct.Lost, course_after_halting, course_phase, course_running_order, course_halting_order, course_preparing_order, course_initialising_order, course_order_in, course_act_of, course_fits_place, course_runs, course_acts_at}
 use Rattle.trace_props.proofs.Products.{build_of, course_of, course_mode_of, course_phase_of, plan_of, runs_in_row}
@@ -118,7 +121,7 @@ phase_same spec (kmode.Moving from (Some h) to since) f =
     phase_if (nat_lt (f - since) (halting_time spec h)) (told.Halting h (f - since)) (phases.after_halting spec to (f - since - halting_time spec h)) _ _
     refl (after_same spec to (f - since - halting_time spec h))
 
-pub eight_at : (value : ℕ → told_acts.Act) (a : ℕ) → a < 8 → act_at (for_eight value) a ≡ value a
+pub eight_at : (value : ℕ → told_acts.Act) (a : ℕ) → a < 8 → act_at (eight value) a ≡ value a
 eight_at value zero h = refl
 eight_at value (suc zero) h = refl
 eight_at value (suc (suc zero)) h = refl
@@ -149,4 +152,4 @@ all_below_same p q (suc n) h = let here = h n (omega arith) in let before = all_
 pub runs_same : (spec : Parts) → IsSpec spec → (script : ScriptParts) (f j : ℕ)
     → runs_in_row spec script f j ≡ course_runs (build_of spec) (course_acts_at (plan_of spec) (build_of spec) (course_of spec script) (committed spec script) f) j
 runs_same spec sound script f j = all_below_same _ _ (length spec.apps) (λ a below.
-    ap (is_run_by (place_of spec (conf_of j) a)) (row_act spec script f a (let few = sound.apps_count.few in omega arith)) ∙ fits_same (place_of spec (conf_of j) a) _)
+    ap (is_run_by (place_of spec (conf_id j) a)) (row_act spec script f a (let few = sound.apps_count.few in omega arith)) ∙ fits_same (place_of spec (conf_id j) a) _)

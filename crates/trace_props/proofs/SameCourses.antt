@@ -11,15 +11,16 @@ use Rattle.scram_types.specs.Specification.{IsSpec, Parts}
 use Rattle.scram_types.proofs.Booleans.{and_right, and_true}
 use Rattle.scram_types.proofs.Naturals.{at_most, below_test, at_most_test, low_or_high}
 use Rattle.scram_types.proofs.Options.{none_or_some}
-use Rattle.choice_table.specs.Environments.{count_below, factor_in, in_scope, is_up_in}
+use Rattle.scram_types.specs.Bits.{count_below, bits_below}
+use Rattle.scram_types.proofs.BitSets.{no_bit}
+use Rattle.scram_types.specs.Searches.{all_below}
+use Rattle.scram_types.specs.Lookups.{opening_env}
+use Rattle.choice_table.specs.Environments.{factor_in, in_scope, is_up_in}
 use Rattle.fault_script.specs.Assumption as assumption
-use Rattle.fault_script.specs.Environments.{bits_below, env_at}
+use Rattle.fault_script.specs.Environments.{env_at}
 use Rattle.fault_script.specs.Fits.{Fits}
 use Rattle.fault_script.specs.Laws.{EnvironmentsShow, LossesShow, Shows}
 use Rattle.fault_script.specs.Times.{factor_at, is_up, value_after}
-use Rattle.fault_script.proofs.Bits.{no_bit}
-use Rattle.frame_model.specs.Runs.{all_below}
-use Rattle.coverage_check.specs.Choosing.{opening_env}
 use Rattle.trace_props.proofs.Courses as courses
 use Rattle.trace_props.proofs.Courses.{IsCourseWithin}
 use Rattle.trace_props.proofs.CourseRows.{IsRun}
@@ -104,17 +105,13 @@ up_as : (spec : Parts) (script : ScriptParts) (f : ℕ) → Shows spec script f 
 up_as spec script f shows p low true up = bit_up (env_at spec script f) p (shows.up p low up)
 up_as spec script f shows p low false down = bit_down (env_at spec script f) p (shows.down p low down)
 
-one_down : (b : Bool) → ◌≡◌ {A = ℕ} (if b then 0 else 1) (if not b then 1 else 0)
-one_down true = refl
-one_down false = refl
-
 counted_down : (spec : Parts) (script : ScriptParts) (f : ℕ) → Shows spec script f → (n : ℕ) → n ≤ length spec.procs
     → assumption.down_below script f n ≡ count_below (λ p. not (is_up_in (env_at spec script f) p)) n
 counted_down spec script f shows zero few = refl
 counted_down spec script f shows (suc n) few =
     let before = counted_down spec script f shows n (omega arith) in
     let here = up_as spec script f shows n (omega arith) (is_up script n f) refl in
-    rw (here, ← before) (ap (λ k. assumption.down_below script f n + k) (one_down (is_up script n f)))
+    rw (here, ← before) refl
 
 scope : (spec : Parts) (script : ScriptParts) (f : ℕ) → Shows spec script f → assumption.down_below script f (length spec.procs) ≤ spec.halts → in_scope spec (env_at spec script f) ≡ true
 scope spec script f shows few = at_most_test _ spec.halts (rw (counted_down spec script f shows (length spec.procs) (omega arith)) at few)

@@ -7,22 +7,23 @@ use Rattle.scram_types.specs.declared.flights.Row.{Row}
 use Rattle.scram_types.specs.Scripts.{ScriptParts}
 use Rattle.scram_types.specs.Specification.{Parts}
 use Rattle.scram_types.proofs.Items.{first_part, next_part}
+use Rattle.scram_types.specs.Searches.{listed_below}
+use Rattle.scram_types.specs.Lookups.{conf_id}
 use Rattle.frame_model.specs.declared.readings.Reading as told_readings
 use Rattle.frame_model.specs.declared.readings.Reading.TheVariants as told
-use Rattle.frame_model.specs.Flights.{listed_below, row_at}
+use Rattle.frame_model.specs.Flights.{row_at}
 use Rattle.frame_model.specs.Laws.{ReadsRowByRow}
 use Rattle.frame_model.specs.Readings as readings
-use Rattle.frame_model.specs.Runs.{conf_of}
 use Rattle.trace_props.proofs.Courses.{CourseReading, CourseReading.Steady, CourseReading.Leaving, CourseReport, course_arrive, course_read_row, course_reading_before, course_arrival, course_report_of, course_report_at}
 use Rattle.trace_props.proofs.Lists.{each_append, each_option, length-listed_below}
 use Rattle.trace_props.proofs.Products.{course_of, plan_of, runs_in_row}
 
 abbrev pub told_reading : CourseReading → told_readings.Reading
-told_reading (Steady c) = told.Steady (conf_of c)
-told_reading (Leaving c s) = told.Leaving (conf_of c) s
+told_reading (Steady c) = told.Steady (conf_id c)
+told_reading (Leaving c s) = told.Leaving (conf_id c) s
 
 abbrev pub told_report : CourseReport → told_reports.Report
-told_report r = record { from = conf_of r.from; to = Some (conf_of r.to); begin = r.begin; end = r.end }
+told_report r = record { from = conf_id r.from; to = Some (conf_id r.to); begin = r.begin; end = r.end }
 
 -- the rows of the first n frames
 abbrev pub rows_below : Parts → ScriptParts → ℕ → List Row
@@ -32,11 +33,11 @@ read_if : (b : Bool) (x y : CourseReading) → (if b then told_reading x else to
 read_if true x y = refl
 read_if false x y = refl
 
-arrive_same : (c s : ℕ) (o : Option ℕ) → readings.arrive (conf_of c) s (option_map conf_of o) ≡ told_reading (course_arrive c s o)
+arrive_same : (c s : ℕ) (o : Option ℕ) → readings.arrive (conf_id c) s (option_map conf_id o) ≡ told_reading (course_arrive c s o)
 arrive_same c s None = refl
 arrive_same c s (Some j) = refl
 
-arrival_same : (c s f : ℕ) (o : Option ℕ) → readings.arrival (conf_of c) s f (option_map conf_of o) ≡ option_map told_report (course_arrival c s f o)
+arrival_same : (c s f : ℕ) (o : Option ℕ) → readings.arrival (conf_id c) s f (option_map conf_id o) ≡ option_map told_report (course_arrival c s f o)
 arrival_same c s f None = refl
 arrival_same c s f (Some j) = refl
 

@@ -9,8 +9,8 @@ use Rattle.scram_types.specs.Specification.{Parts}
 use Rattle.scram_types.proofs.Booleans.{true_false}
 use Rattle.scram_types.proofs.Naturals.{above, at_most, equal_test}
 use Rattle.scram_types.proofs.Options.{same_some, some_none}
+use Rattle.scram_types.specs.Searches.{least_from}
 use Rattle.choice_table.specs.Choices.{choose}
-use Rattle.frame_model.specs.Runs.{least_from}
 use Rattle.trace_props.specs.Breaks.{Fails, last_frame}
 use Rattle.trace_props.specs.Judging.{chooses, chooses_in, late_at, late_by, unchosen_at, unchosen_to, unless_chosen}
 use Rattle.trace_props.specs.Properties.{KeepsSp2, KeepsSp3, bound_on, env_in}

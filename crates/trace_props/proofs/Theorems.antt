@@ -8,15 +8,15 @@ use Rattle.scram_types.specs.declared.specification.Policy.{Policy}
 use Rattle.scram_types.specs.declared.specification.Policy.TheVariants.{Retarget}
 use Rattle.scram_types.specs.Scripts.{ScriptParts}
 use Rattle.scram_types.specs.Specification.{IsSpec, Parts}
+use Rattle.scram_types.specs.Lookups.{conf_id}
+use Rattle.coverage_check.specs.Missions.{IsMission, mission_of}
 use Rattle.frame_model.specs.Flights.{decided, reports_of, rows_of}
-use Rattle.frame_model.specs.Runs.{conf_of}
 use Rattle.trace_props.proofs.Plans.{IsAcceptedPlan}
 use Rattle.trace_props.proofs.Courses.{IsCourseFlown, IsCourseWithin, CourseReading, CourseReading.Steady, CourseReading.Leaving, course_reading_before}
 use Rattle.trace_props.proofs.Promises as promises
 use Rattle.trace_props.proofs.CourseRows.{IsBuilt, IsRun}
 use Rattle.trace_props.specs.Known.{IsKnown}
 use Rattle.trace_props.specs.Properties.{HoldsAll}
-use Rattle.coverage_check.specs.Missions.{IsMission, mission_of}
 use Rattle.trace_props.specs.Missions.{IsTargetChosen, FurtherChangesAreFew, HaltingEndsInTime, HaltsInTime, SeesFewChanges, SettlesInTime, PhasesArePastInTime, ReconfigurationsAreAssured, TargetsAreChosen, begin_at, begin_in, changes_since, first_moving, first_moving_in}
 use Rattle.trace_props.proofs.Assurances as law
 use Rattle.trace_props.proofs.Builds.{flown, reconfigures_built}
@@ -105,8 +105,8 @@ module _ (known : IsKnown) (spec : Parts) (script : ScriptParts) (sound : IsSpec
         chosen_at = c.chosen_at;
         chosen_from = rw (first_is f) c.chosen_from;
         chosen_to = c.chosen_to;
-        chosen = ap conf_of c.chosen;
-        anew = λ anew. ap conf_of (c.prompt (retargets spec.policy anew));
+        chosen = ap conf_id c.chosen;
+        anew = λ anew. ap conf_id (c.prompt (retargets spec.policy anew));
       }
 
   pub halts_in_time : (f : ℕ) (from : ConfId) (halting : Option ConfId) (to : ConfId) (since : ℕ) → f ≤ script.frames → decided spec script f ≡ kmode.Moving from halting to since

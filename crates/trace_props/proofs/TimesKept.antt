@@ -16,13 +16,13 @@ use Rattle.scram_types.proofs.Booleans.{true_false, and_true}
 use Rattle.scram_types.proofs.Naturals.{equal_test}
 use Rattle.scram_types.proofs.Options.{same_some}
 use Rattle.scram_types.proofs.Items.{first_part}
+use Rattle.scram_types.specs.Lookups.{conf_id}
 use Rattle.choice_table.specs.Choices.{choose}
 use Rattle.fault_script.specs.Assumption.{is_same_env}
 use Rattle.fault_script.specs.Environments.{env_at}
 use Rattle.frame_model.specs.Flights.{row_at, rows_of}
 use Rattle.frame_model.specs.Laws.{ReadsRowByRow}
 use Rattle.frame_model.specs.Readings as readings
-use Rattle.frame_model.specs.Runs.{conf_of}
 use Rattle.trace_props.proofs.Courses.{CourseReading, CourseReading.Steady, CourseReading.Leaving, CourseReport, course_changes_at, course_reading_before, course_report_at}
 use Rattle.trace_props.proofs.Promises as promises
 use Rattle.trace_props.proofs.Promises.{IsCourseAllAssured, CourseHasCause, IsCourseCutOff}
@@ -33,8 +33,8 @@ use Rattle.trace_props.proofs.Lists.{each_append, each_option, get-listed_below,
 use Rattle.trace_props.proofs.Products.{course_of, plan_of, settles_under}
 use Rattle.trace_props.proofs.SameReports.{IsEnded, ended_each, ended_place, reading_same, told_reading, told_report}
 
-conf_same : (c : ConfId) (n : ℕ) → c.0 ≡ n → c ≡ conf_of n
-conf_same c n e = ap conf_of e
+conf_same : (c : ConfId) (n : ℕ) → c.0 ≡ n → c ≡ conf_id n
+conf_same c n e = ap conf_id e
 
 policy_settles : (policy : Policy) → settles_under policy ≡ true → policy ≡ Settle
 policy_settles Retarget h = absurd (true_false false h refl)
@@ -114,13 +114,13 @@ module _ (spec : Parts) (script : ScriptParts) where
                 up_to = a.chosen_to;
                 seen = env_at spec script a.chosen_at;
                 stands = env_there a.chosen_at (omega arith);
-                chosen = conf_same (choose spec (conf_of r.from) (env_at spec script a.chosen_at)) r.to a.chosen ∙ (let same : conf_of r.to ≡ j = cc in same);
+                chosen = conf_same (choose spec (conf_id r.from) (env_at spec script a.chosen_at)) r.to a.chosen ∙ (let same : conf_id r.to ≡ j = cc in same);
               };
               sp3 = record { bound = a.bound; given = a.given; in_time = a.in_time };
               sp5 = cause_there (told_report r) a.cause;
             }
 
-    cut_off_keeps : (c s n : ℕ) → n ≡ script.frames → IsCourseCutOff (plan_of spec) (course_of spec script) c s → KeepsTimes (record { from = conf_of c; to = None; begin = s; end = n })
+    cut_off_keeps : (c s n : ℕ) → n ≡ script.frames → IsCourseCutOff (plan_of spec) (course_of spec script) c s → KeepsTimes (record { from = conf_id c; to = None; begin = s; end = n })
     cut_off_keeps c s n all cut =
         let most = given_most spec.bounds c cut.to cut.bound cut.given in
         let in_time = cut.in_time in
@@ -128,14 +128,14 @@ module _ (spec : Parts) (script : ScriptParts) where
         record {
           sp2 = λ j is. cc;
           sp3 = record { bound = most.bound; given = most.is; in_time = omega arith };
-          sp5 = cause_there (record { from = conf_of c; to = None; begin = s; end = n }) cut.cause;
+          sp5 = cause_there (record { from = conf_id c; to = None; begin = s; end = n }) cut.cause;
         }
 
     closed_keeps : IsCourseAllAssured (plan_of spec) (course_of spec script) → (rd : CourseReading) → course_reading_before (plan_of spec) (course_of spec script) script.frames ≡ rd
         → (x : told_reports.Report) → readings.close (told_reading rd) (length (rows_of spec script)) ≡ Some x → KeepsTimes x
     closed_keeps assured (Steady c) e x h = cc
     closed_keeps assured (Leaving c s) e x h =
-        let same : ◌≡◌ {A = told_reports.Report} (record { from = conf_of c; to = None; begin = s; end = length (rows_of spec script) }) x = cc in
+        let same : ◌≡◌ {A = told_reports.Report} (record { from = conf_id c; to = None; begin = s; end = length (rows_of spec script) }) x = cc in
         rw (← same) (cut_off_keeps c s (length (rows_of spec script)) row_count (assured.unfinished c s e))
 
     pub each_keeps : IsCourseAllAssured (plan_of spec) (course_of spec script) → (k : ℕ) (x : told_reports.Report) → slice_get (readings.reports spec (rows_of spec script)) k ≡ Some x → KeepsTimes x

@@ -11,10 +11,10 @@ use Rattle.scram_types.specs.declared.specification.Policy.TheVariants.{Retarget
 use Rattle.scram_types.specs.declared.specification.Precondition.{Precondition}
 use Rattle.scram_types.specs.Numbers.{word}
 use Rattle.scram_types.specs.Specification.{Parts}
+use Rattle.scram_types.specs.Searches.{least_from}
 use Rattle.choice_table.specs.Choices.{choose, has_source}
 use Rattle.fault_script.specs.Assumption.{is_same_env}
 use Rattle.frame_model.specs.Readings.{reports}
-use Rattle.frame_model.specs.Runs.{least_from}
 use Rattle.frame_model.specs.States.{area_at}
 use Rattle.trace_props.specs.declared.breaks.Broken.{Broken}
 use Rattle.trace_props.specs.declared.breaks.Property.{Property}

@@ -6,17 +6,18 @@ use Rattle.scram_types.specs.declared.orders.KMode.TheVariants.{Stable, Moving}
 use Rattle.scram_types.specs.declared.specification.Policy.TheVariants.{Retarget}
 use Rattle.scram_types.specs.Scripts.{ScriptParts}
 use Rattle.scram_types.specs.Specification.{IsSpec, Parts}
+use Rattle.scram_types.specs.Searches.{listed_below}
 use Rattle.choice_table.specs.Choices.{choose, is_runnable}
 use Rattle.dep_order.specs.Timetables.{halting_time, initialising_time, preparing_time}
 use Rattle.fault_script.specs.Assumption.{changes_upto}
 use Rattle.fault_script.specs.Environments.{env_at}
-use Rattle.frame_model.specs.declared.readings.Reading.{Reading}
-use Rattle.frame_model.specs.declared.readings.Reading.TheVariants.{Steady, Leaving}
-use Rattle.frame_model.specs.Flights.{decided, listed_below, reports_of, row_at, rows_of}
-use Rattle.frame_model.specs.Phases.{halting_frames}
-use Rattle.frame_model.specs.Readings.{reading_of}
 use Rattle.coverage_check.specs.Missions.{IsMission, mission_of}
 use Rattle.coverage_check.specs.Timing.{further, slowest}
+use Rattle.frame_model.specs.declared.readings.Reading.{Reading}
+use Rattle.frame_model.specs.declared.readings.Reading.TheVariants.{Steady, Leaving}
+use Rattle.frame_model.specs.Flights.{decided, reports_of, row_at, rows_of}
+use Rattle.frame_model.specs.Phases.{halting_frames}
+use Rattle.frame_model.specs.Readings.{reading_of}
 use Rattle.trace_props.specs.Properties.{HoldsAll}
 
 -- All five properties hold of a mission's rows and reports.

@@ -10,11 +10,11 @@ use Rattle.scram_types.specs.declared.specification.Policy.TheVariants.{Settle}
 use Rattle.scram_types.specs.declared.specification.Precondition.{Precondition}
 use Rattle.scram_types.specs.Numbers.{word}
 use Rattle.scram_types.specs.Specification.{Each, Parts, bound_in, greatest_bound_in}
+use Rattle.scram_types.specs.Lookups.{opening_env}
 use Rattle.choice_table.specs.Choices.{choose, has_source}
 use Rattle.app_model.specs.Areas.{Between}
 use Rattle.frame_model.specs.Readings.{reports}
 use Rattle.frame_model.specs.States.{area_at}
-use Rattle.coverage_check.specs.Choosing.{opening_env}
 
 -- The environment of row f, if there is such a row.
 abbrev pub env_in : List Row → ℕ → Option Env

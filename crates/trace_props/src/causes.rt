@@ -1,9 +1,9 @@
 //! Whether a reconfiguration began because the environment changed.
 
 ghost use Rattle.std.specs.Prelude.{◌≡◌, ◌+◌, ◌-◌};
-ghost use Rattle.coverage_check.specs.Choosing.{opening_env};
+ghost use Rattle.scram_types.specs.Lookups.{opening_env};
+ghost use Rattle.scram_types.specs.Searches.{least_from};
 ghost use Rattle.fault_script.specs.Assumption.{is_same_env};
-ghost use Rattle.frame_model.specs.Runs.{least_from};
 ghost use Rattle.trace_props.specs.Judging.{causeless_at, changes_in, follows, has_cause, is_another_env, settles};
 ghost use Rattle.trace_props.specs.Properties.{env_before, env_in};
 

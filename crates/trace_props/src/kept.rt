@@ -1,10 +1,10 @@
 //! Whether a reconfiguration's rows keep the invariants for its source and meet its target's preconditions.
 
 ghost use Rattle.std.specs.Prelude.{◌≡◌, ◌+◌, ◌-◌};
-ghost use Rattle.choice_table.specs.Choices.{has_source};
-ghost use Rattle.frame_model.specs.Runs.{least_from};
-ghost use Rattle.frame_model.specs.States.{area_at};
+ghost use Rattle.scram_types.specs.Searches.{least_from};
 ghost use Rattle.scram_types.specs.Numbers.{word};
+ghost use Rattle.choice_table.specs.Choices.{has_source};
+ghost use Rattle.frame_model.specs.States.{area_at};
 ghost use Rattle.trace_props.specs.Judging.{breaks_at, breaks_target_precondition, breaks_invariant, goes_to, breaks_precondition, lesser_frame, lies_in, unkept_at, unkept_from, unmet_at, unmet_in};
 
 use scram_types::{AppId, Area, ConfId, Invariant, Precondition, Report, Row, Spec};

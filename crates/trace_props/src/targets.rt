@@ -1,7 +1,7 @@
 //! Whether a reconfiguration's target was chosen meanwhile, and whether it ended in time.
 
 ghost use Rattle.std.specs.Prelude.{◌≡◌, ◌+◌, ◌-◌};
-ghost use Rattle.frame_model.specs.Runs.{least_from};
+ghost use Rattle.scram_types.specs.Searches.{least_from};
 ghost use Rattle.trace_props.specs.Breaks.{last_frame};
 ghost use Rattle.trace_props.specs.Judging.{chooses, late_at, unchosen_at};
 ghost use Rattle.trace_props.specs.Properties.{bound_on};

@@ -1,5 +1,5 @@
 use Rattle.std.proofs.Common.{◌≡◌, ◌≤◌, not}
-use Rattle.choice_table.specs.Environments.{count_below, has_bit}
+use Rattle.scram_types.specs.Bits.{count_below, has_bit}
 use Rattle.choice_table.proofs.environments.count_down.Given as goal
 
 abbrev pub invariant-loop-p : goal.invariant-loop-p

@@ -1,8 +1,9 @@
 use Rattle.std.proofs.Common.{◌≡◌, ◌*◌, ◌^◌, ◌∙◌, arith, sym, length}
 use Rattle.std.proofs.lemmas.Nat.{mul-le}
-use Rattle.choice_table.specs.Environments.{count_below}
+use Rattle.scram_types.specs.Bits.{count_below}
+use Rattle.scram_types.proofs.BitSets.{count_most}
 use Rattle.choice_table.specs.Numbering.{combinations, is_down_in_scope}
-use Rattle.choice_table.proofs.Counting.{count_blocks, count_most}
+use Rattle.choice_table.proofs.Counting.{count_blocks}
 use Rattle.choice_table.proofs.numbering.states.Goals as goal
 
 pub overflow_add-states : goal.overflow_add-states

@@ -1,5 +1,5 @@
 use Rattle.std.proofs.Common.{◌≡◌, ◌*◌}
-use Rattle.choice_table.specs.Environments.{count_below}
+use Rattle.scram_types.specs.Bits.{count_below}
 use Rattle.choice_table.specs.Numbering.{is_down_in_scope}
 use Rattle.choice_table.proofs.numbering.states.Given as goal
 

@@ -1,4 +1,4 @@
-use Rattle.std.proofs.Common.{◌∙◌, arith, sym, true, false}
+use Rattle.std.proofs.Common.{◌∙◌, arith, sym}
 use Rattle.coverage_check.proofs.Reaching.{environments_most, unmet_found, unmet_more, unmet_nowhere}
 use Rattle.coverage_check.proofs.choosing.first_unmet_env.Goals as goal
 

@@ -1,6 +1,6 @@
 use Rattle.std.proofs.Common.{◌≡◌, ◌-◌, None}
+use Rattle.scram_types.specs.Searches.{first_below}
 use Rattle.choice_table.specs.Numbering.{environments}
-use Rattle.coverage_check.specs.Search.{first_below}
 use Rattle.coverage_check.specs.Choosing.{unmet_env_at}
 use Rattle.coverage_check.proofs.choosing.first_unmet_env.Given as goal
 

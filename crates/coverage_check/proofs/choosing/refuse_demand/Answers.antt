@@ -1,6 +1,6 @@
-use Rattle.std.proofs.Common.{◌∙◌, arith, length, sym, true}
+use Rattle.std.proofs.Common.{◌∙◌, arith, length, sym}
+use Rattle.scram_types.proofs.Searches.{first_is}
 use Rattle.coverage_check.specs.Choosing.{demand_refusal_of}
-use Rattle.coverage_check.proofs.Searching.{first_is}
 use Rattle.coverage_check.proofs.choosing.refuse_demand.Goals as goal
 
 pub returns-then-is_some : goal.returns-then-is_some

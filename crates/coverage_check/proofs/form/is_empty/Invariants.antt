@@ -1,6 +1,6 @@
 use Rattle.std.proofs.Common.{◌≡◌, true, not}
-use Rattle.coverage_check.specs.Search.{all_below}
-use Rattle.dep_order.specs.Timetables.{is_on}
+use Rattle.scram_types.specs.Searches.{all_below}
+use Rattle.scram_types.specs.Lookups.{is_on}
 use Rattle.coverage_check.proofs.form.is_empty.Given as goal
 
 abbrev pub invariant-loop-a : goal.invariant-loop-a

@@ -1,6 +1,6 @@
 use Rattle.std.proofs.Common.{◌≡◌, true}
-use Rattle.coverage_check.specs.Search.{all_below}
-use Rattle.dep_order.specs.Timetables.{place_of}
+use Rattle.scram_types.specs.Searches.{all_below}
+use Rattle.scram_types.specs.Lookups.{place_of}
 use Rattle.coverage_check.specs.Form.{is_same_place}
 use Rattle.coverage_check.proofs.form.is_same.Given as goal
 

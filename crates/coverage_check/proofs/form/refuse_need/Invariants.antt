@@ -1,5 +1,5 @@
 use Rattle.std.proofs.Common.{◌≡◌, None}
-use Rattle.coverage_check.specs.Search.{first_below}
+use Rattle.scram_types.specs.Searches.{first_below}
 use Rattle.coverage_check.specs.Form.{need_refusal_in}
 use Rattle.coverage_check.proofs.form.refuse_need.Given as goal
 

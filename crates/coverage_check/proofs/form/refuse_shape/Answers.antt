@@ -1,6 +1,6 @@
-use Rattle.std.proofs.Common.{◌∙◌, arith, length, sym, true, false}
+use Rattle.std.proofs.Common.{◌∙◌, arith, length, sym}
+use Rattle.scram_types.proofs.Searches.{first_is, first_more}
 use Rattle.coverage_check.specs.Form.{shape_refusal_of}
-use Rattle.coverage_check.proofs.Searching.{first_is, first_more}
 use Rattle.coverage_check.proofs.form.refuse_shape.Goals as goal
 
 pub returns-then-is_some : goal.returns-then-is_some

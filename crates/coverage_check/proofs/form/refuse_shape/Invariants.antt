@@ -1,5 +1,5 @@
 use Rattle.std.proofs.Common.{◌≡◌, None}
-use Rattle.coverage_check.specs.Search.{first_below}
+use Rattle.scram_types.specs.Searches.{first_below}
 use Rattle.coverage_check.specs.Form.{shape_refusal_of}
 use Rattle.coverage_check.proofs.form.refuse_shape.Given as goal
 

@@ -1,8 +1,8 @@
 use Rattle.std.proofs.Common.{◌≡◌, ◌∙◌, ap, arith, length, sym, List}
 use Rattle.scram_types.specs.Specification.{Parts}
 use Rattle.scram_types.specs.declared.specification.Invariant.{Invariant}
+use Rattle.scram_types.proofs.Searches.{first_is, first_more}
 use Rattle.coverage_check.specs.Holding.{invariant_refusal_at}
-use Rattle.coverage_check.proofs.Searching.{first_is, first_more}
 use Rattle.coverage_check.proofs.holding.refuse_invariant.Goals as goal
 
 pub returns-then-is_some : goal.returns-then-is_some

@@ -1,5 +1,5 @@
 use Rattle.std.proofs.Common.{◌≡◌, None}
-use Rattle.coverage_check.specs.Search.{first_below}
+use Rattle.scram_types.specs.Searches.{first_below}
 use Rattle.coverage_check.specs.Holding.{precondition_refusal_at}
 use Rattle.coverage_check.proofs.holding.refuse_precondition.Given as goal
 

@@ -1,5 +1,5 @@
 use Rattle.std.proofs.Common.{◌≡◌, ◌<◌, ◌^◌}
-use Rattle.choice_table.specs.Numbering.{bits_below}
+use Rattle.scram_types.specs.Bits.{bits_below}
 use Rattle.coverage_check.specs.TargetSets.{is_in}
 use Rattle.coverage_check.proofs.target_sets.bits_of.Given as goal
 

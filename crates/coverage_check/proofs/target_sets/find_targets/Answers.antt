@@ -1,12 +1,12 @@
 use Rattle.std.proofs.Common.{◌<◌, ◌∙◌, ap, arith, length, sym, true}
 use Rattle.std.proofs.lemmas.List.{length-set}
 use Rattle.scram_types.specs.declared.ids.ConfId.{ConfId}
+use Rattle.scram_types.specs.Lookups.{conf_id}
+use Rattle.scram_types.proofs.Searches.{any_skip}
 use Rattle.choice_table.specs.Numbering.{environments}
-use Rattle.coverage_check.specs.Showing.{conf}
 use Rattle.coverage_check.specs.TargetSets.{is_in}
 use Rattle.coverage_check.specs.Timing.{is_chosen_in}
 use Rattle.coverage_check.proofs.Reaching.{environments_most, out_chosen, target_more}
-use Rattle.coverage_check.proofs.Searching.{any_skip}
 use Rattle.coverage_check.proofs.target_sets.find_targets.Goals as goal
 
 pub overflow_add-low : goal.overflow_add-low
@@ -34,5 +34,5 @@ loop-found-preserved c =
 
 pub returns : goal.returns
 returns c = λ j less. c.loop-found.invariant.chosen.chosen j less
-    ∙ sym (any_skip (is_chosen_in c.args.spec.now (conf c.args.i) j) (environments c.args.spec.now) c.loop-found.low c.loop-found.invariant.inside
+    ∙ sym (any_skip (is_chosen_in c.args.spec.now (conf_id c.args.i) j) (environments c.args.spec.now) c.loop-found.low c.loop-found.invariant.inside
     (λ k from below. out_chosen c.args.spec.now c.args.i j k (c.in_default.ensures.next k from below)))

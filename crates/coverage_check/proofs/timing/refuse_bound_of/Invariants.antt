@@ -1,9 +1,11 @@
 use Rattle.std.proofs.Common.{◌≡◌, None}
-use Rattle.coverage_check.specs.Search.{first_below, shown_if}
+use Rattle.scram_types.specs.Searches.{first_below}
+use Rattle.scram_types.specs.Lookups.{conf_id}
+use Rattle.coverage_check.specs.Search.{shown_if}
 use Rattle.coverage_check.specs.declared.shown.Other.TheVariants as other
 use Rattle.coverage_check.specs.Timing.{lacks_bound, least}
-use Rattle.coverage_check.specs.Showing.{conf, shown_at}
+use Rattle.coverage_check.specs.Showing.{shown_at}
 use Rattle.coverage_check.proofs.timing.refuse_bound_of.Given as goal
 
 abbrev pub invariant-loop-j : goal.invariant-loop-j
-invariant-loop-j l = first_below (λ j. shown_if (lacks_bound l.spec (conf l.i) j) (shown_at 9 l.i (other.Least (conf j) (least l.spec (conf l.i) (conf j))))) l.j ≡ None
+invariant-loop-j l = first_below (λ j. shown_if (lacks_bound l.spec (conf_id l.i) j) (shown_at 9 l.i (other.Least (conf_id j) (least l.spec (conf_id l.i) (conf_id j))))) l.j ≡ None

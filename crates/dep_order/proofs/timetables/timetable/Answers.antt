@@ -1,9 +1,10 @@
 use Rattle.std.proofs.Common.{◌∙◌, ap, arith, ℕ, [], length, refl}
 use Rattle.std.specs.Prelude.{replicate}
+use Rattle.scram_types.proofs.Items.{zeros_everywhere}
 use Rattle.dep_order.specs.declared.timetables.Phase.TheVariants as phase
 use Rattle.dep_order.specs.Timetables.{Holds, halt_chart, halt_offset, halt_time, init_chart, init_offset, init_time, phase_length, prepare_time, timed_chart}
 use Rattle.dep_order.proofs.Charts.{same_offset}
-use Rattle.dep_order.proofs.Lengths.{kept_is, length_alone, length_is, same_times, timed_agree, times_most, zeros_everywhere}
+use Rattle.dep_order.proofs.Lengths.{kept_is, length_alone, length_is, same_times, timed_agree, times_most}
 use Rattle.dep_order.proofs.Modes.{timed}
 use Rattle.dep_order.proofs.timetables.timetable.Goals as goal
 

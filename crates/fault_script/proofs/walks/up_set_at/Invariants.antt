@@ -1,6 +1,6 @@
 use Rattle.std.proofs.Common.{◌≡◌, ◌<◌, ◌^◌}
+use Rattle.scram_types.specs.Bits.{bits_below}
 use Rattle.fault_script.specs.Times.{is_up}
-use Rattle.fault_script.specs.Environments.{bits_below}
 use Rattle.fault_script.proofs.walks.up_set_at.Given as goal
 
 abbrev pub invariant-loop-p : goal.invariant-loop-p

@@ -1,6 +1,7 @@
 use Rattle.std.proofs.Common.{◌≡◌, true}
-use Rattle.dep_order.specs.Timetables.{place_of}
-use Rattle.frame_model.specs.Runs.{act_at, all_below, is_run_by}
+use Rattle.scram_types.specs.Lookups.{place_of}
+use Rattle.scram_types.specs.Searches.{all_below}
+use Rattle.frame_model.specs.Runs.{act_at, is_run_by}
 use Rattle.frame_model.proofs.acts.runs.Given as goal
 
 abbrev pub invariant-loop-a : goal.invariant-loop-a

@@ -6,7 +6,7 @@ use Rattle.frame_model.proofs.flights.fly_all.Goals as goal
 pub loop-frame-init : goal.loop-frame-init
 loop-frame-init g c = record {
   rows = c.in_ok-rows.ensures.items;
-  before = stands_first c.args.spec.now c.args.script.now c.start-sys.result c.first-factors.result c.start-sys.ensures c.first-factors.ensures;
+  before = stands_first c.args.spec.now c.args.script.now c.start-sys.result c.first-walk.result c.start-sys.ensures c.first-walk.ensures;
   fits = c.requires.racks;
 }
 

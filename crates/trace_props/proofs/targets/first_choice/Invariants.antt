@@ -1,5 +1,5 @@
 use Rattle.std.proofs.Common.{◌≡◌, ◌+◌, ◌-◌}
-use Rattle.frame_model.specs.Runs.{least_from}
+use Rattle.scram_types.specs.Searches.{least_from}
 use Rattle.trace_props.specs.Judging.{chooses}
 use Rattle.trace_props.proofs.targets.first_choice.Given as goal
 

@@ -1,8 +1,7 @@
 use Rattle.std.proofs.Common.{◌≡◌}
-use Rattle.fault_script.specs.Environments.{bits_below}
-use Rattle.fault_script.specs.Times.{factors_at, halts_before_mark}
-use Rattle.frame_model.specs.Inputs.{halts_after_mark, restarts_in}
-use Rattle.frame_model.proofs.inputs.input_at.Given as goal
+use Rattle.scram_types.specs.Bits.{bits_below}
+use Rattle.fault_script.specs.Times.{factors_at, halts_after_mark, halts_before_mark, restarts_in}
+use Rattle.fault_script.proofs.inputs.input_at.Given as goal
 
 abbrev pub invariant-loop-p : goal.invariant-loop-p
 invariant-loop-p l = record {

@@ -1,7 +1,6 @@
-use Rattle.fault_script.specs.Times.{halts_before_mark}
-use Rattle.frame_model.specs.Inputs.{halts_after_mark, restarts_in}
-use Rattle.frame_model.proofs.Bits.{bits_lt}
-use Rattle.frame_model.proofs.inputs.input_at.Goals as goal
+use Rattle.scram_types.proofs.BitSets.{bits_lt}
+use Rattle.fault_script.specs.Times.{halts_after_mark, halts_before_mark, restarts_in}
+use Rattle.fault_script.proofs.inputs.input_at.Goals as goal
 
 pub with-requires-clause-set : goal.with-requires-clause-set
 with-requires-clause-set c = rw (c.loop-p.invariant.early) (bits_lt (λ p. halts_before_mark c.args.spec.now c.args.script.now p c.args.frame) c.loop-p.p)

@@ -1,6 +1,0 @@
-use Rattle.std.proofs.Common.{refl}
-use Rattle.fault_script.proofs.Walking.{walk_opens}
-use Rattle.fault_script.proofs.walks.opening_walk.Goals as goal
-
-pub returns : goal.returns
-returns c = walk_opens c.args.spec.now c.args.script.now c.requires _ refl c.up_set_at.ensures refl

@@ -1,0 +1,16 @@
+-- What happens to a frame.
+use Rattle.std.specs.Prelude.{ℕ, length}
+use Rattle.scram_types.specs.Bits.{bits_below}
+use Rattle.scram_types.specs.Scripts.{ScriptParts}
+use Rattle.scram_types.specs.Specification.{Parts}
+use Rattle.fault_script.specs.declared.inputs.Input.{Input}
+use Rattle.fault_script.specs.Times.{factors_at, halts_after_mark, halts_before_mark, restarts_in}
+
+-- What happens to frame f: the factors' values, and who halts in it before and after the mark and who restarts.
+abbrev pub input_at : Parts → ScriptParts → ℕ → Input
+input_at spec script f = record {
+  factors = factors_at script f;
+  early = bits_below (λ p. halts_before_mark spec script p f) (length spec.procs);
+  late = bits_below (λ p. halts_after_mark spec script p f) (length spec.procs);
+  back = bits_below (λ p. restarts_in script p f) (length spec.procs);
+}
