@@ -41,12 +41,15 @@ use Rattle.scram_cli.specs.declared.forms.Request.TheVariants.{Run, Check, Bound
 use Rattle.scram_cli.specs.Bounds.{bounds_text}
 use Rattle.scram_cli.specs.Lines.{accepted_line, broken_line, fly_line, holds_line, outside_line, script_line, shown_line, specification_line, trace_line}
 
+-- the words have no form
 abbrev pub usage_line : List ℕ
 usage_line = codes "refused: usage\n"
 
+-- memory was wanting
 abbrev pub memory_line : List ℕ
 memory_line = codes "refused: memory\n"
 
+-- a file was not read
 abbrev pub read_line : List ℕ → List ℕ
 read_line name = codes "refused: read " ++ name ++ codes "\n"
 
@@ -78,6 +81,7 @@ abbrev pub flight_answer : FlightText → Parts → ScriptParts → Option Shown
 flight_answer told spec script (Some shown) = (NOT_ACCEPTED, shown_line spec shown)
 flight_answer told spec script None = within_answer told spec script (first_outside spec script)
 
+-- the answer to `run`, by what the bytes of the script are
 abbrev pub script_answer : Parts → Result ScriptParts DocFault → ℕ × List ℕ
 script_answer spec (Err fault) = (BROKEN_SCRIPT, script_line fault)
 script_answer spec (Ok script) = flight_answer Trace spec script (first_refusal spec)
@@ -97,6 +101,7 @@ abbrev pub Judges : Parts → Flown → Option Broken → Type 0
 Judges spec flown None = HoldsAll spec flown.rows flown.reports
 Judges spec flown (Some broken) = IsFirstBreak spec flown.rows flown.reports broken.property broken.frame
 
+-- the answer to `props`, by the first break
 abbrev pub judged_answer : Flown → Option Broken → ℕ × List ℕ
 judged_answer flown (Some broken) = (BROKEN_PROPERTY, broken_line broken)
 judged_answer flown None = (ANSWERED, holds_line flown)
@@ -123,6 +128,7 @@ RequestAnswers files (Props trace) spec = AnswersOf (file_at trace files) (λ (b
 abbrev pub showing : List (List ℕ) → DocFault → SpecFault
 showing cycle fault = record { rule = fault.rule; path = fault.path; cycle = record { items = [] }; names = record { items = cycle } }
 
+-- the answer, by what the bytes of the specification are
 abbrev pub ReadAnswers : List (List ℕ) → FileMap → Request (List ℕ) → Result Parts DocFault → ℕ → List ℕ → Type 0
 ReadAnswers cycle files request (Err fault) = Gives (BROKEN_SPECIFICATION, specification_line (showing cycle fault))
 ReadAnswers cycle files request (Ok spec) = RequestAnswers files request spec
@@ -158,10 +164,12 @@ FormAnswers cycle (Some (Generated number purpose)) files = IsMissionAnswer numb
 abbrev pub NamesCycle : Result (List AppSpec) DocFault → List (List ℕ) → Type 0
 NamesCycle unranked names = (cycle : List AppId) × CycleAmong unranked cycle × NamedAmong unranked cycle names
 
+-- a cycle of needs is shown where the specification is refused
 abbrev pub ShowsWhereRefused : Result Parts DocFault → Result (List AppSpec) DocFault → List (List ℕ) → Type 0
 ShowsWhereRefused (Ok spec) unranked cycle = cycle ≡ []
 ShowsWhereRefused (Err fault) unranked cycle = NamesCycle unranked cycle
 
+-- the same of a form: only a specification that is read from a file is refused
 abbrev pub ShowsCycleOf : Option (Form (List ℕ)) → FileMap → List (List ℕ) → Type 0
 ShowsCycleOf None files cycle = cycle ≡ []
 ShowsCycleOf (Some (Specified specification request)) files cycle =

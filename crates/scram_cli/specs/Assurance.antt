@@ -63,6 +63,7 @@ pub record AssuresMission (number : ℕ) (purpose : Purpose) (old new : Option (
   pub generated : IsGenerated spec
   pub assured : AssuresPurpose number purpose spec (generated_script number) old new
 
+-- What is assured of a form that was answered with status 0.
 abbrev pub AssuresForm : Option (Form (List ℕ)) → FileMap → Option (List ℕ) → Option (List ℕ) → Type 0
 AssuresForm None files old new = ⊤
 AssuresForm (Some (Specified specification request)) files old new = AssuresSpec files specification request old new

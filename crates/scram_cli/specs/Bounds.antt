@@ -14,6 +14,7 @@ abbrev pub texts_below : (ℕ → List ℕ) → ℕ → List ℕ
 texts_below text zero = []
 texts_below text (suc n) = texts_below text n ++ text n
 
+-- The lines of the pairs that begin with i.
 abbrev pub bounds_text_from : Parts → ℕ → List ℕ
 bounds_text_from spec i = texts_below (bound_text_of spec i) (length spec.confs)
 

@@ -13,16 +13,19 @@ use Rattle.scram_cli.specs.declared.forms.Request.TheVariants.{Run, Check, Bound
 abbrev pub mission_form : Purpose → List ℕ → Option (Form (List ℕ))
 mission_form purpose word = option_map (λ (number : ℕ). Generated number purpose) (number_of 1000000 word)
 
+-- the form of a command and a number, if they have one
 abbrev pub form_of_generated : List ℕ → List ℕ → Option (Form (List ℕ))
 form_of_generated command word =
     if bytes_eq command (codes "gen") then mission_form Print word
     else (if bytes_eq command (codes "fly") then mission_form Fly word else None)
 
+-- the form of two words, if they have one
 abbrev pub form_of_two : List ℕ → List ℕ → Option (Form (List ℕ))
 form_of_two command word =
     if bytes_eq command (codes "check") then Some (Specified word Check)
     else (if bytes_eq command (codes "bounds") then Some (Specified word Bounds) else form_of_generated command word)
 
+-- the form of three words, if they have one
 abbrev pub form_of_three : List ℕ → List ℕ → List ℕ → Option (Form (List ℕ))
 form_of_three command specification further =
     if bytes_eq command (codes "run") then Some (Specified specification (Run further))
@@ -43,6 +46,7 @@ with_name name Check = Check
 with_name name Bounds = Bounds
 with_name name (Props trace) = Props (name trace)
 
+-- the same of a form
 abbrev pub with_names : {A B : Type 0} → (A → B) → Form A → Form B
 with_names name (Specified specification request) = Specified (name specification) (with_name name request)
 with_names name (Generated number purpose) = Generated number purpose

@@ -36,10 +36,12 @@ abbrev pub cycle_text : List (List ℕ) → List ℕ
 cycle_text [] = []
 cycle_text (name ∷ names) = codes " cycle " ++ name ++ further names
 
+-- a specification document breaks a rule
 abbrev pub specification_line : SpecFault → List ℕ
 specification_line fault =
     codes "refused: specification" ++ rule_text fault.rule fault.path ++ cycle_text fault.names.items ++ codes "\n"
 
+-- a script document breaks a rule
 abbrev pub script_line : DocFault → List ℕ
 script_line fault = codes "refused: script" ++ rule_text fault.rule fault.path ++ codes "\n"
 
@@ -64,6 +66,7 @@ abbrev pub added : List (List ℕ) → List ℕ
 added [] = codes "-"
 added (name ∷ names) = name ++ further_added names
 
+-- each factor with its value, then the names of the processors that are down
 abbrev pub env_text : Parts → Env → List ℕ
 env_text spec env = factors_text spec.factors 0 env.factors ++ codes "down=" ++ added (names_down spec.procs env.up)
 
@@ -72,6 +75,7 @@ abbrev pub env_or_dash : Parts → Option Env → List ℕ
 env_or_dash spec None = codes "-"
 env_or_dash spec (Some env) = env_text spec env
 
+-- what else a condition is broken at
 abbrev pub other_text : Parts → Other → List ℕ
 other_text spec other.Nothing = codes "-"
 other_text spec (other.App app) = app_name spec app.0
@@ -87,6 +91,7 @@ shown_line spec shown =
     codes "refused: A" ++ decimal shown.condition ++ codes " " ++ conf_or_dash spec shown.conf ++ codes " "
     ++ env_or_dash spec shown.env ++ codes " " ++ other_text spec shown.other ++ codes "\n"
 
+-- in which way a script leaves the failure assumption
 abbrev pub outside_kind_text : OutsideKind → List ℕ
 outside_kind_text Halts = codes "halts"
 outside_kind_text Changes = codes "changes"

@@ -22,6 +22,7 @@ pub record HasBytes (files : FileMap) (name : List ℕ) (Fact : List ℕ → Typ
   pub there : file_at name files ≡ Some bytes
   pub fact : Fact bytes
 
+-- what came of loading a file, and what it says of its bytes
 abbrev pub Loads : {A E : Type 0} → (A → List ℕ → Type 0) → (E → List ℕ → Type 0) → FileMap → List ℕ → Loaded A E → Type 0
 Loads Reads Refuses files name (Got value) = HasBytes files name (Reads value)
 Loads Reads Refuses files name (Refused fault) = HasBytes files name (Refuses fault)
@@ -61,6 +62,7 @@ RefusesAsTrace spec fault bytes = trace_of spec bytes ≡ Err fault
 abbrev pub IsCounted : Flown → Type 0
 IsCounted flown = (length flown.rows < 2 ^ 32) × (length flown.reports < 2 ^ 32)
 
+-- the same of a trace that was read
 abbrev pub IsCountedWhereGot : Loaded Flown TraceFault → Type 0
 IsCountedWhereGot (Got flown) = IsCounted flown
 IsCountedWhereGot (Refused fault) = ⊤

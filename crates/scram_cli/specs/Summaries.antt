@@ -12,6 +12,7 @@ abbrev pub duration_to : Option ConfId → Report → ℕ
 duration_to None report = 0
 duration_to (Some to) report = report.end - report.begin
 
+-- the same of a reconfiguration
 abbrev pub duration : Report → ℕ
 duration report = duration_to report.to report
 

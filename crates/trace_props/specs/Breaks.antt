@@ -12,6 +12,7 @@ use Rattle.trace_props.specs.declared.breaks.Property.{Property}
 use Rattle.trace_props.specs.declared.breaks.Property.TheVariants.{Sp1, Sp2, Sp3, Sp4, Sp5}
 use Rattle.trace_props.specs.Properties.{HoldsAll, InvariantHolds, KeepsSp2, KeepsSp3, KeepsSp5, PreconditionHolds}
 
+-- The number that is printed of a property.
 abbrev pub property_number : Property → ℕ
 property_number Sp1 = 1
 property_number Sp2 = 2
@@ -19,6 +20,7 @@ property_number Sp3 = 3
 property_number Sp4 = 4
 property_number Sp5 = 5
 
+-- A fact does not hold.
 abbrev pub Fails : Type 0 → Type 0
 Fails Fact = Fact → ⊥
 
@@ -58,6 +60,7 @@ pub record BreaksInvariant (spec : Parts) (rows : List Row) (r : Report) (frame 
   pub stands : slice_get rows frame ≡ Some row
   pub broken : Fails (InvariantHolds inv row)
 
+-- A precondition of the target does not hold in the row before the end, which is that of this frame.
 pub record BreaksPrecondition (spec : Parts) (rows : List Row) (r : Report) (frame : ℕ) : Type 0 where
   pub place : ℕ
   pub pre : Precondition
@@ -77,6 +80,7 @@ BreaksIn spec rows r Sp3 frame = Fails (KeepsSp3 spec r) × (frame ≡ last_fram
 BreaksIn spec rows r Sp4 frame = BreaksInvariant spec rows r frame ⊎ BreaksPrecondition spec rows r frame
 BreaksIn spec rows r Sp5 frame = Fails (KeepsSp5 spec rows r) × (frame ≡ r.begin)
 
+-- Some reconfiguration that is read off the rows breaks a property in a frame.
 pub record BreaksSomewhere (spec : Parts) (rows : List Row) (property : Property) (frame : ℕ) : Type 0 where
   pub place : ℕ
   pub reconfiguration : Report
@@ -95,6 +99,7 @@ BreaksAt spec rows told Sp5 frame = BreaksSomewhere spec rows Sp5 frame
 abbrev pub ComesBefore : Property → ℕ → Property → ℕ → Type 0
 ComesBefore one f other g = (f < g) ⊎ ((f ≡ g) × (property_number one ≤ property_number other))
 
+-- A property is broken in a frame, and every other break comes after this one.
 pub record IsFirstBreak (spec : Parts) (rows : List Row) (told : List Report) (property : Property) (frame : ℕ) : Type 0 where
   pub broken : BreaksAt spec rows told property frame
   pub first : (other : Property) (g : ℕ) → BreaksAt spec rows told other g → ComesBefore property frame other g

@@ -5,6 +5,7 @@ use Rattle.app_model.specs.Areas.{AllTablesNarrow, LawLiesAfterInit, LawLiesDuri
 use Rattle.fault_script.specs.Laws.{EnvironmentsShow, LossesShow}
 use Rattle.frame_model.specs.Laws.{ReadsRowByRow}
 
+-- What choice, time, scripts, rows and kinds promise, together.
 pub record IsKnown : Type 0 where
   pub runs_up : RunsWherePlacesAreUp
   pub timed : PhasesEndInTime

@@ -29,6 +29,7 @@ abbrev pub begin_in : Reading → ℕ → ℕ
 begin_in (Steady c) f = f
 begin_in (Leaving c begin) f = begin
 
+-- The same of a mission.
 abbrev pub begin_at : Parts → ScriptParts → ℕ → ℕ
 begin_at spec script f = begin_in (reading_of spec (listed_below (row_at spec script) f)) f
 
@@ -37,6 +38,7 @@ abbrev pub first_moving_in : KMode → ℕ → ℕ
 first_moving_in (Stable c) begin = suc begin
 first_moving_in (Moving from halting to since) begin = begin
 
+-- The same of a mission.
 abbrev pub first_moving : Parts → ScriptParts → ℕ → ℕ
 first_moving spec script f = first_moving_in (decided spec script (begin_at spec script f)) (begin_at spec script f)
 

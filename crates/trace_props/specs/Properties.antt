@@ -88,6 +88,7 @@ pub record FollowsAnother (spec : Parts) (rows : List Row) (r : Report) : Type 0
 abbrev pub KeepsSp5 : Parts → List Row → Report → Type 0
 KeepsSp5 spec rows r = suc r.begin < length rows → ChangesIn spec rows r.begin ⊎ ChangesIn spec rows (suc r.begin) ⊎ FollowsAnother spec rows r
 
+-- SP2 to SP5 of all reconfigurations that are read off the rows.
 abbrev pub HoldsSp2 : Parts → List Row → Type 0
 HoldsSp2 spec rows = Each (KeepsSp2 spec rows) (reports spec rows)
 
@@ -100,6 +101,7 @@ HoldsSp4 spec rows = Each (KeepsSp4 spec rows) (reports spec rows)
 abbrev pub HoldsSp5 : Parts → List Row → Type 0
 HoldsSp5 spec rows = Each (KeepsSp5 spec rows) (reports spec rows)
 
+-- All five properties hold.
 pub record HoldsAll (spec : Parts) (rows : List Row) (told : List Report) : Type 0 where
   pub sp1 : HoldsSp1 spec rows told
   pub sp2 : HoldsSp2 spec rows
