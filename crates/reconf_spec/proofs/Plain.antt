@@ -1,11 +1,10 @@
 -- A specification's value has no float and is not deep.
-use Rattle.std.proofs.Common.{◌≡◌, ◌≤◌, ℕ, suc, Bool, true, false, cond, List, [], ◌∷◌, map, arith, refl, ap, ◌∙◌}
-use Rattle.std.specs.Prelude.{Option, Some, None, ℤ, pos, negsuc}
+use Rattle.std.proofs.Common.{◌≡◌, ◌≤◌, ℕ, suc, Bool, true, false, cond, List, [], ◌∷◌, arith, refl}
+use Rattle.std.specs.Prelude.{Option, Some, None}
 use Rattle.serde_json.specs.Data.{Data, depth, items_depth, string}
-use Rattle.serde_json.specs.Find.{is_float, of_integer}
-use Rattle.serde_json.specs.Read.{max_depth, read}
+use Rattle.serde_json.specs.Read.{max_depth}
 use Rattle.serde_json.specs.View.{items_of}
-use Rattle.serde_json.specs.Written.{compact_text, has_float, items_have_float}
+use Rattle.serde_json.specs.Written.{has_float, items_have_float}
 use Rattle.scram_doc.proofs.Plain.{integer_no_float, low, no_float}
 use Rattle.scram_types.specs.declared.flights.Goal.{Goal}
 use Rattle.scram_types.specs.declared.specification.AppSpec.{AppSpec}

@@ -22,6 +22,7 @@ abbrev pub CycleIf : Bool → List AppSpec → List AppId → Type 0
 CycleIf true apps cycle = cycle ≡ []
 CycleIf false apps cycle = IsCycle apps cycle
 
+-- The cycle is one of these applications, if they were read; else there is none.
 abbrev pub CycleAmong : Result (List AppSpec) DocFault → List AppId → Type 0
 CycleAmong (Err fault) cycle = cycle ≡ []
 CycleAmong (Ok apps) cycle = CycleIf (are_ranked apps) apps cycle
@@ -31,6 +32,7 @@ abbrev pub AreNamed : List AppSpec → List AppId → List (List ℕ) → Type 0
 AreNamed apps named names =
     map (λ (a : AppId). option_map name_of_app (slice_get apps a.0)) named ≡ map (λ (name : List ℕ). Some name) names
 
+-- The names are those of the listed applications, if these were read; else there are none.
 abbrev pub NamedAmong : Result (List AppSpec) DocFault → List AppId → List (List ℕ) → Type 0
 NamedAmong (Err fault) named names = names ≡ []
 NamedAmong (Ok apps) named names = AreNamed apps named names
@@ -46,6 +48,7 @@ ShowsCycle unranked NoMemory = ⊤
 abbrev pub plain_fault : DocFault → SpecError
 plain_fault fault = Fault (record { rule = fault.rule; path = fault.path; cycle = record { items = [] }; names = record { items = [] } })
 
+-- why a part of a document was not read, with no cycle
 abbrev pub plain_error : DocError → SpecError
 plain_error (doc.Fault fault) = plain_fault fault
 plain_error doc.NoMemory = NoMemory

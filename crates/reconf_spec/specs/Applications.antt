@@ -31,6 +31,7 @@ read_new_mode kind done at d =
 abbrev pub read_phase : List ℕ → Data → Result ℕ DocFault
 read_phase at d = whole_at 1 17 at d
 
+-- a mode that an application lists, after those before it
 abbrev pub read_mode : ℕ → List ℕ → List ModeSpec → Data → Result ModeSpec DocFault
 read_mode kind at done d =
     chain (object_at at d) (λ (_ : ⊤).
@@ -47,9 +48,11 @@ read_mode kind at done d =
     chain (read_phase (member_path at (codes "init")) init) (λ (init : ℕ).
     Ok (record { mode = record { 0 = mode }; load = load; halt = halt; prepare = prepare; init = init })))))))))))))
 
+-- the modes that an application lists: 1 to 3
 abbrev pub read_modes : ℕ → List ℕ → Data → Result (List ModeSpec) DocFault
 read_modes kind at d = elements_at (read_mode kind) 1 3 at d
 
+-- a kind of application, by its name
 abbrev pub read_kind : List ℕ → Data → Result ℕ DocFault
 read_kind at d = chain (text_at at d) (λ (text : List ℕ). or_broken UNKNOWN_KIND at (number_in kind_names text))
 

@@ -21,6 +21,7 @@ read_new_target confs done from at d =
     chain (read_conf_id confs at d) (λ (to : ConfId).
     if is_some (bound_in done from.0 to.0) then broken TWICE_IN_LIST at else Ok to)
 
+-- a bound for a pair that has none yet
 abbrev pub read_bound : List Conf → List ℕ → List Bound → Data → Result Bound DocFault
 read_bound confs at done d =
     chain (object_at at d) (λ (_ : ⊤).
@@ -33,5 +34,6 @@ read_bound confs at done d =
     chain (whole_at 1 1001 (member_path at (codes "frames")) frames) (λ (frames : ℕ).
     Ok (record { from = from; to = to; frames = frames })))))))))
 
+-- the bounds of a document: 0 to 144
 abbrev pub read_bounds : List Conf → List ℕ → Data → Result (List Bound) DocFault
 read_bounds confs at d = elements_at (read_bound confs) 0 144 at d

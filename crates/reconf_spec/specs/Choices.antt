@@ -1,7 +1,6 @@
 -- How the rules of the choice table are read.
 use Rattle.std.specs.Prelude.{ℕ, ◌^◌, bit_or, ◌==◌, Bool, List, codes, Option, Some, None, slice_get, Result, Ok, ⊤, if◌then◌else◌}
 use Rattle.std.specs.List.{list_any}
-use Rattle.std.specs.Int.{bit_at}
 use Rattle.std.specs.Str.{bytes_eq}
 use Rattle.serde_json.specs.Data.{Data, Items}
 use Rattle.scram_types.specs.declared.ids.ConfId.{ConfId}
@@ -26,6 +25,7 @@ use Rattle.reconf_spec.specs.Configurations.{name_of_conf}
 use Rattle.reconf_spec.specs.Factors.{name_of_factor}
 use Rattle.scram_doc.specs.Numbering.{itself}
 
+-- the configuration that a text names
 abbrev pub read_conf_id : List Conf → List ℕ → Data → Result ConfId DocFault
 read_conf_id confs at d = ok_map (λ (c : ℕ). record { 0 = c }) (read_named name_of_conf confs UNKNOWN_CONFIGURATION at d)
 
@@ -35,9 +35,11 @@ source_named confs at text =
     if bytes_eq text (codes "*") then Ok None
     else ok_map (λ (c : ℕ). Some (record { 0 = c })) (or_broken UNKNOWN_CONFIGURATION at (number_named name_of_conf confs text))
 
+-- the configuration that a text names, or none where it is `*`
 abbrev pub read_source : List Conf → List ℕ → Data → Result (Option ConfId) DocFault
 read_source confs at d = chain (text_at at d) (λ (text : List ℕ). source_named confs at text)
 
+-- a wanted value is one of factor f
 abbrev pub wants_factor : List Want → ℕ → Bool
 wants_factor wants f = list_any (λ (want : Want). want.factor.0 == f) wants
 
@@ -52,6 +54,7 @@ abbrev pub read_value_of : Option Factor → List ℕ → Data → Result ℕ Do
 read_value_of None at d = broken UNKNOWN_FACTOR_OR_VALUE at
 read_value_of (Some factor) at d = read_named itself factor.values UNKNOWN_FACTOR_OR_VALUE at d
 
+-- a value that a rule wants, of a factor of which it wants none yet
 abbrev pub read_want : List Factor → List ℕ → List Want → Data → Result Want DocFault
 read_want factors at done d =
     chain (object_at at d) (λ (_ : ⊤).
@@ -68,9 +71,11 @@ read_up procs at set d =
     chain (read_named name_of_proc procs UNKNOWN_PROCESSOR at d) (λ (p : ℕ).
     if has_bit set p then broken TWICE_IN_LIST at else Ok (bit_or set (2 ^ p)))
 
+-- the set of the processors that are named: 0 to 8
 abbrev pub read_up_list : List Proc → List ℕ → Data → Result ℕ DocFault
 read_up_list procs at d = chain (list_at 0 8 at d) (λ (ds : Items). folded_from (read_up procs) at 0 0 ds)
 
+-- a rule of the choice table
 abbrev pub read_choice : List Proc → List Conf → List Factor → List ℕ → List Choice → Data → Result Choice DocFault
 read_choice procs confs factors at done d =
     chain (object_at at d) (λ (_ : ⊤).
@@ -85,5 +90,6 @@ read_choice procs confs factors at done d =
     chain (read_conf_id confs (member_path at (codes "to")) to) (λ (to : ConfId).
     Ok (record { from = from; wants = wants; up = up; to = to })))))))))))
 
+-- the choice table: 0 to 64 rules
 abbrev pub read_choices : List Proc → List Conf → List Factor → List ℕ → Data → Result (List Choice) DocFault
 read_choices procs confs factors at d = elements_at (read_choice procs confs factors) 0 64 at d

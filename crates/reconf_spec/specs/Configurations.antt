@@ -56,6 +56,7 @@ abbrev pub read_place_list : List Proc → List AppSpec → List ℕ → Data �
 read_place_list procs apps at d =
     chain (list_at 0 8 at d) (λ (ds : Items). folded_from (read_place procs apps) at 0 (replicate 8 None) ds)
 
+-- a configuration, whose name is new
 abbrev pub read_conf : List Proc → List AppSpec → List ℕ → List Conf → Data → Result Conf DocFault
 read_conf procs apps at done d =
     chain (object_at at d) (λ (_ : ⊤).
@@ -66,5 +67,6 @@ read_conf procs apps at done d =
     chain (read_place_list procs apps (member_path at (codes "apps")) places) (λ (places : List (Option Place)).
     Ok (record { name = name; places = places })))))))
 
+-- the configurations of a document: 1 to 12
 abbrev pub read_confs : List Proc → List AppSpec → List ℕ → Data → Result (List Conf) DocFault
 read_confs procs apps at d = elements_at (read_conf procs apps) 1 12 at d

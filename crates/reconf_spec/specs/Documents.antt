@@ -35,6 +35,7 @@ use Rattle.reconf_spec.specs.Choices.{read_conf_id, read_choices}
 use Rattle.reconf_spec.specs.Bounds.{read_bounds}
 use Rattle.reconf_spec.specs.Intervals.{read_invariants, read_preconditions}
 
+-- what the mission flies to
 abbrev pub read_goal : List ℕ → Data → Result Goal DocFault
 read_goal at d =
     chain (object_at at d) (λ (_ : ⊤).
@@ -45,6 +46,7 @@ read_goal at d =
     chain (int_at (pos 0) (pos 3599) (member_path at (codes "heading")) heading) (λ (heading : ℤ).
     Ok (record { altitude = altitude; heading = heading })))))))
 
+-- the failure assumption
 abbrev pub read_assumption : List ℕ → Data → Result Assumption DocFault
 read_assumption at d =
     chain (object_at at d) (λ (_ : ⊤).
@@ -57,11 +59,13 @@ read_assumption at d =
     chain (whole_at 1 1001 (member_path at (codes "window")) window) (λ (window : ℕ).
     Ok (record { halts = halts; changes = changes; window = window })))))))))
 
+-- the policy of this name
 abbrev pub policy_named : List ℕ → List ℕ → Result Policy DocFault
 policy_named at text =
     if bytes_eq text (codes "retarget") then Ok Retarget
     else (if bytes_eq text (codes "settle") then Ok Settle else broken UNKNOWN_POLICY at)
 
+-- the policy that a text names
 abbrev pub read_policy : List ℕ → Data → Result Policy DocFault
 read_policy at d = chain (text_at at d) (λ (text : List ℕ). policy_named at text)
 
@@ -89,6 +93,7 @@ names_with procs apps d =
     chain (member_in (codes "factors") read_factors d) (λ (factors : List Factor).
     Ok (record { procs = procs; apps = apps; confs = confs; factors = factors })))
 
+-- what the rest of a document names: its processors, applications, configurations and factors
 abbrev pub names_in : Data → Result Names DocFault
 names_in d =
     chain (member_in (codes "scram") check_version d) (λ (_ : ⊤).
@@ -142,11 +147,13 @@ rest_in names d =
       window = assumed.window;
     })))))))))
 
+-- the specification that a document is
 abbrev pub spec_in : Data → Result Parts DocFault
 spec_in d =
     chain (members_at (members_of d) [] d) (λ (_ : ⊤).
     chain (names_in d) (λ (names : Names). rest_in names d))
 
+-- the specification that the bytes are; their length is tested first
 abbrev pub spec_of : List ℕ → Result Parts DocFault
 spec_of bytes =
     if nat_le (length bytes) 1048576 then chain (parsed bytes) (λ (d : Data). spec_in d) else broken TOO_LONG []
@@ -158,9 +165,11 @@ unranked_names_in d =
     chain (member_in (codes "processors") read_procs d) (λ (_ : List Proc).
     member_in (codes "apps") read_unranked d))
 
+-- the applications of a document that is an object with the right members, before they are ranked
 abbrev pub unranked_in : Data → Result (List AppSpec) DocFault
 unranked_in d = chain (members_at (members_of d) [] d) (λ (_ : ⊤). unranked_names_in d)
 
+-- the applications of the document that the bytes are, before they are ranked
 abbrev pub unranked_of : List ℕ → Result (List AppSpec) DocFault
 unranked_of bytes =
     if nat_le (length bytes) 1048576 then chain (parsed bytes) (λ (d : Data). unranked_in d) else broken TOO_LONG []

@@ -13,9 +13,11 @@ use Rattle.reconf_spec.specs.Names.{read_new_name}
 abbrev pub name_of_factor : Factor → List ℕ
 name_of_factor factor = factor.name
 
+-- the name of a value, which no value of the factor has yet
 abbrev pub read_value_name : List ℕ → List (List ℕ) → Data → Result (List ℕ) DocFault
 read_value_name at done d = read_new_name itself done at d
 
+-- a factor, whose name is new, with 2 to 4 values
 abbrev pub read_factor : List ℕ → List Factor → Data → Result Factor DocFault
 read_factor at done d =
     chain (object_at at d) (λ (_ : ⊤).
@@ -26,5 +28,6 @@ read_factor at done d =
     chain (elements_at read_value_name 2 4 (member_path at (codes "values")) values) (λ (values : List (List ℕ)).
     Ok (record { name = name; values = values })))))))
 
+-- the factors of a document: 0 to 6
 abbrev pub read_factors : List ℕ → Data → Result (List Factor) DocFault
 read_factors at d = elements_at read_factor 0 6 at d

@@ -23,6 +23,7 @@ use Rattle.reconf_spec.specs.Names.{read_named}
 use Rattle.reconf_spec.specs.Applications.{name_of_app}
 use Rattle.reconf_spec.specs.Choices.{read_conf_id, read_source}
 
+-- the application that a text names
 abbrev pub read_app_id : List AppSpec → List ℕ → Data → Result AppId DocFault
 read_app_id apps at d = ok_map (λ (a : ℕ). record { 0 = a }) (read_named name_of_app apps UNKNOWN_APPLICATION at d)
 
@@ -51,6 +52,7 @@ read_interval apps at app variable least greatest =
     chain (read_ends at least greatest) (λ (ends : Ends).
     Ok (record { app = app; variable = variable; ends = ends }))))
 
+-- an invariant
 abbrev pub read_invariant : List AppSpec → List Conf → List ℕ → List Invariant → Data → Result Invariant DocFault
 read_invariant apps confs at done d =
     chain (object_at at d) (λ (_ : ⊤).
@@ -64,9 +66,11 @@ read_invariant apps confs at done d =
     chain (read_interval apps at app variable least greatest) (λ (i : Interval).
     Ok (record { from = from; app = i.app; variable = i.variable; least = i.ends.least; greatest = i.ends.greatest }))))))))))
 
+-- the invariants of a document: 0 to 64
 abbrev pub read_invariants : List AppSpec → List Conf → List ℕ → Data → Result (List Invariant) DocFault
 read_invariants apps confs at d = elements_at (read_invariant apps confs) 0 64 at d
 
+-- a precondition
 abbrev pub read_precondition : List AppSpec → List Conf → List ℕ → List Precondition → Data → Result Precondition DocFault
 read_precondition apps confs at done d =
     chain (object_at at d) (λ (_ : ⊤).
@@ -80,5 +84,6 @@ read_precondition apps confs at done d =
     chain (read_interval apps at app variable least greatest) (λ (i : Interval).
     Ok (record { conf = conf; app = i.app; variable = i.variable; least = i.ends.least; greatest = i.ends.greatest }))))))))))
 
+-- the preconditions of a document: 0 to 64
 abbrev pub read_preconditions : List AppSpec → List Conf → List ℕ → Data → Result (List Precondition) DocFault
 read_preconditions apps confs at d = elements_at (read_precondition apps confs) 0 64 at d

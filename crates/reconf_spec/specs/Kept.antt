@@ -13,6 +13,7 @@ use Rattle.reconf_spec.specs.Writable.{IsWritableApp, rank_of}
 use Rattle.scram_doc.specs.Lists.{AllAfter}
 use Rattle.reconf_spec.specs.Facts.{IsNewProc, IsNewConf, IsNewFactor, FewValues, FitsChoice, IsNewBound, FitsInvariant, FitsPrecondition}
 
+-- applications as they were read, with their needs and ranks
 pub record AreApps (apps : List AppSpec) : Type 0 where
   pub count : HasLength 1 8 apps
   pub differ : NamesDiffer name_of_app apps
@@ -21,6 +22,7 @@ pub record AreApps (apps : List AppSpec) : Type 0 where
   pub writable : Each IsWritableApp apps
   pub ranks : IsRanking apps (map rank_of apps)
 
+-- processors, applications, configurations and factors as they were read
 pub record AreNames (procs : List Proc) (apps : List AppSpec) (confs : List Conf) (factors : List Factor) : Type 0 where
   pub procs_count : HasLength 1 8 procs
   pub procs_fit : AllAfter IsNewProc procs
@@ -31,6 +33,7 @@ pub record AreNames (procs : List Proc) (apps : List AppSpec) (confs : List Conf
   pub factors_fit : AllAfter IsNewFactor factors
   pub few_values : FewValues factors
 
+-- a failure assumption in its limits
 pub record FitsAssumption (assumed : Assumption) : Type 0 where
   pub halts : assumed.halts ≤ 8
   pub changes : assumed.changes ≤ 16

@@ -13,6 +13,7 @@ pub mod Factors
 pub mod Choices
 pub mod Bounds
 pub mod Intervals
+pub mod Laws
 pub mod Documents
 pub mod Texts
 pub mod Writable

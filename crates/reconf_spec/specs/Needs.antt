@@ -1,6 +1,6 @@
 -- How the needs of applications are read and ranked, once every application is known.
-use Rattle.std.specs.Prelude.{ℕ, zero, suc, ◌==◌, Bool, List, [], ◌∷◌, codes, map, nat_lt, Result, Ok, if◌then◌else◌}
-use Rattle.std.specs.List.{list_all, list_any}
+use Rattle.std.specs.Prelude.{ℕ, zero, suc, Bool, List, [], ◌∷◌, codes, map, nat_lt, Result, Ok, if◌then◌else◌}
+use Rattle.std.specs.List.{list_all}
 use Rattle.serde_json.specs.Data.{Data, Items}
 use Rattle.scram_types.specs.declared.ids.AppId.{AppId}
 use Rattle.scram_types.specs.declared.specification.AppSpec.{AppSpec}
@@ -66,6 +66,7 @@ read_unranked at d =
     chain (elements_from (read_needs apps) at 0 [] ds) (λ (needs : List (List AppId)).
     Ok (with_needs apps needs))))
 
+-- the applications of a document, ranked by what they need
 abbrev pub apps_in : Data → Result (List AppSpec) DocFault
 apps_in d =
     chain (member_in (codes "apps") read_unranked d) (λ (apps : List AppSpec). ranked_at (member_path [] (codes "apps")) apps)

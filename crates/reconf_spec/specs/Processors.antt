@@ -13,6 +13,7 @@ use Rattle.reconf_spec.specs.Names.{read_new_name}
 abbrev pub name_of_proc : Proc → List ℕ
 name_of_proc proc = proc.name
 
+-- a processor, whose name is new
 abbrev pub read_proc : List ℕ → List Proc → Data → Result Proc DocFault
 read_proc at done d =
     chain (object_at at d) (λ (_ : ⊤).
@@ -23,5 +24,6 @@ read_proc at done d =
     chain (whole_at 0 1000001 (member_path at (codes "capacity")) capacity) (λ (capacity : ℕ).
     Ok (record { name = name; capacity = capacity })))))))
 
+-- the processors of a document: 1 to 8
 abbrev pub read_procs : List ℕ → Data → Result (List Proc) DocFault
 read_procs at d = elements_at read_proc 1 8 at d

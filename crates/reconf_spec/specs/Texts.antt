@@ -1,9 +1,8 @@
 -- The canonical value of a specification. Its text is the compact JSON text of this value, in which the members
 -- of an object stand in the order of their bytes.
-use Rattle.std.specs.Prelude.{ℕ, suc, ℤ, List, [], ◌∷◌, codes, map, Option, Some, None, slice_get, if◌then◌else◌}
+use Rattle.std.specs.Prelude.{ℕ, suc, List, [], ◌∷◌, codes, Option, Some, None, slice_get, if◌then◌else◌}
 use Rattle.std.specs.Option.{option_map_or}
-use Rattle.serde_json.specs.Data.{Data, put, number, string, array, object, unsigned, Members, no_members, member}
-use Rattle.serde_json.specs.Find.{of_integer}
+use Rattle.serde_json.specs.Data.{Data, put, string, array, object, Members, no_members, member}
 use Rattle.serde_json.specs.View.{items_of}
 use Rattle.serde_json.specs.Written.{compact_text}
 use Rattle.scram_types.specs.declared.ids.AppId.{AppId}
@@ -40,12 +39,15 @@ name_of_item name xs n = option_map_or name (slice_get xs n) []
 abbrev pub name_or_nothing : Option (List ℕ) → List ℕ
 name_or_nothing name = option_map_or itself name []
 
+-- the name of a kind
 abbrev pub name_of_kind : ℕ → List ℕ
 name_of_kind kind = name_or_nothing (name_in kind_names kind)
 
+-- the name of a mode of a kind
 abbrev pub name_of_mode : ℕ → ℕ → List ℕ
 name_of_mode kind mode = name_or_nothing (name_in (mode_names kind) mode)
 
+-- the name of a variable of a kind
 abbrev pub name_of_kind_variable : ℕ → ℕ → List ℕ
 name_of_kind_variable kind variable = name_or_nothing (name_in (variable_names kind) variable)
 
@@ -67,6 +69,7 @@ mode_data kind listed = object (
     member (codes "mode") (string (name_of_mode kind listed.mode.0)) (
     member (codes "prepare") (count_data listed.prepare) no_members)))))
 
+-- an application that is needed, by its name
 abbrev pub need_data : List AppSpec → AppId → Data
 need_data apps need = string (name_of_item name_of_app apps need.0)
 
@@ -99,10 +102,12 @@ factor_data factor = object (
     member (codes "name") (string factor.name) (
     member (codes "values") (list_data (λ (name : List ℕ). string name) factor.values) no_members))
 
+-- the configuration that a rule is for, or `*` for any
 abbrev pub source_name : List Conf → Option ConfId → List ℕ
 source_name confs None = codes "*"
 source_name confs (Some c) = name_of_item name_of_conf confs c.0
 
+-- the name of a value of factor f
 abbrev pub name_of_value : List Factor → ℕ → ℕ → List ℕ
 name_of_value factors f value = option_map_or (λ (factor : Factor). name_of_item itself factor.values value) (slice_get factors f) []
 
@@ -157,6 +162,7 @@ assumption_data spec = object (
 abbrev pub start_data : Parts → Data
 start_data spec = string (name_of_item name_of_conf spec.confs spec.start.0)
 
+-- a specification of version 1, which retargets
 abbrev pub retarget_data : Parts → Data
 retarget_data spec = object (
     member (codes "apps") (list_data (app_data spec.apps) spec.apps) (
@@ -172,6 +178,7 @@ retarget_data spec = object (
     member (codes "scram") (count_data 1) (
     member (codes "start") (start_data spec) no_members))))))))))))
 
+-- a specification of version 2, which settles
 abbrev pub settle_data : Parts → Data
 settle_data spec = object (
     member (codes "apps") (list_data (app_data spec.apps) spec.apps) (
@@ -193,6 +200,7 @@ abbrev pub data_by : Policy → Parts → Data
 data_by Retarget spec = retarget_data spec
 data_by Settle spec = settle_data spec
 
+-- the canonical value of a specification
 abbrev pub spec_data : Parts → Data
 spec_data spec = data_by spec.policy spec
 
@@ -208,6 +216,7 @@ with_named spec ms =
     put (codes "apps") (list_data (app_data spec.apps) spec.apps) (
     put (codes "processors") (list_data proc_data spec.procs) ms)))
 
+-- the choice table, the bounds, the start and the goal
 abbrev pub with_table : Parts → Members → Members
 with_table spec ms =
     put (codes "goal") (goal_data spec.goal) (
@@ -215,12 +224,14 @@ with_table spec ms =
     put (codes "bounds") (list_data (bound_data spec.confs) spec.bounds) (
     put (codes "rules") (list_data (choice_data spec) spec.rules) ms)))
 
+-- the intervals and the failure assumption
 abbrev pub with_limits : Parts → Members → Members
 with_limits spec ms =
     put (codes "assumption") (assumption_data spec) (
     put (codes "preconditions") (list_data (precondition_data spec) spec.preconditions) (
     put (codes "invariants") (list_data (invariant_data spec) spec.invariants) ms))
 
+-- the version, and the policy where it is not to retarget
 abbrev pub with_version : Policy → Members → Members
 with_version Retarget ms = put (codes "scram") (count_data 1) ms
 with_version Settle ms = put (codes "scram") (count_data 2) (put (codes "policy") (string (codes "settle")) ms)

@@ -17,6 +17,7 @@ pub record IsUnranked (count : ℕ) (app : AppSpec) : Type 0 where
   pub spelled : IsTrue (is_name app.name)
   pub writable : IsWritableApp app
 
+-- applications with their needs, before they are ranked
 pub record AreUnranked (apps : List AppSpec) : Type 0 where
   pub count : HasLength 1 8 apps
   pub differ : NamesDiffer name_of_app apps

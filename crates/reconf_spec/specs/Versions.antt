@@ -18,11 +18,13 @@ is_two_in scram = is_two (option_and_then as_u64 (option_and_then as_number scra
 abbrev pub is_second : Data → Bool
 is_second d = is_two_in (get (codes "scram") d)
 
+-- the members of version 1, in the order in which they are tested
 abbrev pub first_members : List (List ℕ)
 first_members =
     codes "scram" ∷ codes "processors" ∷ codes "apps" ∷ codes "configurations" ∷ codes "factors" ∷ codes "rules" ∷ codes "bounds"
     ∷ codes "start" ∷ codes "goal" ∷ codes "invariants" ∷ codes "preconditions" ∷ codes "assumption" ∷ []
 
+-- the members of version 2, in the order in which they are tested
 abbrev pub second_members : List (List ℕ)
 second_members =
     codes "scram" ∷ codes "processors" ∷ codes "apps" ∷ codes "configurations" ∷ codes "factors" ∷ codes "rules" ∷ codes "bounds"

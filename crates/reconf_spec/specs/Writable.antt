@@ -19,21 +19,26 @@ use Rattle.reconf_spec.specs.Facts.{IsVariable}
 abbrev pub NoneAgain : {A : Type 0} → (List A → A → Bool) → List A → Type 0
 NoneAgain {A} stands xs = AllAfter (λ (done : List A) (x : A). stands done x ≡ false) xs
 
+-- the mode stands among those before it
 abbrev pub lists_mode : List ModeSpec → ModeSpec → Bool
 lists_mode done listed = is_some (mode_in done listed.mode.0)
 
+-- the application stands among the needs before it
 abbrev pub lists_need : List AppId → AppId → Bool
 lists_need done need = is_named done need.0
 
+-- a value of the same factor is wanted before it
 abbrev pub lists_want : List Want → Want → Bool
 lists_want done want = wants_factor done want.factor.0
 
+-- the pair has a bound before it
 abbrev pub lists_pair : List Bound → Bound → Bool
 lists_pair done bound = is_some (bound_in done bound.from.0 bound.to.0)
 
 abbrev pub rank_of : AppSpec → ℕ
 rank_of app = app.rank
 
+-- an application that names no other and lists no mode twice
 pub record IsWritableApp (app : AppSpec) : Type 0 where
   pub needs : NoneAgain lists_need app.needs
   pub modes : NoneAgain lists_mode app.modes

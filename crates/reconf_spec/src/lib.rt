@@ -10,6 +10,7 @@ mod documents;
 mod factors;
 mod fault;
 mod intervals;
+pub mod laws;
 mod members;
 mod names;
 mod needs;

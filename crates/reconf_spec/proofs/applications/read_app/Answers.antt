@@ -1,4 +1,3 @@
-use Rattle.std.proofs.Common.{rules}
 use Rattle.reconf_spec.proofs.applications.read_app.Goals as goal
 
 pub returns-clause-fits : goal.returns-clause-fits
