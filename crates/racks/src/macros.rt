@@ -15,13 +15,25 @@ macro_rules! rack {
     }};
 }
 
-/// Eight racks, one for each processor, each with the boxes of all five kinds.
+/// Eight racks, one for each processor, each with the boxes of all five kinds. Where a processor is given, as
+/// `Some(number)`, and a box, its rack has that box in the autopilot's place.
 #[macro_export]
 macro_rules! racks {
     ($rt:expr) => {{
         let mut racks = Vec::new($rt.alloc());
         for _ in 0..8 {
             racks.push($crate::rack!($rt, $crate::Autopilot::new()))?;
+        }
+        racks
+    }};
+    ($rt:expr, $proc:expr, $first:expr) => {{
+        let mut racks = Vec::new($rt.alloc());
+        for proc in 0..8 {
+            if $proc == Some(proc) {
+                racks.push($crate::rack!($rt, $first))?;
+            } else {
+                racks.push($crate::rack!($rt, $crate::Autopilot::new()))?;
+            }
         }
         racks
     }};

@@ -2,6 +2,7 @@
 
 use crate::files::numbers;
 use app_model::{Rack, racks_fit};
+use more_apps::PlainAutopilot;
 use racks::racks;
 use scram_cli::scram;
 use scram_io::{MemFiles, MemSink};
@@ -11,14 +12,16 @@ use std::rt::HostRuntime;
 /// More bytes than any row puts.
 const ROOM: u32 = 200_000;
 
-/// Makes the boxes and calls the command: the status, and what was put.
+/// Makes the boxes and calls the command: the status, and what was put. The processor `plain` has the autopilot that
+/// remembers nothing.
 pub fn answer(
     rt: &HostRuntime,
     words: &[String],
     files: MemFiles,
     sink: MemSink,
+    plain: Option<u32>,
 ) -> io::Result<(u8, MemSink)> {
-    let racks = racks!(rt);
+    let racks = racks!(rt, plain, PlainAutopilot::new());
     let spares = racks!(rt);
     call(rt, words, files, sink, racks, spares)
 }
@@ -32,6 +35,12 @@ pub fn make_sink(rt: &HostRuntime, row: &str) -> io::Result<MemSink> {
         Ok(sink) => Ok(sink),
         Err(_) => Err(ErrorKind::OutOfMemory.into()),
     }
+}
+
+/// The processor that has the plain autopilot, where the row says so.
+pub fn plain_processor(rt: &HostRuntime, row: &str) -> io::Result<Option<u32>> {
+    let procs = numbers(rt.alloc(), row, "! plain ")?;
+    Ok(procs.first().copied())
 }
 
 fn call(

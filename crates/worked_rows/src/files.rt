@@ -1,7 +1,8 @@
 //! The files of a row. The first is a file of the data folder, changed as each line `~ PIECE => OTHER PIECE` says. The
 //! second has the lines that stand after `= `, and is not there where no line begins with `=`. Of lines `! read N`, `! put N` and `! room N`
 //! the first two name a call that fails, from 0, and the last the bytes that the sink has room for. Lines
-//! `! first N` and `! second N` let a file have so many bytes, with spaces at its end.
+//! `! first N` and `! second N` let a file have so many bytes, with spaces at its end, and `! plain N` gives processor N
+//! the autopilot that remembers nothing.
 
 use scram_io::MemFiles;
 use std::alloc::Global;

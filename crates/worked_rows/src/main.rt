@@ -7,7 +7,7 @@
 mod answers;
 mod files;
 
-use crate::answers::{answer, make_sink, print_answer};
+use crate::answers::{answer, make_sink, plain_processor, print_answer};
 use crate::files::{list_words, make_files};
 use std::{fs, io};
 
@@ -27,7 +27,8 @@ fn answer_row(rt: &HostRuntime, row: &str) -> io::Result<()> {
     let words = list_words(rt.alloc(), words)?;
     let files = make_files(rt, &words, rest)?;
     let sink = make_sink(rt, rest)?;
-    let (status, sink) = answer(rt, &words, files, sink)?;
+    let plain = plain_processor(rt, rest)?;
+    let (status, sink) = answer(rt, &words, files, sink, plain)?;
     print_answer(rt, sink.bytes(), frames)?;
     println!(rt; "status {status}\n")
 }
