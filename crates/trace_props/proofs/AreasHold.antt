@@ -9,6 +9,7 @@ use Rattle.scram_types.specs.Numbers.{word}
 use Rattle.scram_types.specs.Scripts.{ScriptParts}
 use Rattle.scram_types.specs.Specification.{IsSpec, Parts}
 use Rattle.scram_types.specs.Lookups.{conf_id}
+use Rattle.scram_types.proofs.Searches.{get_listed, length_listed}
 use Rattle.coverage_check.specs.Acceptance.{Accepts}
 use Rattle.frame_model.specs.Flights.{row_at, rows_of}
 use Rattle.frame_model.specs.Laws.{ReadsRowByRow}
@@ -16,7 +17,7 @@ use Rattle.frame_model.specs.Readings as readings
 use Rattle.trace_props.proofs.Courses.{CourseReading, CourseReading.Steady, CourseReading.Leaving, CourseReport, course_reading_before, course_report_at}
 use Rattle.trace_props.proofs.CourseAreas.{AreasKept}
 use Rattle.trace_props.specs.Properties.{KeepsSp4}
-use Rattle.trace_props.proofs.Lists.{each_append, each_option, get-listed_below, length-listed_below}
+use Rattle.trace_props.proofs.Lists.{each_append, each_option}
 use Rattle.trace_props.proofs.Intervals.{kept_of, ready_of, invariant_of, precondition_of, speaks_in}
 use Rattle.trace_props.proofs.Products.{build_of, course_of, plan_of}
 use Rattle.trace_props.specs.Judging.{lies_in}
@@ -26,14 +27,14 @@ use Rattle.trace_props.proofs.SameReports.{IsEnded, ended_each, reading_same, to
 module _ (spec : Parts) (sound : IsSpec spec) (accepts : Accepts spec) (kinds : KindsLie) (script : ScriptParts) (by_row : ReadsRowByRow)
     (areas : AreasKept (plan_of spec) (build_of spec) (course_of spec script) (laws_of spec) (area spec sound kinds script)) where
   row_count : length (rows_of spec script) ≡ script.frames
-  row_count = length-listed_below (row_at spec script) script.frames
+  row_count = length_listed (row_at spec script) script.frames
 
   inside_rows : (f : ℕ) (row : Row) → slice_get (rows_of spec script) f ≡ Some row → f < script.frames
   inside_rows f row there = rw row_count at (slice_get_within (rows_of spec script) f row there)
 
   row_is : (f : ℕ) (row : Row) → slice_get (rows_of spec script) f ≡ Some row → row ≡ row_at spec script f
   row_is f row there =
-      let at = get-listed_below (row_at spec script) script.frames f (inside_rows f row there) in
+      let at = get_listed (row_at spec script) script.frames f (inside_rows f row there) in
       let same : Some row ≡ Some (row_at spec script f) = sym there ∙ at in
       cc
 

@@ -22,10 +22,6 @@ use Rattle.trace_props.proofs.CourseRows.{IsBuilt}
 use Rattle.trace_props.proofs.Products.{build_of, plan_of}
 use Rattle.trace_props.proofs.Accepting.{app_known, conf_known, is_there, placed, some_on}
 
--- where a test holds of each number below n
-pub all_pass : (test : ℕ → Bool) (n : ℕ) → ((a : ℕ) → a < n → test a ≡ true) → all_below test n ≡ true
-all_pass test n h = each_all test n h
-
 same_self : (o : Option Place) → is_same_place o o ≡ true
 same_self None = refl
 same_self (Some p) = rw (equal_test p.mode.0 p.mode.0 refl, equal_test p.proc.0 p.proc.0 refl) refl
@@ -36,7 +32,7 @@ none_there (Some p) h = absurd (h p refl)
 
 -- places that agree below the number of applications agree
 same_places : (spec : Parts) → IsSpec spec → (i j : ConfId) → ((a : ℕ) → a < length spec.apps → place_of spec i a ≡ place_of spec j a) → is_same spec i j ≡ true
-same_places spec sound i j same = all_pass (λ a. is_same_place (place_of spec i a) (place_of spec j a)) 8 (λ a below. at a (low_or_high a (length spec.apps)))
+same_places spec sound i j same = each_all (λ a. is_same_place (place_of spec i a) (place_of spec j a)) 8 (λ a below. at a (low_or_high a (length spec.apps)))
   where
     past : (c : ConfId) (a : ℕ) → length spec.apps ≤ a → place_of spec c a ≡ None
     past c a high = none_there (place_of spec c a) (λ p e. let known = app_known spec sound c a p e in omega arith)

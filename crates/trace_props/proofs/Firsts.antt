@@ -150,10 +150,3 @@ least_span test i zero = λ g s. (let l = s.from in let m = s.up_to in absurd (o
 least_span test i (suc n) = by_test {A = Option ℕ} (IsLeastOf (InSpan test i (suc n))) (test i) (Some i) (least_from test (suc i) n)
     (λ passes. (record { from = omega arith; up_to = omega arith; passes = passes }, λ g s. s.from))
     (λ fails. least_moved (InSpan test (suc i) n) (InSpan test i (suc n)) (wider test i n) (λ g. narrower test i n g fails) (least_from test (suc i) n) (least_span test (suc i) n))
-
--- a search that goes on past a frame that does not pass
-pub least_passes : (test : ℕ → Bool) (n c : ℕ) → c < n → test c ≡ false → least_from test (c + 1) (n - (c + 1)) ≡ least_from test c (n - c)
-least_passes test n c below fails =
-    let e : n - c ≡ suc (n - (c + 1)) = omega arith in
-    let next : c + 1 ≡ suc c = omega arith in
-    rw (e, fails, next) refl

@@ -17,6 +17,7 @@ use Rattle.scram_types.proofs.Booleans.{and_left, and_right, and_true}
 use Rattle.scram_types.specs.Lookups.{place_of, kind_of_app}
 use Rattle.scram_types.specs.Searches.{all_below}
 use Rattle.scram_types.specs.Eights.{eight}
+use Rattle.scram_types.proofs.Searches.{each_all}
 use Rattle.dep_order.specs.Timetables.{halt_offset, halt_time, init_offset, init_time, prepare_time}
 use Rattle.app_model.specs.Areas.{AllTablesNarrow, AreaLies, Between, LawLiesAfterInit, LawLiesDuring, StartLiesAfterInit}
 use Rattle.app_model.specs.Bounds.{after_init, during}
@@ -29,7 +30,6 @@ use Rattle.frame_model.specs.Flights.{decided, state_after}
 use Rattle.frame_model.specs.Phases.{phase_at}
 use Rattle.frame_model.specs.States.{State, area_after, area_at, law_of, seen_by, start_area_at, start_area_of, zeros}
 use Rattle.frame_model.specs.Tasks as tasks
-use Rattle.trace_props.proofs.SameCourses.{all_pass}
 use Rattle.trace_props.proofs.Courses.{course_mode_at}
 use Rattle.trace_props.proofs.CourseRows.{CourseOrder, CourseOrder.Run, CourseOrder.Halt, CourseOrder.Hold, CourseOrder.Prepare, CourseOrder.Init, CourseOrder.Off, CourseAct.Ran, CourseAct.Halted, CourseAct.Held, CourseAct.Prepared, CourseAct.Initialised, CourseAct.Lost, course_phase, course_running_order, course_halting_order, course_preparing_order, course_initialising_order, course_order_in, course_act_of, course_acts_at}
 use Rattle.trace_props.specs.Judging.{lies_in}
@@ -72,7 +72,7 @@ abbrev pub area_test : (ℕ → ℤ × ℤ) → List ℤ → Bool
 area_test range area = all_below (λ i. lies_in (range i).0 (range i).1 (word area i)) 8
 
 pub area_is : (range : ℕ → ℤ × ℤ) (area : List ℤ) → AreaLies range area → area_test range area ≡ true
-area_is range area h = all_pass (λ i. lies_in (range i).0 (range i).1 (word area i)) 8 (λ i below. lies_is (range i).0 (range i).1 (word area i) (h i below))
+area_is range area h = each_all (λ i. lies_in (range i).0 (range i).1 (word area i)) 8 (λ i below. lies_is (range i).0 (range i).1 (word area i) (h i below))
 
 pub area_of : (range : ℕ → ℤ × ℤ) (area : List ℤ) → area_test range area ≡ true → (i : ℕ) → i < 8 → Between (range i) (word area i)
 area_of range area h i below = lies_of (range i).0 (range i).1 (word area i) (all_at (λ i. lies_in (range i).0 (range i).1 (word area i)) 8 h i below)

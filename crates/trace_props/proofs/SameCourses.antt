@@ -15,6 +15,7 @@ use Rattle.scram_types.specs.Bits.{count_below, bits_below}
 use Rattle.scram_types.proofs.BitSets.{no_bit}
 use Rattle.scram_types.specs.Searches.{all_below}
 use Rattle.scram_types.specs.Lookups.{opening_env}
+use Rattle.scram_types.proofs.Searches.{each_all}
 use Rattle.choice_table.specs.Environments.{factor_in, in_scope, is_up_in}
 use Rattle.fault_script.specs.Assumption as assumption
 use Rattle.fault_script.specs.Environments.{env_at}
@@ -53,13 +54,6 @@ opens spec script fits = made _ _ _ _ (let all = all_bits (length spec.procs) in
     sixth p q r s t u = rw (p, q, r, s, t, u) refl
 
 -- every environment of a script belongs to the specification
-pub all_pass : (test : ℕ → Bool) (n : ℕ) → ((a : ℕ) → a < n → test a ≡ true) → all_below test n ≡ true
-all_pass test zero h = refl
-all_pass test (suc n) h =
-    let before = all_pass test n (λ a below. h a (omega arith)) in
-    let here = h n (omega arith) in
-    rw (here, before) refl
-
 six_at : (spec : Parts) (script : ScriptParts) (f x : ℕ) → x < 6 → factor_in (env_at spec script f) x ≡ factor_at script x f
 six_at spec script f zero h = refl
 six_at spec script f (suc zero) h = refl
@@ -77,7 +71,7 @@ past_factors (y ∷ ys) (suc x) h = let before = past_factors ys x h in omega ar
 belongs : (spec : Parts) (script : ScriptParts) (f : ℕ) → Shows spec script f → is_env spec (env_at spec script f) ≡ true
 belongs spec script f shows =
     let low = below_test (env_at spec script f).up (2 ^ length spec.procs) shows.past in
-    let each = all_pass (has_value spec (env_at spec script f)) 6 (λ x below. has x below (none_or_some (slice_get spec.factors x))) in
+    let each = each_all (has_value spec (env_at spec script f)) 6 (λ x below. has x below (none_or_some (slice_get spec.factors x))) in
     rw (low, each) refl
   where
     has : (x : ℕ) → x < 6 → (slice_get spec.factors x ≡ None) ⊎ ((factor : Factor) × (slice_get spec.factors x ≡ Some factor)) → has_value spec (env_at spec script f) x ≡ true

@@ -9,13 +9,14 @@ use Rattle.scram_types.specs.Specification.{Parts}
 use Rattle.scram_types.proofs.Items.{first_part, next_part}
 use Rattle.scram_types.specs.Searches.{listed_below}
 use Rattle.scram_types.specs.Lookups.{conf_id}
+use Rattle.scram_types.proofs.Searches.{length_listed}
 use Rattle.frame_model.specs.declared.readings.Reading as told_readings
 use Rattle.frame_model.specs.declared.readings.Reading.TheVariants as told
 use Rattle.frame_model.specs.Flights.{row_at}
 use Rattle.frame_model.specs.Laws.{ReadsRowByRow}
 use Rattle.frame_model.specs.Readings as readings
 use Rattle.trace_props.proofs.Courses.{CourseReading, CourseReading.Steady, CourseReading.Leaving, CourseReport, course_arrive, course_read_row, course_reading_before, course_arrival, course_report_of, course_report_at}
-use Rattle.trace_props.proofs.Lists.{each_append, each_option, length-listed_below}
+use Rattle.trace_props.proofs.Lists.{each_append, each_option}
 use Rattle.trace_props.proofs.Products.{course_of, plan_of, runs_in_row}
 
 abbrev pub told_reading : CourseReading → told_readings.Reading
@@ -55,7 +56,7 @@ module _ (spec : Parts) (script : ScriptParts) where
     reading_same zero = refl
     reading_same (suc n) =
         (by_row spec (rows_below spec script n) (row_at spec script n)).0
-        ∙ ap (λ k. readings.read_row spec (readings.reading_of spec (rows_below spec script n)) k (row_at spec script n).acts) (length-listed_below (row_at spec script) n)
+        ∙ ap (λ k. readings.read_row spec (readings.reading_of spec (rows_below spec script n)) k (row_at spec script n).acts) (length_listed (row_at spec script) n)
         ∙ ap (λ rd. readings.read_row spec rd n (row_at spec script n).acts) (reading_same n)
         ∙ read_same n (course_reading_before (plan_of spec) (course_of spec script) n)
 
@@ -65,7 +66,7 @@ module _ (spec : Parts) (script : ScriptParts) where
     ended_more n =
         (by_row spec (rows_below spec script n) (row_at spec script n)).1
         ∙ ap (λ k. readings.ended spec (rows_below spec script n) ++ readings.as_list (readings.report_of spec (readings.reading_of spec (rows_below spec script n)) k (row_at spec script n).acts))
-        (length-listed_below (row_at spec script) n)
+        (length_listed (row_at spec script) n)
         ∙ ap (λ rd. readings.ended spec (rows_below spec script n) ++ readings.as_list (readings.report_of spec rd n (row_at spec script n).acts)) (reading_same n)
         ∙ ap (λ o. readings.ended spec (rows_below spec script n) ++ readings.as_list o) (report_same n (course_reading_before (plan_of spec) (course_of spec script) n))
 

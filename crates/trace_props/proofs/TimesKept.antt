@@ -17,6 +17,7 @@ use Rattle.scram_types.proofs.Naturals.{equal_test}
 use Rattle.scram_types.proofs.Options.{same_some}
 use Rattle.scram_types.proofs.Items.{first_part}
 use Rattle.scram_types.specs.Lookups.{conf_id}
+use Rattle.scram_types.proofs.Searches.{get_listed, length_listed}
 use Rattle.choice_table.specs.Choices.{choose}
 use Rattle.fault_script.specs.Assumption.{is_same_env}
 use Rattle.fault_script.specs.Environments.{env_at}
@@ -29,7 +30,7 @@ use Rattle.trace_props.proofs.Promises.{IsCourseAllAssured, CourseHasCause, IsCo
 use Rattle.trace_props.specs.Properties.{ChangesIn, FollowsAnother, KeepsSp2, KeepsSp3, KeepsSp5, env_in}
 use Rattle.trace_props.proofs.Areas.{reported_of}
 use Rattle.trace_props.proofs.GivenBounds.{given_most}
-use Rattle.trace_props.proofs.Lists.{each_append, each_option, get-listed_below, length-listed_below}
+use Rattle.trace_props.proofs.Lists.{each_append, each_option}
 use Rattle.trace_props.proofs.Products.{course_of, plan_of, settles_under}
 use Rattle.trace_props.proofs.SameReports.{IsEnded, ended_each, ended_place, reading_same, told_reading, told_report}
 
@@ -48,13 +49,13 @@ not_same v w h e = true_false (not (is_same_env v w)) h (rw (e, same_self w) ref
 
 module _ (spec : Parts) (script : ScriptParts) where
   row_there : (f : ℕ) → f < script.frames → slice_get (rows_of spec script) f ≡ Some (row_at spec script f)
-  row_there f inside = get-listed_below (row_at spec script) script.frames f inside
+  row_there f inside = get_listed (row_at spec script) script.frames f inside
 
   env_there : (f : ℕ) → f < script.frames → env_in (rows_of spec script) f ≡ Some (env_at spec script f)
   env_there f inside = ap (option_map (λ (row : Row). row.env)) (row_there f inside)
 
   row_count : length (rows_of spec script) ≡ script.frames
-  row_count = length-listed_below (row_at spec script) script.frames
+  row_count = length_listed (row_at spec script) script.frames
 
   change_there : (f : ℕ) → f < script.frames → course_changes_at (plan_of spec) (env_at spec script) f ≡ true → ChangesIn spec (rows_of spec script) f
   change_there zero inside h = absurd (true_false false h refl)

@@ -1,7 +1,6 @@
 //! Whether a reconfiguration began because the environment changed.
 
 ghost use Rattle.std.specs.Prelude.{◌≡◌, ◌+◌, ◌-◌};
-ghost use Rattle.scram_types.specs.Lookups.{opening_env};
 ghost use Rattle.scram_types.specs.Searches.{least_from};
 ghost use Rattle.fault_script.specs.Assumption.{is_same_env};
 ghost use Rattle.trace_props.specs.Judging.{causeless_at, changes_in, follows, has_cause, is_another_env, settles};
@@ -93,17 +92,7 @@ fn env_before(spec: &Spec, rows: &[Row], frame: usize) -> Option<Env>
 {
     match frame.checked_sub(1) {
         Some(before) => env_in(rows, before),
-        None => Some(opening_env(spec)),
-    }
-}
-
-// The environment that every flight opens in.
-fn opening_env(spec: &Spec) -> Env
-    ensures { result ≡ opening_env spec.now }
-{
-    Env {
-        up: ((1u16 << spec.procs.items().len()) - 1) as u8,
-        factors: [0; 6],
+        None => Some(spec.opening_env()),
     }
 }
 

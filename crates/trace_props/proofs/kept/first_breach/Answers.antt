@@ -1,6 +1,6 @@
 use Rattle.std.proofs.Common.{◌∙◌, ◌+◌, sym, arith}
+use Rattle.scram_types.proofs.Searches.{least_passes}
 use Rattle.trace_props.specs.Judging.{breaks_at}
-use Rattle.trace_props.proofs.Firsts.{least_passes}
 use Rattle.trace_props.proofs.kept.first_breach.Goals as goal
 
 pub loop-frame-preserved : goal.loop-frame-preserved

@@ -1,6 +1,6 @@
 use Rattle.std.proofs.Common.{◌∙◌, ◌+◌, sym, arith}
+use Rattle.scram_types.proofs.Searches.{least_passes}
 use Rattle.trace_props.specs.Judging.{chooses}
-use Rattle.trace_props.proofs.Firsts.{least_passes}
 use Rattle.trace_props.proofs.targets.first_choice.Goals as goal
 
 pub loop-frame-preserved : goal.loop-frame-preserved
