@@ -1,5 +1,5 @@
 -- Environments by number, and possible targets.
-use Rattle.std.proofs.Common.{◌≡◌, ℕ, suc, ◌+◌, ◌<◌, ◌≤◌, Bool, true, false, refl, arith, ap, sym, ◌∙◌, ◌^◌, List, [], ◌∷◌, length, set}
+use Rattle.std.proofs.Common.{◌≡◌, ℕ, suc, ◌+◌, ◌<◌, ◌≤◌, Bool, true, false, refl, arith, ap, sym, ◌∙◌, ◌^◌, List, [], ◌∷◌, length, set, subst}
 use Rattle.std.specs.Prelude.{◌&&◌, ◌||◌, ◌==◌, Some, None, if◌then◌else◌, nat_lt, slice_get}
 use Rattle.std.proofs.lemmas.Nat.{mul-le}
 use Rattle.std.proofs.lemmas.List.{get_or-set_other, get_or-set_same}
@@ -14,6 +14,7 @@ use Rattle.scram_types.specs.declared.specification.Choice.{Choice}
 use Rattle.scram_types.specs.Specification.{IsSpec, Parts}
 use Rattle.scram_types.specs.Searches.{any_below, first_below}
 use Rattle.scram_types.specs.Lookups.{conf_id}
+use Rattle.scram_types.proofs.BitSets.{bits_lt, has_bits}
 use Rattle.scram_types.proofs.Booleans.{and_left, and_right, by_bool, true_false, and_true}
 use Rattle.scram_types.proofs.Searches.{any_below_found, any_below_is, any_skip, below_none, first_found, none_below}
 use Rattle.scram_types.proofs.Options.{none_both, same_some}
@@ -24,8 +25,8 @@ use Rattle.choice_table.proofs.Digits.{most_combinations}
 use Rattle.choice_table.proofs.Inverses.{env_of-number_of, is_env, number_below}
 use Rattle.coverage_check.specs.declared.choosing.Demand.{Demand}
 use Rattle.coverage_check.specs.Choosing.{first_unmet_env, is_unmet, unmet_env_at}
-use Rattle.coverage_check.specs.Timing.{is_chosen_in, is_target}
-use Rattle.coverage_check.specs.TargetSets.{is_in}
+use Rattle.coverage_check.specs.Timing.{is_chosen_in, is_target, targets}
+use Rattle.coverage_check.specs.TargetSets.{AreTargets, is_in}
 
 pick_inside : (n : ℕ) (first : Bool) (x y : ConfId) → x.0 < n → y.0 < n → (if first then x else y).0 < n
 pick_inside n true x y a b = a
@@ -74,6 +75,16 @@ module _ (spec : Parts) (made : IsSpec spec) where
         scope = and_left (is_number_in_scope spec found.0) _ found.2;
         chosen = same_conf (choose spec i (numbered spec found.0)) j (equal _ j.0 (and_right (is_number_in_scope spec found.0) _ found.2));
       }
+
+  -- and so do the bits of all of them
+  pub are_targets : (i : ConfId) → i.0 < length spec.confs → AreTargets spec i (targets spec i)
+  are_targets i known = record {
+    only = λ j inside bit. target_tested i j (sym (has_bits (is_target spec i) (length spec.confs) j.0 inside) ∙ bit);
+    all = λ j target.
+        (let inside : j.0 < length spec.confs = subst (λ (k : ConfId). k.0 < length spec.confs) target.chosen (choose_inside i target.seen known) in
+        has_bits (is_target spec i) (length spec.confs) j.0 inside ∙ target_test i j target);
+    few = bits_lt (is_target spec i) (length spec.confs);
+  }
 
 -- environments in scope, one after another
 

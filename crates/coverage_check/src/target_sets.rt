@@ -3,7 +3,7 @@
 ghost use Rattle.std.specs.Prelude.{◌≡◌, ◌<◌, ◌≤◌, length, set, true, IfOk};
 ghost use Rattle.scram_types.specs.Specification.{IsSpec};
 ghost use Rattle.scram_types.specs.Bits.{bits_below};
-ghost use Rattle.coverage_check.specs.TargetSets.{HasAllTargets, HasTargets, is_in};
+ghost use Rattle.coverage_check.specs.TargetSets.{AreTargets, HasAllTargets, HasTargets, is_in};
 ghost use Rattle.coverage_check.specs.Timing.{targets};
 
 use crate::places::count_confs;
@@ -17,15 +17,16 @@ pub(crate) struct TargetSet {
     tests: [bool; 12],
 }
 
-/// The possible targets of configuration `i` as bits: the configurations that the table chooses from it
-/// in some environment in scope.
+/// The possible targets of configuration `i` as bits: bit `j` is set exactly where the table chooses `j`
+/// from it in some environment in scope, and no other bit is set.
 ///
 /// # Errors
 ///
 /// Want of memory.
 pub fn targets(_alloc: Global, spec: &Spec, i: ConfId) -> Result<u16, NoMemory>
     requires { i.0 < length spec.now.confs }
-    ensures { IfOk result (λ set. set ≡ targets spec.now i) }
+    ensures set { IfOk result (λ set. set ≡ targets spec.now i) }
+    ensures members { IfOk result (λ set. AreTargets spec.now i set) }
 {
     let count = count_confs(spec);
     Ok(bits_of(&find_targets(spec, i.0), count))

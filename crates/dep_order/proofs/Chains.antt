@@ -5,7 +5,7 @@ use Rattle.std.specs.Prelude.{◌&&◌, if◌then◌else◌}
 use Rattle.scram_types.proofs.Booleans.{true_false}
 use Rattle.scram_types.proofs.Naturals.{below_or_at}
 use Rattle.scram_types.proofs.Searches.{greatest_most, greatest_reached, greatest_within, greatest_zero}
-use Rattle.dep_order.specs.Chains.{Chain, Chart, HasFirst, IsOffset, chain_time, longest, step}
+use Rattle.dep_order.specs.Chains.{Chain, Chart, HasFirst, IsOffset, chain_time, longest, time_added}
 
 -- what goes before has the higher rank, and ranks are below 8
 pub record IsRanked (chart : Chart) (rank : ℕ → ℕ) : Type 0 where
@@ -26,8 +26,8 @@ module _ (chart : Chart) (rank : ℕ → ℕ) (ranked : IsRanked chart rank) whe
   chain_most zero a (b ∷ bs) short h = absurd (omega arith)
   chain_most (suc links) a (b ∷ bs) short h =
       let rest = chain_most links b bs (omega arith) h.3 in
-      let here = greatest_most (step chart (longest chart links) a) chart.apps b h.0 in
-      let value : step chart (longest chart links) a b ≡ chart.time b + longest chart links b = rw (h.1, h.2) refl in
+      let here = greatest_most (time_added chart (longest chart links) a) chart.apps b h.0 in
+      let value : time_added chart (longest chart links) a b ≡ chart.time b + longest chart links b = rw (h.1, h.2) refl in
       omega arith
 
   chain_short : (a : ℕ) (bs : List ℕ) → a < chart.apps → Chain chart bs a → length bs + rank a < 8
@@ -43,7 +43,7 @@ module _ (chart : Chart) (rank : ℕ → ℕ) (ranked : IsRanked chart rank) whe
 
   chain_reached : (links a : ℕ) → (bs : List ℕ) × Chain chart bs a × (chain_time chart bs ≡ longest chart links a)
   chain_reached zero a = ([], tt, refl)
-  chain_reached (suc links) a = elim (greatest_reached (step chart (longest chart links) a) chart.apps) [
+  chain_reached (suc links) a = elim (greatest_reached (time_added chart (longest chart links) a) chart.apps) [
     | inl z ↦ ([], tt, sym z)
     | inr r ↦ elim (by_if (chart.on r.0) (chart.before r.0 a) (chart.time r.0 + longest chart links r.0)) [
       | inl z ↦ ([], tt, sym (r.2 ∙ z))
@@ -115,7 +115,7 @@ module _ (chart : Chart) (rank : ℕ → ℕ) (ranked : IsRanked chart rank) whe
 
   top_zero : (links : ℕ) → (t : Top chart.apps) → longest chart links t.app ≡ 0
   top_zero zero t = refl
-  top_zero (suc links) t = greatest_zero (step chart (longest chart links) t.app) chart.apps (λ b less.
+  top_zero (suc links) t = greatest_zero (time_added chart (longest chart links) t.app) chart.apps (λ b less.
       elim (by_if (chart.on b) (chart.before b t.app) (chart.time b + longest chart links b)) [
         | inl z ↦ z
         | inr r ↦ (let rises = ranked.falls b t.app r.1 in let h = t.highest b less r.0 in absurd (omega arith))
@@ -131,7 +131,7 @@ module _ (chart : Chart) (rank : ℕ → ℕ) (ranked : IsRanked chart rank) whe
   -- with times of at most 16 frames, a chain above rank r sums to at most 16 times (7 - r)
   pub longest_ranked : ((b : ℕ) → b < chart.apps → chart.time b ≤ 16) → (links a : ℕ) → a < chart.apps → longest chart links a ≤ 112 - 16 * rank a
   longest_ranked few zero a known = omega arith
-  longest_ranked few (suc links) a known = greatest_within (step chart (longest chart links) a) chart.apps (112 - 16 * rank a) (λ b less.
+  longest_ranked few (suc links) a known = greatest_within (time_added chart (longest chart links) a) chart.apps (112 - 16 * rank a) (λ b less.
       elim (by_if (chart.on b) (chart.before b a) (chart.time b + longest chart links b)) [
         | inl z ↦ rw (z) (omega arith)
         | inr r ↦ (

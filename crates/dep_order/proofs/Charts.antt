@@ -3,7 +3,7 @@ use Rattle.std.proofs.Common.{◌≡◌, ℕ, zero, suc, ◌+◌, ◌*◌, ◌<�
 use Rattle.std.specs.Prelude.{◌&&◌, if◌then◌else◌}
 use Rattle.scram_types.proofs.Searches.{greatest_same, greatest_within}
 use Rattle.scram_types.specs.Searches.{greatest_below}
-use Rattle.dep_order.specs.Chains.{Chart, longest, offset, step}
+use Rattle.dep_order.specs.Chains.{Chart, longest, offset, time_added}
 
 -- charts that agree
 
@@ -16,9 +16,9 @@ pub record Agree (one other : Chart) : Type 0 where
 same_longest : (one other : Chart) → Agree one other → (links a : ℕ) → longest one links a ≡ longest other links a
 same_longest one other agree zero a = refl
 same_longest one other agree (suc links) a =
-    greatest_same (step one (longest one links) a) (step other (longest other links) a) one.apps
+    greatest_same (time_added one (longest one links) a) (time_added other (longest other links) a) one.apps
     (λ b less. rw (agree.on b less, agree.before b a, agree.time b less, same_longest one other agree links b) refl)
-    ∙ ap (greatest_below (step other (longest other links) a)) agree.apps
+    ∙ ap (greatest_below (time_added other (longest other links) a)) agree.apps
 
 pub same_offset : (one other : Chart) → Agree one other → (a : ℕ) → offset one a ≡ offset other a
 same_offset one other agree a = same_longest one other agree 8 a
@@ -29,16 +29,16 @@ if_most : (test : Bool) (x most : ℕ) → x ≤ most → (if test then x else 0
 if_most true x most h = h
 if_most false x most h = omega arith
 
-pub step_most : (chart : Chart) (summed : ℕ → ℕ) (most a b : ℕ) → chart.time b ≤ 16 → summed b ≤ most → step chart summed a b ≤ most + 16
+pub step_most : (chart : Chart) (summed : ℕ → ℕ) (most a b : ℕ) → chart.time b ≤ 16 → summed b ≤ most → time_added chart summed a b ≤ most + 16
 step_most chart summed most a b few sum = if_most (chart.on b && chart.before b a) (chart.time b + summed b) (most + 16) (omega arith)
 
 pub longest_most : (chart : Chart) → ((b : ℕ) → b < chart.apps → chart.time b ≤ 16) → (links a : ℕ) → longest chart links a ≤ 16 * links
 longest_most chart few zero a = omega arith
 longest_most chart few (suc links) a =
-    let all = greatest_within (step chart (longest chart links) a) chart.apps (16 * links + 16)
+    let all = greatest_within (time_added chart (longest chart links) a) chart.apps (16 * links + 16)
     (λ b less. step_most chart (longest chart links) (16 * links) a b (few b less) (longest_most chart few links b)) in
     omega arith
 
 pub step_greatest : (chart : Chart) (f g : ℕ → ℕ) (a : ℕ) → ((b : ℕ) → b < chart.apps → f b ≡ g b)
-    → greatest_below (step chart f a) chart.apps ≡ greatest_below (step chart g a) chart.apps
-step_greatest chart f g a same = greatest_same (step chart f a) (step chart g a) chart.apps (λ b less. rw (same b less) refl)
+    → greatest_below (time_added chart f a) chart.apps ≡ greatest_below (time_added chart g a) chart.apps
+step_greatest chart f g a same = greatest_same (time_added chart f a) (time_added chart g a) chart.apps (λ b less. rw (same b less) refl)

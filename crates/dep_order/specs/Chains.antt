@@ -10,13 +10,13 @@ pub record Chart : Type 0 where
   pub time : ℕ → ℕ
 
 -- What an application that is on and goes before a adds: its own time and what was summed up to it.
-abbrev pub step : Chart → (ℕ → ℕ) → ℕ → ℕ → ℕ
-step chart summed a b = if chart.on b && chart.before b a then chart.time b + summed b else 0
+abbrev pub time_added : Chart → (ℕ → ℕ) → ℕ → ℕ → ℕ
+time_added chart summed a b = if chart.on b && chart.before b a then chart.time b + summed b else 0
 
 -- The greatest sum of times along chains of at most `links` applications that go before a.
 abbrev pub longest : Chart → ℕ → ℕ → ℕ
 longest chart zero a = 0
-longest chart (suc links) a = greatest_below (step chart (longest chart links) a) chart.apps
+longest chart (suc links) a = greatest_below (time_added chart (longest chart links) a) chart.apps
 
 -- No chain has more applications than there are ranks.
 abbrev pub offset : Chart → ℕ → ℕ

@@ -19,7 +19,7 @@ use Rattle.frame_model.specs.declared.phases.Phase.{Phase}
 use Rattle.frame_model.specs.declared.phases.Phase.TheVariants.{Running, Halting, Preparing, Initialising}
 use Rattle.frame_model.specs.declared.tasks.Task.{Task}
 use Rattle.frame_model.specs.Phases.{phase_at}
-use Rattle.frame_model.specs.States.{State, has_arrived, act_after, act_on, acts_in, area_after, area_at, area_on, areas_in, keeper_after, keeper_at, keeper_on, keepers_in, law_of, mode_in, row_of, step, step_with, world_in}
+use Rattle.frame_model.specs.States.{State, has_arrived, act_after, act_on, acts_in, area_after, area_at, area_on, areas_in, keeper_after, keeper_at, keeper_on, keepers_in, law_of, row_of, step, step_with, world_in, mode_decided}
 use Rattle.frame_model.specs.Tasks.{halting_order, initialising_order, preparing_order, task_for, task_in}
 
 pub Exists : Parts → Option ProcId → Type 0
@@ -85,10 +85,10 @@ row_with spec f v state mode acts areas = record { frame = f; env = v; mode = mo
 
 pub row_same : (spec : Parts) → IsSpec spec → (f : ℕ) (v : Env) (s t : ℕ → Bool) (state : State) → Agree spec s t → row_of spec f v s state ≡ row_of spec f v t state
 row_same spec facts f v s t state agree =
-    ap (λ acts. row_with spec f v state (mode_in spec f v state) acts (areas_in spec v s state (phase_at spec (mode_in spec f v state) f)))
-    (acts_same spec facts s t (phase_at spec (mode_in spec f v state) f) agree)
-    ∙ ap (λ areas. row_with spec f v state (mode_in spec f v state) (acts_in spec (phase_at spec (mode_in spec f v state) f) t) areas)
-    (areas_same spec facts v s t state (phase_at spec (mode_in spec f v state) f) agree)
+    ap (λ acts. row_with spec f v state (mode_decided spec f v state) acts (areas_in spec v s state (phase_at spec (mode_decided spec f v state) f)))
+    (acts_same spec facts s t (phase_at spec (mode_decided spec f v state) f) agree)
+    ∙ ap (λ areas. row_with spec f v state (mode_decided spec f v state) (acts_in spec (phase_at spec (mode_decided spec f v state) f) t) areas)
+    (areas_same spec facts v s t state (phase_at spec (mode_decided spec f v state) f) agree)
 
 abbrev state_with : Parts → Row → List (Option ProcId) → State
 state_with spec row keepers = record { mode = row.mode; arrived = has_arrived spec row; areas = row.areas; keepers = keepers; world = row.world }
@@ -96,4 +96,4 @@ state_with spec row keepers = record { mode = row.mode; arrived = has_arrived sp
 pub step_same : (spec : Parts) → IsSpec spec → (f : ℕ) (v : Env) (s t : ℕ → Bool) (state : State) → Agree spec s t → step spec f v s state ≡ step spec f v t state
 step_same spec facts f v s t state agree =
     ap (λ row. step_with spec s state row) (row_same spec facts f v s t state agree)
-    ∙ ap (state_with spec (row_of spec f v t state)) (keepers_same spec facts s t state (phase_at spec (mode_in spec f v state) f) agree)
+    ∙ ap (state_with spec (row_of spec f v t state)) (keepers_same spec facts s t state (phase_at spec (mode_decided spec f v state) f) agree)

@@ -16,7 +16,7 @@ use Rattle.frame_model.specs.declared.systems.Sys.{Sys}
 use Rattle.frame_model.specs.Frames.{commits_in, committing, env_of, row_given, state_of, sys_after, up_after}
 use Rattle.frame_model.specs.Outcomes.{act_made, area_made, keeper_made}
 use Rattle.frame_model.specs.Phases.{phase_at}
-use Rattle.frame_model.specs.States.{acts_in, areas_in, has_arrived, keepers_in, mode_in, shown, world_in}
+use Rattle.frame_model.specs.States.{acts_in, areas_in, has_arrived, keepers_in, world_in, mode_decided, seen_by_all}
 
 pub acts_are : (spec : Parts) (sys : Sys) (input : Input) (phase told : Phase) (set : ℕ) (acts : List Act)
     → told ≡ phase → set ≡ committing sys input → acts ≡ eight (act_made spec told set) → acts ≡ acts_in spec phase (commits_in sys input)
@@ -24,7 +24,7 @@ acts_are spec sys input phase told set acts is_phase is_set is =
     is ∙ ap (λ p. eight (act_made spec p set)) is_phase ∙ ap (λ s. eight (act_made spec phase s)) is_set
 
 pub areas_are : (spec : Parts) (sys : Sys) (input : Input) (env : Env) (phase told : Phase) (seen : Seen) (set : ℕ) (areas : List (List ℤ))
-    → told ≡ phase → set ≡ committing sys input → seen ≡ shown spec env (state_of sys) → areas ≡ eight (area_made spec sys told set seen)
+    → told ≡ phase → set ≡ committing sys input → seen ≡ seen_by_all spec env (state_of sys) → areas ≡ eight (area_made spec sys told set seen)
     → areas ≡ areas_in spec env (commits_in sys input) (state_of sys) phase
 areas_are spec sys input env phase told seen set areas is_phase is_set is_seen is =
     is ∙ ap (λ p. eight (area_made spec sys p set seen)) is_phase ∙ ap (λ s. eight (area_made spec sys phase s seen)) is_set
@@ -39,7 +39,7 @@ abbrev row_made : Sys → Env → KMode → List Act → List (List ℤ) → Wor
 row_made sys env mode acts areas world = record { frame = sys.frame; env = env; mode = mode; acts = acts; areas = areas; world = world }
 
 pub frame_row : (spec : Parts) (sys : Sys) (input : Input) (env : Env) (mode : KMode) (acts : List Act) (areas : List (List ℤ)) (world : World)
-    → env ≡ env_of sys input → mode ≡ mode_in spec sys.frame env (state_of sys) → acts ≡ acts_in spec (phase_at spec mode sys.frame) (commits_in sys input)
+    → env ≡ env_of sys input → mode ≡ mode_decided spec sys.frame env (state_of sys) → acts ≡ acts_in spec (phase_at spec mode sys.frame) (commits_in sys input)
     → areas ≡ areas_in spec env (commits_in sys input) (state_of sys) (phase_at spec mode sys.frame) → world ≡ world_in spec sys.world areas
     → row_made sys env mode acts areas world ≡ row_given spec sys input
 frame_row spec sys input env mode acts areas world is_env is_mode is_acts is_areas is_world =

@@ -12,7 +12,7 @@ use Rattle.scram_types.proofs.Eights.{eight_at}
 use Rattle.fault_script.specs.Environments.{env_at}
 use Rattle.fault_script.specs.Times.{commits}
 use Rattle.frame_model.specs.Flights.{is_proc, slot_after, state_after, task_given}
-use Rattle.frame_model.specs.Laws.{AreasAreKept, IsKept}
+use Rattle.frame_model.specs.Laws.{AreasAreKept, IsSlotOfKeeper}
 use Rattle.frame_model.specs.States.{area_after, area_at, area_on, keeper_after, keeper_at, keeper_on, law_of, start_area_at, start_area_of, start_keeper_of, zeros}
 
 itself : (p : ℕ) → (p == p) ≡ true
@@ -32,29 +32,29 @@ slot_stays c made slot proc q lost = elim (same_or_not proc.0 q) [
   | inr other ↦ rw (differ_test proc.0 q other) (idle (c q) (slot q))
 ]
 
-stays : (keeper : Option ProcId) (area : List ℤ) (slot next : ℕ → List ℤ) → ((q : ℕ) → next q ≡ slot q) → IsKept keeper area slot → IsKept keeper area next
+stays : (keeper : Option ProcId) (area : List ℤ) (slot next : ℕ → List ℤ) → ((q : ℕ) → next q ≡ slot q) → IsSlotOfKeeper keeper area slot → IsSlotOfKeeper keeper area next
 stays None area slot next same kept = kept
 stays (Some proc) area slot next same kept = kept ∙ sym (same proc.0)
 
 takes : (c : ℕ → Bool) (made : List ℤ) (slot : ℕ → List ℤ) (proc : ProcId) → c proc.0 ≡ true → made ≡ slot_next c made slot (Some proc) proc.0
 takes c made slot proc in_time = rw (in_time, itself proc.0) refl
 
-placed_kept : (c : ℕ → Bool) (keeper : Option ProcId) (made old : List ℤ) (slot : ℕ → List ℤ) (proc : ProcId) (b : Bool) → c proc.0 ≡ b → IsKept keeper old slot
-    → IsKept (if b then Some proc else keeper) (if b then made else old) (slot_next c made slot (Some proc))
+placed_kept : (c : ℕ → Bool) (keeper : Option ProcId) (made old : List ℤ) (slot : ℕ → List ℤ) (proc : ProcId) (b : Bool) → c proc.0 ≡ b → IsSlotOfKeeper keeper old slot
+    → IsSlotOfKeeper (if b then Some proc else keeper) (if b then made else old) (slot_next c made slot (Some proc))
 placed_kept c keeper made old slot proc true is kept = takes c made slot proc is
 placed_kept c keeper made old slot proc false is kept = stays keeper old slot (slot_next c made slot (Some proc)) (λ q. slot_stays c made slot proc q is) kept
 
-kept_more : (c : ℕ → Bool) (keeper : Option ProcId) (made old : List ℤ) (slot : ℕ → List ℤ) (proc : Option ProcId) → IsKept keeper old slot
-    → IsKept (keeper_on c keeper proc) (area_on c made old proc) (slot_next c made slot proc)
+kept_more : (c : ℕ → Bool) (keeper : Option ProcId) (made old : List ℤ) (slot : ℕ → List ℤ) (proc : Option ProcId) → IsSlotOfKeeper keeper old slot
+    → IsSlotOfKeeper (keeper_on c keeper proc) (area_on c made old proc) (slot_next c made slot proc)
 kept_more c keeper made old slot None kept = refl
 kept_more c keeper made old slot (Some proc) kept = placed_kept c keeper made old slot proc (c proc.0) refl kept
 
 start_kept : (spec : Parts) (a : ℕ) (place : Option Place)
-    → IsKept (option_map (λ (p : Place). p.proc) place) (start_area_at spec a place) (λ p. if is_proc p (option_map (λ (q : Place). q.proc) place) then start_area_at spec a place else zeros)
+    → IsSlotOfKeeper (option_map (λ (p : Place). p.proc) place) (start_area_at spec a place) (λ p. if is_proc p (option_map (λ (q : Place). q.proc) place) then start_area_at spec a place else zeros)
 start_kept spec a None = refl
 start_kept spec a (Some place) = rw (itself place.proc.0) refl
 
-kept_at : {keeper keeper2 : Option ProcId} {area area2 : List ℤ} (slot : ℕ → List ℤ) → keeper2 ≡ keeper → area2 ≡ area → IsKept keeper area slot → IsKept keeper2 area2 slot
+kept_at : {keeper keeper2 : Option ProcId} {area area2 : List ℤ} (slot : ℕ → List ℤ) → keeper2 ≡ keeper → area2 ≡ area → IsSlotOfKeeper keeper area slot → IsSlotOfKeeper keeper2 area2 slot
 kept_at slot same_keeper same_area kept = rw (same_keeper, same_area) kept
 
 pub areas_kept : AreasAreKept

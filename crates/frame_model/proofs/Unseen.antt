@@ -12,7 +12,7 @@ use Rattle.fault_script.specs.Environments.{env_at}
 use Rattle.fault_script.specs.Laws.{AgreeUpTo, LaterIsUnseen as ScriptUnseen}
 use Rattle.fault_script.specs.Times.{commits}
 use Rattle.frame_model.specs.Flights.{state_after}
-use Rattle.frame_model.specs.Laws.{LaterIsUnseen}
+use Rattle.frame_model.specs.Laws.{LaterIsUnseenInRows}
 use Rattle.frame_model.specs.States.{row_of, step}
 
 narrow_one : {A : Type 0} (frame : A → ℕ) (f g : ℕ) (x : A) (all some : List A) (b : Bool) → g ≤ f → nat_le (frame x) f ≡ b
@@ -47,7 +47,7 @@ states_same unseen spec one other f agree (suc n) le =
     ∙ ap (λ v. step spec n v (λ p. commits spec one p n) (state_after spec other n)) seen.0
     ∙ ap (λ c. step spec n (env_at spec other n) c (state_after spec other n)) (fun_ext seen.1)
 
-pub unseen_later : ScriptUnseen → LaterIsUnseen
+pub unseen_later : ScriptUnseen → LaterIsUnseenInRows
 unseen_later unseen spec one other f agree =
     let seen = unseen spec one other f agree in (
       ap (row_of spec f (env_at spec one f) (λ p. commits spec one p f)) (states_same unseen spec one other f agree f (omega arith))

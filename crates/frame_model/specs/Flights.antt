@@ -12,7 +12,7 @@ use Rattle.fault_script.specs.Environments.{env_at}
 use Rattle.fault_script.specs.Times.{commits}
 use Rattle.frame_model.specs.declared.tasks.Task.{Task}
 use Rattle.frame_model.specs.Readings.{reports}
-use Rattle.frame_model.specs.States.{State, law_of, mode_in, row_of, start_area_of, start_keeper_of, start_state, step, zeros}
+use Rattle.frame_model.specs.States.{State, law_of, row_of, start_area_of, start_keeper_of, start_state, step, zeros, mode_decided}
 use Rattle.frame_model.specs.Tasks.{task_of}
 
 -- The state after the first f frames.
@@ -22,7 +22,7 @@ state_after spec script (suc f) = step spec f (env_at spec script f) (λ p. comm
 
 -- The mode that is decided at the start of frame f, also of the frame after the last one.
 abbrev pub decided : Parts → ScriptParts → ℕ → KMode
-decided spec script f = mode_in spec f (env_at spec script f) (state_after spec script f)
+decided spec script f = mode_decided spec f (env_at spec script f) (state_after spec script f)
 
 -- The row of frame f.
 abbrev pub row_at : Parts → ScriptParts → ℕ → Row

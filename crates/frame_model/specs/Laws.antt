@@ -25,18 +25,18 @@ use Rattle.frame_model.specs.Runs.{runs}
 use Rattle.frame_model.specs.States.{area_at, keeper_at, zeros}
 
 -- An area is the slot of its keeper, and zeros without a keeper.
-abbrev pub IsKept : Option ProcId → List ℤ → (ℕ → List ℤ) → Type 0
-IsKept None area slot = area ≡ zeros
-IsKept (Some proc) area slot = area ≡ slot proc.0
+abbrev pub IsSlotOfKeeper : Option ProcId → List ℤ → (ℕ → List ℤ) → Type 0
+IsSlotOfKeeper None area slot = area ≡ zeros
+IsSlotOfKeeper (Some proc) area slot = area ≡ slot proc.0
 
 -- After each frame the area of each application equals its slot in its keeper's image.
 abbrev pub AreasAreKept : Type 0
 AreasAreKept = (spec : Parts) (script : ScriptParts) (f a : ℕ) → a < 8
-    → IsKept (keeper_at (state_after spec script f).keepers a) (area_at (state_after spec script f).areas a) (λ p. slot_after spec script p f a)
+    → IsSlotOfKeeper (keeper_at (state_after spec script f).keepers a) (area_at (state_after spec script f).areas a) (λ p. slot_after spec script p f a)
 
 -- Where two scripts say the same up to frame f, frame f has the same row and leaves the same state.
-abbrev pub LaterIsUnseen : Type 0
-LaterIsUnseen = (spec : Parts) (one other : ScriptParts) (f : ℕ) → AgreeUpTo f one other
+abbrev pub LaterIsUnseenInRows : Type 0
+LaterIsUnseenInRows = (spec : Parts) (one other : ScriptParts) (f : ℕ) → AgreeUpTo f one other
     → (row_at spec one f ≡ row_at spec other f) × (state_after spec one (suc f) ≡ state_after spec other (suc f))
 
 -- A processor halts in a frame below f.

@@ -57,8 +57,8 @@ abbrev pub lead_of : Parts → List (List ℤ) → ℕ → List ℤ
 lead_of spec areas kind = lead_among spec.apps areas kind
 
 -- What all applications see: what stood at the end of the frame before, and the frame's factors.
-abbrev pub shown : Parts → Env → State → Seen
-shown spec v state = record {
+abbrev pub seen_by_all : Parts → Env → State → Seen
+seen_by_all spec v state = record {
   mode = record { 0 = 0 };
   own = zeros;
   lead = eight (lead_of spec state.areas);
@@ -72,7 +72,7 @@ abbrev pub seen_in : Seen → Mode → List ℤ → Seen
 seen_in seen mode own = record seen { mode = mode; own = own }
 
 abbrev pub seen_by : Parts → Env → State → Mode → ℕ → Seen
-seen_by spec v state mode a = seen_in (shown spec v state) mode (area_at state.areas a)
+seen_by spec v state mode a = seen_in (seen_by_all spec v state) mode (area_at state.areas a)
 
 -- The area that a task makes of what its application sees.
 abbrev pub law_of : Parts → Env → State → Task → ℕ → List ℤ
@@ -125,8 +125,8 @@ abbrev pub world_in : Parts → World → List (List ℤ) → World
 world_in spec world areas = step_of world (word (lead_of spec areas 1) 1) (word (lead_of spec areas 1) 2)
 
 -- The decision at the start of frame f, on the frame's environment.
-abbrev pub mode_in : Parts → ℕ → Env → State → KMode
-mode_in spec f v state = decision spec f state.mode (is_settled spec state.mode (f - 1)) state.arrived v
+abbrev pub mode_decided : Parts → ℕ → Env → State → KMode
+mode_decided spec f v state = decision spec f state.mode (is_settled spec state.mode (f - 1)) state.arrived v
 
 -- The row of frame f, with the mode that was decided.
 abbrev pub row_in : Parts → ℕ → Env → (ℕ → Bool) → State → KMode → Row
@@ -140,7 +140,7 @@ row_in spec f v commits state mode = record {
 }
 
 abbrev pub row_of : Parts → ℕ → Env → (ℕ → Bool) → State → Row
-row_of spec f v commits state = row_in spec f v commits state (mode_in spec f v state)
+row_of spec f v commits state = row_in spec f v commits state (mode_decided spec f v state)
 
 -- Frame f was settled, and its row ran the target: two facts.
 abbrev pub has_arrived : Parts → Row → Bool

@@ -4,7 +4,7 @@ ghost use Rattle.std.specs.Prelude.{◌≡◌, ◌-◌};
 ghost use Rattle.frame_model.specs.Decisions.{leave_for, moving_decision, stable_decision, turn_to, wanted};
 ghost use Rattle.frame_model.specs.Frames.{state_of};
 ghost use Rattle.frame_model.specs.Phases.{is_past};
-ghost use Rattle.frame_model.specs.States.{mode_in};
+ghost use Rattle.frame_model.specs.States.{mode_decided};
 
 use crate::phases::{halting_frames, is_past};
 use crate::systems::Sys;
@@ -30,7 +30,7 @@ struct Move {
 /// only the target changes while something halts; after that the old target halts where it was settled,
 /// and nothing halts where it was not. It takes no memory.
 pub fn decide(spec: &Spec, sys: &Sys, env: &Env) -> KMode
-    ensures { result ≡ mode_in spec.now sys.now.frame env.now (state_of sys.now) }
+    ensures { result ≡ mode_decided spec.now sys.now.frame env.now (state_of sys.now) }
 {
     match sys.mode {
         KMode::Stable(c) => decide_stable(spec, c, sys.frame, env),

@@ -7,7 +7,7 @@ ghost use Rattle.scram_types.specs.Eights.{eight};
 ghost use Rattle.app_model.specs.Racks.{RacksFit};
 ghost use Rattle.frame_model.specs.Frames.{committing, env_of, row_given, state_of, sys_after, up_after};
 ghost use Rattle.frame_model.specs.Phases.{is_running, is_settled, phase_at};
-ghost use Rattle.frame_model.specs.States.{has_arrived, lead_of, shown, world_in};
+ghost use Rattle.frame_model.specs.States.{has_arrived, lead_of, world_in, seen_by_all};
 
 use crate::acts::runs;
 use crate::decisions::decide;
@@ -34,7 +34,7 @@ pub fn frame(spec: &Spec, sys: &mut Sys, input: &Input, racks: &mut [Rack]) -> R
     let env = env_of(sys, input);
     let mode = decide(spec, sys, &env);
     let stage = stage_at(spec, &mode, sys.frame);
-    let seen = shown(spec, sys, &env);
+    let seen = seen_by_all(spec, sys, &env);
     let setting = Setting {
         seen,
         committing: committing(sys, input),
@@ -87,8 +87,8 @@ fn up_after(sys: &Sys, input: &Input) -> u8
     (sys.up | input.back) & !(input.early | input.late)
 }
 
-fn shown(spec: &Spec, sys: &Sys, env: &Env) -> Seen
-    ensures { result ≡ shown spec.now env.now (state_of sys.now) }
+fn seen_by_all(spec: &Spec, sys: &Sys, env: &Env) -> Seen
+    ensures { result ≡ seen_by_all spec.now env.now (state_of sys.now) }
 {
     let lead = leads(spec, &sys.areas);
     let factors = env.factors;

@@ -1,6 +1,6 @@
 //! What the words of this crate's contracts come to: each function's contract is a law.
 
-ghost use Rattle.frame_model.specs.Laws.{AreasAreKept, BeginningsAreRead, HaltsLastWithoutRestarts, LaterIsUnseen, ReadsReconfigurations, ReadsRowByRow, RetargetChoosesAnew, SettlesWithItsPhases};
+ghost use Rattle.frame_model.specs.Laws.{AreasAreKept, BeginningsAreRead, HaltsLastWithoutRestarts, ReadsReconfigurations, ReadsRowByRow, RetargetChoosesAnew, SettlesWithItsPhases, LaterIsUnseenInRows};
 
 /// After each frame the area of each application equals its slot in the image of its keeper, and is
 /// zeros where it has none.
@@ -9,8 +9,8 @@ pub fn areas_are_kept()
 {}
 
 /// Nothing of a frame depends on what the script says of later frames.
-pub fn later_is_unseen()
-    ensures { LaterIsUnseen }
+pub fn later_is_unseen_in_rows()
+    ensures { LaterIsUnseenInRows }
 {
     fault_script::laws::later_is_unseen();
 }

@@ -3,7 +3,7 @@ use Rattle.std.proofs.Common.{◌≡◌, refl, ℕ, List, [], ◌∷◌, length}
 use Rattle.std.specs.Prelude.{replicate}
 use Rattle.scram_types.specs.declared.scripts.Change.{Change}
 use Rattle.mission_gen.specs.Blocks.{random}
-use Rattle.mission_gen.specs.Changes.{changes_by, frames_of, halt_of, last_block}
+use Rattle.mission_gen.specs.Changes.{changes_by, frames_of, last_block, generated_halt}
 use Rattle.mission_gen.specs.Turns.{turns_to}
 
 abbrev change : ℕ → ℕ → ℕ → Change
@@ -21,14 +21,14 @@ changes_0 : first_changes 0 6
     ≡ change 60 0 1 ∷ change 126 0 0 ∷ change 187 0 1 ∷ change 187 3 1 ∷ change 244 1 1 ∷ change 364 1 0 ∷ change 364 4 1 ∷ change 366 0 0 ∷ []
 changes_0 = refl
 
-halt_0 : halt_of 0 ≡ record { proc = record { 0 = 0 }; frame = 306; step = 25 }
+halt_0 : generated_halt 0 ≡ record { proc = record { 0 = 0 }; frame = 306; step = 25 }
 halt_0 = refl
 
 changes_1 : first_changes 1 3
     ≡ change 66 0 1 ∷ change 74 1 1 ∷ change 120 0 0 ∷ change 124 1 0 ∷ change 184 1 1 ∷ change 184 3 1 ∷ []
 changes_1 = refl
 
-halt_999999 : halt_of 999999 ≡ record { proc = record { 0 = 1 }; frame = 307; step = 22 }
+halt_999999 : generated_halt 999999 ≡ record { proc = record { 0 = 1 }; frame = 307; step = 22 }
 halt_999999 = refl
 
 -- the shortest script has 16 blocks

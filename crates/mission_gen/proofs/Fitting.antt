@@ -9,7 +9,7 @@ use Rattle.scram_types.specs.declared.specification.Factor.{Factor}
 use Rattle.scram_types.specs.Specification.{Each, Parts}
 use Rattle.fault_script.specs.Fits.{AtMostTwice, ChangeBefore, EachLater, EachNext, Fits, HaltBefore, IsChange, IsHalt}
 use Rattle.fault_script.proofs.Ends.{each_later_none, each_next_none, each_none}
-use Rattle.mission_gen.specs.Changes.{change_by, changes_by, count_of_values, frames_of, generated_script, halt_of, last_block, value_by, values_by}
+use Rattle.mission_gen.specs.Changes.{change_by, changes_by, count_of_values, frames_of, generated_script, last_block, value_by, values_by, generated_halt}
 use Rattle.mission_gen.specs.Turns.{Turn, turns_to}
 use Rattle.mission_gen.proofs.Ordering.{AreTurns, IsTurn, Precedes, Sorted, turns_kept}
 
@@ -122,15 +122,15 @@ script_fits spec n counts =
       changes_ordered = changes_sorted (replicate 6 0) (turns_to n k) kept.sorted;
       halts_count = omega arith;
       halts =
-          each_cons (IsHalt spec (frames_of n)) (halt_of n) []
+          each_cons (IsHalt spec (frames_of n)) (generated_halt n) []
           (record { proc = omega (arith, counts.procs); frame = omega arith; step = omega (arith, counts.apps) })
           (each_none (IsHalt spec (frames_of n)));
-      halts_ordered = next_of_one HaltBefore (halt_of n);
+      halts_ordered = next_of_one HaltBefore (generated_halt n);
       restarts_count = omega arith;
       restarts = each_none _;
       restarts_ordered = each_next_none _;
       restarts_once = each_later_none _;
       restarts_late = each_none _;
-      halts_twice = once_of_one (halt_of n);
-      halts_again = later_of_one _ (halt_of n);
+      halts_twice = once_of_one (generated_halt n);
+      halts_again = later_of_one _ (generated_halt n);
     }

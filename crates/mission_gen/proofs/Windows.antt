@@ -18,7 +18,7 @@ use Rattle.fault_script.specs.Environments.{env_at}
 use Rattle.fault_script.specs.Times.{factors_at, is_up, value_after}
 use Rattle.fault_script.proofs.Halts.{up_by_lists}
 use Rattle.mission_gen.specs.Blocks.{alternator, delay, first_frame, random, turns_both}
-use Rattle.mission_gen.specs.Changes.{changes_by, changes_of, frames_of, generated_script, halt_of, last_block, value_by, values_by}
+use Rattle.mission_gen.specs.Changes.{changes_by, changes_of, frames_of, generated_script, last_block, value_by, values_by, generated_halt}
 use Rattle.mission_gen.specs.Turns.{Turn, turn, turns_in, turns_to}
 use Rattle.mission_gen.proofs.Fitting.{HasCounts}
 
@@ -173,21 +173,21 @@ turned_at : (n f : ℕ) (ts : List Turn) → AreEvents n ts → turns_at f ts �
 turned_at n f [] events found = absurd cc
 turned_at n f (t ∷ ts) events found = turned_here n f t ts (t.frame == f) refl events.0 (λ later. turned_at n f ts events.1 later) found
 
-halted_at : (n f : ℕ) → (halt_of n).frame ≡ f → IsEvent n (suc f)
+halted_at : (n f : ℕ) → (generated_halt n).frame ≡ f → IsEvent n (suc f)
 halted_at n f is = record { block = 5; which = inr (omega (arith, is)) }
 
 changed_is_event : (spec : Parts) (n f : ℕ) → is_change_frame spec (generated_script n) f ≡ true → IsEvent n f
 changed_is_event spec n zero changed = absurd cc
-changed_is_event spec n (suc f) changed = by_tests (turns_at (suc f) ts) refl ((halt_of n).frame == f) refl
+changed_is_event spec n (suc f) changed = by_tests (turns_at (suc f) ts) refl ((generated_halt n).frame == f) refl
   where
     ts : List Turn
     ts = turns_to n (last_block (frames_of n))
 
-    by_tests : (turned : Bool) → turns_at (suc f) ts ≡ turned → (halted : Bool) → ((halt_of n).frame == f) ≡ halted → IsEvent n (suc f)
+    by_tests : (turned : Bool) → turns_at (suc f) ts ≡ turned → (halted : Bool) → ((generated_halt n).frame == f) ≡ halted → IsEvent n (suc f)
     by_tests true is halted at = turned_at n (suc f) ts (turns_are_events n (last_block (frames_of n))) is
-    by_tests false is true at = halted_at n f (equal (halt_of n).frame f at)
+    by_tests false is true at = halted_at n f (equal (generated_halt n).frame f at)
     by_tests false is false at =
-        let same = same_env _ _ (env_kept spec (frames_of n) ts (halt_of n) f is at) in
+        let same = same_env _ _ (env_kept spec (frames_of n) ts (generated_halt n) f is at) in
         let kept : is_change_frame spec (generated_script n) (suc f) ≡ false = ap not same in
         let both : false ≡ true = sym kept ∙ changed in
         absurd cc
@@ -283,7 +283,7 @@ pub script_is_within : (spec : Parts) (n : ℕ) → HasCounts spec → IsWithin 
 script_is_within spec n counts = record {
   scope = λ f inside.
       subst (λ (p : ℕ). down_below (generated_script n) f p ≤ spec.halts) (sym counts.procs)
-      (let few = few_down (frames_of n) (changes_of n (frames_of n)) (halt_of n) f in omega (arith, few, counts.halts));
+      (let few = few_down (frames_of n) (changes_of n (frames_of n)) (generated_halt n) f in omega (arith, few, counts.halts));
   few = λ f inside.
       subst (λ (w : ℕ). changes_upto spec (generated_script n) f ≤ changes_upto spec (generated_script n) (f - w) + spec.changes + 1) (sym counts.window)
       (let most = few_changes spec n f in omega (arith, most, counts.changes));

@@ -47,13 +47,13 @@ abbrev pub changes_of : ℕ → ℕ → List Change
 changes_of n frames = changes_by (replicate 6 0) (turns_to n (last_block frames))
 
 -- the halt in the fifth block
-abbrev pub halt_of : ℕ → HaltAt
-halt_of n = record { proc = record { 0 = n % 2 }; frame = first_frame 5 (random n 5); step = random n 5 % 26 }
+abbrev pub generated_halt : ℕ → HaltAt
+generated_halt n = record { proc = record { 0 = n % 2 }; frame = first_frame 5 (random n 5); step = random n 5 % 26 }
 
 abbrev pub generated_script : ℕ → ScriptParts
 generated_script n = record {
   frames = frames_of n;
   changes = changes_of n (frames_of n);
-  halts = halt_of n ∷ [];
+  halts = generated_halt n ∷ [];
   restarts = [];
 }

@@ -6,7 +6,7 @@ ghost use Rattle.fault_script.specs.Assumption.{IsWithin};
 ghost use Rattle.fault_script.specs.Fits.{Fits};
 ghost use Rattle.reconf_spec.specs.Documents.{spec_of};
 ghost use Rattle.reconf_spec.specs.Texts.{spec_text};
-ghost use Rattle.mission_gen.specs.Changes.{frames_of, generated_script, halt_of};
+ghost use Rattle.mission_gen.specs.Changes.{frames_of, generated_script, generated_halt};
 ghost use Rattle.mission_gen.specs.Specifications.{GivesSpecification, generated_text, uav_text, with_further_factors};
 
 use crate::random::{first_frame, random};
@@ -48,8 +48,8 @@ fn count_frames(n: u32) -> u32
 }
 
 /// The halt in the fifth block.
-fn make_halt(n: u32) -> HaltAt
-    ensures { result ≡ halt_of n }
+fn generated_halt(n: u32) -> HaltAt
+    ensures { result ≡ generated_halt n }
 {
     let x = random(n, 5);
     HaltAt {
@@ -65,7 +65,7 @@ fn make_script(alloc: Global, n: u32) -> Result<Script, NoMemory>
     let frames = count_frames(n);
     let changes = make_changes(alloc, n, frames)?;
     let mut halts = Vec::new(alloc);
-    halts.push(make_halt(n))?;
+    halts.push(generated_halt(n))?;
     Ok(Script {
         frames,
         changes: List::of(changes),

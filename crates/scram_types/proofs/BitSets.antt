@@ -7,7 +7,7 @@ use Rattle.std.proofs.Math.Nat.{div-eq_of_lt, pow-le-pow_right, pow-suc}
 use Rattle.std.proofs.lemmas.Nat.{and_le_l, mod-pow-add, mod_below, one_shl, or_comm, or_lt, or_shifted}
 use Rattle.std.proofs.lemmas.Nat.Bits.{bit_at_and, bit_at_cat_high, bit_at_cat_low, bit_at_not, bit_at_or, same_from_bits_below}
 use Rattle.scram_types.specs.Bits.{bits_below, count_below, has_bit}
-use Rattle.scram_types.proofs.Naturals.{below_or_at}
+use Rattle.scram_types.proofs.Naturals.{below_or_at, differ_test, equal_test}
 
 pub twice : (n : ℕ) → 2 ^ suc n ≡ 2 ^ n + 2 ^ n
 twice n = pow-suc 2 n ∙ omega arith
@@ -129,3 +129,33 @@ count_most test (suc n) = let before = count_most test n in let here = bit_most 
 pub count_same : (f g : ℕ → Bool) (n : ℕ) → ((k : ℕ) → k < n → f k ≡ g k) → count_below f n ≡ count_below g n
 count_same f g zero same = refl
 count_same f g (suc n) same = rw (same n (omega arith), count_same f g n (λ k less. same k (omega arith))) refl
+
+rises_by : (s t : ℕ → Bool) (n : ℕ) (a b : Bool) → s n ≡ a → t n ≡ b → count_below s n + bit_of a < count_below t n + bit_of b
+    → (count_below s n < count_below t n → (k : ℕ) × (k < n) × (s k ≡ false) × (t k ≡ true)) → (k : ℕ) × (k < suc n) × (s k ≡ false) × (t k ≡ true)
+rises_by s t n false true e f more before = (n, omega arith, e, f)
+rises_by s t n false false e f more before = let found = before (omega arith) in (found.0, omega arith, found.2, found.3)
+rises_by s t n true b e f more before = let most = bit_most b in let found = before (omega arith) in (found.0, omega arith, found.2, found.3)
+
+-- where more numbers pass the second test, one passes it that does not pass the first
+pub count_rises : (s t : ℕ → Bool) (n : ℕ) → count_below s n < count_below t n → (k : ℕ) × (k < n) × (s k ≡ false) × (t k ≡ true)
+count_rises s t zero h = absurd (omega arith)
+count_rises s t (suc n) h = rises_by s t n (s n) (t n) refl refl h (count_rises s t n)
+
+last_more : (b t : Bool) (c : ℕ) → (b ≡ true → t ≡ false) → c + bit_of (b || t) ≡ (c + bit_of t) + bit_of b
+last_more true t c f = rw (f refl) (omega arith)
+last_more false t c f = omega arith
+
+-- a number more passes, where one that did not does now
+pub count_more : (s : ℕ → Bool) (q n : ℕ) (b : Bool) → q < n → (b ≡ true → s q ≡ false) → count_below (λ p. (q == p && b) || s p) n ≡ count_below s n + bit_of b
+count_more s q zero b less apart = absurd (omega arith)
+count_more s q (suc n) b less apart = elim (below_or_at q n less) [
+  | inl earlier ↦ rw (differ_test q n (λ e. omega arith), count_more s q n b earlier apart) (omega arith)
+  | inr last ↦ (
+      let same : count_below (λ p. (q == p && b) || s p) n ≡ count_below s n =
+      count_same (λ p. (q == p && b) || s p) s n (λ p low. rw (differ_test q p (λ e. omega arith)) refl) in
+      rw (equal_test q n last, same) (last_more b (s n) (count_below s n) (λ t. sym (ap s last) ∙ apart t)))
+]
+
+pub count_none : (n : ℕ) → count_below (λ p. false) n ≡ 0
+count_none zero = refl
+count_none (suc n) = rw (count_none n) refl

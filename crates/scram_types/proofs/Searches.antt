@@ -2,6 +2,7 @@
 use Rattle.std.proofs.Common.{◌≡◌, ℕ, zero, suc, ◌+◌, ◌-◌, ◌<◌, ◌≤◌, Bool, true, false, refl, arith, ap, sym, ◌∙◌, ◌⊎◌, [], ◌∷◌, ◌++◌, length}
 use mathlib.Core.Logic.{inl, inr}
 use Rattle.std.specs.Prelude.{Option, Some, None, is_some, max, slice_get}
+use Rattle.std.specs.Option.{option_or}
 use Rattle.std.proofs.Math.Bool.{or-false}
 use Rattle.std.proofs.Math.ListN.{length-append}
 use Rattle.std.proofs.lemmas.Bool.{and_cases}
@@ -157,3 +158,13 @@ get_listed value (suc n) k h = elim (below_or_at k n h) [
   | inl low ↦ first_part (listed_below value n) (value n ∷ []) k (value k) (get_listed value n k low)
   | inr last ↦ rw last (ap (slice_get (listed_below value n ++ value n ∷ [])) (sym (length_listed value n)) ∙ next_part (listed_below value n) [] (value n))
 ]
+
+told_by : {A : Type 0} (answer : ℕ → Option A) (n : ℕ) (x : A) (o : Option A) → first_below answer n ≡ o → option_or o (answer n) ≡ Some x
+    → (first_below answer n ≡ Some x → (k : ℕ) × (k < n) × (first_below answer k ≡ None) × (answer k ≡ Some x)) → (k : ℕ) × (k < suc n) × (first_below answer k ≡ None) × (answer k ≡ Some x)
+told_by answer n x (Some y) is told before = let found = before (is ∙ told) in (found.0, omega arith, found.2, found.3)
+told_by answer n x None is told before = (n, omega arith, is, told)
+
+-- the first answer, and where it is given
+pub first_told : {A : Type 0} (answer : ℕ → Option A) (n : ℕ) (x : A) → first_below answer n ≡ Some x → (k : ℕ) × (k < n) × (first_below answer k ≡ None) × (answer k ≡ Some x)
+first_told answer zero x e = some_none x (sym e)
+first_told answer (suc n) x e = told_by answer n x (first_below answer n) refl e (first_told answer n x)

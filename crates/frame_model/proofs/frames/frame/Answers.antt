@@ -8,7 +8,7 @@ returns-clause-row g c =
     c.perform_all-outcomes.result.acts c.perform_all-outcomes.result.areas c.world_after-world.result
     c.env_of-env.ensures c.decide-mode.ensures
     (acts_are c.args.spec.now c.args.sys.now c.args.input.now _ c.stage_at-stage.result.phase c.committing.result _ c.stage_at-stage.ensures.phase c.committing.ensures outcomes.acts)
-    (areas_are c.args.spec.now c.args.sys.now c.args.input.now c.env_of-env.result _ c.stage_at-stage.result.phase c.shown-seen.result c.committing.result _ c.stage_at-stage.ensures.phase c.committing.ensures c.shown-seen.ensures outcomes.areas)
+    (areas_are c.args.spec.now c.args.sys.now c.args.input.now c.env_of-env.result _ c.stage_at-stage.result.phase c.seen_by_all-seen.result c.committing.result _ c.stage_at-stage.ensures.phase c.committing.ensures c.seen_by_all-seen.ensures outcomes.areas)
     c.world_after-world.ensures
 
 pub returns-clause-after : goal.returns-clause-after
