@@ -16,7 +16,7 @@ pub outside_end : (spec : Parts) (script : ScriptParts) (f : ℕ) (o : Option Ou
     → first_outside spec script ≡ o
 outside_end spec script f o last before here = rw (ap (first_below (outside_at spec script)) (sym last) ∙ before) here
 
-two_tests : (a b : Bool) (x y : Outside) → (if a then Some x else (if b then Some y else None)) ≡ None → (a ≡ false) × (b ≡ false)
+pub two_tests : (a b : Bool) (x y : Outside) → (if a then Some x else (if b then Some y else None)) ≡ None → (a ≡ false) × (b ≡ false)
 two_tests true b x y e = some_none x e
 two_tests false true x y e = some_none y e
 two_tests false false x y e = (refl, refl)
@@ -57,7 +57,7 @@ upto_after spec script f w = by_side (nat_le w f) refl
         let b : suc f - w ≡ 0 = omega arith in
         rw (a, b) (omega arith)
 
-start_up : (script : ScriptParts) (n : ℕ) → down_below script 0 n ≡ 0
+pub start_up : (script : ScriptParts) (n : ℕ) → down_below script 0 n ≡ 0
 start_up script zero = refl
 start_up script (suc n) = rw (start_up script n) refl
 

@@ -16,3 +16,4 @@ pub mod Taken
 pub mod TextSizes
 pub mod Unseen
 pub mod Walking
+pub mod HaltFrames

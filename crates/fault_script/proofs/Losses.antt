@@ -24,7 +24,7 @@ use Rattle.fault_script.proofs.Halts.{between, up_after_each_halt}
 next_frame : (a b : HaltAt) → HaltBefore a b → a.frame ≤ b.frame
 next_frame a b before = elim before [ inl less ↦ omega arith | inr same ↦ (let e = same.0 in omega arith) ]
 
-later_frame : (halts : List HaltAt) → EachNext HaltBefore halts → (i d : ℕ) (x y : HaltAt) → slice_get halts i ≡ Some x → slice_get halts (i + d) ≡ Some y → x.frame ≤ y.frame
+pub later_frame : (halts : List HaltAt) → EachNext HaltBefore halts → (i d : ℕ) (x y : HaltAt) → slice_get halts i ≡ Some x → slice_get halts (i + d) ≡ Some y → x.frame ≤ y.frame
 later_frame halts ordered i zero x y first second =
     let plain : i + 0 ≡ i = omega arith in
     let same : x ≡ y = same_some x y (sym first ∙ ap (slice_get halts) (sym plain) ∙ second) in

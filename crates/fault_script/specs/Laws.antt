@@ -1,5 +1,5 @@
 -- What environments over time keep.
-use Rattle.std.specs.Prelude.{◌≡◌, ◌⊎◌, ℕ, suc, ◌<◌, ◌≤◌, ◌^◌, true, false, nat_le, filter, length, slice_get, Some}
+use Rattle.std.specs.Prelude.{◌≡◌, ◌⊎◌, ℕ, suc, ◌<◌, ◌≤◌, ◌^◌, true, false, nat_le, [], filter, length, slice_get, Some}
 use Rattle.std.specs.Int.{bit_at}
 use Rattle.scram_types.specs.declared.scripts.Change.{Change}
 use Rattle.scram_types.specs.declared.scripts.HaltAt.{HaltAt}
@@ -7,6 +7,8 @@ use Rattle.scram_types.specs.declared.scripts.RestartAt.{RestartAt}
 use Rattle.scram_types.specs.declared.specification.Factor.{Factor}
 use Rattle.scram_types.specs.Scripts.{ScriptParts}
 use Rattle.scram_types.specs.Specification.{IsSpec, Parts}
+use Rattle.fault_script.specs.declared.assumption.OutsideKind.TheVariants as kind
+use Rattle.fault_script.specs.Assumption.{first_outside}
 use Rattle.fault_script.specs.Times.{commits, factor_at, halts_in, is_up, restarted}
 use Rattle.fault_script.specs.Environments.{env_at}
 use Rattle.fault_script.specs.Fits.{Fits}
@@ -49,3 +51,11 @@ pub record AgreeUpTo (f : ℕ) (one other : ScriptParts) : Type 0 where
 abbrev pub LaterIsUnseen : Type 0
 LaterIsUnseen = (spec : Parts) (one other : ScriptParts) (f : ℕ) → AgreeUpTo f one other
     → (env_at spec one f ≡ env_at spec other f) × ((p : ℕ) → commits spec one p f ≡ commits spec other p f)
+
+-- Where too many processors are down, the frame that is shown is one in which a processor halts, and without restarts
+-- it is the frame of halt number `halts + 1` in the script's order.
+abbrev pub TooManyDownShowsAHalt : Type 0
+TooManyDownShowsAHalt = (spec : Parts) (script : ScriptParts) → Fits spec script
+    → (f : ℕ) → first_outside spec script ≡ Some (record { frame = f; kind = kind.Halts })
+    → ((p : ℕ) × (p < length spec.procs) × (halts_in script p f ≡ true))
+    × (script.restarts ≡ [] → (halt : HaltAt) × (slice_get script.halts spec.halts ≡ Some halt) × (halt.frame ≡ f))

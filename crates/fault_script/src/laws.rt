@@ -1,6 +1,6 @@
 //! What the environments of a script keep over time: each function's contract is a law.
 
-ghost use Rattle.fault_script.specs.Laws.{EnvironmentsShow, HaltsShow, LaterIsUnseen, LossesShow, UpAfterEachHalt};
+ghost use Rattle.fault_script.specs.Laws.{EnvironmentsShow, HaltsShow, LaterIsUnseen, LossesShow, TooManyDownShowsAHalt, UpAfterEachHalt};
 
 /// Who halts in a frame is down in the environment of the next one, where the script fits.
 pub fn halts_show()
@@ -27,4 +27,10 @@ pub fn environments_show()
 /// Nothing of a frame depends on what the script says of later frames.
 pub fn later_is_unseen()
     ensures { LaterIsUnseen }
+{}
+
+/// Where [`within`](crate::within) answers that too many processors are down, a processor halts in the
+/// frame that it shows; without restarts it is the frame of halt number `halts + 1`, in the script's order.
+pub fn too_many_down_shows_a_halt()
+    ensures { TooManyDownShowsAHalt }
 {}
