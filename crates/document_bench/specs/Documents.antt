@@ -1,8 +1,8 @@
 -- Two documents, read and written.
-use Rattle.std.specs.Prelude.{◌≡◌, ◌++◌, ℕ, List, Option, Ok, codes}
+use Rattle.std.specs.Prelude.{◌≡◌, ◌++◌, ℕ, List, [], Ok, codes}
 use Rattle.scram_types.specs.Scripts.{ScriptParts}
 use Rattle.scram_types.specs.Specification.{Parts}
-use Rattle.scram_io.specs.Outside.{Took}
+use Rattle.scram_io.specs.Outside.{SinkState, taken}
 use Rattle.reconf_spec.specs.Documents.{spec_of}
 use Rattle.reconf_spec.specs.Texts.{spec_text}
 use Rattle.fault_script.specs.Reading.{script_of}
@@ -17,9 +17,10 @@ pub record IsRead (spec_bytes script_bytes : List ℕ) (spec : Parts) (script : 
 abbrev pub texts : Parts → ScriptParts → List ℕ
 texts spec script = spec_text spec ++ codes "\n" ++ script_text spec script ++ codes "\n"
 
--- What was taken grew by the canonical texts of what the bytes are.
-pub record IsPrinted (spec_bytes script_bytes : List ℕ) (old new : Option (List ℕ)) : Type 0 where
+-- The canonical texts of what the bytes are went out, after all that was taken before.
+pub record IsPrinted (spec_bytes script_bytes : List ℕ) (old new : SinkState) : Type 0 where
   pub spec : Parts
   pub script : ScriptParts
   pub reads : IsRead spec_bytes script_bytes spec script
-  pub took : Took old new (texts spec script)
+  pub sent : new.sent ≡ taken old ++ texts spec script
+  pub held : new.held ≡ []

@@ -1,7 +1,7 @@
 //! Two documents, read and written.
 
-ghost use Rattle.std.specs.Prelude.{◌≡◌, IfOk, OnOk};
-ghost use Rattle.scram_io.specs.Outside.{GivesFile};
+ghost use Rattle.std.specs.Prelude.{◌≡◌, ◌∷◌, [], IfOk, OnOk};
+ghost use Rattle.scram_io.specs.Outside.{Grew};
 ghost use Rattle.document_bench.specs.Documents.{IsPrinted, IsRead, texts};
 
 use fault_script::{MAX_SCRIPT_BYTES, ScriptError, read_script, write_script};
@@ -33,7 +33,7 @@ pub fn load<'a, F: Files>(
     files: &mut F,
     name: &'a str,
 ) -> Result<Vec<u8>, Refusal<'a>>
-    ensures { IfOk result (λ bytes. GivesFile (F.told files.old) name.now bytes.items) }
+    ensures { IfOk result (λ bytes. Grew (F.state files.old) (F.state files.new) ((name.now, bytes.items) ∷ [])) }
 {
     match files.read(alloc, name, MAX_SCRIPT_BYTES) {
         Ok(bytes) => Ok(bytes),
@@ -62,7 +62,7 @@ pub fn read<'a>(alloc: Global, spec: &[u8], script: &[u8]) -> Result<(Spec, Scri
     }
 }
 
-/// Reads both documents once, writes them so many times, and at least once, and puts their canonical texts.
+/// Reads both documents once, writes them so many times, and at least once, and has their canonical texts go out.
 pub fn print<'a, K: Sink>(
     alloc: Global,
     spec: &[u8],
@@ -70,7 +70,7 @@ pub fn print<'a, K: Sink>(
     times: u32,
     out: &mut K,
 ) -> Result<(), Refusal<'a>>
-    ensures { OnOk result (IsPrinted spec.now script.now (K.taken out.old) (K.taken out.new)) }
+    ensures { OnOk result (IsPrinted spec.now script.now (K.state out.old) (K.state out.new)) }
 {
     let (spec, script) = read(alloc, spec, script)?;
     for _ in 1..times {
@@ -78,6 +78,7 @@ pub fn print<'a, K: Sink>(
     }
     let text = write(alloc, &spec, &script)?;
     out.put(&text)?;
+    out.flush()?;
     Ok(())
 }
 

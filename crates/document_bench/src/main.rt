@@ -8,6 +8,7 @@ mod documents;
 
 use crate::documents::{Refusal, load, print, read};
 use scram_io::{RealFiles, RealSink};
+use scram_types::NoMemory;
 use std::process::ExitCode;
 use std::{env, io};
 
@@ -38,7 +39,11 @@ fn answer<'a>(rt: &HostRuntime, words: &'a [String]) -> Result<(), Refusal<'a>> 
     let spec = load(alloc, &mut files, spec.as_str())?;
     let script = load(alloc, &mut files, script.as_str())?;
     if purpose.as_str() == "write" {
-        return print(alloc, &spec, &script, times, &mut RealSink::new(rt));
+        let mut out = match RealSink::new(alloc, rt) {
+            Ok(out) => out,
+            Err(_) => return Err(Refusal::Memory(NoMemory)),
+        };
+        return print(alloc, &spec, &script, times, &mut out);
     }
     for _ in 0..times {
         read(alloc, &spec, &script)?;

@@ -4,15 +4,15 @@
 
 use app_model::racks_fit;
 use racks::racks;
-use scram_cli::{Status, scram};
-use scram_io::{RealFiles, RealSink};
-use std::alloc::AllocError;
+use scram_cli::run_program;
 use std::env;
 use std::io::{self, ErrorKind};
 use std::process::ExitCode;
 
 /// The status where memory is wanting before the command is called; nothing is printed then.
 const NO_MEMORY: u8 = 9;
+/// The status where the boxes that the program makes are not those of the kinds, which its line says.
+const UNFIT_RACKS: u8 = 1;
 
 fn main(rt: HostRuntime) -> ExitCode {
     let words = match words(&rt) {
@@ -22,21 +22,21 @@ fn main(rt: HostRuntime) -> ExitCode {
         Err(_) => return ExitCode::from(NO_MEMORY),
     };
     match answer(&rt, &words) {
-        Ok(status) => ExitCode::from(status.code),
+        Ok(code) => ExitCode::from(code),
         Err(_) => ExitCode::from(NO_MEMORY),
     }
 }
 
-/// Makes the boxes, and does what the words ask for.
-fn answer(rt: &HostRuntime, words: &[String]) -> Result<Status, AllocError> {
+/// Makes the boxes, and does what the words ask for: the status.
+fn answer(rt: &HostRuntime, words: &[String]) -> io::Result<u8> {
     let racks = racks!(rt);
     let spares = racks!(rt);
     if !racks_fit(&racks) || !racks_fit(&spares) {
-        return Ok(Status { code: NO_MEMORY });
+        println!(rt; "refused: racks")?;
+        return Ok(UNFIT_RACKS);
     }
-    let mut files = RealFiles::new(rt);
-    let mut out = RealSink::new(rt);
-    Ok(scram(rt, words, &mut files, &mut out, racks, spares))
+    let (status, _files, _out) = run_program(rt, words, racks, spares)?;
+    Ok(status.code)
 }
 
 /// The words after the program's name.

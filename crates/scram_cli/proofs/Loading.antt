@@ -1,143 +1,110 @@
 -- What is answered of the files that were loaded.
-use Rattle.std.proofs.Common.{◌≡◌, ℕ, ◌≤◌, List, [], ◌∷◌, refl, sym, inl, inr, ◌⊎◌}
-use Rattle.std.specs.Prelude.{Option, Some, None, IfSome}
+use Rattle.std.proofs.Common.{◌≡◌, ℕ, List, [], ◌∷◌, refl, inl, inr, ◌⊎◌}
+use Rattle.std.specs.Prelude.{Some, ⊤}
 use Rattle.scram_types.specs.Scripts.{ScriptParts}
 use Rattle.scram_types.specs.declared.flights.Flown.{Flown}
 use Rattle.scram_types.specs.Specification.{Parts}
 use Rattle.scram_doc.specs.declared.fault.DocFault.{DocFault}
-use Rattle.scram_io.specs.Outside.{FileMap, Unrisen}
+use Rattle.scram_io.specs.Outside.{FilesState, Grew, History, SinkState}
 use Rattle.coverage_check.specs.Acceptance.{first_refusal}
-use Rattle.mission_gen.specs.Changes.{generated_script}
+use Rattle.fault_script.specs.Reading.{script_of}
+use Rattle.reconf_spec.specs.Documents.{spec_of}
+use Rattle.trace_text.specs.TraceReading.{trace_of}
 use Rattle.reconf_spec.specs.declared.fault.SpecFault.{SpecFault}
-use Rattle.trace_props.specs.declared.breaks.Broken.{Broken}
 use Rattle.trace_text.specs.declared.trace_reading.TraceFault.{TraceFault}
 use Rattle.scram_cli.specs.declared.status.TheConstants.{BROKEN_SCRIPT, BROKEN_SPECIFICATION, BROKEN_TRACE, WANTING_MEMORY}
 use Rattle.scram_cli.specs.declared.flights.FlightText.TheVariants.{Trace}
-use Rattle.scram_cli.specs.declared.forms.Form.{Form}
-use Rattle.scram_cli.specs.declared.forms.Form.TheVariants.{Generated, Specified}
-use Rattle.scram_cli.specs.declared.forms.Purpose.{Purpose}
+use Rattle.scram_cli.specs.declared.forms.Form.TheVariants.{Specified}
 use Rattle.scram_cli.specs.declared.forms.Request.{Request}
-use Rattle.scram_cli.specs.declared.forms.Request.TheVariants.{Props, Run}
-use Rattle.scram_cli.specs.Answers.{AreThere, Ends, HasRoom, IsAnswer, IsGenerated, IsMissionAnswer, Judges, Outcome, RequestAnswers, Says, Surely, TellsAnswer, TellsMission, flight_answer, judged_answer, memory_line, mission_answer}
-use Rattle.scram_cli.specs.Forms.{files_of, further_files}
+use Rattle.scram_cli.specs.declared.forms.Request.TheVariants.{Bounds, Check, Props, Run}
+use Rattle.scram_types.specs.declared.limits.TheConstants.{MAX_SCRIPT_BYTES, MAX_SPECIFICATION_BYTES, MAX_TRACE_BYTES}
+use Rattle.scram_cli.specs.Answers.{Answer, AnswersBytes, AnswersFile, FormAnswers, Gives, IsJudgement, RequestAnswers, SpecAnswers, TellsUnread, TraceAnswers, WithoutFiles, flight_answer, long_script, long_specification, long_trace, memory_line, script_answer}
+use Rattle.scram_cli.specs.Endings.{Ends, IsTaken, Tells}
+use Rattle.scram_cli.specs.Forms.{further_files}
 use Rattle.scram_cli.specs.Lines.{script_line, specification_line, trace_line}
-use Rattle.scram_cli.proofs.Endings.{quiet_ends, wider_ends}
-use Rattle.scram_cli.specs.Loads.{HasBytes, ReadsAsScript, ReadsAsSpec, ReadsAsTrace, RefusesAsScript, RefusesAsSpec, RefusesAsTrace}
+use Rattle.scram_cli.specs.Loads.{HasRead, ReadsAsScript, ReadsAsSpec, ReadsAsTrace, RefusesAsScript, RefusesAsSpec, RefusesAsTrace}
+use Rattle.scram_cli.proofs.Endings.{memory_ends, memory_ends_after, read_ends, told_ends, unread_since}
 
--- the script was read
-pub script_answered : (files : FileMap) (spec : Parts) (name : List ℕ) (script : ScriptParts) → HasBytes files name (ReadsAsScript spec script) →
-    RequestAnswers files (Run name) spec (flight_answer Trace spec script (first_refusal spec)).0 (flight_answer Trace spec script (first_refusal spec)).1
-script_answered files spec name script has = rw (has.there, has.fact) refl
+-- what is answered of one file since the files were as before
 
--- the script was refused
-pub script_refused : (files : FileMap) (spec : Parts) (name : List ℕ) (fault : DocFault) → HasBytes files name (RefusesAsScript spec fault) →
-    RequestAnswers files (Run name) spec BROKEN_SCRIPT (script_line fault)
-script_refused files spec name fault has = rw (has.there, has.fact) refl
+file_since : (limit : ℕ) (long : ℕ × List ℕ) (name : List ℕ) (A : List ℕ → ℕ → List ℕ → Type 0) (before mid after : FilesState) (earlier : History) → Grew before mid earlier
+    → (reads : History) (status : ℕ) (text : List ℕ)
+    → AnswersFile limit long name (λ (bytes : List ℕ). WithoutFiles (A bytes)) mid after reads status text
+    → AnswersFile limit long name (λ (bytes : List ℕ). WithoutFiles (A bytes)) before after reads status text
+file_since limit long name A before mid after earlier grew reads status text (inl is) =
+    inl (record { bytes = is.bytes; rest = is.rest; first = is.first; answers = is.answers })
+file_since limit long name A before mid after earlier grew reads status text (inr is) =
+    inr (is.0, unread_since limit long name before mid after earlier grew status text is.1)
 
--- the trace was read and judged
-pub trace_judged : (files : FileMap) (spec : Parts) (name : List ℕ) (flown : Flown) (judged : Option Broken) → HasBytes files name (ReadsAsTrace spec flown) →
-    Judges spec flown judged → RequestAnswers files (Props name) spec (judged_answer flown judged).0 (judged_answer flown judged).1
-trace_judged files spec name flown judged has judges = rw (has.there, has.fact) (record { judged = judged; judges = judges; gives = refl })
-
--- the trace was refused
-pub trace_refused : (files : FileMap) (spec : Parts) (name : List ℕ) (fault : TraceFault) → HasBytes files name (RefusesAsTrace spec fault) →
-    RequestAnswers files (Props name) spec BROKEN_TRACE (trace_line fault)
-trace_refused files spec name fault has = rw (has.there, has.fact) refl
-
--- the specification was read
-pub spec_answered : (files : FileMap) (name : List ℕ) (request : Request (List ℕ)) (spec : Parts) → HasBytes files name (ReadsAsSpec spec) →
-    (status : ℕ) (text : List ℕ) → RequestAnswers files request spec status text →
-    IsAnswer (Some (Specified name request)) files status text
-spec_answered files name request spec has status text gives = record {
-  cycle = [];
-  shows = rw (has.there, has.fact) refl;
-  gives = rw (has.there, has.fact) gives;
-}
-
--- the specification was refused
-pub spec_refused : (files : FileMap) (name : List ℕ) (request : Request (List ℕ)) (fault : SpecFault) → HasBytes files name (RefusesAsSpec fault) →
-    IsAnswer (Some (Specified name request)) files BROKEN_SPECIFICATION (specification_line fault)
-spec_refused files name request fault has = record {
-  cycle = fault.names.items;
-  shows = rw (has.there, has.fact.refuses) (fault.cycle.items, has.fact.shows.0, has.fact.shows.1);
-  gives = rw (has.there, has.fact.refuses) refl;
-}
+request_since : (request : Request (List ℕ)) (spec : Parts) (before mid after : FilesState) (earlier : History) → Grew before mid earlier
+    → (reads : History) (status : ℕ) (text : List ℕ) → RequestAnswers request spec mid after reads status text → RequestAnswers request spec before after reads status text
+request_since (Run script) spec before mid after earlier grew reads status text is =
+    file_since MAX_SCRIPT_BYTES long_script script (λ (bytes : List ℕ). Gives (script_answer spec (script_of spec bytes))) before mid after earlier grew reads status text is
+request_since Check spec before mid after earlier grew reads status text is = is
+request_since Bounds spec before mid after earlier grew reads status text is = is
+request_since (Props trace) spec before mid after earlier grew reads status text is =
+    file_since MAX_TRACE_BYTES long_trace trace (λ (bytes : List ℕ). TraceAnswers spec (trace_of spec bytes)) before mid after earlier grew reads status text is
 
 -- the specification was read, and then what is asked of it was answered
-pub got_ends : (told mid : Option FileMap) (name : List ℕ) (request : Request (List ℕ)) (spec : Parts) (unread between reads : ℕ)
-    (old new : Option (List ℕ)) (room : Option ℕ) (before now code : ℕ) → mid ≡ told → unread ≤ between →
-    IfSome told (λ m. HasBytes m name (ReadsAsSpec spec)) →
-    IfSome mid (λ m. Ends (RequestAnswers m request spec) (further_files request) between reads old new room before now code) →
-    IfSome told (λ m. Ends (IsAnswer (Some (Specified name request)) m) (name ∷ further_files request) unread reads old new room before now code)
-got_ends None mid name request spec unread between reads old new room before now code same kept loads ends = tt
-got_ends (Some m) mid name request spec unread between reads old new room before now code same kept loads ends =
-    let known : Ends (RequestAnswers m request spec) (further_files request) between reads old new room before now code = rw same at ends in
-    wider_ends (RequestAnswers m request spec) (IsAnswer (Some (Specified name request)) m) (further_files request) name unread between reads
-    old new room before now code kept (spec_answered m name request spec loads) known
+pub spec_got : (name : List ℕ) (request : Request (List ℕ)) (spec : Parts) (before mid after : FilesState) (Shown : ℕ → List ℕ → Type 0) → HasRead name (ReadsAsSpec spec) before mid
+    → Ends (RequestAnswers request spec) (further_files request) mid after Shown
+    → Ends (FormAnswers (Some (Specified name request))) (name ∷ further_files request) before after Shown
+spec_got name request spec before mid after Shown has ends =
+    read_ends MAX_SPECIFICATION_BYTES long_specification name has.bytes (further_files request) (RequestAnswers request spec)
+    (λ (bytes : List ℕ). SpecAnswers request bytes (spec_of bytes)) before mid after Shown has.grew
+    (λ reads status text is. rw (has.fact) (request_since request spec before mid after ((name, has.bytes) ∷ []) has.grew reads status text is))
+    ends
 
-mission_outcome : (m : FileMap) (number : ℕ) (purpose : Purpose) (unread reads status : ℕ) (text : List ℕ) →
-    IsMissionAnswer number purpose status text ⊎ ((status ≡ WANTING_MEMORY) × (text ≡ memory_line)) →
-    Outcome (IsAnswer (Some (Generated number purpose)) m) [] unread reads status text
-mission_outcome m number purpose unread reads status text (inl is) = inl (record { cycle = []; shows = refl; gives = is })
-mission_outcome m number purpose unread reads status text (inr is) = inr (inl is)
+-- the specification was refused
+pub spec_refused : (name : List ℕ) (request : Request (List ℕ)) (fault : SpecFault) (before after : FilesState) (old new : SinkState) (code : ℕ) → HasRead name (RefusesAsSpec fault) before after
+    → Tells (Gives (BROKEN_SPECIFICATION, specification_line fault)) old new code
+    → Ends (FormAnswers (Some (Specified name request))) (name ∷ further_files request) before after (IsTaken old new code)
+spec_refused name request fault before after old new code has tells =
+    read_ends MAX_SPECIFICATION_BYTES long_specification name has.bytes (further_files request) (WithoutFiles (Gives (BROKEN_SPECIFICATION, specification_line fault)))
+    (λ (bytes : List ℕ). SpecAnswers request bytes (spec_of bytes)) before after after (IsTaken old new code) has.grew
+    (λ reads status text is. rw (has.fact.refuses)
+    (is.0, record { cycle = fault.names.items; shows = (fault.cycle.items, has.fact.shows.0, has.fact.shows.1); gives = is.1 }))
+    (told_ends (Gives (BROKEN_SPECIFICATION, specification_line fault)) (further_files request) after old new code tells)
 
-told_is : (number : ℕ) (purpose : Purpose) (spec : Parts) (status : ℕ) (text : List ℕ) → IsGenerated spec →
-    ((status, text) ≡ mission_answer number purpose spec (generated_script number)) ⊎ ((status ≡ WANTING_MEMORY) × (text ≡ memory_line)) →
-    IsMissionAnswer number purpose status text ⊎ ((status ≡ WANTING_MEMORY) × (text ≡ memory_line))
-told_is number purpose spec status text generated (inl is) = inl (record { spec = spec; generated = generated; gives = sym is })
-told_is number purpose spec status text generated (inr is) = inr is
+-- the script was read, and flown
+pub script_got : (spec : Parts) (name : List ℕ) (script : ScriptParts) (before after : FilesState) (old new : SinkState) (code : ℕ) → HasRead name (ReadsAsScript spec script) before after
+    → Tells (Gives (flight_answer Trace spec script (first_refusal spec))) old new code
+    → Ends (RequestAnswers (Run name) spec) (name ∷ []) before after (IsTaken old new code)
+script_got spec name script before after old new code has tells =
+    read_ends MAX_SCRIPT_BYTES long_script name has.bytes [] (WithoutFiles (Gives (flight_answer Trace spec script (first_refusal spec))))
+    (λ (bytes : List ℕ). WithoutFiles (Gives (script_answer spec (script_of spec bytes)))) before after after (IsTaken old new code) has.grew
+    (λ reads status text is. rw (has.fact) is)
+    (told_ends (Gives (flight_answer Trace spec script (first_refusal spec))) [] after old new code tells)
 
--- the answer for a generated mission went out
-pub told_mission : (number : ℕ) (purpose : Purpose) (spec : Parts) (old new : Option (List ℕ)) (room : Option ℕ) (before now code : ℕ) → IsGenerated spec →
-    TellsAnswer (mission_answer number purpose spec (generated_script number)) old new room before now code →
-    TellsMission number purpose old new room before now code
-told_mission number purpose spec old new room before now code generated tells = record {
-  status = tells.status;
-  text = tells.text;
-  is = told_is number purpose spec tells.status tells.text generated tells.is;
-  says = tells.says;
-  surely = tells.surely;
-}
+-- the script was refused
+pub script_refused : (spec : Parts) (name : List ℕ) (fault : DocFault) (before after : FilesState) (old new : SinkState) (code : ℕ) → HasRead name (RefusesAsScript spec fault) before after
+    → Tells (Gives (BROKEN_SCRIPT, script_line fault)) old new code → Ends (RequestAnswers (Run name) spec) (name ∷ []) before after (IsTaken old new code)
+script_refused spec name fault before after old new code has tells =
+    read_ends MAX_SCRIPT_BYTES long_script name has.bytes [] (WithoutFiles (Gives (BROKEN_SCRIPT, script_line fault)))
+    (λ (bytes : List ℕ). WithoutFiles (Gives (script_answer spec (script_of spec bytes)))) before after after (IsTaken old new code) has.grew
+    (λ reads status text is. rw (has.fact) is)
+    (told_ends (Gives (BROKEN_SCRIPT, script_line fault)) [] after old new code tells)
 
--- no memory was to be had for a mission
-pub memory_mission : (number : ℕ) (purpose : Purpose) (old new : Option (List ℕ)) (room : Option ℕ) (before now code : ℕ) →
-    Says old new before now WANTING_MEMORY memory_line code → Surely room before now memory_line → TellsMission number purpose old new room before now code
-memory_mission number purpose old new room before now code says surely = record {
-  status = WANTING_MEMORY;
-  text = memory_line;
-  is = inr (refl, refl);
-  says = says;
-  surely = surely;
-}
+-- the trace was read, and judged
+pub trace_got : (spec : Parts) (name : List ℕ) (flown : Flown) (before after : FilesState) (old new : SinkState) (code : ℕ) → HasRead name (ReadsAsTrace spec flown) before after
+    → Tells (IsJudgement spec flown) old new code → Ends (RequestAnswers (Props name) spec) (name ∷ []) before after (IsTaken old new code)
+trace_got spec name flown before after old new code has tells =
+    read_ends MAX_TRACE_BYTES long_trace name has.bytes [] (WithoutFiles (IsJudgement spec flown))
+    (λ (bytes : List ℕ). WithoutFiles (TraceAnswers spec (trace_of spec bytes))) before after after (IsTaken old new code) has.grew
+    (λ reads status text is. rw (has.fact) is)
+    (told_ends (IsJudgement spec flown) [] after old new code tells)
 
--- the mission of a number was answered for
-pub mission_ends : (m : FileMap) (number : ℕ) (purpose : Purpose) (unread reads : ℕ)
-    (old new : Option (List ℕ)) (room : Option ℕ) (before now code : ℕ) → TellsMission number purpose old new room before now code →
-    Ends (IsAnswer (Some (Generated number purpose)) m) [] unread reads old new room before now code
-mission_ends m number purpose unread reads old new room before now code tells = record {
-  status = tells.status;
-  text = tells.text;
-  outcome = mission_outcome m number purpose unread reads tells.status tells.text tells.is;
-  says = tells.says;
-  surely = tells.surely;
-}
+-- the trace was refused
+pub trace_refused : (spec : Parts) (name : List ℕ) (fault : TraceFault) (before after : FilesState) (old new : SinkState) (code : ℕ) → HasRead name (RefusesAsTrace spec fault) before after
+    → Tells (Gives (BROKEN_TRACE, trace_line fault)) old new code → Ends (RequestAnswers (Props name) spec) (name ∷ []) before after (IsTaken old new code)
+trace_refused spec name fault before after old new code has tells =
+    read_ends MAX_TRACE_BYTES long_trace name has.bytes [] (WithoutFiles (Gives (BROKEN_TRACE, trace_line fault)))
+    (λ (bytes : List ℕ). WithoutFiles (TraceAnswers spec (trace_of spec bytes))) before after after (IsTaken old new code) has.grew
+    (λ reads status text is. rw (has.fact) is)
+    (told_ends (Gives (BROKEN_TRACE, trace_line fault)) [] after old new code tells)
 
-complete_in : (m : FileMap) (form : Option (Form (List ℕ))) (asked : Form (List ℕ)) (steady : Type 0) (unread reads : ℕ)
-    (old new : Option (List ℕ)) (room : Option ℕ) (before now code : ℕ) → form ≡ Some asked →
-    (steady → AreThere m (files_of (Some asked)) → Unrisen unread reads) →
-    Ends (IsAnswer (Some asked) m) (files_of (Some asked)) unread reads old new room before now code →
-    steady → AreThere m (files_of form) → HasRoom (IsAnswer form m) room → Unrisen unread reads × Unrisen before now
-complete_in m form asked steady unread reads old new room before now code same quiet ends still there space =
-    let files : Unrisen unread reads = quiet still (rw same at there) in
-    let wide : HasRoom (IsAnswer (Some asked) m) room = rw same at space in
-    (files, quiet_ends (IsAnswer (Some asked) m) (files_of (Some asked)) unread reads old new room before now code ends files wide)
-
--- where the files are steady and there, and the sink has room, no count rose
-pub complete_form : (told : Option FileMap) (form : Option (Form (List ℕ))) (asked : Form (List ℕ)) (steady : Type 0) (unread reads : ℕ)
-    (old new : Option (List ℕ)) (room : Option ℕ) (before now code : ℕ) → form ≡ Some asked →
-    IfSome told (λ m. steady → AreThere m (files_of (Some asked)) → Unrisen unread reads) →
-    IfSome told (λ m. Ends (IsAnswer (Some asked) m) (files_of (Some asked)) unread reads old new room before now code) →
-    IfSome told (λ m. steady → AreThere m (files_of form) → HasRoom (IsAnswer form m) room → Unrisen unread reads × Unrisen before now)
-complete_form None form asked steady unread reads old new room before now code same quiet ends = tt
-complete_form (Some m) form asked steady unread reads old new room before now code same quiet ends =
-    complete_in m form asked steady unread reads old new room before now code same quiet ends
+-- memory was wanting as the first file was loaded, before it was read or after
+pub load_memory : (A : Answer) (name : List ℕ) (names : List (List ℕ)) (before after : FilesState) (old new : SinkState) (code : ℕ)
+    → Grew before after [] ⊎ HasRead name (λ (bytes : List ℕ). ⊤) before after → IsTaken old new code WANTING_MEMORY memory_line → Ends A (name ∷ names) before after (IsTaken old new code)
+load_memory A name names before after old new code (inl grew) taken = memory_ends A (name ∷ names) before after old new code grew taken
+load_memory A name names before after old new code (inr has) taken = memory_ends_after A name names has.bytes before after old new code has.grew taken

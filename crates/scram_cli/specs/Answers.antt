@@ -1,5 +1,5 @@
--- What the command answers: a status and a text, by its words and by the files that they name.
-use Rattle.std.specs.Prelude.{◌≡◌, ◌⊎◌, ℕ, ◌≤◌, List, [], ◌∷◌, ◌++◌, length, Contains, Option, Some, None, IsSome, IfSome, Result, Ok, Err, codes, ⊤}
+-- What the command answers: a status and a text, by its words and by what it reads of the files that they name.
+use Rattle.std.specs.Prelude.{◌≡◌, ◌⊎◌, ℕ, List, [], ◌∷◌, ◌++◌, Option, Some, None, Result, Ok, Err, codes}
 use Rattle.scram_types.specs.declared.flights.Flown.{Flown}
 use Rattle.scram_types.specs.declared.flights.Report.{Report}
 use Rattle.scram_types.specs.declared.flights.Row.{Row}
@@ -8,8 +8,10 @@ use Rattle.scram_types.specs.declared.specification.AppSpec.{AppSpec}
 use Rattle.scram_types.specs.Scripts.{ScriptParts}
 use Rattle.scram_types.specs.Specification.{Parts}
 use Rattle.scram_doc.specs.declared.fault.DocFault.{DocFault}
-use Rattle.scram_io.specs.Outside.{FileMap, file_at, Rose, Unrisen, Took, TookPrefix}
+use Rattle.scram_io.specs.Outside.{FilesState, History, IsLonger, Rose}
 use Rattle.reconf_spec.specs.declared.fault.SpecFault.{SpecFault}
+use Rattle.reconf_spec.specs.declared.rule.TheConstants as specification_rule
+use Rattle.fault_script.specs.declared.rule.TheConstants as script_rule
 use Rattle.reconf_spec.specs.Answers.{CycleAmong, NamedAmong}
 use Rattle.reconf_spec.specs.Documents.{spec_of, unranked_of}
 use Rattle.reconf_spec.specs.Texts.{spec_text}
@@ -28,8 +30,8 @@ use Rattle.trace_props.specs.Breaks.{IsFirstBreak}
 use Rattle.trace_props.specs.Properties.{HoldsAll}
 use Rattle.trace_text.specs.declared.trace_reading.TraceFault.{TraceFault}
 use Rattle.trace_text.specs.Text.{text_of}
-use Rattle.trace_text.specs.TraceReading.{trace_of as trace_in}
-use Rattle.scram_cli.specs.declared.status.TheConstants.{ANSWERED, BROKEN_PROPERTY, BROKEN_SCRIPT, BROKEN_SPECIFICATION, BROKEN_TRACE, BROKEN_USAGE, NOT_ACCEPTED, UNASSUMED_SCRIPT, UNREAD_FILE, UNWRITTEN_OUTPUT, WANTING_MEMORY}
+use Rattle.trace_text.specs.TraceReading.{trace_of}
+use Rattle.scram_cli.specs.declared.status.TheConstants.{ANSWERED, BROKEN_PROPERTY, BROKEN_SCRIPT, BROKEN_SPECIFICATION, BROKEN_TRACE, BROKEN_USAGE, NOT_ACCEPTED, UNASSUMED_SCRIPT, UNREAD_FILE}
 use Rattle.scram_cli.specs.declared.forms.Form.{Form}
 use Rattle.scram_cli.specs.declared.forms.Form.TheVariants.{Specified, Generated}
 use Rattle.scram_cli.specs.declared.flights.FlightText.{FlightText}
@@ -38,6 +40,7 @@ use Rattle.scram_cli.specs.declared.forms.Purpose.{Purpose}
 use Rattle.scram_cli.specs.declared.forms.Purpose.TheVariants.{Print, Fly}
 use Rattle.scram_cli.specs.declared.forms.Request.{Request}
 use Rattle.scram_cli.specs.declared.forms.Request.TheVariants.{Run, Check, Bounds, Props}
+use Rattle.scram_types.specs.declared.limits.TheConstants.{MAX_SCRIPT_BYTES, MAX_SPECIFICATION_BYTES, MAX_TRACE_BYTES}
 use Rattle.scram_cli.specs.Bounds.{bounds_text}
 use Rattle.scram_cli.specs.Lines.{accepted_line, broken_line, fly_line, holds_line, outside_line, script_line, shown_line, specification_line, trace_line}
 
@@ -57,10 +60,30 @@ read_line name = codes "refused: read " ++ name ++ codes "\n"
 abbrev pub Gives : ℕ × List ℕ → ℕ → List ℕ → Type 0
 Gives answered status text = answered ≡ (status, text)
 
--- Status and text are answered of the bytes of a file. Nothing is where the file is not there.
-abbrev pub AnswersOf : Option (List ℕ) → (List ℕ → ℕ → List ℕ → Type 0) → ℕ → List ℕ → Type 0
-AnswersOf None Answers status text = ⊥
-AnswersOf (Some bytes) Answers status text = Answers bytes status text
+-- An answer: the files before and after, what was read of them meanwhile, and a status and a text.
+abbrev pub Answer : Type 1
+Answer = FilesState → FilesState → History → ℕ → List ℕ → Type 0
+
+-- It is answered without reading any file.
+abbrev pub WithoutFiles : (ℕ → List ℕ → Type 0) → Answer
+WithoutFiles Answers before after reads status text = (reads ≡ []) × Answers status text
+
+-- The file of this name was read first, and this is answered of its bytes and of what was read after it.
+pub record AnswersBytes (name : List ℕ) (Answers : List ℕ → Answer) (before after : FilesState) (reads : History) (status : ℕ) (text : List ℕ) : Type 0 where
+  pub bytes : List ℕ
+  pub rest : History
+  pub first : reads ≡ (name, bytes) ∷ rest
+  pub answers : Answers bytes before after rest status text
+
+-- Why the file of this name was not read: reading failed, or it has more bytes than the limit, of which `long` is answered.
+abbrev pub TellsUnread : ℕ → ℕ × List ℕ → List ℕ → FilesState → FilesState → ℕ → List ℕ → Type 0
+TellsUnread limit long name before after status text =
+    (Gives (UNREAD_FILE, read_line name) status text × Rose before.faults after.faults) ⊎ (Gives long status text × IsLonger before name limit)
+
+-- The file of this name is asked for, and nothing else unless its bytes are there.
+abbrev pub AnswersFile : ℕ → ℕ × List ℕ → List ℕ → (List ℕ → Answer) → Answer
+AnswersFile limit long name Answers before after reads status text =
+    AnswersBytes name Answers before after reads status text ⊎ ((reads ≡ []) × TellsUnread limit long name before after status text)
 
 -- what is told of rows and reports
 abbrev pub flown_text : FlightText → Parts → List Row → List Report → List ℕ
@@ -117,21 +140,44 @@ abbrev pub TraceAnswers : Parts → Result Flown TraceFault → ℕ → List ℕ
 TraceAnswers spec (Err fault) = Gives (BROKEN_TRACE, trace_line fault)
 TraceAnswers spec (Ok flown) = IsJudgement spec flown
 
+-- what is answered of a specification, a script and a trace that have too many bytes
+abbrev pub long_specification : ℕ × List ℕ
+long_specification = (BROKEN_SPECIFICATION, specification_line (record { rule = specification_rule.TOO_LONG; path = []; cycle = record { items = [] }; names = record { items = [] } }))
+
+abbrev pub long_script : ℕ × List ℕ
+long_script = (BROKEN_SCRIPT, script_line (record { rule = script_rule.TOO_LONG; path = [] }))
+
+abbrev pub long_trace : ℕ × List ℕ
+long_trace = (BROKEN_TRACE, trace_line (record { line = 0; rule = 9 }))
+
 -- the answer to what is asked of a specification that is read
-abbrev pub RequestAnswers : FileMap → Request (List ℕ) → Parts → ℕ → List ℕ → Type 0
-RequestAnswers files (Run script) spec = AnswersOf (file_at script files) (λ (bytes : List ℕ). Gives (script_answer spec (script_of spec bytes)))
-RequestAnswers files Check spec = Gives (check_answer spec (first_refusal spec))
-RequestAnswers files Bounds spec = Gives (bounds_answer spec (state_refusal spec))
-RequestAnswers files (Props trace) spec = AnswersOf (file_at trace files) (λ (bytes : List ℕ). TraceAnswers spec (trace_in spec bytes))
+abbrev pub RequestAnswers : Request (List ℕ) → Parts → Answer
+RequestAnswers (Run script) spec =
+    AnswersFile MAX_SCRIPT_BYTES long_script script (λ (bytes : List ℕ). WithoutFiles (Gives (script_answer spec (script_of spec bytes))))
+RequestAnswers Check spec = WithoutFiles (Gives (check_answer spec (first_refusal spec)))
+RequestAnswers Bounds spec = WithoutFiles (Gives (bounds_answer spec (state_refusal spec)))
+RequestAnswers (Props trace) spec =
+    AnswersFile MAX_TRACE_BYTES long_trace trace (λ (bytes : List ℕ). WithoutFiles (TraceAnswers spec (trace_of spec bytes)))
 
 -- a fault of a specification that shows these names of a cycle of needs
 abbrev pub showing : List (List ℕ) → DocFault → SpecFault
 showing cycle fault = record { rule = fault.rule; path = fault.path; cycle = record { items = [] }; names = record { items = cycle } }
 
--- the answer, by what the bytes of the specification are
-abbrev pub ReadAnswers : List (List ℕ) → FileMap → Request (List ℕ) → Result Parts DocFault → ℕ → List ℕ → Type 0
-ReadAnswers cycle files request (Err fault) = Gives (BROKEN_SPECIFICATION, specification_line (showing cycle fault))
-ReadAnswers cycle files request (Ok spec) = RequestAnswers files request spec
+-- the names are those of a cycle of the needs as they were read, where these have one
+abbrev pub NamesCycle : Result (List AppSpec) DocFault → List (List ℕ) → Type 0
+NamesCycle unranked names = (cycle : List AppId) × CycleAmong unranked cycle × NamedAmong unranked cycle names
+
+-- Status and text refuse a specification of these bytes: with its fault, and the names of some cycle of needs where
+-- there are several.
+pub record RefusesSpec (bytes : List ℕ) (fault : DocFault) (status : ℕ) (text : List ℕ) : Type 0 where
+  pub cycle : List (List ℕ)
+  pub shows : NamesCycle (unranked_of bytes) cycle
+  pub gives : Gives (BROKEN_SPECIFICATION, specification_line (showing cycle fault)) status text
+
+-- the answer to what is asked of a specification of these bytes
+abbrev pub SpecAnswers : Request (List ℕ) → List ℕ → Result Parts DocFault → Answer
+SpecAnswers request bytes (Err fault) = WithoutFiles (RefusesSpec bytes fault)
+SpecAnswers request bytes (Ok spec) = RequestAnswers request spec
 
 -- the canonical specification and the canonical script, a line each
 abbrev pub mission_text : Parts → ScriptParts → List ℕ
@@ -152,98 +198,10 @@ pub record IsMissionAnswer (number : ℕ) (purpose : Purpose) (status : ℕ) (te
   pub generated : IsGenerated spec
   pub gives : Gives (mission_answer number purpose spec (generated_script number)) status text
 
--- The answer, by the names of the cycle of needs that a refusal shows. There is none where a file that is
--- wanted is not there.
-abbrev pub FormAnswers : List (List ℕ) → Option (Form (List ℕ)) → FileMap → ℕ → List ℕ → Type 0
-FormAnswers cycle None files = Gives (BROKEN_USAGE, usage_line)
-FormAnswers cycle (Some (Specified specification request)) files =
-    AnswersOf (file_at specification files) (λ (bytes : List ℕ). ReadAnswers cycle files request (spec_of bytes))
-FormAnswers cycle (Some (Generated number purpose)) files = IsMissionAnswer number purpose
-
--- the names are those of a cycle of the needs as they were read, where these have one
-abbrev pub NamesCycle : Result (List AppSpec) DocFault → List (List ℕ) → Type 0
-NamesCycle unranked names = (cycle : List AppId) × CycleAmong unranked cycle × NamedAmong unranked cycle names
-
--- a cycle of needs is shown where the specification is refused
-abbrev pub ShowsWhereRefused : Result Parts DocFault → Result (List AppSpec) DocFault → List (List ℕ) → Type 0
-ShowsWhereRefused (Ok spec) unranked cycle = cycle ≡ []
-ShowsWhereRefused (Err fault) unranked cycle = NamesCycle unranked cycle
-
--- the same of a form: only a specification that is read from a file is refused
-abbrev pub ShowsCycleOf : Option (Form (List ℕ)) → FileMap → List (List ℕ) → Type 0
-ShowsCycleOf None files cycle = cycle ≡ []
-ShowsCycleOf (Some (Specified specification request)) files cycle =
-    IfSome (file_at specification files) (λ bytes. ShowsWhereRefused (spec_of bytes) (unranked_of bytes) cycle)
-ShowsCycleOf (Some (Generated number purpose)) files cycle = cycle ≡ []
-
--- Status and text are an answer: that by some cycle of needs, where there are several.
-pub record IsAnswer (form : Option (Form (List ℕ))) (files : FileMap) (status : ℕ) (text : List ℕ) : Type 0 where
-  pub cycle : List (List ℕ)
-  pub shows : ShowsCycleOf form files cycle
-  pub gives : FormAnswers cycle form files status text
-
--- One of these files was not read, and the count of the files' faults rose.
-pub record IsUnread (names : List (List ℕ)) (before now status : ℕ) (text : List ℕ) : Type 0 where
-  pub code : status ≡ UNREAD_FILE
-  pub name : List ℕ
-  pub named : Contains names name
-  pub line : text ≡ read_line name
-  pub rose : Rose before now
-
--- Status and text are an answer's, or memory was wanting, or a file was not read.
-abbrev pub Outcome : (ℕ → List ℕ → Type 0) → List (List ℕ) → ℕ → ℕ → ℕ → List ℕ → Type 0
-Outcome Answers names before now status text =
-    Answers status text ⊎ ((status ≡ WANTING_MEMORY) × (text ≡ memory_line)) ⊎ IsUnread names before now status text
-
--- The text went out whole and the code is the status, or the sink's count rose, a prefix went out, and the
--- code is 4.
-abbrev pub Says : Option (List ℕ) → Option (List ℕ) → ℕ → ℕ → ℕ → List ℕ → ℕ → Type 0
-Says old new before now status text code =
-    ((code ≡ status) × Took old new text) ⊎ ((code ≡ UNWRITTEN_OUTPUT) × TookPrefix old new text × Rose before now)
-
--- Where the sink surely takes as many bytes as the text has, its count did not rise.
-abbrev pub Surely : Option ℕ → ℕ → ℕ → List ℕ → Type 0
-Surely room before now text = IfSome room (λ bytes. length text ≤ bytes → Unrisen before now)
-
--- A text went out with its status, or the memory line with status 9. What the sink took, the bytes that it
--- surely takes and its count of faults, before and after.
-pub record TellsAnswer (answered : ℕ × List ℕ) (old new : Option (List ℕ)) (room : Option ℕ) (before now : ℕ) (code : ℕ) : Type 0 where
-  pub status : ℕ
-  pub text : List ℕ
-  pub is : ((status, text) ≡ answered) ⊎ ((status ≡ WANTING_MEMORY) × (text ≡ memory_line))
-  pub says : Says old new before now status text code
-  pub surely : Surely room before now text
-
--- How a trace is judged went out.
-pub record TellsJudgement (spec : Parts) (flown : Flown) (old new : Option (List ℕ)) (room : Option ℕ) (before now : ℕ) (code : ℕ) : Type 0 where
-  pub judged : Option Broken
-  pub judges : Judges spec flown judged
-  pub tells : TellsAnswer (judged_answer flown judged) old new room before now code
-
--- The answer for the mission of a number went out.
-pub record TellsMission (number : ℕ) (purpose : Purpose) (old new : Option (List ℕ)) (room : Option ℕ) (before now : ℕ) (code : ℕ) : Type 0 where
-  pub status : ℕ
-  pub text : List ℕ
-  pub is : IsMissionAnswer number purpose status text ⊎ ((status ≡ WANTING_MEMORY) × (text ≡ memory_line))
-  pub says : Says old new before now status text code
-  pub surely : Surely room before now text
-
--- How a command ends: with an outcome, and a code that says what went out. The counts of the files' faults,
--- then what the sink took, the bytes that it surely takes and its count, before and after.
-pub record Ends (Answers : ℕ → List ℕ → Type 0) (names : List (List ℕ)) (unread reads : ℕ)
-    (old new : Option (List ℕ)) (room : Option ℕ) (before now : ℕ) (code : ℕ) : Type 0 where
-  pub status : ℕ
-  pub text : List ℕ
-  pub outcome : Outcome Answers names unread reads status text
-  pub says : Says old new before now status text code
-  pub surely : Surely room before now text
-
--- All these files are there.
-abbrev pub AreThere : FileMap → List (List ℕ) → Type 0
-AreThere files [] = ⊤
-AreThere files (name ∷ names) = IsSome (file_at name files) × AreThere files names
-
--- The sink tells that it surely takes as many bytes as any answer and as the memory line have.
-abbrev pub HasRoom : (ℕ → List ℕ → Type 0) → Option ℕ → Type 0
-HasRoom Answers None = ⊥
-HasRoom Answers (Some room) = ((status : ℕ) (text : List ℕ) → Answers status text → length text ≤ room) × (length memory_line ≤ room)
+-- The answer to the words: where they have no form, that; else what the form asks, of exactly the files that it has to
+-- read, each once, in their order.
+abbrev pub FormAnswers : Option (Form (List ℕ)) → Answer
+FormAnswers None = WithoutFiles (Gives (BROKEN_USAGE, usage_line))
+FormAnswers (Some (Specified specification request)) =
+    AnswersFile MAX_SPECIFICATION_BYTES long_specification specification (λ (bytes : List ℕ). SpecAnswers request bytes (spec_of bytes))
+FormAnswers (Some (Generated number purpose)) = WithoutFiles (IsMissionAnswer number purpose)

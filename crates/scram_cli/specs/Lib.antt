@@ -1,4 +1,5 @@
 pub mod Answers
+pub mod Endings
 pub mod Assurance
 pub mod Bounds
 pub mod Forms

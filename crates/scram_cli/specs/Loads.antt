@@ -1,10 +1,10 @@
--- What the loading of a file says of its bytes.
-use Rattle.std.specs.Prelude.{◌≡◌, ◌<◌, ◌^◌, ℕ, List, length, Some, Ok, Err, ⊤}
+-- What the loading of a file says of the file and of its bytes.
+use Rattle.std.specs.Prelude.{◌≡◌, ◌⊎◌, ◌<◌, ◌^◌, ℕ, List, [], ◌∷◌, length, Ok, Err, ⊤}
 use Rattle.scram_types.specs.declared.flights.Flown.{Flown}
 use Rattle.scram_types.specs.Scripts.{ScriptParts}
 use Rattle.scram_types.specs.Specification.{Parts}
 use Rattle.scram_doc.specs.declared.fault.DocFault.{DocFault}
-use Rattle.scram_io.specs.Outside.{FileMap, file_at}
+use Rattle.scram_io.specs.Outside.{FilesState, Grew, IsLonger, Rose}
 use Rattle.fault_script.specs.Fits.{Fits}
 use Rattle.fault_script.specs.Reading.{script_of}
 use Rattle.reconf_spec.specs.declared.fault.SpecFault.{SpecFault}
@@ -14,20 +14,22 @@ use Rattle.reconf_spec.specs.Documents.{spec_of, unranked_of}
 use Rattle.trace_text.specs.declared.trace_reading.TraceFault.{TraceFault}
 use Rattle.trace_text.specs.TraceReading.{trace_of}
 use Rattle.scram_cli.specs.declared.loads.Loaded.{Loaded}
-use Rattle.scram_cli.specs.declared.loads.Loaded.TheVariants.{Got, Refused, Failed, NoMemory}
+use Rattle.scram_cli.specs.declared.loads.Loaded.TheVariants.{Got, Refused, TooLong, Failed, NoMemory}
 
--- the file is there, with bytes of which this holds
-pub record HasBytes (files : FileMap) (name : List ℕ) (Fact : List ℕ → Type 0) : Type 0 where
+-- The file was read, and nothing else, and had bytes of which this holds.
+pub record HasRead (name : List ℕ) (Fact : List ℕ → Type 0) (before after : FilesState) : Type 0 where
   pub bytes : List ℕ
-  pub there : file_at name files ≡ Some bytes
+  pub grew : Grew before after ((name, bytes) ∷ [])
   pub fact : Fact bytes
 
--- what came of loading a file, and what it says of its bytes
-abbrev pub Loads : {A E : Type 0} → (A → List ℕ → Type 0) → (E → List ℕ → Type 0) → FileMap → List ℕ → Loaded A E → Type 0
-Loads Reads Refuses files name (Got value) = HasBytes files name (Reads value)
-Loads Reads Refuses files name (Refused fault) = HasBytes files name (Refuses fault)
-Loads Reads Refuses files name Failed = ⊤
-Loads Reads Refuses files name NoMemory = ⊤
+-- What became of loading a file of at most so many bytes: it was read, and its bytes are a value or are refused; or it was
+-- not read, because it is too long or because the files failed; or memory was wanting, before it was read or after.
+abbrev pub Loads : {A E : Type 0} → (A → List ℕ → Type 0) → (E → List ℕ → Type 0) → ℕ → List ℕ → FilesState → FilesState → Loaded A E → Type 0
+Loads Reads Refuses limit name before after (Got value) = HasRead name (Reads value) before after
+Loads Reads Refuses limit name before after (Refused fault) = HasRead name (Refuses fault) before after
+Loads Reads Refuses limit name before after TooLong = Grew before after [] × IsLonger before name limit
+Loads Reads Refuses limit name before after Failed = Grew before after [] × Rose before.faults after.faults
+Loads Reads Refuses limit name before after NoMemory = Grew before after [] ⊎ HasRead name (λ (bytes : List ℕ). ⊤) before after
 
 -- the bytes are this specification, or are refused with this fault, which shows a cycle of needs where there is one
 abbrev pub ReadsAsSpec : Parts → List ℕ → Type 0
@@ -48,6 +50,7 @@ RefusesAsScript spec fault bytes = script_of spec bytes ≡ Err fault
 abbrev pub FitsWhereGot : Parts → Loaded ScriptParts DocFault → Type 0
 FitsWhereGot spec (Got script) = Fits spec script
 FitsWhereGot spec (Refused fault) = ⊤
+FitsWhereGot spec TooLong = ⊤
 FitsWhereGot spec Failed = ⊤
 FitsWhereGot spec NoMemory = ⊤
 
@@ -66,12 +69,6 @@ IsCounted flown = (length flown.rows < 2 ^ 32) × (length flown.reports < 2 ^ 32
 abbrev pub IsCountedWhereGot : Loaded Flown TraceFault → Type 0
 IsCountedWhereGot (Got flown) = IsCounted flown
 IsCountedWhereGot (Refused fault) = ⊤
+IsCountedWhereGot TooLong = ⊤
 IsCountedWhereGot Failed = ⊤
 IsCountedWhereGot NoMemory = ⊤
-
--- the file was not read
-abbrev pub IsFailed : {A E : Type 0} → Loaded A E → Type 0
-IsFailed (Got value) = ⊥
-IsFailed (Refused fault) = ⊥
-IsFailed Failed = ⊤
-IsFailed NoMemory = ⊥

@@ -5,8 +5,9 @@ ghost use Rattle.scram_types.specs.Bits.{has_bit};
 ghost use Rattle.coverage_check.specs.Form.{state_refusal};
 ghost use Rattle.coverage_check.specs.Timing.{asked_bounds, is_bound_asked};
 ghost use Rattle.scram_io.specs.Outside.{Rose};
-ghost use Rattle.trace_text.specs.Printing.{Prints};
-ghost use Rattle.scram_cli.specs.Answers.{TellsAnswer, bounds_answer};
+ghost use Rattle.scram_io.specs.Outside.{Prints};
+ghost use Rattle.scram_cli.specs.Answers.{Gives, bounds_answer};
+ghost use Rattle.scram_cli.specs.Endings.{Tells};
 ghost use Rattle.scram_cli.specs.Bounds.{HasAskedBounds, bound_text_of, bounds_text, bounds_text_from};
 ghost use Rattle.scram_cli.specs.declared.status.TheConstants.{ANSWERED, UNREAD_FILE, UNWRITTEN_OUTPUT};
 
@@ -20,9 +21,8 @@ use std::alloc::Global;
 
 /// Tells the bounds that a specification has to give, where it has few enough environments in scope.
 pub fn tell_bounds<K: Sink>(alloc: Global, spec: &Spec, out: &mut K) -> Status
-    ensures tells { TellsAnswer (bounds_answer spec.now (state_refusal spec.now)) (K.taken out.old) (K.taken out.new)
-        (K.surely out.old) (K.faults out.old) (K.faults out.new) result.code }
-    ensures write { result.code ≡ UNWRITTEN_OUTPUT → Rose (K.faults out.old) (K.faults out.new) }
+    ensures tells { Tells (Gives (bounds_answer spec.now (state_refusal spec.now))) (K.state out.old) (K.state out.new) result.code }
+    ensures write { result.code ≡ UNWRITTEN_OUTPUT → Rose (K.state out.old).faults (K.state out.new).faults }
     ensures read { result.code ≢ UNREAD_FILE }
 {
     match refuse_states(spec) {
@@ -32,9 +32,8 @@ pub fn tell_bounds<K: Sink>(alloc: Global, spec: &Spec, out: &mut K) -> Status
 }
 
 fn tell_each<K: Sink>(alloc: Global, spec: &Spec, out: &mut K) -> Status
-    ensures tells { TellsAnswer (ANSWERED, bounds_text spec.now) (K.taken out.old) (K.taken out.new)
-        (K.surely out.old) (K.faults out.old) (K.faults out.new) result.code }
-    ensures write { result.code ≡ UNWRITTEN_OUTPUT → Rose (K.faults out.old) (K.faults out.new) }
+    ensures tells { Tells (Gives (ANSWERED, bounds_text spec.now)) (K.state out.old) (K.state out.new) result.code }
+    ensures write { result.code ≡ UNWRITTEN_OUTPUT → Rose (K.state out.old).faults (K.state out.new).faults }
     ensures read { result.code ≢ UNREAD_FILE }
 {
     match find_asked(alloc, spec) {
@@ -68,8 +67,7 @@ fn count_confs(spec: &Spec) -> u8
 
 fn put_bounds<K: Sink>(out: &mut K, spec: &Spec, sets: &[u16; 12]) -> Result<(), SinkFault>
     requires { HasAskedBounds spec.now sets.now }
-    ensures { Prints result (K.taken out.old) (K.taken out.new) (K.surely out.old) (K.surely out.new)
-        (K.faults out.old) (K.faults out.new) (bounds_text spec.now) }
+    ensures { Prints result (K.state out.old) (K.state out.new) (bounds_text spec.now) }
 {
     for i in 0..count_confs(spec) {
         match put_bounds_from(out, spec, sets[usize::from(i)], ConfId(i)) {
@@ -87,8 +85,7 @@ fn put_bounds_from<K: Sink>(
     from: ConfId,
 ) -> Result<(), SinkFault>
     requires { set ≡ asked_bounds spec.now from }
-    ensures { Prints result (K.taken out.old) (K.taken out.new) (K.surely out.old) (K.surely out.new)
-        (K.faults out.old) (K.faults out.new) (bounds_text_from spec.now from.0) }
+    ensures { Prints result (K.state out.old) (K.state out.new) (bounds_text_from spec.now from.0) }
 {
     for j in 0..count_confs(spec) {
         match put_bound(out, spec, set, from, ConfId(j)) {
@@ -110,8 +107,7 @@ fn put_bound<K: Sink>(
     requires set { set ≡ asked_bounds spec.now from }
     requires to { to.0 < length spec.now.confs }
     requires few { to.0 < 12 }
-    ensures { Prints result (K.taken out.old) (K.taken out.new) (K.surely out.old) (K.surely out.new)
-        (K.faults out.old) (K.faults out.new) (bound_text_of spec.now from.0 to.0) }
+    ensures { Prints result (K.state out.old) (K.state out.new) (bound_text_of spec.now from.0 to.0) }
 {
     if is_asked(spec, set, from, to) {
         out.put(make_bound_line(spec, from, to).as_bytes())

@@ -1,15 +1,17 @@
 //! The top call.
 
-ghost use Rattle.std.specs.Prelude.{◌≡◌, ◌≤◌, ◌∷◌, [], IsSome, IfSome, Some, map, string_bytes};
+ghost use Rattle.std.specs.Prelude.{◌≡◌, ◌∷◌, [], Some, map, string_bytes};
 ghost use Rattle.app_model.specs.Racks.{RacksFit};
-ghost use Rattle.scram_io.specs.Outside.{Rose, Unrisen, file_at};
+ghost use Rattle.scram_io.specs.Outside.{Rose, Took};
 ghost use Rattle.scram_cli.specs.declared.forms.Form.TheVariants.{Specified};
 ghost use Rattle.scram_cli.specs.declared.forms.Request.TheVariants.{Props, Run};
-ghost use Rattle.scram_cli.specs.Answers.{AreThere, Ends, HasRoom, IsAnswer, RequestAnswers};
-ghost use Rattle.scram_cli.specs.Assurance.{AssuresForm, AssuresRequest, AssuresScript, AssuresSpec, AssuresTrace};
+ghost use Rattle.scram_cli.specs.Answers.{FormAnswers, RequestAnswers};
+ghost use Rattle.scram_cli.specs.Assurance.{Assured, AssuresForm, AssuresSpec};
+ghost use Rattle.scram_cli.specs.Endings.{Completes, Ends, IsSent, IsTaken, StaysQuiet, WentOut};
 ghost use Rattle.scram_cli.specs.Forms.{files_of, form_of, further_files, with_name, with_names};
 ghost use Rattle.scram_cli.specs.declared.status.TheConstants.{ANSWERED, UNREAD_FILE, UNWRITTEN_OUTPUT};
 
+use crate::assurance::answers_are_assured;
 use crate::bounds::tell_bounds;
 use crate::flights::{FlightText, check, fly};
 use crate::forms::{Form, Request, form_of};
@@ -17,8 +19,11 @@ use crate::generated::answer_generated;
 use crate::judgements::judge;
 use crate::lines::{make_script_line, make_specification_line, make_trace_line};
 use crate::loads::{Loaded, load_script, load_spec, load_trace};
-use crate::refusals::{refuse_memory, refuse_read, refuse_usage, tell_line};
-use crate::status::{BROKEN_SCRIPT, BROKEN_SPECIFICATION, BROKEN_TRACE, Status};
+use crate::refusals::{
+    refuse_long_script, refuse_long_specification, refuse_long_trace, refuse_memory, refuse_read,
+    refuse_usage, tell_line,
+};
+use crate::status::{BROKEN_SCRIPT, BROKEN_SPECIFICATION, BROKEN_TRACE, Status, UNWRITTEN_OUTPUT};
 use app_model::Rack;
 use scram_io::{Files, Sink};
 use scram_types::Spec;
@@ -26,7 +31,8 @@ use std::alloc::{AllocGlobal, Global};
 
 /// Does what the words after the program's name ask for: `run SPEC SCRIPT` flies a mission, `check SPEC`
 /// tells whether a specification is accepted, `bounds SPEC` which bounds it has to give, `props SPEC TRACE`
-/// judges a trace, by any specification, `gen N` prints the mission of a number, and `fly N` flies it.
+/// judges a trace, by any specification, `gen N` prints the mission of a number, and `fly N` flies it. What is
+/// printed has gone out when the call ends, or the status is 4.
 ///
 /// `racks` are the boxes of the processors, and `spares` those of processors that restart. One thread
 /// needs no spares.
@@ -40,19 +46,43 @@ pub fn scram<R: AllocGlobal, F: Files, K: Sink>(
 ) -> Status
     requires racks { RacksFit (λ b. kind_of (b.vtable, b.value)) (λ r. r.boxes.items) racks.items }
     requires spares { RacksFit (λ b. kind_of (b.vtable, b.value)) (λ r. r.boxes.items) spares.items }
-    ensures answer { IfSome (F.told files.old) (λ m. Ends (IsAnswer (form_of (map string_bytes words.now)) m)
-        (files_of (form_of (map string_bytes words.now))) (F.faults files.old) (F.faults files.new)
-        (K.taken out.old) (K.taken out.new) (K.surely out.old) (K.faults out.old) (K.faults out.new) result.code) }
-    ensures read { result.code ≡ UNREAD_FILE → Rose (F.faults files.old) (F.faults files.new) }
-    ensures write { result.code ≡ UNWRITTEN_OUTPUT → Rose (K.faults out.old) (K.faults out.new) }
-    ensures complete { IfSome (F.told files.old) (λ m. F.steady files.old → AreThere m (files_of (form_of (map string_bytes words.now)))
-        → HasRoom (IsAnswer (form_of (map string_bytes words.now)) m) (K.surely out.old)
-        → Unrisen (F.faults files.old) (F.faults files.new) × Unrisen (K.faults out.old) (K.faults out.new)) }
-    ensures assured { result.code ≡ ANSWERED → IfSome (F.told files.old) (λ m.
-        AssuresForm (form_of (map string_bytes words.now)) m (K.taken out.old) (K.taken out.new)) }
+    ensures answer { Ends (FormAnswers (form_of (map string_bytes words.now))) (files_of (form_of (map string_bytes words.now)))
+        (F.state files.old) (F.state files.new) (IsSent (K.state out.old) (K.state out.new) result.code) }
+    ensures read { result.code ≡ UNREAD_FILE → Rose (F.state files.old).faults (F.state files.new).faults }
+    ensures write { result.code ≡ UNWRITTEN_OUTPUT → Rose (K.state out.old).faults (K.state out.new).faults }
+    ensures complete { Completes (FormAnswers (form_of (map string_bytes words.now))) (files_of (form_of (map string_bytes words.now)))
+        (F.state files.old) (F.state files.new) (K.state out.old) (K.state out.new) }
+    ensures assured { result.code ≡ ANSWERED → Assured (AssuresForm (form_of (map string_bytes words.now)))
+        (F.state files.old) (F.state files.new) (WentOut (K.state out.old) (K.state out.new)) }
+{
+    let status = answer_words(rt.alloc(), words, files, out, racks);
+    match out.flush() {
+        Ok(()) => status,
+        Err(_) => Status {
+            code: UNWRITTEN_OUTPUT,
+        },
+    }
+}
+
+// What is printed may be held back still.
+fn answer_words<F: Files, K: Sink>(
+    alloc: Global,
+    words: &[String],
+    files: &mut F,
+    out: &mut K,
+    racks: Vec<Rack>,
+) -> Status
+    requires { RacksFit (λ b. kind_of (b.vtable, b.value)) (λ r. r.boxes.items) racks.items }
+    ensures ends { Ends (FormAnswers (form_of (map string_bytes words.now))) (files_of (form_of (map string_bytes words.now)))
+        (F.state files.old) (F.state files.new) (IsTaken (K.state out.old) (K.state out.new) result.code) }
+    ensures read { result.code ≡ UNREAD_FILE → Rose (F.state files.old).faults (F.state files.new).faults }
+    ensures write { result.code ≡ UNWRITTEN_OUTPUT → Rose (K.state out.old).faults (K.state out.new).faults }
+    ensures quiet { StaysQuiet (files_of (form_of (map string_bytes words.now))) (F.state files.old) (F.state files.new) }
+    ensures assured { result.code ≡ ANSWERED → Assured (AssuresForm (form_of (map string_bytes words.now)))
+        (F.state files.old) (F.state files.new) (Took (K.state out.old) (K.state out.new)) }
 {
     match form_of(words) {
-        Some(form) => answer_form(rt.alloc(), form, files, out, racks),
+        Some(form) => answer_form(alloc, form, files, out, racks),
         None => refuse_usage(out),
     }
 }
@@ -65,16 +95,13 @@ fn answer_form<F: Files, K: Sink>(
     racks: Vec<Rack>,
 ) -> Status
     requires { RacksFit (λ b. kind_of (b.vtable, b.value)) (λ r. r.boxes.items) racks.items }
-    ensures ends { IfSome (F.told files.old) (λ m. Ends (IsAnswer (Some (with_names (λ name. name.now) form.entry)) m)
-        (files_of (Some (with_names (λ name. name.now) form.entry))) (F.faults files.old) (F.faults files.new)
-        (K.taken out.old) (K.taken out.new) (K.surely out.old) (K.faults out.old) (K.faults out.new) result.code) }
-    ensures read { result.code ≡ UNREAD_FILE → Rose (F.faults files.old) (F.faults files.new) }
-    ensures write { result.code ≡ UNWRITTEN_OUTPUT → Rose (K.faults out.old) (K.faults out.new) }
-    ensures quiet { IfSome (F.told files.old) (λ m. F.steady files.old
-        → AreThere m (files_of (Some (with_names (λ name. name.now) form.entry)))
-        → Unrisen (F.faults files.old) (F.faults files.new)) }
-    ensures assured { result.code ≡ ANSWERED → IfSome (F.told files.old) (λ m.
-        AssuresForm (Some (with_names (λ name. name.now) form.entry)) m (K.taken out.old) (K.taken out.new)) }
+    ensures ends { Ends (FormAnswers (Some (with_names (λ name. name.now) form.entry))) (files_of (Some (with_names (λ name. name.now) form.entry)))
+        (F.state files.old) (F.state files.new) (IsTaken (K.state out.old) (K.state out.new) result.code) }
+    ensures read { result.code ≡ UNREAD_FILE → Rose (F.state files.old).faults (F.state files.new).faults }
+    ensures write { result.code ≡ UNWRITTEN_OUTPUT → Rose (K.state out.old).faults (K.state out.new).faults }
+    ensures quiet { StaysQuiet (files_of (Some (with_names (λ name. name.now) form.entry))) (F.state files.old) (F.state files.new) }
+    ensures assured { result.code ≡ ANSWERED → Assured (AssuresForm (Some (with_names (λ name. name.now) form.entry)))
+        (F.state files.old) (F.state files.new) (Took (K.state out.old) (K.state out.new)) }
 {
     match form {
         Form::Specified {
@@ -95,25 +122,26 @@ fn answer_request<F: Files, K: Sink>(
     racks: Vec<Rack>,
 ) -> Status
     requires { RacksFit (λ b. kind_of (b.vtable, b.value)) (λ r. r.boxes.items) racks.items }
-    ensures ends { IfSome (F.told files.old) (λ m. Ends (IsAnswer (Some (Specified specification.now (with_name (λ name. name.now) request.entry))) m)
-        (specification.now ∷ further_files (with_name (λ name. name.now) request.entry)) (F.faults files.old) (F.faults files.new)
-        (K.taken out.old) (K.taken out.new) (K.surely out.old) (K.faults out.old) (K.faults out.new) result.code) }
-    ensures count { F.faults files.old ≤ F.faults files.new }
-    ensures read { result.code ≡ UNREAD_FILE → Rose (F.faults files.old) (F.faults files.new) }
-    ensures write { result.code ≡ UNWRITTEN_OUTPUT → Rose (K.faults out.old) (K.faults out.new) }
-    ensures quiet { IfSome (F.told files.old) (λ m. F.steady files.old
-        → AreThere m (specification.now ∷ further_files (with_name (λ name. name.now) request.entry))
-        → Unrisen (F.faults files.old) (F.faults files.new)) }
-    ensures assured { result.code ≡ ANSWERED → IfSome (F.told files.old) (λ m.
-        AssuresSpec m specification.now (with_name (λ name. name.now) request.entry) (K.taken out.old) (K.taken out.new)) }
+    ensures ends { Ends (FormAnswers (Some (Specified specification.now (with_name (λ name. name.now) request.entry))))
+        (specification.now ∷ further_files (with_name (λ name. name.now) request.entry))
+        (F.state files.old) (F.state files.new) (IsTaken (K.state out.old) (K.state out.new) result.code) }
+    ensures read { result.code ≡ UNREAD_FILE → Rose (F.state files.old).faults (F.state files.new).faults }
+    ensures write { result.code ≡ UNWRITTEN_OUTPUT → Rose (K.state out.old).faults (K.state out.new).faults }
+    ensures quiet { StaysQuiet (specification.now ∷ further_files (with_name (λ name. name.now) request.entry)) (F.state files.old) (F.state files.new) }
+    ensures assured { result.code ≡ ANSWERED → Assured (AssuresSpec specification.now (with_name (λ name. name.now) request.entry))
+        (F.state files.old) (F.state files.new) (Took (K.state out.old) (K.state out.new)) }
 {
     match load_spec(alloc, specification, files) {
-        Loaded::Got(spec) => answer_read(alloc, spec, request, files, out, racks),
+        Loaded::Got(spec) => {
+            answers_are_assured(&spec);
+            answer_read(alloc, spec, request, files, out, racks)
+        }
         Loaded::Refused(fault) => tell_line(
             out,
             BROKEN_SPECIFICATION,
             &make_specification_line(&fault),
         ),
+        Loaded::TooLong => refuse_long_specification(out),
         Loaded::Failed => refuse_read(alloc, out, specification),
         Loaded::NoMemory => refuse_memory(out),
     }
@@ -129,17 +157,11 @@ fn answer_read<F: Files, K: Sink>(
     racks: Vec<Rack>,
 ) -> Status
     requires { RacksFit (λ b. kind_of (b.vtable, b.value)) (λ r. r.boxes.items) racks.items }
-    ensures ends { IfSome (F.told files.old) (λ m. Ends (RequestAnswers m (with_name (λ name. name.now) request.entry) spec)
-        (further_files (with_name (λ name. name.now) request.entry)) (F.faults files.old) (F.faults files.new)
-        (K.taken out.old) (K.taken out.new) (K.surely out.old) (K.faults out.old) (K.faults out.new) result.code) }
-    ensures count { F.faults files.old ≤ F.faults files.new }
-    ensures read { result.code ≡ UNREAD_FILE → Rose (F.faults files.old) (F.faults files.new) }
-    ensures write { result.code ≡ UNWRITTEN_OUTPUT → Rose (K.faults out.old) (K.faults out.new) }
-    ensures quiet { IfSome (F.told files.old) (λ m. F.steady files.old
-        → AreThere m (further_files (with_name (λ name. name.now) request.entry))
-        → Unrisen (F.faults files.old) (F.faults files.new)) }
-    ensures assured { result.code ≡ ANSWERED → IfSome (F.told files.old) (λ m.
-        AssuresRequest spec m (with_name (λ name. name.now) request.entry) (K.taken out.old) (K.taken out.new)) }
+    ensures ends { Ends (RequestAnswers (with_name (λ name. name.now) request.entry) spec) (further_files (with_name (λ name. name.now) request.entry))
+        (F.state files.old) (F.state files.new) (IsTaken (K.state out.old) (K.state out.new) result.code) }
+    ensures read { result.code ≡ UNREAD_FILE → Rose (F.state files.old).faults (F.state files.new).faults }
+    ensures write { result.code ≡ UNWRITTEN_OUTPUT → Rose (K.state out.old).faults (K.state out.new).faults }
+    ensures quiet { StaysQuiet (further_files (with_name (λ name. name.now) request.entry)) (F.state files.old) (F.state files.new) }
 {
     match request {
         Request::Run { script } => run(alloc, spec, script, files, out, racks),
@@ -159,20 +181,16 @@ fn run<F: Files, K: Sink>(
     racks: Vec<Rack>,
 ) -> Status
     requires { RacksFit (λ b. kind_of (b.vtable, b.value)) (λ r. r.boxes.items) racks.items }
-    ensures ends { IfSome (F.told files.old) (λ m. Ends (RequestAnswers m (Run script.now) spec)
-        (script.now ∷ []) (F.faults files.old) (F.faults files.new)
-        (K.taken out.old) (K.taken out.new) (K.surely out.old) (K.faults out.old) (K.faults out.new) result.code) }
-    ensures count { F.faults files.old ≤ F.faults files.new }
-    ensures read { result.code ≡ UNREAD_FILE → Rose (F.faults files.old) (F.faults files.new) }
-    ensures write { result.code ≡ UNWRITTEN_OUTPUT → Rose (K.faults out.old) (K.faults out.new) }
-    ensures quiet { IfSome (F.told files.old) (λ m. F.steady files.old → IsSome (file_at script.now m)
-        → Unrisen (F.faults files.old) (F.faults files.new)) }
-    ensures assured { result.code ≡ ANSWERED → IfSome (F.told files.old) (λ m.
-        AssuresScript spec m script.now (K.taken out.old) (K.taken out.new)) }
+    ensures ends { Ends (RequestAnswers (Run script.now) spec) (script.now ∷ [])
+        (F.state files.old) (F.state files.new) (IsTaken (K.state out.old) (K.state out.new) result.code) }
+    ensures read { result.code ≡ UNREAD_FILE → Rose (F.state files.old).faults (F.state files.new).faults }
+    ensures write { result.code ≡ UNWRITTEN_OUTPUT → Rose (K.state out.old).faults (K.state out.new).faults }
+    ensures quiet { StaysQuiet (script.now ∷ []) (F.state files.old) (F.state files.new) }
 {
     match load_script(alloc, &spec, script, files) {
         Loaded::Got(script) => fly(alloc, spec, script, FlightText::Trace, out, racks),
         Loaded::Refused(fault) => tell_line(out, BROKEN_SCRIPT, &make_script_line(&fault)),
+        Loaded::TooLong => refuse_long_script(out),
         Loaded::Failed => refuse_read(alloc, out, script),
         Loaded::NoMemory => refuse_memory(out),
     }
@@ -186,19 +204,16 @@ fn props<F: Files, K: Sink>(
     files: &mut F,
     out: &mut K,
 ) -> Status
-    ensures ends { IfSome (F.told files.old) (λ m. Ends (RequestAnswers m (Props trace.now) spec.now)
-        (trace.now ∷ []) (F.faults files.old) (F.faults files.new)
-        (K.taken out.old) (K.taken out.new) (K.surely out.old) (K.faults out.old) (K.faults out.new) result.code) }
-    ensures count { F.faults files.old ≤ F.faults files.new }
-    ensures read { result.code ≡ UNREAD_FILE → Rose (F.faults files.old) (F.faults files.new) }
-    ensures write { result.code ≡ UNWRITTEN_OUTPUT → Rose (K.faults out.old) (K.faults out.new) }
-    ensures quiet { IfSome (F.told files.old) (λ m. F.steady files.old → IsSome (file_at trace.now m)
-        → Unrisen (F.faults files.old) (F.faults files.new)) }
-    ensures assured { result.code ≡ ANSWERED → IfSome (F.told files.old) (λ m. AssuresTrace spec.now m trace.now) }
+    ensures ends { Ends (RequestAnswers (Props trace.now) spec.now) (trace.now ∷ [])
+        (F.state files.old) (F.state files.new) (IsTaken (K.state out.old) (K.state out.new) result.code) }
+    ensures read { result.code ≡ UNREAD_FILE → Rose (F.state files.old).faults (F.state files.new).faults }
+    ensures write { result.code ≡ UNWRITTEN_OUTPUT → Rose (K.state out.old).faults (K.state out.new).faults }
+    ensures quiet { StaysQuiet (trace.now ∷ []) (F.state files.old) (F.state files.new) }
 {
     match load_trace(alloc, spec, trace, files) {
         Loaded::Got(flown) => judge(spec, &flown, out),
         Loaded::Refused(fault) => tell_line(out, BROKEN_TRACE, &make_trace_line(fault)),
+        Loaded::TooLong => refuse_long_trace(out),
         Loaded::Failed => refuse_read(alloc, out, trace),
         Loaded::NoMemory => refuse_memory(out),
     }

@@ -6,9 +6,9 @@ ghost use Rattle.coverage_check.specs.Acceptance.{Accepts, first_refusal};
 ghost use Rattle.fault_script.specs.Assumption.{first_outside};
 ghost use Rattle.fault_script.specs.Fits.{Fits};
 ghost use Rattle.scram_io.specs.Outside.{Rose};
-ghost use Rattle.trace_text.specs.Printing.{Prints};
-ghost use Rattle.scram_cli.specs.Answers.{TellsAnswer, check_answer, flight_answer, flown_text, flight_text, within_answer};
-ghost use Rattle.scram_cli.specs.Assurance.{IsAssured};
+ghost use Rattle.scram_io.specs.Outside.{Prints};
+ghost use Rattle.scram_cli.specs.Endings.{Tells};
+ghost use Rattle.scram_cli.specs.Answers.{Gives, check_answer, flight_answer, flown_text, flight_text, within_answer};
 ghost use Rattle.scram_cli.specs.declared.status.TheConstants.{ANSWERED, UNREAD_FILE, UNWRITTEN_OUTPUT};
 
 use crate::lines::{make_accepted_line, make_fly_line, make_outside_line, make_shown_line};
@@ -24,11 +24,9 @@ use trace_text::put_trace;
 
 /// Whether a specification is accepted.
 pub fn check<K: Sink>(alloc: Global, spec: Spec, out: &mut K) -> Status
-    ensures tells { TellsAnswer (check_answer spec (first_refusal spec)) (K.taken out.old) (K.taken out.new)
-        (K.surely out.old) (K.faults out.old) (K.faults out.new) result.code }
-    ensures write { result.code ≡ UNWRITTEN_OUTPUT → Rose (K.faults out.old) (K.faults out.new) }
+    ensures tells { Tells (Gives (check_answer spec (first_refusal spec))) (K.state out.old) (K.state out.new) result.code }
+    ensures write { result.code ≡ UNWRITTEN_OUTPUT → Rose (K.state out.old).faults (K.state out.new).faults }
     ensures read { result.code ≢ UNREAD_FILE }
-    ensures accepted { result.code ≡ ANSWERED → Accepts spec }
 {
     match accept(alloc, spec) {
         Ok(accepted) => tell_line(out, ANSWERED, &make_accepted_line(accepted.spec())),
@@ -59,11 +57,9 @@ pub fn fly<K: Sink>(
 ) -> Status
     requires script { Fits spec script }
     requires racks { RacksFit (λ b. kind_of (b.vtable, b.value)) (λ r. r.boxes.items) racks.items }
-    ensures tells { TellsAnswer (flight_answer told spec script (first_refusal spec)) (K.taken out.old) (K.taken out.new)
-        (K.surely out.old) (K.faults out.old) (K.faults out.new) result.code }
-    ensures write { result.code ≡ UNWRITTEN_OUTPUT → Rose (K.faults out.old) (K.faults out.new) }
+    ensures tells { Tells (Gives (flight_answer told spec script (first_refusal spec))) (K.state out.old) (K.state out.new) result.code }
+    ensures write { result.code ≡ UNWRITTEN_OUTPUT → Rose (K.state out.old).faults (K.state out.new).faults }
     ensures read { result.code ≢ UNREAD_FILE }
-    ensures assured { result.code ≡ ANSWERED → IsAssured told spec script (K.taken out.old) (K.taken out.new) }
 {
     match accept(alloc, spec) {
         Ok(accepted) => fly_accepted(alloc, accepted, script, told, out, racks),
@@ -84,11 +80,9 @@ fn fly_accepted<K: Sink>(
 ) -> Status
     requires script { Fits accepted script }
     requires racks { RacksFit (λ b. kind_of (b.vtable, b.value)) (λ r. r.boxes.items) racks.items }
-    ensures tells { TellsAnswer (within_answer told accepted script (first_outside accepted script)) (K.taken out.old) (K.taken out.new)
-        (K.surely out.old) (K.faults out.old) (K.faults out.new) result.code }
-    ensures write { result.code ≡ UNWRITTEN_OUTPUT → Rose (K.faults out.old) (K.faults out.new) }
+    ensures tells { Tells (Gives (within_answer told accepted script (first_outside accepted script))) (K.state out.old) (K.state out.new) result.code }
+    ensures write { result.code ≡ UNWRITTEN_OUTPUT → Rose (K.state out.old).faults (K.state out.new).faults }
     ensures read { result.code ≢ UNREAD_FILE }
-    ensures assured { result.code ≡ ANSWERED → IsAssured told accepted script (K.taken out.old) (K.taken out.new) }
 {
     match Mission::new(accepted, script) {
         Ok(mission) => fly_mission(alloc, &mission, told, out, racks),
@@ -104,11 +98,9 @@ fn fly_mission<K: Sink>(
     racks: Vec<Rack>,
 ) -> Status
     requires racks { RacksFit (λ b. kind_of (b.vtable, b.value)) (λ r. r.boxes.items) racks.items }
-    ensures tells { TellsAnswer (ANSWERED, flight_text told mission.now.spec mission.now.script) (K.taken out.old) (K.taken out.new)
-        (K.surely out.old) (K.faults out.old) (K.faults out.new) result.code }
-    ensures write { result.code ≡ UNWRITTEN_OUTPUT → Rose (K.faults out.old) (K.faults out.new) }
+    ensures tells { Tells (Gives (ANSWERED, flight_text told mission.now.spec mission.now.script)) (K.state out.old) (K.state out.new) result.code }
+    ensures write { result.code ≡ UNWRITTEN_OUTPUT → Rose (K.state out.old).faults (K.state out.new).faults }
     ensures read { result.code ≢ UNREAD_FILE }
-    ensures assured { result.code ≡ ANSWERED → IsAssured told mission.now.spec mission.now.script (K.taken out.old) (K.taken out.new) }
 {
     mission.holds();
     match one_thread(alloc, mission, racks) {
@@ -130,8 +122,7 @@ fn put_flown<K: Sink>(
 ) -> Result<(), SinkFault>
     requires rows { length flown.now.rows < 2 ^ 32 }
     requires reports { length flown.now.reports < 2 ^ 32 }
-    ensures { Prints result (K.taken out.old) (K.taken out.new) (K.surely out.old) (K.surely out.new)
-        (K.faults out.old) (K.faults out.new) (flown_text told spec.now flown.now.rows flown.now.reports) }
+    ensures { Prints result (K.state out.old) (K.state out.new) (flown_text told spec.now flown.now.rows flown.now.reports) }
 {
     match told {
         FlightText::Trace => put_trace(out, spec, flown.rows.items(), flown.reports.items()),

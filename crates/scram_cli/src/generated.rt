@@ -1,13 +1,15 @@
 //! Missions from a number: printed, or flown.
 
-ghost use Rattle.std.specs.Prelude.{◌≡◌, ◌≢◌, IfOk};
+ghost use Rattle.std.specs.Prelude.{◌≡◌, ◌≢◌, ℕ, List, [], IfOk};
 ghost use Rattle.app_model.specs.Racks.{RacksFit};
 ghost use Rattle.fault_script.specs.Fits.{Fits};
-ghost use Rattle.scram_io.specs.Outside.{Rose};
-ghost use Rattle.scram_cli.specs.Answers.{TellsAnswer, TellsMission, mission_answer, mission_text};
-ghost use Rattle.scram_cli.specs.Assurance.{AssuresMission, AssuresPurpose};
+ghost use Rattle.scram_io.specs.Outside.{Rose, Took};
+ghost use Rattle.scram_cli.specs.Answers.{Gives, IsMissionAnswer, mission_answer, mission_text};
+ghost use Rattle.scram_cli.specs.Assurance.{AssuresMission};
+ghost use Rattle.scram_cli.specs.Endings.{Tells};
 ghost use Rattle.scram_cli.specs.declared.status.TheConstants.{ANSWERED, UNREAD_FILE, UNWRITTEN_OUTPUT};
 
+use crate::assurance::flights_are_assured;
 use crate::flights::{FlightText, fly};
 use crate::forms::Purpose;
 use crate::refusals::{refuse_memory, tell};
@@ -29,14 +31,16 @@ pub fn answer_generated<K: Sink>(
     racks: Vec<Rack>,
 ) -> Status
     requires { RacksFit (λ b. kind_of (b.vtable, b.value)) (λ r. r.boxes.items) racks.items }
-    ensures tells { TellsMission number purpose (K.taken out.old) (K.taken out.new)
-        (K.surely out.old) (K.faults out.old) (K.faults out.new) result.code }
-    ensures write { result.code ≡ UNWRITTEN_OUTPUT → Rose (K.faults out.old) (K.faults out.new) }
+    ensures tells { Tells (IsMissionAnswer number purpose) (K.state out.old) (K.state out.new) result.code }
+    ensures write { result.code ≡ UNWRITTEN_OUTPUT → Rose (K.state out.old).faults (K.state out.new).faults }
     ensures read { result.code ≢ UNREAD_FILE }
-    ensures assured { result.code ≡ ANSWERED → AssuresMission number purpose (K.taken out.old) (K.taken out.new) }
+    ensures assured { result.code ≡ ANSWERED → (text : List ℕ) × AssuresMission number purpose [] text × Took (K.state out.old) (K.state out.new) text }
 {
     match generate(alloc, number) {
-        Ok((spec, script)) => answer_mission(alloc, number, purpose, spec, script, out, racks),
+        Ok((spec, script)) => {
+            flights_are_assured(&spec);
+            answer_mission(alloc, number, purpose, spec, script, out, racks)
+        }
         Err(_) => refuse_memory(out),
     }
 }
@@ -52,11 +56,9 @@ fn answer_mission<K: Sink>(
 ) -> Status
     requires script { Fits spec script }
     requires racks { RacksFit (λ b. kind_of (b.vtable, b.value)) (λ r. r.boxes.items) racks.items }
-    ensures tells { TellsAnswer (mission_answer number purpose spec script) (K.taken out.old) (K.taken out.new)
-        (K.surely out.old) (K.faults out.old) (K.faults out.new) result.code }
-    ensures write { result.code ≡ UNWRITTEN_OUTPUT → Rose (K.faults out.old) (K.faults out.new) }
+    ensures tells { Tells (Gives (mission_answer number purpose spec script)) (K.state out.old) (K.state out.new) result.code }
+    ensures write { result.code ≡ UNWRITTEN_OUTPUT → Rose (K.state out.old).faults (K.state out.new).faults }
     ensures read { result.code ≢ UNREAD_FILE }
-    ensures assured { result.code ≡ ANSWERED → AssuresPurpose number purpose spec script (K.taken out.old) (K.taken out.new) }
 {
     match purpose {
         Purpose::Print => print_mission(alloc, &spec, &script, out),
@@ -65,9 +67,8 @@ fn answer_mission<K: Sink>(
 }
 
 fn print_mission<K: Sink>(alloc: Global, spec: &Spec, script: &Script, out: &mut K) -> Status
-    ensures tells { TellsAnswer (ANSWERED, mission_text spec.now script.now) (K.taken out.old) (K.taken out.new)
-        (K.surely out.old) (K.faults out.old) (K.faults out.new) result.code }
-    ensures write { result.code ≡ UNWRITTEN_OUTPUT → Rose (K.faults out.old) (K.faults out.new) }
+    ensures tells { Tells (Gives (ANSWERED, mission_text spec.now script.now)) (K.state out.old) (K.state out.new) result.code }
+    ensures write { result.code ≡ UNWRITTEN_OUTPUT → Rose (K.state out.old).faults (K.state out.new).faults }
     ensures read { result.code ≢ UNREAD_FILE }
 {
     match write_mission(alloc, spec, script) {

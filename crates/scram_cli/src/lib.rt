@@ -2,6 +2,7 @@
 //! that they name, but for which cycle of needs is shown where there are several.
 #![tactic(auto)]
 
+mod assurance;
 mod bounds;
 mod command;
 mod flights;
@@ -10,9 +11,11 @@ mod generated;
 mod judgements;
 mod lines;
 mod loads;
+mod program;
 mod refusals;
 pub mod status;
 mod summaries;
 
 pub use command::scram;
+pub use program::run_program;
 pub use status::Status;

@@ -1,13 +1,10 @@
 //! Reading the files that the words name.
 
-ghost use Rattle.std.specs.Prelude.{◌≡◌, ◌≤◌, IfSome};
-ghost use Rattle.scram_io.specs.Outside.{Rose, StaysSteady};
-ghost use Rattle.scram_cli.specs.Loads.{FitsWhereGot, IsCountedWhereGot, IsFailed, Loads, ReadsAsScript, ReadsAsSpec, ReadsAsTrace, RefusesAsScript, RefusesAsSpec, RefusesAsTrace};
+ghost use Rattle.scram_io.specs.Outside.{StaysSteady};
+ghost use Rattle.scram_cli.specs.Loads.{FitsWhereGot, IsCountedWhereGot, Loads, ReadsAsScript, ReadsAsSpec, ReadsAsTrace, RefusesAsScript, RefusesAsSpec, RefusesAsTrace};
 
-use arrayvec::ArrayVec;
 use fault_script::{ScriptError, ScriptFault, read_script};
 use reconf_spec::{SpecError, SpecFault, read_spec};
-use scram_doc::Path;
 use scram_io::{Files, ReadFault};
 use scram_types::limits::{MAX_SCRIPT_BYTES, MAX_SPECIFICATION_BYTES, MAX_TRACE_BYTES};
 use scram_types::{Flown, Script, Spec};
@@ -21,7 +18,9 @@ pub enum Loaded<T, E> {
     Got(T),
     /// The rule that the bytes break.
     Refused(E),
-    /// The file was not read.
+    /// The file has more bytes than it may have, and was not read.
+    TooLong,
+    /// The file could not be read.
     Failed,
     /// Memory was wanting.
     NoMemory,
@@ -29,12 +28,8 @@ pub enum Loaded<T, E> {
 
 /// Loads a specification.
 pub fn load_spec<F: Files>(alloc: Global, name: &str, files: &mut F) -> Loaded<Spec, SpecFault>
-    ensures value { IfSome (F.told files.old) (λ m. Loads ReadsAsSpec RefusesAsSpec m name.now result) }
-    ensures map { F.told files.new ≡ F.told files.old }
-    ensures count { F.faults files.old ≤ F.faults files.new }
-    ensures failed { IsFailed result → Rose (F.faults files.old) (F.faults files.new) }
-    ensures steady { StaysSteady (F.told files.old) name.now (F.steady files.old) (F.steady files.new)
-        (F.faults files.old) (F.faults files.new) }
+    ensures loads { Loads ReadsAsSpec RefusesAsSpec MAX_SPECIFICATION_BYTES name.now (F.state files.old) (F.state files.new) result }
+    ensures steady { StaysSteady (F.state files.old) (F.state files.new) name.now }
 {
     match files.read(alloc, name, MAX_SPECIFICATION_BYTES) {
         Ok(bytes) => match read_spec(alloc, &bytes) {
@@ -43,12 +38,7 @@ pub fn load_spec<F: Files>(alloc: Global, name: &str, files: &mut F) -> Loaded<S
             Err(SpecError::NoMemory) => Loaded::NoMemory,
         },
         Err(ReadFault::Failed) => Loaded::Failed,
-        Err(ReadFault::TooLong) => Loaded::Refused(SpecFault {
-            rule: reconf_spec::rule::TOO_LONG,
-            path: Path::root(),
-            cycle: ArrayVec::new(),
-            names: ArrayVec::new(),
-        }),
+        Err(ReadFault::TooLong) => Loaded::TooLong,
         Err(ReadFault::NoMemory) => Loaded::NoMemory,
     }
 }
@@ -60,13 +50,9 @@ pub fn load_script<F: Files>(
     name: &str,
     files: &mut F,
 ) -> Loaded<Script, ScriptFault>
-    ensures value { IfSome (F.told files.old) (λ m. Loads (ReadsAsScript spec.now) (RefusesAsScript spec.now) m name.now result) }
+    ensures loads { Loads (ReadsAsScript spec.now) (RefusesAsScript spec.now) MAX_SCRIPT_BYTES name.now (F.state files.old) (F.state files.new) result }
     ensures fits { FitsWhereGot spec.now result }
-    ensures map { F.told files.new ≡ F.told files.old }
-    ensures count { F.faults files.old ≤ F.faults files.new }
-    ensures failed { IsFailed result → Rose (F.faults files.old) (F.faults files.new) }
-    ensures steady { StaysSteady (F.told files.old) name.now (F.steady files.old) (F.steady files.new)
-        (F.faults files.old) (F.faults files.new) }
+    ensures steady { StaysSteady (F.state files.old) (F.state files.new) name.now }
 {
     match files.read(alloc, name, MAX_SCRIPT_BYTES) {
         Ok(bytes) => match read_script(alloc, &bytes, spec) {
@@ -75,9 +61,7 @@ pub fn load_script<F: Files>(
             Err(ScriptError::NoMemory) => Loaded::NoMemory,
         },
         Err(ReadFault::Failed) => Loaded::Failed,
-        Err(ReadFault::TooLong) => {
-            Loaded::Refused(ScriptFault::new(fault_script::rule::TOO_LONG, &Path::root()))
-        }
+        Err(ReadFault::TooLong) => Loaded::TooLong,
         Err(ReadFault::NoMemory) => Loaded::NoMemory,
     }
 }
@@ -89,13 +73,9 @@ pub fn load_trace<F: Files>(
     name: &str,
     files: &mut F,
 ) -> Loaded<Flown, TraceFault>
-    ensures value { IfSome (F.told files.old) (λ m. Loads (ReadsAsTrace spec.now) (RefusesAsTrace spec.now) m name.now result) }
+    ensures loads { Loads (ReadsAsTrace spec.now) (RefusesAsTrace spec.now) MAX_TRACE_BYTES name.now (F.state files.old) (F.state files.new) result }
     ensures counted { IsCountedWhereGot result }
-    ensures map { F.told files.new ≡ F.told files.old }
-    ensures count { F.faults files.old ≤ F.faults files.new }
-    ensures failed { IsFailed result → Rose (F.faults files.old) (F.faults files.new) }
-    ensures steady { StaysSteady (F.told files.old) name.now (F.steady files.old) (F.steady files.new)
-        (F.faults files.old) (F.faults files.new) }
+    ensures steady { StaysSteady (F.state files.old) (F.state files.new) name.now }
 {
     match files.read(alloc, name, MAX_TRACE_BYTES) {
         Ok(bytes) => match read_trace(alloc, &bytes, spec) {
@@ -104,7 +84,7 @@ pub fn load_trace<F: Files>(
             Err(TraceError::NoMemory) => Loaded::NoMemory,
         },
         Err(ReadFault::Failed) => Loaded::Failed,
-        Err(ReadFault::TooLong) => Loaded::Refused(TraceFault { line: 0, rule: 9 }),
+        Err(ReadFault::TooLong) => Loaded::TooLong,
         Err(ReadFault::NoMemory) => Loaded::NoMemory,
     }
 }

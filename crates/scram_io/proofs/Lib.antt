@@ -1,2 +1,3 @@
-pub mod Puts
 mod KnownBytes
+pub mod Puts
+pub mod Histories

@@ -1,7 +1,7 @@
 -- Files and a sink in memory: what they hold, and what a call makes of it.
 use Rattle.std.specs.Prelude.{ℕ, ◌+◌, ◌-◌, nat_eq, nat_lt, nat_le, Bool, not, ◌&&◌, ◌||◌, List, [], ◌++◌, length, Option, Some, None, Result, Ok, Err, if◌then◌else◌, is_none}
 use Rattle.std.specs.List.{list_any}
-use Rattle.scram_io.specs.Outside.{FileMap, file_at, counted, greatest_count}
+use Rattle.scram_io.specs.Outside.{FileMap, FilesState, History, SinkState, file_at, counted, greatest_count}
 use Rattle.scram_io.specs.declared.files.ReadFault.{ReadFault}
 use Rattle.scram_io.specs.declared.files.ReadFault.TheVariants.{Failed, TooLong}
 
@@ -9,8 +9,9 @@ use Rattle.scram_io.specs.declared.files.ReadFault.TheVariants.{Failed, TooLong}
 abbrev pub is_listed : List ℕ → ℕ → Bool
 is_listed failing call = list_any (λ (n : ℕ). nat_eq n call) failing
 
--- files in memory: the map, the numbers of the reads that are to fail, and how many reads and faults there were
+-- files in memory: what was read, the map, the numbers of the reads that are to fail, and how many reads and faults there were
 pub record FilesHeld : Type 0 where
+  pub history : History
   pub map : FileMap
   pub failing : List ℕ
   pub reads : ℕ
@@ -18,7 +19,16 @@ pub record FilesHeld : Type 0 where
 
 -- files that were not read yet
 abbrev pub unread_files : FileMap → List ℕ → FilesHeld
-unread_files map failing = record { map = map; failing = failing; reads = 0; faults = 0 }
+unread_files map failing = record { history = []; map = map; failing = failing; reads = 0; faults = 0 }
+
+-- as files of any kind
+abbrev pub files_state : FilesHeld → FilesState
+files_state held = record {
+  history = held.history;
+  told = Some held.map;
+  steady = nat_eq (length held.failing) 0 && nat_lt held.faults greatest_count;
+  faults = held.faults;
+}
 
 -- what a look at a file of at most so many bytes gives
 abbrev pub within_limit : ℕ → Option (List ℕ) → Result (List ℕ) ReadFault
@@ -33,9 +43,10 @@ read_of held name limit = if is_listed held.failing held.reads then Err Failed e
 abbrev pub read_fails : FilesHeld → List ℕ → Bool
 read_fails held name = is_listed held.failing held.reads || is_none (file_at name held.map)
 
--- the files after a read of this name
-abbrev pub after_read : FilesHeld → List ℕ → FilesHeld
-after_read held name = record held {
+-- the files after a read of this name that adds this to the history
+abbrev pub after_read : FilesHeld → List ℕ → History → FilesHeld
+after_read held name read = record held {
+  history = held.history ++ read;
   reads = counted held.reads;
   faults = if read_fails held name then counted held.faults else held.faults;
 }
@@ -65,3 +76,7 @@ after_put held bytes =
 -- the number of bytes that the sink surely takes, where no put is to fail and the count of faults is below the greatest
 abbrev pub surely_takes : SinkHeld → Option ℕ
 surely_takes held = if nat_eq (length held.failing) 0 && nat_lt held.faults greatest_count then Some (held.room - length held.bytes) else None
+
+-- as a sink of any kind: it holds nothing back
+abbrev pub sink_state : SinkHeld → SinkState
+sink_state held = record { sent = held.bytes; held = []; surely = surely_takes held; faults = held.faults }

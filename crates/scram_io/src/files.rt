@@ -1,9 +1,9 @@
 //! The reading side of the outside.
-ghost use Rattle.std.specs.Prelude.{◌≡◌, ◌≢◌, ◌<◌, ◌≤◌, ℕ, Option, IfOk, IsErrOf, length};
+ghost use Rattle.std.specs.Prelude.{◌≡◌, ◌≢◌, ◌<◌, ◌≤◌, IsTrue, IfOk, IsErrOf, length};
 ghost use Rattle.scram_io.specs.declared.files.ReadFault.TheVariants.{Failed, NoMemory};
 ghost use Rattle.std.specs.IoError.{error_kind};
 ghost use Rattle.std.specs.declared.io.ErrorKind.TheVariants.{OutOfMemory};
-ghost use Rattle.scram_io.specs.Outside.{FileMap, GivesFile, IsLonger, Rose, StaysSteady, greatest_count};
+ghost use Rattle.scram_io.specs.Outside.{FilesState, Grew, IsLonger, Rose, StaysSteady, greatest_count, read_by};
 
 use std::alloc::{AllocError, Global};
 use std::io;
@@ -43,30 +43,23 @@ impl From<AllocError> for ReadFault {
     }
 }
 
-/// Files that can be read whole, by name.
-///
-/// `told` is the map of names to bytes, where it is told. `faults` is the count of faults, which
-/// never falls and stays at the greatest `u64`. Files that are `steady`, and tell a map that has
-/// the name, do not fail.
+/// Files that can be read whole, by name. Clauses see their `state`: the history of what was read, the map of
+/// names to bytes where it is told beforehand, whether they are steady, and the count of faults, which never
+/// falls and stays at the greatest `u64`. Files that are steady, and tell a map that has the name, do not fail.
 pub trait Files {
-    ghost told: { Self → Option FileMap };
+    ghost state: { Self → FilesState };
 
-    ghost faults: { Self → ℕ };
-
-    ghost steady: { Self → Type 0 };
-
-    /// Reads the file `name`, of at most `limit` bytes.
+    /// Reads the file `name`, of at most `limit` bytes. The history grows by each read that is answered with
+    /// bytes, and by no other.
     ///
     /// `TooLong` comes exactly where the read did not fail, there was memory, and the file has more
     /// bytes than `limit`: an `Ok` has no more.
     fn read(&mut self, alloc: Global, name: &str, limit: usize) -> Result<Vec<u8>, ReadFault>
-        ensures map { told self.new ≡ told self.old }
-        ensures count { faults self.old ≤ faults self.new }
-        ensures steady { StaysSteady (told self.old) name.now (steady self.old) (steady self.new) (faults self.old) (faults self.new) }
-        ensures whole { IfOk result (λ bytes. GivesFile (told self.old) name.now bytes.items) }
+        ensures grew { Grew (state self.old) (state self.new) (read_by name.now result) }
         ensures limited { IfOk result (λ bytes. length bytes.items ≤ limit) }
-        ensures failed { IsErrOf result ReadFault.Failed → Rose (faults self.old) (faults self.new) }
-        ensures too_long { IsErrOf result ReadFault.TooLong → IsLonger (told self.old) name.now limit };
+        ensures failed { IsErrOf result ReadFault.Failed → Rose (state self.old).faults (state self.new).faults }
+        ensures too_long { IsErrOf result ReadFault.TooLong → IsLonger (state self.old) name.now limit }
+        ensures steady { StaysSteady (state self.old) (state self.new) name.now };
 
-    ghost steady_below: { (files : Self) → steady files → faults files < greatest_count };
+    ghost steady_below: { (files : Self) → IsTrue (state files).steady → (state files).faults < greatest_count };
 }

@@ -1,14 +1,17 @@
-//! The outside of SCRAM: files that are read and a sink that is written, each with a count of its
-//! faults. A file that is read is whole, bytes that are put are all taken or, at a fault, a prefix of
-//! them, and no fault passes uncounted.
+//! The outside of SCRAM: files that are read and a sink that is written, each with a history of what it answered
+//! and a count of its faults. A file that is read is whole, bytes that are put are all taken or, at a fault, a
+//! prefix of them, after a flush all have gone out, and no fault passes uncounted.
 #![tactic(auto)]
 
 pub mod files;
 pub(crate) mod listed;
 pub mod mem_files;
 pub mod mem_sink;
+pub(crate) mod notes;
+pub(crate) mod opens;
 pub mod real_files;
 pub mod real_sink;
+pub(crate) mod recorded;
 pub mod sink;
 pub(crate) mod streams;
 #[cfg(test)]

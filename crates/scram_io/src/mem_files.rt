@@ -1,18 +1,20 @@
 //! Files in memory.
-ghost use Rattle.std.specs.Prelude.{◌≡◌, ◌<◌, ◌≤◌, ◌↔◌, [], Some, IfOk, IsErrOf, length};
+ghost use Rattle.std.specs.Prelude.{◌≡◌, ◌<◌, ◌≤◌, ◌↔◌, IfOk, IsErrOf, length};
 ghost use Rattle.std.specs.Option.{option_map};
-ghost use Rattle.scram_io.specs.Outside.{file_at, greatest_count};
-ghost use Rattle.scram_io.specs.Memory.{FilesHeld, after_read, read_of, unread_files};
+ghost use Rattle.std.proofs.Common.{rules};
+ghost use Rattle.scram_io.specs.Outside.{Grew, file_at, read_by};
+ghost use Rattle.scram_io.specs.Memory.{FilesHeld, after_read, files_state, read_of, unread_files};
 ghost use Rattle.scram_io.specs.Entries.{entries_of};
 
 use super::files::{Files, ReadFault};
 use super::listed::is_listed_call;
+use super::notes::NotedReads;
 use std::alloc::Global;
 use std::marker::Model;
 
 /// Files in memory, for tests and for whoever has the bytes already.
 ///
-/// Contracts see the map, the numbers of the reads that are to fail, and how many reads and faults
+/// Contracts see the history, the map, the numbers of the reads that are to fail, and how many reads and faults
 /// there were. The reads are numbered from 0, each call of `read` being one; both counts stay at the
 /// greatest `u64`, which is above every number that can be listed.
 #[derive(Drop)]
@@ -21,12 +23,13 @@ pub struct MemFiles {
     failing: Vec<u32>,
     reads: u64,
     faults: u64,
+    history: NotedReads,
 }
 
 impl Model for MemFiles {
     ghost Value = { FilesHeld };
 
-    ghost view = { λ s. record { map = entries_of s.files.items; failing = s.failing.items; reads = s.reads; faults = s.faults } };
+    ghost view = { λ s. record { history = s.history.reads; map = entries_of s.files.items; failing = s.failing.items; reads = s.reads; faults = s.faults } };
 }
 
 impl MemFiles {
@@ -40,23 +43,20 @@ impl MemFiles {
             failing,
             reads: 0,
             faults: 0,
+            history: NotedReads::new(),
         }
     }
 }
 
 impl Files for MemFiles {
-    ghost told = { λ held. Some held.map };
-
-    ghost faults = { λ held. held.faults };
-
-    ghost steady = { λ held. (held.failing ≡ []) × (held.faults < greatest_count) };
+    ghost state = { files_state };
 
     /// Fails exactly where the read's number is listed or no file has the name, and raises the
     /// count of faults exactly then. Else it is `TooLong` exactly where the file has more bytes than
     /// `limit`.
     fn read(&mut self, alloc: Global, name: &str, limit: usize) -> Result<Vec<u8>, ReadFault>
-        ensures count { self.old.faults ≤ self.new.faults }
-        ensures after { self.new ≡ after_read self.old name.now }
+        ensures grew { Grew (files_state self.old) (files_state self.new) (read_by name.now result) }
+        ensures after { self.new ≡ after_read self.old name.now (read_by name.now result) }
         ensures whole { IfOk result (λ bytes. read_of self.old name.now limit ≡ Ok bytes.items) }
         ensures failed { IsErrOf result ReadFault.Failed ↔ (read_of self.old name.now limit ≡ Err ReadFault.Failed) }
         ensures too_long { IsErrOf result ReadFault.TooLong ↔ (read_of self.old name.now limit ≡ Err ReadFault.TooLong) }
@@ -69,7 +69,11 @@ impl Files for MemFiles {
             find_file(&self.files, name)
         };
         match found {
-            Some(bytes) => copy_within(alloc, bytes, limit),
+            Some(bytes) => {
+                let copy = copy_within(alloc, bytes, limit)?;
+                self.history.note(name.as_bytes(), &copy);
+                Ok(copy)
+            }
             None => {
                 self.faults = self.faults.saturating_add(1);
                 Err(ReadFault::Failed)
@@ -77,7 +81,7 @@ impl Files for MemFiles {
         }
     }
 
-    ghost steady_below = { λ held steady. steady.1 };
+    ghost steady_below = { λ held. Prim.search rules };
 }
 
 /// The bytes of the first entry of this name.

@@ -1,8 +1,8 @@
 //! A sink in memory.
-ghost use Rattle.std.specs.Prelude.{◌≡◌, ◌≤◌, Some, IfOk, is_ok, length, vec_len, vec_capacity};
+ghost use Rattle.std.specs.Prelude.{◌≡◌, ◌≤◌, IfOk, is_ok, IsOk, length, vec_len, vec_capacity};
 ghost use Rattle.std.proofs.Common.{rules};
-ghost use Rattle.scram_io.specs.Outside.{TakesSurely};
-ghost use Rattle.scram_io.specs.Memory.{SinkHeld, after_put, empty_sink, put_takes, surely_takes};
+ghost use Rattle.scram_io.specs.Outside.{Prints};
+ghost use Rattle.scram_io.specs.Memory.{SinkHeld, after_put, empty_sink, put_takes, sink_state};
 
 use super::listed::is_listed_call;
 use super::sink::{Sink, SinkFault};
@@ -10,7 +10,7 @@ use scram_types::NoMemory;
 use std::alloc::Global;
 use std::marker::Model;
 
-/// A sink that keeps the bytes in memory, all of which it takes as it is made.
+/// A sink that keeps the bytes in memory, all of which it takes as it is made. What it takes has gone out.
 ///
 /// Contracts see the bytes, the room, the numbers of the puts that are to fail, and how many puts
 /// and faults there were. The puts are numbered from 0, each call of `put` being one; both counts
@@ -57,17 +57,12 @@ impl MemSink {
 }
 
 impl Sink for MemSink {
-    ghost taken = { λ held. Some held.bytes };
-
-    ghost faults = { λ held. held.faults };
-
-    ghost surely = { surely_takes };
+    ghost state = { sink_state };
 
     /// Fails exactly where the put's number is listed or the bytes would pass the room; then it
     /// takes nothing and raises the count of faults.
     fn put(&mut self, bytes: &[u8]) -> Result<(), SinkFault>
-        ensures count { self.old.faults ≤ self.new.faults }
-        ensures surely { TakesSurely (surely_takes self.old) (surely_takes self.new) self.old.faults self.new.faults bytes.now }
+        ensures prints { Prints result (sink_state self.old) (sink_state self.new) bytes.now }
         ensures after { self.new ≡ after_put self.old bytes.now }
         ensures answer { is_ok result ≡ put_takes self.old bytes.now }
     {
@@ -82,6 +77,14 @@ impl Sink for MemSink {
             Ok(()) => Ok(()),
             Err(_) => unreachable!(),
         }
+    }
+
+    /// There is nothing to send.
+    fn flush(&mut self) -> Result<(), SinkFault>
+        ensures same { self.new ≡ self.old }
+        ensures ok { IsOk result }
+    {
+        Ok(())
     }
 
     ghost surely_below = { λ held. Prim.search rules };

@@ -1,57 +1,65 @@
 //! Standard output.
-ghost use Rattle.std.specs.Prelude.{◌≡◌, ◌≤◌, ℕ, None, OnOk, OnErr, is_err, if◌then◌else◌};
-ghost use Rattle.scram_io.specs.Outside.{Rose, Took, TookPrefix, counted};
+ghost use Rattle.std.specs.Prelude.{◌≡◌, [], IfOk};
+ghost use Rattle.std.specs.Io.Buffered.{writer_buffer, writer_inner};
+ghost use Rattle.std.proofs.Common.{rules};
+ghost use Rattle.scram_io.specs.Real.{SinkSeen, real_sink};
 
+use super::recorded::Recorded;
 use super::sink::{Sink, SinkFault};
 use super::streams::write_whole;
+use std::alloc::Global;
 use std::io;
-use std::io::Print;
+use std::io::{BufWriter, Print, Printer, Write};
 use std::marker::Model;
 
-/// Standard output. It tells neither its bytes nor a number that it surely takes. Contracts see the
-/// count of faults.
+/// The most bytes that are held back.
+const HELD: usize = 65536;
+
+/// Standard output, which holds bytes back until there are many or it is flushed. It tells no number of bytes that
+/// it surely takes. Contracts see what went out, what is held back and the count of faults.
 #[derive(Drop)]
 pub struct RealSink<'a, R: Print> {
-    rt: &'a R,
+    out: BufWriter<Recorded<Printer<'a, R>>>,
     faults: u64,
 }
 
 impl<'a, R: Print> Model for RealSink<'a, R> {
-    ghost Value = { ℕ };
+    ghost Value = { SinkSeen };
 
-    ghost view = { λ s. s.faults };
+    ghost view = { λ s. record { sent = (writer_inner s.out).taken.bytes; held = writer_buffer s.out; faults = s.faults } };
 }
 
 impl<'a, R: Print> RealSink<'a, R> {
-    /// The standard output of this runtime, with no fault yet. Takes no memory.
-    pub fn new(rt: &'a R) -> RealSink<'a, R>
-        ensures { result ≡ 0 }
+    /// The standard output of this runtime, with nothing put and no fault yet. Fails where there is no memory for
+    /// the bytes to be held back.
+    pub fn new(alloc: Global, rt: &'a R) -> io::Result<RealSink<'a, R>>
+        ensures { IfOk result (λ sink. sink ≡ record { sent = []; held = []; faults = 0 }) }
     {
-        RealSink { rt, faults: 0 }
+        let out = BufWriter::with_capacity(alloc, HELD, Recorded::new(io::writer(rt)))?;
+        Ok(RealSink { out, faults: 0 })
     }
 }
 
 impl<'a, R: Print> Sink for RealSink<'a, R> {
-    ghost taken = { λ _. None };
+    ghost state = { real_sink };
 
-    ghost faults = { λ faults. faults };
-
-    ghost surely = { λ _. None };
-
-    /// Writes the bytes in pieces. Each `Err` raises the count of faults.
-    fn put(&mut self, bytes: &[u8]) -> Result<(), SinkFault>
-        ensures count { self.old ≤ self.new }
-        ensures whole { OnOk result (Took None None bytes.now) }
-        ensures prefix { OnErr result (TookPrefix None None bytes.now) }
-        ensures failed { OnErr result (Rose self.old self.new) }
-        ensures each { self.new ≡ (if is_err result then counted self.old else self.old) }
-    {
-        let answer = write_whole(&mut io::writer(self.rt), bytes);
+    fn put(&mut self, bytes: &[u8]) -> Result<(), SinkFault> {
+        let answer = write_whole(&mut self.out, bytes);
         if answer.is_err() {
             self.faults = self.faults.saturating_add(1);
         }
         answer
     }
 
-    ghost surely_below = { λ _. tt };
+    fn flush(&mut self) -> Result<(), SinkFault> {
+        match self.out.flush() {
+            Ok(()) => Ok(()),
+            Err(_) => {
+                self.faults = self.faults.saturating_add(1);
+                Err(SinkFault)
+            }
+        }
+    }
+
+    ghost surely_below = { λ sink. tt };
 }

@@ -40,7 +40,7 @@ pub(crate) fn read_whole<I: Read>(
     }
 }
 
-/// Writes all the bytes to a stream, and has it pass them on. A write that takes nothing fails.
+/// Writes all the bytes to a stream, which need not pass them on. A write that takes nothing fails.
 pub(crate) fn write_whole<O: Write>(output: &mut O, bytes: &[u8]) -> Result<(), SinkFault>
     ensures whole { OnOk result (Appends (O.contents output.old) (O.contents output.new) bytes.now) }
     ensures prefix { OnErr result (AppendsPrefix (O.contents output.old) (O.contents output.new) bytes.now) }
@@ -53,8 +53,5 @@ pub(crate) fn write_whole<O: Write>(output: &mut O, bytes: &[u8]) -> Result<(), 
             Err(_) => return Err(SinkFault),
         }
     }
-    match output.flush() {
-        Ok(()) => Ok(()),
-        Err(_) => Err(SinkFault),
-    }
+    Ok(())
 }

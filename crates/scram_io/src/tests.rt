@@ -51,6 +51,7 @@ fn sink_in_memory(rt: HostRuntime) -> Result<(), Fail> {
         assert_eq!(rt; sink.put(bytes), want, "{bytes:?}");
     }
     assert_eq!(rt; sink.bytes(), b"abcdef".as_slice());
+    assert_eq!(rt; sink.flush(), Ok(()));
     Ok(())
 }
 
@@ -83,8 +84,9 @@ fn adapters(rt: HostRuntime) -> Result<(), Fail> {
         .read(rt.alloc(), "a name of no file", 9)
         .map(|bytes| bytes.len());
     assert_eq!(rt; read, Err(ReadFault::Failed));
-    let mut output = RealSink::new(&rt);
+    let mut output = RealSink::new(rt.alloc(), &rt)?;
     assert_eq!(rt; output.put(b"standard output takes this line\n"), Ok(()));
+    assert_eq!(rt; output.flush(), Ok(()));
     Ok(())
 }
 

@@ -1,5 +1,4 @@
 pub mod Listing
-pub mod Printing
 mod Steps
 mod Splitting
 mod Spelling

@@ -1,6 +1,5 @@
 pub mod Names
 pub mod Text
-pub mod Printing
 pub mod Pieces
 pub mod Spelling
 pub mod Rules

@@ -2,7 +2,7 @@
 
 ghost use Rattle.std.specs.Prelude.{◌<◌, ◌^◌, length};
 ghost use Rattle.trace_text.specs.Text.{text_of, ending_text, rows_text, reports_text, row_text, app_line_in, app_lines, report_line, end_line};
-ghost use Rattle.trace_text.specs.Printing.{Prints};
+ghost use Rattle.scram_io.specs.Outside.{Prints};
 
 use crate::lines::Line;
 use crate::report_lines::{make_end_line, make_report_line};
@@ -12,8 +12,7 @@ use scram_types::{AppSpec, Report, Row, Spec};
 
 /// Puts the lines of a row, a line each: its own, and one for each application. It takes no memory.
 pub fn put_row<K: Sink>(out: &mut K, spec: &Spec, row: &Row) -> Result<(), SinkFault>
-    ensures { Prints result (K.taken out.old) (K.taken out.new) (K.surely out.old) (K.surely out.new)
-        (K.faults out.old) (K.faults out.new) (row_text spec.now row.now) }
+    ensures { Prints result (K.state out.old) (K.state out.new) (row_text spec.now row.now) }
 {
     match put_line(out, &make_row_line(spec, row)) {
         Ok(()) => put_apps(out, spec, row),
@@ -23,16 +22,14 @@ pub fn put_row<K: Sink>(out: &mut K, spec: &Spec, row: &Row) -> Result<(), SinkF
 
 /// Puts the line of a reconfiguration. It takes no memory.
 pub fn put_report<K: Sink>(out: &mut K, spec: &Spec, report: &Report) -> Result<(), SinkFault>
-    ensures { Prints result (K.taken out.old) (K.taken out.new) (K.surely out.old) (K.surely out.new)
-        (K.faults out.old) (K.faults out.new) (report_line spec.now report.now) }
+    ensures { Prints result (K.state out.old) (K.state out.new) (report_line spec.now report.now) }
 {
     put_line(out, &make_report_line(spec, report))
 }
 
 /// Puts the line that ends a trace of so many rows and reports. It takes no memory.
 pub fn put_end<K: Sink>(out: &mut K, frames: u32, reports: u32) -> Result<(), SinkFault>
-    ensures { Prints result (K.taken out.old) (K.taken out.new) (K.surely out.old) (K.surely out.new)
-        (K.faults out.old) (K.faults out.new) (end_line frames reports) }
+    ensures { Prints result (K.state out.old) (K.state out.new) (end_line frames reports) }
 {
     put_line(out, &make_end_line(frames, reports))
 }
@@ -46,8 +43,7 @@ pub fn put_trace<K: Sink>(
 ) -> Result<(), SinkFault>
     requires rows { length rows.now < 2 ^ 32 }
     requires reports { length reports.now < 2 ^ 32 }
-    ensures { Prints result (K.taken out.old) (K.taken out.new) (K.surely out.old) (K.surely out.new)
-        (K.faults out.old) (K.faults out.new) (text_of spec.now rows.now reports.now) }
+    ensures { Prints result (K.state out.old) (K.state out.new) (text_of spec.now rows.now reports.now) }
 {
     match put_rows(out, spec, rows) {
         Ok(()) => put_ending(out, spec, rows.len() as u32, reports),
@@ -62,8 +58,7 @@ fn put_ending<K: Sink>(
     reports: &[Report],
 ) -> Result<(), SinkFault>
     requires { length reports.now < 2 ^ 32 }
-    ensures { Prints result (K.taken out.old) (K.taken out.new) (K.surely out.old) (K.surely out.new)
-        (K.faults out.old) (K.faults out.new) (ending_text spec.now frames reports.now) }
+    ensures { Prints result (K.state out.old) (K.state out.new) (ending_text spec.now frames reports.now) }
 {
     match put_reports(out, spec, reports) {
         Ok(()) => put_end(out, frames, reports.len() as u32),
@@ -72,8 +67,7 @@ fn put_ending<K: Sink>(
 }
 
 fn put_rows<K: Sink>(out: &mut K, spec: &Spec, rows: &[Row]) -> Result<(), SinkFault>
-    ensures { Prints result (K.taken out.old) (K.taken out.new) (K.surely out.old) (K.surely out.new)
-        (K.faults out.old) (K.faults out.new) (rows_text spec.now rows.now) }
+    ensures { Prints result (K.state out.old) (K.state out.new) (rows_text spec.now rows.now) }
 {
     for row in rows {
         match put_row(out, spec, row) {
@@ -85,8 +79,7 @@ fn put_rows<K: Sink>(out: &mut K, spec: &Spec, rows: &[Row]) -> Result<(), SinkF
 }
 
 fn put_reports<K: Sink>(out: &mut K, spec: &Spec, reports: &[Report]) -> Result<(), SinkFault>
-    ensures { Prints result (K.taken out.old) (K.taken out.new) (K.surely out.old) (K.surely out.new)
-        (K.faults out.old) (K.faults out.new) (reports_text spec.now reports.now) }
+    ensures { Prints result (K.state out.old) (K.state out.new) (reports_text spec.now reports.now) }
 {
     for report in reports {
         match put_report(out, spec, report) {
@@ -98,15 +91,13 @@ fn put_reports<K: Sink>(out: &mut K, spec: &Spec, reports: &[Report]) -> Result<
 }
 
 fn put_line<K: Sink>(out: &mut K, line: &Line) -> Result<(), SinkFault>
-    ensures { Prints result (K.taken out.old) (K.taken out.new) (K.surely out.old) (K.surely out.new)
-        (K.faults out.old) (K.faults out.new) line.now }
+    ensures { Prints result (K.state out.old) (K.state out.new) line.now }
 {
     out.put(line.as_bytes())
 }
 
 fn put_apps<K: Sink>(out: &mut K, spec: &Spec, row: &Row) -> Result<(), SinkFault>
-    ensures { Prints result (K.taken out.old) (K.taken out.new) (K.surely out.old) (K.surely out.new)
-        (K.faults out.old) (K.faults out.new) (app_lines spec.now row.now spec.now.apps 0) }
+    ensures { Prints result (K.state out.old) (K.state out.new) (app_lines spec.now row.now spec.now.apps 0) }
 {
     for (a, app) in spec.apps.items().iter().enumerate() {
         match put_app(out, spec, row, app, a) {
@@ -125,8 +116,7 @@ fn put_app<K: Sink>(
     a: usize,
 ) -> Result<(), SinkFault>
     requires { a < 8 }
-    ensures { Prints result (K.taken out.old) (K.taken out.new) (K.surely out.old) (K.surely out.new)
-        (K.faults out.old) (K.faults out.new) (app_line_in spec.now row.now app.now a) }
+    ensures { Prints result (K.state out.old) (K.state out.new) (app_line_in spec.now row.now app.now a) }
 {
     put_line(out, &make_app_line(spec, app, &row.acts[a], &row.areas[a]))
 }

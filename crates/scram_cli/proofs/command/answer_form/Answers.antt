@@ -1,16 +1,17 @@
-use Rattle.std.proofs.Common.{refl}
-use Rattle.scram_cli.proofs.Endings.{for_some}
-use Rattle.scram_cli.proofs.Loading.{mission_ends}
+use Rattle.std.proofs.Common.{[]}
+use Rattle.scram_io.proofs.Histories.{grew_none}
+use Rattle.scram_cli.specs.Answers.{IsMissionAnswer}
+use Rattle.scram_cli.proofs.Endings.{told_ends}
 use Rattle.scram_cli.proofs.command.answer_form.Goals as goal
+
+pub returns-in-Specified-clause-assured : goal.returns-in-Specified-clause-assured
+returns-in-Specified-clause-assured g c = rw (c.in-Specified.is) c.answer_request.ensures.assured
 
 pub returns-in-Generated-clause-ends : goal.returns-in-Generated-clause-ends
 returns-in-Generated-clause-ends g c =
-    rw (c.in-Generated.is)
-    (for_some _ (g.F.Files.told c.args.files.now)
-    (λ m. mission_ends m c.in-Generated.number c.in-Generated.purpose (g.F.Files.faults c.args.files.now) (g.F.Files.faults c.args.files.now) _ _ _ _ _ _
-    c.answer_generated.ensures.tells))
+    rw (c.in-Generated.is) (told_ends (IsMissionAnswer c.in-Generated.number c.in-Generated.purpose) [] _ _ _ _ c.answer_generated.ensures.tells)
 
-pub returns-in-Generated-clause-quiet : goal.returns-in-Generated-clause-quiet
-returns-in-Generated-clause-quiet g c =
-    rw (c.in-Generated.is)
-    (for_some _ (g.F.Files.told c.args.files.now) (λ m still there. record { same = refl; below = g.met.F.Files.steady_below c.args.files.now still }))
+pub returns-in-Generated-clause-assured : goal.returns-in-Generated-clause-assured
+returns-in-Generated-clause-assured g c = rw (c.in-Generated.is) (λ answered.
+    let told = c.answer_generated.ensures.assured answered in
+    record { reads = []; text = told.0; grew = grew_none (g.F.Files.state c.args.files.now); assures = told.1; shown = told.2 })

@@ -1,10 +1,21 @@
-use Rattle.std.proofs.Common.{rules, ◌≡◌}
-use Rattle.std.specs.Prelude.{Some, map, string_bytes}
-use Rattle.scram_cli.specs.Forms.{form_of, with_names}
-use Rattle.scram_cli.proofs.Loading.{complete_form}
+-- The flush at the end.
+use Rattle.scram_cli.proofs.Endings.{assured_sent, completes, failed_ends, flushed_ends}
 use Rattle.scram_cli.proofs.command.scram.Goals as goal
 
-pub returns-in-Some-clause-complete : goal.returns-in-Some-clause-complete
-returns-in-Some-clause-complete g c =
-    let form : form_of (map string_bytes c.args.words.now) ≡ Some (with_names (λ name. name.now) c.in-Some.form) = search rules in
-    complete_form (g.F.Files.told c.args.files.now) (form_of (map string_bytes c.args.words.now)) _ _ _ _ _ _ _ _ _ _ form c.answer_form.ensures.quiet c.answer_form.ensures.ends
+pub returns-in-Ok-clause-answer : goal.returns-in-Ok-clause-answer
+returns-in-Ok-clause-answer g c = flushed_ends _ _ _ _ _ _ _ _ c.flush.ensures.kept c.in-Ok.ensures.sent c.answer_words-status.ensures.ends
+
+pub returns-in-Ok-clause-complete : goal.returns-in-Ok-clause-complete
+returns-in-Ok-clause-complete g c =
+    completes _ _ _ _ _ _ _ (flushed_ends _ _ _ _ _ _ _ _ c.flush.ensures.kept c.in-Ok.ensures.sent c.answer_words-status.ensures.ends) c.answer_words-status.ensures.quiet
+
+pub returns-in-Ok-clause-assured : goal.returns-in-Ok-clause-assured
+returns-in-Ok-clause-assured g c = λ answered.
+    assured_sent _ _ _ _ _ _ c.flush.ensures.kept c.in-Ok.ensures.sent (c.answer_words-status.ensures.assured answered)
+
+pub returns-clause-answer : goal.returns-clause-answer
+returns-clause-answer g c = failed_ends _ _ _ _ _ _ _ _ c.flush.ensures.kept c.in-Err.ensures.failed c.answer_words-status.ensures.ends
+
+pub returns-clause-complete : goal.returns-clause-complete
+returns-clause-complete g c =
+    completes _ _ _ _ _ _ _ (failed_ends _ _ _ _ _ _ _ _ c.flush.ensures.kept c.in-Err.ensures.failed c.answer_words-status.ensures.ends) c.answer_words-status.ensures.quiet

@@ -1,11 +1,10 @@
 use Rattle.std.proofs.Common.{◌≡◌, ℕ, ◌++◌, List, drop}
 use Rattle.trace_text.specs.Text.{rows_text}
-use Rattle.trace_text.specs.Printing.{Printed}
+use Rattle.scram_io.specs.Outside.{Printed}
 use Rattle.trace_text.proofs.puts.put_rows.Given as goal
 
 abbrev pub invariant-loop-row : goal.invariant-loop-row
 invariant-loop-row g l =
     (front : List ℕ)
     × (rows_text l.spec l.rows ≡ front ++ rows_text l.spec (drop l.row-index l.rows))
-    × Printed (g.K.Sink.taken l.initial.out) (g.K.Sink.taken l.out) (g.K.Sink.surely l.initial.out) (g.K.Sink.surely l.out)
-    (g.K.Sink.faults l.initial.out) (g.K.Sink.faults l.out) front
+    × Printed (g.K.Sink.state l.initial.out) (g.K.Sink.state l.out) front

@@ -1,0 +1,46 @@
+//! The command over the files of the system and standard output.
+
+ghost use Rattle.std.specs.Prelude.{◌≡◌, [], IfOk, map, string_bytes};
+ghost use Rattle.app_model.specs.Racks.{RacksFit};
+ghost use Rattle.scram_io.specs.Real.{real_files, real_sink};
+ghost use Rattle.scram_cli.specs.Answers.{FormAnswers};
+ghost use Rattle.scram_cli.specs.Assurance.{AssuresForm};
+ghost use Rattle.scram_cli.specs.Endings.{Ends, IsSent};
+ghost use Rattle.scram_cli.specs.Forms.{files_of, form_of};
+ghost use Rattle.scram_cli.specs.declared.status.TheConstants.{ANSWERED};
+
+use crate::command::scram;
+use crate::status::Status;
+use app_model::Rack;
+use scram_io::{RealFiles, RealSink};
+use std::alloc::AllocGlobal;
+use std::io::Print;
+use std::{io, rt};
+
+/// Does what the words after the program's name ask for, with the files of the system and standard output. Both are
+/// handed back with what they note: the names and bytes of what was read, in order, and the bytes that went out.
+///
+/// The status and the bytes that went out are the answer to the words and to the bytes that were read; where the status
+/// is 0, what was flown is assured. There is no premise on files or output.
+///
+/// # Errors
+///
+/// Where there is no memory for the bytes that standard output holds back; then nothing was read or printed.
+pub fn run_program<'a, R: AllocGlobal + rt::Files + Print>(
+    rt: &'a R,
+    words: &[String],
+    racks: Vec<Rack>,
+    spares: Vec<Rack>,
+) -> io::Result<(Status, RealFiles<'a, R>, RealSink<'a, R>)>
+    requires racks { RacksFit (λ b. kind_of (b.vtable, b.value)) (λ r. r.boxes.items) racks.items }
+    requires spares { RacksFit (λ b. kind_of (b.vtable, b.value)) (λ r. r.boxes.items) spares.items }
+    ensures answer { IfOk result (λ ended. Ends (FormAnswers (form_of (map string_bytes words.now))) (files_of (form_of (map string_bytes words.now)))
+        (real_files (record { history = []; faults = 0 })) (real_files ended.1)
+        (IsSent (real_sink (record { sent = []; held = []; faults = 0 })) (real_sink ended.2) ended.0.code)) }
+    ensures assured { IfOk result (λ ended. ended.0.code ≡ ANSWERED → AssuresForm (form_of (map string_bytes words.now)) ended.1.history ended.2.sent) }
+{
+    let mut files = RealFiles::new(rt);
+    let mut out = RealSink::new(rt.alloc(), rt)?;
+    let status = scram(rt, words, &mut files, &mut out, racks, spares);
+    Ok((status, files, out))
+}

@@ -1,0 +1,50 @@
+//! A writer, with the bytes that its writes took.
+ghost use Rattle.std.specs.Prelude.{◌≡◌, [], Some};
+ghost use Rattle.std.specs.Io.{WritesAtMost};
+ghost use Rattle.std.specs.Io.KnownBytes.{Keeps, WriteAppends};
+
+use super::notes::NotedBytes;
+use std::io;
+use std::io::Write;
+
+/// A writer, with a note of all the bytes that its writes took. Its `contents` are known by that, and where those of
+/// `inner` are known too, they are shown to grow alike.
+#[derive(Drop)]
+pub struct Recorded<W> {
+    pub inner: W,
+    pub taken: NotedBytes,
+}
+
+impl<W> Recorded<W> {
+    /// The writer, with nothing written yet.
+    pub fn new(inner: W) -> Recorded<W>
+        ensures inner { result.inner ≡ inner }
+        ensures empty { result.taken.bytes ≡ [] }
+    {
+        Recorded {
+            inner,
+            taken: NotedBytes::new(),
+        }
+    }
+}
+
+impl<W: Write> Write for Recorded<W> {
+    ghost contents = { λ recorded. Some recorded.taken.bytes };
+
+    fn write(&mut self, buf: &[u8]) -> io::Result<usize>
+        ensures bound { WritesAtMost result buf.now }
+        ensures bytes { WriteAppends (Some self.old.taken.bytes) (Some self.new.taken.bytes) result buf.now }
+        ensures inner { WriteAppends (W.contents self.old.inner) (W.contents self.new.inner) result buf.now }
+    {
+        let count = self.inner.write(buf)?;
+        self.taken.note(&buf[..count]);
+        Ok(count)
+    }
+
+    fn flush(&mut self) -> io::Result<()>
+        ensures bytes { self.new.taken.bytes ≡ self.old.taken.bytes }
+        ensures inner { Keeps (W.contents self.old.inner) (W.contents self.new.inner) }
+    {
+        self.inner.flush()
+    }
+}
