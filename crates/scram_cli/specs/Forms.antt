@@ -1,7 +1,7 @@
 -- The forms of the command.
 use Rattle.std.specs.Prelude.{ℕ, List, [], ◌∷◌, Option, Some, None, codes, option_map, if◌then◌else◌}
 use Rattle.std.specs.Str.{bytes_eq}
-use Rattle.trace_text.specs.Spelling.{number_of}
+use Rattle.trace_text.specs.Spelling.{spelled_number}
 use Rattle.scram_cli.specs.declared.forms.Form.{Form}
 use Rattle.scram_cli.specs.declared.forms.Form.TheVariants.{Specified, Generated}
 use Rattle.scram_cli.specs.declared.forms.Purpose.{Purpose}
@@ -11,7 +11,7 @@ use Rattle.scram_cli.specs.declared.forms.Request.TheVariants.{Run, Check, Bound
 
 -- The form for the mission of a number up to 999,999, which the word has in decimal.
 abbrev pub mission_form : Purpose → List ℕ → Option (Form (List ℕ))
-mission_form purpose word = option_map (λ (number : ℕ). Generated number purpose) (number_of 1000000 word)
+mission_form purpose word = option_map (λ (number : ℕ). Generated number purpose) (spelled_number 1000000 word)
 
 -- the form of a command and a number, if they have one
 abbrev pub form_of_generated : List ℕ → List ℕ → Option (Form (List ℕ))

@@ -1,6 +1,6 @@
 -- The lines in which the command answers: refusals, acceptance and bounds.
 use Rattle.std.specs.Prelude.{ℕ, ◌==◌, ◌+◌, ◌%◌, ◌/◌, List, [], ◌∷◌, ◌++◌, length, slice_index, Option, Some, None, codes, decimal, if◌then◌else◌}
-use Rattle.scram_types.specs.Lookups.{app_name}
+use Rattle.scram_types.specs.Lookups.{app_name, conf_name, proc_name, value_name}
 use Rattle.scram_types.specs.Specification.{Parts, bound_in}
 use Rattle.scram_types.specs.declared.ids.ConfId.{ConfId}
 use Rattle.scram_types.specs.declared.flights.Env.{Env}
@@ -23,7 +23,7 @@ use Rattle.coverage_check.specs.Timing.{least}
 use Rattle.trace_props.specs.declared.breaks.Broken.{Broken}
 use Rattle.trace_props.specs.Breaks.{property_number}
 use Rattle.trace_text.specs.declared.trace_reading.TraceFault.{TraceFault}
-use Rattle.trace_text.specs.Names.{conf_name, conf_or_dash, further, proc_name, value_name}
+use Rattle.trace_text.specs.Names.{conf_or_dash, further_joined}
 use Rattle.trace_text.specs.Text.{bound_text}
 use Rattle.scram_cli.specs.Summaries.{last_run, longest_duration}
 
@@ -34,7 +34,7 @@ rule_text rule path = codes " rule " ++ decimal rule ++ codes " at " ++ path_tex
 -- the names of the applications whose needs go in a cycle, where there is one
 abbrev pub cycle_text : List (List ℕ) → List ℕ
 cycle_text [] = []
-cycle_text (name ∷ names) = codes " cycle " ++ name ++ further names
+cycle_text (name ∷ names) = codes " cycle " ++ name ++ further_joined names
 
 -- a specification document breaks a rule
 abbrev pub specification_line : SpecFault → List ℕ

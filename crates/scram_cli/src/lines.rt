@@ -1,8 +1,8 @@
 //! The lines in which the command answers, made without memory.
 
 ghost use Rattle.std.specs.Prelude.{◌≡◌, ◌+◌, ◌*◌, ◌≤◌, ◌++◌, [], ◌<◌, ◌^◌, length, codes, if◌then◌else◌};
-ghost use Rattle.scram_types.specs.Lookups.{app_name};
-ghost use Rattle.trace_text.specs.Names.{conf_or_dash, further, proc_name, value_name};
+ghost use Rattle.scram_types.specs.Lookups.{app_name, proc_name, value_name};
+ghost use Rattle.trace_text.specs.Names.{conf_or_dash, further_joined};
 ghost use Rattle.trace_text.specs.Text.{bound_text};
 ghost use Rattle.scram_cli.specs.Lines.{accepted_line, added, bound_line, broken_line, counts_text, cycle_text, env_or_dash, env_text, factors_text, fly_line, holds_line, outside_kind_text, names_down, other_text, outside_line, rule_text, script_line, shown_line, specification_line, trace_line};
 
@@ -207,7 +207,7 @@ fn add_cycle(line: &mut Line, names: &[Name])
 
 fn add_further(line: &mut Line, names: &[Name])
     requires { length line.old + 17 * length names.now ≤ 512 }
-    ensures text { line.new ≡ line.old ++ further names.now }
+    ensures text { line.new ≡ line.old ++ further_joined names.now }
     ensures short { length line.new ≤ length line.old + 17 * length names.now }
 {
     for name in names {
@@ -281,12 +281,12 @@ fn add_down(line: &mut Line, spec: &Spec, up: u8)
     }
 }
 
-fn add_joined(line: &mut Line, further: bool, name: &Name)
+fn add_joined(line: &mut Line, further_joined: bool, name: &Name)
     requires { length line.old + 17 ≤ 512 }
-    ensures text { line.new ≡ line.old ++ (if further then codes "+" else []) ++ name.now }
+    ensures text { line.new ≡ line.old ++ (if further_joined then codes "+" else []) ++ name.now }
     ensures short { length line.new ≤ length line.old + 17 }
 {
-    if further {
+    if further_joined {
         line.text(b"+");
     }
     line.text(name.as_str().as_bytes());

@@ -14,12 +14,12 @@ use Rattle.trace_text.specs.declared.app_reading.Done.{Done}
 use Rattle.trace_text.specs.declared.app_reading.Phase.{Phase}
 use Rattle.trace_text.specs.declared.app_reading.Phase.TheVariants.{Halting, Preparing, Initialising}
 use Rattle.trace_text.specs.AppReading.{app_in, app_read, bare_act, bare_line, done, is_bare_form, is_placed_form, phase_act, phase_line, phase_named, placed_line, ran_line}
-use Rattle.trace_text.specs.Lookups.{app_named, mode_named, proc_named}
+use Rattle.trace_text.specs.Lookups.{app_number, listed_mode}
+use Rattle.scram_types.specs.Lookups.{proc_named, proc_name}
 use Rattle.app_model.specs.Names.{mode_text}
-use Rattle.trace_text.specs.Names.{proc_name}
-use Rattle.trace_text.specs.Pieces.{pieces_of, sides, sides_of, word, words_in, words_of, is_word}
+use Rattle.trace_text.specs.Pieces.{pieces_of, sides, sides_of, words_in, words_of, is_word, word_at}
 use Rattle.trace_text.specs.Rules.{unless}
-use Rattle.trace_text.specs.Spelling.{number_of, signed_from, signed_of}
+use Rattle.trace_text.specs.Spelling.{signed_from, signed_of, spelled_number}
 use Rattle.trace_text.specs.Text.{act_text, app_line}
 use Rattle.trace_text.specs.TraceReading.{begins}
 use Rattle.trace_text.proofs.Found.{Named, app_found, mode_found, proc_found}
@@ -31,9 +31,9 @@ use Rattle.trace_text.proofs.Spelling.{number_spelled, signed_spelled}
 signed_words : (n k : ℕ) (ws : List (List ℕ)) (area : List ℤ) → signed_from n k ws ≡ Some area → tab n k ws ≡ map signed_decimal area
 signed_words zero k ws area h = let e : [] ≡ area = cc in rw (← e) refl
 signed_words (suc n) k ws area h =
-    let p = then_some (λ (z : ℤ). option_map (λ (zs : List ℤ). z ∷ zs) (signed_from n (k + 1) ws)) (signed_of (word ws k)) area h in
+    let p = then_some (λ (z : ℤ). option_map (λ (zs : List ℤ). z ∷ zs) (signed_from n (k + 1) ws)) (signed_of (word_at ws k)) area h in
     let q = map_some (λ (zs : List ℤ). p.0 ∷ zs) (signed_from n (k + 1) ws) area p.2 in
-    let first : word ws k ≡ signed_decimal p.0 = signed_spelled p.0 (word ws k) p.1 in
+    let first : word_at ws k ≡ signed_decimal p.0 = signed_spelled p.0 (word_at ws k) p.1 in
     let rest : tab n (k + 1) ws ≡ map signed_decimal q.0 = signed_words n (k + 1) ws q.0 q.1 in
     rw (first, rest) (ap (λ (zs : List ℤ). map signed_decimal zs) q.2)
 
@@ -62,23 +62,23 @@ app_told spec a line told app did area there is text = record {
 }
 
 -- the application that a line names is the next
-the_next : (spec : Parts) (next a : ℕ) (text : List ℕ) → (a == next) ≡ true → app_named spec text ≡ Some a → Named (λ (app : AppSpec). app.name) spec.apps next text
+the_next : (spec : Parts) (next a : ℕ) (text : List ℕ) → (a == next) ≡ true → app_number spec text ≡ Some a → Named (λ (app : AppSpec). app.name) spec.apps next text
 the_next spec next a text same h = let e : a ≡ next = eqb-true a next same in rw (← e) (app_found spec text a h)
 
-ran_read : (spec : Parts) (next : ℕ) (line : List ℕ) (ws : List (List ℕ)) (told : Done) → line ≡ join_with_byte 32 ws → word ws 0 ≡ codes "app" → (length ws == 14) ≡ true →
-    word ws 5 ≡ codes ":" → word ws 2 ≡ codes "ran" → ran_line spec next ws ≡ Ok told → AppRead spec next line told
+ran_read : (spec : Parts) (next : ℕ) (line : List ℕ) (ws : List (List ℕ)) (told : Done) → line ≡ join_with_byte 32 ws → word_at ws 0 ≡ codes "app" → (length ws == 14) ≡ true →
+    word_at ws 5 ≡ codes ":" → word_at ws 2 ≡ codes "ran" → ran_line spec next ws ≡ Ok told → AppRead spec next line told
 ran_read spec next line ws told joined_is w0 count w5 w2 h =
-    let a = unless_ok 4 (app_named spec (word ws 1)) _ told h in
-    let m = unless_ok 4 (mode_named spec a.0 (word ws 3)) _ told a.2 in
-    let p = unless_ok 4 (proc_named spec (word ws 4)) _ told m.2 in
+    let a = unless_ok 4 (app_number spec (word_at ws 1)) _ told h in
+    let m = unless_ok 4 (listed_mode spec a.0 (word_at ws 3)) _ told a.2 in
+    let p = unless_ok 4 (proc_named spec (word_at ws 4)) _ told m.2 in
     let v = unless_ok 5 (signed_from 8 6 ws) _ told p.2 in
     let n = if_ok (a.0 == next) (Ok (done (act.Ran m.0 p.0) v.0)) 6 told v.2 in
-    let named = the_next spec next a.0 (word ws 1) n.0 a.1 in
+    let named = the_next spec next a.0 (word_at ws 1) n.0 a.1 in
     let same : a.0 ≡ next = eqb-true a.0 next n.0 in
     let there : slice_get spec.apps a.0 ≡ Some named.0 = ap (slice_get spec.apps) same ∙ named.1 in
-    let w1 : word ws 1 ≡ named.0.name = sym named.2 in
-    let w3 : word ws 3 ≡ mode_text named.0.kind.0 m.0.0 = mode_found spec a.0 named.0 (word ws 3) m.0 there m.1 in
-    let w4 : word ws 4 ≡ proc_name spec p.0.0 = proc_found spec (word ws 4) p.0 p.1 in
+    let w1 : word_at ws 1 ≡ named.0.name = sym named.2 in
+    let w3 : word_at ws 3 ≡ mode_text named.0.kind.0 m.0.0 = mode_found spec a.0 named.0 (word_at ws 3) m.0 there m.1 in
+    let w4 : word_at ws 4 ≡ proc_name spec p.0.0 = proc_found spec (word_at ws 4) p.0 p.1 in
     let w6 : tab 8 6 ws ≡ map signed_decimal v.0 = signed_words 8 6 ws v.0 v.1 in
     let listed : ws ≡ codes "app" ∷ named.0.name ∷ codes "ran" ∷ mode_text named.0.kind.0 m.0.0 ∷ proc_name spec p.0.0 ∷ codes ":" ∷ map signed_decimal v.0
     = words_listed 14 ws count ∙ both w0 (both w1 (both w2 (both w3 (both w4 (both w5 w6))))) in
@@ -111,21 +111,21 @@ phase_line_text spec app Preparing k n proc area = phase_shape app.name (codes "
 phase_line_text spec app Initialising k n proc area = phase_shape app.name (codes "initialising") (decimal k) (decimal n) (proc_name spec proc.0) area
 
 phase_read : (spec : Parts) (next : ℕ) (line : List ℕ) (ws : List (List ℕ)) (told : Done) (phase : Phase) (fraction : List ℕ × List ℕ) → line ≡ join_with_byte 32 ws →
-    word ws 0 ≡ codes "app" → (length ws == 14) ≡ true → word ws 5 ≡ codes ":" → word ws 2 ≡ tag_of phase → word ws 3 ≡ fraction.0 ++ 47 ∷ fraction.1 →
+    word_at ws 0 ≡ codes "app" → (length ws == 14) ≡ true → word_at ws 5 ≡ codes ":" → word_at ws 2 ≡ tag_of phase → word_at ws 3 ≡ fraction.0 ++ 47 ∷ fraction.1 →
     phase_line spec next ws phase fraction ≡ Ok told → AppRead spec next line told
 phase_read spec next line ws told phase fraction joined_is w0 count w5 w2 w3 h =
-    let a = unless_ok 4 (app_named spec (word ws 1)) _ told h in
-    let p = unless_ok 4 (proc_named spec (word ws 4)) _ told a.2 in
-    let k = unless_ok 5 (number_of 256 fraction.0) _ told p.2 in
-    let l = unless_ok 5 (number_of 256 fraction.1) _ told k.2 in
+    let a = unless_ok 4 (app_number spec (word_at ws 1)) _ told h in
+    let p = unless_ok 4 (proc_named spec (word_at ws 4)) _ told a.2 in
+    let k = unless_ok 5 (spelled_number 256 fraction.0) _ told p.2 in
+    let l = unless_ok 5 (spelled_number 256 fraction.1) _ told k.2 in
     let v = unless_ok 5 (signed_from 8 6 ws) _ told l.2 in
     let n = if_ok (a.0 == next) (cond (nat_lt k.0 l.0 && nat_le l.0 16) (Ok (done (phase_act phase k.0 l.0 p.0) v.0)) (Err 7)) 6 told v.2 in
     let o = if_ok (nat_lt k.0 l.0 && nat_le l.0 16) (Ok (done (phase_act phase k.0 l.0 p.0) v.0)) 7 told n.1 in
-    let named = the_next spec next a.0 (word ws 1) n.0 a.1 in
-    let w1 : word ws 1 ≡ named.0.name = sym named.2 in
-    let numbers : word ws 3 ≡ decimal k.0 ++ 47 ∷ decimal l.0
+    let named = the_next spec next a.0 (word_at ws 1) n.0 a.1 in
+    let w1 : word_at ws 1 ≡ named.0.name = sym named.2 in
+    let numbers : word_at ws 3 ≡ decimal k.0 ++ 47 ∷ decimal l.0
     = w3 ∙ ap (λ (t : List ℕ). t ++ 47 ∷ fraction.1) (number_spelled 256 k.0 fraction.0 k.1).0 ∙ ap (λ (t : List ℕ). decimal k.0 ++ 47 ∷ t) (number_spelled 256 l.0 fraction.1 l.1).0 in
-    let w4 : word ws 4 ≡ proc_name spec p.0.0 = proc_found spec (word ws 4) p.0 p.1 in
+    let w4 : word_at ws 4 ≡ proc_name spec p.0.0 = proc_found spec (word_at ws 4) p.0 p.1 in
     let w6 : tab 8 6 ws ≡ map signed_decimal v.0 = signed_words 8 6 ws v.0 v.1 in
     let listed : ws ≡ codes "app" ∷ named.0.name ∷ tag_of phase ∷ (decimal k.0 ++ 47 ∷ decimal l.0) ∷ proc_name spec p.0.0 ∷ codes ":" ∷ map signed_decimal v.0
     = words_listed 14 ws count ∙ both w0 (both w1 (both w2 (both numbers (both w4 (both w5 w6))))) in
@@ -144,15 +144,15 @@ bare_tag : (spec : Parts) (kind : ℕ) (text : List ℕ) (did : Act) → bare_ac
 bare_tag spec kind text did h = bare_by (bytes_eq text (codes "held")) (bytes_eq text (codes "off")) (bytes_eq text (codes "lost")) spec kind text did
     (same_text text (codes "held")) (same_text text (codes "off")) (same_text text (codes "lost")) h
 
-bare_read : (spec : Parts) (next : ℕ) (line : List ℕ) (ws : List (List ℕ)) (told : Done) (did : Act) → line ≡ join_with_byte 32 ws → word ws 0 ≡ codes "app" → (length ws == 12) ≡ true →
-    word ws 3 ≡ codes ":" → bare_act (word ws 2) ≡ Some did → bare_line spec next ws did ≡ Ok told → AppRead spec next line told
+bare_read : (spec : Parts) (next : ℕ) (line : List ℕ) (ws : List (List ℕ)) (told : Done) (did : Act) → line ≡ join_with_byte 32 ws → word_at ws 0 ≡ codes "app" → (length ws == 12) ≡ true →
+    word_at ws 3 ≡ codes ":" → bare_act (word_at ws 2) ≡ Some did → bare_line spec next ws did ≡ Ok told → AppRead spec next line told
 bare_read spec next line ws told did joined_is w0 count w3 tag h =
-    let a = unless_ok 4 (app_named spec (word ws 1)) _ told h in
+    let a = unless_ok 4 (app_number spec (word_at ws 1)) _ told h in
     let v = unless_ok 5 (signed_from 8 4 ws) _ told a.2 in
     let n = if_ok (a.0 == next) (Ok (done did v.0)) 6 told v.2 in
-    let named = the_next spec next a.0 (word ws 1) n.0 a.1 in
-    let w1 : word ws 1 ≡ named.0.name = sym named.2 in
-    let w2 : word ws 2 ≡ act_text spec named.0.kind.0 did = bare_tag spec named.0.kind.0 (word ws 2) did tag in
+    let named = the_next spec next a.0 (word_at ws 1) n.0 a.1 in
+    let w1 : word_at ws 1 ≡ named.0.name = sym named.2 in
+    let w2 : word_at ws 2 ≡ act_text spec named.0.kind.0 did = bare_tag spec named.0.kind.0 (word_at ws 2) did tag in
     let w4 : tab 8 4 ws ≡ map signed_decimal v.0 = signed_words 8 4 ws v.0 v.1 in
     let listed : ws ≡ codes "app" ∷ named.0.name ∷ act_text spec named.0.kind.0 did ∷ codes ":" ∷ map signed_decimal v.0
     = words_listed 12 ws count ∙ both w0 (both w1 (both w2 (both w3 w4))) in
@@ -160,25 +160,25 @@ bare_read spec next line ws told did joined_is w0 count w3 tag h =
     (sym (bare_shape named.0.name (act_text spec named.0.kind.0 did) v.0)
     ∙ ap (λ (text : List ℕ). text ++ codes "\n") (sym (joined_is ∙ ap (join_with_byte 32) listed)))
 
-placed_by : (t : Bool) (spec : Parts) (next : ℕ) (line : List ℕ) (ws : List (List ℕ)) (told : Done) → (t ≡ true → word ws 2 ≡ codes "ran") → line ≡ join_with_byte 32 ws →
-    word ws 0 ≡ codes "app" → (length ws == 14) ≡ true → word ws 5 ≡ codes ":" →
-    cond t (ran_line spec next ws) (unless 3 (phase_named (word ws 2)) (λ (phase : Phase). unless 3 (sides_of (word ws 3)) (phase_line spec next ws phase))) ≡ Ok told → AppRead spec next line told
+placed_by : (t : Bool) (spec : Parts) (next : ℕ) (line : List ℕ) (ws : List (List ℕ)) (told : Done) → (t ≡ true → word_at ws 2 ≡ codes "ran") → line ≡ join_with_byte 32 ws →
+    word_at ws 0 ≡ codes "app" → (length ws == 14) ≡ true → word_at ws 5 ≡ codes ":" →
+    cond t (ran_line spec next ws) (unless 3 (phase_named (word_at ws 2)) (λ (phase : Phase). unless 3 (sides_of (word_at ws 3)) (phase_line spec next ws phase))) ≡ Ok told → AppRead spec next line told
 placed_by true spec next line ws told ran joined_is w0 count w5 h = ran_read spec next line ws told joined_is w0 count w5 (ran refl) h
 placed_by false spec next line ws told ran joined_is w0 count w5 h =
-    let p = unless_ok 3 (phase_named (word ws 2)) (λ (phase : Phase). unless 3 (sides_of (word ws 3)) (phase_line spec next ws phase)) told h in
-    let f = unless_ok 3 (sides_of (word ws 3)) (phase_line spec next ws p.0) told p.2 in
-    phase_read spec next line ws told p.0 f.0 joined_is w0 count w5 (phase_tag (word ws 2) p.0 p.1)
-    (sides_text (word ws 3) f.0.0 f.0.1 (pieces_of 47 (word ws 3)) refl f.1) f.2
+    let p = unless_ok 3 (phase_named (word_at ws 2)) (λ (phase : Phase). unless 3 (sides_of (word_at ws 3)) (phase_line spec next ws phase)) told h in
+    let f = unless_ok 3 (sides_of (word_at ws 3)) (phase_line spec next ws p.0) told p.2 in
+    phase_read spec next line ws told p.0 f.0 joined_is w0 count w5 (phase_tag (word_at ws 2) p.0 p.1)
+    (sides_text (word_at ws 3) f.0.0 f.0.1 (pieces_of 47 (word_at ws 3)) refl f.1) f.2
 
 forms_by : (p b : Bool) (spec : Parts) (next : ℕ) (line : List ℕ) (ws : List (List ℕ)) (told : Done) → (p ≡ true → is_placed_form ws ≡ true) → (b ≡ true → is_bare_form ws ≡ true) →
-    line ≡ join_with_byte 32 ws → word ws 0 ≡ codes "app" →
-    cond p (placed_line spec next ws) (cond b (unless 3 (bare_act (word ws 2)) (bare_line spec next ws)) (Err 3)) ≡ Ok told → AppRead spec next line told
+    line ≡ join_with_byte 32 ws → word_at ws 0 ≡ codes "app" →
+    cond p (placed_line spec next ws) (cond b (unless 3 (bare_act (word_at ws 2)) (bare_line spec next ws)) (Err 3)) ≡ Ok told → AppRead spec next line told
 forms_by true b spec next line ws told placed bare joined_is w0 h =
     let f = and_parts (length ws == 14) (is_word ws 5 (codes ":")) (placed refl) in
     placed_by (is_word ws 2 (codes "ran")) spec next line ws told (is_text ws 2 (codes "ran")) joined_is w0 f.0 (is_text ws 5 (codes ":") f.1) h
 forms_by false true spec next line ws told placed bare joined_is w0 h =
     let f = and_parts (length ws == 12) (is_word ws 3 (codes ":")) (bare refl) in
-    let d = unless_ok 3 (bare_act (word ws 2)) (bare_line spec next ws) told h in
+    let d = unless_ok 3 (bare_act (word_at ws 2)) (bare_line spec next ws) told h in
     bare_read spec next line ws told d.0 joined_is w0 f.0 (is_text ws 3 (codes ":") f.1) d.1 d.2
 forms_by false false spec next line ws told placed bare joined_is w0 h = absurd (let e = h in cc)
 
@@ -187,5 +187,5 @@ pub app_only : (spec : Parts) (next : ℕ) (line : List ℕ) (told : Done) → b
 app_only spec next line told first h =
     let w = unless_ok 3 (words_in line) (app_in spec next) told h in
     let same = words_are line w.0 w.1 in
-    let w0 : word w.0 0 ≡ codes "app" = rw (← same) (is_text (words_of line) 0 (codes "app") first) in
+    let w0 : word_at w.0 0 ≡ codes "app" = rw (← same) (is_text (words_of line) 0 (codes "app") first) in
     forms_by (is_placed_form w.0) (is_bare_form w.0) spec next line w.0 told (λ e. e) (λ e. e) (line_joined line w.0 w.1) w0 w.2

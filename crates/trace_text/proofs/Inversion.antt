@@ -6,7 +6,7 @@ use Rattle.std.proofs.lemmas.Bool.{eqb-true}
 use Rattle.std.proofs.lemmas.List.{drop_all, drop_more}
 use Rattle.std.proofs.lemmas.List.Splits.{join_with_byte-slice_split}
 use Rattle.std.proofs.lemmas.Slice.Eq.{bytes_eq-Decides}
-use Rattle.trace_text.specs.Pieces.{word, words_of, words_in, is_word, is_filled}
+use Rattle.trace_text.specs.Pieces.{words_of, words_in, is_word, is_filled, word_at}
 use Rattle.trace_text.specs.Rules.{unless}
 
 pub unless_ok : {A B : Type 0} (rule : ℕ) (o : Option A) (next : A → Result B ℕ) (b : B) → unless rule o next ≡ Ok b →
@@ -41,17 +41,17 @@ then_some f (Some a) b h = (a, refl, h)
 pub same_text : (a b : List ℕ) → bytes_eq a b ≡ true → a ≡ b
 same_text a b h = (bytes_eq-Decides a b).0 h
 
-pub is_text : (ws : List (List ℕ)) (k : ℕ) (text : List ℕ) → is_word ws k text ≡ true → word ws k ≡ text
-is_text ws k text h = same_text (word ws k) text h
+pub is_text : (ws : List (List ℕ)) (k : ℕ) (text : List ℕ) → is_word ws k text ≡ true → word_at ws k ≡ text
+is_text ws k text h = same_text (word_at ws k) text h
 
 -- so many words from word k on
 abbrev pub tab : ℕ → ℕ → List (List ℕ) → List (List ℕ)
 tab zero k ws = []
-tab (suc n) k ws = word ws k ∷ tab n (k + 1) ws
+tab (suc n) k ws = word_at ws k ∷ tab n (k + 1) ws
 
 tab_from : (n k : ℕ) (ws : List (List ℕ)) → length ws ≡ k + n → tab n k ws ≡ drop k ws
 tab_from zero k ws e = sym (drop_all k ws (omega (arith, e)))
-tab_from (suc n) k ws e = ap (λ (rest : List (List ℕ)). word ws k ∷ rest) (tab_from n (k + 1) ws (omega (arith, e))) ∙ sym (drop_more ws k [] (omega (arith, e)))
+tab_from (suc n) k ws e = ap (λ (rest : List (List ℕ)). word_at ws k ∷ rest) (tab_from n (k + 1) ws (omega (arith, e))) ∙ sym (drop_more ws k [] (omega (arith, e)))
 
 pub words_listed : (n : ℕ) (ws : List (List ℕ)) → (length ws == n) ≡ true → ws ≡ tab n 0 ws
 words_listed n ws e = let same : length ws ≡ n = eqb-true (length ws) n e in sym (tab_from n 0 ws (omega (arith, same)))

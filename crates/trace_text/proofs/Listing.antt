@@ -1,6 +1,6 @@
 -- What is left to write of names joined by commas, some being written already or none.
 use Rattle.std.specs.Prelude.{ℕ, Bool, List, if◌then◌else◌}
-use Rattle.trace_text.specs.Names.{further, joined}
+use Rattle.trace_text.specs.Names.{joined, further_joined}
 
 abbrev pub rest_of : Bool → List (List ℕ) → List ℕ
-rest_of shown names = if shown then further names else joined names
+rest_of shown names = if shown then further_joined names else joined names

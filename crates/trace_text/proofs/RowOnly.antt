@@ -15,11 +15,12 @@ use Rattle.scram_types.specs.declared.orders.KMode.{KMode}
 use Rattle.scram_types.specs.declared.orders.KMode.TheVariants.{Stable, Moving}
 use Rattle.scram_types.specs.declared.specification.Factor.{Factor}
 use Rattle.scram_types.specs.declared.specification.Proc.{Proc}
-use Rattle.trace_text.specs.Lookups.{conf_named, conf_or_none, value_named}
-use Rattle.trace_text.specs.Names.{conf_name, conf_or_dash, further, joined, names_up, value_name, values_named}
-use Rattle.trace_text.specs.Pieces.{items_of, pieces_of, word, words_in, words_of, is_word}
-use Rattle.trace_text.specs.RowReading.{are_values, env_names, env_of, is_env_form, is_moving_form, is_next, is_proc, is_stable_form, moving_row, row_begun, row_end, row_in, row_read, stable_row, up_from, up_in, values_from, values_in, with_bit, world_at}
-use Rattle.trace_text.specs.Spelling.{number_of, signed_of}
+use Rattle.trace_text.specs.Lookups.{conf_or_none}
+use Rattle.scram_types.specs.Lookups.{value_named, conf_named, value_name, conf_name}
+use Rattle.trace_text.specs.Names.{conf_or_dash, joined, names_up, values_named, further_joined}
+use Rattle.trace_text.specs.Pieces.{items_of, pieces_of, words_in, words_of, is_word, word_at}
+use Rattle.trace_text.specs.RowReading.{are_values, env_names, env_read, is_env_form, is_moving_form, is_proc_name, is_stable_form, moving_row, row_begun, row_end, row_of_words, row_read, stable_row, up_from, up_in, values_from, values_in, with_bit, world_at}
+use Rattle.trace_text.specs.Spelling.{signed_of, spelled_number}
 use Rattle.trace_text.specs.Text.{row_line, up_text, values_text}
 use Rattle.trace_text.specs.TraceReading.{begins}
 use Rattle.trace_text.proofs.Found.{conf_found, conf_or_dash_found, value_found}
@@ -29,7 +30,7 @@ use Rattle.trace_text.proofs.Spelling.{number_spelled, signed_spelled}
 use Rattle.trace_text.proofs.Splitting.{some_piece}
 
 -- names joined by commas
-further_join : (name : List ℕ) (names : List (List ℕ)) → join_with_byte 44 (name ∷ names) ≡ name ++ further names
+further_join : (name : List ℕ) (names : List (List ℕ)) → join_with_byte 44 (name ∷ names) ≡ name ++ further_joined names
 further_join name [] = sym (append-nil name)
 further_join name (next ∷ names) = ap (λ (rest : List ℕ). name ++ 44 ∷ rest) (further_join next names)
 
@@ -130,23 +131,23 @@ up_read procs list u h =
     sym (joined_items list) ∙ ap joined p.2 ∙ ap (λ (m : ℕ). joined (names_up procs m)) (sym e)
 
 record WorldWords (ws : List (List ℕ)) (at : ℕ) (world : World) : Type 0 where
-  alt : word ws at ≡ signed_decimal world.alt
-  climb : word ws (at + 1) ≡ signed_decimal world.climb
-  heading : word ws (at + 2) ≡ signed_decimal world.heading
-  bank : word ws (at + 3) ≡ signed_decimal world.bank
+  alt : word_at ws at ≡ signed_decimal world.alt
+  climb : word_at ws (at + 1) ≡ signed_decimal world.climb
+  heading : word_at ws (at + 2) ≡ signed_decimal world.heading
+  bank : word_at ws (at + 3) ≡ signed_decimal world.bank
 
 world_words : (ws : List (List ℕ)) (at : ℕ) (world : World) → world_at ws at ≡ Some world → WorldWords ws at world
 world_words ws at world h =
     let a = then_some (λ (alt : ℤ). option_and_then (λ (climb : ℤ). option_and_then (λ (heading : ℤ). option_map (λ (bank : ℤ).
     record { alt = alt; climb = climb; heading = heading; bank = bank })
-    (signed_of (word ws (at + 3)))) (signed_of (word ws (at + 2)))) (signed_of (word ws (at + 1)))) (signed_of (word ws at)) world h in
+    (signed_of (word_at ws (at + 3)))) (signed_of (word_at ws (at + 2)))) (signed_of (word_at ws (at + 1)))) (signed_of (word_at ws at)) world h in
     let b = then_some (λ (climb : ℤ). option_and_then (λ (heading : ℤ). option_map (λ (bank : ℤ).
     record { alt = a.0; climb = climb; heading = heading; bank = bank })
-    (signed_of (word ws (at + 3)))) (signed_of (word ws (at + 2)))) (signed_of (word ws (at + 1))) world a.2 in
+    (signed_of (word_at ws (at + 3)))) (signed_of (word_at ws (at + 2)))) (signed_of (word_at ws (at + 1))) world a.2 in
     let c = then_some (λ (heading : ℤ). option_map (λ (bank : ℤ).
     record { alt = a.0; climb = b.0; heading = heading; bank = bank })
-    (signed_of (word ws (at + 3)))) (signed_of (word ws (at + 2))) world b.2 in
-    let d = map_some (λ (bank : ℤ). record { alt = a.0; climb = b.0; heading = c.0; bank = bank }) (signed_of (word ws (at + 3))) world c.2 in
+    (signed_of (word_at ws (at + 3)))) (signed_of (word_at ws (at + 2))) world b.2 in
+    let d = map_some (λ (bank : ℤ). record { alt = a.0; climb = b.0; heading = c.0; bank = bank }) (signed_of (word_at ws (at + 3))) world c.2 in
     let e : record { alt = a.0; climb = b.0; heading = c.0; bank = d.0 } ≡ world = d.2 in
     record {
       alt = signed_spelled a.0 _ a.1 ∙ ap (λ (w : World). signed_decimal w.alt) e;
@@ -160,28 +161,28 @@ record RowEnd (spec : Parts) (next : ℕ) (ws : List (List ℕ)) (at : ℕ) (mod
   frame : ℕ
   world : World
   up : ℕ
-  spelled : word ws 1 ≡ decimal frame
+  spelled : word_at ws 1 ≡ decimal frame
   numbers : WorldWords ws (at + 5) world
   is_next : frame ≡ next
-  listed : word ws (at + 3) ≡ up_text spec up
-  row_is : row_begun frame mode (env_of up values) world ≡ row
+  listed : word_at ws (at + 3) ≡ up_text spec up
+  row_is : row_begun frame mode (env_read up values) world ≡ row
 
 row_ended : (spec : Parts) (next : ℕ) (ws : List (List ℕ)) (at : ℕ) (mode : KMode) (values : List ℕ) (row : Row) → row_end spec next ws at mode values ≡ Ok row →
     RowEnd spec next ws at mode values row
 row_ended spec next ws at mode values row h =
-    let f = unless_ok 5 (number_of 20000 (word ws 1)) _ row h in
+    let f = unless_ok 5 (spelled_number 20000 (word_at ws 1)) _ row h in
     let w = unless_ok 5 (world_at ws (at + 5)) _ row f.2 in
     let n = if_ok (f.0 == next) _ 6 row w.2 in
-    let u = unless_ok 7 (up_in spec.procs (word ws (at + 3))) _ row n.1 in
+    let u = unless_ok 7 (up_in spec.procs (word_at ws (at + 3))) _ row n.1 in
     record {
       frame = f.0;
       world = w.0;
       up = u.0;
-      spelled = (number_spelled 20000 f.0 (word ws 1) f.1).0;
+      spelled = (number_spelled 20000 f.0 (word_at ws 1) f.1).0;
       numbers = world_words ws (at + 5) w.0 w.1;
       is_next = eqb-true f.0 next n.0;
-      listed = up_read spec.procs (word ws (at + 3)) u.0 u.1;
-      row_is = let e : row_begun f.0 mode (env_of u.0 values) w.0 ≡ row = cc in e;
+      listed = up_read spec.procs (word_at ws (at + 3)) u.0 u.1;
+      row_is = let e : row_begun f.0 mode (env_read u.0 values) w.0 ≡ row = cc in e;
     }
 
 -- what is told of a line that is read as a row's: it is the row's text, and the row is still empty of acts
@@ -192,27 +193,27 @@ pub record RowRead (spec : Parts) (next : ℕ) (line : List ℕ) (row : Row) : T
   pub areas : row.areas ≡ replicate 8 (replicate 8 (pos 0))
 
 record EnvForm (spec : Parts) (ws : List (List ℕ)) (at : ℕ) : Type 0 where
-  env : word ws at ≡ codes "env"
-  listed : are_values spec.factors (word ws (at + 1)) ≡ true
-  up_is : word ws (at + 2) ≡ codes "up"
-  world_is : word ws (at + 4) ≡ codes "world"
+  env : word_at ws at ≡ codes "env"
+  listed : are_values spec.factors (word_at ws (at + 1)) ≡ true
+  up_is : word_at ws (at + 2) ≡ codes "up"
+  world_is : word_at ws (at + 4) ≡ codes "world"
 
 env_form : (spec : Parts) (ws : List (List ℕ)) (at : ℕ) → is_env_form spec ws at ≡ true → EnvForm spec ws at
 env_form spec ws at h =
-    let a = and_parts (is_word ws at (codes "env") && are_values spec.factors (word ws (at + 1)) && is_word ws (at + 2) (codes "up")) (is_word ws (at + 4) (codes "world")) h in
-    let b = and_parts (is_word ws at (codes "env") && are_values spec.factors (word ws (at + 1))) (is_word ws (at + 2) (codes "up")) a.0 in
-    let c = and_parts (is_word ws at (codes "env")) (are_values spec.factors (word ws (at + 1))) b.0 in
+    let a = and_parts (is_word ws at (codes "env") && are_values spec.factors (word_at ws (at + 1)) && is_word ws (at + 2) (codes "up")) (is_word ws (at + 4) (codes "world")) h in
+    let b = and_parts (is_word ws at (codes "env") && are_values spec.factors (word_at ws (at + 1))) (is_word ws (at + 2) (codes "up")) a.0 in
+    let c = and_parts (is_word ws at (codes "env")) (are_values spec.factors (word_at ws (at + 1))) b.0 in
     record { env = is_text ws at _ c.0; listed = c.1; up_is = is_text ws (at + 2) _ b.1; world_is = is_text ws (at + 4) _ a.1 }
 
 env_values : (spec : Parts) (ws : List (List ℕ)) (at : ℕ) (values : List ℕ) → length spec.factors ≤ 6 → EnvForm spec ws at → env_names spec ws at ≡ Some values →
-    word ws (at + 1) ≡ values_text spec values
+    word_at ws (at + 1) ≡ values_text spec values
 env_values spec ws at values few form h =
-    let p = kept_says (list_all (is_proc spec) (items_of (word ws (at + 3)))) (values_in spec.factors (word ws (at + 1))) values h in
-    values_read spec.factors (word ws (at + 1)) values few form.listed p.1
+    let p = kept_says (list_all (is_proc_name spec) (items_of (word_at ws (at + 3)))) (values_in spec.factors (word_at ws (at + 1))) values h in
+    values_read spec.factors (word_at ws (at + 1)) values few form.listed p.1
 
 row_told : (spec : Parts) (next frame : ℕ) (line : List ℕ) (mode : KMode) (up : ℕ) (values : List ℕ) (world : World) (row : Row) →
-    row_begun frame mode (env_of up values) world ≡ row → frame ≡ next →
-    row_line spec (row_begun frame mode (env_of up values) world) ≡ line ++ codes "\n" → RowRead spec next line row
+    row_begun frame mode (env_read up values) world ≡ row → frame ≡ next →
+    row_line spec (row_begun frame mode (env_read up values) world) ≡ line ++ codes "\n" → RowRead spec next line row
 row_told spec next frame line mode up values world row is same text = record {
   text = ap (row_line spec) (sym is) ∙ text;
   frame = ap (λ (r : Row). r.frame) (sym is) ∙ same;
@@ -221,26 +222,26 @@ row_told spec next frame line mode up values world row is same text = record {
 }
 
 stable_read : (spec : Parts) (next : ℕ) (line : List ℕ) (ws : List (List ℕ)) (row : Row) → length spec.factors ≤ 6 → line ≡ join_with_byte 32 ws →
-    word ws 0 ≡ codes "frame" → is_stable_form spec ws ≡ true → stable_row spec next ws ≡ Ok row → RowRead spec next line row
+    word_at ws 0 ≡ codes "frame" → is_stable_form spec ws ≡ true → stable_row spec next ws ≡ Ok row → RowRead spec next line row
 stable_read spec next line ws row few joined_is w0 form h =
     let b = and_parts ((length ws == 13) && is_word ws 2 (codes "stable")) (is_env_form spec ws 4) form in
     let a = and_parts (length ws == 13) (is_word ws 2 (codes "stable")) b.0 in
     let env = env_form spec ws 4 b.1 in
-    let c = unless_ok 4 (conf_named spec (word ws 3)) _ row h in
+    let c = unless_ok 4 (conf_named spec (word_at ws 3)) _ row h in
     let v = unless_ok 4 (env_names spec ws 4) _ row c.2 in
     let told = row_ended spec next ws 4 (Stable c.0) v.0 row v.2 in
-    let w1 : word ws 1 ≡ decimal told.frame = told.spelled in
-    let w2 : word ws 2 ≡ codes "stable" = is_text ws 2 (codes "stable") a.1 in
-    let w3 : word ws 3 ≡ conf_name spec c.0.0 = conf_found spec (word ws 3) c.0 c.1 in
-    let w4 : word ws 4 ≡ codes "env" = env.env in
-    let w5 : word ws 5 ≡ values_text spec v.0 = env_values spec ws 4 v.0 few env v.1 in
-    let w6 : word ws 6 ≡ codes "up" = env.up_is in
-    let w7 : word ws 7 ≡ up_text spec told.up = told.listed in
-    let w8 : word ws 8 ≡ codes "world" = env.world_is in
-    let w9 : word ws 9 ≡ signed_decimal told.world.alt = told.numbers.alt in
-    let w10 : word ws 10 ≡ signed_decimal told.world.climb = told.numbers.climb in
-    let w11 : word ws 11 ≡ signed_decimal told.world.heading = told.numbers.heading in
-    let w12 : word ws 12 ≡ signed_decimal told.world.bank = told.numbers.bank in
+    let w1 : word_at ws 1 ≡ decimal told.frame = told.spelled in
+    let w2 : word_at ws 2 ≡ codes "stable" = is_text ws 2 (codes "stable") a.1 in
+    let w3 : word_at ws 3 ≡ conf_name spec c.0.0 = conf_found spec (word_at ws 3) c.0 c.1 in
+    let w4 : word_at ws 4 ≡ codes "env" = env.env in
+    let w5 : word_at ws 5 ≡ values_text spec v.0 = env_values spec ws 4 v.0 few env v.1 in
+    let w6 : word_at ws 6 ≡ codes "up" = env.up_is in
+    let w7 : word_at ws 7 ≡ up_text spec told.up = told.listed in
+    let w8 : word_at ws 8 ≡ codes "world" = env.world_is in
+    let w9 : word_at ws 9 ≡ signed_decimal told.world.alt = told.numbers.alt in
+    let w10 : word_at ws 10 ≡ signed_decimal told.world.climb = told.numbers.climb in
+    let w11 : word_at ws 11 ≡ signed_decimal told.world.heading = told.numbers.heading in
+    let w12 : word_at ws 12 ≡ signed_decimal told.world.bank = told.numbers.bank in
     let listed : ws ≡ codes "frame" ∷ decimal told.frame ∷ codes "stable" ∷ conf_name spec c.0.0 ∷ codes "env" ∷ values_text spec v.0 ∷ codes "up" ∷ up_text spec told.up ∷ codes "world"
     ∷ signed_decimal told.world.alt ∷ signed_decimal told.world.climb ∷ signed_decimal told.world.heading ∷ signed_decimal told.world.bank ∷ []
     = words_listed 13 ws a.0 ∙ both w0 (both w1 (both w2 (both w3 (both w4 (both w5 (both w6 (both w7 (both w8 (both w9 (both w10 (both w11 (both w12 refl)))))))))))) in
@@ -250,32 +251,32 @@ stable_read spec next line ws row few joined_is w0 form h =
     ∙ ap (λ (text : List ℕ). text ++ codes "\n") (sym (joined_is ∙ ap (join_with_byte 32) listed)))
 
 moving_read : (spec : Parts) (next : ℕ) (line : List ℕ) (ws : List (List ℕ)) (row : Row) → length spec.factors ≤ 6 → line ≡ join_with_byte 32 ws →
-    word ws 0 ≡ codes "frame" → is_moving_form spec ws ≡ true → moving_row spec next ws ≡ Ok row → RowRead spec next line row
+    word_at ws 0 ≡ codes "frame" → is_moving_form spec ws ≡ true → moving_row spec next ws ≡ Ok row → RowRead spec next line row
 moving_read spec next line ws row few joined_is w0 form h =
     let b = and_parts ((length ws == 16) && is_word ws 2 (codes "moving")) (is_env_form spec ws 7) form in
     let a = and_parts (length ws == 16) (is_word ws 2 (codes "moving")) b.0 in
     let env = env_form spec ws 7 b.1 in
-    let c = unless_ok 4 (conf_named spec (word ws 3)) _ row h in
-    let d = unless_ok 4 (conf_or_none spec (word ws 4)) _ row c.2 in
-    let e = unless_ok 4 (conf_named spec (word ws 5)) _ row d.2 in
+    let c = unless_ok 4 (conf_named spec (word_at ws 3)) _ row h in
+    let d = unless_ok 4 (conf_or_none spec (word_at ws 4)) _ row c.2 in
+    let e = unless_ok 4 (conf_named spec (word_at ws 5)) _ row d.2 in
     let v = unless_ok 4 (env_names spec ws 7) _ row e.2 in
-    let s = unless_ok 5 (number_of 20000 (word ws 6)) _ row v.2 in
+    let s = unless_ok 5 (spelled_number 20000 (word_at ws 6)) _ row v.2 in
     let told = row_ended spec next ws 7 (Moving c.0 d.0 e.0 s.0) v.0 row s.2 in
-    let w1 : word ws 1 ≡ decimal told.frame = told.spelled in
-    let w2 : word ws 2 ≡ codes "moving" = is_text ws 2 (codes "moving") a.1 in
-    let w3 : word ws 3 ≡ conf_name spec c.0.0 = conf_found spec (word ws 3) c.0 c.1 in
-    let w4 : word ws 4 ≡ conf_or_dash spec d.0 = conf_or_dash_found spec (word ws 4) d.0 d.1 in
-    let w5 : word ws 5 ≡ conf_name spec e.0.0 = conf_found spec (word ws 5) e.0 e.1 in
-    let w6 : word ws 6 ≡ decimal s.0 = (number_spelled 20000 s.0 (word ws 6) s.1).0 in
-    let w7 : word ws 7 ≡ codes "env" = env.env in
-    let w8 : word ws 8 ≡ values_text spec v.0 = env_values spec ws 7 v.0 few env v.1 in
-    let w9 : word ws 9 ≡ codes "up" = env.up_is in
-    let w10 : word ws 10 ≡ up_text spec told.up = told.listed in
-    let w11 : word ws 11 ≡ codes "world" = env.world_is in
-    let w12 : word ws 12 ≡ signed_decimal told.world.alt = told.numbers.alt in
-    let w13 : word ws 13 ≡ signed_decimal told.world.climb = told.numbers.climb in
-    let w14 : word ws 14 ≡ signed_decimal told.world.heading = told.numbers.heading in
-    let w15 : word ws 15 ≡ signed_decimal told.world.bank = told.numbers.bank in
+    let w1 : word_at ws 1 ≡ decimal told.frame = told.spelled in
+    let w2 : word_at ws 2 ≡ codes "moving" = is_text ws 2 (codes "moving") a.1 in
+    let w3 : word_at ws 3 ≡ conf_name spec c.0.0 = conf_found spec (word_at ws 3) c.0 c.1 in
+    let w4 : word_at ws 4 ≡ conf_or_dash spec d.0 = conf_or_dash_found spec (word_at ws 4) d.0 d.1 in
+    let w5 : word_at ws 5 ≡ conf_name spec e.0.0 = conf_found spec (word_at ws 5) e.0 e.1 in
+    let w6 : word_at ws 6 ≡ decimal s.0 = (number_spelled 20000 s.0 (word_at ws 6) s.1).0 in
+    let w7 : word_at ws 7 ≡ codes "env" = env.env in
+    let w8 : word_at ws 8 ≡ values_text spec v.0 = env_values spec ws 7 v.0 few env v.1 in
+    let w9 : word_at ws 9 ≡ codes "up" = env.up_is in
+    let w10 : word_at ws 10 ≡ up_text spec told.up = told.listed in
+    let w11 : word_at ws 11 ≡ codes "world" = env.world_is in
+    let w12 : word_at ws 12 ≡ signed_decimal told.world.alt = told.numbers.alt in
+    let w13 : word_at ws 13 ≡ signed_decimal told.world.climb = told.numbers.climb in
+    let w14 : word_at ws 14 ≡ signed_decimal told.world.heading = told.numbers.heading in
+    let w15 : word_at ws 15 ≡ signed_decimal told.world.bank = told.numbers.bank in
     let listed : ws ≡ codes "frame" ∷ decimal told.frame ∷ codes "moving" ∷ conf_name spec c.0.0 ∷ conf_or_dash spec d.0 ∷ conf_name spec e.0.0 ∷ decimal s.0
     ∷ codes "env" ∷ values_text spec v.0 ∷ codes "up" ∷ up_text spec told.up ∷ codes "world"
     ∷ signed_decimal told.world.alt ∷ signed_decimal told.world.climb ∷ signed_decimal told.world.heading ∷ signed_decimal told.world.bank ∷ []
@@ -296,9 +297,9 @@ forms_by false false spec next line ws row stable moving h = absurd (let e = h i
 pub row_only : (spec : Parts) (next : ℕ) (line : List ℕ) (row : Row) → length spec.factors ≤ 6 → begins line (codes "frame") ≡ true → row_read spec next line ≡ Ok row →
     RowRead spec next line row
 row_only spec next line row few first h =
-    let w = unless_ok 3 (words_in line) (row_in spec next) row h in
+    let w = unless_ok 3 (words_in line) (row_of_words spec next) row h in
     let same = words_are line w.0 w.1 in
-    let w0 : word w.0 0 ≡ codes "frame" = rw (← same) (is_text (words_of line) 0 (codes "frame") first) in
+    let w0 : word_at w.0 0 ≡ codes "frame" = rw (← same) (is_text (words_of line) 0 (codes "frame") first) in
     let text = line_joined line w.0 w.1 in
     forms_by (is_stable_form spec w.0) (is_moving_form spec w.0) spec next line w.0 row
     (λ form read. stable_read spec next line w.0 row few text w0 form read) (λ form read. moving_read spec next line w.0 row few text w0 form read) w.2

@@ -11,7 +11,7 @@ use Rattle.std.proofs.lemmas.Bool.{lt-ltb, ltb-true, and_parts, and_from, ne_eqb
 use Rattle.std.specs.declared.num.ParseIntError.{ParseIntError}
 use lib.Signed.{mag}
 use lib.IntN.{neg_ℤ}
-use Rattle.trace_text.specs.Spelling.{number_of, signed_of, spelled, spelled_signed}
+use Rattle.trace_text.specs.Spelling.{signed_of, spelled_signed, spelled_below, spelled_number}
 
 none_unless : {A : Type 0} (b : Bool) (x : A) → (b ≡ true → ⊥) → cond b (Some x) None ≡ None
 none_unless true x h = absurd (h refl)
@@ -25,38 +25,38 @@ some_says : {A : Type 0} (b : Bool) (x y : A) → cond b (Some x) None ≡ Some 
 some_says true x y h = (refl, cc)
 some_says false x y h = absurd (let e = h in cc)
 
-spelled_here : (limit n : ℕ) (text : List ℕ) → n < limit → text ≡ decimal n → spelled limit n text ≡ Some n
+spelled_here : (limit n : ℕ) (text : List ℕ) → n < limit → text ≡ decimal n → spelled_below limit n text ≡ Some n
 spelled_here limit n text small e =
     some_where (nat_lt n limit && bytes_eq (decimal n) text) n (and_from _ _ (lt-ltb n limit small) ((bytes_eq-Decides (decimal n) text).1 (sym e)))
 
 -- a text spells a number just where it is what is printed of the number
-pub number_some : (limit n : ℕ) (text : List ℕ) → n < limit → n < 2 ^ 64 → text ≡ decimal n → number_of limit text ≡ Some n
-unfolding number_of
+pub number_some : (limit n : ℕ) (text : List ℕ) → n < limit → n < 2 ^ 64 → text ≡ decimal n → spelled_number limit text ≡ Some n
+unfolding spelled_number
 number_some limit n text small fits e =
     let v : digits_value 10 text ≡ n = rw e (decimal_is_IsNumeral n fits).1 in
-    ap (λ (k : ℕ). spelled limit k text) v ∙ spelled_here limit n text small e
+    ap (λ (k : ℕ). spelled_below limit k text) v ∙ spelled_here limit n text small e
 
-pub number_spelled : (limit n : ℕ) (text : List ℕ) → number_of limit text ≡ Some n → (text ≡ decimal n) × (n < limit)
-unfolding number_of
+pub number_spelled : (limit n : ℕ) (text : List ℕ) → spelled_number limit text ≡ Some n → (text ≡ decimal n) × (n < limit)
+unfolding spelled_number
 number_spelled limit n text h =
     let p = some_says (nat_lt (digits_value 10 text) limit && bytes_eq (decimal (digits_value 10 text)) text) (digits_value 10 text) n h in
     let both = and_parts _ _ p.0 in
     (sym ((bytes_eq-Decides _ _).0 both.1) ∙ ap decimal p.1, rw (← p.1) (ltb-true _ _ both.0))
 
-number_none : (limit : ℕ) (text : List ℕ) → ((n : ℕ) → n < limit → text ≡ decimal n → ⊥) → number_of limit text ≡ None
-unfolding number_of
+number_none : (limit : ℕ) (text : List ℕ) → ((n : ℕ) → n < limit → text ≡ decimal n → ⊥) → spelled_number limit text ≡ None
+unfolding spelled_number
 number_none limit text never =
     none_unless (nat_lt (digits_value 10 text) limit && bytes_eq (decimal (digits_value 10 text)) text) (digits_value 10 text)
     (λ t. let both = and_parts _ _ t in never (digits_value 10 text) (ltb-true _ _ both.0) (sym ((bytes_eq-Decides _ _).0 both.1)))
 
-pub number_utf8 : (limit : ℕ) (text : List ℕ) → limit ≤ 2 ^ 64 → (IsUtf8 text → ⊥) → number_of limit text ≡ None
+pub number_utf8 : (limit : ℕ) (text : List ℕ) → limit ≤ 2 ^ 64 → (IsUtf8 text → ⊥) → spelled_number limit text ≡ None
 number_utf8 limit text low never = number_none limit text (λ n small is. never (subst IsUtf8 (sym is) (IsUtf8-from_ascii _ (IsAscii-decimal n (omega arith)))))
 
-pub number_err : (limit : ℕ) (text digits : List ℕ) (e : ParseIntError) → limit < 2 ^ 64 → digits ≡ text → ParsesUnsigned 64 10 digits (Err e) → None ≡ number_of limit text
+pub number_err : (limit : ℕ) (text digits : List ℕ) (e : ParseIntError) → limit < 2 ^ 64 → digits ≡ text → ParsesUnsigned 64 10 digits (Err e) → None ≡ spelled_number limit text
 number_err limit text digits e low same h = sym (number_none limit text (λ n small is. absurd (let x = parse-decimal 64 n digits (Err e) (omega arith) (omega arith) (same ∙ is) h in cc)))
 
 -- where the parser gave a number that the text does not spell, it spells none
-pub number_other : (limit : ℕ) (text digits : List ℕ) (m : ℕ) → limit < 2 ^ 64 → digits ≡ text → ParsesUnsigned {E = ParseIntError} 64 10 digits (Ok m) → (m < limit → decimal m ≡ text → ⊥) → None ≡ number_of limit text
+pub number_other : (limit : ℕ) (text digits : List ℕ) (m : ℕ) → limit < 2 ^ 64 → digits ≡ text → ParsesUnsigned {E = ParseIntError} 64 10 digits (Ok m) → (m < limit → decimal m ≡ text → ⊥) → None ≡ spelled_number limit text
 number_other limit text digits m low same h never = sym (number_none limit text (λ n small is.
     let x = parse-decimal {E = ParseIntError} 64 n digits (Ok m) (omega arith) (omega arith) (same ∙ is) h in
     let e : m ≡ n = cc in

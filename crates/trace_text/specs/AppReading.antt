@@ -8,10 +8,11 @@ use Rattle.scram_types.specs.declared.orders.Act.TheVariants as act
 use Rattle.trace_text.specs.declared.app_reading.Done.{Done}
 use Rattle.trace_text.specs.declared.app_reading.Phase.{Phase}
 use Rattle.trace_text.specs.declared.app_reading.Phase.TheVariants.{Halting, Preparing, Initialising}
-use Rattle.trace_text.specs.Lookups.{app_named, mode_named, proc_named}
-use Rattle.trace_text.specs.Pieces.{words_in, word, is_word, sides_of}
+use Rattle.trace_text.specs.Lookups.{app_number, listed_mode}
+use Rattle.scram_types.specs.Lookups.{proc_named}
+use Rattle.trace_text.specs.Pieces.{words_in, is_word, sides_of, word_at}
 use Rattle.trace_text.specs.Rules.{unless}
-use Rattle.trace_text.specs.Spelling.{number_of, signed_from}
+use Rattle.trace_text.specs.Spelling.{signed_from, spelled_number}
 
 abbrev pub done : Act → List ℤ → Done
 done act area = record { act = act; area = area }
@@ -42,18 +43,18 @@ bare_act tag =
 
 abbrev pub ran_line : Parts → ℕ → List (List ℕ) → Result Done ℕ
 ran_line spec next words =
-    unless 4 (app_named spec (word words 1)) (λ (app : ℕ).
-    unless 4 (mode_named spec app (word words 3)) (λ (mode : Mode).
-    unless 4 (proc_named spec (word words 4)) (λ (proc : ProcId).
+    unless 4 (app_number spec (word_at words 1)) (λ (app : ℕ).
+    unless 4 (listed_mode spec app (word_at words 3)) (λ (mode : Mode).
+    unless 4 (proc_named spec (word_at words 4)) (λ (proc : ProcId).
     unless 5 (signed_from 8 6 words) (λ (area : List ℤ).
     if app == next then Ok (done (act.Ran mode proc) area) else Err 6))))
 
 abbrev pub phase_line : Parts → ℕ → List (List ℕ) → Phase → List ℕ × List ℕ → Result Done ℕ
 phase_line spec next words phase fraction =
-    unless 4 (app_named spec (word words 1)) (λ (app : ℕ).
-    unless 4 (proc_named spec (word words 4)) (λ (proc : ProcId).
-    unless 5 (number_of 256 fraction.0) (λ (k : ℕ).
-    unless 5 (number_of 256 fraction.1) (λ (n : ℕ).
+    unless 4 (app_number spec (word_at words 1)) (λ (app : ℕ).
+    unless 4 (proc_named spec (word_at words 4)) (λ (proc : ProcId).
+    unless 5 (spelled_number 256 fraction.0) (λ (k : ℕ).
+    unless 5 (spelled_number 256 fraction.1) (λ (n : ℕ).
     unless 5 (signed_from 8 6 words) (λ (area : List ℤ).
     if app == next then
     (if nat_lt k n && nat_le n 16 then Ok (done (phase_act phase k n proc) area) else Err 7)
@@ -61,7 +62,7 @@ phase_line spec next words phase fraction =
 
 abbrev pub bare_line : Parts → ℕ → List (List ℕ) → Act → Result Done ℕ
 bare_line spec next words told =
-    unless 4 (app_named spec (word words 1)) (λ (app : ℕ).
+    unless 4 (app_number spec (word_at words 1)) (λ (app : ℕ).
     unless 5 (signed_from 8 4 words) (λ (area : List ℤ).
     if app == next then Ok (done told area) else Err 6))
 
@@ -69,13 +70,13 @@ abbrev pub placed_line : Parts → ℕ → List (List ℕ) → Result Done ℕ
 placed_line spec next words =
     if is_word words 2 (codes "ran") then ran_line spec next words
     else
-    unless 3 (phase_named (word words 2)) (λ (phase : Phase).
-    unless 3 (sides_of (word words 3)) (phase_line spec next words phase))
+    unless 3 (phase_named (word_at words 2)) (λ (phase : Phase).
+    unless 3 (sides_of (word_at words 3)) (phase_line spec next words phase))
 
 abbrev pub app_in : Parts → ℕ → List (List ℕ) → Result Done ℕ
 app_in spec next words =
     if is_placed_form words then placed_line spec next words
-    else (if is_bare_form words then unless 3 (bare_act (word words 2)) (bare_line spec next words) else Err 3)
+    else (if is_bare_form words then unless 3 (bare_act (word_at words 2)) (bare_line spec next words) else Err 3)
 
 -- what a line says that is to be the one of application `next`
 abbrev pub app_read : Parts → ℕ → List ℕ → Result Done ℕ

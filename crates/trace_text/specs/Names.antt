@@ -1,20 +1,10 @@
 -- The names that a trace shows; nothing for what does not exist.
-use Rattle.std.specs.Prelude.{ℕ, ◌==◌, ◌+◌, ◌%◌, ◌/◌, List, [], ◌∷◌, ◌++◌, slice_get, slice_index, Option, Some, None, codes, if◌then◌else◌}
-use Rattle.std.specs.Option.{option_map_or}
+use Rattle.scram_types.specs.Lookups.{value_name, conf_name}
+use Rattle.std.specs.Prelude.{ℕ, ◌==◌, ◌+◌, ◌%◌, ◌/◌, List, [], ◌∷◌, ◌++◌, slice_index, Option, Some, None, codes, if◌then◌else◌}
 use Rattle.scram_types.specs.Specification.{Parts}
 use Rattle.scram_types.specs.declared.ids.ConfId.{ConfId}
-use Rattle.scram_types.specs.declared.specification.Conf.{Conf}
 use Rattle.scram_types.specs.declared.specification.Factor.{Factor}
 use Rattle.scram_types.specs.declared.specification.Proc.{Proc}
-
-abbrev pub conf_name : Parts → ℕ → List ℕ
-conf_name spec c = option_map_or (λ (conf : Conf). conf.name) (slice_get spec.confs c) []
-
-abbrev pub proc_name : Parts → ℕ → List ℕ
-proc_name spec p = option_map_or (λ (proc : Proc). proc.name) (slice_get spec.procs p) []
-
-abbrev pub value_name : Factor → ℕ → List ℕ
-value_name factor value = option_map_or (λ (name : List ℕ). name) (slice_get factor.values value) []
 
 -- a configuration's name, or `-` without one
 abbrev pub conf_or_dash : Parts → Option ConfId → List ℕ
@@ -22,14 +12,14 @@ conf_or_dash spec None = codes "-"
 conf_or_dash spec (Some c) = conf_name spec c.0
 
 -- names after the first, a comma before each
-abbrev pub further : List (List ℕ) → List ℕ
-further [] = []
-further (name ∷ names) = codes "," ++ name ++ further names
+abbrev pub further_joined : List (List ℕ) → List ℕ
+further_joined [] = []
+further_joined (name ∷ names) = codes "," ++ name ++ further_joined names
 
 -- names joined by commas, or `-` where there is none
 abbrev pub joined : List (List ℕ) → List ℕ
 joined [] = codes "-"
-joined (name ∷ names) = name ++ further names
+joined (name ∷ names) = name ++ further_joined names
 
 -- the names of the values that the factors have, `i` being the number of the first factor
 abbrev pub values_named : List Factor → ℕ → List ℕ → List (List ℕ)

@@ -16,18 +16,18 @@ abbrev pub words_of : List ℕ → List (List ℕ)
 words_of line = pieces_of 32 line
 
 abbrev pub is_filled : List ℕ → Bool
-is_filled word = nat_lt 0 (length word)
+is_filled word_at = nat_lt 0 (length word_at)
 
 -- the words of a line, unless one of them is empty or they are more than any form has
 abbrev pub words_in : List ℕ → Option (List (List ℕ))
 words_in line = if nat_le (length (words_of line)) 16 && list_all is_filled (words_of line) then Some (words_of line) else None
 
 -- a word by its place; no bytes where there is none
-abbrev pub word : List (List ℕ) → ℕ → List ℕ
-word words k = slice_index_or words k []
+abbrev pub word_at : List (List ℕ) → ℕ → List ℕ
+word_at words k = slice_index_or words k []
 
 abbrev pub is_word : List (List ℕ) → ℕ → List ℕ → Bool
-is_word words k text = bytes_eq (word words k) text
+is_word words k text = bytes_eq (word_at words k) text
 
 -- the two sides of the one slash in a word
 abbrev pub sides : List (List ℕ) → Option (List ℕ × List ℕ)
@@ -37,7 +37,7 @@ sides (left ∷ []) = None
 sides [] = None
 
 abbrev pub sides_of : List ℕ → Option (List ℕ × List ℕ)
-sides_of word = sides (pieces_of 47 word)
+sides_of word_at = sides (pieces_of 47 word_at)
 
 -- the names in a list, `-` being the empty list
 abbrev pub items_of : List ℕ → List (List ℕ)

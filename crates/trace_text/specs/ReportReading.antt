@@ -3,10 +3,10 @@ use Rattle.std.specs.Prelude.{ℕ, ◌==◌, ◌-◌, ◌^◌, ◌&&◌, Bool, t
 use Rattle.scram_types.specs.Specification.{Parts, bound_in, greatest_bound_in}
 use Rattle.scram_types.specs.declared.ids.ConfId.{ConfId}
 use Rattle.scram_types.specs.declared.flights.Report.{Report}
-use Rattle.trace_text.specs.Lookups.{conf_named}
-use Rattle.trace_text.specs.Pieces.{words_in, word, is_word}
+use Rattle.scram_types.specs.Lookups.{conf_named}
+use Rattle.trace_text.specs.Pieces.{words_in, is_word, word_at}
 use Rattle.trace_text.specs.Rules.{unless}
-use Rattle.trace_text.specs.Spelling.{number_of}
+use Rattle.trace_text.specs.Spelling.{spelled_number}
 
 abbrev pub is_report_form : List (List ℕ) → Bool
 is_report_form words =
@@ -15,7 +15,7 @@ is_report_form words =
 
 -- a bound, or none for `-`
 abbrev pub bound_or_none : List ℕ → Option (Option ℕ)
-bound_or_none text = if bytes_eq text (codes "-") then Some None else option_map (λ (b : ℕ). Some b) (number_of (2 ^ 32) text)
+bound_or_none text = if bytes_eq text (codes "-") then Some None else option_map (λ (b : ℕ). Some b) (spelled_number (2 ^ 32) text)
 
 abbrev pub same_bound : Option ℕ → Option ℕ → Bool
 same_bound None None = true
@@ -26,24 +26,24 @@ same_bound (Some a) (Some b) = a == b
 -- rules 5 and 8, but for the spelling of the end
 abbrev pub report_end : List (List ℕ) → ConfId → Option ConfId → ℕ → Option ℕ → Result Report ℕ
 report_end words from to end given =
-    unless 5 (number_of 20000 (word words 5)) (λ (begin : ℕ).
-    unless 5 (number_of (2 ^ 32) (word words 9)) (λ (took : ℕ).
-    unless 5 (bound_or_none (word words 11)) (λ (bound : Option ℕ).
+    unless 5 (spelled_number 20000 (word_at words 5)) (λ (begin : ℕ).
+    unless 5 (spelled_number (2 ^ 32) (word_at words 9)) (λ (took : ℕ).
+    unless 5 (bound_or_none (word_at words 11)) (λ (bound : Option ℕ).
     if nat_le begin end && (took == end - begin) && same_bound bound given then
     Ok (record { from = from; to = to; begin = begin; end = end })
     else Err 8)))
 
 abbrev pub finished_report : Parts → List (List ℕ) → Result Report ℕ
 finished_report spec words =
-    unless 4 (conf_named spec (word words 1)) (λ (from : ConfId).
-    unless 4 (conf_named spec (word words 3)) (λ (to : ConfId).
-    unless 5 (number_of 20000 (word words 7)) (λ (end : ℕ).
+    unless 4 (conf_named spec (word_at words 1)) (λ (from : ConfId).
+    unless 4 (conf_named spec (word_at words 3)) (λ (to : ConfId).
+    unless 5 (spelled_number 20000 (word_at words 7)) (λ (end : ℕ).
     report_end words from (Some to) end (bound_in spec.bounds from.0 to.0))))
 
 -- one that the end of the flight cut off ends with the frames
 abbrev pub unfinished_report : Parts → ℕ → List (List ℕ) → Result Report ℕ
 unfinished_report spec frames words =
-    unless 4 (conf_named spec (word words 1)) (λ (from : ConfId).
+    unless 4 (conf_named spec (word_at words 1)) (λ (from : ConfId).
     report_end words from None frames (greatest_bound_in spec.bounds from.0))
 
 abbrev pub report_in : Parts → ℕ → List (List ℕ) → Result Report ℕ
@@ -64,8 +64,8 @@ is_end_form words = (length words == 5) && is_word words 1 (codes "frames") && i
 abbrev pub end_in : ℕ → ℕ → List (List ℕ) → Result ⊤ ℕ
 end_in frames reports words =
     if is_end_form words then
-    unless 5 (number_of (2 ^ 32) (word words 2)) (λ (f : ℕ).
-    unless 5 (number_of (2 ^ 32) (word words 4)) (λ (r : ℕ).
+    unless 5 (spelled_number (2 ^ 32) (word_at words 2)) (λ (f : ℕ).
+    unless 5 (spelled_number (2 ^ 32) (word_at words 4)) (λ (r : ℕ).
     if (f == frames) && (r == reports) then Ok tt else Err 8))
     else Err 3
 

@@ -13,10 +13,11 @@ use Rattle.scram_types.specs.declared.orders.KMode.{KMode}
 use Rattle.scram_types.specs.declared.orders.KMode.TheVariants.{Stable, Moving}
 use Rattle.scram_types.specs.declared.specification.Factor.{Factor}
 use Rattle.scram_types.specs.declared.specification.Proc.{Proc}
-use Rattle.trace_text.specs.Lookups.{conf_named, conf_or_none, proc_named, value_named}
-use Rattle.trace_text.specs.Pieces.{pieces_of, items_of, words_in, word, is_word}
+use Rattle.trace_text.specs.Lookups.{conf_or_none}
+use Rattle.scram_types.specs.Lookups.{value_named, proc_named, conf_named}
+use Rattle.trace_text.specs.Pieces.{pieces_of, items_of, words_in, is_word, word_at}
 use Rattle.trace_text.specs.Rules.{unless}
-use Rattle.trace_text.specs.Spelling.{number_of, signed_of}
+use Rattle.trace_text.specs.Spelling.{signed_of, spelled_number}
 
 -- as many values as there are factors; `-` without factors
 abbrev pub are_values : List Factor → List ℕ → Bool
@@ -26,7 +27,7 @@ are_values (factor ∷ factors) list = length (pieces_of 44 list) == length (fac
 -- the environment from word `at` on
 abbrev pub is_env_form : Parts → List (List ℕ) → ℕ → Bool
 is_env_form spec words at =
-    is_word words at (codes "env") && are_values spec.factors (word words (at + 1)) && is_word words (at + 2) (codes "up") && is_word words (at + 4) (codes "world")
+    is_word words at (codes "env") && are_values spec.factors (word_at words (at + 1)) && is_word words (at + 2) (codes "up") && is_word words (at + 4) (codes "world")
 
 abbrev pub is_stable_form : Parts → List (List ℕ) → Bool
 is_stable_form spec words = (length words == 13) && is_word words 2 (codes "stable") && is_env_form spec words 4
@@ -44,13 +45,13 @@ values_from (factor ∷ factors) (name ∷ names) i values =
 abbrev pub values_in : List Factor → List ℕ → Option (List ℕ)
 values_in factors list = values_from factors (pieces_of 44 list) 0 (replicate 6 0)
 
-abbrev pub is_proc : Parts → List ℕ → Bool
-is_proc spec name = option_map_or (λ (p : ProcId). true) (proc_named spec name) false
+abbrev pub is_proc_name : Parts → List ℕ → Bool
+is_proc_name spec name = option_map_or (λ (p : ProcId). true) (proc_named spec name) false
 
 -- the values of an environment that has no unknown name
 abbrev pub env_names : Parts → List (List ℕ) → ℕ → Option (List ℕ)
 env_names spec words at =
-    if list_all (is_proc spec) (items_of (word words (at + 3))) then values_in spec.factors (word words (at + 1)) else None
+    if list_all (is_proc_name spec) (items_of (word_at words (at + 3))) then values_in spec.factors (word_at words (at + 1)) else None
 
 -- whether the next name is this processor's
 abbrev pub is_next : Proc → List (List ℕ) → Bool
@@ -80,10 +81,10 @@ abbrev pub world_at : List (List ℕ) → ℕ → Option World
 world_at words at =
     option_and_then (λ (alt : ℤ). option_and_then (λ (climb : ℤ). option_and_then (λ (heading : ℤ). option_map (λ (bank : ℤ).
     record { alt = alt; climb = climb; heading = heading; bank = bank })
-    (signed_of (word words (at + 3)))) (signed_of (word words (at + 2)))) (signed_of (word words (at + 1)))) (signed_of (word words at))
+    (signed_of (word_at words (at + 3)))) (signed_of (word_at words (at + 2)))) (signed_of (word_at words (at + 1)))) (signed_of (word_at words at))
 
-abbrev pub env_of : ℕ → List ℕ → Env
-env_of up values = record { up = up; factors = values }
+abbrev pub env_read : ℕ → List ℕ → Env
+env_read up values = record { up = up; factors = values }
 
 -- a row before the lines of its applications
 abbrev pub row_begun : ℕ → KMode → Env → World → Row
@@ -93,32 +94,32 @@ row_begun frame mode env world =
 -- rules 5 to 7, but for `since`
 abbrev pub row_end : Parts → ℕ → List (List ℕ) → ℕ → KMode → List ℕ → Result Row ℕ
 row_end spec next words at mode values =
-    unless 5 (number_of 20000 (word words 1)) (λ (frame : ℕ).
+    unless 5 (spelled_number 20000 (word_at words 1)) (λ (frame : ℕ).
     unless 5 (world_at words (at + 5)) (λ (world : World).
     if frame == next then
-    unless 7 (up_in spec.procs (word words (at + 3))) (λ (up : ℕ). Ok (row_begun frame mode (env_of up values) world))
+    unless 7 (up_in spec.procs (word_at words (at + 3))) (λ (up : ℕ). Ok (row_begun frame mode (env_read up values) world))
     else Err 6))
 
 abbrev pub stable_row : Parts → ℕ → List (List ℕ) → Result Row ℕ
 stable_row spec next words =
-    unless 4 (conf_named spec (word words 3)) (λ (conf : ConfId).
+    unless 4 (conf_named spec (word_at words 3)) (λ (conf : ConfId).
     unless 4 (env_names spec words 4) (λ (values : List ℕ).
     row_end spec next words 4 (Stable conf) values))
 
 abbrev pub moving_row : Parts → ℕ → List (List ℕ) → Result Row ℕ
 moving_row spec next words =
-    unless 4 (conf_named spec (word words 3)) (λ (from : ConfId).
-    unless 4 (conf_or_none spec (word words 4)) (λ (halting : Option ConfId).
-    unless 4 (conf_named spec (word words 5)) (λ (to : ConfId).
+    unless 4 (conf_named spec (word_at words 3)) (λ (from : ConfId).
+    unless 4 (conf_or_none spec (word_at words 4)) (λ (halting : Option ConfId).
+    unless 4 (conf_named spec (word_at words 5)) (λ (to : ConfId).
     unless 4 (env_names spec words 7) (λ (values : List ℕ).
-    unless 5 (number_of 20000 (word words 6)) (λ (since : ℕ).
+    unless 5 (spelled_number 20000 (word_at words 6)) (λ (since : ℕ).
     row_end spec next words 7 (Moving from halting to since) values)))))
 
-abbrev pub row_in : Parts → ℕ → List (List ℕ) → Result Row ℕ
-row_in spec next words =
+abbrev pub row_of_words : Parts → ℕ → List (List ℕ) → Result Row ℕ
+row_of_words spec next words =
     if is_stable_form spec words then stable_row spec next words
     else (if is_moving_form spec words then moving_row spec next words else Err 3)
 
 -- the row that a line begins, where its frame is to be `next`
 abbrev pub row_read : Parts → ℕ → List ℕ → Result Row ℕ
-row_read spec next line = unless 3 (words_in line) (row_in spec next)
+row_read spec next line = unless 3 (words_in line) (row_of_words spec next)

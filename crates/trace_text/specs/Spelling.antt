@@ -4,14 +4,14 @@ use Rattle.std.specs.Prelude.{ℕ, ℤ, suc, zero, ◌+◌, ◌^◌, ◌&&◌, L
 use Rattle.std.specs.Fmt.{signed_decimal}
 use Rattle.std.specs.Str.Parse.{digits_value, signed_digits_value}
 use lib.Signed.{mag}
-use Rattle.trace_text.specs.Pieces.{word}
+use Rattle.trace_text.specs.Pieces.{word_at}
 
-abbrev pub spelled : ℕ → ℕ → List ℕ → Option ℕ
-spelled limit n text = if nat_lt n limit && bytes_eq (decimal n) text then Some n else None
+abbrev pub spelled_below : ℕ → ℕ → List ℕ → Option ℕ
+spelled_below limit n text = if nat_lt n limit && bytes_eq (decimal n) text then Some n else None
 
 -- the number below `limit` that a text spells
-unfoldable pub number_of : ℕ → List ℕ → Option ℕ
-number_of limit text = spelled limit (digits_value 10 text) text
+unfoldable pub spelled_number : ℕ → List ℕ → Option ℕ
+spelled_number limit text = spelled_below limit (digits_value 10 text) text
 
 abbrev pub spelled_signed : ℤ → List ℕ → Option ℤ
 spelled_signed z text = if nat_lt (mag z) (2 ^ 63) && bytes_eq (signed_decimal z) text then Some z else None
@@ -24,4 +24,4 @@ signed_of text = spelled_signed (signed_digits_value 10 text) text
 abbrev pub signed_from : ℕ → ℕ → List (List ℕ) → Option (List ℤ)
 signed_from zero k words = Some []
 signed_from (suc n) k words =
-    option_and_then (λ (z : ℤ). option_map (λ (zs : List ℤ). z ∷ zs) (signed_from n (k + 1) words)) (signed_of (word words k))
+    option_and_then (λ (z : ℤ). option_map (λ (zs : List ℤ). z ∷ zs) (signed_from n (k + 1) words)) (signed_of (word_at words k))

@@ -12,7 +12,8 @@ use Rattle.scram_types.specs.declared.orders.Act.TheVariants.{Ran, Halting, Held
 use Rattle.scram_types.specs.declared.orders.KMode.{KMode}
 use Rattle.scram_types.specs.declared.orders.KMode.TheVariants.{Stable, Moving}
 use Rattle.app_model.specs.Names.{mode_text}
-use Rattle.trace_text.specs.Names.{conf_name, proc_name, conf_or_dash, joined, values_named, names_up}
+use Rattle.trace_text.specs.Names.{conf_or_dash, joined, values_named, names_up}
+use Rattle.scram_types.specs.Lookups.{proc_name, conf_name}
 
 abbrev pub kernel_mode_text : Parts → KMode → List ℕ
 kernel_mode_text spec (Stable c) = codes "stable " ++ conf_name spec c.0

@@ -15,7 +15,7 @@ use Rattle.trace_text.specs.declared.trace_reading.TraceFault.{TraceFault}
 use Rattle.trace_text.specs.declared.trace_reading.TraceError.{TraceError}
 use Rattle.trace_text.specs.declared.trace_reading.TraceError.TheVariants.{Fault, NoMemory}
 use Rattle.trace_text.specs.AppReading.{app_read}
-use Rattle.trace_text.specs.Pieces.{pieces_of, words_of, word, is_filled}
+use Rattle.trace_text.specs.Pieces.{pieces_of, words_of, is_filled, word_at}
 use Rattle.trace_text.specs.ReportReading.{report_read, end_read}
 use Rattle.trace_text.specs.RowReading.{row_read}
 
@@ -44,7 +44,7 @@ is_plain line = nat_le (length line) 512 && list_all is_printable line
 
 -- whether this is the first word of a line
 abbrev pub begins : List ℕ → List ℕ → Bool
-begins line text = bytes_eq (word (words_of line) 0) text
+begins line text = bytes_eq (word_at (words_of line) 0) text
 
 -- a row with what application a did
 abbrev pub with_app : Row → ℕ → Act → List ℤ → Row

@@ -4,7 +4,7 @@ ghost use Rattle.std.specs.Prelude.{◌≡◌, ◌<◌, ◌≤◌, IfOk, length}
 ghost use Rattle.trace_text.specs.AppReading.{app_in, app_read, bare_act, bare_line, is_bare_form, is_placed_form, phase_act, phase_line, phase_named, placed_line, ran_line};
 ghost use Rattle.trace_text.specs.Spelling.{signed_from};
 
-use crate::lookups::{find_app, find_mode, find_proc};
+use crate::lookups::{find_app, find_mode};
 use crate::numbers::{read_eight, read_number};
 use crate::pieces::slash_sides;
 use crate::words::Words;
@@ -49,7 +49,7 @@ fn read_app_words(spec: &Spec, next: u8, words: &Words<'_>) -> Result<Done, u8>
     if !is_bare(words) {
         return Err(3);
     }
-    match find_bare(words.word(2)) {
+    match find_bare(words.word_at(2)) {
         Some(act) => read_bare(spec, next, words, act),
         None => Err(3),
     }
@@ -114,10 +114,10 @@ fn read_placed(spec: &Spec, next: u8, words: &Words<'_>) -> Result<Done, u8>
     if words.is(2, b"ran") {
         return read_ran(spec, next, words);
     }
-    let Some(phase) = find_phase(words.word(2)) else {
+    let Some(phase) = find_phase(words.word_at(2)) else {
         return Err(3);
     };
-    match slash_sides(words.word(3)) {
+    match slash_sides(words.word_at(3)) {
         Some((k, n)) => read_phase(spec, next, words, phase, k, n),
         None => Err(3),
     }
@@ -127,13 +127,13 @@ fn read_ran(spec: &Spec, next: u8, words: &Words<'_>) -> Result<Done, u8>
     ensures done { result ≡ ran_line spec.now next words.now }
     ensures below { IfOk result (λ done. next < length spec.now.apps) }
 {
-    let Some(app) = find_app(spec, words.word(1)) else {
+    let Some(app) = find_app(spec, words.word_at(1)) else {
         return Err(4);
     };
-    let Some(mode) = find_mode(spec, app, words.word(3)) else {
+    let Some(mode) = find_mode(spec, app, words.word_at(3)) else {
         return Err(4);
     };
-    let Some(proc) = find_proc(spec, words.word(4)) else {
+    let Some(proc) = spec.proc_named(words.word_at(4)) else {
         return Err(4);
     };
     let Some(area) = read_area(words, 6) else {
@@ -159,10 +159,10 @@ fn read_phase(
     ensures done { result ≡ phase_line spec.now next words.now phase (k.now, n.now) }
     ensures below { IfOk result (λ done. next < length spec.now.apps) }
 {
-    let Some(app) = find_app(spec, words.word(1)) else {
+    let Some(app) = find_app(spec, words.word_at(1)) else {
         return Err(4);
     };
-    let Some(proc) = find_proc(spec, words.word(4)) else {
+    let Some(proc) = spec.proc_named(words.word_at(4)) else {
         return Err(4);
     };
     let Some(k) = read_number(k, PHASE_LIMIT) else {
@@ -191,7 +191,7 @@ fn read_bare(spec: &Spec, next: u8, words: &Words<'_>, act: Act) -> Result<Done,
     ensures done { result ≡ bare_line spec.now next words.now act }
     ensures below { IfOk result (λ done. next < length spec.now.apps) }
 {
-    let Some(app) = find_app(spec, words.word(1)) else {
+    let Some(app) = find_app(spec, words.word_at(1)) else {
         return Err(4);
     };
     let Some(area) = read_area(words, 4) else {

@@ -3,9 +3,8 @@
 ghost use Rattle.std.specs.Prelude.{◌≡◌, ◌≤◌, ◌==◌, length, option_map};
 ghost use Rattle.std.specs.List.{list_all};
 ghost use Rattle.trace_text.specs.Pieces.{pieces_of, pieces_behind, items_of};
-ghost use Rattle.trace_text.specs.RowReading.{is_next, is_proc, left_behind, up_in, values_in};
+ghost use Rattle.trace_text.specs.RowReading.{is_next, left_behind, up_in, values_in, is_proc_name};
 
-use crate::lookups::{find_proc, find_value};
 use crate::pieces::{first_piece, is_dash};
 use scram_types::{Proc, Spec};
 
@@ -34,12 +33,12 @@ pub fn has_names(list: &[u8], count: usize) -> bool
 
 /// Whether each name in a list is a processor's.
 pub fn are_procs(spec: &Spec, list: &[u8]) -> bool
-    ensures { result ≡ list_all (is_proc spec.now) (items_of list.now) }
+    ensures { result ≡ list_all (is_proc_name spec.now) (items_of list.now) }
 {
     let mut left = start_of(list);
     while let Some(names) = left {
         let (name, behind) = first_piece(names, b',');
-        if find_proc(spec, name).is_none() {
+        if spec.proc_named(name).is_none() {
             return false;
         }
         left = behind;
@@ -55,7 +54,7 @@ pub fn find_values(spec: &Spec, list: &[u8]) -> Option<[u8; 6]>
     let mut left = Some(list);
     for (i, factor) in spec.factors.items().iter().enumerate() {
         let (name, behind) = first_piece(left?, b',');
-        values[i] = find_value(factor, name)?;
+        values[i] = factor.value_named(name)?;
         left = behind;
     }
     Some(values)

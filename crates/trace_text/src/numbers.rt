@@ -1,7 +1,7 @@
 //! Numbers as a trace spells them.
 
 ghost use Rattle.std.specs.Prelude.{◌≡◌, ◌<◌, ◌≤◌, ◌+◌, IfSome, option_map};
-ghost use Rattle.trace_text.specs.Spelling.{number_of, signed_of, signed_from};
+ghost use Rattle.trace_text.specs.Spelling.{signed_of, signed_from, spelled_number};
 
 use crate::words::Words;
 use arrayvec::ArrayVec;
@@ -9,7 +9,7 @@ use itoa::Buffer;
 
 /// The number below `limit` that a text spells.
 pub fn read_number(text: &[u8], limit: u64) -> Option<u64>
-    ensures value { result ≡ number_of limit text.now }
+    ensures value { result ≡ spelled_number limit text.now }
     ensures below { IfSome result (λ n. n < limit) }
 {
     let Ok(digits) = std::str::from_utf8(text) else {
@@ -53,7 +53,7 @@ pub fn read_eight(words: &Words<'_>, from: usize) -> Option<ArrayVec<i64, 8>>
     let mut values = ArrayVec::new();
     let mut k: usize = 0;
     while k < 8 {
-        let value = read_signed(words.word(from + k))?;
+        let value = read_signed(words.word_at(from + k))?;
         let _fits = values.try_push(value);
         k += 1;
     }

@@ -3,7 +3,6 @@
 ghost use Rattle.std.specs.Prelude.{◌≡◌, ◌<◌};
 ghost use Rattle.trace_text.specs.ReportReading.{bound_or_none, end_in, end_read, finished_report, is_end_form, is_report_form, report_end, report_in, report_read, same_bound, unfinished_report};
 
-use crate::lookups::find_conf;
 use crate::numbers::read_number;
 use crate::pieces::is_dash;
 use crate::row_reading::FRAME_LIMIT;
@@ -51,13 +50,13 @@ fn is_report(words: &Words<'_>) -> bool
 fn read_finished(spec: &Spec, words: &Words<'_>) -> Result<Report, u8>
     ensures { result ≡ finished_report spec.now words.now }
 {
-    let Some(from) = find_conf(spec, words.word(1)) else {
+    let Some(from) = spec.conf_named(words.word_at(1)) else {
         return Err(4);
     };
-    let Some(to) = find_conf(spec, words.word(3)) else {
+    let Some(to) = spec.conf_named(words.word_at(3)) else {
         return Err(4);
     };
-    let Some(end) = read_number(words.word(7), FRAME_LIMIT) else {
+    let Some(end) = read_number(words.word_at(7), FRAME_LIMIT) else {
         return Err(5);
     };
     read_report_end(words, from, Some(to), end as u32, spec.bound(from, to))
@@ -66,7 +65,7 @@ fn read_finished(spec: &Spec, words: &Words<'_>) -> Result<Report, u8>
 fn read_unfinished(spec: &Spec, frames: u32, words: &Words<'_>) -> Result<Report, u8>
     ensures { result ≡ unfinished_report spec.now frames words.now }
 {
-    let Some(from) = find_conf(spec, words.word(1)) else {
+    let Some(from) = spec.conf_named(words.word_at(1)) else {
         return Err(4);
     };
     read_report_end(words, from, None, frames, spec.greatest_bound(from))
@@ -81,13 +80,13 @@ fn read_report_end(
 ) -> Result<Report, u8>
     ensures { result ≡ report_end words.now from to end given }
 {
-    let Some(begin) = read_number(words.word(5), FRAME_LIMIT) else {
+    let Some(begin) = read_number(words.word_at(5), FRAME_LIMIT) else {
         return Err(5);
     };
-    let Some(took) = read_number(words.word(9), COUNT_LIMIT) else {
+    let Some(took) = read_number(words.word_at(9), COUNT_LIMIT) else {
         return Err(5);
     };
-    let Some(bound) = read_bound(words.word(11)) else {
+    let Some(bound) = read_bound(words.word_at(11)) else {
         return Err(5);
     };
     let begin = begin as u32;
@@ -143,10 +142,10 @@ fn read_end_words(frames: usize, reports: usize, words: &Words<'_>) -> Result<()
     if !is_end(words) {
         return Err(3);
     }
-    let Some(counted) = read_number(words.word(2), COUNT_LIMIT) else {
+    let Some(counted) = read_number(words.word_at(2), COUNT_LIMIT) else {
         return Err(5);
     };
-    let Some(told) = read_number(words.word(4), COUNT_LIMIT) else {
+    let Some(told) = read_number(words.word_at(4), COUNT_LIMIT) else {
         return Err(5);
     };
     if counted == frames as u64 && told == reports as u64 {

@@ -2,7 +2,8 @@
 
 ghost use Rattle.std.specs.Prelude.{◌≡◌, ◌+◌, ◌*◌, ◌≤◌, ◌++◌, [], length, codes, if◌then◌else◌};
 ghost use Rattle.app_model.specs.Names.{mode_text};
-ghost use Rattle.trace_text.specs.Names.{conf_name, proc_name, value_name, conf_or_dash, further, values_named};
+ghost use Rattle.trace_text.specs.Names.{conf_or_dash, values_named, further_joined};
+ghost use Rattle.scram_types.specs.Lookups.{value_name, proc_name, conf_name};
 ghost use Rattle.trace_text.specs.Text.{kernel_mode_text, values_text, up_text, world_text, row_line, phase_text, act_text, area_text, app_line};
 
 use crate::lines::Line;
@@ -143,7 +144,7 @@ fn add_values(line: &mut Line, spec: &Spec, values: &[u8; 6])
 fn add_further_values(line: &mut Line, factors: &[Factor], values: &[u8; 6])
     requires room { length line.old + 17 * length factors.now ≤ 512 }
     requires few { length factors.now ≤ 5 }
-    ensures text { line.new ≡ line.old ++ further (values_named factors.now 1 values.now) }
+    ensures text { line.new ≡ line.old ++ further_joined (values_named factors.now 1 values.now) }
     ensures short { length line.new ≤ length line.old + 17 * length factors.now }
 {
     for (i, factor) in factors.iter().enumerate() {
@@ -171,12 +172,12 @@ fn add_up(line: &mut Line, spec: &Spec, up: u8)
     }
 }
 
-fn add_listed(line: &mut Line, further: bool, name: &Name)
+fn add_listed(line: &mut Line, further_joined: bool, name: &Name)
     requires { length line.old + 17 ≤ 512 }
-    ensures text { line.new ≡ line.old ++ (if further then codes "," else []) ++ name.now }
+    ensures text { line.new ≡ line.old ++ (if further_joined then codes "," else []) ++ name.now }
     ensures short { length line.new ≤ length line.old + 17 }
 {
-    if further {
+    if further_joined {
         line.text(b",");
     }
     line.text(name.as_str().as_bytes());

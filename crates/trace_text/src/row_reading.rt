@@ -1,9 +1,9 @@
 //! What the first line of a row says, or the least rule that it breaks.
 
 ghost use Rattle.std.specs.Prelude.{◌≡◌, ◌≤◌, ◌<◌, IfOk};
-ghost use Rattle.trace_text.specs.RowReading.{are_values, env_names, is_env_form, is_moving_form, is_stable_form, moving_row, row_end, row_in, row_read, stable_row, world_at};
+ghost use Rattle.trace_text.specs.RowReading.{are_values, env_names, is_env_form, is_moving_form, is_stable_form, moving_row, row_end, row_of_words, row_read, stable_row, world_at};
 
-use crate::lookups::{find_conf, find_conf_or_none};
+use crate::lookups::find_conf_or_none;
 use crate::name_lists::{are_procs, find_values, has_names, read_up};
 use crate::numbers::{read_number, read_signed};
 use crate::pieces::is_dash;
@@ -25,7 +25,7 @@ pub fn read_row(spec: &Spec, next: usize, line: &[u8]) -> Result<Row, u8>
 }
 
 fn read_row_words(spec: &Spec, next: usize, words: &Words<'_>) -> Result<Row, u8>
-    ensures row { result ≡ row_in spec.now next words.now }
+    ensures row { result ≡ row_of_words spec.now next words.now }
     ensures below { IfOk result (λ row. next < 20000) }
 {
     if is_stable(spec, words) {
@@ -54,7 +54,7 @@ fn is_environment(spec: &Spec, words: &Words<'_>, at: usize) -> bool
     ensures { result ≡ is_env_form spec.now words.now at }
 {
     words.is(at, b"env")
-        && has_values(spec.factors.items(), words.word(at + 1))
+        && has_values(spec.factors.items(), words.word_at(at + 1))
         && words.is(at + 2, b"up")
         && words.is(at + 4, b"world")
 }
@@ -73,7 +73,7 @@ fn read_stable(spec: &Spec, next: usize, words: &Words<'_>) -> Result<Row, u8>
     ensures row { result ≡ stable_row spec.now next words.now }
     ensures below { IfOk result (λ row. next < 20000) }
 {
-    let Some(conf) = find_conf(spec, words.word(3)) else {
+    let Some(conf) = spec.conf_named(words.word_at(3)) else {
         return Err(4);
     };
     let Some(values) = find_environment(spec, words, 4) else {
@@ -86,19 +86,19 @@ fn read_moving(spec: &Spec, next: usize, words: &Words<'_>) -> Result<Row, u8>
     ensures row { result ≡ moving_row spec.now next words.now }
     ensures below { IfOk result (λ row. next < 20000) }
 {
-    let Some(from) = find_conf(spec, words.word(3)) else {
+    let Some(from) = spec.conf_named(words.word_at(3)) else {
         return Err(4);
     };
-    let Some(halting) = find_conf_or_none(spec, words.word(4)) else {
+    let Some(halting) = find_conf_or_none(spec, words.word_at(4)) else {
         return Err(4);
     };
-    let Some(to) = find_conf(spec, words.word(5)) else {
+    let Some(to) = spec.conf_named(words.word_at(5)) else {
         return Err(4);
     };
     let Some(values) = find_environment(spec, words, 7) else {
         return Err(4);
     };
-    let Some(since) = read_number(words.word(6), FRAME_LIMIT) else {
+    let Some(since) = read_number(words.word_at(6), FRAME_LIMIT) else {
         return Err(5);
     };
     let since = since as u32;
@@ -122,10 +122,10 @@ fn find_environment(spec: &Spec, words: &Words<'_>, at: usize) -> Option<[u8; 6]
     requires { at ≤ 7 }
     ensures { result ≡ env_names spec.now words.now at }
 {
-    if !are_procs(spec, words.word(at + 3)) {
+    if !are_procs(spec, words.word_at(at + 3)) {
         return None;
     }
-    find_values(spec, words.word(at + 1))
+    find_values(spec, words.word_at(at + 1))
 }
 
 fn read_row_end(
@@ -140,7 +140,7 @@ fn read_row_end(
     ensures row { result ≡ row_end spec.now next words.now at mode values }
     ensures below { IfOk result (λ row. next < 20000) }
 {
-    let Some(frame) = read_number(words.word(1), FRAME_LIMIT) else {
+    let Some(frame) = read_number(words.word_at(1), FRAME_LIMIT) else {
         return Err(5);
     };
     let Some(world) = read_world(words, at + 5) else {
@@ -149,7 +149,7 @@ fn read_row_end(
     if frame != next as u64 {
         return Err(6);
     }
-    let Some(up) = read_up(spec.procs.items(), words.word(at + 3)) else {
+    let Some(up) = read_up(spec.procs.items(), words.word_at(at + 3)) else {
         return Err(7);
     };
     let env = Env {
@@ -172,10 +172,10 @@ fn read_world(words: &Words<'_>, at: usize) -> Option<World>
     requires { at ≤ 12 }
     ensures { result ≡ world_at words.now at }
 {
-    let alt = read_signed(words.word(at))?;
-    let climb = read_signed(words.word(at + 1))?;
-    let heading = read_signed(words.word(at + 2))?;
-    let bank = read_signed(words.word(at + 3))?;
+    let alt = read_signed(words.word_at(at))?;
+    let climb = read_signed(words.word_at(at + 1))?;
+    let heading = read_signed(words.word_at(at + 2))?;
+    let bank = read_signed(words.word_at(at + 3))?;
     Some(World {
         alt,
         climb,

@@ -1,7 +1,7 @@
 //! The words of a line.
 
 ghost use Rattle.std.specs.Prelude.{◌≡◌, [], length, map, option_map, slice_index_or};
-ghost use Rattle.trace_text.specs.Pieces.{words_of, words_in, word, is_word};
+ghost use Rattle.trace_text.specs.Pieces.{words_of, words_in, is_word, word_at};
 
 use crate::pieces::first_piece;
 use arrayvec::ArrayVec;
@@ -46,8 +46,8 @@ impl<'a> Words<'a> {
     }
 
     /// The word at a place, and no bytes where there is none.
-    pub fn word(&self, at: usize) -> &[u8]
-        ensures { result.now ≡ word self.now at }
+    pub fn word_at(&self, at: usize) -> &[u8]
+        ensures { result.now ≡ word_at self.now at }
     {
         match self.words.as_slice().get(at) {
             Some(word) => word,
@@ -59,7 +59,7 @@ impl<'a> Words<'a> {
     pub fn is(&self, at: usize, text: &[u8]) -> bool
         ensures { result ≡ is_word self.now at text.now }
     {
-        self.word(at) == text
+        self.word_at(at) == text
     }
 }
 
