@@ -281,12 +281,12 @@ fn add_down(line: &mut Line, spec: &Spec, up: u8)
     }
 }
 
-fn add_joined(line: &mut Line, further_joined: bool, name: &Name)
+fn add_joined(line: &mut Line, is_further: bool, name: &Name)
     requires { length line.old + 17 ≤ 512 }
-    ensures text { line.new ≡ line.old ++ (if further_joined then codes "+" else []) ++ name.now }
+    ensures text { line.new ≡ line.old ++ (if is_further then codes "+" else []) ++ name.now }
     ensures short { length line.new ≤ length line.old + 17 }
 {
-    if further_joined {
+    if is_further {
         line.text(b"+");
     }
     line.text(name.as_str().as_bytes());
