@@ -1,0 +1,105 @@
+//! Missions that are accepted and flown, frame by frame and as a whole.
+
+ghost use Rattle.std.specs.Prelude.{IfOk};
+ghost use Rattle.app_model.specs.Racks.{RacksFit};
+ghost use Rattle.fault_script.specs.Fits.{Fits};
+
+use crate::judgements::{parse_spec, parse_trace, print_judgement};
+use app_model::{Rack, racks_fit};
+use coverage_check::{Mission, accept, targets};
+use fault_script::read_script;
+use frame_model::{reports, rows};
+use racks::racks;
+use scram_types::{ConfId, Flown, Report, Row, Script, Spec};
+use std::alloc::Global;
+use std::io::{self, ErrorKind};
+use std::rt::HostRuntime;
+use trace_props::one_thread;
+
+/// Flies a mission by `rows` and by `one_thread`, and prints whether both give what a trace says.
+pub fn fly(rt: &HostRuntime, spec: &str, script: &str, trace: &str) -> io::Result<()> {
+    let spec = parse_spec(rt.alloc(), spec)?;
+    let script = parse_script(rt.alloc(), script, &spec)?;
+    let wanted = parse_trace(rt.alloc(), trace, &spec)?;
+    print_targets(rt, &spec)?;
+    fly_rows(rt, &spec, &script, &wanted)?;
+    fly_mission(rt, spec, script, &wanted)
+}
+
+fn parse_script(alloc: Global, text: &str, spec: &Spec) -> io::Result<Script>
+    ensures { IfOk result (λ script. Fits spec.now script) }
+{
+    match read_script(alloc, text.as_bytes(), spec) {
+        Ok(script) => Ok(script),
+        Err(_) => Err(ErrorKind::InvalidData.into()),
+    }
+}
+
+/// Prints the possible targets of each configuration.
+fn print_targets(rt: &HostRuntime, spec: &Spec) -> io::Result<()> {
+    for (i, conf) in spec.confs.items().iter().enumerate() {
+        print!(rt; "targets {}", conf.name)?;
+        print_set(rt, spec, targets(rt.alloc(), spec, ConfId(i as u8))?)?;
+    }
+    Ok(())
+}
+
+/// Prints the configurations of a set that is kept as bits.
+fn print_set(rt: &HostRuntime, spec: &Spec, set: u16) -> io::Result<()> {
+    for (j, conf) in spec.confs.items().iter().enumerate() {
+        if j < 16 && set >> j & 1 == 1 {
+            print!(rt; " {}", conf.name)?;
+        }
+    }
+    println!(rt; "")
+}
+
+fn fly_rows(rt: &HostRuntime, spec: &Spec, script: &Script, wanted: &Flown) -> io::Result<()>
+    requires { Fits spec.now script.now }
+{
+    let racks = racks!(rt);
+    if !racks_fit(&racks) {
+        return Err(ErrorKind::InvalidInput.into());
+    }
+    let rows = rows(rt.alloc(), spec, script, racks)?;
+    let reports = reports(rt.alloc(), spec, &rows)?;
+    print!(rt; "rows {} reconfigurations {}, ", rows.len(), reports.len())?;
+    print_comparison(rt, &rows, &reports, wanted)
+}
+
+fn print_comparison(
+    rt: &HostRuntime,
+    rows: &[Row],
+    reports: &[Report],
+    wanted: &Flown,
+) -> io::Result<()> {
+    if rows == wanted.rows.items() && reports == wanted.reports.items() {
+        println!(rt; "as wanted")
+    } else {
+        println!(rt; "not as wanted")
+    }
+}
+
+fn fly_mission(rt: &HostRuntime, spec: Spec, script: Script, wanted: &Flown) -> io::Result<()>
+    requires { Fits spec script }
+{
+    let accepted = match accept(rt.alloc(), spec) {
+        Ok(accepted) => accepted,
+        Err(_) => return println!(rt; "not accepted"),
+    };
+    match Mission::new(accepted, script) {
+        Ok(mission) => fly_whole(rt, &mission, wanted),
+        Err(_) => println!(rt; "outside the failure assumption"),
+    }
+}
+
+fn fly_whole(rt: &HostRuntime, mission: &Mission, wanted: &Flown) -> io::Result<()> {
+    let racks = racks!(rt);
+    if !racks_fit(&racks) {
+        return Err(ErrorKind::InvalidInput.into());
+    }
+    let flown = one_thread(rt.alloc(), mission, racks)?;
+    print!(rt; "one thread ")?;
+    print_comparison(rt, flown.rows.items(), flown.reports.items(), wanted)?;
+    print_judgement(rt, mission.spec(), flown.rows.items(), flown.reports.items())
+}

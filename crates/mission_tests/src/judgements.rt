@@ -1,0 +1,49 @@
+//! Traces that are judged, whoever flew them.
+
+use reconf_spec::read_spec;
+use scram_types::{Flown, Report, Row, Spec};
+use std::alloc::Global;
+use std::io::{self, ErrorKind};
+use std::rt::HostRuntime;
+use trace_props::{Broken, props};
+use trace_text::read_trace;
+
+/// The specification of a document that is one.
+pub fn parse_spec(alloc: Global, text: &str) -> io::Result<Spec> {
+    match read_spec(alloc, text.as_bytes()) {
+        Ok(spec) => Ok(spec),
+        Err(_) => Err(ErrorKind::InvalidData.into()),
+    }
+}
+
+/// The rows and reports of a text that is a trace.
+pub fn parse_trace(alloc: Global, text: &str, spec: &Spec) -> io::Result<Flown> {
+    match read_trace(alloc, text.as_bytes(), spec) {
+        Ok(flown) => Ok(flown),
+        Err(_) => Err(ErrorKind::InvalidData.into()),
+    }
+}
+
+/// Reads a trace, judges it, and prints which property it breaks first.
+pub fn judge(rt: &HostRuntime, spec: &str, trace: &str) -> io::Result<()> {
+    let spec = parse_spec(rt.alloc(), spec)?;
+    let flown = parse_trace(rt.alloc(), trace, &spec)?;
+    print_judgement(rt, &spec, flown.rows.items(), flown.reports.items())
+}
+
+/// Judges rows and reports, and prints which property they break first.
+pub fn print_judgement(
+    rt: &HostRuntime,
+    spec: &Spec,
+    rows: &[Row],
+    reports: &[Report],
+) -> io::Result<()> {
+    match props(spec, rows, reports) {
+        Ok(()) => println!(rt; "all five properties hold"),
+        Err(broken) => print_broken(rt, broken),
+    }
+}
+
+fn print_broken(rt: &HostRuntime, broken: Broken) -> io::Result<()> {
+    println!(rt; "broken: SP{} at frame {}", broken.property.number(), broken.frame)
+}

@@ -1,0 +1,43 @@
+//! Whole missions through the calls themselves. A row of `rows.txt` is `fly SPECIFICATION SCRIPT TRACE` or `judge
+//! SPECIFICATION TRACE`, whose files lie beside it. The traces were made by an independent model of the rules, but for
+//! that of `uav`, which is worked out by hand; so were the judgements, and the targets by a walk over all environments.
+#![tactic(auto)]
+
+mod flights;
+mod judgements;
+#[cfg(test)]
+mod rack_tests;
+
+use crate::flights::fly;
+use crate::judgements::judge;
+use std::fs;
+use std::io::{self, ErrorKind};
+
+fn main(rt: HostRuntime) -> io::Result<()> {
+    let rows = fs::read_to_string(&rt, "rows.txt")?;
+    for row in rows.as_str().lines() {
+        println!(rt; "> {row}")?;
+        answer(&rt, row)?;
+        println!(rt; "")?;
+    }
+    Ok(())
+}
+
+/// Does what a row asks for, and prints what came of it.
+fn answer(rt: &HostRuntime, row: &str) -> io::Result<()> {
+    let (form, files) = row.split_once(' ').unwrap_or((row, ""));
+    let (spec, rest) = files.split_once(' ').unwrap_or((files, ""));
+    let spec = fs::read_to_string(rt, spec)?;
+    match (form, rest.split_once(' ')) {
+        ("fly", Some((script, trace))) => {
+            let script = fs::read_to_string(rt, script)?;
+            let trace = fs::read_to_string(rt, trace)?;
+            fly(rt, spec.as_str(), script.as_str(), trace.as_str())
+        }
+        ("judge", None) => {
+            let trace = fs::read_to_string(rt, rest)?;
+            judge(rt, spec.as_str(), trace.as_str())
+        }
+        _ => Err(ErrorKind::InvalidInput.into()),
+    }
+}
