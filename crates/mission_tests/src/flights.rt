@@ -101,5 +101,10 @@ fn fly_whole(rt: &HostRuntime, mission: &Mission, wanted: &Flown) -> io::Result<
     let flown = one_thread(rt.alloc(), mission, racks)?;
     print!(rt; "one thread ")?;
     print_comparison(rt, flown.rows.items(), flown.reports.items(), wanted)?;
-    print_judgement(rt, mission.spec(), flown.rows.items(), flown.reports.items())
+    print_judgement(
+        rt,
+        mission.spec(),
+        flown.rows.items(),
+        flown.reports.items(),
+    )
 }

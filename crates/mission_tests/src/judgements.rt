@@ -45,5 +45,9 @@ pub fn print_judgement(
 }
 
 fn print_broken(rt: &HostRuntime, broken: Broken) -> io::Result<()> {
-    println!(rt; "broken: SP{} at frame {}", broken.property.number(), broken.frame)
+    println!(rt;
+        "broken: SP{} at frame {}",
+        broken.property.number(),
+        broken.frame
+    )
 }
