@@ -4,13 +4,13 @@ ghost use Rattle.std.specs.Prelude.{IfOk};
 ghost use Rattle.app_model.specs.Racks.{RacksFit};
 ghost use Rattle.fault_script.specs.Fits.{Fits};
 
-use crate::judgements::{parse_spec, parse_trace, print_judgement};
+use crate::judgements::{are_few, parse_spec, parse_trace, print_judgement};
 use app_model::{Rack, racks_fit};
 use coverage_check::{Mission, accept, targets};
 use fault_script::read_script;
 use frame_model::{reports, rows};
 use racks::racks;
-use scram_types::{ConfId, Flown, Report, Row, Script, Spec};
+use scram_types::{ConfId, Flown, NoMemory, Report, Row, Script, Spec};
 use std::alloc::Global;
 use std::io::{self, ErrorKind};
 use std::rt::HostRuntime;
@@ -26,6 +26,14 @@ pub fn fly(rt: &HostRuntime, spec: &str, script: &str, trace: &str) -> io::Resul
     fly_mission(rt, spec, script, &wanted)
 }
 
+/// What a call gave, where there was memory for it.
+fn given<T>(answer: Result<T, NoMemory>) -> io::Result<T> {
+    match answer {
+        Ok(value) => Ok(value),
+        Err(_) => Err(ErrorKind::OutOfMemory.into()),
+    }
+}
+
 fn parse_script(alloc: Global, text: &str, spec: &Spec) -> io::Result<Script>
     ensures { IfOk result (λ script. Fits spec.now script) }
 {
@@ -39,7 +47,7 @@ fn parse_script(alloc: Global, text: &str, spec: &Spec) -> io::Result<Script>
 fn print_targets(rt: &HostRuntime, spec: &Spec) -> io::Result<()> {
     for (i, conf) in spec.confs.items().iter().enumerate() {
         print!(rt; "targets {}", conf.name)?;
-        print_set(rt, spec, targets(rt.alloc(), spec, ConfId(i as u8))?)?;
+        print_set(rt, spec, given(targets(rt.alloc(), spec, ConfId(i as u8)))?)?;
     }
     Ok(())
 }
@@ -61,8 +69,11 @@ fn fly_rows(rt: &HostRuntime, spec: &Spec, script: &Script, wanted: &Flown) -> i
     if !racks_fit(&racks) {
         return Err(ErrorKind::InvalidInput.into());
     }
-    let rows = rows(rt.alloc(), spec, script, racks)?;
-    let reports = reports(rt.alloc(), spec, &rows)?;
+    let rows = given(rows(rt.alloc(), spec, script, racks))?;
+    if !are_few(&rows) {
+        return Err(ErrorKind::InvalidData.into());
+    }
+    let reports = given(reports(rt.alloc(), spec, &rows))?;
     print!(rt; "rows {} reconfigurations {}, ", rows.len(), reports.len())?;
     print_comparison(rt, &rows, &reports, wanted)
 }
@@ -98,7 +109,7 @@ fn fly_whole(rt: &HostRuntime, mission: &Mission, wanted: &Flown) -> io::Result<
     if !racks_fit(&racks) {
         return Err(ErrorKind::InvalidInput.into());
     }
-    let flown = one_thread(rt.alloc(), mission, racks)?;
+    let flown = given(one_thread(rt.alloc(), mission, racks))?;
     print!(rt; "one thread ")?;
     print_comparison(rt, flown.rows.items(), flown.reports.items(), wanted)?;
     print_judgement(

@@ -1,6 +1,9 @@
 //! Traces that are judged, whoever flew them.
 
+ghost use Rattle.std.specs.Prelude.{◌<◌, ◌^◌, IsTrue, length};
+
 use reconf_spec::read_spec;
+use scram_types::limits::MAX_FRAMES;
 use scram_types::{Flown, Report, Row, Spec};
 use std::alloc::Global;
 use std::io::{self, ErrorKind};
@@ -38,10 +41,20 @@ pub fn print_judgement(
     rows: &[Row],
     reports: &[Report],
 ) -> io::Result<()> {
+    if !are_few(rows) {
+        return Err(ErrorKind::InvalidData.into());
+    }
     match props(spec, rows, reports) {
         Ok(()) => println!(rt; "all five properties hold"),
         Err(broken) => print_broken(rt, broken),
     }
+}
+
+/// Whether there are no more rows than a script has frames.
+pub fn are_few(rows: &[Row]) -> bool
+    ensures { IsTrue result → length rows.now < 2 ^ 32 }
+{
+    rows.len() <= MAX_FRAMES as usize
 }
 
 fn print_broken(rt: &HostRuntime, broken: Broken) -> io::Result<()> {
