@@ -9,24 +9,31 @@ use Rattle.airframe.specs.declared.motion.Motion.{Motion}
 unfoldable pub toward : ℤ → ℤ → ℕ → ℤ
 toward x target n = x +ℤ part (target -ℤ x) n
 
+-- x and a tenth of y.
 unfoldable pub plus_tenth : ℤ → ℤ → ℤ
 plus_tenth x y = x +ℤ part y 10
 
+-- The climb, moved towards the elevator.
 unfoldable pub climb_after : Motion → ℤ
 climb_after m = clamp_in (limit 300 300) (toward (clamp_in (limit 300 300) m.world.climb) (clamp_in (limit 300 300) m.elevator) 4)
 
+-- The bank, moved towards the aileron.
 unfoldable pub bank_after : Motion → ℤ
 bank_after m = clamp_in (limit 300 300) (toward (clamp_in (limit 300 300) m.world.bank) (clamp_in (limit 300 300) m.aileron) 2)
 
+-- The altitude, moved by a tenth of the climb.
 unfoldable pub alt_after : Motion → ℤ
 alt_after m = clamp_in (limit 0 40000) (plus_tenth (clamp_in (limit 0 40000) m.world.alt) (climb_after m))
 
+-- The heading, moved by a tenth of the bank around the compass.
 unfoldable pub heading_after : Motion → ℤ
 heading_after m = modulo (plus_tenth (clamp_in (limit 0 3599) m.world.heading) (bank_after m)) 3600
 
+-- Where the aircraft is one frame later.
 unfoldable pub world_after : Motion → World
 world_after m = record { alt = alt_after m; climb = climb_after m; heading = heading_after m; bank = bank_after m }
 
+-- Where an aircraft is one frame later with this elevator and aileron.
 abbrev pub step_of : World → ℤ → ℤ → World
 step_of world elevator aileron = world_after (record { world = world; elevator = elevator; aileron = aileron })
 

@@ -6,6 +6,8 @@ use Rattle.std.proofs.Math.Bool.{or-true}
 use Rattle.std.proofs.lemmas.Slice.Eq.{bytes_eq-Decides}
 use Rattle.app_model.specs.Names.{kind_names, mode_names, variable_names, is_spelled, IsModeNumber, NamesAgree, KindIsNamed, AllNamesAgree, number_in, number_in_from, name_in}
 use Rattle.scram_types.specs.Specification.{modes_of_kind}
+use Rattle.scram_types.proofs.Booleans.{and_right}
+use Rattle.scram_types.proofs.Equality.{same_text}
 use Rattle.app_model.proofs.Within.{each_kind}
 
 -- a text stands in a table
@@ -24,9 +26,6 @@ differ (name ∷ names) = is_new name names && differ names
 
 spelled_itself : (text : List ℕ) → bytes_eq text text ≡ true
 spelled_itself text = (bytes_eq-Decides text text).1 refl
-
-same_text : (a b : List ℕ) → bytes_eq a b ≡ true → a ≡ b
-same_text a b e = (bytes_eq-Decides a b).0 e
 
 stands_at : (names : List (Option (List ℕ))) (i : ℕ) (text : List ℕ) → name_in names i ≡ Some text → stands names text ≡ true
 stands_at [] i text h = cc
@@ -47,10 +46,6 @@ not_spelled name text names b s d = by (bytes_eq name text) refl
         let new : (not (stands names text) && b) ≡ true = subst (λ (t : List ℕ). (not (stands names t) && b) ≡ true) same d in
         let no : (not true && b) ≡ true = subst (λ (c : Bool). (not c && b) ≡ true) s new in
         cc
-
-and_right : (b c : Bool) → (b && c) ≡ true → c ≡ true
-and_right true c e = e
-and_right false c e = cc
 
 named_from : (n : ℕ) (names : List (Option (List ℕ))) (i : ℕ) (text : List ℕ) → differ names ≡ true → name_in names i ≡ Some text → number_in_from n names text ≡ Some (n + i)
 named_from n [] i text d h = cc

@@ -32,10 +32,12 @@ abbrev pub LawLiesDuring : Type 0
 LawLiesDuring = (kind status : ℕ) (order : Order) (seen : Seen) → kind < 5 → status_of order ≡ Some status
     → AreaLies (during kind status seen.mode.0) (law kind order seen)
 
+-- The last step of a halt phase leaves an area that lies in its ranges after halting.
 abbrev pub LawLiesAfterHalt : Type 0
 LawLiesAfterHalt = (kind k n : ℕ) (seen : Seen) → kind < 5 → k + 1 ≡ n
     → AreaLies (after_halt kind seen.mode.0) (law kind (Halt k n) seen)
 
+-- The last step of an init phase leaves an area that lies in its ranges after initialising.
 abbrev pub LawLiesAfterInit : Type 0
 LawLiesAfterInit = (kind k n : ℕ) (seen : Seen) → kind < 5 → k + 1 ≡ n
     → AreaLies (after_init kind seen.mode.0) (law kind (Init k n) seen)
@@ -56,5 +58,6 @@ pub record TablesNarrow (kind mode i : ℕ) : Type 0 where
   pub init : Inside (after_init kind mode i) (during kind 4 mode i)
   pub sane : (status : ℕ) → status ≤ 4 → Inside (during kind status mode i) (sane kind i)
 
+-- The tables of every kind, mode and word narrow from its widest range to that of a mode.
 abbrev pub AllTablesNarrow : Type 0
 AllTablesNarrow = (kind mode i : ℕ) → kind < 5 → i < 8 → TablesNarrow kind mode i

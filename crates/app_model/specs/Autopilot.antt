@@ -12,20 +12,26 @@ use Rattle.app_model.specs.Headings.{short_turn}
 unfoldable pub target_alt : Seen → ℤ
 target_alt seen = if seen.mode.0 == NAVIGATE then goal_altitude seen else own_word KIND seen TARGET_ALT
 
+-- The heading that is flown to: the goal's while navigating, else the one that is kept.
 unfoldable pub target_heading : Seen → ℤ
 target_heading seen = if seen.mode.0 == NAVIGATE then goal_heading seen else own_word KIND seen TARGET_HEADING
 
+-- How far the target altitude lies above the aircraft, in feet, at most 500 either way.
 unfoldable pub altitude_error : Seen → ℤ
 altitude_error seen = clamp_in (limit 500 500) (target_alt seen -ℤ altitude seen)
 
+-- The sum of altitude errors after this frame.
 unfoldable pub integral_after : Seen → ℤ
 integral_after seen = clamp_in (limit 4000 4000) (own_word KIND seen INTEGRAL +ℤ altitude_error seen)
 
+-- The pitch command: a tenth of the error and a hundredth of its sum, in the mode's range.
 unfoldable pub pitch_after : Seen → ℤ
 pitch_after seen = clamp_in (mode_range KIND seen.mode.0 PITCH) (part (altitude_error seen) 10 +ℤ part (integral_after seen) 100)
 
+-- The roll command: a quarter of the turn that is left while navigating, else none.
 unfoldable pub roll_after : Seen → ℤ
 roll_after seen = if seen.mode.0 == NAVIGATE then clamp_in (limit 150 150) (part (short_turn (target_heading seen) (heading seen)) 4) else pos 0
 
+-- The autopilot's area after a frame in which it ran.
 unfoldable pub autopilot_ran : Seen → List ℤ
 autopilot_ran seen = pos 1 ∷ pitch_after seen ∷ roll_after seen ∷ target_alt seen ∷ target_heading seen ∷ integral_after seen ∷ ticks_after KIND seen ∷ pos 0 ∷ []

@@ -4,6 +4,7 @@ use Rattle.scram_types.specs.declared.ranges.Range.{Range}
 use Rattle.scram_types.specs.Numbers.{minus}
 use Rattle.app_model.specs.Ranges.{initialised_range, sane_range, mode_range, is_moving}
 
+-- The least and the greatest number of a range.
 abbrev pub ends : Range → ℤ × ℤ
 ends r = (minus r.below, pos r.above)
 

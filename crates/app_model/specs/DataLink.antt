@@ -11,25 +11,31 @@ use Rattle.app_model.specs.declared.kinds.navigator.TheConstants as navigator
 use Rattle.app_model.specs.declared.kinds.power_monitor.TheConstants as power_monitor
 use Rattle.app_model.specs.Reads.{own_word, lead_word, ticks_after}
 
--- one message where the application of a kind runs
+-- One message where the status that a kind shows is 1.
 unfoldable pub fresh_of : ℕ → Seen → ℤ
 fresh_of kind seen = if int_eq (lead_word kind seen STATUS) (pos 1) then pos 1 else pos 0
 
+-- How many messages the other kinds hand over in this frame.
 unfoldable pub fresh : Seen → ℤ
 fresh seen = ((fresh_of autopilot.KIND seen +ℤ fresh_of flight_control.KIND seen) +ℤ fresh_of power_monitor.KIND seen) +ℤ fresh_of navigator.KIND seen
 
+-- How many messages go out in a frame: four when fast, one when slow.
 unfoldable pub rate_after : Seen → ℤ
 rate_after seen = if seen.mode.0 == FAST then pos 4 else pos 1
 
+-- Messages that wait before any goes out.
 unfoldable pub waiting : Seen → ℤ
 waiting seen = own_word KIND seen QUEUED +ℤ fresh seen
 
+-- Messages that go out in this frame.
 unfoldable pub going : Seen → ℤ
 going seen = int_min (rate_after seen) (waiting seen)
 
+-- Messages that are kept for the next frame, at most 64.
 unfoldable pub queued_after : Seen → ℤ
 queued_after seen = int_min (waiting seen -ℤ going seen) (pos 64)
 
+-- Messages sent so far, counted up to a million.
 unfoldable pub sent_after : Seen → ℤ
 sent_after seen = int_min (own_word KIND seen SENT +ℤ going seen) (pos 1000000)
 
@@ -37,8 +43,10 @@ sent_after seen = int_min (own_word KIND seen SENT +ℤ going seen) (pos 1000000
 unfoldable pub left_over : Seen → ℤ
 left_over seen = (waiting seen -ℤ going seen) -ℤ queued_after seen
 
+-- Messages dropped so far, counted up to a million.
 unfoldable pub dropped_after : Seen → ℤ
 dropped_after seen = int_min (own_word KIND seen DROPPED +ℤ left_over seen) (pos 1000000)
 
+-- The data link's area after a frame in which it ran.
 unfoldable pub data_link_ran : Seen → List ℤ
 data_link_ran seen = pos 1 ∷ queued_after seen ∷ sent_after seen ∷ rate_after seen ∷ dropped_after seen ∷ pos 0 ∷ ticks_after KIND seen ∷ pos 0 ∷ []

@@ -28,6 +28,7 @@ pub record Kind : Type 0 where
   pub widest : ℕ
   pub variables : List Variable
 
+-- A variable that has a name.
 abbrev pub variable : List ℕ → List Range → List Range → Bool → ℕ → Variable
 variable name ranges initialised moves start = record { name = Some name; ranges = ranges; initialised = initialised; moves = moves; start = pos start }
 
@@ -55,12 +56,15 @@ by_mode first second = first ∷ second ∷ []
 abbrev pub two_modes : List ℕ → List ℕ → List (Option (List ℕ))
 two_modes first second = None ∷ Some first ∷ Some second ∷ []
 
+-- The first variable of every kind: what the application did last.
 abbrev pub status : Variable
 status = lasting (codes "status") (always 0 4) 4
 
+-- The variable that counts the frames in which the application ran.
 abbrev pub ticks : Variable
 ticks = lasting (codes "ticks") (always 0 1000000) 0
 
+-- A word of an area that no variable uses.
 abbrev pub unused : Variable
 unused = record { name = None; ranges = at_zero; initialised = at_zero; moves = false; start = pos 0 }
 
@@ -82,6 +86,7 @@ autopilot = record {
       [];
 }
 
+-- The kind that moves elevator and aileron as the autopilot commands.
 abbrev pub flight_control : Kind
 flight_control = record {
   name = codes "flight_control";
@@ -99,6 +104,7 @@ flight_control = record {
       [];
 }
 
+-- The kind that watches alternators and battery.
 abbrev pub power_monitor : Kind
 power_monitor = record {
   name = codes "power_monitor";
@@ -116,6 +122,7 @@ power_monitor = record {
       [];
 }
 
+-- The kind that tells how far the goal is.
 abbrev pub navigator : Kind
 navigator = record {
   name = codes "navigator";
@@ -133,6 +140,7 @@ navigator = record {
       [];
 }
 
+-- The kind that sends what the others tell.
 abbrev pub data_link : Kind
 data_link = record {
   name = codes "datalink";
@@ -154,6 +162,7 @@ data_link = record {
 abbrev pub kinds : List Kind
 kinds = autopilot ∷ flight_control ∷ power_monitor ∷ navigator ∷ data_link ∷ []
 
+-- The kind of this number; nothing where none has it.
 abbrev pub find_kind : ℕ → Option Kind
 find_kind kind = slice_get kinds kind
 
@@ -176,5 +185,6 @@ range_in (first ∷ (second ∷ (third ∷ more))) mode = if mode == 1 then firs
 abbrev pub variable_read : TableVariable → Variable
 variable_read v = record { name = option_map (λ s. s.now) v.name; ranges = v.ranges.now; initialised = v.initialised.now; moves = v.moves; start = v.start }
 
+-- A kind of the code's table as plain data.
 abbrev pub kind_read : TableKind → Kind
 kind_read k = record { name = k.name.now; modes = map (option_map (λ s. s.now)) k.modes.now; widest = k.widest; variables = map variable_read k.variables.now }

@@ -6,6 +6,7 @@ use Rattle.std.specs.Str.{bytes_eq}
 use Rattle.scram_types.specs.Specification.{modes_of_kind}
 use Rattle.app_model.specs.Kinds.{Kind, Variable, find_kind, kinds}
 
+-- The names of the kinds, by number.
 abbrev pub kind_names : List (Option (List ℕ))
 kind_names = map (λ (kind : Kind). Some kind.name) kinds
 
@@ -25,6 +26,7 @@ name_in names number = option_and_then (λ (name : Option (List ℕ)). name) (sl
 abbrev pub mode_text : ℕ → ℕ → List ℕ
 mode_text kind mode = option_map_or (λ (name : List ℕ). name) (name_in (mode_names kind) mode) []
 
+-- A table's entry is this text.
 abbrev pub is_spelled : Option (List ℕ) → List ℕ → Bool
 is_spelled None text = false
 is_spelled (Some name) text = bytes_eq name text
@@ -34,6 +36,7 @@ abbrev pub number_in_from : ℕ → List (Option (List ℕ)) → List ℕ → Op
 number_in_from number [] text = None
 number_in_from number (name ∷ names) text = if is_spelled name text then Some number else number_in_from (number + 1) names text
 
+-- The first number that has this name in a table.
 abbrev pub number_in : List (Option (List ℕ)) → List ℕ → Option ℕ
 number_in names text = number_in_from 0 names text
 
@@ -56,6 +59,7 @@ pub record KindIsNamed (kind : ℕ) : Type 0 where
   pub variables : NamesAgree (variable_names kind)
   pub variable_number : (text : List ℕ) (i : ℕ) → number_in (variable_names kind) text ≡ Some i → i < 8
 
+-- Names and numbers of kinds, modes and variables lead to one another.
 pub record AllNamesAgree : Type 0 where
   pub kinds : NamesAgree kind_names
   pub kind_number : (text : List ℕ) (kind : ℕ) → number_in kind_names text ≡ Some kind → kind < 5

@@ -15,9 +15,11 @@ kept_area kind status seen = status ∷ own_word kind seen 1 ∷ own_word kind s
 unfoldable pub faded : ℤ → ℕ → ℤ
 faded x left = x -ℤ part x left
 
+-- A word of an area in a halt phase: what moves fades with the frames that are left, what does not stays.
 unfoldable pub halted_word : ℕ → ℕ → Seen → ℕ → ℤ
 halted_word kind left seen i = if is_moving kind i then faded (own_word kind seen i) left else own_word kind seen i
 
+-- The area after a frame of its halt phase.
 unfoldable pub halted : ℕ → ℕ → Seen → List ℤ
 halted kind left seen = pos 2 ∷ halted_word kind left seen 1 ∷ halted_word kind left seen 2 ∷ halted_word kind left seen 3 ∷ halted_word kind left seen 4 ∷ halted_word kind left seen 5 ∷ halted_word kind left seen 6 ∷ halted_word kind left seen 7 ∷ []
 
@@ -27,6 +29,7 @@ initialised_word kind seen i =
     if kind == KIND && i == TARGET_ALT then altitude seen else
     (if kind == KIND && i == TARGET_HEADING then heading seen else clamp_in (initialised_range kind seen.mode.0 i) (own_word kind seen i))
 
+-- The area after a frame of its init phase.
 unfoldable pub initialised : ℕ → Seen → List ℤ
 initialised kind seen = pos 4 ∷ initialised_word kind seen 1 ∷ initialised_word kind seen 2 ∷ initialised_word kind seen 3 ∷ initialised_word kind seen 4 ∷ initialised_word kind seen 5 ∷ initialised_word kind seen 6 ∷ initialised_word kind seen 7 ∷ []
 

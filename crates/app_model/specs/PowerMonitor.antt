@@ -9,17 +9,22 @@ use Rattle.app_model.specs.Reads.{own_word, ticks_after}
 unfoldable pub alternator_gives : ℕ → ℤ
 alternator_gives value = if value == 0 then pos 60 else pos 0
 
+-- What both alternators give.
 unfoldable pub supply_after : Seen → ℤ
 supply_after seen = alternator_gives (slice_index seen.factors 0) +ℤ alternator_gives (slice_index seen.factors 1)
 
+-- What the mode takes.
 unfoldable pub demand_after : Seen → ℤ
 demand_after seen = if seen.mode.0 == NORMAL then pos 100 else (if seen.mode.0 == SAVER then pos 60 else pos 20)
 
+-- The battery's charge after this frame.
 unfoldable pub charge_after : Seen → ℤ
 charge_after seen = clamp_in (limit 0 10000) ((own_word KIND seen CHARGE +ℤ supply_after seen) -ℤ demand_after seen)
 
+-- 1 where the charge is low and load has to be shed, else 0.
 unfoldable pub shed_after : Seen → ℤ
 shed_after seen = if int_lt (charge_after seen) (pos 2000) then pos 1 else pos 0
 
+-- The power monitor's area after a frame in which it ran.
 unfoldable pub power_monitor_ran : Seen → List ℤ
 power_monitor_ran seen = pos 1 ∷ charge_after seen ∷ supply_after seen ∷ demand_after seen ∷ shed_after seen ∷ pos 0 ∷ ticks_after KIND seen ∷ pos 0 ∷ []

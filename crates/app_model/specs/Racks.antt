@@ -5,6 +5,7 @@ use Rattle.std.specs.Prelude.{◌≡◌, ℕ, List, [], ◌∷◌, length, map, 
 abbrev pub RackFits : {B : Type 0} → (B → ℕ) → List B → Type 0
 RackFits kind boxes = map kind boxes ≡ 0 ∷ 1 ∷ 2 ∷ 3 ∷ 4 ∷ []
 
+-- Each rack has one box of each kind, in the order of kinds.
 abbrev pub AllRacksFit : {B R : Type 0} → (B → ℕ) → (R → List B) → List R → Type 0
 AllRacksFit kind boxes racks = All (λ r. RackFits kind (boxes r)) racks
 

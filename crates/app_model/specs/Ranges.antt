@@ -15,6 +15,7 @@ initialised_range kind mode i = range_in (kind_variable kind i).initialised mode
 unfoldable pub widest_mode : ℕ → ℕ
 widest_mode kind = (kind_or_last kind).widest
 
+-- The range of a word in the widest mode of its kind.
 unfoldable pub sane_range : ℕ → ℕ → Range
 sane_range kind i = mode_range kind (widest_mode kind) i
 

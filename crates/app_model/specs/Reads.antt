@@ -15,15 +15,19 @@ own_word kind seen i = clamp_in (mode_range kind seen.mode.0 i) (word seen.own i
 unfoldable pub lead_word : ℕ → Seen → ℕ → ℤ
 lead_word kind seen i = clamp_in (sane_range kind i) (word (slice_index_or seen.lead kind []) i)
 
+-- The aircraft's altitude, in feet.
 unfoldable pub altitude : Seen → ℤ
 altitude seen = clamp_in (limit 0 40000) seen.world.alt
 
+-- The aircraft's heading, in tenths of a degree.
 unfoldable pub heading : Seen → ℤ
 heading seen = clamp_in (limit 0 3599) seen.world.heading
 
+-- The goal's altitude, in feet.
 unfoldable pub goal_altitude : Seen → ℤ
 goal_altitude seen = clamp_in (limit 0 40000) seen.goal.altitude
 
+-- The goal's heading, in tenths of a degree.
 unfoldable pub goal_heading : Seen → ℤ
 goal_heading seen = clamp_in (limit 0 3599) seen.goal.heading
 

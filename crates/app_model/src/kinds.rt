@@ -90,7 +90,7 @@ pub mod navigator {
     pub const ON_COURSE: usize = 3;
 }
 
-/// The data link: it sends a message for each application that runs.
+/// The data link: it sends a message for each application whose status is 1.
 pub mod data_link {
     /// The kind's number.
     pub const KIND: u8 = 4;

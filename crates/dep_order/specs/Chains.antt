@@ -27,6 +27,7 @@ abbrev pub Chain : Chart → List ℕ → ℕ → Type 0
 Chain chart [] a = Unit {0}
 Chain chart (b ∷ bs) a = (b < chart.apps) × (chart.on b ≡ true) × (chart.before b a ≡ true) × Chain chart bs b
 
+-- The frames that the applications of a chain take one after another.
 abbrev pub chain_time : Chart → List ℕ → ℕ
 chain_time chart [] = 0
 chain_time chart (b ∷ bs) = chart.time b + chain_time chart bs

@@ -7,6 +7,7 @@ use Rattle.scram_types.specs.declared.specification.AppSpec.{AppSpec}
 abbrev pub rank_in : List (Option ℕ) → ℕ → Option ℕ
 rank_in ranks a = option_and_then (λ (rank : Option ℕ). rank) (slice_get ranks a)
 
+-- Application a has no rank yet.
 abbrev pub is_unranked : List (Option ℕ) → ℕ → Bool
 is_unranked ranks a = is_none (rank_in ranks a)
 
@@ -19,6 +20,7 @@ ready least ranks (needed ∷ needs) = option_and_then (λ (rank : ℕ). ready (
 abbrev pub IsSound : List AppSpec → List (Option ℕ) → Type 0
 IsSound apps ranks = (a r : ℕ) (app : AppSpec) → slice_get apps a ≡ Some app → rank_in ranks a ≡ Some r → ready 0 ranks app.needs ≡ Some r
 
+-- Ranks lie below 8.
 abbrev pub AreSmall : List (Option ℕ) → Type 0
 AreSmall ranks = (a r : ℕ) → rank_in ranks a ≡ Some r → r < 8
 

@@ -23,6 +23,7 @@ RanksFall apps ranks = (a k : ℕ) (app : AppSpec) (needed : AppId) → slice_ge
 abbrev pub NeedsInRange : List AppSpec → Type 0
 NeedsInRange apps = Each (λ (app : AppSpec). Each (λ (needed : AppId). needed.0 < length apps) app.needs) apps
 
+-- Application a lists b among its needs.
 pub record Needs (apps : List AppSpec) (a b : AppId) : Type 0 where
   pub app : AppSpec
   pub there : slice_get apps a.0 ≡ Some app

@@ -19,16 +19,19 @@ use Rattle.dep_order.specs.Chains.{Chart, HasFirst, IsOffset, offset}
 abbrev pub halt_time : Parts → ConfId → ℕ → ℕ
 halt_time spec c a = option_map_or (λ (listed : ModeSpec). listed.halt) (mode_of spec c a) 0
 
+-- The frames that application a prepares for its mode in a configuration; 0 where it is off.
 abbrev pub prepare_time : Parts → ConfId → ℕ → ℕ
 prepare_time spec c a = option_map_or (λ (listed : ModeSpec). listed.prepare) (mode_of spec c a) 0
 
+-- The frames that application a initialises in its mode in a configuration; 0 where it is off.
 abbrev pub init_time : Parts → ConfId → ℕ → ℕ
 init_time spec c a = option_map_or (λ (listed : ModeSpec). listed.init) (mode_of spec c a) 0
 
--- Application b needs application a.
+-- Application a stands in a list of needs.
 abbrev pub is_named : List AppId → ℕ → Bool
 is_named needs a = list_any (λ (needed : AppId). needed.0 == a) needs
 
+-- Application b lists a among its needs.
 abbrev pub needs : Parts → ℕ → ℕ → Bool
 needs spec b a = option_map_or (λ (app : AppSpec). is_named app.needs a) (slice_get spec.apps b) false
 
@@ -36,6 +39,7 @@ needs spec b a = option_map_or (λ (app : AppSpec). is_named app.needs a) (slice
 abbrev pub halt_chart : Parts → ConfId → Chart
 halt_chart spec c = record { apps = length spec.apps; on = is_on spec c; before = needs spec; time = halt_time spec c }
 
+-- Initialising as a chart: an application waits for what it needs.
 abbrev pub init_chart : Parts → ConfId → Chart
 init_chart spec c = record { apps = length spec.apps; on = is_on spec c; before = λ b a. needs spec a b; time = init_time spec c }
 
@@ -47,6 +51,7 @@ halt_offset spec c a = offset (halt_chart spec c) a
 abbrev pub init_offset : Parts → ConfId → ℕ → ℕ
 init_offset spec c a = offset (init_chart spec c) a
 
+-- A number where application a is on in a configuration, else 0.
 abbrev pub where_on : Parts → ConfId → ℕ → ℕ → ℕ
 where_on spec c a n = if is_on spec c a then n else 0
 
@@ -54,9 +59,11 @@ where_on spec c a n = if is_on spec c a then n else 0
 abbrev pub halting_time : Parts → ConfId → ℕ
 halting_time spec c = greatest_below (λ a. where_on spec c a (halt_offset spec c a + halt_time spec c a)) (length spec.apps)
 
+-- The frames of the prepare phase of a configuration: those of its slowest application.
 abbrev pub preparing_time : Parts → ConfId → ℕ
 preparing_time spec c = greatest_below (prepare_time spec c) (length spec.apps)
 
+-- The frames of the init phase of a configuration: when the last application has initialised.
 abbrev pub initialising_time : Parts → ConfId → ℕ
 initialising_time spec c = greatest_below (λ a. where_on spec c a (init_offset spec c a + init_time spec c a)) (length spec.apps)
 
@@ -98,6 +105,7 @@ Holds value n xs = (a : ℕ) → a < n → slice_index xs a ≡ value a
 abbrev pub AtMost : ℕ → ℕ → List ℕ → Type 0
 AtMost most n xs = (a : ℕ) → a < n → slice_index xs a ≤ most
 
+-- When each application of a configuration halts and initialises, and how long each phase takes.
 abbrev pub timetable : Parts → ConfId → Times
 timetable spec c = record {
   halt = eight (λ a. where_on spec c a (halt_offset spec c a));
@@ -127,8 +135,10 @@ pub record IsInTime (spec : Parts) (c : ConfId) : Type 0 where
   pub prepare_most : preparing_time spec c ≤ 16
   pub init_most : initialising_time spec c ≤ 128
 
+-- In every specification an offset is the greatest time of a chain that ends at the application.
 abbrev pub OffsetsAreGreatestSums : Type 0
 OffsetsAreGreatestSums = (spec : Parts) → IsSpec spec → (c : ConfId) → OffsetsAreSums spec c
 
+-- In every specification each application's phase ends within the phase of its configuration.
 abbrev pub PhasesEndInTime : Type 0
 PhasesEndInTime = (spec : Parts) → IsSpec spec → (c : ConfId) → IsInTime spec c

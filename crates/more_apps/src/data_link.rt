@@ -144,7 +144,7 @@ pub fn data_link_area(order: Order, seen: &Seen) -> Area
 }
 
 /// No message is lost uncounted: where a run ends below the greatest counts, what was sent, queued and
-/// dropped has grown by the fresh messages, one for each kind whose application runs.
+/// dropped has grown by the fresh messages, one for each kind whose status is 1.
 pub fn data_link_keeps_count()
     ensures { KeepsCount }
 {}
@@ -165,6 +165,6 @@ impl KindLaw for DatalinkLaw {
     }
 }
 
-/// A data link: it sends a message for each application that runs. What it answers is the law of kind
+/// A data link: it sends a message for each application whose status is 1. What it answers is the law of kind
 /// 4; it gives its last answer again where the call is the same.
 pub type Datalink = Remembering<DatalinkLaw>;

@@ -14,15 +14,19 @@ use Rattle.scram_types.specs.declared.specification.Conf.{Conf}
 use Rattle.scram_types.specs.declared.specification.Factor.{Factor}
 use Rattle.scram_types.specs.Specification.{Parts, mode_in, place_in}
 
+-- The id of application number a.
 abbrev pub app_id : ℕ → AppId
 app_id a = record { 0 = a }
 
+-- The id of processor number p.
 abbrev pub proc_id : ℕ → ProcId
 proc_id p = record { 0 = p }
 
+-- The id of configuration number c.
 abbrev pub conf_id : ℕ → ConfId
 conf_id c = record { 0 = c }
 
+-- The id of factor number x.
 abbrev pub factor_id : ℕ → FactorId
 factor_id x = record { 0 = x }
 
@@ -35,15 +39,19 @@ number_from name i (x ∷ xs) text = if bytes_eq (name x) text then Some i else 
 abbrev pub number_named : {A : Type 0} → (A → List ℕ) → List A → List ℕ → Option ℕ
 number_named name xs text = number_from name 0 xs text
 
+-- The application that has this name; nothing where none has it.
 abbrev pub app_named : Parts → List ℕ → Option AppId
 app_named spec text = option_map app_id (number_named (λ (app : AppSpec). app.name) spec.apps text)
 
+-- The processor that has this name.
 abbrev pub proc_named : Parts → List ℕ → Option ProcId
 proc_named spec text = option_map proc_id (number_named (λ (proc : Proc). proc.name) spec.procs text)
 
+-- The configuration that has this name.
 abbrev pub conf_named : Parts → List ℕ → Option ConfId
 conf_named spec text = option_map conf_id (number_named (λ (conf : Conf). conf.name) spec.confs text)
 
+-- The factor that has this name.
 abbrev pub factor_named : Parts → List ℕ → Option FactorId
 factor_named spec text = option_map factor_id (number_named (λ (factor : Factor). factor.name) spec.factors text)
 
@@ -55,15 +63,19 @@ value_named factor text = number_named (λ (name : List ℕ). name) factor.value
 abbrev pub app_name : Parts → ℕ → List ℕ
 app_name spec a = option_map_or (λ (app : AppSpec). app.name) (slice_get spec.apps a) []
 
+-- The name of processor p; no letter where there is no such processor.
 abbrev pub proc_name : Parts → ℕ → List ℕ
 proc_name spec p = option_map_or (λ (proc : Proc). proc.name) (slice_get spec.procs p) []
 
+-- The name of configuration c; no letter where there is none.
 abbrev pub conf_name : Parts → ℕ → List ℕ
 conf_name spec c = option_map_or (λ (conf : Conf). conf.name) (slice_get spec.confs c) []
 
+-- The name of factor x; no letter where there is none.
 abbrev pub factor_name : Parts → ℕ → List ℕ
 factor_name spec x = option_map_or (λ (factor : Factor). factor.name) (slice_get spec.factors x) []
 
+-- The name of a factor's value; no letter where the factor has no such value.
 abbrev pub value_name : Factor → ℕ → List ℕ
 value_name factor value = option_map_or (λ (name : List ℕ). name) (slice_get factor.values value) []
 
@@ -75,6 +87,7 @@ kind_of_app spec a = option_map_or (λ (app : AppSpec). app.kind.0) (slice_get s
 abbrev pub place_of : Parts → ConfId → ℕ → Option Place
 place_of spec c a = option_and_then (λ (conf : Conf). place_in conf a) (slice_get spec.confs c.0)
 
+-- Application a has a place in configuration c.
 abbrev pub is_on : Parts → ConfId → ℕ → Bool
 is_on spec c a = is_some (place_of spec c a)
 

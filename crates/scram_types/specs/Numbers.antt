@@ -2,15 +2,19 @@
 use Rattle.std.specs.Prelude.{ℕ, ℤ, pos, neg_ℤ, ◌≤ℤ◌, int_div, int_lt, List, slice_index_or, if◌then◌else◌}
 use Rattle.std.specs.Int.{int_rem_euclid}
 
+-- The number below zero that lies n from it.
 abbrev pub minus : ℕ → ℤ
 minus n = neg_ℤ (pos n)
 
+-- x where it lies between both ends, else the end that is nearer.
 unfoldable pub clamp : ℤ → ℤ → ℤ → ℤ
 clamp x low high = if int_lt x low then low else (if int_lt high x then high else x)
 
+-- The n-th part of x, rounded towards zero.
 unfoldable pub part : ℤ → ℕ → ℤ
 part x n = int_div x (pos n)
 
+-- What is left of x after whole steps of n: from 0 up to n - 1, also below zero.
 unfoldable pub modulo : ℤ → ℕ → ℤ
 modulo x n = int_rem_euclid x (pos n)
 

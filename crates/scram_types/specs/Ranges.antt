@@ -3,8 +3,10 @@ use Rattle.std.specs.Prelude.{ℕ, ℤ, pos}
 use Rattle.scram_types.specs.declared.ranges.Range.{Range}
 use Rattle.scram_types.specs.Numbers.{clamp, minus}
 
+-- From minus a up to b.
 abbrev pub limit : ℕ → ℕ → Range
 limit a b = record { below = a; above = b }
 
+-- x brought into a range.
 unfoldable pub clamp_in : Range → ℤ → ℤ
 clamp_in r x = clamp x (minus r.below) (pos r.above)

@@ -49,6 +49,7 @@ bound_in [] from to = None
 bound_in (bound ∷ bounds) from to =
     if bound.from.0 == from && bound.to.0 == to then Some bound.frames else bound_in bounds from to
 
+-- The greater of a bound and of the greatest one before it, where there is one.
 abbrev pub greater_of : Option ℕ → ℕ → ℕ
 greater_of (Some most) frames = if nat_lt most frames then frames else most
 greater_of None frames = frames
@@ -59,6 +60,7 @@ greatest_bound_from greatest [] from = greatest
 greatest_bound_from greatest (bound ∷ bounds) from =
     greatest_bound_from (if bound.from.0 == from then Some (greater_of greatest bound.frames) else greatest) bounds from
 
+-- The greatest bound that is given from a configuration; nothing where none is.
 abbrev pub greatest_bound_in : List Bound → ℕ → Option ℕ
 greatest_bound_in bounds from = greatest_bound_from None bounds from
 
@@ -66,6 +68,7 @@ greatest_bound_in bounds from = greatest_bound_from None bounds from
 unfoldable pub modes_of_kind : ℕ → ℕ
 modes_of_kind kind = slice_index_or (2 ∷ 2 ∷ 3 ∷ 2 ∷ 2 ∷ []) kind 0
 
+-- A list has at least `low` and at most `high` items.
 pub record HasLength {A : Type 0} (low high : ℕ) (xs : List A) : Type 0 where
   pub enough : low ≤ length xs
   pub few : length xs ≤ high
@@ -83,6 +86,7 @@ NamesDiffer {A} name xs =
 abbrev pub AreSpelled : {A : Type 0} → (A → List ℕ) → List A → Type 0
 AreSpelled {A} name xs = Each (λ (x : A). IsTrue (is_name (name x))) xs
 
+-- The values of a factor have names.
 abbrev pub HasValueNames : Factor → Type 0
 HasValueNames factor = AreSpelled (λ (value : List ℕ). value) factor.values
 
@@ -94,6 +98,7 @@ pub record HasNames (spec : Parts) : Type 0 where
   pub factors : AreSpelled (λ (factor : Factor). factor.name) spec.factors
   pub values : Each HasValueNames spec.factors
 
+-- What a processor keeps: its capacity in load units.
 pub record IsProc (proc : Proc) : Type 0 where
   pub capacity : proc.capacity ≤ 1000000
 
@@ -102,6 +107,7 @@ pub record IsPhase (frames : ℕ) : Type 0 where
   pub least : 1 ≤ frames
   pub most : frames ≤ 16
 
+-- A mode that an application lists is one of its kind, and its load and its phases lie in their ranges.
 pub record IsModeSpec (kind : ℕ) (listed : ModeSpec) : Type 0 where
   pub on : 1 ≤ listed.mode.0
   pub of_kind : listed.mode.0 ≤ modes_of_kind kind
@@ -116,6 +122,7 @@ pub record IsNeeded (apps : List AppSpec) (app : AppSpec) (needed : AppId) : Typ
   pub there : slice_get apps needed.0 ≡ Some lower
   pub falls : lower.rank < app.rank
 
+-- An application is of a kind that is built, needs only what has a lower rank, and lists one to three modes.
 pub record IsAppSpec (apps : List AppSpec) (app : AppSpec) : Type 0 where
   pub kind : app.kind.0 < 5
   pub rank : app.rank < 8
@@ -131,10 +138,12 @@ pub record IsPlace (procs : List Proc) (apps : List AppSpec) (a : ℕ) (place : 
   pub there : slice_get apps a ≡ Some app
   pub listed : IsSome (mode_in app.modes place.mode.0)
 
+-- A configuration has a place or none for each of eight applications, and each place can be flown.
 pub record IsConf (procs : List Proc) (apps : List AppSpec) (conf : Conf) : Type 0 where
   pub width : length conf.places ≡ 8
   pub places : (a : ℕ) (place : Place) → place_in conf a ≡ Some place → IsPlace procs apps a place
 
+-- A factor has two to four values, and no two of them have one name.
 pub record IsFactor (factor : Factor) : Type 0 where
   pub count : HasLength 2 4 factor.values
   pub differ : NamesDiffer (λ (name : List ℕ). name) factor.values
@@ -143,14 +152,17 @@ pub record IsFactor (factor : Factor) : Type 0 where
 abbrev pub IsIn : List Conf → ConfId → Type 0
 IsIn confs c = c.0 < length confs
 
+-- Where a configuration is named, it exists.
 abbrev pub IsInIfNamed : List Conf → Option ConfId → Type 0
 IsInIfNamed confs c = IfSome c (IsIn confs)
 
+-- What a rule wants of a factor is a value that this factor has.
 pub record IsWant (factors : List Factor) (want : Want) : Type 0 where
   pub factor : Factor
   pub there : slice_get factors want.factor.0 ≡ Some factor
   pub value : want.value < length factor.values
 
+-- A rule of the choice table names configurations, values and processors that exist.
 pub record IsChoice (procs : List Proc) (confs : List Conf) (factors : List Factor) (rule : Choice) : Type 0 where
   pub from : IsInIfNamed confs rule.from
   pub few : length rule.wants ≤ 6
@@ -158,12 +170,14 @@ pub record IsChoice (procs : List Proc) (confs : List Conf) (factors : List Fact
   pub up : rule.up < 2 ^ length procs
   pub to : IsIn confs rule.to
 
+-- A bound is for configurations that exist, and from 1 to 1000 frames.
 pub record IsBound (confs : List Conf) (bound : Bound) : Type 0 where
   pub from : IsIn confs bound.from
   pub to : IsIn confs bound.to
   pub least : 1 ≤ bound.frames
   pub most : bound.frames ≤ 1000
 
+-- The altitude of a goal in feet and its heading in tenths of a degree lie in their ranges.
 pub record IsGoal (goal : Goal) : Type 0 where
   pub lowest : pos 0 ≤ℤ goal.altitude
   pub highest : goal.altitude ≤ℤ pos 40000
@@ -179,10 +193,12 @@ pub record IsInterval (apps : List AppSpec) (app : AppId) (variable : ℕ) (low 
   pub high_least : minus 1000000000 ≤ℤ high
   pub high_most : high ≤ℤ pos 1000000000
 
+-- An invariant is for one configuration that exists or for all, and its interval is one.
 pub record IsInvariant (apps : List AppSpec) (confs : List Conf) (inv : Invariant) : Type 0 where
   pub from : IsInIfNamed confs inv.from
   pub interval : IsInterval apps inv.app inv.variable inv.least inv.greatest
 
+-- A precondition is for a configuration that exists, and its interval is one.
 pub record IsPrecondition (apps : List AppSpec) (confs : List Conf) (pre : Precondition) : Type 0 where
   pub conf : IsIn confs pre.conf
   pub interval : IsInterval apps pre.app pre.variable pre.least pre.greatest
