@@ -6,7 +6,6 @@ use Rattle.std.proofs.lemmas.Bool.{lt-ltb}
 use Rattle.std.proofs.lemmas.Int.{ints}
 use Rattle.std.proofs.lemmas.Option.{slice_get_within}
 use Rattle.std.proofs.lemmas.Slice.Eq.{bytes_eq-Decides}
-use lib.Dec.{T}
 use Rattle.serde_json.specs.Data.{Data, array, string}
 use Rattle.serde_json.specs.Events.{items_len}
 use Rattle.serde_json.specs.Find.{as_i64, of_integer}
@@ -46,16 +45,10 @@ use Rattle.reconf_spec.specs.Texts.{bound_data, choice_data, goal_data, invarian
 use Rattle.scram_doc.specs.Canonical.{integer_data, list_data}
 use Rattle.reconf_spec.specs.Writable.{IsWritableInterval, lists_pair, lists_want}
 use Rattle.reconf_spec.proofs.Lookups.{number_back}
+use Rattle.scram_types.proofs.Integers.{int_is}
 use Rattle.scram_types.proofs.Items.{some_item}
 use Rattle.scram_doc.proofs.ReadBack.{list_back, whole_back, within_back}
 use Rattle.reconf_spec.proofs.Sets.{up_back}
-
-truth : (b : Bool) → T b → b ≡ true
-truth true h = refl
-truth false h = absurd h
-
-int_is : (a b : ℤ) → a ≤ℤ b → int_le a b ≡ true
-int_is a b h = truth (int_le a b) h.le
 
 -- the name of a configuration is not `*`
 no_star_by : (b : Bool) (text : List ℕ) → (b ≡ true → text ≡ codes "*") → is_name text ≡ true → b ≡ false

@@ -3,8 +3,6 @@ use Rattle.std.proofs.Common.{◌≡◌, ℕ, zero, suc, ◌+◌, ◌-◌, ◌<�
 use Rattle.std.specs.Prelude.{Option, Some, None, ℤ, pos, ◌≤ℤ◌, int_le, slice_get, slice_index_or, nat_lt, ◌&&◌, if◌then◌else◌}
 use Rattle.std.specs.Option.{option_map_or}
 use Rattle.std.proofs.lemmas.Int.{ints}
-use lib.Signed.{le_z_yes}
-use lib.Dec.{T}
 use Rattle.scram_types.specs.declared.flights.Env.{Env}
 use Rattle.scram_types.specs.declared.orders.Order as told_orders
 use Rattle.scram_types.specs.declared.orders.Order.TheVariants as order
@@ -14,6 +12,7 @@ use Rattle.scram_types.specs.Numbers.{word}
 use Rattle.scram_types.specs.Scripts.{ScriptParts}
 use Rattle.scram_types.specs.Specification.{IsSpec, Parts}
 use Rattle.scram_types.proofs.Booleans.{and_left, and_right, and_true}
+use Rattle.scram_types.proofs.Integers.{int_is, int_of}
 use Rattle.scram_types.specs.Lookups.{place_of, kind_of_app}
 use Rattle.scram_types.specs.Searches.{all_below}
 use Rattle.scram_types.specs.Eights.{eight}
@@ -38,17 +37,6 @@ use Rattle.trace_props.proofs.Builds.{all_at}
 use Rattle.trace_props.proofs.Products.{build_of, course_of, course_phase_of, plan_of}
 use Rattle.trace_props.proofs.SameModes.{same_mode}
 use Rattle.trace_props.proofs.SameActs.{committed, phase_same}
-
--- tests on whole numbers
-truth : (b : Bool) → T b → b ≡ true
-truth true h = refl
-truth false h = absurd h
-
-int_is : (a b : ℤ) → a ≤ℤ b → int_le a b ≡ true
-int_is a b h = truth (int_le a b) h.le
-
-int_of : (a b : ℤ) → int_le a b ≡ true → a ≤ℤ b
-int_of a b e = le_z_yes (subst T (sym e) tt)
 
 pub int_trans : (a b c : ℤ) → a ≤ℤ b → b ≤ℤ c → a ≤ℤ c
 int_trans a b c h k = omega (arith, ints)
