@@ -3,6 +3,7 @@ pub mod Booleans
 pub mod Clamping
 pub mod Eights
 pub mod Equality
+pub mod FoundByName
 pub mod Integers
 pub mod Items
 pub mod Naturals
