@@ -11,5 +11,6 @@ use Rattle.scram_doc.specs.Faults.{or_broken}
 abbrev pub document : List ℕ → Option Data
 document bytes = if is_utf8 bytes then read bytes else None
 
+-- The JSON value of the bytes, and else the first rule of every document is broken at the root.
 abbrev pub parsed : List ℕ → Result Data DocFault
 parsed bytes = or_broken NO_JSON_TEXT [] (document bytes)

@@ -4,6 +4,7 @@ use Rattle.scram_doc.specs.declared.fault.DocFault.{DocFault}
 use Rattle.scram_doc.specs.declared.fault.DocError.{DocError}
 use Rattle.scram_doc.specs.declared.fault.DocError.TheVariants.{Fault, NoMemory}
 
+-- This rule is broken at this path.
 abbrev pub broken : {A : Type 0} → ℕ → List ℕ → Result A DocFault
 broken rule path = Err (record { rule = rule; path = path })
 

@@ -6,5 +6,6 @@ use Rattle.std.specs.Str.{bytes_eq}
 abbrev pub place_named : {A : Type 0} → (A → List ℕ) → List A → List ℕ → Option ℕ
 place_named {A} name xs text = position (λ (x : A). bytes_eq text (name x)) xs
 
+-- A name is named by itself.
 abbrev pub itself : List ℕ → List ℕ
 itself name = name

@@ -5,6 +5,7 @@ use Rattle.std.specs.Prelude.{ℕ, List, [], ◌∷◌, ◌++◌, decimal}
 abbrev pub member_path : List ℕ → List ℕ → List ℕ
 member_path at name = at ++ 46 ∷ name
 
+-- The path of an element of the list at a path, by its index.
 abbrev pub item_path : List ℕ → ℕ → List ℕ
 item_path at index = at ++ 46 ∷ decimal index
 

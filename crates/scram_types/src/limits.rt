@@ -42,6 +42,8 @@ pub const MAX_HEADING: i64 = 3_599;
 pub const KINDS: u8 = 5;
 /// The most frames that a script flies.
 pub const MAX_FRAMES: u32 = 20_000;
+/// The most changes that a script lists.
+pub const MAX_CHANGES: usize = 20_000;
 /// The most environments in scope that a specification may have.
 pub const MAX_ENVIRONMENTS: u32 = 16_384;
 /// The most bytes of a trace's line, without its line feed.
