@@ -61,9 +61,10 @@ impl Spec {
         None
     }
 
-    /// The name of an application; no bytes where it does not exist.
+    /// The name of an application, at most 16 bytes; no bytes where it does not exist.
     pub fn app_name(&self, app: AppId) -> &str
-        ensures { result.now ≡ app_name self.now app.0 }
+        ensures name { result.now ≡ app_name self.now app.0 }
+        ensures short { length result.now ≤ 16 }
     {
         match self.app(app) {
             Some(app) => app.name.as_str(),
@@ -71,9 +72,10 @@ impl Spec {
         }
     }
 
-    /// The name of a processor; no bytes where it does not exist.
+    /// The name of a processor, at most 16 bytes; no bytes where it does not exist.
     pub fn proc_name(&self, proc: ProcId) -> &str
-        ensures { result.now ≡ proc_name self.now proc.0 }
+        ensures name { result.now ≡ proc_name self.now proc.0 }
+        ensures short { length result.now ≤ 16 }
     {
         match self.proc(proc) {
             Some(proc) => proc.name.as_str(),
@@ -81,9 +83,10 @@ impl Spec {
         }
     }
 
-    /// The name of a configuration; no bytes where it does not exist.
+    /// The name of a configuration, at most 16 bytes; no bytes where it does not exist.
     pub fn conf_name(&self, conf: ConfId) -> &str
-        ensures { result.now ≡ conf_name self.now conf.0 }
+        ensures name { result.now ≡ conf_name self.now conf.0 }
+        ensures short { length result.now ≤ 16 }
     {
         match self.conf(conf) {
             Some(conf) => conf.name.as_str(),
@@ -91,9 +94,10 @@ impl Spec {
         }
     }
 
-    /// The name of a factor; no bytes where it does not exist.
+    /// The name of a factor, at most 16 bytes; no bytes where it does not exist.
     pub fn factor_name(&self, factor: FactorId) -> &str
-        ensures { result.now ≡ factor_name self.now factor.0 }
+        ensures name { result.now ≡ factor_name self.now factor.0 }
+        ensures short { length result.now ≤ 16 }
     {
         match self.factor(factor) {
             Some(factor) => factor.name.as_str(),
@@ -165,9 +169,10 @@ impl Factor {
         number_of_name(self.values.items(), text)
     }
 
-    /// The name of a value; no bytes where the factor has no such value.
+    /// The name of a value, at most 16 bytes; no bytes where the factor has no such value.
     pub fn value_name(&self, value: u8) -> &str
-        ensures { result.now ≡ value_name self.now value }
+        ensures name { result.now ≡ value_name self.now value }
+        ensures short { length result.now ≤ 16 }
     {
         match self.values.items().get(usize::from(value)) {
             Some(name) => name.as_str(),
