@@ -16,6 +16,7 @@ abbrev pub has_source : Option ConfId → ConfId → Bool
 has_source None c = true
 has_source (Some from) c = from.0 == c.0
 
+-- An environment has the value that a rule wants of a factor.
 abbrev pub has_wanted : Env → Want → Bool
 has_wanted v want = factor_in v want.factor.0 == want.value
 
@@ -23,6 +24,8 @@ has_wanted v want = factor_in v want.factor.0 == want.value
 abbrev pub all_up : ℕ → Env → Bool
 all_up set v = bit_and set v.up == set
 
+-- A rule fits a configuration and an environment: its source, the values that it wants, the processors that it wants
+-- up.
 abbrev pub rule_fits : ConfId → Env → Choice → Bool
 rule_fits c v rule = has_source rule.from c && list_all (has_wanted v) rule.wants && all_up rule.up v
 
@@ -31,6 +34,8 @@ abbrev pub target_among : List Choice → ConfId → Env → ConfId
 target_among [] c v = c
 target_among (rule ∷ rules) c v = if rule_fits c v rule then rule.to else target_among rules c v
 
+-- The configuration that the table chooses in an environment: the target of the first rule that fits, else the same
+-- one.
 abbrev pub choose : Parts → ConfId → Env → ConfId
 choose spec c v = target_among spec.rules c v
 
@@ -42,6 +47,7 @@ has_rule spec c v = list_any (rule_fits c v) spec.rules
 abbrev pub places_of : Parts → ConfId → List (Option Place)
 places_of spec c = option_map_or (λ (conf : Conf). conf.places) (slice_get spec.confs c.0) []
 
+-- An application that is off needs no processor; else its processor is up.
 abbrev pub is_place_up : Env → Option Place → Bool
 is_place_up v None = true
 is_place_up v (Some place) = is_up_in v place.proc.0

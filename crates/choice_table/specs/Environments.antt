@@ -5,6 +5,7 @@ use Rattle.scram_types.specs.declared.flights.Env.{Env}
 use Rattle.scram_types.specs.declared.specification.Factor.{Factor}
 use Rattle.scram_types.specs.Specification.{Parts}
 
+-- Processor p is up in an environment.
 abbrev pub is_up_in : Env → ℕ → Bool
 is_up_in v p = has_bit v.up p
 
@@ -12,6 +13,7 @@ is_up_in v p = has_bit v.up p
 abbrev pub factor_in : Env → ℕ → ℕ
 factor_in v x = slice_index v.factors x
 
+-- How many processors are down in an environment.
 abbrev pub down_count : Parts → Env → ℕ
 down_count spec v = count_below (λ p. not (is_up_in v p)) (length spec.procs)
 

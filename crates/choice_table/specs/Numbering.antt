@@ -39,6 +39,7 @@ number_of spec v = down_set spec v * combinations spec.factors + digits_of spec.
 abbrev pub environments : Parts → ℕ
 environments spec = 2 ^ length spec.procs * combinations spec.factors
 
+-- The environment of number n: processors up count down from all of them, and the values of the factors count up.
 abbrev pub numbered : Parts → ℕ → Env
 numbered spec n = record {
   up = 2 ^ length spec.procs - 1 - n / combinations spec.factors;
