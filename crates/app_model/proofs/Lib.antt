@@ -6,3 +6,4 @@ pub mod AreaLaws
 pub mod Fitting
 pub mod Spelling
 pub mod ShortNames
+pub mod Lengths
