@@ -1,0 +1,4 @@
+pub mod Events
+pub mod Images
+pub mod Marks
+pub mod Numbers

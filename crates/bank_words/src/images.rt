@@ -1,0 +1,320 @@
+//! What the kernel says of a frame.
+
+ghost use Rattle.std.specs.Prelude.{◌≡◌};
+ghost use Rattle.bank_words.specs.Images.{conf_of, conf_word, factors_of, factors_word, keeper_of, keeper_word, keeper_words, keepers_of, kernel_decode, kernel_encode, last_byte, mode_of, mode_words};
+
+use crate::numbers::{decode, encode};
+use scram_types::{ConfId, Env, KMode, ProcId, World};
+
+/// The mode and the environment of a frame, and the keepers and the world as they stand before it.
+#[derive(Clone, Copy, Debug, PartialEq, Eq)]
+pub struct KernelImage {
+    pub frame: u32,
+    pub mode: KMode,
+    pub env: Env,
+    pub keepers: [Option<ProcId>; 8],
+    pub world: World,
+}
+
+/// The twenty words of a kernel image, in the order of docs/FORMATS.md. It takes no memory.
+pub fn kernel_encode(k: &KernelImage) -> [u64; 20]
+    ensures words { result ≡ kernel_encode k.now }
+    ensures back { kernel_decode result ≡ k.now }
+{
+    let mode = mode_words(k.mode);
+    let keepers = keeper_words(&k.keepers);
+    [
+        u64::from(k.frame),
+        mode[0],
+        mode[1],
+        mode[2],
+        mode[3],
+        mode[4],
+        byte_word(k.env.up),
+        factors_word(&k.env.factors),
+        keepers[0],
+        keepers[1],
+        keepers[2],
+        keepers[3],
+        keepers[4],
+        keepers[5],
+        keepers[6],
+        keepers[7],
+        encode(k.world.alt),
+        encode(k.world.climb),
+        encode(k.world.heading),
+        encode(k.world.bank),
+    ]
+}
+
+/// The kernel image that has these twenty words. It takes no memory.
+pub fn kernel_decode(words: &[u64; 20]) -> KernelImage
+    ensures { result ≡ kernel_decode words.now }
+{
+    KernelImage {
+        frame: (words[0] % 4_294_967_296) as u32,
+        mode: mode_of(&[words[1], words[2], words[3], words[4], words[5]]),
+        env: Env {
+            up: last_byte(words[6]),
+            factors: factors_of(words[7]),
+        },
+        keepers: keepers_of(&[
+            words[8], words[9], words[10], words[11], words[12], words[13], words[14], words[15],
+        ]),
+        world: World {
+            alt: decode(words[16]),
+            climb: decode(words[17]),
+            heading: decode(words[18]),
+            bank: decode(words[19]),
+        },
+    }
+}
+
+fn mode_words(mode: KMode) -> [u64; 5]
+    ensures words { result ≡ mode_words mode }
+    ensures back { mode_of result ≡ mode }
+{
+    match mode {
+        KMode::Stable(c) => [0, u64::from(c.0), 0, 0, 0],
+        KMode::Moving {
+            from,
+            halting,
+            to,
+            since,
+        } => [
+            1,
+            u64::from(from.0),
+            conf_word(halting),
+            u64::from(to.0),
+            u64::from(since),
+        ],
+    }
+}
+
+fn mode_of(words: &[u64; 5]) -> KMode
+    ensures { result ≡ mode_of words.now }
+{
+    if words[0] == 0 {
+        return KMode::Stable(ConfId(last_byte(words[1])));
+    }
+    KMode::Moving {
+        from: ConfId(last_byte(words[1])),
+        halting: conf_of(words[2]),
+        to: ConfId(last_byte(words[3])),
+        since: (words[4] % 4_294_967_296) as u32,
+    }
+}
+
+fn conf_word(conf: Option<ConfId>) -> u64
+    ensures word { result ≡ conf_word conf }
+    ensures back { conf_of result ≡ conf }
+{
+    match conf {
+        Some(conf) => u64::from(conf.0) + 1,
+        None => 0,
+    }
+}
+
+fn conf_of(word: u64) -> Option<ConfId>
+    ensures { result ≡ conf_of word }
+{
+    if word == 0 {
+        None
+    } else {
+        Some(ConfId(last_byte(word - 1)))
+    }
+}
+
+fn keeper_word(keeper: Option<ProcId>) -> u64
+    ensures word { result ≡ keeper_word keeper }
+    ensures back { keeper_of result ≡ keeper }
+{
+    match keeper {
+        Some(proc) => u64::from(proc.0) + 1,
+        None => 0,
+    }
+}
+
+fn keeper_words(keepers: &[Option<ProcId>; 8]) -> [u64; 8]
+    ensures words { result ≡ keeper_words keepers.now }
+    ensures back { keepers_of result ≡ keepers.now }
+{
+    [
+        keeper_word(keepers[0]),
+        keeper_word(keepers[1]),
+        keeper_word(keepers[2]),
+        keeper_word(keepers[3]),
+        keeper_word(keepers[4]),
+        keeper_word(keepers[5]),
+        keeper_word(keepers[6]),
+        keeper_word(keepers[7]),
+    ]
+}
+
+fn keepers_of(words: &[u64; 8]) -> [Option<ProcId>; 8]
+    ensures { result ≡ keepers_of words.now }
+{
+    [
+        keeper_of(words[0]),
+        keeper_of(words[1]),
+        keeper_of(words[2]),
+        keeper_of(words[3]),
+        keeper_of(words[4]),
+        keeper_of(words[5]),
+        keeper_of(words[6]),
+        keeper_of(words[7]),
+    ]
+}
+
+fn keeper_of(word: u64) -> Option<ProcId>
+    ensures { result ≡ keeper_of word }
+{
+    if word == 0 {
+        None
+    } else {
+        Some(ProcId(last_byte(word - 1)))
+    }
+}
+
+fn factors_word(values: &[u8; 6]) -> u64
+    ensures word { result ≡ factors_word values.now }
+    ensures back { factors_of result ≡ values.now }
+{
+    u64::from(values[0])
+        + 256 * u64::from(values[1])
+        + 65_536 * u64::from(values[2])
+        + 16_777_216 * u64::from(values[3])
+        + 4_294_967_296 * u64::from(values[4])
+        + 1_099_511_627_776 * u64::from(values[5])
+}
+
+fn factors_of(word: u64) -> [u8; 6]
+    ensures { result ≡ factors_of word }
+{
+    [
+        last_byte(word),
+        last_byte(word / 256),
+        last_byte(word / 65_536),
+        last_byte(word / 16_777_216),
+        last_byte(word / 4_294_967_296),
+        last_byte(word / 1_099_511_627_776),
+    ]
+}
+
+fn byte_word(byte: u8) -> u64
+    ensures word { result ≡ byte }
+    ensures back { last_byte result ≡ byte }
+{
+    u64::from(byte)
+}
+
+fn last_byte(word: u64) -> u8
+    ensures { result ≡ last_byte word }
+{
+    (word % 256) as u8
+}
+
+#[cfg(test)]
+mod tests {
+    use super::*;
+
+    fn image(mode: KMode, keepers: [Option<ProcId>; 8]) -> KernelImage {
+        KernelImage {
+            frame: 16,
+            mode,
+            env: Env {
+                up: 3,
+                factors: [1, 0, 2, 3, 0, 255],
+            },
+            keepers,
+            world: World {
+                alt: 5_000,
+                climb: -1,
+                heading: i64::MAX,
+                bank: i64::MIN,
+            },
+        }
+    }
+
+    #[test]
+    fn a_reconfiguration_is_words_and_back(rt: HostRuntime) {
+        let mode = KMode::Moving {
+            from: ConfId(0),
+            halting: Some(ConfId(1)),
+            to: ConfId(255),
+            since: 15,
+        };
+        let keepers = [
+            Some(ProcId(0)),
+            None,
+            Some(ProcId(7)),
+            None,
+            None,
+            None,
+            None,
+            Some(ProcId(255)),
+        ];
+        let words = [
+            16,
+            1,
+            0,
+            2,
+            255,
+            15,
+            3,
+            280_375_515_545_601,
+            1,
+            0,
+            8,
+            0,
+            0,
+            0,
+            0,
+            256,
+            5_000,
+            u64::MAX,
+            9_223_372_036_854_775_807,
+            9_223_372_036_854_775_808,
+        ];
+        assert_eq!(rt; kernel_encode(&image(mode, keepers)), words);
+        assert_eq!(rt; kernel_decode(&words), image(mode, keepers));
+    }
+
+    #[test]
+    fn a_stable_mode_leaves_three_words_empty(rt: HostRuntime) {
+        let mode = KMode::Stable(ConfId(11));
+        let words = kernel_encode(&image(mode, [None; 8]));
+        assert_eq!(rt;
+            [words[1], words[2], words[3], words[4], words[5]],
+            [0, 11, 0, 0, 0]
+        );
+        assert_eq!(rt; kernel_decode(&words), image(mode, [None; 8]));
+    }
+
+    // With nothing that halts, and at the greatest numbers.
+    #[test]
+    fn the_greatest_numbers_come_back(rt: HostRuntime) {
+        let mode = KMode::Moving {
+            from: ConfId(255),
+            halting: None,
+            to: ConfId(255),
+            since: u32::MAX,
+        };
+        let last = KernelImage {
+            frame: u32::MAX,
+            mode,
+            env: Env {
+                up: 255,
+                factors: [255; 6],
+            },
+            keepers: [Some(ProcId(255)); 8],
+            world: World {
+                alt: -1,
+                climb: -1,
+                heading: -1,
+                bank: -1,
+            },
+        };
+        assert_eq!(rt; kernel_decode(&kernel_encode(&last)), last);
+    }
+}

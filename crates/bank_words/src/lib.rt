@@ -1,0 +1,13 @@
+//! The words of stable storage that processors and the kernel share: numbers as words, marks, what the kernel says of
+//! a frame, and a code for each event. What is written as words is read back as it was.
+#![tactic(auto)]
+
+pub mod events;
+pub mod images;
+pub mod marks;
+pub mod numbers;
+
+pub use events::{Event, event_code, event_of};
+pub use images::{KernelImage, kernel_decode, kernel_encode};
+pub use marks::{mark_word, pick};
+pub use numbers::{decode, encode, words};

@@ -1,0 +1,49 @@
+//! Numbers as words of storage.
+
+ghost use Rattle.std.specs.Prelude.{◌≡◌, ◌*◌, length};
+ghost use Rattle.bank_words.specs.Numbers.{decode, encode};
+
+use scram_types::Spec;
+
+/// How many words an image has: eight for each application. It takes no memory.
+pub fn words(spec: &Spec) -> u32
+    ensures { result ≡ 8 * length spec.now.apps }
+{
+    8 * spec.apps.items().len() as u32
+}
+
+/// A number as a word of storage, by two's complement. It takes no memory.
+pub fn encode(v: i64) -> u64
+    ensures word { result ≡ encode v }
+    ensures back { decode result ≡ v }
+{
+    v.cast_unsigned()
+}
+
+/// The number that a word of storage holds, by two's complement. It takes no memory.
+pub fn decode(w: u64) -> i64
+    ensures number { result ≡ decode w }
+    ensures back { encode result ≡ w }
+{
+    w.cast_signed()
+}
+
+#[cfg(test)]
+mod tests {
+    use super::*;
+
+    #[test]
+    fn numbers_are_words_and_back(rt: HostRuntime) {
+        for (number, word) in [
+            (0, 0),
+            (1, 1),
+            (i64::MAX, 9_223_372_036_854_775_807),
+            (i64::MIN, 9_223_372_036_854_775_808),
+            (-2, 18_446_744_073_709_551_614),
+            (-1, u64::MAX),
+        ] {
+            assert_eq!(rt; encode(number), word);
+            assert_eq!(rt; decode(word), number);
+        }
+    }
+}
