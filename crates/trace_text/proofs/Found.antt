@@ -15,7 +15,8 @@ use Rattle.trace_text.specs.Lookups.{conf_or_none, app_number, mode_from, listed
 use Rattle.scram_types.specs.Lookups.{number_from, value_named, proc_named, conf_named, proc_id, conf_id, value_name, proc_name, conf_name}
 use Rattle.app_model.specs.Names.{mode_text}
 use Rattle.trace_text.specs.Names.{conf_or_dash}
-use Rattle.trace_text.proofs.Inversion.{map_some, same_text}
+use Rattle.scram_types.proofs.Equality.{same_text}
+use Rattle.trace_text.proofs.Inversion.{map_some}
 
 -- item n of a list has this name
 abbrev pub Named : {A : Type 0} → (A → List ℕ) → List A → ℕ → List ℕ → Type 0

@@ -1,11 +1,11 @@
 -- What an answer Ok tells of the tests before it.
 use Rattle.std.proofs.Common.{ℕ, suc, zero, ◌≡◌, ◌+◌, ◌∙◌, Bool, true, false, cond, List, [], ◌∷◌, Option, Some, None, Result, Ok, Err, drop, length, arith, refl, sym, ap}
-use Rattle.std.specs.Prelude.{◌==◌, ◌&&◌, nat_le, bytes_eq, option_map, option_and_then}
+use Rattle.std.specs.Prelude.{◌==◌, ◌&&◌, nat_le, option_map, option_and_then}
 use Rattle.std.specs.List.{join_with_byte, list_all}
 use Rattle.std.proofs.lemmas.Bool.{eqb-true}
 use Rattle.std.proofs.lemmas.List.{drop_all, drop_more}
 use Rattle.std.proofs.lemmas.List.Splits.{join_with_byte-slice_split}
-use Rattle.std.proofs.lemmas.Slice.Eq.{bytes_eq-Decides}
+use Rattle.scram_types.proofs.Equality.{same_text}
 use Rattle.trace_text.specs.Pieces.{words_of, words_in, is_word, is_filled, word_at}
 use Rattle.trace_text.specs.Rules.{unless}
 
@@ -37,9 +37,6 @@ map_some f (Some a) b h = (a, refl, let e : f a ≡ b = cc in e)
 pub then_some : {A B : Type 0} (f : A → Option B) (o : Option A) (b : B) → option_and_then f o ≡ Some b → (a : A) × (o ≡ Some a) × (f a ≡ Some b)
 then_some f None b h = absurd (let e = h in cc)
 then_some f (Some a) b h = (a, refl, h)
-
-pub same_text : (a b : List ℕ) → bytes_eq a b ≡ true → a ≡ b
-same_text a b h = (bytes_eq-Decides a b).0 h
 
 pub is_text : (ws : List (List ℕ)) (k : ℕ) (text : List ℕ) → is_word ws k text ≡ true → word_at ws k ≡ text
 is_text ws k text h = same_text (word_at ws k) text h

@@ -3,6 +3,7 @@ use Rattle.std.proofs.Common.{ℕ, ◌≡◌, ◌-◌, ◌^◌, ◌∙◌, Bool,
 use Rattle.std.specs.Prelude.{◌==◌, ◌&&◌, bytes_eq, codes, nat_le, option_map, ⊤}
 use Rattle.std.specs.List.{join_with_byte}
 use Rattle.std.proofs.lemmas.Bool.{and_parts, eqb-true}
+use Rattle.scram_types.specs.declared.limits.TheConstants.{MAX_FRAMES}
 use Rattle.scram_types.specs.Specification.{Parts, bound_in, greatest_bound_in}
 use Rattle.scram_types.specs.declared.ids.ConfId.{ConfId}
 use Rattle.scram_types.specs.declared.flights.Report.{Report}
@@ -12,8 +13,10 @@ use Rattle.trace_text.specs.ReportReading.{bound_or_none, end_in, end_read, fini
 use Rattle.trace_text.specs.Spelling.{spelled_number}
 use Rattle.trace_text.specs.Text.{bound_text, end_line, report_line}
 use Rattle.trace_text.specs.TraceReading.{begins}
+use Rattle.trace_text.specs.declared.rule.TheConstants.{NO_FORM, UNKNOWN_NAME, WRONG_COUNT, WRONG_NUMBER}
 use Rattle.trace_text.proofs.Found.{conf_found}
-use Rattle.trace_text.proofs.Inversion.{both, if_ok, is_text, line_joined, map_some, same_text, unless_ok, words_are, words_listed}
+use Rattle.scram_types.proofs.Equality.{same_text}
+use Rattle.trace_text.proofs.Inversion.{both, if_ok, is_text, line_joined, map_some, unless_ok, words_are, words_listed}
 use Rattle.trace_text.proofs.Shapes.{end_shape, finished_shape, unfinished_shape}
 use Rattle.trace_text.proofs.Spelling.{number_spelled}
 
@@ -44,16 +47,16 @@ record ReportEnd (ws : List (List ℕ)) (from : ConfId) (to : Option ConfId) (en
 report_ended : (ws : List (List ℕ)) (from : ConfId) (to : Option ConfId) (end : ℕ) (given : Option ℕ) (report : Report) → report_end ws from to end given ≡ Ok report →
     ReportEnd ws from to end given report
 report_ended ws from to end given report h =
-    let s = unless_ok 5 (spelled_number 20000 (word_at ws 5)) _ report h in
-    let d = unless_ok 5 (spelled_number (2 ^ 32) (word_at ws 9)) _ report s.2 in
-    let b = unless_ok 5 (bound_or_none (word_at ws 11)) _ report d.2 in
-    let t = if_ok (nat_le s.0 end && (d.0 == end - s.0) && same_bound b.0 given) _ 8 report b.2 in
+    let s = unless_ok WRONG_NUMBER (spelled_number MAX_FRAMES (word_at ws 5)) _ report h in
+    let d = unless_ok WRONG_NUMBER (spelled_number (2 ^ 32) (word_at ws 9)) _ report s.2 in
+    let b = unless_ok WRONG_NUMBER (bound_or_none (word_at ws 11)) _ report d.2 in
+    let t = if_ok (nat_le s.0 end && (d.0 == end - s.0) && same_bound b.0 given) _ WRONG_COUNT report b.2 in
     let p = and_parts (nat_le s.0 end && (d.0 == end - s.0)) (same_bound b.0 given) t.0 in
     let q = and_parts (nat_le s.0 end) (d.0 == end - s.0) p.0 in
     let length_is : d.0 ≡ end - s.0 = eqb-true d.0 (end - s.0) q.1 in
     record {
       begin = s.0;
-      begun = (number_spelled 20000 s.0 (word_at ws 5) s.1).0;
+      begun = (number_spelled MAX_FRAMES s.0 (word_at ws 5) s.1).0;
       took = (number_spelled (2 ^ 32) d.0 (word_at ws 9) d.1).0 ∙ ap decimal length_is;
       bound = bound_spelled (word_at ws 11) b.0 b.1 ∙ ap bound_text (bounds_same b.0 given p.1);
       report_is = let e : record { from = from; to = to; begin = s.0; end = end } ≡ report = cc in e;
@@ -79,9 +82,9 @@ report_form ws h =
 finished_read : (spec : Parts) (line : List ℕ) (ws : List (List ℕ)) (report : Report) → line ≡ join_with_byte 32 ws → word_at ws 0 ≡ codes "reconfiguration" → ReportForm ws →
     finished_report spec ws ≡ Ok report → report_line spec report ≡ line ++ codes "\n"
 finished_read spec line ws report joined_is w0 form h =
-    let f = unless_ok 4 (conf_named spec (word_at ws 1)) _ report h in
-    let t = unless_ok 4 (conf_named spec (word_at ws 3)) _ report f.2 in
-    let e = unless_ok 5 (spelled_number 20000 (word_at ws 7)) _ report t.2 in
+    let f = unless_ok UNKNOWN_NAME (conf_named spec (word_at ws 1)) _ report h in
+    let t = unless_ok UNKNOWN_NAME (conf_named spec (word_at ws 3)) _ report f.2 in
+    let e = unless_ok WRONG_NUMBER (spelled_number MAX_FRAMES (word_at ws 7)) _ report t.2 in
     let told = report_ended ws f.0 (Some t.0) e.0 (bound_in spec.bounds f.0.0 t.0.0) report e.2 in
     let w1 : word_at ws 1 ≡ conf_name spec f.0.0 = conf_found spec (word_at ws 1) f.0 f.1 in
     let w2 = form.w2 in
@@ -89,7 +92,7 @@ finished_read spec line ws report joined_is w0 form h =
     let w4 = form.w4 in
     let w5 = told.begun in
     let w6 = form.w6 in
-    let w7 : word_at ws 7 ≡ decimal e.0 = (number_spelled 20000 e.0 (word_at ws 7) e.1).0 in
+    let w7 : word_at ws 7 ≡ decimal e.0 = (number_spelled MAX_FRAMES e.0 (word_at ws 7) e.1).0 in
     let w8 = form.w8 in
     let w9 = told.took in
     let w10 = form.w10 in
@@ -104,7 +107,7 @@ finished_read spec line ws report joined_is w0 form h =
 unfinished_read : (spec : Parts) (frames : ℕ) (line : List ℕ) (ws : List (List ℕ)) (report : Report) → line ≡ join_with_byte 32 ws → word_at ws 0 ≡ codes "reconfiguration" → ReportForm ws →
     word_at ws 3 ≡ codes "-" → word_at ws 7 ≡ codes "-" → unfinished_report spec frames ws ≡ Ok report → report_line spec report ≡ line ++ codes "\n"
 unfinished_read spec frames line ws report joined_is w0 form w3 w7 h =
-    let f = unless_ok 4 (conf_named spec (word_at ws 1)) _ report h in
+    let f = unless_ok UNKNOWN_NAME (conf_named spec (word_at ws 1)) _ report h in
     let told = report_ended ws f.0 None frames (greatest_bound_in spec.bounds f.0.0) report f.2 in
     let w1 : word_at ws 1 ≡ conf_name spec f.0.0 = conf_found spec (word_at ws 1) f.0 f.1 in
     let w2 = form.w2 in
@@ -124,7 +127,7 @@ unfinished_read spec frames line ws report joined_is w0 form w3 w7 h =
 
 dashes_by : (to end : Bool) (spec : Parts) (frames : ℕ) (line : List ℕ) (ws : List (List ℕ)) (report : Report) → (to ≡ true → word_at ws 3 ≡ codes "-") → (end ≡ true → word_at ws 7 ≡ codes "-") →
     line ≡ join_with_byte 32 ws → word_at ws 0 ≡ codes "reconfiguration" → ReportForm ws →
-    cond to (cond end (unfinished_report spec frames ws) (Err 3)) (cond end (Err 3) (finished_report spec ws)) ≡ Ok report → report_line spec report ≡ line ++ codes "\n"
+    cond to (cond end (unfinished_report spec frames ws) (Err NO_FORM)) (cond end (Err NO_FORM) (finished_report spec ws)) ≡ Ok report → report_line spec report ≡ line ++ codes "\n"
 dashes_by true true spec frames line ws report to end joined_is w0 form h = unfinished_read spec frames line ws report joined_is w0 form (to refl) (end refl) h
 dashes_by true false spec frames line ws report to end joined_is w0 form h = absurd (let e = h in cc)
 dashes_by false true spec frames line ws report to end joined_is w0 form h = absurd (let e = h in cc)
@@ -134,10 +137,10 @@ dashes_by false false spec frames line ws report to end joined_is w0 form h = fi
 pub report_only : (spec : Parts) (frames : ℕ) (line : List ℕ) (report : Report) → begins line (codes "reconfiguration") ≡ true → report_read spec frames line ≡ Ok report →
     report_line spec report ≡ line ++ codes "\n"
 report_only spec frames line report first h =
-    let w = unless_ok 3 (words_in line) (report_in spec frames) report h in
+    let w = unless_ok NO_FORM (words_in line) (report_in spec frames) report h in
     let same = words_are line w.0 w.1 in
     let w0 : word_at w.0 0 ≡ codes "reconfiguration" = rw (← same) (is_text (words_of line) 0 (codes "reconfiguration") first) in
-    let f = if_ok (is_report_form w.0) _ 3 report w.2 in
+    let f = if_ok (is_report_form w.0) _ NO_FORM report w.2 in
     dashes_by (is_word w.0 3 (codes "-")) (is_word w.0 7 (codes "-")) spec frames line w.0 report (is_text w.0 3 (codes "-")) (is_text w.0 7 (codes "-"))
     (line_joined line w.0 w.1) w0 (report_form w.0 f.0) f.1
 
@@ -145,16 +148,16 @@ report_only spec frames line report first h =
 pub end_only : (frames reports : ℕ) (line : List ℕ) (done : ⊤) → begins line (codes "end") ≡ true → end_read frames reports line ≡ Ok done →
     end_line frames reports ≡ line ++ codes "\n"
 end_only frames reports line done first h =
-    let w = unless_ok 3 (words_in line) (end_in frames reports) done h in
+    let w = unless_ok NO_FORM (words_in line) (end_in frames reports) done h in
     let ws = w.0 in
     let same = words_are line ws w.1 in
     let w0 : word_at ws 0 ≡ codes "end" = rw (← same) (is_text (words_of line) 0 (codes "end") first) in
-    let f = if_ok (is_end_form ws) _ 3 done w.2 in
+    let f = if_ok (is_end_form ws) _ NO_FORM done w.2 in
     let a = and_parts ((length ws == 5) && is_word ws 1 (codes "frames")) (is_word ws 3 (codes "reconfigurations")) f.0 in
     let b = and_parts (length ws == 5) (is_word ws 1 (codes "frames")) a.0 in
-    let n = unless_ok 5 (spelled_number (2 ^ 32) (word_at ws 2)) _ done f.1 in
-    let r = unless_ok 5 (spelled_number (2 ^ 32) (word_at ws 4)) _ done n.2 in
-    let t = if_ok ((n.0 == frames) && (r.0 == reports)) (Ok done) 8 done r.2 in
+    let n = unless_ok WRONG_NUMBER (spelled_number (2 ^ 32) (word_at ws 2)) _ done f.1 in
+    let r = unless_ok WRONG_NUMBER (spelled_number (2 ^ 32) (word_at ws 4)) _ done n.2 in
+    let t = if_ok ((n.0 == frames) && (r.0 == reports)) (Ok done) WRONG_COUNT done r.2 in
     let p = and_parts (n.0 == frames) (r.0 == reports) t.0 in
     let w1 : word_at ws 1 ≡ codes "frames" = is_text ws 1 _ b.1 in
     let w2 : word_at ws 2 ≡ decimal frames = (number_spelled (2 ^ 32) n.0 (word_at ws 2) n.1).0 ∙ ap decimal (eqb-true n.0 frames p.0) in

@@ -6,6 +6,7 @@ use Rattle.std.specs.List.{join_with_byte, list_all}
 use Rattle.std.proofs.lemmas.Bool.{and_parts, eqb-true}
 use Rattle.std.proofs.lemmas.List.{get_or-set_same, get_or-set_other}
 use Rattle.std.proofs.lemmas.List.Splits.{join_with_byte-slice_split}
+use Rattle.scram_types.specs.declared.limits.TheConstants.{MAX_FRAMES}
 use native.Mathlib.Nat.{mul-add, mul_assoc}
 use Rattle.scram_types.specs.Specification.{Parts}
 use Rattle.scram_types.specs.declared.flights.Row.{Row}
@@ -23,8 +24,10 @@ use Rattle.trace_text.specs.RowReading.{are_values, env_names, env_read, is_env_
 use Rattle.trace_text.specs.Spelling.{signed_of, spelled_number}
 use Rattle.trace_text.specs.Text.{row_line, up_text, values_text}
 use Rattle.trace_text.specs.TraceReading.{begins}
+use Rattle.trace_text.specs.declared.rule.TheConstants.{NOT_NEXT, NO_FORM, OUT_OF_ORDER, UNKNOWN_NAME, WRONG_NUMBER}
 use Rattle.trace_text.proofs.Found.{conf_found, conf_or_dash_found, value_found}
-use Rattle.trace_text.proofs.Inversion.{both, if_ok, is_text, kept_says, line_joined, map_some, same_text, then_some, unless_ok, words_are, words_listed}
+use Rattle.scram_types.proofs.Equality.{same_text}
+use Rattle.trace_text.proofs.Inversion.{both, if_ok, is_text, kept_says, line_joined, map_some, then_some, unless_ok, words_are, words_listed}
 use Rattle.trace_text.proofs.Shapes.{moving_shape, stable_shape}
 use Rattle.trace_text.proofs.Spelling.{number_spelled, signed_spelled}
 use Rattle.trace_text.proofs.Splitting.{some_piece}
@@ -170,15 +173,15 @@ record RowEnd (spec : Parts) (next : ℕ) (ws : List (List ℕ)) (at : ℕ) (mod
 row_ended : (spec : Parts) (next : ℕ) (ws : List (List ℕ)) (at : ℕ) (mode : KMode) (values : List ℕ) (row : Row) → row_end spec next ws at mode values ≡ Ok row →
     RowEnd spec next ws at mode values row
 row_ended spec next ws at mode values row h =
-    let f = unless_ok 5 (spelled_number 20000 (word_at ws 1)) _ row h in
-    let w = unless_ok 5 (world_at ws (at + 5)) _ row f.2 in
-    let n = if_ok (f.0 == next) _ 6 row w.2 in
-    let u = unless_ok 7 (up_in spec.procs (word_at ws (at + 3))) _ row n.1 in
+    let f = unless_ok WRONG_NUMBER (spelled_number MAX_FRAMES (word_at ws 1)) _ row h in
+    let w = unless_ok WRONG_NUMBER (world_at ws (at + 5)) _ row f.2 in
+    let n = if_ok (f.0 == next) _ NOT_NEXT row w.2 in
+    let u = unless_ok OUT_OF_ORDER (up_in spec.procs (word_at ws (at + 3))) _ row n.1 in
     record {
       frame = f.0;
       world = w.0;
       up = u.0;
-      spelled = (number_spelled 20000 f.0 (word_at ws 1) f.1).0;
+      spelled = (number_spelled MAX_FRAMES f.0 (word_at ws 1) f.1).0;
       numbers = world_words ws (at + 5) w.0 w.1;
       is_next = eqb-true f.0 next n.0;
       listed = up_read spec.procs (word_at ws (at + 3)) u.0 u.1;
@@ -227,8 +230,8 @@ stable_read spec next line ws row few joined_is w0 form h =
     let b = and_parts ((length ws == 13) && is_word ws 2 (codes "stable")) (is_env_form spec ws 4) form in
     let a = and_parts (length ws == 13) (is_word ws 2 (codes "stable")) b.0 in
     let env = env_form spec ws 4 b.1 in
-    let c = unless_ok 4 (conf_named spec (word_at ws 3)) _ row h in
-    let v = unless_ok 4 (env_names spec ws 4) _ row c.2 in
+    let c = unless_ok UNKNOWN_NAME (conf_named spec (word_at ws 3)) _ row h in
+    let v = unless_ok UNKNOWN_NAME (env_names spec ws 4) _ row c.2 in
     let told = row_ended spec next ws 4 (Stable c.0) v.0 row v.2 in
     let w1 : word_at ws 1 ≡ decimal told.frame = told.spelled in
     let w2 : word_at ws 2 ≡ codes "stable" = is_text ws 2 (codes "stable") a.1 in
@@ -256,18 +259,18 @@ moving_read spec next line ws row few joined_is w0 form h =
     let b = and_parts ((length ws == 16) && is_word ws 2 (codes "moving")) (is_env_form spec ws 7) form in
     let a = and_parts (length ws == 16) (is_word ws 2 (codes "moving")) b.0 in
     let env = env_form spec ws 7 b.1 in
-    let c = unless_ok 4 (conf_named spec (word_at ws 3)) _ row h in
-    let d = unless_ok 4 (conf_or_none spec (word_at ws 4)) _ row c.2 in
-    let e = unless_ok 4 (conf_named spec (word_at ws 5)) _ row d.2 in
-    let v = unless_ok 4 (env_names spec ws 7) _ row e.2 in
-    let s = unless_ok 5 (spelled_number 20000 (word_at ws 6)) _ row v.2 in
+    let c = unless_ok UNKNOWN_NAME (conf_named spec (word_at ws 3)) _ row h in
+    let d = unless_ok UNKNOWN_NAME (conf_or_none spec (word_at ws 4)) _ row c.2 in
+    let e = unless_ok UNKNOWN_NAME (conf_named spec (word_at ws 5)) _ row d.2 in
+    let v = unless_ok UNKNOWN_NAME (env_names spec ws 7) _ row e.2 in
+    let s = unless_ok WRONG_NUMBER (spelled_number MAX_FRAMES (word_at ws 6)) _ row v.2 in
     let told = row_ended spec next ws 7 (Moving c.0 d.0 e.0 s.0) v.0 row s.2 in
     let w1 : word_at ws 1 ≡ decimal told.frame = told.spelled in
     let w2 : word_at ws 2 ≡ codes "moving" = is_text ws 2 (codes "moving") a.1 in
     let w3 : word_at ws 3 ≡ conf_name spec c.0.0 = conf_found spec (word_at ws 3) c.0 c.1 in
     let w4 : word_at ws 4 ≡ conf_or_dash spec d.0 = conf_or_dash_found spec (word_at ws 4) d.0 d.1 in
     let w5 : word_at ws 5 ≡ conf_name spec e.0.0 = conf_found spec (word_at ws 5) e.0 e.1 in
-    let w6 : word_at ws 6 ≡ decimal s.0 = (number_spelled 20000 s.0 (word_at ws 6) s.1).0 in
+    let w6 : word_at ws 6 ≡ decimal s.0 = (number_spelled MAX_FRAMES s.0 (word_at ws 6) s.1).0 in
     let w7 : word_at ws 7 ≡ codes "env" = env.env in
     let w8 : word_at ws 8 ≡ values_text spec v.0 = env_values spec ws 7 v.0 few env v.1 in
     let w9 : word_at ws 9 ≡ codes "up" = env.up_is in
@@ -288,7 +291,7 @@ moving_read spec next line ws row few joined_is w0 form h =
 
 forms_by : (s m : Bool) (spec : Parts) (next : ℕ) (line : List ℕ) (ws : List (List ℕ)) (row : Row) →
     (s ≡ true → stable_row spec next ws ≡ Ok row → RowRead spec next line row) → (m ≡ true → moving_row spec next ws ≡ Ok row → RowRead spec next line row) →
-    cond s (stable_row spec next ws) (cond m (moving_row spec next ws) (Err 3)) ≡ Ok row → RowRead spec next line row
+    cond s (stable_row spec next ws) (cond m (moving_row spec next ws) (Err NO_FORM)) ≡ Ok row → RowRead spec next line row
 forms_by true m spec next line ws row stable moving h = stable refl h
 forms_by false true spec next line ws row stable moving h = moving refl h
 forms_by false false spec next line ws row stable moving h = absurd (let e = h in cc)
@@ -297,7 +300,7 @@ forms_by false false spec next line ws row stable moving h = absurd (let e = h i
 pub row_only : (spec : Parts) (next : ℕ) (line : List ℕ) (row : Row) → length spec.factors ≤ 6 → begins line (codes "frame") ≡ true → row_read spec next line ≡ Ok row →
     RowRead spec next line row
 row_only spec next line row few first h =
-    let w = unless_ok 3 (words_in line) (row_of_words spec next) row h in
+    let w = unless_ok NO_FORM (words_in line) (row_of_words spec next) row h in
     let same = words_are line w.0 w.1 in
     let w0 : word_at w.0 0 ≡ codes "frame" = rw (← same) (is_text (words_of line) 0 (codes "frame") first) in
     let text = line_joined line w.0 w.1 in

@@ -12,6 +12,7 @@ use Rattle.std.specs.declared.num.ParseIntError.{ParseIntError}
 use lib.Signed.{mag}
 use lib.IntN.{neg_ℤ}
 use Rattle.trace_text.specs.Spelling.{signed_of, spelled_signed, spelled_below, spelled_number}
+use Rattle.trace_text.proofs.Inversion.{some_says}
 
 none_unless : {A : Type 0} (b : Bool) (x : A) → (b ≡ true → ⊥) → cond b (Some x) None ≡ None
 none_unless true x h = absurd (h refl)
@@ -20,10 +21,6 @@ none_unless false x h = refl
 some_where : {A : Type 0} (b : Bool) (x : A) → b ≡ true → cond b (Some x) None ≡ Some x
 some_where true x h = refl
 some_where false x h = absurd (let e = h in cc)
-
-some_says : {A : Type 0} (b : Bool) (x y : A) → cond b (Some x) None ≡ Some y → (b ≡ true) × (x ≡ y)
-some_says true x y h = (refl, cc)
-some_says false x y h = absurd (let e = h in cc)
 
 spelled_here : (limit n : ℕ) (text : List ℕ) → n < limit → text ≡ decimal n → spelled_below limit n text ≡ Some n
 spelled_here limit n text small e =

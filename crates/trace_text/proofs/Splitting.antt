@@ -6,10 +6,7 @@ use Rattle.std.proofs.lemmas.Bool.{ltb-true, lt-ltb, le-leb}
 use Rattle.std.proofs.lemmas.List.Splits.{slice_split_first}
 use Rattle.std.proofs.lemmas.List.Splits.{length-slice_split}
 use Rattle.trace_text.specs.Pieces.{pieces_of, pieces_behind, sides, sides_of, words_of, words_in, is_filled}
-
-some_says : {A : Type 0} (b : Bool) (x y : A) → cond b (Some x) None ≡ Some y → (b ≡ true) × (x ≡ y)
-some_says true x y h = (refl, cc)
-some_says false x y h = absurd (let e = h in cc)
+use Rattle.trace_text.proofs.Inversion.{some_says}
 
 pub place_below : (separator at : ℕ) (bytes : List ℕ) → position (λ (b : ℕ). b == separator) bytes ≡ Some at → at < length bytes
 place_below separator at bytes h =

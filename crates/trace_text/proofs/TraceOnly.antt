@@ -5,6 +5,7 @@ use Rattle.std.specs.List.{join_with_byte}
 use Rattle.std.proofs.lemmas.Bool.{ltb-false, lt-ltb}
 use Rattle.std.proofs.lemmas.List.{get_or-set_same, get_or-set_other, length-take, take_all}
 use Rattle.std.proofs.lemmas.List.Splits.{join_with_byte-slice_split}
+use Rattle.scram_types.specs.declared.limits.TheConstants.{MAX_TRACE_BYTES}
 use Rattle.scram_types.specs.Specification.{Parts}
 use Rattle.scram_types.specs.declared.flights.Flown.{Flown}
 use Rattle.scram_types.specs.declared.flights.Report.{Report}
@@ -23,6 +24,7 @@ use Rattle.trace_text.specs.ReportReading.{end_read, report_read}
 use Rattle.trace_text.specs.RowReading.{row_read}
 use Rattle.trace_text.specs.Text.{app_line, app_line_in, app_lines, end_line, report_line, reports_text, row_line, row_text, rows_text, text_of}
 use Rattle.trace_text.specs.TraceReading.{SoFar, AnswersTrace, after_app, after_line, at_end, at_last, before_first, begins, closing, fault_at, go_on, is_plain, standing_line, trace_from, trace_of, with_app, with_done, with_end, with_report, with_row}
+use Rattle.trace_text.specs.declared.rule.TheConstants.{BROKEN_LINE, OUT_OF_PLACE, WRONG_END}
 use Rattle.trace_text.proofs.AppOnly.{app_only}
 use Rattle.trace_text.proofs.Inversion.{if_ok}
 use Rattle.trace_text.proofs.ReportOnly.{end_only, report_only}
@@ -171,7 +173,7 @@ end_step spec s t line stood first (Ok done) is h =
 
 closing_by : (r e : Bool) (spec : Parts) (s t : SoFar) (line : List ℕ) → (r ≡ true → begins line (codes "reconfiguration") ≡ true) → (e ≡ true → begins line (codes "end") ≡ true) →
     so_far spec s s.standing ≡ rows_text spec s.rows ++ reports_text spec s.reports →
-    cond r (with_report s (report_read spec (length s.rows) line)) (cond e (with_end s (end_read (length s.rows) (length s.reports) line)) (Err 2)) ≡ Ok t → Taken spec s t line
+    cond r (with_report s (report_read spec (length s.rows) line)) (cond e (with_end s (end_read (length s.rows) (length s.reports) line)) (Err OUT_OF_PLACE)) ≡ Ok t → Taken spec s t line
 closing_by true e spec s t line first second stood h = report_step spec s t line stood (first refl) (report_read spec (length s.rows) line) refl h
 closing_by false true spec s t line first second stood h = end_step spec s t line stood (second refl) (end_read (length s.rows) (length s.reports) line) refl h
 closing_by false false spec s t line first second stood h = absurd (let e = h in cc)
@@ -186,7 +188,7 @@ rows_by false spec s t line first few stands none h =
     closing_step spec s t line (ap (so_far spec s) stands ∙ sym (append-nil (rows_text spec s.rows)) ∙ ap (λ (reports : List Report). rows_text spec s.rows ++ reports_text spec reports) (sym none)) h
 
 apps_by : (f : Bool) (spec : Parts) (s t : SoFar) (line : List ℕ) (a : ℕ) (row : Row) → (f ≡ true → begins line (codes "app") ≡ true) → length spec.apps ≤ 8 → s.standing ≡ Apps a row → RowOpen s row →
-    cond f (with_done spec s a row (app_read spec a line)) (Err 2) ≡ Ok t → Taken spec s t line
+    cond f (with_done spec s a row (app_read spec a line)) (Err OUT_OF_PLACE) ≡ Ok t → Taken spec s t line
 apps_by true spec s t line a row first few stands begun h = app_step spec s t line a row few stands begun (first refl) (app_read spec a line) refl h
 apps_by false spec s t line a row first few stands begun h = absurd (let e = h in cc)
 
@@ -199,7 +201,7 @@ standing_step spec s t Over line few small stands sound h = absurd (let e = h in
 
 -- each line that is taken has one spelling
 line_step : (spec : Parts) (s t : SoFar) (line : List ℕ) → length spec.factors ≤ 6 → length spec.apps ≤ 8 → Sound s s.standing → after_line spec s line ≡ Ok t → Taken spec s t line
-line_step spec s t line few small sound h = standing_step spec s t s.standing line few small refl sound (if_ok (is_plain line) (standing_line spec s s.standing line) 1 t h).1
+line_step spec s t line few small sound h = standing_step spec s t s.standing line few small refl sound (if_ok (is_plain line) (standing_line spec s s.standing line) BROKEN_LINE t h).1
 
 ended : (spec : Parts) (k : ℕ) (s : SoFar) (standing : Standing) (f : Flown) → at_end k s standing ≡ Ok f → so_far spec s standing ≡ text_of spec f.rows f.reports
 ended spec k s Over f h = let e : record { rows = s.rows; reports = s.reports } ≡ f = cc in ap (λ (g : Flown). text_of spec g.rows g.reports) e
@@ -209,7 +211,7 @@ ended spec k s Reports f h = absurd (let e = h in cc)
 
 last_empty : (spec : Parts) (k : ℕ) (s : SoFar) (last : List ℕ) (f : Flown) → at_last k s last ≡ Ok f → so_far spec s s.standing ++ last ≡ text_of spec f.rows f.reports
 last_empty spec k s [] f h = append-nil (so_far spec s s.standing) ∙ ended spec k s s.standing f h
-last_empty spec k s (b ∷ last) f h = absurd (let t : nat_lt 0 (length (b ∷ last)) ≡ true = lt-ltb 0 (length (b ∷ last)) (omega arith) in let e : cond true (Err (fault_at k 1)) (at_end k s s.standing) ≡ Ok f = rw t at h in cc)
+last_empty spec k s (b ∷ last) f h = absurd (let t : nat_lt 0 (length (b ∷ last)) ≡ true = lt-ltb 0 (length (b ∷ last)) (omega arith) in let e : cond true (Err (fault_at k BROKEN_LINE)) (at_end k s s.standing) ≡ Ok f = rw t at h in cc)
 
 go_by : (spec : Parts) (k : ℕ) (s : SoFar) (line next : List ℕ) (lines : List (List ℕ)) (f : Flown) → length spec.factors ≤ 6 → length spec.apps ≤ 8 → Sound s s.standing →
     ((t : SoFar) → Sound t t.standing → trace_from spec (k + 1) t (next ∷ lines) ≡ Ok f → so_far spec t t.standing ++ join_with_byte 10 (next ∷ lines) ≡ text_of spec f.rows f.reports) →
@@ -237,7 +239,7 @@ not_long false fault read f h = h
 -- no second spelling of a trace
 pub trace_only : (spec : Parts) (bytes : List ℕ) (f : Flown) → length spec.factors ≤ 6 → length spec.apps ≤ 8 → trace_of spec bytes ≡ Ok f → bytes ≡ text_of spec f.rows f.reports
 trace_only spec bytes f few small h =
-    let read = not_long (nat_lt 33554432 (length bytes)) (fault_at 0 9) (trace_from spec 1 before_first (pieces_of 10 bytes)) f h in
+    let read = not_long (nat_lt MAX_TRACE_BYTES (length bytes)) (fault_at 0 WRONG_END) (trace_from spec 1 before_first (pieces_of 10 bytes)) f h in
     sym (join_with_byte-slice_split 10 bytes) ∙ lines_only spec 1 before_first (pieces_of 10 bytes) f few small refl (some_piece 10 bytes) read
 
 pub answered_text : (spec : Parts) (bytes : List ℕ) (answer : Result Flown TraceError) → length spec.factors ≤ 6 → length spec.apps ≤ 8 → AnswersTrace (trace_of spec bytes) answer →

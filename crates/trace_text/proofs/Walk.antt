@@ -1,6 +1,7 @@
 -- One line more of a trace.
 use Rattle.std.proofs.Common.{ℕ, ◌≡◌, ◌<◌, ◌≤◌, ◌+◌, ◌∙◌, List, [], ◌∷◌, Result, Ok, Err, length, arith, refl, sym, ap}
 use Rattle.std.proofs.lemmas.Bool.{le-ltb}
+use Rattle.scram_types.specs.declared.limits.TheConstants.{MAX_TRACE_BYTES}
 use Rattle.scram_types.specs.Specification.{Parts}
 use Rattle.scram_types.specs.declared.flights.Flown.{Flown}
 use Rattle.trace_text.specs.declared.progress.Stop.{Stop}
@@ -16,8 +17,8 @@ pub line_then : (spec : Parts) (k : ℕ) (s : SoFar) (line : List ℕ) (lines : 
 line_then spec k s line [] h = absurd (omega arith)
 line_then spec k s line (next ∷ lines) h = refl
 
-pub of_length : (spec : Parts) (bytes : List ℕ) → length bytes ≤ 33554432 → trace_of spec bytes ≡ trace_from spec 1 before_first (pieces_of 10 bytes)
-of_length spec bytes h = rw (le-ltb 33554432 (length bytes) h) refl
+pub of_length : (spec : Parts) (bytes : List ℕ) → length bytes ≤ MAX_TRACE_BYTES → trace_of spec bytes ≡ trace_from spec 1 before_first (pieces_of 10 bytes)
+of_length spec bytes h = rw (le-ltb MAX_TRACE_BYTES (length bytes) h) refl
 
 -- the reading goes on behind a line that is taken
 pub taken : (spec : Parts) (k : ℕ) (s t : SoFar) (text rest behind : List ℕ) (read : Result Flown TraceFault) →

@@ -1,5 +1,6 @@
 -- What the line of an application says.
 use Rattle.std.specs.Prelude.{ℕ, ℤ, ◌==◌, ◌&&◌, Bool, List, codes, length, nat_le, nat_lt, Option, Some, None, Result, Ok, Err, bytes_eq, if◌then◌else◌}
+use Rattle.scram_types.specs.declared.limits.TheConstants.{MAX_PHASE}
 use Rattle.scram_types.specs.Specification.{Parts}
 use Rattle.scram_types.specs.declared.ids.Mode.{Mode}
 use Rattle.scram_types.specs.declared.ids.ProcId.{ProcId}
@@ -13,22 +14,28 @@ use Rattle.scram_types.specs.Lookups.{proc_named}
 use Rattle.trace_text.specs.Pieces.{words_in, is_word, sides_of, word_at}
 use Rattle.trace_text.specs.Rules.{unless}
 use Rattle.trace_text.specs.Spelling.{signed_from, spelled_number}
+use Rattle.trace_text.specs.declared.rule.TheConstants.{NOT_NEXT, NO_FORM, OUT_OF_ORDER, UNKNOWN_NAME, WRONG_NUMBER}
 
+-- what an application did, with its area
 abbrev pub done : Act → List ℤ → Done
 done act area = record { act = act; area = area }
 
+-- the words of an act on a processor: the eight words of the area follow the sixth word, which is `:`
 abbrev pub is_placed_form : List (List ℕ) → Bool
 is_placed_form words = (length words == 14) && is_word words 5 (codes ":")
 
+-- the words of an act without a processor: the area follows the fourth word, which is `:`
 abbrev pub is_bare_form : List (List ℕ) → Bool
 is_bare_form words = (length words == 12) && is_word words 3 (codes ":")
 
+-- the phase that a word tells
 abbrev pub phase_named : List ℕ → Option Phase
 phase_named tag =
     if bytes_eq tag (codes "halting") then Some Halting
     else (if bytes_eq tag (codes "preparing") then Some Preparing
     else (if bytes_eq tag (codes "initialising") then Some Initialising else None))
 
+-- the act of frame k of the n frames of a phase
 abbrev pub phase_act : Phase → ℕ → ℕ → ProcId → Act
 phase_act Halting k n proc = act.Halting k n proc
 phase_act Preparing k n proc = act.Preparing k n proc
@@ -41,43 +48,48 @@ bare_act tag =
     else (if bytes_eq tag (codes "off") then Some act.Off
     else (if bytes_eq tag (codes "lost") then Some act.Lost else None))
 
+-- what the line of an application that ran says: its names, its area, and that it is the next
 abbrev pub ran_line : Parts → ℕ → List (List ℕ) → Result Done ℕ
 ran_line spec next words =
-    unless 4 (app_number spec (word_at words 1)) (λ (app : ℕ).
-    unless 4 (listed_mode spec app (word_at words 3)) (λ (mode : Mode).
-    unless 4 (proc_named spec (word_at words 4)) (λ (proc : ProcId).
-    unless 5 (signed_from 8 6 words) (λ (area : List ℤ).
-    if app == next then Ok (done (act.Ran mode proc) area) else Err 6))))
+    unless UNKNOWN_NAME (app_number spec (word_at words 1)) (λ (app : ℕ).
+    unless UNKNOWN_NAME (listed_mode spec app (word_at words 3)) (λ (mode : Mode).
+    unless UNKNOWN_NAME (proc_named spec (word_at words 4)) (λ (proc : ProcId).
+    unless WRONG_NUMBER (signed_from 8 6 words) (λ (area : List ℤ).
+    if app == next then Ok (done (act.Ran mode proc) area) else Err NOT_NEXT))))
 
+-- what the line of an application in a phase says, whose frames are told by the two sides of a slash
 abbrev pub phase_line : Parts → ℕ → List (List ℕ) → Phase → List ℕ × List ℕ → Result Done ℕ
 phase_line spec next words phase fraction =
-    unless 4 (app_number spec (word_at words 1)) (λ (app : ℕ).
-    unless 4 (proc_named spec (word_at words 4)) (λ (proc : ProcId).
-    unless 5 (spelled_number 256 fraction.0) (λ (k : ℕ).
-    unless 5 (spelled_number 256 fraction.1) (λ (n : ℕ).
-    unless 5 (signed_from 8 6 words) (λ (area : List ℤ).
+    unless UNKNOWN_NAME (app_number spec (word_at words 1)) (λ (app : ℕ).
+    unless UNKNOWN_NAME (proc_named spec (word_at words 4)) (λ (proc : ProcId).
+    unless WRONG_NUMBER (spelled_number 256 fraction.0) (λ (k : ℕ).
+    unless WRONG_NUMBER (spelled_number 256 fraction.1) (λ (n : ℕ).
+    unless WRONG_NUMBER (signed_from 8 6 words) (λ (area : List ℤ).
     if app == next then
-    (if nat_lt k n && nat_le n 16 then Ok (done (phase_act phase k n proc) area) else Err 7)
-    else Err 6)))))
+    (if nat_lt k n && nat_le n MAX_PHASE then Ok (done (phase_act phase k n proc) area) else Err OUT_OF_ORDER)
+    else Err NOT_NEXT)))))
 
+-- what the line of an application without a processor says
 abbrev pub bare_line : Parts → ℕ → List (List ℕ) → Act → Result Done ℕ
 bare_line spec next words told =
-    unless 4 (app_number spec (word_at words 1)) (λ (app : ℕ).
-    unless 5 (signed_from 8 4 words) (λ (area : List ℤ).
-    if app == next then Ok (done told area) else Err 6))
+    unless UNKNOWN_NAME (app_number spec (word_at words 1)) (λ (app : ℕ).
+    unless WRONG_NUMBER (signed_from 8 4 words) (λ (area : List ℤ).
+    if app == next then Ok (done told area) else Err NOT_NEXT))
 
+-- what the line of an act on a processor says: `ran`, or the phase that it names
 abbrev pub placed_line : Parts → ℕ → List (List ℕ) → Result Done ℕ
 placed_line spec next words =
     if is_word words 2 (codes "ran") then ran_line spec next words
     else
-    unless 3 (phase_named (word_at words 2)) (λ (phase : Phase).
-    unless 3 (sides_of (word_at words 3)) (phase_line spec next words phase))
+    unless NO_FORM (phase_named (word_at words 2)) (λ (phase : Phase).
+    unless NO_FORM (sides_of (word_at words 3)) (phase_line spec next words phase))
 
+-- what the words of an application's line say
 abbrev pub app_in : Parts → ℕ → List (List ℕ) → Result Done ℕ
 app_in spec next words =
     if is_placed_form words then placed_line spec next words
-    else (if is_bare_form words then unless 3 (bare_act (word_at words 2)) (bare_line spec next words) else Err 3)
+    else (if is_bare_form words then unless NO_FORM (bare_act (word_at words 2)) (bare_line spec next words) else Err NO_FORM)
 
 -- what a line says that is to be the one of application `next`
 abbrev pub app_read : Parts → ℕ → List ℕ → Result Done ℕ
-app_read spec next line = unless 3 (words_in line) (app_in spec next)
+app_read spec next line = unless NO_FORM (words_in line) (app_in spec next)

@@ -15,6 +15,7 @@ pieces_behind separator (Some behind) = pieces_of separator behind
 abbrev pub words_of : List ℕ → List (List ℕ)
 words_of line = pieces_of 32 line
 
+-- whether there is a byte at all
 abbrev pub is_filled : List ℕ → Bool
 is_filled word_at = nat_lt 0 (length word_at)
 
@@ -26,6 +27,7 @@ words_in line = if nat_le (length (words_of line)) 16 && list_all is_filled (wor
 abbrev pub word_at : List (List ℕ) → ℕ → List ℕ
 word_at words k = slice_index_or words k []
 
+-- whether this word stands at a place
 abbrev pub is_word : List (List ℕ) → ℕ → List ℕ → Bool
 is_word words k text = bytes_eq (word_at words k) text
 
@@ -36,6 +38,7 @@ sides (left ∷ right ∷ other ∷ more) = None
 sides (left ∷ []) = None
 sides [] = None
 
+-- the two sides of a word that has just one slash
 abbrev pub sides_of : List ℕ → Option (List ℕ × List ℕ)
 sides_of word_at = sides (pieces_of 47 word_at)
 

@@ -1,5 +1,6 @@
 -- What the line of a reconfiguration says, and the end line.
 use Rattle.std.specs.Prelude.{ℕ, ◌==◌, ◌-◌, ◌^◌, ◌&&◌, Bool, true, false, ⊤, List, codes, length, nat_le, option_map, Option, Some, None, Result, Ok, Err, bytes_eq, if◌then◌else◌}
+use Rattle.scram_types.specs.declared.limits.TheConstants.{MAX_FRAMES}
 use Rattle.scram_types.specs.Specification.{Parts, bound_in, greatest_bound_in}
 use Rattle.scram_types.specs.declared.ids.ConfId.{ConfId}
 use Rattle.scram_types.specs.declared.flights.Report.{Report}
@@ -7,7 +8,9 @@ use Rattle.scram_types.specs.Lookups.{conf_named}
 use Rattle.trace_text.specs.Pieces.{words_in, is_word, word_at}
 use Rattle.trace_text.specs.Rules.{unless}
 use Rattle.trace_text.specs.Spelling.{spelled_number}
+use Rattle.trace_text.specs.declared.rule.TheConstants.{NO_FORM, UNKNOWN_NAME, WRONG_COUNT, WRONG_NUMBER}
 
+-- the twelve words of a reconfiguration
 abbrev pub is_report_form : List (List ℕ) → Bool
 is_report_form words =
     (length words == 12) && is_word words 2 (codes ">") && is_word words 4 (codes "begin") && is_word words 6 (codes "end")
@@ -17,6 +20,7 @@ is_report_form words =
 abbrev pub bound_or_none : List ℕ → Option (Option ℕ)
 bound_or_none text = if bytes_eq text (codes "-") then Some None else option_map (λ (b : ℕ). Some b) (spelled_number (2 ^ 32) text)
 
+-- whether two bounds are the same, or both are missing
 abbrev pub same_bound : Option ℕ → Option ℕ → Bool
 same_bound None None = true
 same_bound None (Some b) = false
@@ -26,49 +30,53 @@ same_bound (Some a) (Some b) = a == b
 -- rules 5 and 8, but for the spelling of the end
 abbrev pub report_end : List (List ℕ) → ConfId → Option ConfId → ℕ → Option ℕ → Result Report ℕ
 report_end words from to end given =
-    unless 5 (spelled_number 20000 (word_at words 5)) (λ (begin : ℕ).
-    unless 5 (spelled_number (2 ^ 32) (word_at words 9)) (λ (took : ℕ).
-    unless 5 (bound_or_none (word_at words 11)) (λ (bound : Option ℕ).
+    unless WRONG_NUMBER (spelled_number MAX_FRAMES (word_at words 5)) (λ (begin : ℕ).
+    unless WRONG_NUMBER (spelled_number (2 ^ 32) (word_at words 9)) (λ (took : ℕ).
+    unless WRONG_NUMBER (bound_or_none (word_at words 11)) (λ (bound : Option ℕ).
     if nat_le begin end && (took == end - begin) && same_bound bound given then
     Ok (record { from = from; to = to; begin = begin; end = end })
-    else Err 8)))
+    else Err WRONG_COUNT)))
 
+-- a reconfiguration that has ended shows its target, its end and the bound of the pair
 abbrev pub finished_report : Parts → List (List ℕ) → Result Report ℕ
 finished_report spec words =
-    unless 4 (conf_named spec (word_at words 1)) (λ (from : ConfId).
-    unless 4 (conf_named spec (word_at words 3)) (λ (to : ConfId).
-    unless 5 (spelled_number 20000 (word_at words 7)) (λ (end : ℕ).
+    unless UNKNOWN_NAME (conf_named spec (word_at words 1)) (λ (from : ConfId).
+    unless UNKNOWN_NAME (conf_named spec (word_at words 3)) (λ (to : ConfId).
+    unless WRONG_NUMBER (spelled_number MAX_FRAMES (word_at words 7)) (λ (end : ℕ).
     report_end words from (Some to) end (bound_in spec.bounds from.0 to.0))))
 
 -- one that the end of the flight cut off ends with the frames
 abbrev pub unfinished_report : Parts → ℕ → List (List ℕ) → Result Report ℕ
 unfinished_report spec frames words =
-    unless 4 (conf_named spec (word_at words 1)) (λ (from : ConfId).
+    unless UNKNOWN_NAME (conf_named spec (word_at words 1)) (λ (from : ConfId).
     report_end words from None frames (greatest_bound_in spec.bounds from.0))
 
+-- what the words of a reconfiguration say: either both its target and its end are `-`, or neither is
 abbrev pub report_in : Parts → ℕ → List (List ℕ) → Result Report ℕ
 report_in spec frames words =
     if is_report_form words then
     (if is_word words 3 (codes "-") then
-    (if is_word words 7 (codes "-") then unfinished_report spec frames words else Err 3)
-    else (if is_word words 7 (codes "-") then Err 3 else finished_report spec words))
-    else Err 3
+    (if is_word words 7 (codes "-") then unfinished_report spec frames words else Err NO_FORM)
+    else (if is_word words 7 (codes "-") then Err NO_FORM else finished_report spec words))
+    else Err NO_FORM
 
 -- the reconfiguration that a line tells of a flight of so many frames
 abbrev pub report_read : Parts → ℕ → List ℕ → Result Report ℕ
-report_read spec frames line = unless 3 (words_in line) (report_in spec frames)
+report_read spec frames line = unless NO_FORM (words_in line) (report_in spec frames)
 
+-- the five words of the end line
 abbrev pub is_end_form : List (List ℕ) → Bool
 is_end_form words = (length words == 5) && is_word words 1 (codes "frames") && is_word words 3 (codes "reconfigurations")
 
+-- whether words are those of the end line, with these counts
 abbrev pub end_in : ℕ → ℕ → List (List ℕ) → Result ⊤ ℕ
 end_in frames reports words =
     if is_end_form words then
-    unless 5 (spelled_number (2 ^ 32) (word_at words 2)) (λ (f : ℕ).
-    unless 5 (spelled_number (2 ^ 32) (word_at words 4)) (λ (r : ℕ).
-    if (f == frames) && (r == reports) then Ok tt else Err 8))
-    else Err 3
+    unless WRONG_NUMBER (spelled_number (2 ^ 32) (word_at words 2)) (λ (f : ℕ).
+    unless WRONG_NUMBER (spelled_number (2 ^ 32) (word_at words 4)) (λ (r : ℕ).
+    if (f == frames) && (r == reports) then Ok tt else Err WRONG_COUNT))
+    else Err NO_FORM
 
 -- whether a line ends a trace of so many rows and reports
 abbrev pub end_read : ℕ → ℕ → List ℕ → Result ⊤ ℕ
-end_read frames reports line = unless 3 (words_in line) (end_in frames reports)
+end_read frames reports line = unless NO_FORM (words_in line) (end_in frames reports)

@@ -2,6 +2,7 @@
 use Rattle.std.specs.Prelude.{ℕ, ℤ, pos, ◌==◌, ◌+◌, ◌*◌, ◌&&◌, Bool, true, false, List, [], ◌∷◌, replicate, length, codes, slice_set, option_and_then, option_map, Option, Some, None, Result, Ok, Err, bytes_eq, if◌then◌else◌}
 use Rattle.std.specs.List.{list_all}
 use Rattle.std.specs.Option.{option_map_or}
+use Rattle.scram_types.specs.declared.limits.TheConstants.{MAX_FRAMES}
 use Rattle.scram_types.specs.Specification.{Parts}
 use Rattle.scram_types.specs.declared.ids.ConfId.{ConfId}
 use Rattle.scram_types.specs.declared.ids.ProcId.{ProcId}
@@ -18,6 +19,7 @@ use Rattle.scram_types.specs.Lookups.{value_named, proc_named, conf_named}
 use Rattle.trace_text.specs.Pieces.{pieces_of, items_of, words_in, is_word, word_at}
 use Rattle.trace_text.specs.Rules.{unless}
 use Rattle.trace_text.specs.Spelling.{signed_of, spelled_number}
+use Rattle.trace_text.specs.declared.rule.TheConstants.{NOT_NEXT, NO_FORM, OUT_OF_ORDER, UNKNOWN_NAME, WRONG_NUMBER}
 
 -- as many values as there are factors; `-` without factors
 abbrev pub are_values : List Factor → List ℕ → Bool
@@ -29,9 +31,11 @@ abbrev pub is_env_form : Parts → List (List ℕ) → ℕ → Bool
 is_env_form spec words at =
     is_word words at (codes "env") && are_values spec.factors (word_at words (at + 1)) && is_word words (at + 2) (codes "up") && is_word words (at + 4) (codes "world")
 
+-- the words of a row whose mode is stable
 abbrev pub is_stable_form : Parts → List (List ℕ) → Bool
 is_stable_form spec words = (length words == 13) && is_word words 2 (codes "stable") && is_env_form spec words 4
 
+-- the words of a row whose mode moves
 abbrev pub is_moving_form : Parts → List (List ℕ) → Bool
 is_moving_form spec words = (length words == 16) && is_word words 2 (codes "moving") && is_env_form spec words 7
 
@@ -42,9 +46,11 @@ values_from (factor ∷ factors) [] i values = None
 values_from (factor ∷ factors) (name ∷ names) i values =
     option_and_then (λ (v : ℕ). values_from factors names (i + 1) (slice_set values i v)) (value_named factor name)
 
+-- the numbers of the values that a list names, one of each factor, and zeros past the last factor
 abbrev pub values_in : List Factor → List ℕ → Option (List ℕ)
 values_in factors list = values_from factors (pieces_of 44 list) 0 (replicate 6 0)
 
+-- whether a processor has this name
 abbrev pub is_proc_name : Parts → List ℕ → Bool
 is_proc_name spec name = option_map_or (λ (p : ProcId). true) (proc_named spec name) false
 
@@ -63,6 +69,7 @@ abbrev pub left_behind : Proc → List (List ℕ) → List (List ℕ)
 left_behind proc [] = []
 left_behind proc (name ∷ names) = if bytes_eq proc.name name then names else name ∷ names
 
+-- `up` with a processor's bit, where it is named
 abbrev pub with_bit : Bool → ℕ → ℕ → ℕ
 with_bit named bit up = if named then up + bit else up
 
@@ -74,15 +81,18 @@ up_from [] (name ∷ names) bit up = None
 up_from (proc ∷ procs) names bit up =
     up_from procs (left_behind proc names) (bit * 2) (with_bit (is_next proc names) bit up)
 
+-- the bits of the processors that a list names in their order
 abbrev pub up_in : List Proc → List ℕ → Option ℕ
 up_in procs list = up_from procs (items_of list) 1 0
 
+-- the world that four words from a place on tell
 abbrev pub world_at : List (List ℕ) → ℕ → Option World
 world_at words at =
     option_and_then (λ (alt : ℤ). option_and_then (λ (climb : ℤ). option_and_then (λ (heading : ℤ). option_map (λ (bank : ℤ).
     record { alt = alt; climb = climb; heading = heading; bank = bank })
     (signed_of (word_at words (at + 3)))) (signed_of (word_at words (at + 2)))) (signed_of (word_at words (at + 1)))) (signed_of (word_at words at))
 
+-- an environment of these parts
 abbrev pub env_read : ℕ → List ℕ → Env
 env_read up values = record { up = up; factors = values }
 
@@ -94,32 +104,35 @@ row_begun frame mode env world =
 -- rules 5 to 7, but for `since`
 abbrev pub row_end : Parts → ℕ → List (List ℕ) → ℕ → KMode → List ℕ → Result Row ℕ
 row_end spec next words at mode values =
-    unless 5 (spelled_number 20000 (word_at words 1)) (λ (frame : ℕ).
-    unless 5 (world_at words (at + 5)) (λ (world : World).
+    unless WRONG_NUMBER (spelled_number MAX_FRAMES (word_at words 1)) (λ (frame : ℕ).
+    unless WRONG_NUMBER (world_at words (at + 5)) (λ (world : World).
     if frame == next then
-    unless 7 (up_in spec.procs (word_at words (at + 3))) (λ (up : ℕ). Ok (row_begun frame mode (env_read up values) world))
-    else Err 6))
+    unless OUT_OF_ORDER (up_in spec.procs (word_at words (at + 3))) (λ (up : ℕ). Ok (row_begun frame mode (env_read up values) world))
+    else Err NOT_NEXT))
 
+-- the row that a line with a stable mode begins
 abbrev pub stable_row : Parts → ℕ → List (List ℕ) → Result Row ℕ
 stable_row spec next words =
-    unless 4 (conf_named spec (word_at words 3)) (λ (conf : ConfId).
-    unless 4 (env_names spec words 4) (λ (values : List ℕ).
+    unless UNKNOWN_NAME (conf_named spec (word_at words 3)) (λ (conf : ConfId).
+    unless UNKNOWN_NAME (env_names spec words 4) (λ (values : List ℕ).
     row_end spec next words 4 (Stable conf) values))
 
+-- the row that a line with a moving mode begins
 abbrev pub moving_row : Parts → ℕ → List (List ℕ) → Result Row ℕ
 moving_row spec next words =
-    unless 4 (conf_named spec (word_at words 3)) (λ (from : ConfId).
-    unless 4 (conf_or_none spec (word_at words 4)) (λ (halting : Option ConfId).
-    unless 4 (conf_named spec (word_at words 5)) (λ (to : ConfId).
-    unless 4 (env_names spec words 7) (λ (values : List ℕ).
-    unless 5 (spelled_number 20000 (word_at words 6)) (λ (since : ℕ).
+    unless UNKNOWN_NAME (conf_named spec (word_at words 3)) (λ (from : ConfId).
+    unless UNKNOWN_NAME (conf_or_none spec (word_at words 4)) (λ (halting : Option ConfId).
+    unless UNKNOWN_NAME (conf_named spec (word_at words 5)) (λ (to : ConfId).
+    unless UNKNOWN_NAME (env_names spec words 7) (λ (values : List ℕ).
+    unless WRONG_NUMBER (spelled_number MAX_FRAMES (word_at words 6)) (λ (since : ℕ).
     row_end spec next words 7 (Moving from halting to since) values)))))
 
+-- the row that words begin, in one of the two forms
 abbrev pub row_of_words : Parts → ℕ → List (List ℕ) → Result Row ℕ
 row_of_words spec next words =
     if is_stable_form spec words then stable_row spec next words
-    else (if is_moving_form spec words then moving_row spec next words else Err 3)
+    else (if is_moving_form spec words then moving_row spec next words else Err NO_FORM)
 
 -- the row that a line begins, where its frame is to be `next`
 abbrev pub row_read : Parts → ℕ → List ℕ → Result Row ℕ
-row_read spec next line = unless 3 (words_in line) (row_of_words spec next)
+row_read spec next line = unless NO_FORM (words_in line) (row_of_words spec next)

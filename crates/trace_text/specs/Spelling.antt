@@ -6,6 +6,7 @@ use Rattle.std.specs.Str.Parse.{digits_value, signed_digits_value}
 use lib.Signed.{mag}
 use Rattle.trace_text.specs.Pieces.{word_at}
 
+-- n, where it is below the limit and the text is what is printed of it
 abbrev pub spelled_below : ℕ → ℕ → List ℕ → Option ℕ
 spelled_below limit n text = if nat_lt n limit && bytes_eq (decimal n) text then Some n else None
 
@@ -13,6 +14,7 @@ spelled_below limit n text = if nat_lt n limit && bytes_eq (decimal n) text then
 unfoldable pub spelled_number : ℕ → List ℕ → Option ℕ
 spelled_number limit text = spelled_below limit (digits_value 10 text) text
 
+-- z, where it has 64 bits with its sign and the text is what is printed of it
 abbrev pub spelled_signed : ℤ → List ℕ → Option ℤ
 spelled_signed z text = if nat_lt (mag z) (2 ^ 63) && bytes_eq (signed_decimal z) text then Some z else None
 

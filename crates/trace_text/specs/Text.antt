@@ -15,23 +15,28 @@ use Rattle.app_model.specs.Names.{mode_text}
 use Rattle.trace_text.specs.Names.{conf_or_dash, joined, values_named, names_up}
 use Rattle.scram_types.specs.Lookups.{proc_name, conf_name}
 
+-- the mode of a row: the configuration that is stable, or where it moves from and to, what halts, and since when
 abbrev pub kernel_mode_text : Parts → KMode → List ℕ
 kernel_mode_text spec (Stable c) = codes "stable " ++ conf_name spec c.0
 kernel_mode_text spec (Moving from halting to since) =
     codes "moving " ++ conf_name spec from.0 ++ codes " " ++ conf_or_dash spec halting
     ++ codes " " ++ conf_name spec to.0 ++ codes " " ++ decimal since
 
+-- the names of the values that the factors have
 abbrev pub values_text : Parts → List ℕ → List ℕ
 values_text spec values = joined (values_named spec.factors 0 values)
 
+-- the names of the processors that are up
 abbrev pub up_text : Parts → ℕ → List ℕ
 up_text spec up = joined (names_up spec.procs up)
 
+-- altitude, climb, heading and bank
 abbrev pub world_text : World → List ℕ
 world_text world =
     signed_decimal world.alt ++ codes " " ++ signed_decimal world.climb ++ codes " "
     ++ signed_decimal world.heading ++ codes " " ++ signed_decimal world.bank
 
+-- the first line of a row: frame, mode, environment and world
 abbrev pub row_line : Parts → Row → List ℕ
 row_line spec row =
     codes "frame " ++ decimal row.frame ++ codes " " ++ kernel_mode_text spec row.mode
@@ -42,6 +47,7 @@ row_line spec row =
 abbrev pub phase_text : Parts → ℕ → ℕ → ℕ → List ℕ
 phase_text spec k n proc = decimal k ++ codes "/" ++ decimal n ++ codes " " ++ proc_name spec proc
 
+-- what an application of a kind did, with its mode and its processor where it has them
 abbrev pub act_text : Parts → ℕ → Act → List ℕ
 act_text spec kind (Ran mode proc) = codes "ran " ++ mode_text kind mode.0 ++ codes " " ++ proc_name spec proc.0
 act_text spec kind (Halting k n proc) = codes "halting " ++ phase_text spec k n proc.0
@@ -56,6 +62,7 @@ abbrev pub area_text : List ℤ → List ℕ
 area_text [] = []
 area_text (word ∷ words) = codes " " ++ signed_decimal word ++ area_text words
 
+-- the line of an application: what it did, and its area
 abbrev pub app_line : Parts → AppSpec → Act → List ℤ → List ℕ
 app_line spec app act area =
     codes "app " ++ app.name ++ codes " " ++ act_text spec app.kind.0 act ++ codes " :" ++ area_text area ++ codes "\n"
@@ -70,9 +77,11 @@ app_lines spec row [] a = []
 app_lines spec row (app ∷ apps) a =
     app_line_in spec row app a ++ app_lines spec row apps (a + 1)
 
+-- the lines of a row, its own and that of each application
 abbrev pub row_text : Parts → Row → List ℕ
 row_text spec row = row_line spec row ++ app_lines spec row spec.apps 0
 
+-- the lines of rows, one row behind the other
 abbrev pub rows_text : Parts → List Row → List ℕ
 rows_text spec [] = []
 rows_text spec (row ∷ rows) = row_text spec row ++ rows_text spec rows
@@ -95,14 +104,17 @@ target_text spec report (Some to) =
     codes " > " ++ conf_name spec to.0 ++ codes " begin " ++ decimal report.begin ++ codes " end " ++ decimal report.end
     ++ length_text report (bound_in spec.bounds report.from.0 to.0)
 
+-- the line of a reconfiguration
 abbrev pub report_line : Parts → Report → List ℕ
 report_line spec report =
     codes "reconfiguration " ++ conf_name spec report.from.0 ++ target_text spec report report.to ++ codes "\n"
 
+-- the lines of reconfigurations, in their order
 abbrev pub reports_text : Parts → List Report → List ℕ
 reports_text spec [] = []
 reports_text spec (report ∷ reports) = report_line spec report ++ reports_text spec reports
 
+-- the line that ends a trace of so many rows and reconfigurations
 abbrev pub end_line : ℕ → ℕ → List ℕ
 end_line frames reports = codes "end frames " ++ decimal frames ++ codes " reconfigurations " ++ decimal reports ++ codes "\n"
 

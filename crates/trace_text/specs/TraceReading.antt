@@ -1,6 +1,7 @@
 -- The trace that bytes are, or the first line that breaks a rule, with the least rule that it breaks.
-use Rattle.std.specs.Prelude.{ℕ, ℤ, ◌≡◌, ◌+◌, ◌&&◌, Bool, List, [], ◌∷◌, ◌++◌, length, codes, nat_le, nat_lt, slice_set, ⊤, Result, Ok, Err, bytes_eq, if◌then◌else◌}
+use Rattle.std.specs.Prelude.{ℕ, ℤ, ◌≡◌, ◌+◌, ◌-◌, ◌&&◌, Bool, List, [], ◌∷◌, ◌++◌, length, codes, nat_le, nat_lt, slice_set, ⊤, Result, Ok, Err, bytes_eq, if◌then◌else◌}
 use Rattle.std.specs.List.{list_all}
+use Rattle.scram_types.specs.declared.limits.TheConstants.{MAX_FRAMES, MAX_LINE_BYTES, MAX_TRACE_BYTES}
 use Rattle.scram_types.specs.Specification.{Parts}
 use Rattle.scram_types.specs.declared.flights.Flown.{Flown}
 use Rattle.scram_types.specs.declared.flights.Report.{Report}
@@ -18,6 +19,7 @@ use Rattle.trace_text.specs.AppReading.{app_read}
 use Rattle.trace_text.specs.Pieces.{pieces_of, words_of, is_filled, word_at}
 use Rattle.trace_text.specs.ReportReading.{report_read, end_read}
 use Rattle.trace_text.specs.RowReading.{row_read}
+use Rattle.trace_text.specs.declared.rule.TheConstants.{BROKEN_LINE, OUT_OF_PLACE, WRONG_END}
 
 -- what the lines so far say, and what may stand next
 pub record SoFar : Type 0 where
@@ -27,20 +29,22 @@ pub record SoFar : Type 0 where
 
 -- so many rows at most have been read, frames being below 20,000
 abbrev pub rows_before : Standing → ℕ
-rows_before Rows = 20000
-rows_before (Apps a row) = 19999
-rows_before Reports = 20000
-rows_before Over = 20000
+rows_before Rows = MAX_FRAMES
+rows_before (Apps a row) = MAX_FRAMES - 1
+rows_before Reports = MAX_FRAMES
+rows_before Over = MAX_FRAMES
 
+-- before the first line nothing has been said, and a row may begin
 abbrev pub before_first : SoFar
 before_first = record { rows = []; reports = []; standing = Rows }
 
+-- whether a byte is one of the printable ones, the space among them
 abbrev pub is_printable : ℕ → Bool
 is_printable b = nat_le 32 b && nat_le b 126
 
 -- rule 1 of a line that has its line feed
 abbrev pub is_plain : List ℕ → Bool
-is_plain line = nat_le (length line) 512 && list_all is_printable line
+is_plain line = nat_le (length line) MAX_LINE_BYTES && list_all is_printable line
 
 -- whether this is the first word of a line
 abbrev pub begins : List ℕ → List ℕ → Bool
@@ -57,18 +61,22 @@ after_app spec s a row =
     if nat_lt (a + 1) (length spec.apps) then record { rows = s.rows; reports = s.reports; standing = Apps (a + 1) row }
     else record { rows = s.rows ++ row ∷ []; reports = s.reports; standing = Rows }
 
+-- after the first line of a row its applications are due
 abbrev pub with_row : SoFar → Result Row ℕ → Result SoFar ℕ
 with_row s (Ok row) = Ok (record { rows = s.rows; reports = s.reports; standing = Apps 0 row })
 with_row s (Err rule) = Err rule
 
+-- after the line of application a its row has what it did
 abbrev pub with_done : Parts → SoFar → ℕ → Row → Result Done ℕ → Result SoFar ℕ
 with_done spec s a row (Ok done) = Ok (after_app spec s a (with_app row a done.act done.area))
 with_done spec s a row (Err rule) = Err rule
 
+-- after a reconfiguration no row stands any more
 abbrev pub with_report : SoFar → Result Report ℕ → Result SoFar ℕ
 with_report s (Ok report) = Ok (record { rows = s.rows; reports = s.reports ++ report ∷ []; standing = Reports })
 with_report s (Err rule) = Err rule
 
+-- after the end line nothing stands any more
 abbrev pub with_end : SoFar → Result ⊤ ℕ → Result SoFar ℕ
 with_end s (Ok done) = Ok (record { rows = s.rows; reports = s.reports; standing = Over })
 with_end s (Err rule) = Err rule
@@ -77,34 +85,37 @@ with_end s (Err rule) = Err rule
 abbrev pub closing : Parts → SoFar → List ℕ → Result SoFar ℕ
 closing spec s line =
     if begins line (codes "reconfiguration") then with_report s (report_read spec (length s.rows) line)
-    else (if begins line (codes "end") then with_end s (end_read (length s.rows) (length s.reports) line) else Err 2)
+    else (if begins line (codes "end") then with_end s (end_read (length s.rows) (length s.reports) line) else Err OUT_OF_PLACE)
 
+-- what is read after one more printable line, by what may stand here
 abbrev pub standing_line : Parts → SoFar → Standing → List ℕ → Result SoFar ℕ
 standing_line spec s Rows line =
     if begins line (codes "frame") then with_row s (row_read spec (length s.rows) line) else closing spec s line
 standing_line spec s (Apps a row) line =
-    if begins line (codes "app") then with_done spec s a row (app_read spec a line) else Err 2
+    if begins line (codes "app") then with_done spec s a row (app_read spec a line) else Err OUT_OF_PLACE
 standing_line spec s Reports line = closing spec s line
-standing_line spec s Over line = Err 9
+standing_line spec s Over line = Err WRONG_END
 
 -- what is read after one more line, or the least rule that the line breaks
 abbrev pub after_line : Parts → SoFar → List ℕ → Result SoFar ℕ
-after_line spec s line = if is_plain line then standing_line spec s s.standing line else Err 1
+after_line spec s line = if is_plain line then standing_line spec s s.standing line else Err BROKEN_LINE
 
+-- a fault in a line of a number, counted from 1
 abbrev pub fault_at : ℕ → ℕ → TraceFault
 fault_at line rule = record { line = line; rule = rule }
 
 -- rule 9: the end line is missing
 abbrev pub at_end : ℕ → SoFar → Standing → Result Flown TraceFault
 at_end k s Over = Ok (record { rows = s.rows; reports = s.reports })
-at_end k s Rows = Err (fault_at k 9)
-at_end k s (Apps a row) = Err (fault_at k 9)
-at_end k s Reports = Err (fault_at k 9)
+at_end k s Rows = Err (fault_at k WRONG_END)
+at_end k s (Apps a row) = Err (fault_at k WRONG_END)
+at_end k s Reports = Err (fault_at k WRONG_END)
 
 -- rule 1: the last line lacks its line feed
 abbrev pub at_last : ℕ → SoFar → List ℕ → Result Flown TraceFault
-at_last k s last = if is_filled last then Err (fault_at k 1) else at_end k s s.standing
+at_last k s last = if is_filled last then Err (fault_at k BROKEN_LINE) else at_end k s s.standing
 
+-- the reading goes on behind a line that is read, and ends at line k where that one breaks a rule
 abbrev pub go_on : ℕ → Result SoFar ℕ → (SoFar → Result Flown TraceFault) → Result Flown TraceFault
 go_on k (Ok s) next = next s
 go_on k (Err rule) next = Err (fault_at k rule)
@@ -119,7 +130,7 @@ trace_from spec k s (line ∷ next ∷ lines) =
 -- a file that is too long breaks rule 9 at line 0
 abbrev pub trace_of : Parts → List ℕ → Result Flown TraceFault
 trace_of spec bytes =
-    if nat_lt 33554432 (length bytes) then Err (fault_at 0 9) else trace_from spec 1 before_first (pieces_of 10 bytes)
+    if nat_lt MAX_TRACE_BYTES (length bytes) then Err (fault_at 0 WRONG_END) else trace_from spec 1 before_first (pieces_of 10 bytes)
 
 -- where a line was not taken
 abbrev pub stopped : ℕ → Stop → TraceError
@@ -132,6 +143,7 @@ AnswersLine reading (Ok s) = reading ≡ Ok s
 AnswersLine reading (Err (stop.Rule rule)) = reading ≡ Err rule
 AnswersLine reading (Err stop.NoMemory) = ⊤
 
+-- the same for a whole trace
 abbrev pub AnswersTrace : Result Flown TraceFault → Result Flown TraceError → Type 0
 AnswersTrace reading (Ok flown) = reading ≡ Ok flown
 AnswersTrace reading (Err (Fault fault)) = reading ≡ Err fault

@@ -7,7 +7,9 @@ ghost use Rattle.trace_text.specs.Spelling.{signed_from};
 use crate::lookups::{find_app, find_mode};
 use crate::numbers::{read_eight, read_number};
 use crate::pieces::slash_sides;
+use crate::rule;
 use crate::words::Words;
+use scram_types::limits::MAX_PHASE;
 use scram_types::{Act, Area, ProcId, Spec};
 
 /// What an application did in a frame, and its area.
@@ -35,7 +37,7 @@ pub fn read_app(spec: &Spec, next: u8, line: &[u8]) -> Result<Done, u8>
 {
     match Words::of(line) {
         Some(words) => read_app_words(spec, next, &words),
-        None => Err(3),
+        None => Err(rule::NO_FORM),
     }
 }
 
@@ -47,11 +49,11 @@ fn read_app_words(spec: &Spec, next: u8, words: &Words<'_>) -> Result<Done, u8>
         return read_placed(spec, next, words);
     }
     if !is_bare(words) {
-        return Err(3);
+        return Err(rule::NO_FORM);
     }
     match find_bare(words.word_at(2)) {
         Some(act) => read_bare(spec, next, words, act),
-        None => Err(3),
+        None => Err(rule::NO_FORM),
     }
 }
 
@@ -115,11 +117,11 @@ fn read_placed(spec: &Spec, next: u8, words: &Words<'_>) -> Result<Done, u8>
         return read_ran(spec, next, words);
     }
     let Some(phase) = find_phase(words.word_at(2)) else {
-        return Err(3);
+        return Err(rule::NO_FORM);
     };
     match slash_sides(words.word_at(3)) {
         Some((k, n)) => read_phase(spec, next, words, phase, k, n),
-        None => Err(3),
+        None => Err(rule::NO_FORM),
     }
 }
 
@@ -128,19 +130,19 @@ fn read_ran(spec: &Spec, next: u8, words: &Words<'_>) -> Result<Done, u8>
     ensures below { IfOk result (λ done. next < length spec.now.apps) }
 {
     let Some(app) = find_app(spec, words.word_at(1)) else {
-        return Err(4);
+        return Err(rule::UNKNOWN_NAME);
     };
     let Some(mode) = find_mode(spec, app, words.word_at(3)) else {
-        return Err(4);
+        return Err(rule::UNKNOWN_NAME);
     };
     let Some(proc) = spec.proc_named(words.word_at(4)) else {
-        return Err(4);
+        return Err(rule::UNKNOWN_NAME);
     };
     let Some(area) = read_area(words, 6) else {
-        return Err(5);
+        return Err(rule::WRONG_NUMBER);
     };
     if app != usize::from(next) {
-        return Err(6);
+        return Err(rule::NOT_NEXT);
     }
     Ok(Done {
         act: Act::Ran(mode, proc),
@@ -160,25 +162,25 @@ fn read_phase(
     ensures below { IfOk result (λ done. next < length spec.now.apps) }
 {
     let Some(app) = find_app(spec, words.word_at(1)) else {
-        return Err(4);
+        return Err(rule::UNKNOWN_NAME);
     };
     let Some(proc) = spec.proc_named(words.word_at(4)) else {
-        return Err(4);
+        return Err(rule::UNKNOWN_NAME);
     };
     let Some(k) = read_number(k, PHASE_LIMIT) else {
-        return Err(5);
+        return Err(rule::WRONG_NUMBER);
     };
     let Some(n) = read_number(n, PHASE_LIMIT) else {
-        return Err(5);
+        return Err(rule::WRONG_NUMBER);
     };
     let Some(area) = read_area(words, 6) else {
-        return Err(5);
+        return Err(rule::WRONG_NUMBER);
     };
     if app != usize::from(next) {
-        return Err(6);
+        return Err(rule::NOT_NEXT);
     }
-    if !(k < n && n <= 16) {
-        return Err(7);
+    if !(k < n && n <= u64::from(MAX_PHASE)) {
+        return Err(rule::OUT_OF_ORDER);
     }
     Ok(Done {
         act: act_of(phase, k as u8, n as u8, proc),
@@ -192,13 +194,13 @@ fn read_bare(spec: &Spec, next: u8, words: &Words<'_>, act: Act) -> Result<Done,
     ensures below { IfOk result (λ done. next < length spec.now.apps) }
 {
     let Some(app) = find_app(spec, words.word_at(1)) else {
-        return Err(4);
+        return Err(rule::UNKNOWN_NAME);
     };
     let Some(area) = read_area(words, 4) else {
-        return Err(5);
+        return Err(rule::WRONG_NUMBER);
     };
     if app != usize::from(next) {
-        return Err(6);
+        return Err(rule::NOT_NEXT);
     }
     Ok(Done { act, area })
 }

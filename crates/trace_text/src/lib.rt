@@ -14,8 +14,9 @@ pub mod report_lines;
 pub mod report_reading;
 pub mod row_lines;
 pub mod row_reading;
+pub mod rule;
 pub mod trace_reading;
 pub mod words;
 
 pub use puts::{put_end, put_report, put_row, put_trace};
-pub use trace_reading::{MAX_TRACE_BYTES, TraceError, TraceFault, read_trace};
+pub use trace_reading::{TraceError, TraceFault, read_trace};

@@ -2,14 +2,16 @@
 
 ghost use Rattle.std.specs.Prelude.{◌≡◌, ◌+◌, ◌≤◌, ◌++◌, [], ℕ, length, decimal};
 ghost use Rattle.std.specs.Fmt.{signed_decimal};
+ghost use Rattle.scram_types.specs.declared.limits.TheConstants.{MAX_LINE_BYTES};
 
 use arrayvec::ArrayVec;
 use itoa::Buffer;
+use scram_types::limits::MAX_LINE_BYTES;
 
-/// Bytes of one line, at most 512. No line of a trace is longer.
+/// Bytes of one line, at most [`MAX_LINE_BYTES`]. No line of a trace is longer.
 #[derive(Drop)]
 pub struct Line {
-    bytes: ArrayVec<u8, 512>,
+    bytes: ArrayVec<u8, MAX_LINE_BYTES>,
 }
 
 impl std::marker::Model for Line {
@@ -39,7 +41,7 @@ impl Line {
 
     /// Appends a text.
     pub fn text(&mut self, text: &[u8])
-        requires { length self.old + length text.now ≤ 512 }
+        requires { length self.old + length text.now ≤ MAX_LINE_BYTES }
         ensures { self.new ≡ self.old ++ text.now }
     {
         let _fits = self.bytes.try_extend_from_slice(text);
@@ -47,7 +49,7 @@ impl Line {
 
     /// Appends a number in decimal.
     pub fn number(&mut self, number: u32)
-        requires { length self.old + 10 ≤ 512 }
+        requires { length self.old + 10 ≤ MAX_LINE_BYTES }
         ensures text { self.new ≡ self.old ++ decimal number }
         ensures short { length self.new ≤ length self.old + 10 }
     {
@@ -57,7 +59,7 @@ impl Line {
 
     /// Appends a number in decimal, `-` first where it is negative.
     pub fn signed(&mut self, number: &i64)
-        requires { length self.old + 20 ≤ 512 }
+        requires { length self.old + 20 ≤ MAX_LINE_BYTES }
         ensures text { self.new ≡ self.old ++ signed_decimal number.now }
         ensures short { length self.new ≤ length self.old + 20 }
     {

@@ -5,11 +5,14 @@ ghost use Rattle.std.specs.List.{list_all};
 ghost use Rattle.trace_text.specs.ReportReading.{report_read};
 ghost use Rattle.trace_text.specs.TraceReading.{AnswersLine, after_app, after_line, before_first, begins, closing, is_plain, is_printable, standing_line, with_app, with_report};
 ghost use Rattle.trace_text.specs.declared.progress.Standing.TheVariants.{Apps, Rows};
+ghost use Rattle.scram_types.specs.declared.limits.TheConstants.{MAX_FRAMES};
 
 use crate::app_reading::{Done, read_app};
 use crate::report_reading::{read_end, read_report};
 use crate::row_reading::read_row;
+use crate::rule;
 use crate::words::first_word;
+use scram_types::limits::MAX_LINE_BYTES;
 use scram_types::{Report, Row, Spec};
 use std::alloc::Global;
 
@@ -71,13 +74,13 @@ impl Progress {
         ensures { AnswersLine (after_line spec.now self line.now) result }
     {
         if !is_printable_line(line) {
-            return Err(Stop::Rule(1));
+            return Err(Stop::Rule(rule::BROKEN_LINE));
         }
         match self.standing {
             Standing::Rows => self.read_open(spec, line),
             Standing::Apps(a, row) => self.read_app_line(spec, a, row, line),
             Standing::Reports => self.read_closing(spec, line),
-            Standing::Over => Err(Stop::Rule(9)),
+            Standing::Over => Err(Stop::Rule(rule::WRONG_END)),
         }
     }
 
@@ -101,11 +104,11 @@ impl Progress {
 
     // A line where that of application `a` is to stand.
     fn read_app_line(self, spec: &Spec, a: u8, row: Row, line: &[u8]) -> Result<Progress, Stop>
-        requires { length self.rows < 20000 }
+        requires { length self.rows < MAX_FRAMES }
         ensures { AnswersLine (standing_line spec.now self (Apps a row) line.now) result }
     {
         if !is_begun(line, b"app") {
-            return Err(Stop::Rule(2));
+            return Err(Stop::Rule(rule::OUT_OF_PLACE));
         }
         match read_app(spec, a, line) {
             Ok(done) => self.take_done(spec, a, row, &done),
@@ -115,7 +118,7 @@ impl Progress {
 
     // Takes what application `a` did into the row, which is whole after its last application.
     fn take_done(mut self, spec: &Spec, a: u8, row: Row, done: &Done) -> Result<Progress, Stop>
-        requires rows { length self.rows < 20000 }
+        requires rows { length self.rows < MAX_FRAMES }
         requires app { a < length spec.now.apps }
         ensures { AnswersLine (Ok (after_app spec.now self a (with_app row a done.now.act done.now.area))) result }
     {
@@ -135,14 +138,14 @@ impl Progress {
 
     // A line where a report or the end line may stand.
     fn read_closing(self, spec: &Spec, line: &[u8]) -> Result<Progress, Stop>
-        requires { length self.rows ≤ 20000 }
+        requires { length self.rows ≤ MAX_FRAMES }
         ensures { AnswersLine (closing spec.now self line.now) result }
     {
         if is_begun(line, b"reconfiguration") {
             return self.read_report_line(spec, line);
         }
         if !is_begun(line, b"end") {
-            return Err(Stop::Rule(2));
+            return Err(Stop::Rule(rule::OUT_OF_PLACE));
         }
         match read_end(self.rows.len(), self.reports.len(), line) {
             Ok(()) => Ok(Progress {
@@ -155,7 +158,7 @@ impl Progress {
     }
 
     fn read_report_line(mut self, spec: &Spec, line: &[u8]) -> Result<Progress, Stop>
-        requires { length self.rows ≤ 20000 }
+        requires { length self.rows ≤ MAX_FRAMES }
         ensures { AnswersLine (with_report self (report_read spec.now (length self.rows) line.now)) result }
     {
         match read_report(spec, self.rows.len() as u32, line) {
@@ -190,7 +193,7 @@ fn is_begun(line: &[u8], text: &[u8]) -> bool
 fn is_printable_line(line: &[u8]) -> bool
     ensures { result ≡ is_plain line.now }
 {
-    line.len() <= 512 && is_printable_text(line)
+    line.len() <= MAX_LINE_BYTES && is_printable_text(line)
 }
 
 fn is_printable_text(text: &[u8]) -> bool

@@ -2,6 +2,7 @@
 
 ghost use Rattle.std.specs.Prelude.{◌≡◌, ◌+◌, ◌≤◌, ◌++◌, length};
 ghost use Rattle.trace_text.specs.Text.{bound_text, length_text, target_text, report_line, end_line};
+ghost use Rattle.scram_types.specs.declared.limits.TheConstants.{MAX_LINE_BYTES};
 
 use crate::lines::Line;
 use crate::row_lines::name_of_conf;
@@ -36,7 +37,7 @@ pub fn make_end_line(frames: u32, reports: u32) -> Line
 }
 
 fn add_finished(line: &mut Line, spec: &Spec, report: &Report, to: ConfId)
-    requires { length line.old + 90 ≤ 512 }
+    requires { length line.old + 90 ≤ MAX_LINE_BYTES }
     ensures text { line.new ≡ line.old ++ target_text spec.now report.now (Some to) }
     ensures short { length line.new ≤ length line.old + 90 }
 {
@@ -50,7 +51,7 @@ fn add_finished(line: &mut Line, spec: &Spec, report: &Report, to: ConfId)
 }
 
 fn add_unfinished(line: &mut Line, spec: &Spec, report: &Report)
-    requires { length line.old + 90 ≤ 512 }
+    requires { length line.old + 90 ≤ MAX_LINE_BYTES }
     ensures text { line.new ≡ line.old ++ target_text spec.now report.now None }
     ensures short { length line.new ≤ length line.old + 90 }
 {
@@ -61,7 +62,7 @@ fn add_unfinished(line: &mut Line, spec: &Spec, report: &Report)
 }
 
 fn add_length(line: &mut Line, report: &Report, bound: Option<u32>)
-    requires { length line.old + 30 ≤ 512 }
+    requires { length line.old + 30 ≤ MAX_LINE_BYTES }
     ensures text { line.new ≡ line.old ++ length_text report.now bound }
     ensures short { length line.new ≤ length line.old + 30 }
 {
@@ -72,7 +73,7 @@ fn add_length(line: &mut Line, report: &Report, bound: Option<u32>)
 }
 
 fn add_bound(line: &mut Line, bound: Option<u32>)
-    requires { length line.old + 10 ≤ 512 }
+    requires { length line.old + 10 ≤ MAX_LINE_BYTES }
     ensures text { line.new ≡ line.old ++ bound_text bound }
     ensures short { length line.new ≤ length line.old + 10 }
 {

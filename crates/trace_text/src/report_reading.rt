@@ -5,8 +5,9 @@ ghost use Rattle.trace_text.specs.ReportReading.{bound_or_none, end_in, end_read
 
 use crate::numbers::read_number;
 use crate::pieces::is_dash;
-use crate::row_reading::FRAME_LIMIT;
+use crate::rule;
 use crate::words::Words;
+use scram_types::limits::MAX_FRAMES;
 use scram_types::{ConfId, Report, Spec};
 
 // Numbers of 32 bits lie below this.
@@ -18,7 +19,7 @@ pub fn read_report(spec: &Spec, frames: u32, line: &[u8]) -> Result<Report, u8>
 {
     match Words::of(line) {
         Some(words) => read_report_words(spec, frames, &words),
-        None => Err(3),
+        None => Err(rule::NO_FORM),
     }
 }
 
@@ -26,13 +27,13 @@ fn read_report_words(spec: &Spec, frames: u32, words: &Words<'_>) -> Result<Repo
     ensures { result ≡ report_in spec.now frames words.now }
 {
     if !is_report(words) {
-        return Err(3);
+        return Err(rule::NO_FORM);
     }
     match (words.is(3, b"-"), words.is(7, b"-")) {
         (true, true) => read_unfinished(spec, frames, words),
         (false, false) => read_finished(spec, words),
-        (true, false) => Err(3),
-        (false, true) => Err(3),
+        (true, false) => Err(rule::NO_FORM),
+        (false, true) => Err(rule::NO_FORM),
     }
 }
 
@@ -51,13 +52,13 @@ fn read_finished(spec: &Spec, words: &Words<'_>) -> Result<Report, u8>
     ensures { result ≡ finished_report spec.now words.now }
 {
     let Some(from) = spec.conf_named(words.word_at(1)) else {
-        return Err(4);
+        return Err(rule::UNKNOWN_NAME);
     };
     let Some(to) = spec.conf_named(words.word_at(3)) else {
-        return Err(4);
+        return Err(rule::UNKNOWN_NAME);
     };
-    let Some(end) = read_number(words.word_at(7), FRAME_LIMIT) else {
-        return Err(5);
+    let Some(end) = read_number(words.word_at(7), u64::from(MAX_FRAMES)) else {
+        return Err(rule::WRONG_NUMBER);
     };
     read_report_end(words, from, Some(to), end as u32, spec.bound(from, to))
 }
@@ -66,7 +67,7 @@ fn read_unfinished(spec: &Spec, frames: u32, words: &Words<'_>) -> Result<Report
     ensures { result ≡ unfinished_report spec.now frames words.now }
 {
     let Some(from) = spec.conf_named(words.word_at(1)) else {
-        return Err(4);
+        return Err(rule::UNKNOWN_NAME);
     };
     read_report_end(words, from, None, frames, spec.greatest_bound(from))
 }
@@ -80,14 +81,14 @@ fn read_report_end(
 ) -> Result<Report, u8>
     ensures { result ≡ report_end words.now from to end given }
 {
-    let Some(begin) = read_number(words.word_at(5), FRAME_LIMIT) else {
-        return Err(5);
+    let Some(begin) = read_number(words.word_at(5), u64::from(MAX_FRAMES)) else {
+        return Err(rule::WRONG_NUMBER);
     };
     let Some(took) = read_number(words.word_at(9), COUNT_LIMIT) else {
-        return Err(5);
+        return Err(rule::WRONG_NUMBER);
     };
     let Some(bound) = read_bound(words.word_at(11)) else {
-        return Err(5);
+        return Err(rule::WRONG_NUMBER);
     };
     let begin = begin as u32;
     if begin <= end && took as u32 == end - begin && is_same_bound(bound, given) {
@@ -98,7 +99,7 @@ fn read_report_end(
             end,
         })
     } else {
-        Err(8)
+        Err(rule::WRONG_COUNT)
     }
 }
 
@@ -132,7 +133,7 @@ pub fn read_end(frames: usize, reports: usize, line: &[u8]) -> Result<(), u8>
 {
     match Words::of(line) {
         Some(words) => read_end_words(frames, reports, &words),
-        None => Err(3),
+        None => Err(rule::NO_FORM),
     }
 }
 
@@ -140,18 +141,18 @@ fn read_end_words(frames: usize, reports: usize, words: &Words<'_>) -> Result<()
     ensures { result ≡ end_in frames reports words.now }
 {
     if !is_end(words) {
-        return Err(3);
+        return Err(rule::NO_FORM);
     }
     let Some(counted) = read_number(words.word_at(2), COUNT_LIMIT) else {
-        return Err(5);
+        return Err(rule::WRONG_NUMBER);
     };
     let Some(told) = read_number(words.word_at(4), COUNT_LIMIT) else {
-        return Err(5);
+        return Err(rule::WRONG_NUMBER);
     };
     if counted == frames as u64 && told == reports as u64 {
         Ok(())
     } else {
-        Err(8)
+        Err(rule::WRONG_COUNT)
     }
 }
 

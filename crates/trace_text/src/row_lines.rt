@@ -5,6 +5,7 @@ ghost use Rattle.app_model.specs.Names.{mode_text};
 ghost use Rattle.trace_text.specs.Names.{conf_or_dash, values_named, further_joined};
 ghost use Rattle.scram_types.specs.Lookups.{value_name, proc_name, conf_name};
 ghost use Rattle.trace_text.specs.Text.{kernel_mode_text, values_text, up_text, world_text, row_line, phase_text, act_text, area_text, app_line};
+ghost use Rattle.scram_types.specs.declared.limits.TheConstants.{MAX_LINE_BYTES};
 
 use crate::lines::Line;
 use app_model::mode_name;
@@ -89,7 +90,7 @@ pub fn name_of_mode(kind: KindId, mode: Mode) -> &'static str
 }
 
 fn add_conf_or_dash(line: &mut Line, spec: &Spec, conf: Option<ConfId>)
-    requires { length line.old + 16 ≤ 512 }
+    requires { length line.old + 16 ≤ MAX_LINE_BYTES }
     ensures text { line.new ≡ line.old ++ conf_or_dash spec.now conf }
     ensures short { length line.new ≤ length line.old + 16 }
 {
@@ -100,7 +101,7 @@ fn add_conf_or_dash(line: &mut Line, spec: &Spec, conf: Option<ConfId>)
 }
 
 fn add_mode(line: &mut Line, spec: &Spec, mode: &KMode)
-    requires { length line.old + 68 ≤ 512 }
+    requires { length line.old + 68 ≤ MAX_LINE_BYTES }
     ensures text { line.new ≡ line.old ++ kernel_mode_text spec.now mode.now }
     ensures short { length line.new ≤ length line.old + 68 }
 {
@@ -128,7 +129,7 @@ fn add_mode(line: &mut Line, spec: &Spec, mode: &KMode)
 }
 
 fn add_values(line: &mut Line, spec: &Spec, values: &[u8; 6])
-    requires { length line.old + 102 ≤ 512 }
+    requires { length line.old + 102 ≤ MAX_LINE_BYTES }
     ensures text { line.new ≡ line.old ++ values_text spec.now values.now }
     ensures short { length line.new ≤ length line.old + 102 }
 {
@@ -142,7 +143,7 @@ fn add_values(line: &mut Line, spec: &Spec, values: &[u8; 6])
 }
 
 fn add_further_values(line: &mut Line, factors: &[Factor], values: &[u8; 6])
-    requires room { length line.old + 17 * length factors.now ≤ 512 }
+    requires room { length line.old + 17 * length factors.now ≤ MAX_LINE_BYTES }
     requires few { length factors.now ≤ 5 }
     ensures text { line.new ≡ line.old ++ further_joined (values_named factors.now 1 values.now) }
     ensures short { length line.new ≤ length line.old + 17 * length factors.now }
@@ -154,7 +155,7 @@ fn add_further_values(line: &mut Line, factors: &[Factor], values: &[u8; 6])
 }
 
 fn add_up(line: &mut Line, spec: &Spec, up: u8)
-    requires { length line.old + 137 ≤ 512 }
+    requires { length line.old + 137 ≤ MAX_LINE_BYTES }
     ensures text { line.new ≡ line.old ++ up_text spec.now up }
     ensures short { length line.new ≤ length line.old + 137 }
 {
@@ -173,7 +174,7 @@ fn add_up(line: &mut Line, spec: &Spec, up: u8)
 }
 
 fn add_listed(line: &mut Line, further_joined: bool, name: &Name)
-    requires { length line.old + 17 ≤ 512 }
+    requires { length line.old + 17 ≤ MAX_LINE_BYTES }
     ensures text { line.new ≡ line.old ++ (if further_joined then codes "," else []) ++ name.now }
     ensures short { length line.new ≤ length line.old + 17 }
 {
@@ -184,7 +185,7 @@ fn add_listed(line: &mut Line, further_joined: bool, name: &Name)
 }
 
 fn add_world(line: &mut Line, world: &World)
-    requires { length line.old + 83 ≤ 512 }
+    requires { length line.old + 83 ≤ MAX_LINE_BYTES }
     ensures text { line.new ≡ line.old ++ world_text world.now }
     ensures short { length line.new ≤ length line.old + 83 }
 {
@@ -198,7 +199,7 @@ fn add_world(line: &mut Line, world: &World)
 }
 
 fn add_phase(line: &mut Line, spec: &Spec, k: u8, n: u8, proc: ProcId)
-    requires { length line.old + 38 ≤ 512 }
+    requires { length line.old + 38 ≤ MAX_LINE_BYTES }
     ensures text { line.new ≡ line.old ++ phase_text spec.now k n proc.0 }
     ensures short { length line.new ≤ length line.old + 38 }
 {
@@ -210,7 +211,7 @@ fn add_phase(line: &mut Line, spec: &Spec, k: u8, n: u8, proc: ProcId)
 }
 
 fn add_act(line: &mut Line, spec: &Spec, kind: KindId, act: &Act)
-    requires { length line.old + 51 ≤ 512 }
+    requires { length line.old + 51 ≤ MAX_LINE_BYTES }
     ensures text { line.new ≡ line.old ++ act_text spec.now kind.0 act.now }
     ensures short { length line.new ≤ length line.old + 51 }
 {
@@ -240,7 +241,7 @@ fn add_act(line: &mut Line, spec: &Spec, kind: KindId, act: &Act)
 }
 
 fn add_area(line: &mut Line, area: &Area)
-    requires { length line.old + 168 ≤ 512 }
+    requires { length line.old + 168 ≤ MAX_LINE_BYTES }
     ensures text { line.new ≡ line.old ++ area_text area.now }
     ensures short { length line.new ≤ length line.old + 168 }
 {

@@ -2,38 +2,38 @@
 
 ghost use Rattle.std.specs.Prelude.{◌≡◌, ◌≤◌, ◌<◌, IfOk};
 ghost use Rattle.trace_text.specs.RowReading.{are_values, env_names, is_env_form, is_moving_form, is_stable_form, moving_row, row_end, row_of_words, row_read, stable_row, world_at};
+ghost use Rattle.scram_types.specs.declared.limits.TheConstants.{MAX_FRAMES};
 
 use crate::lookups::find_conf_or_none;
 use crate::name_lists::{are_procs, find_values, has_names, read_up};
 use crate::numbers::{read_number, read_signed};
 use crate::pieces::is_dash;
+use crate::rule;
 use crate::words::Words;
+use scram_types::limits::MAX_FRAMES;
 use scram_types::{Act, Env, Factor, KMode, Row, Spec, World};
-
-/// The frame numbers of a trace lie below this.
-pub const FRAME_LIMIT: u64 = 20_000;
 
 /// The row that a line begins, its frame being `next`; its applications are still to come.
 pub fn read_row(spec: &Spec, next: usize, line: &[u8]) -> Result<Row, u8>
     ensures row { result ≡ row_read spec.now next line.now }
-    ensures below { IfOk result (λ row. next < 20000) }
+    ensures below { IfOk result (λ row. next < MAX_FRAMES) }
 {
     match Words::of(line) {
         Some(words) => read_row_words(spec, next, &words),
-        None => Err(3),
+        None => Err(rule::NO_FORM),
     }
 }
 
 fn read_row_words(spec: &Spec, next: usize, words: &Words<'_>) -> Result<Row, u8>
     ensures row { result ≡ row_of_words spec.now next words.now }
-    ensures below { IfOk result (λ row. next < 20000) }
+    ensures below { IfOk result (λ row. next < MAX_FRAMES) }
 {
     if is_stable(spec, words) {
         read_stable(spec, next, words)
     } else if is_moving(spec, words) {
         read_moving(spec, next, words)
     } else {
-        Err(3)
+        Err(rule::NO_FORM)
     }
 }
 
@@ -71,35 +71,35 @@ fn has_values(factors: &[Factor], list: &[u8]) -> bool
 
 fn read_stable(spec: &Spec, next: usize, words: &Words<'_>) -> Result<Row, u8>
     ensures row { result ≡ stable_row spec.now next words.now }
-    ensures below { IfOk result (λ row. next < 20000) }
+    ensures below { IfOk result (λ row. next < MAX_FRAMES) }
 {
     let Some(conf) = spec.conf_named(words.word_at(3)) else {
-        return Err(4);
+        return Err(rule::UNKNOWN_NAME);
     };
     let Some(values) = find_environment(spec, words, 4) else {
-        return Err(4);
+        return Err(rule::UNKNOWN_NAME);
     };
     read_row_end(spec, next, words, 4, KMode::Stable(conf), values)
 }
 
 fn read_moving(spec: &Spec, next: usize, words: &Words<'_>) -> Result<Row, u8>
     ensures row { result ≡ moving_row spec.now next words.now }
-    ensures below { IfOk result (λ row. next < 20000) }
+    ensures below { IfOk result (λ row. next < MAX_FRAMES) }
 {
     let Some(from) = spec.conf_named(words.word_at(3)) else {
-        return Err(4);
+        return Err(rule::UNKNOWN_NAME);
     };
     let Some(halting) = find_conf_or_none(spec, words.word_at(4)) else {
-        return Err(4);
+        return Err(rule::UNKNOWN_NAME);
     };
     let Some(to) = spec.conf_named(words.word_at(5)) else {
-        return Err(4);
+        return Err(rule::UNKNOWN_NAME);
     };
     let Some(values) = find_environment(spec, words, 7) else {
-        return Err(4);
+        return Err(rule::UNKNOWN_NAME);
     };
-    let Some(since) = read_number(words.word_at(6), FRAME_LIMIT) else {
-        return Err(5);
+    let Some(since) = read_number(words.word_at(6), u64::from(MAX_FRAMES)) else {
+        return Err(rule::WRONG_NUMBER);
     };
     let since = since as u32;
     read_row_end(
@@ -138,19 +138,19 @@ fn read_row_end(
 ) -> Result<Row, u8>
     requires { at ≤ 7 }
     ensures row { result ≡ row_end spec.now next words.now at mode values }
-    ensures below { IfOk result (λ row. next < 20000) }
+    ensures below { IfOk result (λ row. next < MAX_FRAMES) }
 {
-    let Some(frame) = read_number(words.word_at(1), FRAME_LIMIT) else {
-        return Err(5);
+    let Some(frame) = read_number(words.word_at(1), u64::from(MAX_FRAMES)) else {
+        return Err(rule::WRONG_NUMBER);
     };
     let Some(world) = read_world(words, at + 5) else {
-        return Err(5);
+        return Err(rule::WRONG_NUMBER);
     };
     if frame != next as u64 {
-        return Err(6);
+        return Err(rule::NOT_NEXT);
     }
     let Some(up) = read_up(spec.procs.items(), words.word_at(at + 3)) else {
-        return Err(7);
+        return Err(rule::OUT_OF_ORDER);
     };
     let env = Env {
         up,

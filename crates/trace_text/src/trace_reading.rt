@@ -6,11 +6,10 @@ ghost use Rattle.trace_text.specs.TraceReading.{AnswersTrace, at_last, stopped, 
 
 use crate::pieces::split_once;
 use crate::progress::{Progress, Standing, Stop};
+use crate::rule;
+use scram_types::limits::MAX_TRACE_BYTES;
 use scram_types::{Flown, List, Spec};
 use std::alloc::Global;
-
-/// The most bytes that a trace may have.
-pub const MAX_TRACE_BYTES: usize = 33_554_432;
 
 /// The first line, counted from 1, that breaks a rule, with the least rule, 1 to 9, that it breaks. A
 /// trace that is too long breaks rule 9 at line 0.
@@ -50,7 +49,10 @@ fn read_lines(alloc: Global, bytes: &[u8], spec: &Spec) -> Result<Flown, TraceEr
     ensures { AnswersTrace (trace_of spec.now bytes.now) result }
 {
     if bytes.len() > MAX_TRACE_BYTES {
-        return Err(TraceError::Fault(TraceFault { line: 0, rule: 9 }));
+        return Err(TraceError::Fault(TraceFault {
+            line: 0,
+            rule: rule::WRONG_END,
+        }));
     }
     let mut progress = Progress::new(alloc);
     let mut line: u32 = 1;
@@ -80,15 +82,27 @@ fn finish(progress: Progress, line: u32, last: &[u8]) -> Result<Flown, TraceErro
     ensures { AnswersTrace (at_last line progress last.now) result }
 {
     if !last.is_empty() {
-        return Err(TraceError::Fault(TraceFault { line, rule: 1 }));
+        return Err(TraceError::Fault(TraceFault {
+            line,
+            rule: rule::BROKEN_LINE,
+        }));
     }
     match progress.standing {
         Standing::Over => Ok(Flown {
             rows: List::of(progress.rows),
             reports: List::of(progress.reports),
         }),
-        Standing::Rows => Err(TraceError::Fault(TraceFault { line, rule: 9 })),
-        Standing::Apps(_, _) => Err(TraceError::Fault(TraceFault { line, rule: 9 })),
-        Standing::Reports => Err(TraceError::Fault(TraceFault { line, rule: 9 })),
+        Standing::Rows => Err(TraceError::Fault(TraceFault {
+            line,
+            rule: rule::WRONG_END,
+        })),
+        Standing::Apps(_, _) => Err(TraceError::Fault(TraceFault {
+            line,
+            rule: rule::WRONG_END,
+        })),
+        Standing::Reports => Err(TraceError::Fault(TraceFault {
+            line,
+            rule: rule::WRONG_END,
+        })),
     }
 }

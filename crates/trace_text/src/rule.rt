@@ -1,0 +1,28 @@
+//! The numbers of the rules of a trace. A fault shows its number, so they never change.
+
+/// The line lacks its line feed, has a byte that is not printable, or is too long.
+pub const BROKEN_LINE: u8 = 1;
+
+/// The line's first word may not stand here.
+pub const OUT_OF_PLACE: u8 = 2;
+
+/// The line's words are not those of a form.
+pub const NO_FORM: u8 = 3;
+
+/// A name is unknown in its place.
+pub const UNKNOWN_NAME: u8 = 4;
+
+/// A number is not spelled as printed, or leaves its range.
+pub const WRONG_NUMBER: u8 = 5;
+
+/// The frame or the application is not the next.
+pub const NOT_NEXT: u8 = 6;
+
+/// The frames of a phase are not counted up to its last, or processors are not in their order.
+pub const OUT_OF_ORDER: u8 = 7;
+
+/// A length, a bound or a count is not what it has to be, or a reconfiguration begins after its end.
+pub const WRONG_COUNT: u8 = 8;
+
+/// The end line is missing, a line follows it, or the trace is too long.
+pub const WRONG_END: u8 = 9;
