@@ -12,3 +12,5 @@ mod RowOnly
 mod AppOnly
 mod ReportOnly
 mod TraceOnly
+mod FirstBroken
+mod LeastRules

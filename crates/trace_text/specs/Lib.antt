@@ -8,3 +8,4 @@ pub mod RowReading
 pub mod ReportReading
 pub mod AppReading
 pub mod TraceReading
+pub mod LineRules

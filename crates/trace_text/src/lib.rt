@@ -3,6 +3,7 @@
 #![tactic(auto)]
 
 pub mod app_reading;
+pub mod laws;
 pub mod lines;
 pub mod lookups;
 pub mod name_lists;

@@ -1,0 +1,231 @@
+-- Which rules a line breaks. What a rule asks of names, numbers and counts it asks by the form of the line.
+use Rattle.std.specs.Prelude.{ℕ, ◌≡◌, ◌<◌, ◌==◌, ◌-◌, ◌^◌, ◌&&◌, ◌||◌, not, Bool, true, false, List, codes, length, nat_le, nat_lt, Option, Some, None, is_some, option_and_then, Result, Ok, Err, if◌then◌else◌}
+use Rattle.scram_types.specs.declared.limits.TheConstants.{MAX_FRAMES, MAX_PHASE}
+use Rattle.scram_types.specs.Specification.{Parts, bound_in, greatest_bound_in}
+use Rattle.scram_types.specs.Lookups.{conf_named, proc_named}
+use Rattle.scram_types.specs.declared.ids.ConfId.{ConfId}
+use Rattle.trace_text.specs.declared.progress.Standing.{Standing}
+use Rattle.trace_text.specs.declared.progress.Standing.TheVariants.{Rows, Apps, Reports, Over}
+use Rattle.trace_text.specs.declared.rule.TheConstants.{BROKEN_LINE, NOT_NEXT, NO_FORM, OUT_OF_ORDER, OUT_OF_PLACE, UNKNOWN_NAME, WRONG_COUNT, WRONG_END, WRONG_NUMBER}
+use Rattle.trace_text.specs.AppReading.{bare_act, is_bare_form, is_placed_form, phase_named}
+use Rattle.trace_text.specs.Lookups.{app_number, conf_or_none, listed_mode}
+use Rattle.trace_text.specs.Pieces.{is_word, sides_of, word_at, words_in, words_of}
+use Rattle.trace_text.specs.ReportReading.{bound_or_none, is_end_form, is_report_form, same_bound}
+use Rattle.trace_text.specs.RowReading.{env_names, is_moving_form, is_stable_form, up_in, world_at}
+use Rattle.trace_text.specs.Spelling.{signed_from, spelled_number}
+use Rattle.trace_text.specs.TraceReading.{SoFar, after_line, begins, is_plain}
+
+-- The forms of lines: a row with a stable or a moving mode; an application that ran, that is in a phase, or that has no
+-- processor; a reconfiguration that ended, or that was cut off; the end line.
+pub data Form : Type 0 where
+  StableRow : Form
+  MovingRow : Form
+  RanApp : Form
+  PhaseApp : Form
+  BareApp : Form
+  Finished : Form
+  Unfinished : Form
+  Ending : Form
+
+abbrev pub Words : Type 0
+Words = List (List ℕ)
+
+-- whether a value is told, and is as it has to be
+abbrev pub is_told : {A : Type 0} → Option A → (A → Bool) → Bool
+is_told None ask = false
+is_told (Some a) ask = ask a
+
+-- Rule 2: the first word of the line may stand here. After the end line no word is looked at.
+abbrev pub is_in_place : Standing → List ℕ → Bool
+is_in_place Rows line = begins line (codes "frame") || begins line (codes "reconfiguration") || begins line (codes "end")
+is_in_place (Apps a row) line = begins line (codes "app")
+is_in_place Reports line = begins line (codes "reconfiguration") || begins line (codes "end")
+is_in_place Over line = true
+
+-- the form of the words of a row
+abbrev pub row_form : Parts → Words → Option Form
+row_form spec words = if is_stable_form spec words then Some StableRow else (if is_moving_form spec words then Some MovingRow else None)
+
+-- the form of the words of an application
+abbrev pub app_form : Words → Option Form
+app_form words =
+    if is_placed_form words then
+    (if is_word words 2 (codes "ran") then Some RanApp
+    else (if is_some (phase_named (word_at words 2)) && is_some (sides_of (word_at words 3)) then Some PhaseApp else None))
+    else (if is_bare_form words && is_some (bare_act (word_at words 2)) then Some BareApp else None)
+
+-- the form of the words of a reconfiguration
+abbrev pub report_form : Words → Option Form
+report_form words =
+    if is_report_form words then
+    (if is_word words 3 (codes "-") then (if is_word words 7 (codes "-") then Some Unfinished else None)
+    else (if is_word words 7 (codes "-") then None else Some Finished))
+    else None
+
+-- the form of the words of the end line
+abbrev pub end_form : Words → Option Form
+end_form words = if is_end_form words then Some Ending else None
+
+-- the form of the words of a line, by its first word
+abbrev pub form_by : Parts → List ℕ → Words → Option Form
+form_by spec line words =
+    if begins line (codes "frame") then row_form spec words
+    else (if begins line (codes "app") then app_form words
+    else (if begins line (codes "reconfiguration") then report_form words else end_form words))
+
+-- the form of a line, if it has one: no word is empty, and they are those of a form
+abbrev pub form_of : Parts → List ℕ → Option Form
+form_of spec line = option_and_then (form_by spec line) (words_in line)
+
+-- Rule 3: the words of the line are those of a form.
+abbrev pub has_form : Parts → Standing → List ℕ → Bool
+has_form spec Rows line = is_some (form_of spec line)
+has_form spec (Apps a row) line = is_some (form_of spec line)
+has_form spec Reports line = is_some (form_of spec line)
+has_form spec Over line = true
+
+-- Rule 4: each name is known in its place.
+abbrev pub knows_names : Parts → Words → Form → Bool
+knows_names spec words StableRow = is_some (conf_named spec (word_at words 3)) && is_some (env_names spec words 4)
+knows_names spec words MovingRow =
+    is_some (conf_named spec (word_at words 3)) && is_some (conf_or_none spec (word_at words 4)) && is_some (conf_named spec (word_at words 5))
+    && is_some (env_names spec words 7)
+knows_names spec words RanApp =
+    is_told (app_number spec (word_at words 1)) (λ (app : ℕ). is_some (listed_mode spec app (word_at words 3))) && is_some (proc_named spec (word_at words 4))
+knows_names spec words PhaseApp = is_some (app_number spec (word_at words 1)) && is_some (proc_named spec (word_at words 4))
+knows_names spec words BareApp = is_some (app_number spec (word_at words 1))
+knows_names spec words Finished = is_some (conf_named spec (word_at words 1)) && is_some (conf_named spec (word_at words 3))
+knows_names spec words Unfinished = is_some (conf_named spec (word_at words 1))
+knows_names spec words Ending = true
+
+-- whether a word spells the number of a frame
+abbrev pub is_frame : List ℕ → Bool
+is_frame word = is_some (spelled_number MAX_FRAMES word)
+
+-- whether a word spells a count of 32 bits
+abbrev pub is_count : List ℕ → Bool
+is_count word = is_some (spelled_number (2 ^ 32) word)
+
+-- whether both sides of a slash spell a number of 8 bits
+abbrev pub are_bytes : List ℕ × List ℕ → Bool
+are_bytes sides = is_some (spelled_number 256 sides.0) && is_some (spelled_number 256 sides.1)
+
+-- Rule 5: each number is spelled as printed, in its range.
+abbrev pub spells_numbers : Words → Form → Bool
+spells_numbers words StableRow = is_frame (word_at words 1) && is_some (world_at words 9)
+spells_numbers words MovingRow = is_frame (word_at words 6) && is_frame (word_at words 1) && is_some (world_at words 12)
+spells_numbers words RanApp = is_some (signed_from 8 6 words)
+spells_numbers words PhaseApp = is_told (sides_of (word_at words 3)) are_bytes && is_some (signed_from 8 6 words)
+spells_numbers words BareApp = is_some (signed_from 8 4 words)
+spells_numbers words Finished =
+    is_frame (word_at words 7) && is_frame (word_at words 5) && is_count (word_at words 9) && is_some (bound_or_none (word_at words 11))
+spells_numbers words Unfinished = is_frame (word_at words 5) && is_count (word_at words 9) && is_some (bound_or_none (word_at words 11))
+spells_numbers words Ending = is_count (word_at words 2) && is_count (word_at words 4)
+
+-- the application whose line is due
+abbrev pub app_due : Standing → ℕ
+app_due Rows = 0
+app_due (Apps a row) = a
+app_due Reports = 0
+app_due Over = 0
+
+-- whether this is the frame after those of the rows so far
+abbrev pub is_frame_due : SoFar → Words → Bool
+is_frame_due s words = is_told (spelled_number MAX_FRAMES (word_at words 1)) (λ (frame : ℕ). frame == length s.rows)
+
+-- whether this application is the one whose line is due
+abbrev pub is_app_due : Parts → SoFar → Words → Bool
+is_app_due spec s words = is_told (app_number spec (word_at words 1)) (λ (app : ℕ). app == app_due s.standing)
+
+-- Rule 6: the frame or the application is the next.
+abbrev pub is_due : Parts → SoFar → Words → Form → Bool
+is_due spec s words StableRow = is_frame_due s words
+is_due spec s words MovingRow = is_frame_due s words
+is_due spec s words RanApp = is_app_due spec s words
+is_due spec s words PhaseApp = is_app_due spec s words
+is_due spec s words BareApp = is_app_due spec s words
+is_due spec s words Finished = true
+is_due spec s words Unfinished = true
+is_due spec s words Ending = true
+
+-- whether frame K is one of the N frames of a phase, which has at most 16
+abbrev pub is_in_phase : List ℕ × List ℕ → Bool
+is_in_phase sides =
+    is_told (spelled_number 256 sides.0) (λ (k : ℕ). is_told (spelled_number 256 sides.1) (λ (n : ℕ). nat_lt k n && nat_le n MAX_PHASE))
+
+-- Rule 7: the frame of a phase is one of its frames; processors stand in their order.
+abbrev pub is_in_order : Parts → Words → Form → Bool
+is_in_order spec words StableRow = is_some (up_in spec.procs (word_at words 7))
+is_in_order spec words MovingRow = is_some (up_in spec.procs (word_at words 10))
+is_in_order spec words RanApp = true
+is_in_order spec words PhaseApp = is_told (sides_of (word_at words 3)) is_in_phase
+is_in_order spec words BareApp = true
+is_in_order spec words Finished = true
+is_in_order spec words Unfinished = true
+is_in_order spec words Ending = true
+
+-- whether a reconfiguration begins by its end, tells how long it took, and shows the bound that is given
+abbrev pub is_measured : Words → ℕ → Option ℕ → Bool
+is_measured words end given =
+    is_told (spelled_number MAX_FRAMES (word_at words 5)) (λ (begin : ℕ).
+    is_told (spelled_number (2 ^ 32) (word_at words 9)) (λ (took : ℕ).
+    is_told (bound_or_none (word_at words 11)) (λ (bound : Option ℕ).
+    nat_le begin end && (took == end - begin) && same_bound bound given)))
+
+-- Rule 8: lengths, bounds and counts are what they have to be.
+abbrev pub counts_rightly : Parts → SoFar → Words → Form → Bool
+counts_rightly spec s words StableRow = true
+counts_rightly spec s words MovingRow = true
+counts_rightly spec s words RanApp = true
+counts_rightly spec s words PhaseApp = true
+counts_rightly spec s words BareApp = true
+counts_rightly spec s words Finished =
+    is_told (conf_named spec (word_at words 1)) (λ (from : ConfId).
+    is_told (conf_named spec (word_at words 3)) (λ (to : ConfId).
+    is_told (spelled_number MAX_FRAMES (word_at words 7)) (λ (end : ℕ). is_measured words end (bound_in spec.bounds from.0 to.0))))
+counts_rightly spec s words Unfinished =
+    is_told (conf_named spec (word_at words 1)) (λ (from : ConfId). is_measured words (length s.rows) (greatest_bound_in spec.bounds from.0))
+counts_rightly spec s words Ending =
+    is_told (spelled_number (2 ^ 32) (word_at words 2)) (λ (frames : ℕ).
+    is_told (spelled_number (2 ^ 32) (word_at words 4)) (λ (reports : ℕ). (frames == length s.rows) && (reports == length s.reports)))
+
+-- Rule 9: the end line has not been read.
+abbrev pub is_open : Standing → Bool
+is_open Rows = true
+is_open (Apps a row) = true
+is_open Reports = true
+is_open Over = false
+
+-- whether a line that has a form keeps what is asked by it; of a line without a form, and after the end line, nothing is asked
+abbrev pub keeps : Option Form → (Form → Bool) → Bool
+keeps None ask = true
+keeps (Some form) ask = ask form
+
+-- the form by which rules 4 to 8 ask
+abbrev pub asked_form : Parts → Standing → List ℕ → Option Form
+asked_form spec Rows line = form_of spec line
+asked_form spec (Apps a row) line = form_of spec line
+asked_form spec Reports line = form_of spec line
+asked_form spec Over line = None
+
+-- Whether a line, behind those that were read so far, breaks the rule of this number.
+abbrev pub breaks_rule : Parts → SoFar → List ℕ → ℕ → Bool
+breaks_rule spec s line rule =
+    if rule == BROKEN_LINE then not (is_plain line)
+    else (if rule == OUT_OF_PLACE then not (is_in_place s.standing line)
+    else (if rule == NO_FORM then not (has_form spec s.standing line)
+    else (if rule == UNKNOWN_NAME then not (keeps (asked_form spec s.standing line) (knows_names spec (words_of line)))
+    else (if rule == WRONG_NUMBER then not (keeps (asked_form spec s.standing line) (spells_numbers (words_of line)))
+    else (if rule == NOT_NEXT then not (keeps (asked_form spec s.standing line) (is_due spec s (words_of line)))
+    else (if rule == OUT_OF_ORDER then not (keeps (asked_form spec s.standing line) (is_in_order spec (words_of line)))
+    else (if rule == WRONG_COUNT then not (keeps (asked_form spec s.standing line) (counts_rightly spec s (words_of line)))
+    else (if rule == WRONG_END then not (is_open s.standing) else false))))))))
+
+-- A reading answers where no rule is broken, and else tells the least rule that is.
+abbrev pub TellsLeast : {A : Type 0} → (ℕ → Bool) → Result A ℕ → Type 0
+TellsLeast breaks (Ok a) = (rule : ℕ) → breaks rule ≡ false
+TellsLeast breaks (Err least) = (breaks least ≡ true) × ((rule : ℕ) → rule < least → breaks rule ≡ false)
+
+-- A line that breaks no rule is read, and of any other the least rule is told that it breaks.
+abbrev pub LeastRuleIsTold : Type 0
+LeastRuleIsTold = (spec : Parts) (s : SoFar) (line : List ℕ) → TellsLeast (breaks_rule spec s line) (after_line spec s line)
