@@ -22,7 +22,8 @@ use Rattle.frame_model.specs.Phases.{phase_at}
 use Rattle.frame_model.specs.States.{State, has_arrived, act_after, act_on, acts_in, area_after, area_at, area_on, areas_in, keeper_after, keeper_at, keeper_on, keepers_in, law_of, row_of, step, step_with, world_in, mode_decided}
 use Rattle.frame_model.specs.Tasks.{halting_order, initialising_order, preparing_order, task_for, task_in}
 
-pub Exists : Parts → Option ProcId → Type 0
+-- A processor that is named exists.
+unfoldable pub Exists : Parts → Option ProcId → Type 0
 Exists spec proc = IfSome proc (λ p. p.0 < length spec.procs)
 
 placed_in : (spec : Parts) → IsSpec spec → (c a : ℕ) (found : Option Conf) → slice_get spec.confs c ≡ found → (place : Option Place)
@@ -46,7 +47,7 @@ task_exists spec facts (Preparing c age) a = for_exists spec (preparing_order (p
 task_exists spec facts (Initialising c age) a = for_exists spec (initialising_order (init_offset spec c a) (init_time spec c a) age) (place_of spec c a) (place_exists spec facts c a)
 
 -- Two tests of who commits agree on the processors that exist.
-pub Agree : Parts → (ℕ → Bool) → (ℕ → Bool) → Type 0
+unfoldable pub Agree : Parts → (ℕ → Bool) → (ℕ → Bool) → Type 0
 Agree spec s t = (p : ℕ) → p < length spec.procs → s p ≡ t p
 
 pub agreeing : (spec : Parts) (s t : ℕ → Bool) → ((p : ℕ) → p < length spec.procs → s p ≡ t p) → Agree spec s t
@@ -68,7 +69,7 @@ unfolding Agree Exists
 keeper_same spec s t old agree None there = refl
 keeper_same spec s t old agree (Some proc) there = rw (agree proc.0 there) refl
 
-acts_same : (spec : Parts) → IsSpec spec → (s t : ℕ → Bool) (phase : Phase) → Agree spec s t → acts_in spec phase s ≡ acts_in spec phase t
+pub acts_same : (spec : Parts) → IsSpec spec → (s t : ℕ → Bool) (phase : Phase) → Agree spec s t → acts_in spec phase s ≡ acts_in spec phase t
 acts_same spec facts s t phase agree = eight_same (λ a. act_after s (task_in spec phase a)) (λ a. act_after t (task_in spec phase a))
     (λ a low. act_same spec s t (task_in spec phase a) agree (task_in spec phase a).proc (task_exists spec facts phase a))
 
@@ -76,7 +77,7 @@ areas_same : (spec : Parts) → IsSpec spec → (v : Env) (s t : ℕ → Bool) (
 areas_same spec facts v s t state phase agree = eight_same (λ a. area_after spec v s state (task_in spec phase a) a) (λ a. area_after spec v t state (task_in spec phase a) a)
     (λ a low. area_same spec s t (law_of spec v state (task_in spec phase a) a) (area_at state.areas a) agree (task_in spec phase a).proc (task_exists spec facts phase a))
 
-keepers_same : (spec : Parts) → IsSpec spec → (s t : ℕ → Bool) (state : State) (phase : Phase) → Agree spec s t → keepers_in spec s state phase ≡ keepers_in spec t state phase
+pub keepers_same : (spec : Parts) → IsSpec spec → (s t : ℕ → Bool) (state : State) (phase : Phase) → Agree spec s t → keepers_in spec s state phase ≡ keepers_in spec t state phase
 keepers_same spec facts s t state phase agree = eight_same (λ a. keeper_after s state (task_in spec phase a) a) (λ a. keeper_after t state (task_in spec phase a) a)
     (λ a low. keeper_same spec s t (keeper_at state.keepers a) agree (task_in spec phase a).proc (task_exists spec facts phase a))
 

@@ -16,7 +16,7 @@ use Rattle.fault_script.specs.Walks.{IsWalk}
 use Rattle.fault_script.specs.Inputs.{input_at}
 use Rattle.frame_model.specs.declared.systems.Sys.{Sys}
 use Rattle.frame_model.specs.Flights.{row_at, state_after}
-use Rattle.frame_model.specs.Frames.{commits_in, env_of, row_given, state_given, state_of, sys_after, sys_of, up_after}
+use Rattle.frame_model.specs.Frames.{commits_in, frame_env, row_given, state_given, state_of, sys_after, sys_of, up_after}
 use Rattle.frame_model.specs.Standing.{StandsBefore, up_before}
 use Rattle.frame_model.specs.States.{row_of, start_state, step}
 use Rattle.frame_model.proofs.Agreeing.{Agree, agreeing, row_same, step_same}
@@ -25,7 +25,7 @@ use Rattle.frame_model.proofs.Ups.{commits_same, env_up, up_next}
 abbrev env_with : Parts → ScriptParts → ℕ → ℕ → Env
 env_with spec script f up = record { up = up; factors = factors_at script f }
 
-env_given : (spec : Parts) (script : ScriptParts) (f : ℕ) (sys : Sys) → sys.up ≡ up_before spec script f → env_of sys (input_at spec script f) ≡ env_at spec script f
+env_given : (spec : Parts) (script : ScriptParts) (f : ℕ) (sys : Sys) → sys.up ≡ up_before spec script f → frame_env sys (input_at spec script f) ≡ env_at spec script f
 env_given spec script f sys is =
     ap (λ u. env_with spec script f (bit_or u (input_at spec script f).back)) is ∙ ap (env_with spec script f) (env_up spec script f)
 
@@ -44,7 +44,7 @@ up_given spec facts script f sys is =
 pub row_is : (spec : Parts) → IsSpec spec → (script : ScriptParts) (sys : Sys) (walk : Walk) → StandsBefore spec script sys.frame sys walk
     → row_given spec sys (input_at spec script sys.frame) ≡ row_at spec script sys.frame
 row_is spec facts script sys walk stands =
-    row_same spec facts sys.frame (env_of sys (input_at spec script sys.frame)) (commits_in sys (input_at spec script sys.frame)) (λ p. commits spec script p sys.frame) (state_of sys)
+    row_same spec facts sys.frame (frame_env sys (input_at spec script sys.frame)) (commits_in sys (input_at spec script sys.frame)) (λ p. commits spec script p sys.frame) (state_of sys)
     (agree_given spec facts script sys.frame sys stands.up)
     ∙ ap (λ v. row_of spec sys.frame v (λ p. commits spec script p sys.frame) (state_of sys)) (env_given spec script sys.frame sys stands.up)
     ∙ ap (row_of spec sys.frame (env_at spec script sys.frame) (λ p. commits spec script p sys.frame)) stands.state
@@ -52,7 +52,7 @@ row_is spec facts script sys walk stands =
 state_is : (spec : Parts) → IsSpec spec → (script : ScriptParts) (sys : Sys) (walk : Walk) → StandsBefore spec script sys.frame sys walk
     → state_given spec sys (input_at spec script sys.frame) ≡ state_after spec script (suc sys.frame)
 state_is spec facts script sys walk stands =
-    step_same spec facts sys.frame (env_of sys (input_at spec script sys.frame)) (commits_in sys (input_at spec script sys.frame)) (λ p. commits spec script p sys.frame) (state_of sys)
+    step_same spec facts sys.frame (frame_env sys (input_at spec script sys.frame)) (commits_in sys (input_at spec script sys.frame)) (λ p. commits spec script p sys.frame) (state_of sys)
     (agree_given spec facts script sys.frame sys stands.up)
     ∙ ap (λ v. step spec sys.frame v (λ p. commits spec script p sys.frame) (state_of sys)) (env_given spec script sys.frame sys stands.up)
     ∙ ap (step spec sys.frame (env_at spec script sys.frame) (λ p. commits spec script p sys.frame)) stands.state

@@ -13,7 +13,7 @@ use Rattle.app_model.specs.declared.seen.Seen.{Seen}
 use Rattle.fault_script.specs.declared.inputs.Input.{Input}
 use Rattle.frame_model.specs.declared.phases.Phase.{Phase}
 use Rattle.frame_model.specs.declared.systems.Sys.{Sys}
-use Rattle.frame_model.specs.Frames.{commits_in, committing, env_of, row_given, state_of, sys_after, up_after}
+use Rattle.frame_model.specs.Frames.{commits_in, committing, frame_env, row_given, state_of, sys_after, up_after}
 use Rattle.frame_model.specs.Outcomes.{act_made, area_made, keeper_made}
 use Rattle.frame_model.specs.Phases.{phase_at}
 use Rattle.frame_model.specs.States.{acts_in, areas_in, has_arrived, keepers_in, world_in, mode_decided, seen_by_all}
@@ -39,7 +39,7 @@ abbrev row_made : Sys → Env → KMode → List Act → List (List ℤ) → Wor
 row_made sys env mode acts areas world = record { frame = sys.frame; env = env; mode = mode; acts = acts; areas = areas; world = world }
 
 pub frame_row : (spec : Parts) (sys : Sys) (input : Input) (env : Env) (mode : KMode) (acts : List Act) (areas : List (List ℤ)) (world : World)
-    → env ≡ env_of sys input → mode ≡ mode_decided spec sys.frame env (state_of sys) → acts ≡ acts_in spec (phase_at spec mode sys.frame) (commits_in sys input)
+    → env ≡ frame_env sys input → mode ≡ mode_decided spec sys.frame env (state_of sys) → acts ≡ acts_in spec (phase_at spec mode sys.frame) (commits_in sys input)
     → areas ≡ areas_in spec env (commits_in sys input) (state_of sys) (phase_at spec mode sys.frame) → world ≡ world_in spec sys.world areas
     → row_made sys env mode acts areas world ≡ row_given spec sys input
 frame_row spec sys input env mode acts areas world is_env is_mode is_acts is_areas is_world =

@@ -14,6 +14,7 @@ use Rattle.frame_model.specs.Phases.{halting_frames}
 abbrev pub leave_for : ConfId → ConfId → ℕ → KMode
 leave_for c t frame = if t.0 == c.0 then Stable c else Moving c (Some c) t frame
 
+-- In a stable mode: the configuration stays, or is left for what the table chooses.
 abbrev pub stable_decision : Parts → ConfId → ℕ → Env → KMode
 stable_decision spec c frame v = leave_for c (choose spec c v) frame
 
@@ -29,6 +30,7 @@ turn_to spec frame from halting to since settled t =
     if nat_lt (frame - since) (halting_frames spec halting) then Moving from halting t since
     else (if settled then Moving from (Some to) t frame else Moving from None t frame)
 
+-- In a moving mode: it goes on where the target that is wanted is the one it has, else it turns to the wanted one.
 abbrev pub moving_decision : Parts → ℕ → ConfId → Option ConfId → ConfId → ℕ → Bool → ConfId → KMode
 moving_decision spec frame from halting to since settled t =
     if t.0 == to.0 then Moving from halting to since else turn_to spec frame from halting to since settled t

@@ -1,6 +1,7 @@
 -- The one-thread trace of a script, and the images of its processors.
-use Rattle.std.specs.Prelude.{ℕ, zero, suc, ◌==◌, ℤ, Bool, false, List, ◌++◌, Option, if◌then◌else◌}
+use Rattle.std.specs.Prelude.{ℕ, zero, suc, ◌+◌, ◌*◌, ◌==◌, ℤ, pos, Bool, false, List, ◌++◌, slice_index_or, Option, if◌then◌else◌}
 use Rattle.std.specs.Option.{option_map_or}
+use Rattle.scram_types.specs.Eights.{eight}
 use Rattle.scram_types.specs.Searches.{listed_below}
 use Rattle.scram_types.specs.declared.ids.ProcId.{ProcId}
 use Rattle.scram_types.specs.declared.flights.Row.{Row}
@@ -32,6 +33,7 @@ row_at spec script f = row_of spec f (env_at spec script f) (λ p. commits spec 
 abbrev pub rows_of : Parts → ScriptParts → List Row
 rows_of spec script = listed_below (row_at spec script) script.frames
 
+-- The reconfigurations that the rows of a flight show.
 abbrev pub reports_of : Parts → ScriptParts → List Report
 reports_of spec script = reports spec (rows_of spec script)
 
@@ -39,6 +41,7 @@ reports_of spec script = reports spec (rows_of spec script)
 abbrev pub task_given : Parts → ScriptParts → ℕ → ℕ → Task
 task_given spec script f a = task_of spec (decided spec script f) f a
 
+-- A processor that may be none is processor p.
 abbrev pub is_proc : ℕ → Option ProcId → Bool
 is_proc p proc = option_map_or (λ (q : ProcId). q.0 == p) proc false
 
@@ -63,9 +66,14 @@ slot_after spec script p (suc f) a =
 abbrev pub image_of : (ℕ → List ℤ) → List ℤ
 image_of slot = slot 0 ++ slot 1 ++ slot 2 ++ slot 3 ++ slot 4 ++ slot 5 ++ slot 6 ++ slot 7
 
+-- The slot of application a in an image.
+abbrev pub slot_in : List ℤ → ℕ → List ℤ
+slot_in image a = eight (λ i. slice_index_or image (8 * a + i) (pos 0))
+
 -- The image of processor p after the first f frames, and what it drafts in frame f.
 abbrev pub image_after : Parts → ScriptParts → ℕ → ℕ → List ℤ
 image_after spec script p f = image_of (slot_after spec script p f)
 
+-- What processor p writes in frame f: its image with the slots of what it hosts there after the frame.
 abbrev pub draft : Parts → ScriptParts → ℕ → ℕ → List ℤ
 draft spec script p f = image_of (λ a. slot_drafted spec script p f a (slot_after spec script p f a))

@@ -9,29 +9,33 @@ use Rattle.fault_script.specs.declared.inputs.Input.{Input}
 use Rattle.frame_model.specs.declared.systems.Sys.{Sys}
 use Rattle.frame_model.specs.States.{State, row_of, step}
 
+-- What a system keeps from frame to frame.
 abbrev pub state_of : Sys → State
 state_of sys = record { mode = sys.mode; arrived = sys.settled; areas = sys.areas; keepers = sys.keepers; world = sys.world }
 
 -- The frame's environment: who restarts in it is up in it.
-abbrev pub env_of : Sys → Input → Env
-env_of sys input = record { up = bit_or sys.up input.back; factors = input.factors }
+abbrev pub frame_env : Sys → Input → Env
+frame_env sys input = record { up = bit_or sys.up input.back; factors = input.factors }
 
 -- Who is up commits, unless it halts before its mark.
 abbrev pub committing : Sys → Input → ℕ
-committing sys input = bit_and (env_of sys input).up (bit_not w8 input.early)
+committing sys input = bit_and (frame_env sys input).up (bit_not w8 input.early)
 
+-- Processor p commits in the frame.
 abbrev pub commits_in : Sys → Input → ℕ → Bool
 commits_in sys input p = has_bit (committing sys input) p
 
 -- Who halts in the frame, before or after its mark, is not up at its end.
 abbrev pub up_after : Sys → Input → ℕ
-up_after sys input = bit_and (env_of sys input).up (bit_not w8 (bit_or input.early input.late))
+up_after sys input = bit_and (frame_env sys input).up (bit_not w8 (bit_or input.early input.late))
 
+-- The row of the frame that a system flies with an input.
 abbrev pub row_given : Parts → Sys → Input → Row
-row_given spec sys input = row_of spec sys.frame (env_of sys input) (commits_in sys input) (state_of sys)
+row_given spec sys input = row_of spec sys.frame (frame_env sys input) (commits_in sys input) (state_of sys)
 
+-- The state after that frame.
 abbrev pub state_given : Parts → Sys → Input → State
-state_given spec sys input = step spec sys.frame (env_of sys input) (commits_in sys input) (state_of sys)
+state_given spec sys input = step spec sys.frame (frame_env sys input) (commits_in sys input) (state_of sys)
 
 -- The system of a state before frame f.
 abbrev pub sys_of : ℕ → ℕ → State → Sys
@@ -45,5 +49,6 @@ sys_of f up state = record {
   settled = state.arrived;
 }
 
+-- The system after that frame.
 abbrev pub sys_after : Parts → Sys → Input → Sys
 sys_after spec sys input = sys_of (suc sys.frame) (up_after sys input) (state_given spec sys input)

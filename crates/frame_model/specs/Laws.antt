@@ -53,6 +53,7 @@ choosing_anew spec frame (Stable c) settled arrived v = stable_decision spec c f
 choosing_anew spec frame (Moving from halting to since) settled arrived v =
     if arrived then stable_decision spec to frame v else moving_decision spec frame from halting to since settled (choose spec from v)
 
+-- Under the policy of retargeting, every frame of a reconfiguration decides by what the table chooses in it.
 abbrev pub RetargetChoosesAnew : Type 0
 RetargetChoosesAnew = (spec : Parts) → spec.policy ≡ Retarget → (frame : ℕ) (mode : KMode) (settled arrived : Bool) (v : Env)
     → decision spec frame mode settled arrived v ≡ choosing_anew spec frame mode settled arrived v
@@ -66,6 +67,7 @@ SettlesWithItsPhases = (spec : Parts) (from : ConfId) (halting : Option ConfId) 
 abbrev pub Runs : Parts → ConfId → Row → Type 0
 Runs spec c row = runs spec row.acts c ≡ true
 
+-- A row runs no configuration.
 abbrev pub RunsNone : Parts → Row → Type 0
 RunsNone spec row = (c : ℕ) → c < length spec.confs → runs spec row.acts (conf_id c) ≡ false
 
@@ -89,6 +91,7 @@ pub record ReadsAsTold (spec : Parts) (c : ConfId) (f : ℕ) : Type 0 where
       → (ended_in spec (Steady c) f (before ++ (left ∷ (between ++ (arrived ∷ rest)))) ≡ record { from = c; to = Some j; begin = f + length before; end = e } ∷ ended_in spec (Steady j) (e + 1) rest)
       × (reading_after spec (Steady c) f (before ++ (left ∷ (between ++ (arrived ∷ rest)))) ≡ reading_after spec (Steady j) (e + 1) rest)
 
+-- In every specification the rows are read as told, from any configuration and frame on.
 abbrev pub ReadsReconfigurations : Type 0
 ReadsReconfigurations = (spec : Parts) (c : ConfId) (f : ℕ) → ReadsAsTold spec c f
 
@@ -98,6 +101,7 @@ ReadsRowByRow = (spec : Parts) (rows : List Row) (row : Row)
     → (reading_of spec (rows ++ row ∷ []) ≡ read_row spec (reading_of spec rows) (length rows) row.acts)
     × (ended spec (rows ++ row ∷ []) ≡ ended spec rows ++ as_list (report_of spec (reading_of spec rows) (length rows) row.acts))
 
+-- A reconfiguration began before frame m.
 abbrev pub begins_below : ℕ → Report → Bool
 begins_below m report = nat_lt report.begin m
 

@@ -9,3 +9,4 @@ pub mod Outcomes
 pub mod Flights
 pub mod Laws
 pub mod Standing
+pub mod Storage

@@ -14,15 +14,19 @@ use Rattle.frame_model.specs.declared.tasks.Task.{Task}
 use Rattle.frame_model.specs.States.{act_after, area_at, area_on, keeper_at, keeper_on, seen_in}
 use Rattle.frame_model.specs.Tasks.{task_in}
 
+-- What application a does in a phase, where these processors commit.
 abbrev pub act_made : Parts → Phase → ℕ → ℕ → Act
 act_made spec phase committing a = act_after (has_bit committing) (task_in spec phase a)
 
+-- The area that the law of its kind gives application a for a task.
 abbrev pub law_made : Parts → Sys → Seen → ℕ → Task → List ℤ
 law_made spec sys seen a task = law (kind_of_app spec a) task.order (seen_in seen task.mode (area_at sys.areas a))
 
+-- The area of application a after a frame: that of the law where its processor commits, else as it was.
 abbrev pub area_made : Parts → Sys → Phase → ℕ → Seen → ℕ → List ℤ
 area_made spec sys phase committing seen a =
     area_on (has_bit committing) (law_made spec sys seen a (task_in spec phase a)) (area_at sys.areas a) (task_in spec phase a).proc
 
+-- Which processor keeps the area of application a after a frame.
 abbrev pub keeper_made : Parts → Sys → Phase → ℕ → ℕ → Option ProcId
 keeper_made spec sys phase committing a = keeper_on (has_bit committing) (keeper_at sys.keepers a) (task_in spec phase a).proc

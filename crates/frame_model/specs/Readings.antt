@@ -9,6 +9,7 @@ use Rattle.frame_model.specs.declared.readings.Reading.{Reading}
 use Rattle.frame_model.specs.declared.readings.Reading.TheVariants.{Steady, Leaving}
 use Rattle.frame_model.specs.Runs.{running, runs}
 
+-- How the reading goes on after a row of a reconfiguration: it ends where the row runs a configuration.
 abbrev pub arrive : ConfId → ℕ → Option ConfId → Reading
 arrive c begin None = Leaving c begin
 arrive c begin (Some j) = Steady j
@@ -19,6 +20,7 @@ abbrev pub read_row : Parts → Reading → ℕ → List Act → Reading
 read_row spec (Steady c) f acts = if runs spec acts c then Steady c else Leaving c f
 read_row spec (Leaving c begin) f acts = arrive c begin (running spec acts)
 
+-- The reconfiguration that ends in frame f, where the row runs a configuration.
 abbrev pub arrival : ConfId → ℕ → ℕ → Option ConfId → Option Report
 arrival c begin f None = None
 arrival c begin f (Some j) = Some (record { from = c; to = Some j; begin = begin; end = f })
@@ -33,6 +35,7 @@ abbrev pub close : Reading → ℕ → Option Report
 close (Steady c) frames = None
 close (Leaving c begin) frames = Some (record { from = c; to = None; begin = begin; end = frames })
 
+-- One item, or none.
 abbrev pub as_list : {A : Type 0} → Option A → List A
 as_list None = []
 as_list (Some x) = x ∷ []
@@ -52,6 +55,7 @@ ended_in spec reading f (row ∷ rows) =
 abbrev pub reading_of : Parts → List Row → Reading
 reading_of spec rows = reading_after spec (Steady spec.start) 0 rows
 
+-- The reconfigurations that end within the rows of a flight.
 abbrev pub ended : Parts → List Row → List Report
 ended spec rows = ended_in spec (Steady spec.start) 0 rows
 

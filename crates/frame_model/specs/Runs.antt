@@ -8,6 +8,7 @@ use Rattle.scram_types.specs.declared.orders.Act.{Act}
 use Rattle.scram_types.specs.declared.orders.Act.TheVariants as act
 use Rattle.scram_types.specs.Specification.{Parts}
 
+-- An application ran in this mode on this processor.
 abbrev pub is_ran_at : Place → Act → Bool
 is_ran_at place (act.Ran mode proc) = mode.0 == place.mode.0 && proc.0 == place.proc.0
 is_ran_at place (act.Halting k n proc) = false
@@ -17,6 +18,7 @@ is_ran_at place (act.Initialising k n proc) = false
 is_ran_at place act.Off = false
 is_ran_at place act.Lost = false
 
+-- An application was off.
 abbrev pub is_off : Act → Bool
 is_off (act.Ran mode proc) = false
 is_off (act.Halting k n proc) = false
@@ -31,6 +33,7 @@ abbrev pub is_run_by : Option Place → Act → Bool
 is_run_by None done = is_off done
 is_run_by (Some place) done = is_ran_at place done
 
+-- What application a did; off past the last.
 abbrev pub act_at : List Act → ℕ → Act
 act_at acts a = slice_index_or acts a act.Off
 

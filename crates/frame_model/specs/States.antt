@@ -37,12 +37,15 @@ pub record State : Type 0 where
   pub keepers : List (Option ProcId)
   pub world : World
 
+-- An area of eight zeros.
 abbrev pub zeros : List ℤ
 zeros = replicate 8 (pos 0)
 
+-- The area of application a; zeros past the last.
 abbrev pub area_at : List (List ℤ) → ℕ → List ℤ
 area_at areas a = slice_index_or areas a zeros
 
+-- The processor that keeps the area of application a, where one does.
 abbrev pub keeper_at : List (Option ProcId) → ℕ → Option ProcId
 keeper_at keepers a = slice_index_or keepers a None
 
@@ -71,6 +74,7 @@ seen_by_all spec v state = record {
 abbrev pub seen_in : Seen → Mode → List ℤ → Seen
 seen_in seen mode own = record seen { mode = mode; own = own }
 
+-- What application a sees in its mode.
 abbrev pub seen_by : Parts → Env → State → Mode → ℕ → Seen
 seen_by spec v state mode a = seen_in (seen_by_all spec v state) mode (area_at state.areas a)
 
@@ -102,21 +106,27 @@ abbrev pub keeper_on : (ℕ → Bool) → Option ProcId → Option ProcId → Op
 keeper_on commits old None = None
 keeper_on commits old (Some proc) = if commits proc.0 then Some proc else old
 
+-- What an application does of a task, where these processors commit.
 abbrev pub act_after : (ℕ → Bool) → Task → Act
 act_after commits task = act_on commits task task.proc
 
+-- Its area after the frame.
 abbrev pub area_after : Parts → Env → (ℕ → Bool) → State → Task → ℕ → List ℤ
 area_after spec v commits state task a = area_on commits (law_of spec v state task a) (area_at state.areas a) task.proc
 
+-- The processor that keeps its area after the frame.
 abbrev pub keeper_after : (ℕ → Bool) → State → Task → ℕ → Option ProcId
 keeper_after commits state task a = keeper_on commits (keeper_at state.keepers a) task.proc
 
+-- What the eight applications do in a phase.
 abbrev pub acts_in : Parts → Phase → (ℕ → Bool) → List Act
 acts_in spec phase commits = eight (λ a. act_after commits (task_in spec phase a))
 
+-- Their areas after the frame.
 abbrev pub areas_in : Parts → Env → (ℕ → Bool) → State → Phase → List (List ℤ)
 areas_in spec v commits state phase = eight (λ a. area_after spec v commits state (task_in spec phase a) a)
 
+-- The processors that keep them after the frame.
 abbrev pub keepers_in : Parts → (ℕ → Bool) → State → Phase → List (Option ProcId)
 keepers_in spec commits state phase = eight (λ a. keeper_after commits state (task_in spec phase a) a)
 
@@ -139,6 +149,7 @@ row_in spec f v commits state mode = record {
   world = world_in spec state.world (areas_in spec v commits state (phase_at spec mode f));
 }
 
+-- The row of frame f from a state, in an environment, where these processors commit.
 abbrev pub row_of : Parts → ℕ → Env → (ℕ → Bool) → State → Row
 row_of spec f v commits state = row_in spec f v commits state (mode_decided spec f v state)
 
@@ -156,6 +167,7 @@ step_with spec commits state row = record {
   world = row.world;
 }
 
+-- The state after that frame.
 abbrev pub step : Parts → ℕ → Env → (ℕ → Bool) → State → State
 step spec f v commits state = step_with spec commits state (row_of spec f v commits state)
 
@@ -164,9 +176,11 @@ abbrev pub start_area_at : Parts → ℕ → Option Place → List ℤ
 start_area_at spec a None = zeros
 start_area_at spec a (Some place) = start_of (kind_of_app spec a)
 
+-- The area that application a has before the first frame.
 abbrev pub start_area_of : Parts → ℕ → List ℤ
 start_area_of spec a = start_area_at spec a (place_of spec spec.start a)
 
+-- The processor that keeps it before the first frame: where the opening configuration places it.
 abbrev pub start_keeper_of : Parts → ℕ → Option ProcId
 start_keeper_of spec a = option_map (λ (place : Place). place.proc) (place_of spec spec.start a)
 
@@ -174,6 +188,7 @@ start_keeper_of spec a = option_map (λ (place : Place). place.proc) (place_of s
 abbrev pub start_world : World
 start_world = record { alt = pos 5000; climb = pos 0; heading = pos 900; bank = pos 0 }
 
+-- The state before the first frame.
 abbrev pub start_state : Parts → State
 start_state spec = record {
   mode = Stable spec.start;

@@ -12,6 +12,7 @@ use Rattle.frame_model.specs.declared.phases.Phase.TheVariants.{Running, Halting
 use Rattle.frame_model.specs.declared.tasks.Task.{Task}
 use Rattle.frame_model.specs.Phases.{phase_at}
 
+-- The task of an application that is off.
 abbrev pub off_task : Task
 off_task = record { order = Off; mode = record { 0 = 0 }; proc = None }
 
@@ -19,6 +20,7 @@ off_task = record { order = Off; mode = record { 0 = 0 }; proc = None }
 abbrev pub task_at : Order → Place → Task
 task_at order place = record { order = order; mode = place.mode; proc = Some place.proc }
 
+-- An order for an application at its place; off where it has none.
 abbrev pub task_for : Order → Option Place → Task
 task_for order None = off_task
 task_for order (Some place) = task_at order place

@@ -1,11 +1,12 @@
 //! One frame.
 
 ghost use Rattle.std.specs.Prelude.{◌≡◌, ◌<◌, ℕ};
+ghost use Rattle.scram_types.specs.declared.limits.TheConstants.{MAX_FRAMES};
 ghost use Rattle.scram_types.specs.Numbers.{word};
 ghost use Rattle.scram_types.specs.Specification.{Parts};
 ghost use Rattle.scram_types.specs.Eights.{eight};
 ghost use Rattle.app_model.specs.Racks.{RacksFit};
-ghost use Rattle.frame_model.specs.Frames.{committing, env_of, row_given, state_of, sys_after, up_after};
+ghost use Rattle.frame_model.specs.Frames.{committing, frame_env, row_given, state_of, sys_after, up_after};
 ghost use Rattle.frame_model.specs.Phases.{is_running, is_settled, phase_at};
 ghost use Rattle.frame_model.specs.States.{has_arrived, lead_of, world_in, seen_by_all};
 
@@ -25,13 +26,13 @@ use scram_types::{Area, Env, KMode, Mode, Row, Spec, World};
 /// halts before its mark; then the airframe makes a step. The row shows it, and `sys` is the state
 /// after the frame. It takes no memory.
 pub fn frame(spec: &Spec, sys: &mut Sys, input: &Input, racks: &mut [Rack]) -> Row
-    requires frame { sys.old.frame < 20000 }
+    requires frame { sys.old.frame < MAX_FRAMES }
     requires fits { RacksFit (λ b. kind_of (b.vtable, b.value)) (λ r. r.boxes.items) racks.old }
     ensures row { result ≡ row_given spec.now sys.old input.now }
     ensures after { sys.new ≡ sys_after spec.now sys.old input.now }
     ensures fits { RacksFit (λ b. kind_of (b.vtable, b.value)) (λ r. r.boxes.items) racks.new }
 {
-    let env = env_of(sys, input);
+    let env = frame_env(sys, input);
     let mode = decide(spec, sys, &env);
     let stage = stage_at(spec, &mode, sys.frame);
     let seen = seen_by_all(spec, sys, &env);
@@ -44,7 +45,7 @@ pub fn frame(spec: &Spec, sys: &mut Sys, input: &Input, racks: &mut [Rack]) -> R
     let acts = outcomes.acts;
     let areas = outcomes.areas;
     let keepers = outcomes.keepers;
-    let world = world_after(spec, sys.world, &areas);
+    let world = world_in(spec, sys.world, &areas);
     let row = Row {
         frame: sys.frame,
         env,
@@ -65,8 +66,8 @@ pub fn frame(spec: &Spec, sys: &mut Sys, input: &Input, racks: &mut [Rack]) -> R
     row
 }
 
-fn env_of(sys: &Sys, input: &Input) -> Env
-    ensures { result ≡ env_of sys.now input.now }
+fn frame_env(sys: &Sys, input: &Input) -> Env
+    ensures { result ≡ frame_env sys.now input.now }
 {
     let factors = input.factors;
     Env {
@@ -117,7 +118,8 @@ fn leads(spec: &Spec, areas: &[Area; 8]) -> [Area; 8]
     ]
 }
 
-fn world_after(spec: &Spec, world: World, areas: &[Area; 8]) -> World
+/// The world after a frame that leaves these areas. It takes no memory.
+pub fn world_in(spec: &Spec, world: World, areas: &[Area; 8]) -> World
     ensures { result ≡ world_in spec.now world areas.now }
 {
     let lead = lead_of(spec, areas, flight_control::KIND);
@@ -136,8 +138,8 @@ fn read_word(area: &Area, i: usize) -> i64
     area[i]
 }
 
-// Whether a frame in this phase was settled and its row ran the target.
-fn has_arrived(spec: &Spec, row: &Row, phase: Phase) -> bool
+/// Whether a frame in this phase was settled and its row ran the target.
+pub fn has_arrived(spec: &Spec, row: &Row, phase: Phase) -> bool
     requires { phase ≡ phase_at spec.now row.now.mode row.now.frame }
     ensures { result ≡ has_arrived spec.now row.now }
 {

@@ -121,7 +121,8 @@ fn seen_in(seen: &Seen, mode: Mode, own: &Area) -> Seen
     seen
 }
 
-fn act_of_order(order: Order, mode: Mode, proc: ProcId) -> Act
+/// What an application does of an order, where its processor commits.
+pub fn act_of_order(order: Order, mode: Mode, proc: ProcId) -> Act
     ensures { result ≡ act_of_order order mode proc }
 {
     match order {

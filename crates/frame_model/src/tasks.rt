@@ -2,6 +2,7 @@
 
 ghost use Rattle.std.specs.Prelude.{◌≡◌, ◌<◌, IfSome};
 ghost use Rattle.dep_order.specs.Timetables.{halt_time, init_time, prepare_time};
+ghost use Rattle.scram_types.specs.Eights.{eight};
 ghost use Rattle.frame_model.specs.Phases.{offsets_in};
 ghost use Rattle.frame_model.specs.Tasks.{halting_order, initialising_order, preparing_order, task_for, task_in, task_of};
 
@@ -26,6 +27,23 @@ pub fn order_of(spec: &Spec, mode: &KMode, frame: u32, app: AppId) -> Task
     ensures { result ≡ task_of spec.now mode.now frame app.0 }
 {
     task_in(spec, &stage_at(spec, mode, frame), app)
+}
+
+/// What the kernel's mode asks of each application in a frame, by one timetable. It takes no memory.
+pub fn tasks_of(spec: &Spec, mode: &KMode, frame: u32) -> [Task; 8]
+    ensures { result ≡ eight (task_of spec.now mode.now frame) }
+{
+    let stage = stage_at(spec, mode, frame);
+    [
+        task_in(spec, &stage, AppId(0)),
+        task_in(spec, &stage, AppId(1)),
+        task_in(spec, &stage, AppId(2)),
+        task_in(spec, &stage, AppId(3)),
+        task_in(spec, &stage, AppId(4)),
+        task_in(spec, &stage, AppId(5)),
+        task_in(spec, &stage, AppId(6)),
+        task_in(spec, &stage, AppId(7)),
+    ]
 }
 
 /// What a phase asks of an application.

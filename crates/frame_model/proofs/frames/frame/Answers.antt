@@ -4,12 +4,12 @@ use Rattle.frame_model.proofs.frames.frame.Goals as goal
 pub returns-clause-row : goal.returns-clause-row
 returns-clause-row g c =
     let outcomes = c.perform_all-outcomes.ensures in
-    frame_row c.args.spec.now c.args.sys.now c.args.input.now c.env_of-env.result c.decide-mode.result
-    c.perform_all-outcomes.result.acts c.perform_all-outcomes.result.areas c.world_after-world.result
-    c.env_of-env.ensures c.decide-mode.ensures
+    frame_row c.args.spec.now c.args.sys.now c.args.input.now c.frame_env-env.result c.decide-mode.result
+    c.perform_all-outcomes.result.acts c.perform_all-outcomes.result.areas c.world_in-world.result
+    c.frame_env-env.ensures c.decide-mode.ensures
     (acts_are c.args.spec.now c.args.sys.now c.args.input.now _ c.stage_at-stage.result.phase c.committing.result _ c.stage_at-stage.ensures.phase c.committing.ensures outcomes.acts)
-    (areas_are c.args.spec.now c.args.sys.now c.args.input.now c.env_of-env.result _ c.stage_at-stage.result.phase c.seen_by_all-seen.result c.committing.result _ c.stage_at-stage.ensures.phase c.committing.ensures c.seen_by_all-seen.ensures outcomes.areas)
-    c.world_after-world.ensures
+    (areas_are c.args.spec.now c.args.sys.now c.args.input.now c.frame_env-env.result _ c.stage_at-stage.result.phase c.seen_by_all-seen.result c.committing.result _ c.stage_at-stage.ensures.phase c.committing.ensures c.seen_by_all-seen.ensures outcomes.areas)
+    c.world_in-world.ensures
 
 pub returns-clause-after : goal.returns-clause-after
 returns-clause-after g c =

@@ -1,0 +1,34 @@
+-- What stable storage holds of a script: what the kernel says of each frame, and the marks of the processors.
+use Rattle.std.specs.Prelude.{ℕ, zero, suc, ◌-◌, if◌then◌else◌}
+use Rattle.scram_types.specs.Scripts.{ScriptParts}
+use Rattle.scram_types.specs.Specification.{Parts}
+use Rattle.bank_words.specs.declared.images.KernelImage.{KernelImage}
+use Rattle.bank_words.specs.Marks.{mark_word}
+use Rattle.fault_script.specs.Environments.{env_at}
+use Rattle.fault_script.specs.Times.{commits}
+use Rattle.frame_model.specs.Flights.{decided, state_after}
+
+-- What the kernel says of frame f, also of the frame after the last one: its mode and its environment, and the keepers
+-- and the world as they stand before it.
+abbrev pub kernel_image : Parts → ScriptParts → ℕ → KernelImage
+kernel_image spec script f = record {
+  frame = f;
+  mode = decided spec script f;
+  env = env_at spec script f;
+  keepers = (state_after spec script f).keepers;
+  world = (state_after spec script f).world;
+}
+
+-- How many frames there are up to the last one below f that processor p commits; 0 where there is none.
+abbrev pub last_count : Parts → ScriptParts → ℕ → ℕ → ℕ
+last_count spec script p zero = 0
+last_count spec script p (suc f) = if commits spec script p f then suc f else last_count spec script p f
+
+-- The bank that holds the image of processor p after the first f frames: the other one after each commit.
+abbrev pub bank_after : Parts → ScriptParts → ℕ → ℕ → ℕ
+bank_after spec script p zero = 0
+bank_after spec script p (suc f) = if commits spec script p f then 1 - bank_after spec script p f else bank_after spec script p f
+
+-- The mark of processor p after the first f frames.
+abbrev pub mark_after : Parts → ScriptParts → ℕ → ℕ → ℕ
+mark_after spec script p f = mark_word (last_count spec script p f) (bank_after spec script p f)
