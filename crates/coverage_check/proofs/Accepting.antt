@@ -6,6 +6,7 @@ use Rattle.std.specs.Option.{option_map_or, option_or}
 use Rattle.std.proofs.lemmas.Option.{slice_get_within}
 use Rattle.std.proofs.lemmas.Bool.{not-true, not-false, not_from_true}
 use Rattle.scram_types.proofs.Naturals.{below, at_most_test, at_most, not_below_test, not_below, below_test, equal_test, equal}
+use Rattle.scram_types.specs.declared.limits.TheConstants.{MAX_ENVIRONMENTS}
 use Rattle.scram_types.specs.declared.ids.ConfId.{ConfId}
 use Rattle.scram_types.specs.declared.flights.Env.{Env}
 use Rattle.scram_types.specs.declared.specification.Bound.{Bound}
@@ -157,7 +158,7 @@ module _ (spec : Parts) (made : IsSpec spec) where
       let precondition = none_right (invariant_refusal spec) (precondition_refusal spec) range in
       record {
         needs_on = λ c a known there. not_shown (lacks_need spec c a) _ (below_none _ (length spec.apps) a (below_none (need_refusal_in spec) (length spec.confs) c.0 need known) there);
-        few_states = not_below 16384 (states spec) (not_shown _ _ state);
+        few_states = not_below MAX_ENVIRONMENTS (states spec) (not_shown _ _ state);
         shaped = shaped shape;
         carried = λ c p known there. not_shown (is_overloaded spec c p) _ (below_none _ (length spec.procs) p (below_none (load_refusal_in spec) (length spec.confs) c.0 load known) there);
         ruled = λ c v known belongs scope. not-false (has_rule spec c v) (met demand.HasRule rule c v known belongs scope);
@@ -182,7 +183,7 @@ module _ (spec : Parts) (made : IsSpec spec) where
         none_below _ (length spec.apps) (λ a there. none_shown (lacks_need spec (conf_id c) a) _ (accepts.needs_on (conf_id c) a known there)))
 
     no_state : state_refusal spec ≡ None
-    no_state = none_shown _ _ (not_below_test 16384 (states spec) accepts.few_states)
+    no_state = none_shown _ _ (not_below_test MAX_ENVIRONMENTS (states spec) accepts.few_states)
 
     no_shape : shape_refusal spec ≡ None
     no_shape = none_below (shape_refusal_of spec) (length spec.confs) (λ c known.

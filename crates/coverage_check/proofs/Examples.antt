@@ -27,14 +27,14 @@ monitor = record { name = []; kind = record { 0 = 2 }; needs = []; modes = mode 
 abbrev placed : ℕ → Conf
 placed m = record { name = []; places = Some (record { mode = record { 0 = m }; proc = proc_id 0 }) ∷ replicate 7 None }
 
-abbrev bound : ℕ → ℕ → ℕ → Bound
+abbrev pub bound : ℕ → ℕ → ℕ → Bound
 bound i j frames = record { from = conf_id i; to = conf_id j; frames = frames }
 
 -- configuration 0 where the factor has its first value
-abbrev first_rule : Choice
+abbrev pub first_rule : Choice
 first_rule = record { from = None; wants = record { factor = record { 0 = 0 }; value = 0 } ∷ []; up = 0; to = conf_id 0 }
 
-abbrev other_rule : Choice
+abbrev pub other_rule : Choice
 other_rule = record { from = None; wants = []; up = 0; to = conf_id 1 }
 
 abbrev bounds : ℕ → List Bound

@@ -1,6 +1,7 @@
 -- When a specification is accepted, and what is shown where it is not.
 use Rattle.std.specs.Prelude.{◌≡◌, ◌≢◌, ◌⊎◌, ℕ, ◌+◌, ◌<◌, ◌≤◌, true, false, length, slice_get, Option, Some, None}
 use Rattle.std.specs.Option.{option_or}
+use Rattle.scram_types.specs.declared.limits.TheConstants.{MAX_ENVIRONMENTS}
 use Rattle.scram_types.specs.declared.ids.ConfId.{ConfId}
 use Rattle.scram_types.specs.declared.flights.Env.{Env}
 use Rattle.scram_types.specs.declared.specification.Bound.{Bound}
@@ -25,17 +26,21 @@ use Rattle.coverage_check.specs.Holding.{breaks_entering, breaks_from, holds_ent
 abbrev pub form_refusal : Parts → Option Shown
 form_refusal spec = option_or (need_refusal spec) (option_or (state_refusal spec) (option_or (shape_refusal spec) (load_refusal spec)))
 
+-- The first refusal for what the table chooses.
 abbrev pub choice_refusal : Parts → Option Shown
 choice_refusal spec =
     option_or (demand_refusal spec demand.HasRule) (option_or (demand_refusal spec demand.CanRun)
     (option_or (demand_refusal spec demand.Stays) (start_refusal spec)))
 
+-- The first refusal for bounds and the window.
 abbrev pub time_refusal : Parts → Option Shown
 time_refusal spec = option_or (bound_refusal spec) (window_refusal spec)
 
+-- The first refusal for invariants and preconditions.
 abbrev pub range_refusal : Parts → Option Shown
 range_refusal spec = option_or (invariant_refusal spec) (precondition_refusal spec)
 
+-- The refusal of the least condition that a specification breaks, at its first place.
 abbrev pub first_refusal : Parts → Option Shown
 first_refusal spec = option_or (form_refusal spec) (option_or (choice_refusal spec) (option_or (time_refusal spec) (range_refusal spec)))
 
@@ -58,7 +63,7 @@ pub record IsKept (spec : Parts) (inv : Invariant) (i : ConfId) : Type 0 where
 -- What is asked of a specification so that every reconfiguration is assured.
 pub record Accepts (spec : Parts) : Type 0 where
   pub needs_on : (c : ConfId) (a : ℕ) → c.0 < length spec.confs → a < length spec.apps → lacks_need spec c a ≡ false
-  pub few_states : states spec ≤ 16384
+  pub few_states : states spec ≤ MAX_ENVIRONMENTS
   pub shaped : (c : ConfId) → c.0 < length spec.confs → IsShaped spec c
   pub carried : (c : ConfId) (p : ℕ) → c.0 < length spec.confs → p < length spec.procs → is_overloaded spec c p ≡ false
   pub ruled : (c : ConfId) (v : Env) → c.0 < length spec.confs → IsEnv spec v → in_scope spec v ≡ true → has_rule spec c v ≡ true
@@ -75,6 +80,7 @@ pub record RefusesTheRest (spec : Parts) : Type 0 where
   pub accepted : first_refusal spec ≡ None → Accepts spec
   pub unrefused : Accepts spec → first_refusal spec ≡ None
 
+-- A specification in which no refusal is found is accepted.
 abbrev pub AcceptsWhereUnrefused : Type 0
 AcceptsWhereUnrefused = (spec : Parts) → IsSpec spec → RefusesTheRest spec
 
@@ -101,5 +107,6 @@ pub data IsBroken (spec : Parts) (shown : Shown) : Type 0 where
   PreconditionBroken : (k : ℕ) (pre : Precondition) → slice_get spec.preconditions k ≡ Some pre → breaks_entering spec pre ≡ true
       → shown ≡ shown_at 12 pre.conf.0 (other.Item k) → IsBroken spec shown
 
+-- What a refusal shows is broken in the specification.
 abbrev pub ShownIsBroken : Type 0
 ShownIsBroken = (spec : Parts) (shown : Shown) → first_refusal spec ≡ Some shown → IsBroken spec shown

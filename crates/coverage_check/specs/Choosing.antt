@@ -21,6 +21,7 @@ is_unmet spec demand.HasRule c v = not (has_rule spec c v)
 is_unmet spec demand.CanRun c v = not (is_runnable spec (choose spec c v) v)
 is_unmet spec demand.Stays c v = not ((choose spec (choose spec c v) v).0 == (choose spec c v).0)
 
+-- The number of the condition that a demand belongs to.
 abbrev pub number_of_demand : Demand → ℕ
 number_of_demand demand.HasRule = 5
 number_of_demand demand.CanRun = 6
@@ -40,10 +41,12 @@ unmet_env_at spec asked c n = shown_if (is_number_in_scope spec n && is_unmet sp
 abbrev pub first_unmet_env : Parts → Demand → ConfId → Option Env
 first_unmet_env spec asked c = first_below (unmet_env_at spec asked c) (environments spec)
 
+-- The refusal for the first environment in which configuration c does not meet a demand.
 abbrev pub demand_refusal_of : Parts → Demand → ℕ → Option Shown
 demand_refusal_of spec asked c =
     option_map (λ (v : Env). shown_in (number_of_demand asked) c v (target_shown spec asked (conf_id c) v)) (first_unmet_env spec asked (conf_id c))
 
+-- The refusal for the first configuration that does not meet a demand.
 abbrev pub demand_refusal : Parts → Demand → Option Shown
 demand_refusal spec asked = first_below (demand_refusal_of spec asked) (length spec.confs)
 
@@ -51,6 +54,7 @@ demand_refusal spec asked = first_below (demand_refusal_of spec asked) (length s
 abbrev pub leaves_start : Parts → Bool
 leaves_start spec = not ((choose spec spec.start (opening_env spec)).0 == spec.start.0)
 
+-- The refusal of a start that the table leaves in the opening environment.
 abbrev pub start_refusal : Parts → Option Shown
 start_refusal spec =
     shown_if (leaves_start spec) (shown_in 8 spec.start.0 (opening_env spec) (other.Conf (choose spec spec.start (opening_env spec))))

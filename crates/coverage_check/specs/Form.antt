@@ -2,6 +2,7 @@
 use Rattle.std.specs.Prelude.{ℕ, zero, suc, ◌+◌, Bool, true, false, not, ◌&&◌, ◌==◌, nat_lt, List, length, slice_get, Option, Some, None, if◌then◌else◌}
 use Rattle.std.specs.Option.{option_map_or}
 use Rattle.std.specs.List.{list_any}
+use Rattle.scram_types.specs.declared.limits.TheConstants.{MAX_ENVIRONMENTS}
 use Rattle.scram_types.specs.declared.ids.AppId.{AppId}
 use Rattle.scram_types.specs.declared.ids.ConfId.{ConfId}
 use Rattle.scram_types.specs.declared.specification.AppSpec.{AppSpec}
@@ -31,12 +32,13 @@ lacks_need spec c a = is_on spec c a && has_off_need spec c a
 
 -- More environments are in scope than a table is looked through for.
 abbrev pub has_too_many_states : Parts → Bool
-has_too_many_states spec = nat_lt 16384 (states spec)
+has_too_many_states spec = nat_lt MAX_ENVIRONMENTS (states spec)
 
 -- No application is on in configuration c.
 abbrev pub is_empty : Parts → ConfId → Bool
 is_empty spec c = all_below (λ a. not (is_on spec c a)) 8
 
+-- Two places are one: both off, or the same mode on the same processor.
 abbrev pub is_same_place : Option Place → Option Place → Bool
 is_same_place None None = true
 is_same_place None (Some other) = false
@@ -58,6 +60,7 @@ abbrev pub load_below : Parts → ConfId → ℕ → ℕ → ℕ
 load_below spec c p zero = 0
 load_below spec c p (suc n) = load_below spec c p n + load_of spec c p n
 
+-- The capacity of processor p in load units; 0 where there is none.
 abbrev pub capacity_of : Parts → ℕ → ℕ
 capacity_of spec p = option_map_or (λ (processor : Proc). processor.capacity) (slice_get spec.procs p) 0
 
@@ -69,23 +72,30 @@ is_overloaded spec c p = nat_lt (capacity_of spec p) (load_below spec c p (lengt
 abbrev pub need_refusal_in : Parts → ℕ → Option Shown
 need_refusal_in spec c = first_below (λ a. shown_if (lacks_need spec (conf_id c) a) (shown_at 1 c (other.App (app_id a)))) (length spec.apps)
 
+-- The refusal for the first application that is on without what it needs.
 abbrev pub need_refusal : Parts → Option Shown
 need_refusal spec = first_below (need_refusal_in spec) (length spec.confs)
 
+-- The refusal of too many environments.
 abbrev pub state_refusal : Parts → Option Shown
 state_refusal spec = shown_if (has_too_many_states spec) (shown_nowhere 2 (other.Count (states spec)))
 
+-- The refusal of a configuration that is the same as an earlier one.
 abbrev pub twin_refusal_of : Parts → ℕ → Option Shown
 twin_refusal_of spec c = first_below (λ d. shown_if (is_same spec (conf_id c) (conf_id d)) (shown_at 3 c (other.Conf (conf_id d)))) c
 
+-- The refusal of a configuration that is empty or the same as an earlier one.
 abbrev pub shape_refusal_of : Parts → ℕ → Option Shown
 shape_refusal_of spec c = if is_empty spec (conf_id c) then Some (shown_at 3 c other.Nothing) else twin_refusal_of spec c
 
+-- The refusal of the first configuration that is empty or a twin.
 abbrev pub shape_refusal : Parts → Option Shown
 shape_refusal spec = first_below (shape_refusal_of spec) (length spec.confs)
 
+-- The refusal for the first processor that a configuration overloads.
 abbrev pub load_refusal_in : Parts → ℕ → Option Shown
 load_refusal_in spec c = first_below (λ p. shown_if (is_overloaded spec (conf_id c) p) (shown_at 4 c (other.Proc (proc_id p)))) (length spec.procs)
 
+-- The refusal for the first configuration that overloads a processor.
 abbrev pub load_refusal : Parts → Option Shown
 load_refusal spec = first_below (load_refusal_in spec) (length spec.confs)

@@ -20,16 +20,16 @@ use Rattle.coverage_check.specs.Timing.{is_target}
 abbrev pub holds : ℤ → ℤ → ℤ × ℤ → Bool
 holds low high range = int_le low range.0 && int_le range.1 high
 
--- An invariant's interval holds the range of its variable during an act in a mode: 1 run, 2 halt,
--- 3 prepare, 4 init.
+-- An invariant's interval holds the range of its variable for a status in a mode: 1 as the application
+-- runs, 2 as it halts, 3 as it prepares, 4 as it initialises.
 abbrev pub holds_during : Parts → Invariant → ℕ → ℕ → Bool
-holds_during spec inv act mode = holds inv.least inv.greatest (during (kind_of_app spec inv.app.0) act mode inv.variable)
+holds_during spec inv status mode = holds inv.least inv.greatest (during (kind_of_app spec inv.app.0) status mode inv.variable)
 
 -- It holds the zeros of an application that is off.
 abbrev pub holds_off : Invariant → Bool
 holds_off inv = holds inv.least inv.greatest (pos 0, pos 0)
 
--- It holds what is seen while the source is still left: the acts init, run and halt in the source's mode.
+-- It holds what is seen while the source is still left: in the source's mode, as the application initialises, runs and halts.
 abbrev pub holds_leaving : Parts → Invariant → Option Place → Bool
 holds_leaving spec inv None = holds_off inv
 holds_leaving spec inv (Some place) =
@@ -44,6 +44,7 @@ holds_reaching spec inv (Some place) = holds_during spec inv 3 place.mode.0 && h
 abbrev pub holds_on_way : Parts → Invariant → ConfId → ℕ → Bool
 holds_on_way spec inv i j = not (is_target spec i j) || holds_reaching spec inv (place_of spec (conf_id j) inv.app.0)
 
+-- An invariant holds on the way from a configuration to each of its targets.
 abbrev pub holds_reached : Parts → Invariant → ConfId → Bool
 holds_reached spec inv i = all_below (holds_on_way spec inv i) (length spec.confs)
 
@@ -55,12 +56,15 @@ holds_from spec inv i = holds_leaving spec inv (place_of spec i inv.app.0) && ho
 abbrev pub breaks_from : Parts → Invariant → ConfId → Bool
 breaks_from spec inv i = has_source inv.from i && not (holds_from spec inv i)
 
+-- The refusal of invariant number k for the first configuration from which it can break.
 abbrev pub invariant_refusal_of : Parts → ℕ → Invariant → Option Shown
 invariant_refusal_of spec k inv = first_below (λ i. shown_if (breaks_from spec inv (conf_id i)) (shown_at 11 i (other.Item k))) (length spec.confs)
 
+-- The refusal of the invariant of this number, where there is one.
 abbrev pub invariant_refusal_at : Parts → ℕ → Option Shown
 invariant_refusal_at spec k = option_map_or (invariant_refusal_of spec k) (slice_get spec.invariants k) None
 
+-- The refusal of the first invariant that can break.
 abbrev pub invariant_refusal : Parts → Option Shown
 invariant_refusal spec = first_below (invariant_refusal_at spec) (length spec.invariants)
 
@@ -69,14 +73,18 @@ abbrev pub holds_entering : Parts → Precondition → Option Place → Bool
 holds_entering spec pre None = holds pre.least pre.greatest (pos 0, pos 0)
 holds_entering spec pre (Some place) = holds pre.least pre.greatest (after_init (kind_of_app spec pre.app.0) place.mode.0 pre.variable)
 
+-- A precondition can be missed as its configuration is entered.
 abbrev pub breaks_entering : Parts → Precondition → Bool
 breaks_entering spec pre = not (holds_entering spec pre (place_of spec pre.conf pre.app.0))
 
+-- The refusal of precondition number k, where it can be missed.
 abbrev pub precondition_refusal_of : Parts → ℕ → Precondition → Option Shown
 precondition_refusal_of spec k pre = shown_if (breaks_entering spec pre) (shown_at 12 pre.conf.0 (other.Item k))
 
+-- The refusal of the precondition of this number, where there is one.
 abbrev pub precondition_refusal_at : Parts → ℕ → Option Shown
 precondition_refusal_at spec k = option_map_or (precondition_refusal_of spec k) (slice_get spec.preconditions k) None
 
+-- The refusal of the first precondition that can be missed.
 abbrev pub precondition_refusal : Parts → Option Shown
 precondition_refusal spec = first_below (precondition_refusal_at spec) (length spec.preconditions)

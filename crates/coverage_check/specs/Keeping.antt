@@ -17,5 +17,6 @@ pub record KeepsScope (spec : Parts) (script : ScriptParts) : Type 0 where
   pub opens : env_at spec script 0 ≡ opening_env spec
   pub stays : (f : ℕ) → f ≤ script.frames → StaysInScope spec script f
 
+-- In every frame of every mission the environment is in scope.
 abbrev pub MissionsKeepScope : Type 0
 MissionsKeepScope = (mission : MissionParts) → IsSpec mission.spec → IsMission mission → KeepsScope mission.spec mission.script

@@ -67,10 +67,12 @@ asked_bounds spec i = bits_below (is_bound_asked spec i) (length spec.confs)
 abbrev pub lacks_bound : Parts → ConfId → ℕ → Bool
 lacks_bound spec i j = is_bound_asked spec i j && not (is_bounded spec i (conf_id j))
 
+-- The refusal for the first target of configuration i that lacks a bound that is long enough.
 abbrev pub bound_refusal_of : Parts → ℕ → Option Shown
 bound_refusal_of spec i =
     first_below (λ j. shown_if (lacks_bound spec (conf_id i) j) (shown_at 9 i (other.Least (conf_id j) (least spec (conf_id i) (conf_id j))))) (length spec.confs)
 
+-- The refusal for the first configuration that lacks a bound.
 abbrev pub bound_refusal : Parts → Option Shown
 bound_refusal spec = first_below (bound_refusal_of spec) (length spec.confs)
 
@@ -83,5 +85,6 @@ greatest_bound (bound ∷ bounds) = max bound.frames (greatest_bound bounds)
 abbrev pub has_short_window : Parts → Bool
 has_short_window spec = nat_lt spec.window (greatest_bound spec.bounds + 1)
 
+-- The refusal of a window that is shorter than the longest bound.
 abbrev pub window_refusal : Parts → Option Shown
 window_refusal spec = shown_if (has_short_window spec) (shown_nowhere 10 (other.Count (greatest_bound spec.bounds)))

@@ -9,10 +9,8 @@ ghost use Rattle.coverage_check.specs.Form.{capacity_of, has_off, has_off_need, 
 use crate::places::{count_apps, count_confs, count_procs};
 use crate::shown::{Other, Shown};
 use choice_table::states;
+use scram_types::limits::MAX_ENVIRONMENTS;
 use scram_types::{AppId, ConfId, Mode, ModeSpec, Place, ProcId, Spec};
-
-// The most environments that an acceptance looks through.
-const MAX_STATES: u32 = 16_384;
 
 // An application that is on while something that it needs is off.
 pub(crate) fn refuse_need(spec: &Spec) -> Option<Shown>
@@ -64,7 +62,7 @@ pub fn refuse_states(spec: &Spec) -> Option<Shown>
     ensures { result ≡ state_refusal spec.now }
 {
     let states = states(spec);
-    if MAX_STATES < states {
+    if MAX_ENVIRONMENTS < states {
         Some(Shown::nowhere(2, Other::Count(states)))
     } else {
         None

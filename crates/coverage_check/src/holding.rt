@@ -121,14 +121,14 @@ fn holds_reaching(spec: &Spec, inv: &Invariant, place: Option<Place>) -> bool
     }
 }
 
-// Whether it holds the range of its variable during an act, by the act's status number, in a mode.
-fn holds_during(spec: &Spec, inv: &Invariant, act: u8, mode: Mode) -> bool
-    ensures { result ≡ holds_during spec.now inv.now act mode.0 }
+// Whether it holds the range of its variable for a status in a mode.
+fn holds_during(spec: &Spec, inv: &Invariant, status: u8, mode: Mode) -> bool
+    ensures { result ≡ holds_during spec.now inv.now status mode.0 }
 {
     holds(
         inv.least,
         inv.greatest,
-        during(spec.kind_of_app(inv.app), act, mode, inv.variable),
+        during(spec.kind_of_app(inv.app), status, mode, inv.variable),
     )
 }
 
