@@ -89,7 +89,7 @@ ran_read spec next line ws told joined_is w0 count w5 w2 h =
     ∙ ap (λ (text : List ℕ). text ++ codes "\n") (sym (joined_is ∙ ap (join_with_byte 32) listed)))
 
 -- the word of a phase
-abbrev tag_of : Phase → List ℕ
+abbrev pub tag_of : Phase → List ℕ
 tag_of Halting = codes "halting"
 tag_of Preparing = codes "preparing"
 tag_of Initialising = codes "initialising"
@@ -105,7 +105,7 @@ phase_tag : (text : List ℕ) (phase : Phase) → phase_named text ≡ Some phas
 phase_tag text phase h = tag_by (bytes_eq text (codes "halting")) (bytes_eq text (codes "preparing")) (bytes_eq text (codes "initialising")) text phase
     (same_text text (codes "halting")) (same_text text (codes "preparing")) (same_text text (codes "initialising")) h
 
-phase_line_text : (spec : Parts) (app : AppSpec) (phase : Phase) (k n : ℕ) (proc : ProcId) (area : List ℤ) →
+pub phase_line_text : (spec : Parts) (app : AppSpec) (phase : Phase) (k n : ℕ) (proc : ProcId) (area : List ℤ) →
     join_with_byte 32 (codes "app" ∷ app.name ∷ tag_of phase ∷ (decimal k ++ 47 ∷ decimal n) ∷ proc_name spec proc.0 ∷ codes ":" ∷ map signed_decimal area) ++ codes "\n"
     ≡ app_line spec app (phase_act phase k n proc) area
 phase_line_text spec app Halting k n proc area = phase_shape app.name (codes "halting") (decimal k) (decimal n) (proc_name spec proc.0) area

@@ -14,3 +14,8 @@ mod ReportOnly
 mod TraceOnly
 mod FirstBroken
 mod LeastRules
+mod WordBytes
+mod NamesBack
+mod ListsBack
+mod LinesBack
+mod FlightsBack

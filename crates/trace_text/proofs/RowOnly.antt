@@ -33,7 +33,7 @@ use Rattle.trace_text.proofs.Spelling.{number_spelled, signed_spelled}
 use Rattle.trace_text.proofs.Splitting.{some_piece}
 
 -- names joined by commas
-further_join : (name : List ℕ) (names : List (List ℕ)) → join_with_byte 44 (name ∷ names) ≡ name ++ further_joined names
+pub further_join : (name : List ℕ) (names : List (List ℕ)) → join_with_byte 44 (name ∷ names) ≡ name ++ further_joined names
 further_join name [] = sym (append-nil name)
 further_join name (next ∷ names) = ap (λ (rest : List ℕ). name ++ 44 ∷ rest) (further_join next names)
 

@@ -9,3 +9,4 @@ pub mod ReportReading
 pub mod AppReading
 pub mod TraceReading
 pub mod LineRules
+pub mod Flights
