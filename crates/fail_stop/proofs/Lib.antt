@@ -1,0 +1,15 @@
+pub mod EachState
+pub mod Examples
+pub mod Facts
+pub mod FrameFacts
+pub mod FrameSteps
+pub mod HaltSteps
+pub mod Keeps
+pub mod KernelEvents
+pub mod ListLaw
+pub mod Moves
+pub mod Plans
+pub mod ProcessorEvents
+pub mod Progress
+pub mod Reading
+pub mod ScriptBorder

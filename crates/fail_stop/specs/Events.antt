@@ -1,0 +1,193 @@
+-- The event machine: places, words, the next event of an actor, what an event does.
+use Rattle.std.specs.Prelude.{◌≡◌, ℕ, zero, suc, ◌+◌, ◌-◌, ◌*◌, ◌/◌, ◌%◌, ◌<◌, Bool, true, false, not, ◌&&◌, ◌||◌, Option, Some, None, if◌then◌else◌, nat_lt, nat_le, nat_eq}
+use Rattle.bank_words.specs.declared.events.Event.{Event}
+use Rattle.bank_words.specs.declared.events.Event.TheVariants.{Start, Look, Store, Flip, Done, Halt, KNote, KStore, Release}
+use Rattle.scram_types.specs.Lookups.{proc_id}
+use Rattle.fail_stop.specs.Flights.{Flight, word_in, back_by}
+
+-- a frame and the steps made in it, or halted in a frame
+pub data Place : Type 0 where
+  At : ℕ → ℕ → Place
+  Halted : ℕ → Place
+
+pub record Places : Type 0 where
+  pub proc : ℕ → Place
+  pub frame : ℕ
+  pub step : ℕ
+
+pub data Word : Type 0 where
+  ReleaseWord : Word
+  KernelWord : ℕ → Word
+  MarkWord : ℕ → Word
+  EndWord : ℕ → Word
+  BankWord : ℕ → ℕ → ℕ → Word
+
+-- step n of p in frame f, where n steps were made before it: start, looks, stores, flip, done, cut by a halt
+abbrev pub halts_at : Flight → ℕ → Option ℕ → Bool
+halts_at m n None = false
+halts_at m n (Some s) = nat_eq n (m.procs + 1 + s)
+
+abbrev pub plan_step : Flight → ℕ → ℕ → Option Event
+plan_step m p n =
+    if nat_eq n 0 then Some (Start (proc_id p))
+    else (if nat_le n m.procs then Some (Look (proc_id p) (proc_id (n - 1)))
+    else (if nat_lt n (m.procs + 1 + m.width) then Some (Store (proc_id p) (n - (m.procs + 1)))
+    else (if nat_eq n (m.procs + 1 + m.width) then Some (Flip (proc_id p))
+    else (if nat_eq n (m.procs + 2 + m.width) then Some (Done (proc_id p)) else None))))
+
+abbrev pub plan : Flight → ℕ → ℕ → ℕ → Option Event
+plan m p f n = if halts_at m n (m.halt p f) then Some (Halt (proc_id p)) else plan_step m p n
+
+abbrev pub next_halted : ℕ → ℕ → ℕ → Option ℕ → Option Event
+next_halted p h release None = None
+next_halted p h release (Some r) = if nat_lt h r && nat_lt r release then Some (Start (proc_id p)) else None
+
+abbrev pub next_from : Flight → ℕ → ℕ → Place → Option Event
+next_from m p release (At f zero) = if nat_lt f m.frames && nat_lt f release then Some (Start (proc_id p)) else None
+next_from m p release (At f (suc n)) = plan m p f (suc n)
+next_from m p release (Halted h) = next_halted p h release (m.restart p)
+
+abbrev pub next_of : Flight → Places → (Word → ℕ) → ℕ → Option Event
+next_of m at words p = if nat_lt p m.procs then next_from m p (words ReleaseWord) (at.proc p) else None
+
+-- the end word e of p lets the kernel note p in frame k
+abbrev pub may_note : Flight → ℕ → ℕ → ℕ → Bool
+may_note m p k e = nat_eq e (2 * suc k) || (nat_eq (e % 2) 1 && not (back_by (m.restart p) (e / 2) k))
+
+abbrev pub next_kernel : Flight → Places → (Word → ℕ) → Option Event
+next_kernel m at words =
+    if nat_lt at.frame m.frames
+    then (if nat_lt at.step m.procs
+    then (if may_note m at.step at.frame (words (EndWord at.step)) then Some (KNote (proc_id at.step)) else None)
+    else (if nat_lt (suc at.frame) m.frames
+    then (if nat_lt at.step (m.procs + 20) then Some (KStore (at.step - m.procs))
+    else (if nat_eq at.step (m.procs + 20) then Some Release else None))
+    else None))
+    else None
+
+abbrev pub next_of_actor : Flight → Places → (Word → ℕ) → Event → Option Event
+next_of_actor m at words (Start p) = next_of m at words p.0
+next_of_actor m at words (Look p q) = next_of m at words p.0
+next_of_actor m at words (Store p i) = next_of m at words p.0
+next_of_actor m at words (Flip p) = next_of m at words p.0
+next_of_actor m at words (Done p) = next_of m at words p.0
+next_of_actor m at words (Halt p) = next_of m at words p.0
+next_of_actor m at words (KNote p) = next_kernel m at words
+next_of_actor m at words (KStore i) = next_kernel m at words
+next_of_actor m at words Release = next_kernel m at words
+
+abbrev pub IsNext : Flight → Places → (Word → ℕ) → Event → Type 0
+IsNext m at words e = next_of_actor m at words e ≡ Some e
+
+-- what an event does to its actor's place
+abbrev pub is_actor : Event → ℕ → Bool
+is_actor (Start p) q = nat_eq q p.0
+is_actor (Look p i) q = nat_eq q p.0
+is_actor (Store p i) q = nat_eq q p.0
+is_actor (Flip p) q = nat_eq q p.0
+is_actor (Done p) q = nat_eq q p.0
+is_actor (Halt p) q = nat_eq q p.0
+is_actor (KNote p) q = false
+is_actor (KStore i) q = false
+is_actor Release q = false
+
+abbrev pub back_at : Option ℕ → Place → Place
+back_at None place = place
+back_at (Some r) place = At r 1
+
+abbrev pub one_on : Place → Place
+one_on (At f n) = At f (suc n)
+one_on (Halted h) = Halted h
+
+abbrev pub started : Option ℕ → Place → Place
+started restart (At f n) = At f (suc n)
+started restart (Halted h) = back_at restart (Halted h)
+
+abbrev pub frame_on : Place → Place
+frame_on (At f n) = At (suc f) 0
+frame_on (Halted h) = Halted h
+
+abbrev pub stopped : Place → Place
+stopped (At f n) = Halted f
+stopped (Halted h) = Halted h
+
+abbrev pub moved : Flight → Event → ℕ → Place → Place
+moved m (Start p) q place = started (m.restart q) place
+moved m (Look p i) q place = one_on place
+moved m (Store p i) q place = one_on place
+moved m (Flip p) q place = one_on place
+moved m (Done p) q place = frame_on place
+moved m (Halt p) q place = stopped place
+moved m (KNote p) q place = place
+moved m (KStore i) q place = place
+moved m Release q place = place
+
+abbrev pub proc_after : Flight → Places → Event → ℕ → Place
+proc_after m at e q = if is_actor e q then moved m e q (at.proc q) else at.proc q
+
+abbrev pub frame_after : Places → Event → ℕ
+frame_after at Release = suc at.frame
+frame_after at (Start p) = at.frame
+frame_after at (Look p i) = at.frame
+frame_after at (Store p i) = at.frame
+frame_after at (Flip p) = at.frame
+frame_after at (Done p) = at.frame
+frame_after at (Halt p) = at.frame
+frame_after at (KNote p) = at.frame
+frame_after at (KStore i) = at.frame
+
+abbrev pub step_after : Places → Event → ℕ
+step_after at Release = 0
+step_after at (KNote p) = suc at.step
+step_after at (KStore i) = suc at.step
+step_after at (Start p) = at.step
+step_after at (Look p i) = at.step
+step_after at (Store p i) = at.step
+step_after at (Flip p) = at.step
+step_after at (Done p) = at.step
+step_after at (Halt p) = at.step
+
+abbrev pub frame_of : Place → ℕ
+frame_of (At f n) = f
+frame_of (Halted h) = h
+
+-- the word that an event writes, and what it writes there
+abbrev pub writes : Flight → Places → (Word → ℕ) → Event → Option (Word × ℕ)
+writes m at words (Store p i) = Some (BankWord p.0 (1 - words (MarkWord p.0) % 2) i, word_in (m.draft p.0 (frame_of (at.proc p.0))) i)
+writes m at words (Flip p) = Some (MarkWord p.0, 2 * suc (frame_of (at.proc p.0)) + (1 - words (MarkWord p.0) % 2))
+writes m at words (Done p) = Some (EndWord p.0, 2 * suc (frame_of (at.proc p.0)))
+writes m at words (Halt p) = Some (EndWord p.0, 2 * frame_of (at.proc p.0) + 1)
+writes m at words (KStore i) = Some (KernelWord i, word_in (m.kernel_image (suc at.frame)) i)
+writes m at words Release = Some (ReleaseWord, suc (suc at.frame))
+writes m at words (Start p) = None
+writes m at words (Look p i) = None
+writes m at words (KNote p) = None
+
+abbrev pub same_word : Word → Word → Bool
+same_word ReleaseWord ReleaseWord = true
+same_word (KernelWord i) (KernelWord j) = nat_eq i j
+same_word (MarkWord p) (MarkWord q) = nat_eq p q
+same_word (EndWord p) (EndWord q) = nat_eq p q
+same_word (BankWord p b i) (BankWord q c j) = nat_eq p q && (nat_eq b c && nat_eq i j)
+same_word _ _ = false
+
+abbrev pub written : Option (Word × ℕ) → (Word → ℕ) → Word → ℕ
+written None words w = words w
+written (Some t) words w = if same_word t.0 w then t.1 else words w
+
+abbrev pub IsWord : Flight → Word → Type 0
+IsWord m ReleaseWord = Unit {0}
+IsWord m (KernelWord i) = i < 20
+IsWord m (MarkWord p) = p < m.procs
+IsWord m (EndWord p) = p < m.procs
+IsWord m (BankWord p b i) = (p < m.procs) × (b < 2) × (i < m.width)
+
+-- e takes the machine from at, words to at2, words2
+pub record Happens (m : Flight) (at : Places) (words : Word → ℕ) (e : Event) (at2 : Places) (words2 : Word → ℕ) : Type 0 where
+  pub proc : (q : ℕ) → at2.proc q ≡ proc_after m at e q
+  pub frame : at2.frame ≡ frame_after at e
+  pub step : at2.step ≡ step_after at e
+  pub words_are : (w : Word) → IsWord m w → words2 w ≡ written (writes m at words e) words w
+
+abbrev pub places_after : Flight → Places → Event → Places
+places_after m at e = record { proc = proc_after m at e; frame = frame_after at e; step = step_after at e }

@@ -1,0 +1,90 @@
+-- What holds of places and words in each state of each schedule of a script that fits its specification.
+use Rattle.std.specs.Prelude.{◌≡◌, ◌⊎◌, ℕ, suc, ◌<◌, List, length}
+use Rattle.scram_types.specs.Scripts.{ScriptParts}
+use Rattle.scram_types.specs.Specification.{IsSpec, Parts}
+use Rattle.bank_words.specs.declared.events.Event.{Event}
+use Rattle.bank_words.specs.Marks.{pick}
+use Rattle.fault_script.specs.Fits.{Fits}
+use Rattle.fault_script.specs.Times.{commits, words as width_of}
+use Rattle.fail_stop.specs.Consistency.{IsConsistent, Reads}
+use Rattle.fail_stop.specs.Ends.{IsOver, IsStoredLast}
+use Rattle.fail_stop.specs.Events.{BankWord, Happens, IsNext, KernelWord, MarkWord, Places, Word, writes}
+use Rattle.fail_stop.specs.Flights.{Flies, bank_before, image_before, is_committed, mark_before, side, word_in}
+use Rattle.fail_stop.specs.Kept.{Kept, opening_places, opening_words}
+use Rattle.fail_stop.specs.Listed.{Moves, list_after, stored_in}
+use Rattle.fail_stop.specs.Schedules.{IsSchedule, Machine, opening}
+use Rattle.fail_stop.specs.ScriptFlights.{flight_of, image_words_after, kernel_words}
+
+-- The flight of a script commits the frames that the one-thread trace commits, and has its images.
+pub record IsOfTrace (spec : Parts) (script : ScriptParts) : Type 0 where
+  pub flies : Flies (flight_of spec script)
+  pub committed : (p f : ℕ) → is_committed (flight_of spec script) p f ≡ commits spec script p f
+  pub images : (p f : ℕ) → image_before (flight_of spec script) p f ≡ image_words_after spec script p f
+
+abbrev pub FlightsAreOfTraces : Type 0
+FlightsAreOfTraces = (spec : Parts) (script : ScriptParts) → Fits spec script → IsOfTrace spec script
+
+-- The opening has the invariant.
+abbrev pub OpeningKeeps : Type 0
+OpeningKeeps = (spec : Parts) (script : ScriptParts) → Fits spec script
+    → Kept (flight_of spec script) opening_places (opening_words (flight_of spec script))
+
+-- An event that is next of its actor keeps the invariant.
+abbrev pub EventsKeep : Type 0
+EventsKeep = (spec : Parts) (script : ScriptParts) → Fits spec script
+    → (at : Places) (words : Word → ℕ) (event : Event) (at_after : Places) (words_after : Word → ℕ)
+    → Kept (flight_of spec script) at words → IsNext (flight_of spec script) at words event
+    → Happens (flight_of spec script) at words event at_after words_after
+    → Kept (flight_of spec script) at_after words_after
+
+-- The same over one list of words.
+abbrev pub EventsKeepLists : Type 0
+EventsKeepLists = (spec : Parts) (script : ScriptParts) → IsSpec spec → Fits spec script
+    → (at : Places) (list : List ℕ) (event : Event) (at_after : Places)
+    → length list ≡ 1120 → Kept (flight_of spec script) at (stored_in list) → IsNext (flight_of spec script) at (stored_in list) event
+    → Moves (flight_of spec script) at event at_after
+    → Kept (flight_of spec script) at_after (stored_in (list_after list (writes (flight_of spec script) at (stored_in list) event)))
+
+-- The invariant fact by fact.
+abbrev pub KeptIsConsistent : Type 0
+KeptIsConsistent = (spec : Parts) (script : ScriptParts) → Fits spec script → (at : Places) (words : Word → ℕ)
+    → Kept (flight_of spec script) at words → IsConsistent (flight_of spec script) at words
+
+-- Each state of each schedule has the invariant.
+abbrev pub SchedulesKeep : Type 0
+SchedulesKeep = (spec : Parts) (script : ScriptParts) → Fits spec script → (events : List Event) (state : Machine)
+    → IsSchedule (flight_of spec script) (opening (flight_of spec script)) events state
+    → Kept (flight_of spec script) state.at state.words × IsConsistent (flight_of spec script) state.at state.words
+
+-- What a processor that reads in frame f finds: the bank that it picks of q is the same all along, and holds the image
+-- of q after the first f frames; the kernel's words are those of frame f.
+pub record Finds (spec : Parts) (script : ScriptParts) (words : Word → ℕ) (f : ℕ) : Type 0 where
+  pub picked : (q : ℕ) → q < length spec.procs → pick (words (MarkWord q)) f ≡ side (flight_of spec script) q f
+  pub held : (q i : ℕ) → q < length spec.procs → i < width_of spec
+      → words (BankWord q (side (flight_of spec script) q f) i) ≡ word_in (image_words_after spec script q f) i
+  pub kernel : (i : ℕ) → i < 20 → words (KernelWord i) ≡ word_in (kernel_words spec script f) i
+
+abbrev pub ReadersFind : Type 0
+ReadersFind = (spec : Parts) (script : ScriptParts) → Fits spec script → (at : Places) (words : Word → ℕ)
+    → Kept (flight_of spec script) at words → (p f n : ℕ) → p < length spec.procs → Reads at p f n → Finds spec script words f
+
+-- What a note fixes: the mark of p is that of all frames up to the kernel's, and the marked bank holds its image after them.
+pub record IsNoted (spec : Parts) (script : ScriptParts) (words : Word → ℕ) (k p : ℕ) : Type 0 where
+  pub mark : words (MarkWord p) ≡ mark_before (flight_of spec script) p (suc k)
+  pub held : (i : ℕ) → i < width_of spec
+      → words (BankWord p (side (flight_of spec script) p (suc k)) i) ≡ word_in (image_words_after spec script p (suc k)) i
+
+abbrev pub NotesFix : Type 0
+NotesFix = (spec : Parts) (script : ScriptParts) → Fits spec script → (at : Places) (words : Word → ℕ)
+    → Kept (flight_of spec script) at words → (p : ℕ) → p < length spec.procs → p < at.step → IsNoted spec script words at.frame p
+
+-- Where the machine is not over, some actor has a next event.
+abbrev pub MachineGoesOn : Type 0
+MachineGoesOn = (spec : Parts) (script : ScriptParts) → Fits spec script → (at : Places) (words : Word → ℕ)
+    → Kept (flight_of spec script) at words
+    → IsOver (flight_of spec script) at ⊎ ((event : Event) × IsNext (flight_of spec script) at words event)
+
+-- What a bank holds as a frame begins was stored there last, or is its opening word.
+abbrev pub BanksHoldTheLastStores : Type 0
+BanksHoldTheLastStores = (spec : Parts) (script : ScriptParts) (p f b i : ℕ)
+    → IsStoredLast (flight_of spec script) p f b i (bank_before (flight_of spec script) p f b i)

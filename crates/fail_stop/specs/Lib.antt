@@ -1,0 +1,10 @@
+pub mod Consistency
+pub mod Ends
+pub mod Events
+pub mod Flights
+pub mod Kept
+pub mod KernelImages
+pub mod Laws
+pub mod Listed
+pub mod Schedules
+pub mod ScriptFlights

@@ -1,0 +1,32 @@
+-- The words in one list.
+use Rattle.std.specs.Prelude.{◌≡◌, ℕ, ◌+◌, ◌*◌, ◌≤◌, List, length, Option, Some, None, slice_index, slice_set}
+use Rattle.fail_stop.specs.Flights.{Flight}
+use Rattle.bank_words.specs.declared.events.Event.{Event}
+use Rattle.fail_stop.specs.Events.{Places, Word, ReleaseWord, KernelWord, MarkWord, EndWord, BankWord, proc_after, frame_after, step_after}
+
+-- The place of a word, by the limits: 8 processors and 64 words a bank. The release has a line of 64 bytes of its own,
+-- and so has each processor what it writes.
+abbrev pub index_of : Word → ℕ
+index_of ReleaseWord = 0
+index_of (KernelWord i) = 8 + i
+index_of (MarkWord p) = 32 + 136 * p
+index_of (EndWord p) = 33 + 136 * p
+index_of (BankWord p b i) = 40 + 136 * p + 64 * b + i
+
+abbrev pub stored_in : List ℕ → Word → ℕ
+stored_in list w = slice_index list (index_of w)
+
+abbrev pub list_after : List ℕ → Option (Word × ℕ) → List ℕ
+list_after list None = list
+list_after list (Some t) = slice_set list (index_of t.0) t.1
+
+pub record IsListed (m : Flight) (list : List ℕ) : Type 0 where
+  pub procs : m.procs ≤ 8
+  pub width : m.width ≤ 64
+  pub long : length list ≡ 1120
+
+-- e moves its actor's place alone
+pub record Moves (m : Flight) (at : Places) (e : Event) (at2 : Places) : Type 0 where
+  pub proc : (q : ℕ) → at2.proc q ≡ proc_after m at e q
+  pub frame : at2.frame ≡ frame_after at e
+  pub step : at2.step ≡ step_after at e
