@@ -26,6 +26,7 @@ abbrev pub keeper_word : Option ProcId → ℕ
 keeper_word None = 0
 keeper_word (Some p) = suc p.0
 
+-- The words of the eight keepers.
 abbrev pub keeper_words : List (Option ProcId) → List ℕ
 keeper_words keepers = eight (λ a. keeper_word (slice_index_or keepers a None))
 
@@ -48,17 +49,21 @@ kernel_encode k =
 abbrev pub last_byte : ℕ → ℕ
 last_byte word = word % 256
 
+-- The configuration that a word names.
 abbrev pub conf_of : ℕ → Option ConfId
 conf_of word = if word == 0 then None else Some (conf_id (last_byte (word - 1)))
 
+-- The processor that a word names.
 abbrev pub keeper_of : ℕ → Option ProcId
 keeper_of word = if word == 0 then None else Some (proc_id (last_byte (word - 1)))
 
+-- The eight keepers that words name.
 abbrev pub keepers_of : List ℕ → List (Option ProcId)
 keepers_of words = eight (λ a. keeper_of (slice_index words a))
 
-abbrev pub mode_of : List ℕ → KMode
-mode_of words =
+-- The mode of five words.
+abbrev pub mode_in_words : List ℕ → KMode
+mode_in_words words =
     if slice_index words 0 == 0 then Stable (conf_id (last_byte (slice_index words 1)))
     else Moving
     (conf_id (last_byte (slice_index words 1)))
@@ -66,11 +71,13 @@ mode_of words =
     (conf_id (last_byte (slice_index words 3)))
     (slice_index words 4 % 4294967296)
 
+-- The values of the six factors.
 abbrev pub factors_of : ℕ → List ℕ
 factors_of word =
     last_byte word ∷ last_byte (word / 256) ∷ last_byte (word / 65536)
     ∷ last_byte (word / 16777216) ∷ last_byte (word / 4294967296) ∷ last_byte (word / 1099511627776) ∷ []
 
+-- The world of four words.
 abbrev pub world_of : List ℕ → World
 world_of words = record {
   alt = decode (slice_index words 0);
@@ -83,7 +90,7 @@ world_of words = record {
 abbrev pub kernel_decode : List ℕ → KernelImage
 kernel_decode words = record {
   frame = slice_index words 0 % 4294967296;
-  mode = mode_of (slice_index words 1 ∷ slice_index words 2 ∷ slice_index words 3 ∷ slice_index words 4 ∷ slice_index words 5 ∷ []);
+  mode = mode_in_words (slice_index words 1 ∷ slice_index words 2 ∷ slice_index words 3 ∷ slice_index words 4 ∷ slice_index words 5 ∷ []);
   env = record { up = last_byte (slice_index words 6); factors = factors_of (slice_index words 7) };
   keepers = keepers_of (eight (λ a. slice_index words (8 + a)));
   world = world_of (slice_index words 16 ∷ slice_index words 17 ∷ slice_index words 18 ∷ slice_index words 19 ∷ []);

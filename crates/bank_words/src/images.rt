@@ -1,7 +1,7 @@
 //! What the kernel says of a frame.
 
 ghost use Rattle.std.specs.Prelude.{◌≡◌};
-ghost use Rattle.bank_words.specs.Images.{conf_of, conf_word, factors_of, factors_word, keeper_of, keeper_word, keeper_words, keepers_of, kernel_decode, kernel_encode, last_byte, mode_of, mode_words};
+ghost use Rattle.bank_words.specs.Images.{conf_of, conf_word, factors_of, factors_word, keeper_of, keeper_word, keeper_words, keepers_of, kernel_decode, kernel_encode, last_byte, mode_in_words, mode_words};
 
 use crate::numbers::{decode, encode};
 use scram_types::{ConfId, Env, KMode, ProcId, World};
@@ -53,7 +53,7 @@ pub fn kernel_decode(words: &[u64; 20]) -> KernelImage
 {
     KernelImage {
         frame: (words[0] % 4_294_967_296) as u32,
-        mode: mode_of(&[words[1], words[2], words[3], words[4], words[5]]),
+        mode: mode_in_words(&[words[1], words[2], words[3], words[4], words[5]]),
         env: Env {
             up: last_byte(words[6]),
             factors: factors_of(words[7]),
@@ -72,7 +72,7 @@ pub fn kernel_decode(words: &[u64; 20]) -> KernelImage
 
 fn mode_words(mode: KMode) -> [u64; 5]
     ensures words { result ≡ mode_words mode }
-    ensures back { mode_of result ≡ mode }
+    ensures back { mode_in_words result ≡ mode }
 {
     match mode {
         KMode::Stable(c) => [0, u64::from(c.0), 0, 0, 0],
@@ -91,8 +91,8 @@ fn mode_words(mode: KMode) -> [u64; 5]
     }
 }
 
-fn mode_of(words: &[u64; 5]) -> KMode
-    ensures { result ≡ mode_of words.now }
+fn mode_in_words(words: &[u64; 5]) -> KMode
+    ensures { result ≡ mode_in_words words.now }
 {
     if words[0] == 0 {
         return KMode::Stable(ConfId(last_byte(words[1])));

@@ -5,26 +5,29 @@ use Rattle.fail_stop.specs.Flights.{Flight, word_in, last_count, commit_count, i
 use Rattle.fail_stop.specs.Events.{Place, At, Halted, Places, Word, ReleaseWord, KernelWord, MarkWord, BankWord}
 use Rattle.fail_stop.specs.Kept.{is_flipped, stores_made}
 
--- the frames of p whose commits the mark has
+-- The mark of p is that of all frames below this one.
 abbrev pub marked : Flight → Place → ℕ
 marked m (At f n) = if is_flipped m n then suc f else f
 marked m (Halted h) = suc h
 
--- the word that p stored there last, in a frame below f, or the opening word
+-- The word that p stored there last in a frame below f, or the opening word.
 abbrev pub stored_last : Flight → ℕ → ℕ → ℕ → ℕ → ℕ
 stored_last m p f b i = bank_before m p f b i
 
--- the bank that the mark does not name
+-- The bank that the mark does not name.
 abbrev pub other : Flight → Places → ℕ → ℕ
 other m at p = 1 - commit_count m p (marked m (at.proc p)) % 2
 
--- p reads in frame f
+-- Processor p reads in frame f.
 abbrev pub Reads : Places → ℕ → ℕ → ℕ → Type 0
 Reads at p f n = (at.proc p ≡ At f n) × (0 < n)
 
+-- Processor p has no restart after frame h and up to frame k.
 abbrev pub NoRestart : Flight → ℕ → ℕ → ℕ → Type 0
 NoRestart m p h k = (r : ℕ) → m.restart p ≡ Some r → h < r → k < r
 
+-- The invariant fact by fact, with the kernel in its frame: marks and banks by the commits of their processor, where
+-- processors and the kernel stand, what a note tells, the kernel's words, and what a reader sees.
 pub record IsConsistent (m : Flight) (at : Places) (words : Word → ℕ) : Type 0 where
   pub mark : (p : ℕ) → p < m.procs → words (MarkWord p) ≡ 2 * last_count m p (marked m (at.proc p)) + commit_count m p (marked m (at.proc p)) % 2
   pub marked_bank : (p i : ℕ) → p < m.procs → i < m.width → words (BankWord p (commit_count m p (marked m (at.proc p)) % 2) i) ≡ word_in (image_before m p (last_count m p (marked m (at.proc p)))) i

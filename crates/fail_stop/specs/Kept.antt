@@ -3,31 +3,38 @@ use Rattle.std.specs.Prelude.{◌≡◌, ℕ, suc, ◌+◌, ◌-◌, ◌*◌, �
 use Rattle.fail_stop.specs.Flights.{Flight, word_in, mark_before, end_before, laid, bank_before}
 use Rattle.fail_stop.specs.Events.{Place, At, Halted, Places, Word, ReleaseWord, KernelWord, MarkWord, EndWord, BankWord, IsWord}
 
+-- The stores that n steps of a frame hold.
 abbrev pub stores_made : Flight → ℕ → ℕ
 stores_made m n = min (n - (m.procs + 1)) m.width
 
+-- The flip is among n steps of a frame.
 abbrev pub is_flipped : Flight → ℕ → Bool
 is_flipped m n = nat_lt (m.procs + 1 + m.width) n
 
--- each word as a function of its owner's place and the mission
+-- The mark of processor p where it stands.
 abbrev pub mark_at : Flight → ℕ → Place → ℕ
 mark_at m p (At f n) = if is_flipped m n then mark_before m p (suc f) else mark_before m p f
 mark_at m p (Halted h) = mark_before m p (suc h)
 
+-- The end word of processor p where it stands.
 abbrev pub end_at : Flight → ℕ → Place → ℕ
 end_at m p (At f n) = end_before m p f
 end_at m p (Halted h) = end_before m p (suc h)
 
+-- Word i of bank b of processor p where it stands.
 abbrev pub bank_at : Flight → ℕ → Place → ℕ → ℕ → ℕ
 bank_at m p (At f n) b i = laid m p f (stores_made m n) b i (bank_before m p f b i)
 bank_at m p (Halted h) b i = bank_before m p (suc h) b i
 
+-- Word i of the kernel in frame k after j steps.
 abbrev pub kernel_at : Flight → ℕ → ℕ → ℕ → ℕ
 kernel_at m k j i = if nat_lt i (j - m.procs) then word_in (m.kernel_image (suc k)) i else word_in (m.kernel_image k) i
 
+-- The release word with the kernel in frame k.
 abbrev pub release_at : Flight → ℕ → ℕ
 release_at m k = if nat_eq m.frames 0 then 0 else suc k
 
+-- Each word as a function of the places.
 abbrev pub word_at : Flight → Places → Word → ℕ
 word_at m at ReleaseWord = release_at m at.frame
 word_at m at (KernelWord i) = kernel_at m at.frame at.step i
@@ -35,11 +42,12 @@ word_at m at (MarkWord p) = mark_at m p (at.proc p)
 word_at m at (EndWord p) = end_at m p (at.proc p)
 word_at m at (BankWord p b i) = bank_at m p (at.proc p) b i
 
+-- The last step of a frame, by the halt in it.
 abbrev pub last_step : Flight → Option ℕ → ℕ
 last_step m None = m.procs + 2 + m.width
 last_step m (Some s) = m.procs + 1 + s
 
--- p stands in frame f after n steps, the kernel in frame k after j steps
+-- Processor p may stand in frame f after n steps where the kernel stands in frame k after j steps.
 pub record Running (m : Flight) (k j p f n : ℕ) : Type 0 where
   pub up : m.up p f ≡ true
   pub low : k ≤ f
@@ -49,6 +57,7 @@ pub record Running (m : Flight) (k j p f n : ℕ) : Type 0 where
   pub noted : p < j → k < f
   pub done : k < f → end_before m p f ≡ 2 * f
 
+-- Processor p may have halted in frame h where the kernel stands in frame k after j steps.
 pub record Stopped (m : Flight) (k j p h : ℕ) : Type 0 where
   pub step : ℕ
   pub up : m.up p h ≡ true
@@ -57,25 +66,28 @@ pub record Stopped (m : Flight) (k j p h : ℕ) : Type 0 where
   pub later : (r : ℕ) → m.restart p ≡ Some r → h < r → k ≤ r
   pub noted : p < j → (r : ℕ) → m.restart p ≡ Some r → h < r → k < r
 
+-- Processor p may stand there.
 abbrev pub IsPlaced : Flight → ℕ → ℕ → ℕ → Place → Type 0
 IsPlaced m k j p (At f n) = Running m k j p f n
 IsPlaced m k j p (Halted h) = Stopped m k j p h
 
--- the kernel in frame k after j steps
+-- The kernel may stand in frame k after j steps.
 pub record IsKernel (m : Flight) (k j : ℕ) : Type 0 where
   pub below : 0 < m.frames → k < m.frames
   pub steps : j ≤ m.procs + 20
   pub ending : m.procs < j → suc k < m.frames
 
+-- The invariant in the form that each event keeps: facts on places, and each word by the places.
 pub record Kept (m : Flight) (at : Places) (words : Word → ℕ) : Type 0 where
   pub kernel : IsKernel m at.frame at.step
   pub placed : (p : ℕ) → p < m.procs → IsPlaced m at.frame at.step p (at.proc p)
   pub words_are : (w : Word) → IsWord m w → words w ≡ word_at m at w
 
--- the opening
+-- All stand at the begin of frame 0.
 abbrev pub opening_places : Places
 opening_places = record { proc = λ p. At 0 0; frame = 0; step = 0 }
 
+-- The words at the opening.
 abbrev pub opening_words : Flight → Word → ℕ
 opening_words m ReleaseWord = if nat_eq m.frames 0 then 0 else 1
 opening_words m (KernelWord i) = word_in (m.kernel_image 0) i

@@ -11,7 +11,7 @@ use Rattle.fail_stop.specs.Ends.{IsOver, IsStoredLast}
 use Rattle.fail_stop.specs.Events.{BankWord, Happens, IsNext, KernelWord, MarkWord, Places, Word, writes}
 use Rattle.fail_stop.specs.Flights.{Flies, bank_before, image_before, is_committed, mark_before, side, word_in}
 use Rattle.fail_stop.specs.Kept.{Kept, opening_places, opening_words}
-use Rattle.fail_stop.specs.Listed.{Moves, list_after, stored_in}
+use Rattle.fail_stop.specs.Listed.{Moves, list_after, places_of_words, stored_in}
 use Rattle.fail_stop.specs.Schedules.{IsSchedule, Machine, opening}
 use Rattle.fail_stop.specs.ScriptFlights.{flight_of, image_words_after, kernel_words}
 
@@ -41,7 +41,7 @@ EventsKeep = (spec : Parts) (script : ScriptParts) → Fits spec script
 abbrev pub EventsKeepLists : Type 0
 EventsKeepLists = (spec : Parts) (script : ScriptParts) → IsSpec spec → Fits spec script
     → (at : Places) (list : List ℕ) (event : Event) (at_after : Places)
-    → length list ≡ 1120 → Kept (flight_of spec script) at (stored_in list) → IsNext (flight_of spec script) at (stored_in list) event
+    → length list ≡ places_of_words → Kept (flight_of spec script) at (stored_in list) → IsNext (flight_of spec script) at (stored_in list) event
     → Moves (flight_of spec script) at event at_after
     → Kept (flight_of spec script) at_after (stored_in (list_after list (writes (flight_of spec script) at (stored_in list) event)))
 

@@ -13,19 +13,26 @@ index_of (MarkWord p) = 32 + 136 * p
 index_of (EndWord p) = 33 + 136 * p
 index_of (BankWord p b i) = 40 + 136 * p + 64 * b + i
 
+-- How many places there are.
+abbrev pub places_of_words : ℕ
+places_of_words = 1120
+
+-- The word that stands in a list at its place.
 abbrev pub stored_in : List ℕ → Word → ℕ
 stored_in list w = slice_index list (index_of w)
 
+-- The list after a write, if there is one.
 abbrev pub list_after : List ℕ → Option (Word × ℕ) → List ℕ
 list_after list None = list
 list_after list (Some t) = slice_set list (index_of t.0) t.1
 
+-- A list has a place for each word.
 pub record IsListed (m : Flight) (list : List ℕ) : Type 0 where
   pub procs : m.procs ≤ 8
   pub width : m.width ≤ 64
-  pub long : length list ≡ 1120
+  pub long : length list ≡ places_of_words
 
--- e moves its actor's place alone
+-- Event e moves its actor's place alone.
 pub record Moves (m : Flight) (at : Places) (e : Event) (at2 : Places) : Type 0 where
   pub proc : (q : ℕ) → at2.proc q ≡ proc_after m at e q
   pub frame : at2.frame ≡ frame_after at e

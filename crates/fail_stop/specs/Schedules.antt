@@ -5,42 +5,48 @@ use Rattle.bank_words.specs.declared.events.Event.{Event}
 use Rattle.fail_stop.specs.Events.{Places, Word, IsNext, proc_after, frame_after, step_after, writes, written}
 use Rattle.fail_stop.specs.Kept.{opening_places, opening_words}
 
+-- A state of the machine: places and words.
 pub record Machine : Type 0 where
   pub at : Places
   pub words : Word → ℕ
 
+-- The state after an event.
 abbrev pub happened : Flight → Machine → Event → Machine
 happened m s e = record {
   at = record { proc = proc_after m s.at e; frame = frame_after s.at e; step = step_after s.at e };
   words = written (writes m s.at s.words e) s.words;
 }
 
+-- The opening state.
 abbrev pub opening : Flight → Machine
 opening m = record { at = opening_places; words = opening_words m }
 
--- the events lead from s to t, each the next of its actor where it stands
+-- The events lead from s to t, each the next of its actor where it stands.
 abbrev pub IsSchedule : Flight → Machine → List Event → Machine → Type 0
 IsSchedule m s [] t = t ≡ s
 IsSchedule m s (e ∷ es) t = IsNext m s.at s.words e × IsSchedule m (happened m s e) es t
 
--- who is up in frame f: the halts below it, and the restart
+-- A restart, if there is one, is in frame f.
 abbrev pub is_frame : Option ℕ → ℕ → Bool
 is_frame None f = false
 is_frame (Some r) f = nat_eq r f
 
+-- Who is up in frame f, frame by frame: the halts below it, and the restart.
 unfoldable pub up_by : (ℕ → Option ℕ) → Option ℕ → ℕ → Bool
 up_by halt restart zero = true
 up_by halt restart (suc f) = (up_by halt restart f && is_none (halt f)) || is_frame restart (suc f)
 
--- the latest halt in a frame below f, and who is up by it: no halt below f, or a restart after the latest one and up to f
+-- The latest halt in a frame below f.
 abbrev pub latest : (ℕ → Option ℕ) → ℕ → Option ℕ
 latest halt zero = None
 latest halt (suc f) = if is_some (halt f) then Some f else latest halt f
 
+-- Who is up in frame f by its latest halt below f, if there is one, and its restart.
 abbrev pub is_up_after : Option ℕ → Option ℕ → ℕ → Bool
 is_up_after None restart f = true
 is_up_after (Some h) restart f = back_by restart h f
 
+-- Who is up is told by halts and restarts, and each halt comes after some of the stores or after the mark.
 pub record IsUpBy (m : Flight) : Type 0 where
   pub up : (p f : ℕ) → m.up p f ≡ is_up_after (latest (m.halt p) f) (m.restart p) f
   pub steps : (p f s : ℕ) → m.halt p f ≡ Some s → s ≤ m.width + 1

@@ -1,4 +1,6 @@
-//! What holds of the words of stable storage in every state of every schedule, with halts and restarts.
+//! In every state of every schedule of a fitting script, with halts and restarts in any frame, marks, banks, the kernel's
+//! words and places are what the one-thread trace and the actors' steps say, so that whoever reads in a frame finds the
+//! images of that frame.
 #![tactic(auto)]
 
 pub mod law;
