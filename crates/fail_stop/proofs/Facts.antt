@@ -3,7 +3,7 @@ use Rattle.std.proofs.Common.{◌≡◌, ◌⊎◌, ℕ, suc, ◌+◌, ◌-◌, 
 use Rattle.std.specs.Prelude.{Option, Some, None, nat_eq, if◌then◌else◌}
 use Rattle.std.proofs.lemmas.Bool.Decides.{nat_tests}
 use native.Mathlib.Decide.{dec_le}
-use Rattle.fail_stop.specs.Flights.{Flight, Flies, word_in, image_before, is_committed, mark_before, last_count, commit_count, side, laid, bank_before}
+use Rattle.fail_stop.specs.Flights.{Flight, Flies, word_in, image_before, is_committed, mark_before, last_commit, commit_count, side, laid, bank_before}
 use Rattle.fail_stop.specs.Events.{Place, At, Halted, Places, Word, ReleaseWord, KernelWord, MarkWord, BankWord}
 use Rattle.fail_stop.specs.Kept.{Kept, IsPlaced, Running, Stopped, last_step, mark_at, bank_at, stores_made, is_flipped, kernel_at}
 use Rattle.bank_words.specs.Marks.{pick}
@@ -22,9 +22,9 @@ choose_in : (m : Flight) (p f : ℕ) (b : Bool) → (if b then mark_before m p (
 choose_in m p f true = refl
 choose_in m p f false = refl
 
-mark_marked : (m : Flight) (p : ℕ) (x : Place) → mark_at m p x ≡ 2 * last_count m p (marked m x) + commit_count m p (marked m x) % 2
-mark_marked m p (At f n) = choose_in m p f (is_flipped m n) ∙ ap (λ (s : ℕ). 2 * last_count m p (marked m (At f n)) + s) (side_count m p (marked m (At f n)))
-mark_marked m p (Halted h) = ap (λ (s : ℕ). 2 * last_count m p (suc h) + s) (side_count m p (suc h))
+mark_marked : (m : Flight) (p : ℕ) (x : Place) → mark_at m p x ≡ 2 * last_commit m p (marked m x) + commit_count m p (marked m x) % 2
+mark_marked m p (At f n) = choose_in m p f (is_flipped m n) ∙ ap (λ (s : ℕ). 2 * last_commit m p (marked m (At f n)) + s) (side_count m p (marked m (At f n)))
+mark_marked m p (Halted h) = ap (λ (s : ℕ). 2 * last_commit m p (suc h) + s) (side_count m p (suc h))
 
 commits_flipped : (m : Flight) (p f n : ℕ) (o : Option ℕ) → m.halt p f ≡ o → m.up p f ≡ true → m.procs + 1 + m.width < n → n ≤ last_step m o → is_committed m p f ≡ true
 unfolding is_committed
@@ -62,10 +62,10 @@ module _ (m : Flight) (at : Places) (words : Word → ℕ) (y : Flies m) (k : Ke
   bank_word p b i l lb li = k.words_are (BankWord p b i) (l, lb, li)
 
   -- the parity of the commits is the bank
-  at_side : (p i : ℕ) → p < m.procs → i < m.width → words (BankWord p (commit_count m p (marked m (at.proc p)) % 2) i) ≡ word_in (image_before m p (last_count m p (marked m (at.proc p)))) i
+  at_side : (p i : ℕ) → p < m.procs → i < m.width → words (BankWord p (commit_count m p (marked m (at.proc p)) % 2) i) ≡ word_in (image_before m p (last_commit m p (marked m (at.proc p)))) i
   at_side p i l li =
       let e : commit_count m p (marked m (at.proc p)) % 2 ≡ side m p (marked m (at.proc p)) = sym (side_count m p (marked m (at.proc p))) in
-      let g : image_before m p (last_count m p (marked m (at.proc p))) ≡ image_before m p (marked m (at.proc p)) = sym (img_last m p (marked m (at.proc p))) in
+      let g : image_before m p (last_commit m p (marked m (at.proc p))) ≡ image_before m p (marked m (at.proc p)) = sym (img_last m p (marked m (at.proc p))) in
       let b = side_le m p (marked m (at.proc p)) in
       rw (e, g) (bank_word p (side m p (marked m (at.proc p))) i l (omega arith) li ∙ held m at.frame at.step p (at.proc p) i (k.placed p l) li)
 

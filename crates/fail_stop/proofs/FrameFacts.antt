@@ -3,7 +3,7 @@ use Rattle.std.proofs.Common.{◌≡◌, ℕ, zero, suc, ◌+◌, ◌-◌, ◌*�
 use Rattle.std.specs.Prelude.{Option, Some, None}
 use Rattle.std.proofs.lemmas.Bool.Decides.{nat_tests}
 use native.Mathlib.Decide.{dec_le}
-use Rattle.fail_stop.specs.Flights.{Flight, Flies, is_committed, image_before, last_count, commit_count, side, end_before, end_in, stores_in, stores_by, reaches_mark, laid, bank_before, word_in, back_by}
+use Rattle.fail_stop.specs.Flights.{Flight, Flies, is_committed, image_before, last_commit, commit_count, side, end_before, end_word_after, stores_in, stores_by, reaches_mark, laid, bank_before, word_in, back_by}
 use Rattle.fail_stop.proofs.FrameSteps.{last_yes, last_no, side_yes, side_no, count_yes, count_no, img_yes, img_no, end_up, end_down, commits_down, stores_down, stores_up}
 
 side_le_next : (m : Flight) (p f : ℕ) (b : Bool) → is_committed m p f ≡ b → side m p f ≤ 1 → side m p (suc f) ≤ 1
@@ -15,12 +15,12 @@ unfolding side
 side_le m p zero = omega arith
 side_le m p (suc f) = side_le_next m p f (is_committed m p f) refl (side_le m p f)
 
-last_le_next : (m : Flight) (p f : ℕ) (b : Bool) → is_committed m p f ≡ b → last_count m p f ≤ f → last_count m p (suc f) ≤ suc f
+last_le_next : (m : Flight) (p f : ℕ) (b : Bool) → is_committed m p f ≡ b → last_commit m p f ≤ f → last_commit m p (suc f) ≤ suc f
 last_le_next m p f true c h = rw (last_yes m p f c) (omega arith)
 last_le_next m p f false c h = rw (last_no m p f c) (omega arith)
 
-pub last_le : (m : Flight) (p f : ℕ) → last_count m p f ≤ f
-unfolding last_count
+pub last_le : (m : Flight) (p f : ℕ) → last_commit m p f ≤ f
+unfolding last_commit
 last_le m p zero = omega arith
 last_le m p (suc f) = last_le_next m p f (is_committed m p f) refl (last_le m p f)
 
@@ -34,13 +34,13 @@ unfolding side commit_count
 side_count m p zero = refl
 side_count m p (suc f) = side_count_next m p f (is_committed m p f) refl (side_count m p f)
 
-img_last_next : (m : Flight) (p f : ℕ) (b : Bool) → is_committed m p f ≡ b → image_before m p f ≡ image_before m p (last_count m p f) → image_before m p (suc f) ≡ image_before m p (last_count m p (suc f))
+img_last_next : (m : Flight) (p f : ℕ) (b : Bool) → is_committed m p f ≡ b → image_before m p f ≡ image_before m p (last_commit m p f) → image_before m p (suc f) ≡ image_before m p (last_commit m p (suc f))
 img_last_next m p f true c h = rw (last_yes m p f c) refl
 img_last_next m p f false c h = rw (img_no m p f c, last_no m p f c) h
 
 -- the image stays since the last committed frame
-pub img_last : (m : Flight) (p f : ℕ) → image_before m p f ≡ image_before m p (last_count m p f)
-unfolding last_count
+pub img_last : (m : Flight) (p f : ℕ) → image_before m p f ≡ image_before m p (last_commit m p f)
+unfolding last_commit
 img_last m p zero = refl
 img_last m p (suc f) = img_last_next m p f (is_committed m p f) refl (img_last m p f)
 
@@ -92,7 +92,7 @@ bank_side m p (suc f) i h = bank_side_next m p f i (is_committed m p f) refl h (
 
 -- frames in which p is down
 pub record Same (m : Flight) (p a b : ℕ) : Type 0 where
-  pub lasts : last_count m p b ≡ last_count m p a
+  pub lasts : last_commit m p b ≡ last_commit m p a
   pub sides : side m p b ≡ side m p a
   pub ends : end_before m p b ≡ end_before m p a
   pub imgs : image_before m p b ≡ image_before m p a
@@ -132,12 +132,12 @@ pub halted_still : (m : Flight) (p h s b : ℕ) → Flies m → m.up p h ≡ tru
 halted_still m p h s b y u e l q = still m p (suc h) b (omega arith) (λ g lo hi. y.gone p h s g u e (omega arith) (back_none (m.restart p) h g (λ r i j. let k : b ≤ r = q r i j in omega arith)))
 
 -- end words
-end_in_le : (f : ℕ) (o : Option ℕ) → end_in f o ≤ 2 * suc f
-end_in_le f None = omega arith
-end_in_le f (Some s) = omega arith
+end_word_le : (f : ℕ) (o : Option ℕ) → end_word_after f o ≤ 2 * suc f
+end_word_le f None = omega arith
+end_word_le f (Some s) = omega arith
 
 end_le_next : (m : Flight) (p f : ℕ) (u : Bool) → m.up p f ≡ u → end_before m p f ≤ 2 * f → end_before m p (suc f) ≤ 2 * suc f
-end_le_next m p f true e h = rw (end_up m p f e) (end_in_le f (m.halt p f))
+end_le_next m p f true e h = rw (end_up m p f e) (end_word_le f (m.halt p f))
 end_le_next m p f false e h = rw (end_down m p f e) (omega arith)
 
 pub end_le : (m : Flight) (p f : ℕ) → end_before m p f ≤ 2 * f
@@ -151,7 +151,7 @@ pub record From (m : Flight) (p f h : ℕ) : Type 0 where
   pub up : m.up p h ≡ true
   pub halts : m.halt p h ≡ Some step
 
-from_in : (m : Flight) (p f h : ℕ) (o : Option ℕ) → m.halt p f ≡ o → m.up p f ≡ true → end_in f o ≡ 2 * h + 1 → From m p (suc f) h
+from_in : (m : Flight) (p f h : ℕ) (o : Option ℕ) → m.halt p f ≡ o → m.up p f ≡ true → end_word_after f o ≡ 2 * h + 1 → From m p (suc f) h
 from_in m p f h None o u e = absurd (omega arith)
 from_in m p f h (Some s) o u e = let same : f ≡ h = omega arith in record {
   step = s;

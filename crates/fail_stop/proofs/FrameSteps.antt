@@ -1,13 +1,13 @@
 use Rattle.std.proofs.Common.{◌≡◌, ℕ, suc, ◌-◌, true, false, refl}
-use Rattle.fail_stop.specs.Flights.{Flight, is_committed, image_before, last_count, commit_count, side, end_before, end_in, stores_in, stores_by}
+use Rattle.fail_stop.specs.Flights.{Flight, is_committed, image_before, last_commit, commit_count, side, end_before, end_word_after, stores_in, stores_by}
 
 module _ (m : Flight) (p f : ℕ) where
-  pub last_yes : is_committed m p f ≡ true → last_count m p (suc f) ≡ suc f
-  unfolding last_count
+  pub last_yes : is_committed m p f ≡ true → last_commit m p (suc f) ≡ suc f
+  unfolding last_commit
   last_yes c = rw c refl
 
-  pub last_no : is_committed m p f ≡ false → last_count m p (suc f) ≡ last_count m p f
-  unfolding last_count
+  pub last_no : is_committed m p f ≡ false → last_commit m p (suc f) ≡ last_commit m p f
+  unfolding last_commit
   last_no c = rw c refl
 
   pub side_yes : is_committed m p f ≡ true → side m p (suc f) ≡ 1 - side m p f
@@ -34,7 +34,7 @@ module _ (m : Flight) (p f : ℕ) where
   unfolding image_before
   img_no c = rw c refl
 
-  pub end_up : m.up p f ≡ true → end_before m p (suc f) ≡ end_in f (m.halt p f)
+  pub end_up : m.up p f ≡ true → end_before m p (suc f) ≡ end_word_after f (m.halt p f)
   unfolding end_before
   end_up c = rw c refl
 

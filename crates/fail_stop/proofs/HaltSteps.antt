@@ -51,7 +51,7 @@ none_after w p f x (y ∷ ys) far next =
     let past = later f p x.frame x.proc.0 y.frame y.proc.0 far (next 0 x y refl refl) in
     rw (apart f p y.frame y.proc.0 past) (none_after w p f y ys (reached f p y.frame y.proc.0 past) (tail x (y ∷ ys) next))
 
-or_false : (b : Bool) → (b || false) ≡ b
+pub or_false : (b : Bool) → (b || false) ≡ b
 or_false true = refl
 or_false false = refl
 

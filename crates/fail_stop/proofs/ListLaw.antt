@@ -6,15 +6,15 @@ use Rattle.std.proofs.lemmas.Grind.{common_steps}
 use Rattle.fail_stop.specs.Flights.{Flight, Flies}
 use Rattle.bank_words.specs.declared.events.Event.{Event}
 use Rattle.bank_words.specs.declared.events.Event.TheVariants.{Start, Look, Store, Flip, Done, Halt, KNote, KStore, Release}
-use Rattle.fail_stop.specs.Events.{Places, Word, ReleaseWord, KernelWord, MarkWord, EndWord, BankWord, IsWord, IsNext, writes, written, same_word, halts_at, next_from}
+use Rattle.fail_stop.specs.Events.{Places, Word, ReleaseWord, KernelWord, MarkWord, EndWord, BankWord, IsStored, IsNext, writes, written, same_word, halts_at, next_from}
 use Rattle.fail_stop.specs.Kept.{Kept}
-use Rattle.fail_stop.specs.Listed.{index_of, stored_in, list_after, IsListed, Moves}
+use Rattle.fail_stop.specs.Listed.{index_of, stored_in, list_after, HoldsWords, Moves}
 use Rattle.fail_stop.proofs.Plans.{gate, is_less, Mid, mid, plan_store, next_kstore}
 use Rattle.fail_stop.proofs.Keeps.{keeps}
 
 abbrev pub IsTarget : Flight → Option (Word × ℕ) → Type 0
 IsTarget m None = Unit {0}
-IsTarget m (Some t) = IsWord m t.0
+IsTarget m (Some t) = IsStored m t.0
 
 module _ (m : Flight) (at : Places) (words : Word → ℕ) where
   acting : (p : ℕ) (e : Event) → (if nat_lt p m.procs then next_from m p (words ReleaseWord) (at.proc p) else None) ≡ Some e → p < m.procs
@@ -37,7 +37,7 @@ module _ (m : Flight) (at : Places) (words : Word → ℕ) where
   target Release i = tt
 
 -- two words have one place only if they are one word
-same_index : (m : Flight) (t w : Word) → m.procs ≤ 8 → m.width ≤ 64 → IsWord m t → IsWord m w → nat_eq (index_of t) (index_of w) ≡ same_word t w
+same_index : (m : Flight) (t w : Word) → m.procs ≤ 8 → m.width ≤ 64 → IsStored m t → IsStored m w → nat_eq (index_of t) (index_of w) ≡ same_word t w
 same_index m ReleaseWord ReleaseWord np nw a b = refl
 same_index m ReleaseWord (KernelWord j) np nw a b = grind (arith, nat_tests)
 same_index m ReleaseWord (MarkWord q) np nw a b = grind (arith, nat_tests)
@@ -70,20 +70,20 @@ same_index m (BankWord p d i) (BankWord q c j) np nw a b = bank_index p d i q c 
 set_index : (list : List ℕ) (i j v : ℕ) → i < length list → slice_index (slice_set list i v) j ≡ (if nat_eq i j then v else slice_index list j)
 set_index list i j v h = grind (arith, common_steps)
 
-index_small : (m : Flight) (t : Word) → m.procs ≤ 8 → m.width ≤ 64 → IsWord m t → index_of t < 1120
+index_small : (m : Flight) (t : Word) → m.procs ≤ 8 → m.width ≤ 64 → IsStored m t → index_of t < 1120
 index_small m ReleaseWord np nw a = omega arith
 index_small m (KernelWord i) np nw a = omega arith
 index_small m (MarkWord p) np nw a = omega arith
 index_small m (EndWord p) np nw a = omega arith
 index_small m (BankWord p b i) np nw a = omega arith
 
-list_written : (m : Flight) (list : List ℕ) (o : Option (Word × ℕ)) (w : Word) → IsListed m list → IsTarget m o → IsWord m w → stored_in (list_after list o) w ≡ written o (stored_in list) w
+list_written : (m : Flight) (list : List ℕ) (o : Option (Word × ℕ)) (w : Word) → HoldsWords m list → IsTarget m o → IsStored m w → stored_in (list_after list o) w ≡ written o (stored_in list) w
 list_written m list None w s t l = refl
 list_written m list (Some t) w s k l =
     let small = index_small m t.0 s.procs s.width k in
     set_index list (index_of t.0) (index_of w) t.1 (omega (arith, s.long)) ∙ ap (λ (b : Bool). if b then t.1 else stored_in list w) (same_index m t.0 w s.procs s.width k l)
 
-pub list_keeps : (m : Flight) (at : Places) (list : List ℕ) (e : Event) (at2 : Places) → Flies m → IsListed m list → Kept m at (stored_in list) → IsNext m at (stored_in list) e → Moves m at e at2
+pub list_keeps : (m : Flight) (at : Places) (list : List ℕ) (e : Event) (at2 : Places) → Flies m → HoldsWords m list → Kept m at (stored_in list) → IsNext m at (stored_in list) e → Moves m at e at2
     → Kept m at2 (stored_in (list_after list (writes m at (stored_in list) e)))
 list_keeps m at list e at2 y s k i v =
     keeps m at (stored_in list) at2 (stored_in (list_after list (writes m at (stored_in list) e))) y k e i (record {

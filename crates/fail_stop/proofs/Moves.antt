@@ -5,7 +5,7 @@ use Rattle.std.proofs.lemmas.Bool.Decides.{nat_tests}
 use native.Mathlib.Decide.{ℕ_discrete}
 use Rattle.fail_stop.specs.Flights.{Flight}
 use Rattle.bank_words.specs.declared.events.Event.{Event}
-use Rattle.fail_stop.specs.Events.{Place, Places, Word, ReleaseWord, KernelWord, MarkWord, EndWord, BankWord, IsWord, Happens, is_actor, moved, frame_after, step_after, writes, written}
+use Rattle.fail_stop.specs.Events.{Place, Places, Word, ReleaseWord, KernelWord, MarkWord, EndWord, BankWord, IsStored, Happens, is_actor, moved, frame_after, step_after, writes, written}
 use Rattle.fail_stop.specs.Kept.{Kept, IsPlaced, mark_at, end_at, bank_at, word_at}
 
 abbrev pub owner : Word → Option ℕ
@@ -43,7 +43,7 @@ pub record Own (m : Flight) (p : ℕ) (at : Places) (words : Word → ℕ) (at2 
   pub others : (q : ℕ) → q ≢ p → at2.proc q ≡ at.proc q
   pub frame : at2.frame ≡ at.frame
   pub step : at2.step ≡ at.step
-  pub others_words : (w : Word) → IsWord m w → owner w ≢ Some p → words2 w ≡ words w
+  pub others_words : (w : Word) → IsStored m w → owner w ≢ Some p → words2 w ≡ words w
   pub marks : words2 (MarkWord p) ≡ mark_at m p x
   pub ends : words2 (EndWord p) ≡ end_at m p x
   pub banks : (b i : ℕ) → b < 2 → i < m.width → words2 (BankWord p b i) ≡ bank_at m p x b i
@@ -72,7 +72,7 @@ module _ (m : Flight) (p : ℕ) (at : Places) (words : Word → ℕ) (at2 : Plac
   none_own : owner ReleaseWord ≢ Some p
   none_own e = cc
 
-  word_is : (w : Word) → IsWord m w → words2 w ≡ word_at m at2 w
+  word_is : (w : Word) → IsStored m w → words2 w ≡ word_at m at2 w
   word_is ReleaseWord l = rw o.frame (o.others_words ReleaseWord l none_own ∙ k.words_are ReleaseWord l)
   word_is (KernelWord i) l = rw (o.frame, o.step) (o.others_words (KernelWord i) l none_own ∙ k.words_are (KernelWord i) l)
   word_is (MarkWord q) l = mark_is q l (ℕ_discrete q p)

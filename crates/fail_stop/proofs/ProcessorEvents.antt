@@ -3,7 +3,7 @@ use Rattle.std.proofs.Common.{◌≡◌, ℕ, suc, ◌+◌, ◌-◌, ◌*◌, �
 use Rattle.std.specs.Prelude.{Option, Some, None, min, nat_eq, if◌then◌else◌}
 use Rattle.std.proofs.lemmas.Bool.Decides.{nat_tests}
 use native.Mathlib.Decide.{dec_le}
-use Rattle.fail_stop.specs.Flights.{Flight, Flies, word_in, is_committed, mark_before, last_count, side, end_before, end_in, laid, bank_before, stores_in, stores_by}
+use Rattle.fail_stop.specs.Flights.{Flight, Flies, word_in, is_committed, mark_before, last_commit, side, end_before, end_word_after, laid, bank_before, stores_in, stores_by}
 use Rattle.bank_words.specs.declared.events.Event.TheVariants.{Start, Look, Store, Flip, Done, Halt}
 use Rattle.scram_types.specs.Lookups.{proc_id}
 use Rattle.fail_stop.specs.Events.{Place, At, Halted, Places, Word, MarkWord, EndWord, BankWord, Happens, halts_at}
@@ -35,7 +35,7 @@ odd_half : (a s : ℕ) → s ≤ 1 → (2 * a + s) % 2 ≡ s
 odd_half a s h = omega arith
 
 pub side_of : (m : Flight) (p f x : ℕ) → x ≡ mark_before m p f → x % 2 ≡ side m p f
-side_of m p f x e = ap (λ (y : ℕ). y % 2) e ∙ odd_half (last_count m p f) (side m p f) (side_le m p f)
+side_of m p f x e = ap (λ (y : ℕ). y % 2) e ∙ odd_half (last_commit m p f) (side m p f) (side_le m p f)
 
 laid_store : (m : Flight) (p f i c d old w : ℕ) → c < 2 → w ≡ laid m p f i c d old
     → (if (nat_eq (1 - side m p f) c && nat_eq i d) then word_in (m.draft p f) i else w) ≡ laid m p f (suc i) c d old
@@ -92,10 +92,10 @@ mark_halt m p f s n e c (yes d) = unflipped m p f n (omega arith) ∙ sym (kept_
 mark_halt m p f s n e c (no d) = flipped m p f n (omega arith)
 
 end_now : (m : Flight) (p f s : ℕ) → m.up p f ≡ true → m.halt p f ≡ Some s → end_before m p (suc f) ≡ 2 * f + 1
-end_now m p f s u e = end_up m p f u ∙ ap (λ (o : Option ℕ). end_in f o) e
+end_now m p f s u e = end_up m p f u ∙ ap (λ (o : Option ℕ). end_word_after f o) e
 
 end_done : (m : Flight) (p f : ℕ) → m.up p f ≡ true → m.halt p f ≡ None → end_before m p (suc f) ≡ 2 * suc f
-end_done m p f u e = end_up m p f u ∙ ap (λ (o : Option ℕ). end_in f o) e
+end_done m p f u e = end_up m p f u ∙ ap (λ (o : Option ℕ). end_word_after f o) e
 
 stores_now : (m : Flight) (p f s : ℕ) → m.up p f ≡ true → m.halt p f ≡ Some s → stores_in m p f ≡ min s m.width
 stores_now m p f s u e = stores_up m p f u ∙ ap (λ (o : Option ℕ). stores_by m.width o) e

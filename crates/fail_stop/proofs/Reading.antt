@@ -2,7 +2,7 @@
 use Rattle.std.proofs.Common.{◌≡◌, ℕ, suc, ◌+◌, ◌-◌, ◌*◌, ◌/◌, ◌%◌, ◌<◌, ◌≤◌, Bool, true, false, refl, sym, ap, subst, ◌∙◌, arith}
 use Rattle.std.proofs.lemmas.Bool.Decides.{nat_tests}
 use native.Mathlib.Decide.{dec_le}
-use Rattle.fail_stop.specs.Flights.{Flight, Flies, word_in, image_before, is_committed, mark_before, last_count, side, bank_before, stores_in}
+use Rattle.fail_stop.specs.Flights.{Flight, Flies, word_in, image_before, is_committed, mark_before, last_commit, side, bank_before, stores_in}
 use Rattle.fail_stop.specs.Events.{Place, At, Halted, Places, Word, KernelWord, MarkWord, BankWord}
 use Rattle.fail_stop.specs.Kept.{Kept, IsPlaced, Running, Stopped, mark_at, bank_at, stores_made}
 use Rattle.bank_words.specs.Marks.{pick}
@@ -18,7 +18,7 @@ pick_high : (c s f : ℕ) → s ≤ 1 → f < c → pick (2 * c + s) f ≡ 1 - s
 pick_high c s f h l = let half : (2 * c + s) / 2 ≡ c = omega arith in let rest : (2 * c + s) % 2 ≡ s = omega arith in grind (arith, nat_tests)
 
 pick_now : (m : Flight) (q k : ℕ) → pick (mark_before m q k) k ≡ side m q k
-pick_now m q k = pick_low (last_count m q k) (side m q k) k (side_le m q k) (last_le m q k)
+pick_now m q k = pick_low (last_commit m q k) (side m q k) k (side_le m q k) (last_le m q k)
 
 pick_next_at : (m : Flight) (q k : ℕ) (b : Bool) → is_committed m q k ≡ b → pick (mark_before m q (suc k)) k ≡ side m q k
 pick_next_at m q k true c =
@@ -26,7 +26,7 @@ pick_next_at m q k true c =
     let up : side m q (suc k) ≤ 1 = side_le m q (suc k) in
     let s = side_yes m q k c in
     let a = last_yes m q k c in
-    pick_high (last_count m q (suc k)) (side m q (suc k)) k up (omega arith) ∙ omega arith
+    pick_high (last_commit m q (suc k)) (side m q (suc k)) k up (omega arith) ∙ omega arith
 pick_next_at m q k false c = ap (λ (x : ℕ). pick x k) (rw (last_no m q k c, side_no m q k c) refl) ∙ pick_now m q k
 
 pick_next : (m : Flight) (q k : ℕ) → pick (mark_before m q (suc k)) k ≡ side m q k

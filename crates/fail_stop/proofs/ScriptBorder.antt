@@ -13,13 +13,14 @@ use Rattle.scram_types.proofs.Naturals.{equal}
 use Rattle.fault_script.specs.Fits.{EachLater, Fits}
 use Rattle.fault_script.specs.Times.{commits, halt_in, is_halt_in, is_restart_between, is_restart_of, is_up, is_up_since, latest_halt, restart_of, words}
 use Rattle.frame_model.specs.Flights.{draft, image_after}
-use Rattle.fail_stop.specs.Flights.{Flies, back_by, image_before, is_committed, reaches_mark}
+use Rattle.frame_model.specs.Storage.{bank_after, last_count, mark_after}
+use Rattle.fail_stop.specs.Flights.{Flies, back_by, image_before, is_committed, last_commit, mark_before, reaches_mark, side}
 use Rattle.fail_stop.specs.Laws.{IsOfTrace}
 use Rattle.fail_stop.specs.Schedules.{IsUpBy, is_up_after, latest}
 use Rattle.fail_stop.specs.ScriptFlights.{flight_of, halt_step, image_words, image_words_after}
 use Rattle.fail_stop.proofs.EachState.{flies}
-use Rattle.fail_stop.proofs.FrameSteps.{img_yes, img_no}
-use Rattle.fail_stop.proofs.HaltSteps.{commits_by, is_early}
+use Rattle.fail_stop.proofs.FrameSteps.{img_yes, img_no, last_yes, last_no, side_yes, side_no}
+use Rattle.fail_stop.proofs.HaltSteps.{commits_by, is_early, or_false}
 
 -- what is found of a list
 
@@ -55,10 +56,6 @@ latest_same script p (suc f) = rw (found_some (is_halt_in p f) (λ (halt : HaltA
 
 abbrev Once : RestartAt → RestartAt → Type 0
 Once a b = a.proc.0 ≡ b.proc.0 → ⊥
-
-or_false : (b : Bool) → (b || false) ≡ b
-or_false true = refl
-or_false false = refl
 
 none_later : (p h g : ℕ) (x : RestartAt) (xs : List RestartAt) → (x.proc.0 == p) ≡ true → EachLater Once (x ∷ xs) → list_any (is_restart_between p h g) xs ≡ false
 none_later p h g x xs of_p once = not_true (list_any (is_restart_between p h g) xs) (λ again.
@@ -136,8 +133,39 @@ unfolding image_before
 images_same spec script fits p zero = refl
 images_same spec script fits p (suc f) = images_next spec script fits p f (commits spec script p f) refl (images_same spec script fits p f)
 
+-- marks
+
+sides_next : (spec : Parts) (script : ScriptParts) → Fits spec script → (p f : ℕ) (b : Bool) → commits spec script p f ≡ b
+    → side (flight_of spec script) p f ≡ bank_after spec script p f → side (flight_of spec script) p (suc f) ≡ bank_after spec script p (suc f)
+sides_next spec script fits p f true c rest = side_yes (flight_of spec script) p f (committed_same spec script fits p f ∙ c) ∙ rw (c, rest) refl
+sides_next spec script fits p f false c rest = side_no (flight_of spec script) p f (committed_same spec script fits p f ∙ c) ∙ rw (c, rest) refl
+
+pub sides_same : (spec : Parts) (script : ScriptParts) → Fits spec script → (p f : ℕ) → side (flight_of spec script) p f ≡ bank_after spec script p f
+unfolding side
+sides_same spec script fits p zero = refl
+sides_same spec script fits p (suc f) = sides_next spec script fits p f (commits spec script p f) refl (sides_same spec script fits p f)
+
+counts_next : (spec : Parts) (script : ScriptParts) → Fits spec script → (p f : ℕ) (b : Bool) → commits spec script p f ≡ b
+    → last_commit (flight_of spec script) p f ≡ last_count spec script p f → last_commit (flight_of spec script) p (suc f) ≡ last_count spec script p (suc f)
+counts_next spec script fits p f true c rest = last_yes (flight_of spec script) p f (committed_same spec script fits p f ∙ c) ∙ rw c refl
+counts_next spec script fits p f false c rest = last_no (flight_of spec script) p f (committed_same spec script fits p f ∙ c) ∙ rw (c, rest) refl
+
+counts_same : (spec : Parts) (script : ScriptParts) → Fits spec script → (p f : ℕ) → last_commit (flight_of spec script) p f ≡ last_count spec script p f
+unfolding last_commit
+counts_same spec script fits p zero = refl
+counts_same spec script fits p (suc f) = counts_next spec script fits p f (commits spec script p f) refl (counts_same spec script fits p f)
+
+pub marks_same : (spec : Parts) (script : ScriptParts) → Fits spec script → (p f : ℕ) → mark_before (flight_of spec script) p f ≡ mark_after spec script p f
+marks_same spec script fits p f = rw (counts_same spec script fits p f, sides_same spec script fits p f) refl
+
 pub of_trace : (spec : Parts) (script : ScriptParts) → Fits spec script → IsOfTrace spec script
-of_trace spec script fits = record { flies = script_flies spec script fits; committed = committed_same spec script fits; images = images_same spec script fits }
+of_trace spec script fits = record {
+  flies = script_flies spec script fits;
+  committed = committed_same spec script fits;
+  marks = marks_same spec script fits;
+  banks = sides_same spec script fits;
+  images = images_same spec script fits;
+}
 
 pub restarts_within : (spec : Parts) (script : ScriptParts) → Fits spec script → (p r : ℕ) → restart_of script p ≡ Some r → suc r ≤ script.frames
 restarts_within spec script fits p r e = within (find (is_restart_of p) script.restarts) refl e

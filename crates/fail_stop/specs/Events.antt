@@ -122,9 +122,9 @@ frame_on (At f n) = At (suc f) 0
 frame_on (Halted h) = Halted h
 
 -- Halted in its frame.
-abbrev pub stopped : Place → Place
-stopped (At f n) = Halted f
-stopped (Halted h) = Halted h
+abbrev pub halted_there : Place → Place
+halted_there (At f n) = Halted f
+halted_there (Halted h) = Halted h
 
 -- Where an event moves its actor, processor q.
 abbrev pub moved : Flight → Event → ℕ → Place → Place
@@ -133,7 +133,7 @@ moved m (Look p i) q place = one_on place
 moved m (Store p i) q place = one_on place
 moved m (Flip p) q place = one_on place
 moved m (Done p) q place = frame_on place
-moved m (Halt p) q place = stopped place
+moved m (Halt p) q place = halted_there place
 moved m (KNote p) q place = place
 moved m (KStore i) q place = place
 moved m Release q place = place
@@ -198,19 +198,19 @@ written None words w = words w
 written (Some t) words w = if same_word t.0 w then t.1 else words w
 
 -- A word exists: it is of a processor that exists, and its numbers are in range.
-abbrev pub IsWord : Flight → Word → Type 0
-IsWord m ReleaseWord = Unit {0}
-IsWord m (KernelWord i) = i < 20
-IsWord m (MarkWord p) = p < m.procs
-IsWord m (EndWord p) = p < m.procs
-IsWord m (BankWord p b i) = (p < m.procs) × (b < 2) × (i < m.width)
+abbrev pub IsStored : Flight → Word → Type 0
+IsStored m ReleaseWord = Unit {0}
+IsStored m (KernelWord i) = i < 20
+IsStored m (MarkWord p) = p < m.procs
+IsStored m (EndWord p) = p < m.procs
+IsStored m (BankWord p b i) = (p < m.procs) × (b < 2) × (i < m.width)
 
 -- Event e takes the machine from at, words to at2, words2.
 pub record Happens (m : Flight) (at : Places) (words : Word → ℕ) (e : Event) (at2 : Places) (words2 : Word → ℕ) : Type 0 where
   pub proc : (q : ℕ) → at2.proc q ≡ proc_after m at e q
   pub frame : at2.frame ≡ frame_after at e
   pub step : at2.step ≡ step_after at e
-  pub words_are : (w : Word) → IsWord m w → words2 w ≡ written (writes m at words e) words w
+  pub words_are : (w : Word) → IsStored m w → words2 w ≡ written (writes m at words e) words w
 
 -- All places after an event.
 abbrev pub places_after : Flight → Places → Event → Places

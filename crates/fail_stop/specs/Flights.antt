@@ -46,9 +46,9 @@ image_before m p zero = m.start p
 image_before m p (suc f) = if is_committed m p f then m.draft p f else image_before m p f
 
 -- The number of frames up to the last one below f that p commits, 0 without one.
-unfoldable pub last_count : Flight → ℕ → ℕ → ℕ
-last_count m p zero = 0
-last_count m p (suc f) = if is_committed m p f then suc f else last_count m p f
+unfoldable pub last_commit : Flight → ℕ → ℕ → ℕ
+last_commit m p zero = 0
+last_commit m p (suc f) = if is_committed m p f then suc f else last_commit m p f
 
 -- How many frames below f processor p commits.
 unfoldable pub commit_count : Flight → ℕ → ℕ → ℕ
@@ -62,17 +62,17 @@ side m p (suc f) = if is_committed m p f then 1 - side m p f else side m p f
 
 -- The mark of processor p as frame f begins.
 abbrev pub mark_before : Flight → ℕ → ℕ → ℕ
-mark_before m p f = 2 * last_count m p f + side m p f
+mark_before m p f = 2 * last_commit m p f + side m p f
 
 -- The end word that a frame leaves, by the halt in it.
-abbrev pub end_in : ℕ → Option ℕ → ℕ
-end_in f None = 2 * suc f
-end_in f (Some s) = 2 * f + 1
+abbrev pub end_word_after : ℕ → Option ℕ → ℕ
+end_word_after f None = 2 * suc f
+end_word_after f (Some s) = 2 * f + 1
 
 -- The end word of processor p as frame f begins.
 unfoldable pub end_before : Flight → ℕ → ℕ → ℕ
 end_before m p zero = 0
-end_before m p (suc f) = if m.up p f then end_in f (m.halt p f) else end_before m p f
+end_before m p (suc f) = if m.up p f then end_word_after f (m.halt p f) else end_before m p f
 
 -- The stores of a frame in which a processor is up, by the halt in it.
 abbrev pub stores_by : ℕ → Option ℕ → ℕ

@@ -1,7 +1,7 @@
 -- What stands in each state of each schedule.
 use Rattle.std.specs.Prelude.{◌≡◌, ℕ, suc, ◌+◌, ◌-◌, ◌*◌, ◌<◌, ◌≤◌, min, Bool, true, Option, Some, None, if◌then◌else◌, nat_lt, nat_eq}
 use Rattle.fail_stop.specs.Flights.{Flight, word_in, mark_before, end_before, laid, bank_before}
-use Rattle.fail_stop.specs.Events.{Place, At, Halted, Places, Word, ReleaseWord, KernelWord, MarkWord, EndWord, BankWord, IsWord}
+use Rattle.fail_stop.specs.Events.{Place, At, Halted, Places, Word, ReleaseWord, KernelWord, MarkWord, EndWord, BankWord, IsStored}
 
 -- The stores that n steps of a frame hold.
 abbrev pub stores_made : Flight → ℕ → ℕ
@@ -81,7 +81,7 @@ pub record IsKernel (m : Flight) (k j : ℕ) : Type 0 where
 pub record Kept (m : Flight) (at : Places) (words : Word → ℕ) : Type 0 where
   pub kernel : IsKernel m at.frame at.step
   pub placed : (p : ℕ) → p < m.procs → IsPlaced m at.frame at.step p (at.proc p)
-  pub words_are : (w : Word) → IsWord m w → words w ≡ word_at m at w
+  pub words_are : (w : Word) → IsStored m w → words w ≡ word_at m at w
 
 -- All stand at the begin of frame 0.
 abbrev pub opening_places : Places

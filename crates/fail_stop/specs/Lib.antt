@@ -3,7 +3,6 @@ pub mod Ends
 pub mod Events
 pub mod Flights
 pub mod Kept
-pub mod KernelImages
 pub mod Laws
 pub mod Listed
 pub mod Schedules

@@ -27,7 +27,7 @@ list_after list None = list
 list_after list (Some t) = slice_set list (index_of t.0) t.1
 
 -- A list has a place for each word.
-pub record IsListed (m : Flight) (list : List ℕ) : Type 0 where
+pub record HoldsWords (m : Flight) (list : List ℕ) : Type 0 where
   pub procs : m.procs ≤ 8
   pub width : m.width ≤ 64
   pub long : length list ≡ places_of_words

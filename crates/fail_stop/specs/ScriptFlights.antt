@@ -7,8 +7,8 @@ use Rattle.bank_words.specs.Images.{kernel_encode}
 use Rattle.bank_words.specs.Numbers.{encode}
 use Rattle.fault_script.specs.Times.{halt_in, is_up, restart_of, words}
 use Rattle.frame_model.specs.Flights.{draft, image_after}
+use Rattle.frame_model.specs.Storage.{kernel_image}
 use Rattle.fail_stop.specs.Flights.{Flight}
-use Rattle.fail_stop.specs.KernelImages.{kernel_image}
 
 -- The step at which processor p halts in frame f, if it does.
 abbrev pub halt_step : ScriptParts → ℕ → ℕ → Option ℕ
