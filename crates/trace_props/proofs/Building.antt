@@ -1,5 +1,5 @@
 -- An accepted specification gives the law a build of which it is true.
-use Rattle.std.proofs.Common.{◌≡◌, ℕ, zero, suc, ◌<◌, ◌≤◌, Bool, true, refl, arith, ◌⊎◌, ap, sym, length}
+use Rattle.std.proofs.Common.{◌≡◌, ℕ, ◌<◌, ◌≤◌, true, refl, arith, ◌⊎◌, ap, sym, length}
 use mathlib.Core.Logic.{inl, inr}
 use Rattle.std.specs.Prelude.{Option, Some, None, slice_get, option_and_then}
 use Rattle.scram_types.specs.declared.ids.ConfId.{ConfId}
@@ -11,7 +11,6 @@ use Rattle.scram_types.proofs.Booleans.{true_false}
 use Rattle.scram_types.proofs.Naturals.{equal_test, low_or_high}
 use Rattle.scram_types.specs.Lookups.{is_on, place_of, conf_id}
 use Rattle.scram_types.proofs.Searches.{each_all}
-use Rattle.scram_types.specs.Searches.{all_below}
 use Rattle.choice_table.specs.Choices.{is_runnable, places_of}
 use Rattle.choice_table.specs.Environments.{is_up_in}
 use Rattle.choice_table.specs.Laws.{RunsWherePlacesAreUp}

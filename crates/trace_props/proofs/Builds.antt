@@ -7,7 +7,7 @@ use Rattle.scram_types.specs.declared.specification.Place.{Place}
 use Rattle.scram_types.proofs.Searches.{all_each, fails_below}
 use Rattle.scram_types.specs.Searches.{least_from, all_below}
 use Rattle.scram_types.proofs.Booleans.{not_true, true_false, and_left, and_right, and_true}
-use Rattle.scram_types.proofs.Naturals.{equal, below, not_below, equal_test, at_most_test, above_test, below_or_at}
+use Rattle.scram_types.proofs.Naturals.{equal, below, not_below, equal_test, at_most_test, above_test}
 use Rattle.trace_props.proofs.Plans.{Plan, IsAcceptedPlan, plan_halting}
 use Rattle.trace_props.proofs.CourseModes.{CourseMode, CourseMode.Stable, CourseMode.Moving, course_target, course_is_running, course_stable_decision, course_wanted, course_turn}
 use Rattle.trace_props.proofs.Courses.{Course, IsCourseFlown, CourseRowUnder, course_mode_at, course_decision_after}

@@ -10,7 +10,6 @@ use Rattle.scram_types.specs.declared.orders.Act.TheVariants as act
 use Rattle.scram_types.specs.declared.orders.KMode.TheVariants as kmode
 use Rattle.scram_types.specs.declared.specification.AppSpec.{AppSpec}
 use Rattle.scram_types.specs.declared.specification.Bound.{Bound}
-use Rattle.scram_types.specs.declared.specification.Choice.{Choice}
 use Rattle.scram_types.specs.declared.specification.Conf.{Conf}
 use Rattle.scram_types.specs.declared.specification.Invariant.{Invariant}
 use Rattle.scram_types.specs.declared.specification.ModeSpec.{ModeSpec}
@@ -20,6 +19,7 @@ use Rattle.scram_types.specs.declared.specification.Precondition.{Precondition}
 use Rattle.scram_types.specs.Numbers.{word}
 use Rattle.scram_types.specs.Specification.{Parts}
 use Rattle.scram_types.specs.Lookups.{conf_id}
+use Rattle.coverage_check.proofs.Examples.{bound, first_rule, other_rule}
 use Rattle.trace_props.specs.declared.breaks.Broken.{Broken}
 use Rattle.trace_props.specs.declared.breaks.Property.{Property}
 use Rattle.trace_props.specs.declared.breaks.Property.TheVariants.{Sp1, Sp2, Sp3, Sp4, Sp5}
@@ -35,23 +35,13 @@ monitor = record { name = 109 ∷ []; kind = record { 0 = 2 }; needs = []; modes
 abbrev pub placed : ℕ → Conf
 placed m = record { name = (96 + m) ∷ []; places = Some (record { mode = record { 0 = m }; proc = record { 0 = 0 } }) ∷ replicate 7 None }
 
-abbrev pub bound : ℕ → ℕ → ℕ → Bound
-bound i j frames = record { from = conf_id i; to = conf_id j; frames = frames }
-
--- configuration 0 while the factor has its first value, then configuration 1
-abbrev pub to_first : Choice
-to_first = record { from = None; wants = record { factor = record { 0 = 0 }; value = 0 } ∷ []; up = 0; to = conf_id 0 }
-
-abbrev pub to_second : Choice
-to_second = record { from = None; wants = []; up = 0; to = conf_id 1 }
-
 abbrev spec_of : List Bound → Policy → List Invariant → List Precondition → Parts
 spec_of bounds policy invariants preconditions = record {
   procs = record { name = 112 ∷ []; capacity = 100 } ∷ [];
   apps = monitor ∷ [];
   confs = placed 1 ∷ placed 2 ∷ [];
   factors = record { name = 120 ∷ []; values = (97 ∷ []) ∷ (98 ∷ []) ∷ [] } ∷ [];
-  rules = to_first ∷ to_second ∷ [];
+  rules = first_rule ∷ other_rule ∷ [];
   bounds = bounds;
   start = conf_id 0;
   goal = record { altitude = pos 0; heading = pos 0 };

@@ -13,7 +13,6 @@ use Rattle.scram_types.proofs.Naturals.{at_most, below_test, at_most_test, low_o
 use Rattle.scram_types.proofs.Options.{none_or_some}
 use Rattle.scram_types.specs.Bits.{count_below, bits_below}
 use Rattle.scram_types.proofs.BitSets.{no_bit}
-use Rattle.scram_types.specs.Searches.{all_below}
 use Rattle.scram_types.specs.Lookups.{opening_env}
 use Rattle.scram_types.proofs.Searches.{each_all}
 use Rattle.choice_table.specs.Environments.{factor_in, in_scope, is_up_in}

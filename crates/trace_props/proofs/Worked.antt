@@ -18,7 +18,8 @@ use Rattle.fault_script.proofs.SmallSpec.{differ_one, differ_two, each_none, eac
 use Rattle.coverage_check.specs.Missions.{IsMission, mission_of}
 use Rattle.coverage_check.proofs.Accepting.{accepts_where_unrefused}
 use Rattle.frame_model.specs.Flights.{reports_of}
-use Rattle.trace_props.proofs.Examples.{bound, mode, monitor, moved, placed, spec, to_first, to_second}
+use Rattle.coverage_check.proofs.Examples.{bound, first_rule, other_rule}
+use Rattle.trace_props.proofs.Examples.{mode, monitor, moved, placed, spec}
 
 each_more : {A : Type 0} (P : A → Type 0) (x : A) (xs : List A) → P x → Each P xs → Each P (x ∷ xs)
 each_more P x xs here rest zero y e = subst P (same_Some x y e) here
@@ -84,7 +85,7 @@ sound = record {
   factors_differ = differ_one (λ (x : Factor). x.name) _;
   factors = each_one IsFactor _ (record { count = record { enough = omega arith; few = omega arith }; differ = differ_two (λ (name : List ℕ). name) (97 ∷ []) (98 ∷ []) (names_apart 97 98 (λ e. omega (arith, e))) });
   rules_count = omega arith;
-  rules = each_two (IsChoice spec.procs spec.confs spec.factors) to_first to_second
+  rules = each_two (IsChoice spec.procs spec.confs spec.factors) first_rule other_rule
       (record { from = search rules; few = omega arith; wants = each_one (IsWant spec.factors) _ (record { factor = _; there = refl; value = omega arith }); up = omega arith; to = omega arith })
       (record { from = search rules; few = omega arith; wants = each_none _; up = omega arith; to = omega arith });
   bounds_count = omega arith;

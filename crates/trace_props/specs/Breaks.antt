@@ -44,6 +44,7 @@ abbrev pub last_frame_to : Option ConfId → ℕ → ℕ
 last_frame_to None end = end - 1
 last_frame_to (Some j) end = end
 
+-- The last frame of a reconfiguration, as far as the rows show it.
 abbrev pub last_frame : Report → ℕ
 last_frame r = last_frame_to r.to r.end
 

@@ -62,6 +62,7 @@ pub record IsTargetChosen (spec : Parts) (script : ScriptParts) (f : ℕ) (from 
   pub chosen : choose spec from (env_at spec script chosen_at) ≡ to
   pub anew : spec.policy ≡ Retarget → choose spec from (env_at spec script f) ≡ to
 
+-- In each frame of a reconfiguration of a mission its target was chosen.
 abbrev pub TargetsAreChosen : Type 0
 TargetsAreChosen = InMovingFrames IsTargetChosen
 
@@ -70,6 +71,7 @@ abbrev pub HaltsInTime : Parts → ScriptParts → ℕ → ConfId → Option Con
 HaltsInTime spec script f from halting to since =
     since + halting_frames spec halting ≤ first_moving spec script f + halting_time spec from + changes_since spec script f * slowest spec
 
+-- In each frame of a reconfiguration of a mission its halting ends in time.
 abbrev pub HaltingEndsInTime : Type 0
 HaltingEndsInTime = InMovingFrames HaltsInTime
 
@@ -77,6 +79,7 @@ HaltingEndsInTime = InMovingFrames HaltsInTime
 abbrev pub SettlesInTime : Parts → ScriptParts → ℕ → ConfId → Option ConfId → ConfId → ℕ → Type 0
 SettlesInTime spec script f from halting to since = f ≤ since + halting_frames spec halting + preparing_time spec to + initialising_time spec to
 
+-- In each frame of a reconfiguration of a mission its phases are past in time.
 abbrev pub PhasesArePastInTime : Type 0
 PhasesArePastInTime = InMovingFrames SettlesInTime
 
@@ -84,5 +87,6 @@ PhasesArePastInTime = InMovingFrames SettlesInTime
 abbrev pub SeesFewChanges : Parts → ScriptParts → ℕ → ConfId → Option ConfId → ConfId → ℕ → Type 0
 SeesFewChanges spec script f from halting to since = changes_since spec script f ≤ further spec.policy spec.changes
 
+-- In each frame of a reconfiguration of a mission the environment has changed at most as often as assumed.
 abbrev pub FurtherChangesAreFew : Type 0
 FurtherChangesAreFew = InMovingFrames SeesFewChanges

@@ -62,6 +62,7 @@ pub record KeepsSp3 (spec : Parts) (r : Report) : Type 0 where
 abbrev pub InvariantHolds : Invariant → Row → Type 0
 InvariantHolds inv row = Between (inv.least, inv.greatest) (word (area_at row.areas inv.app.0) inv.variable)
 
+-- A row meets a precondition: the variable lies in its interval.
 abbrev pub PreconditionHolds : Precondition → Row → Type 0
 PreconditionHolds pre row = Between (pre.least, pre.greatest) (word (area_at row.areas pre.app.0) pre.variable)
 
@@ -92,12 +93,15 @@ KeepsSp5 spec rows r = suc r.begin < length rows → ChangesIn spec rows r.begin
 abbrev pub HoldsSp2 : Parts → List Row → Type 0
 HoldsSp2 spec rows = Each (KeepsSp2 spec rows) (reports spec rows)
 
+-- Each reconfiguration that the rows show ends in time.
 abbrev pub HoldsSp3 : Parts → List Row → Type 0
 HoldsSp3 spec rows = Each (KeepsSp3 spec) (reports spec rows)
 
+-- Each reconfiguration that the rows show keeps its invariants and meets its target's preconditions.
 abbrev pub HoldsSp4 : Parts → List Row → Type 0
 HoldsSp4 spec rows = Each (KeepsSp4 spec rows) (reports spec rows)
 
+-- Each reconfiguration that the rows show begins because the environment changed.
 abbrev pub HoldsSp5 : Parts → List Row → Type 0
 HoldsSp5 spec rows = Each (KeepsSp5 spec rows) (reports spec rows)
 

@@ -8,7 +8,8 @@ ghost use Rattle.trace_props.specs.Known.{IsKnown};
 /// during a reconfiguration, and under both policies. Each reconfiguration that the rows show is reported,
 /// goes to a target that was chosen in an environment seen meanwhile, ends within the bound that is given,
 /// keeps its invariants throughout, meets its target's preconditions before its end, and begins because
-/// the environment changed. Of one that the script cuts off no target is claimed.
+/// the environment changed, which is not asked of one that begins in the last row. Of one that the script
+/// cuts off no target is claimed.
 pub fn reconfigurations_are_assured()
     ensures { ReconfigurationsAreAssured }
 {
