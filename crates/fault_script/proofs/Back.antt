@@ -1,10 +1,11 @@
 -- The value of a script that fits is read back to the script.
-use Rattle.std.proofs.Common.{◌≡◌, ◌≤◌, ◌<◌, ◌+◌, ℕ, zero, suc, true, take, drop, List, [], ◌∷◌, ◌++◌, length, map, arith, refl, ap, ◌∙◌, sym, subst, append_assoc, append-nil}
+use Rattle.std.proofs.Common.{◌≡◌, ◌≤◌, ◌+◌, ℕ, zero, suc, true, take, drop, List, [], ◌∷◌, ◌++◌, length, arith, refl, ap, ◌∙◌, sym, subst, append_assoc}
 use Rattle.std.specs.Prelude.{Ok, Some, IsUtf8, slice_get, codes}
 use Rattle.std.proofs.lemmas.Bool.{le-leb}
 use Rattle.std.proofs.lemmas.Option.{same_Some}
 use Rattle.serde_json.specs.Read.{read}
-use Rattle.scram_doc.specs.Paths.{item_path, member_path}
+use Rattle.scram_types.specs.declared.limits.TheConstants.{MAX_CHANGES, MAX_SCRIPT_BYTES}
+use Rattle.scram_doc.specs.Paths.{member_path}
 use Rattle.scram_doc.specs.Canonical.{list_data}
 use Rattle.scram_doc.proofs.ReadBack.{list_back, whole_back}
 use Rattle.scram_doc.proofs.Parsed.{parsed-some}
@@ -60,11 +61,11 @@ record NextChange (spec : Parts) (frames : ℕ) (before : List Change) (c : Chan
   is : IsChange spec frames c
   follows : change_follows before c ≡ true
 
-changes_back : (spec : Parts) (frames : ℕ) (at : List ℕ) (cs : List Change) → IsSpec spec → length cs ≤ 20000 → Each (IsChange spec frames) cs
+changes_back : (spec : Parts) (frames : ℕ) (at : List ℕ) (cs : List Change) → IsSpec spec → length cs ≤ MAX_CHANGES → Each (IsChange spec frames) cs
     → EachSplit (λ xs c _. change_follows xs c ≡ true) cs → read_changes spec frames at (list_data (change_data spec) cs) ≡ Ok cs
 changes_back spec frames at cs is few each follow =
     list_back (NextChange spec frames) (read_next_change spec frames) (change_data spec) (λ path before c fits. rw (change_back spec frames path c is fits.is, fits.follows) refl)
-    0 20000 at cs (omega arith) few (λ i c e. record { is = each i c e; follows = follow (take i cs) c (drop (suc i) cs) (parted cs i c e) })
+    0 MAX_CHANGES at cs (omega arith) few (λ i c e. record { is = each i c e; follows = follow (take i cs) c (drop (suc i) cs) (parted cs i c e) })
 
 record NextHalt (spec : Parts) (version : Version) (frames : ℕ) (before : List HaltAt) (h : HaltAt) : Type 0 where
   is : IsHalt spec frames h
@@ -146,7 +147,7 @@ script_back_by spec frames changes halts (r ∷ rs) is fits = second_back spec (
 pub script_back : (spec : Parts) (script : ScriptParts) → IsSpec spec → Fits spec script → script_in spec (script_data spec script) ≡ Ok script
 script_back spec script is fits = script_back_by spec script.frames script.changes script.halts script.restarts is fits
 
-pub text_back : (spec : Parts) (script : ScriptParts) (bytes : List ℕ) → IsSpec spec → IsUtf8 bytes → read bytes ≡ Some (script_data spec script) → Fits spec script → length bytes ≤ 2097152
+pub text_back : (spec : Parts) (script : ScriptParts) (bytes : List ℕ) → IsSpec spec → IsUtf8 bytes → read bytes ≡ Some (script_data spec script) → Fits spec script → length bytes ≤ MAX_SCRIPT_BYTES
     → script_of spec bytes ≡ Ok script
 text_back spec script bytes is utf8 value fits short =
-    rw (le-leb (length bytes) 2097152 short, parsed-some bytes (script_data spec script) utf8 value) (script_back spec script is fits)
+    rw (le-leb (length bytes) MAX_SCRIPT_BYTES short, parsed-some bytes (script_data spec script) utf8 value) (script_back spec script is fits)

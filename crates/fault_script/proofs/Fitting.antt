@@ -7,6 +7,7 @@ use Rattle.std.proofs.lemmas.Bool.Decides.{nat_tests}
 use Rattle.std.proofs.lemmas.Option.{option_and_then_some, same_Some}
 use Rattle.serde_json.specs.Data.{Data, Items, item, no_items}
 use Rattle.serde_json.specs.Events.{items_len}
+use Rattle.scram_types.specs.declared.limits.TheConstants.{MAX_CHANGES, MAX_FRAMES, MAX_SCRIPT_BYTES}
 use Rattle.scram_doc.specs.declared.fault.DocError.{DocError}
 use Rattle.scram_doc.specs.declared.fault.DocFault.{DocFault}
 use Rattle.scram_doc.specs.Lists.{elements_at, elements_from}
@@ -247,9 +248,9 @@ next_restart_ok spec frames halts at before r d good e =
     subst (λ (x : RestartAt). GoodRestarts spec frames halts (before ++ x ∷ [])) one_is
     (good_restarts_end spec frames halts before one good (restart_at_ok spec frames at d one is) (kept_ok _ _ _ u kept))))
 
-changes_at_ok : (spec : Parts) (frames : ℕ) (at : List ℕ) (d : Data) (cs : List Change) → read_changes spec frames at d ≡ Ok cs → Listed (GoodChanges spec frames) 20000 cs
+changes_at_ok : (spec : Parts) (frames : ℕ) (at : List ℕ) (d : Data) (cs : List Change) → read_changes spec frames at d ≡ Ok cs → Listed (GoodChanges spec frames) MAX_CHANGES cs
 changes_at_ok spec frames at d cs e =
-    list_ok (GoodChanges spec frames) (read_next_change spec frames) (next_change_ok spec frames) 20000 at d cs
+    list_ok (GoodChanges spec frames) (read_next_change spec frames) (next_change_ok spec frames) MAX_CHANGES at d cs
     (record { each = each_none (IsChange spec frames); ordered = each_next_none ChangeBefore }) e
 
 limit_few : (version : Version) → halts_limit version ≤ 16
@@ -272,10 +273,10 @@ restarts_at_ok spec frames halts at None rs e =
 restarts_at_ok spec frames halts at (Some d) rs e =
     list_ok (GoodRestarts spec frames halts) (read_next_restart spec frames halts) (next_restart_ok spec frames halts) 8 at d rs (good_restarts_none spec frames halts) e
 
-frames_in_ok : (scram frames : Data) (n : ℕ) → read_frames scram frames ≡ Ok n → n ≤ 20000
+frames_in_ok : (scram frames : Data) (n : ℕ) → read_frames scram frames ≡ Ok n → n ≤ MAX_FRAMES
 frames_in_ok scram frames n e = chain_ok (read_scram (member_path [] (codes "scram")) scram) _ n e (λ _ _ rest. let range = whole_at_ok 0 20001 _ frames n rest in let high = range.high in omega (arith, high))
 
-fits_of : (spec : Parts) (frames : ℕ) (changes : List Change) (halts : List HaltAt) (restarts : List RestartAt) → frames ≤ 20000 → Listed (GoodChanges spec frames) 20000 changes
+fits_of : (spec : Parts) (frames : ℕ) (changes : List Change) (halts : List HaltAt) (restarts : List RestartAt) → frames ≤ MAX_FRAMES → Listed (GoodChanges spec frames) MAX_CHANGES changes
     → Listed (GoodHalts spec frames) 16 halts → Listed (GoodRestarts spec frames halts) 8 restarts → Alternate restarts halts → Fits spec (make_script frames changes halts restarts)
 fits_of spec frames changes halts restarts few cs hs rs alternate = record {
   frames = few;
@@ -315,7 +316,7 @@ script_in_fits spec d script e = chain_ok (find_members (version_of d) d) _ scri
 -- whatever document it is
 pub script_of_fits : (spec : Parts) (bytes : List ℕ) (script : ScriptParts) → script_of spec bytes ≡ Ok script → Fits spec script
 script_of_fits spec bytes script e =
-    chain_ok (parsed bytes) _ script (if_ok (nat_le (length bytes) 2097152) _ _ _ script e) (λ d _ rest. script_in_fits spec d script rest)
+    chain_ok (parsed bytes) _ script (if_ok (nat_le (length bytes) MAX_SCRIPT_BYTES) _ _ _ script e) (λ d _ rest. script_in_fits spec d script rest)
 
 pub answer_fits : (spec : Parts) (version : Version) (m : ScriptMembers) (answer : Result ScriptParts DocError) → Answers (read_values spec version m) (λ (script : ScriptParts). script) answer
     → IfOk answer (λ (script : ScriptParts). Fits spec script)

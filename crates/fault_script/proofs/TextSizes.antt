@@ -4,6 +4,7 @@ use Rattle.std.specs.Prelude.{Option, Some, None, codes, slice_get}
 use Rattle.std.specs.Option.{option_map_or}
 use Rattle.json.specs.Print.{quoted}
 use Rattle.serde_json.specs.View.{items_of}
+use Rattle.scram_types.specs.declared.limits.TheConstants.{MAX_FRAMES, MAX_SCRIPT_BYTES}
 use Rattle.scram_types.specs.declared.scripts.Change.{Change}
 use Rattle.scram_types.specs.declared.scripts.HaltAt.{HaltAt}
 use Rattle.scram_types.specs.declared.scripts.RestartAt.{RestartAt}
@@ -31,7 +32,7 @@ value_length : (found : Option Factor) (value : ℕ) → ((factor : Factor) → 
 value_length None value named = omega arith
 value_length (Some factor) value named = found_length (λ (name : List ℕ). name) (slice_get factor.values value) (named factor refl value)
 
-change_short : (spec : Parts) (frames : ℕ) (change : Change) → HasNames spec → frames ≤ 20000 → IsChange spec frames change → weight exact (change_data spec change) ≤ 71
+change_short : (spec : Parts) (frames : ℕ) (change : Change) → HasNames spec → frames ≤ MAX_FRAMES → IsChange spec frames change → weight exact (change_data spec change) ≤ 71
 change_short spec frames change names most fits =
     let last = fits.most in
     let frame = number_weight exact 5 change.frame (omega arith) (omega (arith, last, most)) (omega (arith, last, most)) in
@@ -39,7 +40,7 @@ change_short spec frames change names most fits =
     let value = value_length (slice_get spec.factors change.factor.0) change.value (names.values change.factor.0) in
     omega (arith, frame, factor, value, quoted_length (codes "factor") refl, quoted_length (codes "frame") refl, quoted_length (codes "value") refl)
 
-halt_short : (spec : Parts) (frames : ℕ) (halt : HaltAt) → IsSpec spec → frames ≤ 20000 → IsHalt spec frames halt → weight exact (halt_data spec halt) ≤ 57
+halt_short : (spec : Parts) (frames : ℕ) (halt : HaltAt) → IsSpec spec → frames ≤ MAX_FRAMES → IsHalt spec frames halt → weight exact (halt_data spec halt) ≤ 57
 halt_short spec frames halt is most fits =
     let last = fits.frame in
     let stores = fits.step in
@@ -49,7 +50,7 @@ halt_short spec frames halt is most fits =
     let step = number_weight exact 2 halt.step (omega arith) (omega (arith, stores, apps)) (omega (arith, stores, apps)) in
     omega (arith, frame, proc, step, quoted_length (codes "frame") refl, quoted_length (codes "processor") refl, quoted_length (codes "step") refl)
 
-restart_short : (spec : Parts) (frames : ℕ) (restart : RestartAt) → HasNames spec → frames ≤ 20000 → IsRestart spec frames restart → weight exact (restart_data spec restart) ≤ 47
+restart_short : (spec : Parts) (frames : ℕ) (restart : RestartAt) → HasNames spec → frames ≤ MAX_FRAMES → IsRestart spec frames restart → weight exact (restart_data spec restart) ≤ 47
 restart_short spec frames restart names most fits =
     let last = fits.most in
     let frame = number_weight exact 5 restart.frame (omega arith) (omega (arith, last, most)) (omega (arith, last, most)) in
@@ -92,7 +93,7 @@ light (r ∷ rs) spec script is fits =
     let version = number_weight exact 1 2 (omega arith) (omega arith) (omega arith) in
     omega (arith, changes, frames, halts, restarts, version, quoted_length (codes "changes") refl, quoted_length (codes "frames") refl, quoted_length (codes "halts") refl, quoted_length (codes "restarts") refl, quoted_length (codes "scram") refl)
 
-pub script_text_short : (spec : Parts) (script : ScriptParts) → IsSpec spec → Fits spec script → length (script_text spec script) ≤ 2097152
+pub script_text_short : (spec : Parts) (script : ScriptParts) → IsSpec spec → Fits spec script → length (script_text spec script) ≤ MAX_SCRIPT_BYTES
 script_text_short spec script is fits =
     let weighed = light script.restarts spec script is fits in
     let written = no_longer exact (λ text. omega arith) (script_data spec script) in

@@ -20,10 +20,10 @@ use Rattle.fault_script.specs.Assumption.{changes_in_window, changes_upto, is_ch
 use Rattle.fault_script.specs.declared.walks.Walk.{Walk}
 use Rattle.fault_script.specs.declared.walks.Window.{Window}
 use Rattle.fault_script.specs.Fits.{ChangeBefore, EachNext, Fits}
-use Rattle.fault_script.specs.Walks.{IsTaken, IsWalk, IsWhole, IsWindow, changed_values, newest, value_taken, values_taken}
+use Rattle.fault_script.specs.Walks.{HaveCome, IsWalk, IsWhole, IsWindow, changed_values, newest, value_taken, values_taken}
 use Rattle.fault_script.proofs.Assuming.{upto_grows, upto_most}
 
-pub taken_more : (changes : List Change) (f n : ℕ) (change : Change) → IsTaken changes f n → slice_get changes n ≡ Some change → change.frame ≤ f → IsTaken changes f (n + 1)
+pub taken_more : (changes : List Change) (f n : ℕ) (change : Change) → HaveCome changes f n → slice_get changes n ≡ Some change → change.frame ≤ f → HaveCome changes f (n + 1)
 taken_more changes f n change taken there by = λ k other less found. elim (below_or_at k n (omega arith)) [
   | inl earlier ↦ taken k other earlier found
   | inr same ↦ (let is : change ≡ other = same_some change other (sym there ∙ ap (slice_get changes) (sym same) ∙ found) in subst (λ (c : Change). c.frame ≤ f) is by)
@@ -41,13 +41,14 @@ value_more (first ∷ changes) x zero value change there =
     taken_none changes x (newest first x value) ∙ ap (λ (c : Change). newest c x value) is
 value_more (first ∷ changes) x (suc n) value change there = value_more changes x n (newest first x value) change there
 
-six : (a b c d e f g h i j k l : ℕ) → a ≡ g → b ≡ h → c ≡ i → d ≡ j → e ≡ k → f ≡ l
+-- two lists of six numbers, each of which is that of the other
+pub six_same : (a b c d e f g h i j k l : ℕ) → a ≡ g → b ≡ h → c ≡ i → d ≡ j → e ≡ k → f ≡ l
     → ◌≡◌ {A = List ℕ} (a ∷ b ∷ c ∷ d ∷ e ∷ f ∷ []) (g ∷ h ∷ i ∷ j ∷ k ∷ l ∷ [])
-six a b c d e f g h i j k l p q r s t u = rw (p, q, r, s, t, u) refl
+six_same a b c d e f g h i j k l p q r s t u = rw (p, q, r, s, t, u) refl
 
 pub values_more : (changes : List Change) (n : ℕ) (change : Change) → slice_get changes n ≡ Some change
     → values_taken changes (n + 1) ≡ changed_values change (values_taken changes n)
-values_more changes n change there = ap (values_taken changes) (sym (plus_one n)) ∙ six _ _ _ _ _ _ _ _ _ _ _ _
+values_more changes n change there = ap (values_taken changes) (sym (plus_one n)) ∙ six_same _ _ _ _ _ _ _ _ _ _ _ _
     (value_more changes 0 n 0 change there) (value_more changes 1 n 0 change there) (value_more changes 2 n 0 change there)
     (value_more changes 3 n 0 change there) (value_more changes 4 n 0 change there) (value_more changes 5 n 0 change there)
 
@@ -62,7 +63,7 @@ unseen (change ∷ changes) x f value later =
     let late = above_test change.frame f (later 0 change (omega arith) refl) in
     rw (late, and-false (change.factor.0 == x)) (unseen changes x f value (λ k other h there. later (suc k) other (omega arith) there))
 
-value_is : (changes : List Change) (x f n value : ℕ) → IsTaken changes f n → IsLater changes f n → value_after changes x f value ≡ value_taken changes x n value
+value_is : (changes : List Change) (x f n value : ℕ) → HaveCome changes f n → IsLater changes f n → value_after changes x f value ≡ value_taken changes x n value
 unfolding IsLater
 value_is [] x f n value taken later = refl
 value_is (change ∷ changes) x f zero value taken later = unseen (change ∷ changes) x f value later
@@ -116,19 +117,19 @@ all_later : (changes : List Change) (f n : ℕ) → EachNext ChangeBefore change
 unfolding IsLater
 all_later changes f n later whole = λ k y h there. later_from changes f n later whole k y h there (slice_get changes n) refl
 
-pub values_are : (script : ScriptParts) (f n : ℕ) → EachNext ChangeBefore script.changes → IsTaken script.changes f n → IsWhole script.changes f n
+pub values_are : (script : ScriptParts) (f n : ℕ) → EachNext ChangeBefore script.changes → HaveCome script.changes f n → IsWhole script.changes f n
     → values_taken script.changes n ≡ factors_at script f
 values_are script f n next taken whole =
     let later = all_later script.changes f n next whole in
-    six _ _ _ _ _ _ _ _ _ _ _ _
+    six_same _ _ _ _ _ _ _ _ _ _ _ _
     (sym (value_is script.changes 0 f n 0 taken later)) (sym (value_is script.changes 1 f n 0 taken later)) (sym (value_is script.changes 2 f n 0 taken later))
     (sym (value_is script.changes 3 f n 0 taken later)) (sym (value_is script.changes 4 f n 0 taken later)) (sym (value_is script.changes 5 f n 0 taken later))
 
-pub taken_later : (changes : List Change) (f n : ℕ) → IsTaken changes f n → IsTaken changes (f + 1) n
+pub taken_later : (changes : List Change) (f n : ℕ) → HaveCome changes f n → HaveCome changes (f + 1) n
 taken_later changes f n taken = λ k change less there. (let by = taken k change less there in omega arith)
 
 -- nothing is taken at first: each change is in a frame after the first
-pub none_taken : (changes : List Change) (f : ℕ) → IsTaken changes f 0
+pub none_taken : (changes : List Change) (f : ℕ) → HaveCome changes f 0
 none_taken changes f = λ k change less there. absurd (omega arith)
 
 pub nothing_taken : (changes : List Change) → values_taken changes 0 ≡ 0 ∷ 0 ∷ 0 ∷ 0 ∷ 0 ∷ 0 ∷ []
@@ -158,7 +159,7 @@ walk_opens spec script fits walk at none up factors =
     }
 
 pub walk_moves : (spec : Parts) (script : ScriptParts) → Fits spec script → (f : ℕ) (after : Walk) → after.frame ≡ f + 1
-    → IsTaken script.changes (f + 1) after.taken → after.env.factors ≡ values_taken script.changes after.taken → IsWhole script.changes (f + 1) after.taken
+    → HaveCome script.changes (f + 1) after.taken → after.env.factors ≡ values_taken script.changes after.taken → IsWhole script.changes (f + 1) after.taken
     → after.env.up ≡ bits_below (λ p. is_up script p (f + 1)) (length spec.procs)
     → IsWalk spec script (f + 1) after
 walk_moves spec script fits f after at taken values whole up = record {

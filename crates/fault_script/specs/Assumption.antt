@@ -67,5 +67,6 @@ pub record LeavesNowhere (spec : Parts) (script : ScriptParts) : Type 0 where
   pub within : first_outside spec script ≡ None → IsWithin spec script
   pub nowhere : IsWithin spec script → first_outside spec script ≡ None
 
+-- A script keeps to the failure assumption exactly where no frame of it leaves the assumption.
 abbrev pub WithinWhereNowhereOutside : Type 0
 WithinWhereNowhereOutside = (spec : Parts) (script : ScriptParts) → LeavesNowhere spec script

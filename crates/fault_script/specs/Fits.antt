@@ -1,5 +1,6 @@
 -- When a script fits a specification.
 use Rattle.std.specs.Prelude.{◌≡◌, ◌⊎◌, ℕ, ◌+◌, ◌<◌, ◌≤◌, List, length, slice_get, Some}
+use Rattle.scram_types.specs.declared.limits.TheConstants.{MAX_CHANGES, MAX_FRAMES}
 use Rattle.scram_types.specs.declared.scripts.Change.{Change}
 use Rattle.scram_types.specs.declared.scripts.HaltAt.{HaltAt}
 use Rattle.scram_types.specs.declared.scripts.RestartAt.{RestartAt}
@@ -22,6 +23,7 @@ pub record IsHalt (spec : Parts) (frames : ℕ) (halt : HaltAt) : Type 0 where
   pub frame : halt.frame < frames
   pub step : halt.step ≤ words spec + 1
 
+-- A restart is of a processor that exists, in a frame of the script from the third one on.
 pub record IsRestart (spec : Parts) (frames : ℕ) (restart : RestartAt) : Type 0 where
   pub proc : restart.proc.0 < length spec.procs
   pub least : 2 ≤ restart.frame
@@ -39,12 +41,15 @@ EachNext {A} R xs = (i : ℕ) (x y : A) → slice_get xs i ≡ Some x → slice_
 abbrev pub EachLater : {A : Type 0} → (A → A → Type 0) → List A → Type 0
 EachLater {A} R xs = (i j : ℕ) (x y : A) → i < j → slice_get xs i ≡ Some x → slice_get xs j ≡ Some y → R x y
 
+-- One change comes before another by frame, and in one frame by factor.
 abbrev pub ChangeBefore : Change → Change → Type 0
 ChangeBefore a b = Before a.frame a.factor.0 b.frame b.factor.0
 
+-- One halt comes before another by frame, and in one frame by processor.
 abbrev pub HaltBefore : HaltAt → HaltAt → Type 0
 HaltBefore a b = Before a.frame a.proc.0 b.frame b.proc.0
 
+-- One restart comes before another by frame, and in one frame by processor.
 abbrev pub RestartBefore : RestartAt → RestartAt → Type 0
 RestartBefore a b = Before a.frame a.proc.0 b.frame b.proc.0
 
@@ -74,8 +79,8 @@ AtMostTwice halts = (i j k : ℕ) (x y z : HaltAt) → i < j → j < k
 -- go by frame. A processor restarts once at most, two frames or more after a halt of it; it halts twice
 -- at most, and the second time not before its restart.
 pub record Fits (spec : Parts) (script : ScriptParts) : Type 0 where
-  pub frames : script.frames ≤ 20000
-  pub changes_count : length script.changes ≤ 20000
+  pub frames : script.frames ≤ MAX_FRAMES
+  pub changes_count : length script.changes ≤ MAX_CHANGES
   pub changes : Each (IsChange spec script.frames) script.changes
   pub changes_ordered : EachNext ChangeBefore script.changes
   pub halts_count : length script.halts ≤ 16

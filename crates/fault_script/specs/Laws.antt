@@ -38,6 +38,7 @@ pub record Shows (spec : Parts) (script : ScriptParts) (f : ℕ) : Type 0 where
   pub values : (x : ℕ) (factor : Factor) → slice_get spec.factors x ≡ Some factor → factor_at script x f < length factor.values
   pub rest : (x : ℕ) → length spec.factors ≤ x → factor_at script x f ≡ 0
 
+-- The environment of each frame tells which processors are up and which values the factors have.
 abbrev pub EnvironmentsShow : Type 0
 EnvironmentsShow = (spec : Parts) (script : ScriptParts) → IsSpec spec → Fits spec script → (f : ℕ) → Shows spec script f
 

@@ -12,9 +12,11 @@ use Rattle.fault_script.specs.Times.{is_halt_of, is_restart_of}
 abbrev pub comes_after : ℕ → ℕ → ℕ → ℕ → Bool
 comes_after last_frame last_number frame number = nat_lt last_frame frame || (last_frame == frame && nat_lt last_number number)
 
+-- The last item of a list.
 abbrev pub last_of : {A : Type 0} → List A → Option A
 last_of xs = slice_get xs (length xs - 1)
 
+-- A change comes after the last one, if there is one.
 abbrev pub change_after : Option Change → Change → Bool
 change_after None change = true
 change_after (Some last) change = comes_after last.frame last.factor.0 change.frame change.factor.0
@@ -23,6 +25,7 @@ change_after (Some last) change = comes_after last.frame last.factor.0 change.fr
 abbrev pub change_follows : List Change → Change → Bool
 change_follows before change = change_after (last_of before) change
 
+-- A halt comes after the last one, if there is one.
 abbrev pub halt_after : Option HaltAt → HaltAt → Bool
 halt_after None halt = true
 halt_after (Some last) halt = comes_after last.frame last.proc.0 halt.frame halt.proc.0
@@ -32,10 +35,12 @@ abbrev pub halt_follows : Version → List HaltAt → HaltAt → Bool
 halt_follows First before halt = halt_after (last_of before) halt && not (list_any (is_halt_of halt.proc.0) before)
 halt_follows Second before halt = halt_after (last_of before) halt
 
+-- A restart comes after the last one, if there is one.
 abbrev pub restart_after : Option RestartAt → RestartAt → Bool
 restart_after None restart = true
 restart_after (Some last) restart = comes_after last.frame last.proc.0 restart.frame restart.proc.0
 
+-- A halt is of processor p and in a frame at least two before f.
 abbrev pub is_halt_before : ℕ → ℕ → HaltAt → Bool
 is_halt_before p f halt = halt.proc.0 == p && nat_le (halt.frame + 2) f
 
@@ -51,6 +56,7 @@ abbrev pub halts_of : ℕ → List HaltAt → ℕ
 halts_of p [] = 0
 halts_of p (halt ∷ halts) = (if halt.proc.0 == p then 1 else 0) + halts_of p halts
 
+-- A restart is of processor p and in a frame up to f.
 abbrev pub is_restart_by : ℕ → ℕ → RestartAt → Bool
 is_restart_by p f restart = restart.proc.0 == p && nat_le restart.frame f
 

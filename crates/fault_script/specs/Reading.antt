@@ -11,6 +11,7 @@ use Rattle.scram_doc.specs.Paths.{item_path, member_path}
 use Rattle.scram_doc.specs.Values.{text_at, whole_at}
 use Rattle.scram_types.specs.declared.ids.FactorId.{FactorId}
 use Rattle.scram_types.specs.declared.ids.ProcId.{ProcId}
+use Rattle.scram_types.specs.declared.limits.TheConstants.{MAX_CHANGES, MAX_FRAMES, MAX_SCRIPT_BYTES}
 use Rattle.scram_types.specs.declared.scripts.Change.{Change}
 use Rattle.scram_types.specs.declared.scripts.HaltAt.{HaltAt}
 use Rattle.scram_types.specs.declared.scripts.RestartAt.{RestartAt}
@@ -49,9 +50,11 @@ find_value spec x text = option_and_then (λ (factor : Factor). value_named fact
 abbrev pub read_named_value : Parts → FactorId → List ℕ → Data → Result ℕ DocFault
 read_named_value spec x at d = chain (text_at at d) (λ (text : List ℕ). or_broken UNKNOWN_NAME at (find_value spec x text))
 
+-- The change of a factor to a value in a frame.
 abbrev pub make_change : ℕ → FactorId → ℕ → Change
 make_change frame factor value = record { frame = frame; factor = factor; value = value }
 
+-- The change whose members have these values, read in the order frame, factor, value.
 abbrev pub change_values : Parts → ℕ → List ℕ → Data → Data → Data → Result Change DocFault
 change_values spec frames at frame factor value =
     chain (whole_at 1 frames (member_path at (codes "frame")) frame) (λ (frame : ℕ).
@@ -59,6 +62,7 @@ change_values spec frames at frame factor value =
     chain (read_named_value spec factor (member_path at (codes "value")) value) (λ (value : ℕ).
     Ok (make_change frame factor value))))
 
+-- The change that the value at a path is.
 abbrev pub read_change : Parts → ℕ → List ℕ → Data → Result Change DocFault
 read_change spec frames at d =
     chain (object_at at d) (λ (_ : ⊤).
@@ -74,12 +78,15 @@ read_next_change spec frames at before d =
     chain (read_change spec frames at d) (λ (change : Change).
     chain (keep (change_follows before change) OUT_OF_ORDER at) (λ (_ : ⊤). Ok change))
 
+-- The changes of a script, each after those before it.
 abbrev pub read_changes : Parts → ℕ → List ℕ → Data → Result (List Change) DocFault
-read_changes spec frames at d = elements_at (read_next_change spec frames) 0 20000 at d
+read_changes spec frames at d = elements_at (read_next_change spec frames) 0 MAX_CHANGES at d
 
+-- The halt of a processor in a frame, after so many stores.
 abbrev pub make_halt : ProcId → ℕ → ℕ → HaltAt
 make_halt proc frame step = record { proc = proc; frame = frame; step = step }
 
+-- The halt whose members have these values, read in the order processor, frame, step.
 abbrev pub halt_values : Parts → ℕ → List ℕ → Data → Data → Data → Result HaltAt DocFault
 halt_values spec frames at proc frame step =
     chain (read_named_proc spec (member_path at (codes "processor")) proc) (λ (proc : ProcId).
@@ -87,6 +94,7 @@ halt_values spec frames at proc frame step =
     chain (whole_at 0 (words spec + 2) (member_path at (codes "step")) step) (λ (step : ℕ).
     Ok (make_halt proc frame step))))
 
+-- The halt that the value at a path is.
 abbrev pub read_halt : Parts → ℕ → List ℕ → Data → Result HaltAt DocFault
 read_halt spec frames at d =
     chain (object_at at d) (λ (_ : ⊤).
@@ -102,18 +110,22 @@ read_next_halt spec version frames at before d =
     chain (read_halt spec frames at d) (λ (halt : HaltAt).
     chain (keep (halt_follows version before halt) OUT_OF_ORDER at) (λ (_ : ⊤). Ok halt))
 
+-- The halts of a script, each after those before it.
 abbrev pub read_halts : Parts → Version → ℕ → List ℕ → Data → Result (List HaltAt) DocFault
 read_halts spec version frames at d = elements_at (read_next_halt spec version frames) 0 (halts_limit version) at d
 
+-- The restart of a processor in a frame.
 abbrev pub make_restart : ProcId → ℕ → RestartAt
 make_restart proc frame = record { proc = proc; frame = frame }
 
+-- The restart whose members have these values, read in the order processor, frame.
 abbrev pub restart_values : Parts → ℕ → List ℕ → Data → Data → Result RestartAt DocFault
 restart_values spec frames at proc frame =
     chain (read_named_proc spec (member_path at (codes "processor")) proc) (λ (proc : ProcId).
     chain (whole_at 2 frames (member_path at (codes "frame")) frame) (λ (frame : ℕ).
     Ok (make_restart proc frame)))
 
+-- The restart that the value at a path is.
 abbrev pub read_restart : Parts → ℕ → List ℕ → Data → Result RestartAt DocFault
 read_restart spec frames at d =
     chain (object_at at d) (λ (_ : ⊤).
@@ -148,14 +160,17 @@ pub record ScriptMembers : Type 0 where
   pub halts : Data
   pub restarts : Option Data
 
+-- The values of a script's members, in the order in which they are looked up.
 abbrev pub make_members : Data → Data → Data → Data → Option Data → ScriptMembers
 make_members scram frames changes halts restarts =
     record { scram = scram; frames = frames; changes = changes; halts = halts; restarts = restarts }
 
+-- The restarts, which a script of the second version must have and one of the first has not.
 abbrev pub need_restarts : Version → Data → Result (Option Data) DocFault
 need_restarts First d = Ok None
 need_restarts Second d = ok_map (λ (restarts : Data). Some restarts) (needed (codes "restarts") [] d)
 
+-- The values of the members of a script's document, which has those of its version and no other.
 abbrev pub find_members : Version → Data → Result ScriptMembers DocFault
 find_members version d =
     chain (object_at [] d) (λ (_ : ⊤).
@@ -167,15 +182,18 @@ find_members version d =
     chain (no_more_than (member_count version) [] d) (λ (_ : ⊤).
     Ok (make_members scram frames changes halts restarts))))))))
 
+-- How many frames a script has; its version is tested before.
 abbrev pub read_frames : Data → Data → Result ℕ DocFault
 read_frames scram frames =
     chain (read_scram (member_path [] (codes "scram")) scram) (λ (_ : ⊤).
-    whole_at 0 20001 (member_path [] (codes "frames")) frames)
+    whole_at 0 (MAX_FRAMES + 1) (member_path [] (codes "frames")) frames)
 
+-- The script of so many frames with these changes, halts and restarts.
 abbrev pub make_script : ℕ → List Change → List HaltAt → List RestartAt → ScriptParts
 make_script frames changes halts restarts =
     record { frames = frames; changes = changes; halts = halts; restarts = restarts }
 
+-- The script whose members have these values, each read and tested in the order of the members.
 abbrev pub read_values : Parts → Version → ScriptMembers → Result ScriptParts DocFault
 read_values spec version m =
     chain (read_frames m.scram m.frames) (λ (frames : ℕ).
@@ -185,10 +203,11 @@ read_values spec version m =
     chain (keep_halts restarts (member_path [] (codes "halts")) 0 [] halts) (λ (_ : ⊤).
     Ok (make_script frames changes halts restarts))))))
 
+-- The script that a JSON value is, or the first broken rule with its path.
 abbrev pub script_in : Parts → Data → Result ScriptParts DocFault
 script_in spec d = chain (find_members (version_of d) d) (λ (m : ScriptMembers). read_values spec (version_of d) m)
 
 -- the script that the bytes are, or the first broken rule with its path; the length is tested first
 abbrev pub script_of : Parts → List ℕ → Result ScriptParts DocFault
 script_of spec bytes =
-    if nat_le (length bytes) 2097152 then chain (parsed bytes) (λ (d : Data). script_in spec d) else broken TOO_LONG []
+    if nat_le (length bytes) MAX_SCRIPT_BYTES then chain (parsed bytes) (λ (d : Data). script_in spec d) else broken TOO_LONG []

@@ -21,12 +21,15 @@ factor_at script x f = value_after script.changes x f 0
 abbrev pub factors_at : ScriptParts → ℕ → List ℕ
 factors_at script f = factor_at script 0 f ∷ factor_at script 1 f ∷ factor_at script 2 f ∷ factor_at script 3 f ∷ factor_at script 4 f ∷ factor_at script 5 f ∷ []
 
+-- A halt is of processor p.
 abbrev pub is_halt_of : ℕ → HaltAt → Bool
 is_halt_of p halt = halt.proc.0 == p
 
+-- A halt is of processor p and in frame f.
 abbrev pub is_halt_in : ℕ → ℕ → HaltAt → Bool
 is_halt_in p f halt = halt.proc.0 == p && halt.frame == f
 
+-- A restart is of processor p.
 abbrev pub is_restart_of : ℕ → RestartAt → Bool
 is_restart_of p restart = restart.proc.0 == p
 
@@ -63,6 +66,7 @@ restarted script p h f = list_any (is_restart_between p h f) script.restarts
 abbrev pub restarts_in : ScriptParts → ℕ → ℕ → Bool
 restarts_in script p f = list_any (λ (restart : RestartAt). restart.proc.0 == p && restart.frame == f) script.restarts
 
+-- Processor p is up in frame f, where its latest halt in a frame below f is this one.
 abbrev pub is_up_since : ScriptParts → ℕ → ℕ → Option ℕ → Bool
 is_up_since script p f None = true
 is_up_since script p f (Some h) = restarted script p h f

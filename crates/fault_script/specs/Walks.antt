@@ -24,14 +24,15 @@ values_taken changes n =
     value_taken changes 0 n 0 ∷ value_taken changes 1 n 0 ∷ value_taken changes 2 n 0
     ∷ value_taken changes 3 n 0 ∷ value_taken changes 4 n 0 ∷ value_taken changes 5 n 0 ∷ []
 
+-- What a change makes of the six factors' values.
 abbrev pub changed_values : Change → List ℕ → List ℕ
 changed_values change values =
     newest change 0 (slice_index values 0) ∷ newest change 1 (slice_index values 1) ∷ newest change 2 (slice_index values 2)
     ∷ newest change 3 (slice_index values 3) ∷ newest change 4 (slice_index values 4) ∷ newest change 5 (slice_index values 5) ∷ []
 
--- The first n changes come up to frame f.
-abbrev pub IsTaken : List Change → ℕ → ℕ → Type 0
-IsTaken changes f n = (k : ℕ) (change : Change) → k < n → slice_get changes k ≡ Some change → change.frame ≤ f
+-- The first n changes have come by frame f.
+abbrev pub HaveCome : List Change → ℕ → ℕ → Type 0
+HaveCome changes f n = (k : ℕ) (change : Change) → k < n → slice_get changes k ≡ Some change → change.frame ≤ f
 
 -- The change after the first n comes after frame f.
 abbrev pub IsWhole : List Change → ℕ → ℕ → Type 0
@@ -40,7 +41,7 @@ IsWhole changes f n = (change : Change) → slice_get changes n ≡ Some change 
 -- A walk stands at frame f: it has the environment of that frame, and has taken the changes up to it.
 pub record IsWalk (spec : Parts) (script : ScriptParts) (f : ℕ) (walk : Walk) : Type 0 where
   pub frame : walk.frame ≡ f
-  pub taken : IsTaken script.changes f walk.taken
+  pub taken : HaveCome script.changes f walk.taken
   pub values : walk.env.factors ≡ values_taken script.changes walk.taken
   pub env : walk.env ≡ env_at spec script f
 

@@ -11,7 +11,7 @@ use crate::order::{change_follows, halt_follows, may_halt, restart_follows};
 use crate::version::{Version, version_of};
 use crate::{ScriptError, ScriptFault, rule};
 use scram_doc::{Elements, Path, need, no_more, object, parse, read_list, text, whole_in};
-use scram_types::limits::MAX_FRAMES;
+use scram_types::limits::{MAX_CHANGES, MAX_FRAMES, MAX_SCRIPT_BYTES};
 use scram_types::{Change, FactorId, HaltAt, List, ProcId, RestartAt, Script, Spec};
 use serde_json::Value;
 use std::alloc::Global;
@@ -128,7 +128,7 @@ fn read_changes(
     requires { length at.now ≤ 30 }
     ensures { Answers (read_changes spec.now frames at.now (view v.now)) (λ changes. changes) result }
 {
-    let changes = read_list(alloc, &Changes { spec, frames }, v, 0, 20_000, at)?;
+    let changes = read_list(alloc, &Changes { spec, frames }, v, 0, MAX_CHANGES, at)?;
     Ok(List::of(changes))
 }
 
@@ -383,9 +383,6 @@ fn read_document(alloc: Global, spec: &Spec, v: &Value) -> Result<Script, Script
     let members = find_members(version, v)?;
     read_values(alloc, spec, version, &members)
 }
-
-/// The most bytes that a script document may have.
-pub const MAX_SCRIPT_BYTES: usize = 2_097_152;
 
 /// The script that a document is, for a specification, or the first rule that it breaks, with the path where it
 /// is broken.

@@ -5,7 +5,7 @@ ghost use Rattle.scram_types.specs.Bits.{bits_below};
 ghost use Rattle.fault_script.specs.Assumption.{is_same_env};
 ghost use Rattle.fault_script.specs.Fits.{Fits};
 ghost use Rattle.fault_script.specs.Times.{is_up};
-ghost use Rattle.fault_script.specs.Walks.{IsTaken, IsWalk, IsWhole, IsWindow, changed_values, newest, values_taken};
+ghost use Rattle.fault_script.specs.Walks.{HaveCome, IsWalk, IsWhole, IsWindow, changed_values, newest, values_taken};
 
 use crate::inputs::{Input, input_at};
 use crate::times::up_at;
@@ -136,9 +136,9 @@ fn take_changes(
     values_before: [u8; 6],
     frame: u32,
 ) -> (usize, [u8; 6])
-    requires taken { IsTaken changes.now frame before }
+    requires taken { HaveCome changes.now frame before }
     requires values { values_before ≡ values_taken changes.now before }
-    ensures taken { IsTaken changes.now frame result.0 }
+    ensures taken { HaveCome changes.now frame result.0 }
     ensures values { result.1 ≡ values_taken changes.now result.0 }
     ensures whole { IsWhole changes.now frame result.0 }
 {

@@ -1,10 +1,10 @@
 use Rattle.std.proofs.Common.{length, ◌-◌, ◌≡◌}
-use Rattle.fault_script.specs.Walks.{IsTaken, values_taken}
+use Rattle.fault_script.specs.Walks.{HaveCome, values_taken}
 use Rattle.fault_script.proofs.walks.take_changes.Given as goal
 
 abbrev pub invariant-loop-taken : goal.invariant-loop-taken
 invariant-loop-taken l = record {
-  taken : IsTaken l.changes l.frame l.taken;
+  taken : HaveCome l.changes l.frame l.taken;
   values : l.values ≡ values_taken l.changes l.taken;
 }
 

@@ -1,4 +1,5 @@
 use Rattle.std.proofs.Common.{◌≡◌, ◌≤◌, length, subst, sym}
+use Rattle.scram_types.specs.declared.limits.TheConstants.{MAX_SCRIPT_BYTES}
 use Rattle.scram_types.specs.Specification.{IsSpec}
 use Rattle.fault_script.specs.Texts.{script_text}
 use Rattle.fault_script.proofs.Back.{text_back}
@@ -20,4 +21,4 @@ returns-in-Ok-to_vec-clause-back c =
     let text : c.in-Ok-to_vec.text.items ≡ script_text c.args.spec.now c.args.script.now =
     written_text _ _ _ c.in-Ok.ensures (script_no_float c.args.spec.now c.args.script.now) c.in-Ok-to_vec.ensures.text in
     λ fits. text_back c.args.spec.now c.args.script.now c.in-Ok-to_vec.text.items is c.in-Ok-to_vec.ensures.utf8 value fits
-    (subst (λ bytes. length bytes ≤ 2097152) (sym text) (script_text_short c.args.spec.now c.args.script.now is fits))
+    (subst (λ bytes. length bytes ≤ MAX_SCRIPT_BYTES) (sym text) (script_text_short c.args.spec.now c.args.script.now is fits))
