@@ -1,9 +1,10 @@
 -- What stands in a list is found by its name, and what is new is not.
-use Rattle.std.proofs.Common.{◌≡◌, ◌+◌, ◌<◌, ℕ, zero, suc, Bool, true, false, cond, List, [], ◌∷◌, ◌++◌, length, take, arith, refl, sym, ap, subst, ◌∙◌}
-use Rattle.std.specs.Prelude.{Option, Some, None, slice_get}
+use Rattle.std.proofs.Common.{◌≡◌, ◌+◌, ◌<◌, ℕ, zero, suc, Bool, true, false, List, [], ◌∷◌, ◌++◌, length, take, arith, refl, sym, ap, subst}
+use Rattle.std.specs.Prelude.{Some, None, slice_get}
 use Rattle.std.specs.Bool.{Decides}
 use Rattle.std.specs.Str.{bytes_eq}
 use Rattle.std.proofs.lemmas.Slice.Eq.{bytes_eq-Decides}
+use Rattle.scram_types.proofs.FoundByName.{found_named}
 use Rattle.scram_types.proofs.Items.{next_part, some_item}
 use Rattle.scram_types.proofs.Options.{same_some}
 use Rattle.scram_types.specs.Specification.{NamesDiffer}
@@ -11,24 +12,9 @@ use Rattle.scram_types.specs.Lookups.{number_from}
 use Rattle.scram_doc.specs.Lists.{AllAfter}
 use Rattle.reconf_spec.specs.Texts.{name_of_item}
 
-later : (test : Bool) (P : Type 0) (k i : ℕ) (rest : Option ℕ) → Decides test P → (P → ⊥) → rest ≡ Some (suc k + i) → cond test (Some k) rest ≡ Some (k + suc i)
-later true P k i rest decides apart e = absurd (apart (decides.0 refl))
-later false P k i rest decides apart e = e ∙ ap (λ (n : ℕ). Some n) (omega arith)
-
--- an item is found by its name
-pub found_there : {A : Type 0} (name : A → List ℕ) (k i : ℕ) (xs : List A) (x : A) → NamesDiffer name xs → slice_get xs i ≡ Some x → number_from name k xs (name x) ≡ Some (k + i)
-found_there name k i [] x differ e = absurd (let none : None ≡ Some x = e in cc)
-found_there name k zero (y ∷ ys) x differ e =
-    let same : name y ≡ name x = ap name (same_some y x e) in
-    rw ((bytes_eq-Decides (name y) (name x)).1 same) (ap (λ (m : ℕ). Some m) (omega arith))
-found_there name k (suc i) (y ∷ ys) x differ e =
-    let rest = found_there name (suc k) i ys x (λ a b p q there other same. let next : suc a ≡ suc b = differ (suc a) (suc b) p q there other same in omega (arith, next)) e in
-    later (bytes_eq (name y) (name x)) (name y ≡ name x) k i (number_from name (suc k) ys (name x)) (bytes_eq-Decides (name y) (name x))
-    (λ same. let first : 0 ≡ suc i = differ 0 (suc i) y x refl e same in absurd (omega (arith, first))) rest
-
 pub number_back : {A : Type 0} (name : A → List ℕ) (xs : List A) (n : ℕ) → NamesDiffer name xs → n < length xs → number_from name 0 xs (name_of_item name xs n) ≡ Some n
 number_back name xs n differ below = some_item xs n below (λ x there.
-    let is : number_from name 0 xs (name x) ≡ Some (0 + n) = found_there name 0 n xs x differ there in
+    let is : number_from name 0 xs (name x) ≡ Some (0 + n) = found_named name 0 n xs x differ there in
     let number : 0 + n ≡ n = omega arith in
     rw (there, is, number) refl)
 

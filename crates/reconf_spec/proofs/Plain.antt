@@ -1,5 +1,5 @@
 -- A specification's value has no float and is not deep.
-use Rattle.std.proofs.Common.{◌≡◌, ◌≤◌, ℕ, suc, Bool, true, false, cond, List, [], ◌∷◌, arith, refl}
+use Rattle.std.proofs.Common.{◌≡◌, ◌≤◌, ℕ, suc, Bool, true, false, cond, List, [], ◌∷◌, map, arith, refl}
 use Rattle.std.specs.Prelude.{Option, Some, None}
 use Rattle.serde_json.specs.Data.{Data, depth, items_depth, string}
 use Rattle.serde_json.specs.Read.{max_depth}
@@ -68,34 +68,37 @@ precondition_no_float spec pre = rw (integer_no_float pre.greatest, integer_no_f
 goal_no_float : (goal : Goal) → has_float (goal_data goal) ≡ false
 goal_no_float goal = rw (integer_no_float goal.altitude, integer_no_float goal.heading) refl
 
-no_float_by : (policy : Policy) (spec : Parts) → has_float (data_by policy spec) ≡ false
-no_float_by Retarget spec =
-    rw (
-      no_float (app_data spec.apps) (app_no_float spec.apps) spec.apps,
-      no_float (bound_data spec.confs) (λ x. refl) spec.bounds,
-      no_float (conf_data spec) (conf_no_float spec) spec.confs,
-      no_float factor_data factor_no_float spec.factors,
-      goal_no_float spec.goal,
-      no_float (invariant_data spec) (invariant_no_float spec) spec.invariants,
-      no_float (precondition_data spec) (precondition_no_float spec) spec.preconditions,
-      no_float proc_data (λ x. refl) spec.procs,
-      no_float (choice_data spec) (choice_no_float spec) spec.rules,
-    ) refl
-no_float_by Settle spec =
-    rw (
-      no_float (app_data spec.apps) (app_no_float spec.apps) spec.apps,
-      no_float (bound_data spec.confs) (λ x. refl) spec.bounds,
-      no_float (conf_data spec) (conf_no_float spec) spec.confs,
-      no_float factor_data factor_no_float spec.factors,
-      goal_no_float spec.goal,
-      no_float (invariant_data spec) (invariant_no_float spec) spec.invariants,
-      no_float (precondition_data spec) (precondition_no_float spec) spec.preconditions,
-      no_float proc_data (λ x. refl) spec.procs,
-      no_float (choice_data spec) (choice_no_float spec) spec.rules,
-    ) refl
+-- no list of a document has a float
+record ListsNoFloat (spec : Parts) : Type 0 where
+  apps : items_have_float (items_of (map (app_data spec.apps) spec.apps)) ≡ false
+  bounds : items_have_float (items_of (map (bound_data spec.confs) spec.bounds)) ≡ false
+  confs : items_have_float (items_of (map (conf_data spec) spec.confs)) ≡ false
+  factors : items_have_float (items_of (map factor_data spec.factors)) ≡ false
+  invariants : items_have_float (items_of (map (invariant_data spec) spec.invariants)) ≡ false
+  preconditions : items_have_float (items_of (map (precondition_data spec) spec.preconditions)) ≡ false
+  procs : items_have_float (items_of (map proc_data spec.procs)) ≡ false
+  rules : items_have_float (items_of (map (choice_data spec) spec.rules)) ≡ false
+
+lists_no_float : (spec : Parts) → ListsNoFloat spec
+lists_no_float spec = record {
+  apps = no_float (app_data spec.apps) (app_no_float spec.apps) spec.apps;
+  bounds = no_float (bound_data spec.confs) (λ x. refl) spec.bounds;
+  confs = no_float (conf_data spec) (conf_no_float spec) spec.confs;
+  factors = no_float factor_data factor_no_float spec.factors;
+  invariants = no_float (invariant_data spec) (invariant_no_float spec) spec.invariants;
+  preconditions = no_float (precondition_data spec) (precondition_no_float spec) spec.preconditions;
+  procs = no_float proc_data (λ x. refl) spec.procs;
+  rules = no_float (choice_data spec) (choice_no_float spec) spec.rules;
+}
+
+no_float_by : (policy : Policy) (spec : Parts) → ListsNoFloat spec → has_float (data_by policy spec) ≡ false
+no_float_by Retarget spec lists =
+    rw (lists.apps, lists.bounds, lists.confs, lists.factors, goal_no_float spec.goal, lists.invariants, lists.preconditions, lists.procs, lists.rules) refl
+no_float_by Settle spec lists =
+    rw (lists.apps, lists.bounds, lists.confs, lists.factors, goal_no_float spec.goal, lists.invariants, lists.preconditions, lists.procs, lists.rules) refl
 
 pub spec_no_float : (spec : Parts) → has_float (spec_data spec) ≡ false
-spec_no_float spec = no_float_by spec.policy spec
+spec_no_float spec = no_float_by spec.policy spec (lists_no_float spec)
 
 app_low : (apps : List AppSpec) (app : AppSpec) → depth (app_data apps app) ≤ 3
 app_low apps app =
@@ -115,27 +118,32 @@ choice_low spec rule =
     let wants = low (want_data spec.factors) 1 (λ x. omega arith) rule.wants in
     omega (arith, up, wants)
 
-depth_by : (policy : Policy) (spec : Parts) → depth (data_by policy spec) ≤ max_depth
-depth_by Retarget spec =
-    let apps = low (app_data spec.apps) 3 (app_low spec.apps) spec.apps in
-    let bounds = low (bound_data spec.confs) 1 (λ x. omega arith) spec.bounds in
-    let confs = low (conf_data spec) 3 (conf_low spec) spec.confs in
-    let factors = low factor_data 2 factor_low spec.factors in
-    let invariants = low (invariant_data spec) 1 (λ x. omega arith) spec.invariants in
-    let preconditions = low (precondition_data spec) 1 (λ x. omega arith) spec.preconditions in
-    let procs = low proc_data 1 (λ x. omega arith) spec.procs in
-    let rules = low (choice_data spec) 3 (choice_low spec) spec.rules in
-    omega (arith, apps, bounds, confs, factors, invariants, preconditions, procs, rules)
-depth_by Settle spec =
-    let apps = low (app_data spec.apps) 3 (app_low spec.apps) spec.apps in
-    let bounds = low (bound_data spec.confs) 1 (λ x. omega arith) spec.bounds in
-    let confs = low (conf_data spec) 3 (conf_low spec) spec.confs in
-    let factors = low factor_data 2 factor_low spec.factors in
-    let invariants = low (invariant_data spec) 1 (λ x. omega arith) spec.invariants in
-    let preconditions = low (precondition_data spec) 1 (λ x. omega arith) spec.preconditions in
-    let procs = low proc_data 1 (λ x. omega arith) spec.procs in
-    let rules = low (choice_data spec) 3 (choice_low spec) spec.rules in
-    omega (arith, apps, bounds, confs, factors, invariants, preconditions, procs, rules)
+-- how deep the lists of a document are
+record AreLow (spec : Parts) : Type 0 where
+  apps : items_depth (items_of (map (app_data spec.apps) spec.apps)) ≤ 3
+  bounds : items_depth (items_of (map (bound_data spec.confs) spec.bounds)) ≤ 1
+  confs : items_depth (items_of (map (conf_data spec) spec.confs)) ≤ 3
+  factors : items_depth (items_of (map factor_data spec.factors)) ≤ 2
+  invariants : items_depth (items_of (map (invariant_data spec) spec.invariants)) ≤ 1
+  preconditions : items_depth (items_of (map (precondition_data spec) spec.preconditions)) ≤ 1
+  procs : items_depth (items_of (map proc_data spec.procs)) ≤ 1
+  rules : items_depth (items_of (map (choice_data spec) spec.rules)) ≤ 3
+
+are_low : (spec : Parts) → AreLow spec
+are_low spec = record {
+  apps = low (app_data spec.apps) 3 (app_low spec.apps) spec.apps;
+  bounds = low (bound_data spec.confs) 1 (λ x. omega arith) spec.bounds;
+  confs = low (conf_data spec) 3 (conf_low spec) spec.confs;
+  factors = low factor_data 2 factor_low spec.factors;
+  invariants = low (invariant_data spec) 1 (λ x. omega arith) spec.invariants;
+  preconditions = low (precondition_data spec) 1 (λ x. omega arith) spec.preconditions;
+  procs = low proc_data 1 (λ x. omega arith) spec.procs;
+  rules = low (choice_data spec) 3 (choice_low spec) spec.rules;
+}
+
+depth_by : (policy : Policy) (spec : Parts) → AreLow spec → depth (data_by policy spec) ≤ max_depth
+depth_by Retarget spec lists = omega (arith, lists.apps, lists.bounds, lists.confs, lists.factors, lists.invariants, lists.preconditions, lists.procs, lists.rules)
+depth_by Settle spec lists = omega (arith, lists.apps, lists.bounds, lists.confs, lists.factors, lists.invariants, lists.preconditions, lists.procs, lists.rules)
 
 pub spec_depth : (spec : Parts) → depth (spec_data spec) ≤ max_depth
-spec_depth spec = depth_by spec.policy spec
+spec_depth spec = depth_by spec.policy spec (are_low spec)

@@ -1,5 +1,5 @@
 -- Rules, bounds and intervals are read back as they were written.
-use Rattle.std.proofs.Common.{int_le, ◌≡◌, ◌≤◌, ◌<◌, ◌^◌, ◌%◌, ℕ, suc, Bool, true, false, cond, List, [], ◌∷◌, length, arith, refl, ◌∙◌, sym, subst}
+use Rattle.std.proofs.Common.{◌≡◌, ◌≤◌, ◌<◌, ◌^◌, ◌%◌, ℕ, suc, Bool, true, false, cond, List, [], ◌∷◌, length, arith, refl, ◌∙◌, sym, subst}
 use Rattle.std.specs.Prelude.{Option, Some, None, Ok, ℤ, pos, negsuc, ◌≤ℤ◌, codes, slice_get, is_some}
 use Rattle.std.specs.Str.{bytes_eq}
 use Rattle.std.proofs.lemmas.Bool.{lt-ltb}

@@ -17,7 +17,7 @@ use Rattle.scram_doc.specs.Lists.{folded_from}
 use Rattle.scram_types.specs.Lookups.{number_from}
 use Rattle.reconf_spec.specs.Processors.{name_of_proc}
 use Rattle.reconf_spec.specs.Texts.{up_data}
-use Rattle.reconf_spec.proofs.Lookups.{found_there}
+use Rattle.scram_types.proofs.FoundByName.{found_named}
 use Rattle.scram_types.proofs.Items.{next_part}
 
 pow_positive : (k : ℕ) → 0 < 2 ^ k
@@ -47,7 +47,7 @@ up_read : (procs before after : List Proc) (proc : Proc) (at : List ℕ) (n : �
 up_read procs before after proc at n differ whole is =
     let there : number_from name_of_proc 0 procs proc.name ≡ Some (0 + length before) =
     subst (λ (xs : List Proc). number_from name_of_proc 0 xs proc.name ≡ Some (0 + length before)) whole
-    (found_there name_of_proc 0 (length before) (before ++ proc ∷ after) proc (subst (NamesDiffer name_of_proc) (sym whole) differ) (next_part before after proc)) in
+    (found_named name_of_proc 0 (length before) (before ++ proc ∷ after) proc (subst (NamesDiffer name_of_proc) (sym whole) differ) (next_part before after proc)) in
     let number : 0 + length before ≡ length before = omega arith in
     rw (there, number, not_yet n (length before), with_bit n (length before) is) refl
 

@@ -1,20 +1,27 @@
 -- The value of a specification that can be written is read back to it.
-use Rattle.std.proofs.Common.{◌≡◌, ◌≤◌, ℕ, List, [], length, arith, refl}
+use Rattle.std.proofs.Common.{◌≡◌, ◌≤◌, ℕ, List, [], length, map, arith, refl}
 use Rattle.std.specs.Prelude.{Ok, Some, IsUtf8, codes}
 use Rattle.std.proofs.lemmas.Bool.{le-leb}
 use Rattle.serde_json.specs.Read.{read}
+use Rattle.scram_doc.specs.Canonical.{list_data}
 use Rattle.scram_doc.specs.Paths.{member_path}
 use Rattle.scram_doc.proofs.Parsed.{parsed-some}
+use Rattle.scram_types.specs.declared.limits.TheConstants.{MAX_SPECIFICATION_BYTES}
 use Rattle.scram_types.specs.declared.specification.Policy.{Policy}
 use Rattle.scram_types.specs.declared.specification.Policy.TheVariants.{Retarget, Settle}
 use Rattle.scram_types.specs.Specification.{IsSpec, Parts}
 use Rattle.reconf_spec.specs.declared.documents.Assumption.{Assumption}
-use Rattle.reconf_spec.specs.Choices.{read_conf_id}
-use Rattle.reconf_spec.specs.Configurations.{name_of_conf}
-use Rattle.reconf_spec.specs.Documents.{Names, read_assumption, names_in, rest_in, spec_in, spec_of}
-use Rattle.reconf_spec.specs.Texts.{assumption_data, data_by, spec_data, start_data}
+use Rattle.reconf_spec.specs.Bounds.{read_bounds}
+use Rattle.reconf_spec.specs.Choices.{read_choices, read_conf_id}
+use Rattle.reconf_spec.specs.Configurations.{name_of_conf, read_confs}
+use Rattle.reconf_spec.specs.Documents.{Names, read_assumption, read_goal, names_in, rest_in, spec_in, spec_of}
+use Rattle.reconf_spec.specs.Factors.{read_factors}
+use Rattle.reconf_spec.specs.Intervals.{read_invariants, read_preconditions}
+use Rattle.reconf_spec.specs.Needs.{ranked_at, read_unranked}
+use Rattle.reconf_spec.specs.Processors.{read_procs}
+use Rattle.reconf_spec.specs.Texts.{app_data, assumption_data, bound_data, choice_data, conf_data, data_by, factor_data, goal_data, invariant_data, precondition_data, proc_data, spec_data, start_data}
 use Rattle.reconf_spec.specs.Writable.{IsWritable}
-use Rattle.reconf_spec.proofs.AppsBack.{procs_back, ranks_back, unranked_back}
+use Rattle.reconf_spec.proofs.AppsBack.{procs_back, ranks_back, unranked, unranked_back}
 use Rattle.reconf_spec.proofs.ConfsBack.{confs_back, factors_back}
 use Rattle.scram_doc.proofs.ReadBack.{whole_back}
 use Rattle.reconf_spec.proofs.Lookups.{number_back}
@@ -36,21 +43,26 @@ assumption_back spec is at =
 abbrev names_of : Parts → Names
 names_of spec = record { procs = spec.procs; apps = spec.apps; confs = spec.confs; factors = spec.factors }
 
-names_back : (policy : Policy) (spec : Parts) → IsSpec spec → IsWritable spec → names_in (data_by policy spec) ≡ Ok (names_of spec)
-names_back Retarget spec is writable = rw (
-  procs_back (member_path [] (codes "processors")) spec.procs is.procs_count is.procs_differ is.procs is.names.procs,
-  unranked_back (member_path [] (codes "apps")) spec.apps is.apps_count is.apps_differ is.names.apps is.apps writable.apps,
-  ranks_back (member_path [] (codes "apps")) spec.apps is.apps writable.ranks,
-  confs_back spec is is.names.confs (member_path [] (codes "configurations")),
-  factors_back (member_path [] (codes "factors")) spec.factors is.factors_count is.factors_differ is.factors is.names.factors is.names.values,
-) refl
-names_back Settle spec is writable = rw (
-  procs_back (member_path [] (codes "processors")) spec.procs is.procs_count is.procs_differ is.procs is.names.procs,
-  unranked_back (member_path [] (codes "apps")) spec.apps is.apps_count is.apps_differ is.names.apps is.apps writable.apps,
-  ranks_back (member_path [] (codes "apps")) spec.apps is.apps writable.ranks,
-  confs_back spec is is.names.confs (member_path [] (codes "configurations")),
-  factors_back (member_path [] (codes "factors")) spec.factors is.factors_count is.factors_differ is.factors is.names.factors is.names.values,
-) refl
+-- what is read back of the lists that the rest of a document names
+record NamesAreBack (spec : Parts) : Type 0 where
+  procs : read_procs (member_path [] (codes "processors")) (list_data proc_data spec.procs) ≡ Ok spec.procs
+  apps : read_unranked (member_path [] (codes "apps")) (list_data (app_data spec.apps) spec.apps) ≡ Ok (map unranked spec.apps)
+  ranks : ranked_at (member_path [] (codes "apps")) (map unranked spec.apps) ≡ Ok spec.apps
+  confs : read_confs spec.procs spec.apps (member_path [] (codes "configurations")) (list_data (conf_data spec) spec.confs) ≡ Ok spec.confs
+  factors : read_factors (member_path [] (codes "factors")) (list_data factor_data spec.factors) ≡ Ok spec.factors
+
+names_are_back : (spec : Parts) → IsSpec spec → IsWritable spec → NamesAreBack spec
+names_are_back spec is writable = record {
+  procs = procs_back _ spec.procs is.procs_count is.procs_differ is.procs is.names.procs;
+  apps = unranked_back _ spec.apps is.apps_count is.apps_differ is.names.apps is.apps writable.apps;
+  ranks = ranks_back _ spec.apps is.apps writable.ranks;
+  confs = confs_back spec is is.names.confs _;
+  factors = factors_back _ spec.factors is.factors_count is.factors_differ is.factors is.names.factors is.names.values;
+}
+
+names_back : (policy : Policy) (spec : Parts) → NamesAreBack spec → names_in (data_by policy spec) ≡ Ok (names_of spec)
+names_back Retarget spec back = rw (back.procs, back.apps, back.ranks, back.confs, back.factors) refl
+names_back Settle spec back = rw (back.procs, back.apps, back.ranks, back.confs, back.factors) refl
 
 -- the specification with this policy
 abbrev with_policy : Policy → Parts → Parts
@@ -71,34 +83,39 @@ with_policy policy spec = record {
   window = spec.window;
 }
 
-rest_back : (policy : Policy) (spec : Parts) → IsSpec spec → IsWritable spec → rest_in (names_of spec) (data_by policy spec) ≡ Ok (with_policy policy spec)
-rest_back Retarget spec is writable = rw (
-  choices_back spec is is.names.confs writable.rules (member_path [] (codes "rules")),
-  bounds_back spec is writable.bounds (member_path [] (codes "bounds")),
-  start_back spec is (member_path [] (codes "start")),
-  goal_back (member_path [] (codes "goal")) spec.goal is.goal,
-  invariants_back spec is is.names.confs writable.invariants (member_path [] (codes "invariants")),
-  preconditions_back spec is writable.preconditions (member_path [] (codes "preconditions")),
-  assumption_back spec is (member_path [] (codes "assumption")),
-) refl
-rest_back Settle spec is writable = rw (
-  choices_back spec is is.names.confs writable.rules (member_path [] (codes "rules")),
-  bounds_back spec is writable.bounds (member_path [] (codes "bounds")),
-  start_back spec is (member_path [] (codes "start")),
-  goal_back (member_path [] (codes "goal")) spec.goal is.goal,
-  invariants_back spec is is.names.confs writable.invariants (member_path [] (codes "invariants")),
-  preconditions_back spec is writable.preconditions (member_path [] (codes "preconditions")),
-  assumption_back spec is (member_path [] (codes "assumption")),
-) refl
+-- what is read back of the rest of a document, but its policy
+record RestIsBack (spec : Parts) : Type 0 where
+  rules : read_choices spec.procs spec.confs spec.factors (member_path [] (codes "rules")) (list_data (choice_data spec) spec.rules) ≡ Ok spec.rules
+  bounds : read_bounds spec.confs (member_path [] (codes "bounds")) (list_data (bound_data spec.confs) spec.bounds) ≡ Ok spec.bounds
+  start : read_conf_id spec.confs (member_path [] (codes "start")) (start_data spec) ≡ Ok spec.start
+  goal : read_goal (member_path [] (codes "goal")) (goal_data spec.goal) ≡ Ok spec.goal
+  invariants : read_invariants spec.apps spec.confs (member_path [] (codes "invariants")) (list_data (invariant_data spec) spec.invariants) ≡ Ok spec.invariants
+  preconditions : read_preconditions spec.apps spec.confs (member_path [] (codes "preconditions")) (list_data (precondition_data spec) spec.preconditions) ≡ Ok spec.preconditions
+  assumption : read_assumption (member_path [] (codes "assumption")) (assumption_data spec) ≡ Ok (assumed spec)
 
-document_back : (policy : Policy) (spec : Parts) → IsSpec spec → IsWritable spec → spec_in (data_by policy spec) ≡ Ok (with_policy policy spec)
-document_back Retarget spec is writable = rw (names_back Retarget spec is writable, rest_back Retarget spec is writable) refl
-document_back Settle spec is writable = rw (names_back Settle spec is writable, rest_back Settle spec is writable) refl
+rest_is_back : (spec : Parts) → IsSpec spec → IsWritable spec → RestIsBack spec
+rest_is_back spec is writable = record {
+  rules = choices_back spec is is.names.confs writable.rules _;
+  bounds = bounds_back spec is writable.bounds _;
+  start = start_back spec is _;
+  goal = goal_back (member_path [] (codes "goal")) spec.goal is.goal;
+  invariants = invariants_back spec is is.names.confs writable.invariants _;
+  preconditions = preconditions_back spec is writable.preconditions _;
+  assumption = assumption_back spec is (member_path [] (codes "assumption"));
+}
+
+rest_back : (policy : Policy) (spec : Parts) → RestIsBack spec → rest_in (names_of spec) (data_by policy spec) ≡ Ok (with_policy policy spec)
+rest_back Retarget spec back = rw (back.rules, back.bounds, back.start, back.goal, back.invariants, back.preconditions, back.assumption) refl
+rest_back Settle spec back = rw (back.rules, back.bounds, back.start, back.goal, back.invariants, back.preconditions, back.assumption) refl
+
+document_back : (policy : Policy) (spec : Parts) → NamesAreBack spec → RestIsBack spec → spec_in (data_by policy spec) ≡ Ok (with_policy policy spec)
+document_back Retarget spec names rest = rw (names_back Retarget spec names, rest_back Retarget spec rest) refl
+document_back Settle spec names rest = rw (names_back Settle spec names, rest_back Settle spec rest) refl
 
 pub spec_back : (spec : Parts) → IsSpec spec → IsWritable spec → spec_in (spec_data spec) ≡ Ok spec
-spec_back spec is writable = document_back spec.policy spec is writable
+spec_back spec is writable = document_back spec.policy spec (names_are_back spec is writable) (rest_is_back spec is writable)
 
-pub text_back : (spec : Parts) (bytes : List ℕ) → IsSpec spec → IsUtf8 bytes → read bytes ≡ Some (spec_data spec) → IsWritable spec → length bytes ≤ 1048576
+pub text_back : (spec : Parts) (bytes : List ℕ) → IsSpec spec → IsUtf8 bytes → read bytes ≡ Some (spec_data spec) → IsWritable spec → length bytes ≤ MAX_SPECIFICATION_BYTES
     → spec_of bytes ≡ Ok spec
 text_back spec bytes is utf8 value writable short =
-    rw (le-leb (length bytes) 1048576 short, parsed-some bytes (spec_data spec) utf8 value) (spec_back spec is writable)
+    rw (le-leb (length bytes) MAX_SPECIFICATION_BYTES short, parsed-some bytes (spec_data spec) utf8 value) (spec_back spec is writable)

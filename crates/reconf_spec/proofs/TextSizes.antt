@@ -4,6 +4,7 @@ use Rattle.std.specs.Prelude.{Option, Some, None, slice_get}
 use Rattle.std.proofs.lemmas.Int.{ints}
 use Rattle.serde_json.specs.Data.{Data, string}
 use Rattle.serde_json.specs.View.{items_of}
+use Rattle.scram_types.specs.declared.limits.TheConstants.{MAX_SPECIFICATION_BYTES}
 use Rattle.scram_types.specs.declared.ids.AppId.{AppId}
 use Rattle.scram_types.specs.declared.ids.ConfId.{ConfId}
 use Rattle.scram_types.specs.declared.flights.Goal.{Goal}
@@ -28,7 +29,7 @@ use Rattle.reconf_spec.specs.Configurations.{name_of_conf}
 use Rattle.reconf_spec.specs.Factors.{name_of_factor}
 use Rattle.scram_doc.specs.Numbering.{itself}
 use Rattle.reconf_spec.specs.Processors.{name_of_proc}
-use Rattle.reconf_spec.specs.Texts.{app_data, assumption_data, bound_data, choice_data, conf_data, data_by, factor_data, goal_data, invariant_data, mode_data, name_of_item, need_data, place_data, places_data, precondition_data, proc_data, source_name, spec_data, spec_text, up_data, name_of_value, want_data}
+use Rattle.reconf_spec.specs.Texts.{app_data, assumption_data, bound_data, choice_data, conf_data, data_by, factor_data, goal_data, invariant_data, mode_data, name_of_item, name_of_value, need_data, place_data, places_data, precondition_data, proc_data, source_name, spec_data, spec_text, start_data, up_data, want_data}
 use Rattle.reconf_spec.proofs.TextLengths.{widest, app_mode_short, count_short, integer_short, item_short, kind_short, mode_short, name_short, text_short, variable_short}
 use Rattle.scram_doc.proofs.TextLengths.{escaped_length, items_weight, list_weight, no_longer, weight}
 
@@ -214,40 +215,18 @@ lists_short spec is names =
       preconditions = omega (arith, few_preconditions, preconditions);
     }
 
-light : (policy : Policy) (spec : Parts) → IsSpec spec → HasNames spec → weight widest (data_by policy spec) ≤ 1000000
-light Retarget spec is names =
-    let lists = lists_short spec is names in
-    let procs = lists.procs in
-    let apps = lists.apps in
-    let confs = lists.confs in
-    let factors = lists.factors in
-    let rules = lists.rules in
-    let bounds = lists.bounds in
-    let invariants = lists.invariants in
-    let preconditions = lists.preconditions in
-    let goal = goal_short spec.goal is.goal in
-    let assumption = assumption_short spec is in
-    let start = item_short name_of_conf spec.confs spec.start.0 names.confs in
+light : (policy : Policy) (spec : Parts) → HasShortLists spec → weight widest (goal_data spec.goal) ≤ 200 → weight widest (assumption_data spec) ≤ 200 → weight widest (start_data spec) ≤ 200
+    → weight widest (data_by policy spec) ≤ 1000000
+light Retarget spec lists goal assumption start =
     let version = count_short 1 (omega arith) in
-    omega (arith, procs, apps, confs, factors, rules, bounds, invariants, preconditions, goal, assumption, start, version)
-light Settle spec is names =
-    let lists = lists_short spec is names in
-    let procs = lists.procs in
-    let apps = lists.apps in
-    let confs = lists.confs in
-    let factors = lists.factors in
-    let rules = lists.rules in
-    let bounds = lists.bounds in
-    let invariants = lists.invariants in
-    let preconditions = lists.preconditions in
-    let goal = goal_short spec.goal is.goal in
-    let assumption = assumption_short spec is in
-    let start = item_short name_of_conf spec.confs spec.start.0 names.confs in
+    omega (arith, lists.procs, lists.apps, lists.confs, lists.factors, lists.rules, lists.bounds, lists.invariants, lists.preconditions, goal, assumption, start, version)
+light Settle spec lists goal assumption start =
     let version = count_short 2 (omega arith) in
-    omega (arith, procs, apps, confs, factors, rules, bounds, invariants, preconditions, goal, assumption, start, version)
+    omega (arith, lists.procs, lists.apps, lists.confs, lists.factors, lists.rules, lists.bounds, lists.invariants, lists.preconditions, goal, assumption, start, version)
 
-pub spec_text_short : (spec : Parts) → IsSpec spec → length (spec_text spec) ≤ 1048576
+pub spec_text_short : (spec : Parts) → IsSpec spec → length (spec_text spec) ≤ MAX_SPECIFICATION_BYTES
 spec_text_short spec is =
-    let weighed = light spec.policy spec is is.names in
+    let start = item_short name_of_conf spec.confs spec.start.0 is.names.confs in
+    let weighed = light spec.policy spec (lists_short spec is is.names) (goal_short spec.goal is.goal) (assumption_short spec is) (omega (arith, start)) in
     let written = no_longer widest escaped_length (spec_data spec) in
     omega (arith, weighed, written)

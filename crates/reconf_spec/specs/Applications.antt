@@ -15,6 +15,7 @@ use Rattle.reconf_spec.specs.declared.rule.TheConstants.{UNKNOWN_KIND, UNKNOWN_M
 use Rattle.scram_doc.specs.Lists.{elements_at, folded_from}
 use Rattle.reconf_spec.specs.Names.{read_new_name}
 
+-- The name of an application.
 abbrev pub name_of_app : AppSpec → List ℕ
 name_of_app app = app.name
 
@@ -60,6 +61,7 @@ read_kind at d = chain (text_at at d) (λ (text : List ℕ). or_broken UNKNOWN_K
 abbrev pub check_text : List ℕ → ⊤ → Data → Result ⊤ DocFault
 check_text at made d = chain (text_at at d) (λ (_ : List ℕ). Ok tt)
 
+-- The value at a path is a list of 0 to 8 texts.
 abbrev pub check_text_list : List ℕ → Data → Result ⊤ DocFault
 check_text_list at d = chain (list_at 0 8 at d) (λ (ds : Items). folded_from check_text at 0 tt ds)
 

@@ -18,6 +18,7 @@ use Rattle.reconf_spec.specs.Names.{read_new_name, read_named}
 use Rattle.reconf_spec.specs.Processors.{name_of_proc}
 use Rattle.reconf_spec.specs.Applications.{name_of_app, read_kind_mode}
 
+-- The name of a configuration.
 abbrev pub name_of_conf : Conf → List ℕ
 name_of_conf conf = conf.name
 

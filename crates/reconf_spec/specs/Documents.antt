@@ -2,6 +2,7 @@
 use Rattle.std.specs.Prelude.{ℕ, ℤ, pos, ◌==◌, List, [], codes, nat_le, Result, Ok, length, ⊤, if◌then◌else◌}
 use Rattle.std.specs.Str.{bytes_eq}
 use Rattle.serde_json.specs.Data.{Data}
+use Rattle.scram_types.specs.declared.limits.TheConstants.{MAX_SPECIFICATION_BYTES}
 use Rattle.scram_types.specs.declared.ids.ConfId.{ConfId}
 use Rattle.scram_types.specs.declared.flights.Goal.{Goal}
 use Rattle.scram_types.specs.declared.specification.Proc.{Proc}
@@ -25,8 +26,8 @@ use Rattle.scram_doc.specs.Values.{text_at, int_at, whole_at}
 use Rattle.reconf_spec.specs.declared.documents.Assumption.{Assumption}
 use Rattle.reconf_spec.specs.declared.documents.Rest.{Rest}
 use Rattle.reconf_spec.specs.declared.rule.TheConstants.{UNKNOWN_VERSION, TOO_LONG, UNKNOWN_POLICY}
-use Rattle.reconf_spec.specs.Members.{members_at, member_in}
-use Rattle.reconf_spec.specs.Versions.{is_second, members_of}
+use Rattle.reconf_spec.specs.Members.{member_in}
+use Rattle.reconf_spec.specs.Versions.{is_second, members_tested}
 use Rattle.reconf_spec.specs.Processors.{read_procs}
 use Rattle.reconf_spec.specs.Needs.{apps_in, read_unranked}
 use Rattle.reconf_spec.specs.Configurations.{read_confs}
@@ -150,13 +151,13 @@ rest_in names d =
 -- the specification that a document is
 abbrev pub spec_in : Data → Result Parts DocFault
 spec_in d =
-    chain (members_at (members_of d) [] d) (λ (_ : ⊤).
+    chain (members_tested d) (λ (_ : ⊤).
     chain (names_in d) (λ (names : Names). rest_in names d))
 
 -- the specification that the bytes are; their length is tested first
 abbrev pub spec_of : List ℕ → Result Parts DocFault
 spec_of bytes =
-    if nat_le (length bytes) 1048576 then chain (parsed bytes) (λ (d : Data). spec_in d) else broken TOO_LONG []
+    if nat_le (length bytes) MAX_SPECIFICATION_BYTES then chain (parsed bytes) (λ (d : Data). spec_in d) else broken TOO_LONG []
 
 -- the applications with their needs, before they are ranked
 abbrev pub unranked_names_in : Data → Result (List AppSpec) DocFault
@@ -167,9 +168,9 @@ unranked_names_in d =
 
 -- the applications of a document that is an object with the right members, before they are ranked
 abbrev pub unranked_in : Data → Result (List AppSpec) DocFault
-unranked_in d = chain (members_at (members_of d) [] d) (λ (_ : ⊤). unranked_names_in d)
+unranked_in d = chain (members_tested d) (λ (_ : ⊤). unranked_names_in d)
 
 -- the applications of the document that the bytes are, before they are ranked
 abbrev pub unranked_of : List ℕ → Result (List AppSpec) DocFault
 unranked_of bytes =
-    if nat_le (length bytes) 1048576 then chain (parsed bytes) (λ (d : Data). unranked_in d) else broken TOO_LONG []
+    if nat_le (length bytes) MAX_SPECIFICATION_BYTES then chain (parsed bytes) (λ (d : Data). unranked_in d) else broken TOO_LONG []

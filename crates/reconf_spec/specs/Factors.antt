@@ -10,6 +10,7 @@ use Rattle.scram_doc.specs.Lists.{elements_at}
 use Rattle.scram_doc.specs.Numbering.{itself}
 use Rattle.reconf_spec.specs.Names.{read_new_name}
 
+-- The name of an environment factor.
 abbrev pub name_of_factor : Factor → List ℕ
 name_of_factor factor = factor.name
 

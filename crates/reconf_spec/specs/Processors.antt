@@ -10,6 +10,7 @@ use Rattle.scram_doc.specs.Values.{whole_at}
 use Rattle.scram_doc.specs.Lists.{elements_at}
 use Rattle.reconf_spec.specs.Names.{read_new_name}
 
+-- The name of a processor.
 abbrev pub name_of_proc : Proc → List ℕ
 name_of_proc proc = proc.name
 

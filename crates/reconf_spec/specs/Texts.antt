@@ -51,16 +51,19 @@ name_of_mode kind mode = name_or_nothing (name_in (mode_names kind) mode)
 abbrev pub name_of_kind_variable : ℕ → ℕ → List ℕ
 name_of_kind_variable kind variable = name_or_nothing (name_in (variable_names kind) variable)
 
--- the name of a mode, and of a variable, of the kind of application a
+-- The name of a mode of application a, by the table of its kind.
 abbrev pub name_of_app_mode : List AppSpec → ℕ → ℕ → List ℕ
 name_of_app_mode apps a mode = option_map_or (λ (app : AppSpec). name_of_mode app.kind.0 mode) (slice_get apps a) []
 
+-- The name of a variable of application a, by the table of its kind.
 abbrev pub name_of_variable : List AppSpec → ℕ → ℕ → List ℕ
 name_of_variable apps a variable = option_map_or (λ (app : AppSpec). name_of_kind_variable app.kind.0 variable) (slice_get apps a) []
 
+-- The canonical value of a processor.
 abbrev pub proc_data : Proc → Data
 proc_data proc = object (member (codes "capacity") (count_data proc.capacity) (member (codes "name") (string proc.name) no_members))
 
+-- The canonical value of a mode that an application of this kind lists.
 abbrev pub mode_data : ℕ → ModeSpec → Data
 mode_data kind listed = object (
     member (codes "halt") (count_data listed.halt) (
@@ -73,6 +76,7 @@ mode_data kind listed = object (
 abbrev pub need_data : List AppSpec → AppId → Data
 need_data apps need = string (name_of_item name_of_app apps need.0)
 
+-- The canonical value of an application, among these applications.
 abbrev pub app_data : List AppSpec → AppSpec → Data
 app_data apps app = object (
     member (codes "kind") (string (name_of_kind app.kind.0)) (
@@ -80,6 +84,7 @@ app_data apps app = object (
     member (codes "name") (string app.name) (
     member (codes "needs") (list_data (need_data apps) app.needs) no_members))))
 
+-- The canonical value of the place of application a.
 abbrev pub place_data : Parts → ℕ → Place → Data
 place_data spec a place = object (
     member (codes "app") (string (name_of_item name_of_app spec.apps a)) (
@@ -92,11 +97,13 @@ places_data spec a [] = []
 places_data spec a (None ∷ places) = places_data spec (suc a) places
 places_data spec a (Some place ∷ places) = place_data spec a place ∷ places_data spec (suc a) places
 
+-- The canonical value of a configuration.
 abbrev pub conf_data : Parts → Conf → Data
 conf_data spec conf = object (
     member (codes "apps") (array (items_of (places_data spec 0 conf.places))) (
     member (codes "name") (string conf.name) no_members))
 
+-- The canonical value of an environment factor.
 abbrev pub factor_data : Factor → Data
 factor_data factor = object (
     member (codes "name") (string factor.name) (
@@ -111,6 +118,7 @@ source_name confs (Some c) = name_of_item name_of_conf confs c.0
 abbrev pub name_of_value : List Factor → ℕ → ℕ → List ℕ
 name_of_value factors f value = option_map_or (λ (factor : Factor). name_of_item itself factor.values value) (slice_get factors f) []
 
+-- The canonical value of a factor's value that a rule wants.
 abbrev pub want_data : List Factor → Want → Data
 want_data factors want = object (
     member (codes "factor") (string (name_of_item name_of_factor factors want.factor.0)) (
@@ -121,6 +129,7 @@ abbrev pub up_data : ℕ → ℕ → List Proc → List Data
 up_data set p [] = []
 up_data set p (proc ∷ procs) = if has_bit set p then string proc.name ∷ up_data set (suc p) procs else up_data set (suc p) procs
 
+-- The canonical value of a rule of the choice table.
 abbrev pub choice_data : Parts → Choice → Data
 choice_data spec rule = object (
     member (codes "from") (string (source_name spec.confs rule.from)) (
@@ -128,15 +137,18 @@ choice_data spec rule = object (
     member (codes "up") (array (items_of (up_data rule.up 0 spec.procs))) (
     member (codes "when") (list_data (want_data spec.factors) rule.wants) no_members))))
 
+-- The canonical value of a bound on a reconfiguration.
 abbrev pub bound_data : List Conf → Bound → Data
 bound_data confs bound = object (
     member (codes "frames") (count_data bound.frames) (
     member (codes "from") (string (name_of_item name_of_conf confs bound.from.0)) (
     member (codes "to") (string (name_of_item name_of_conf confs bound.to.0)) no_members)))
 
+-- The canonical value of the goal.
 abbrev pub goal_data : Goal → Data
 goal_data goal = object (member (codes "altitude") (integer_data goal.altitude) (member (codes "heading") (integer_data goal.heading) no_members))
 
+-- The canonical value of an invariant.
 abbrev pub invariant_data : Parts → Invariant → Data
 invariant_data spec inv = object (
     member (codes "app") (string (name_of_item name_of_app spec.apps inv.app.0)) (
@@ -145,6 +157,7 @@ invariant_data spec inv = object (
     member (codes "least") (integer_data inv.least) (
     member (codes "variable") (string (name_of_variable spec.apps inv.app.0 inv.variable)) no_members)))))
 
+-- The canonical value of a precondition.
 abbrev pub precondition_data : Parts → Precondition → Data
 precondition_data spec pre = object (
     member (codes "app") (string (name_of_item name_of_app spec.apps pre.app.0)) (
@@ -153,12 +166,14 @@ precondition_data spec pre = object (
     member (codes "least") (integer_data pre.least) (
     member (codes "variable") (string (name_of_variable spec.apps pre.app.0 pre.variable)) no_members)))))
 
+-- The canonical value of the failure assumption.
 abbrev pub assumption_data : Parts → Data
 assumption_data spec = object (
     member (codes "changes") (count_data spec.changes) (
     member (codes "halts") (count_data spec.halts) (
     member (codes "window") (count_data spec.window) no_members)))
 
+-- The canonical value of the start: the name of a configuration.
 abbrev pub start_data : Parts → Data
 start_data spec = string (name_of_item name_of_conf spec.confs spec.start.0)
 

@@ -6,6 +6,7 @@ use Rattle.scram_doc.specs.declared.fault.DocFault.{DocFault}
 use Rattle.scram_doc.specs.Chain.{chain}
 use Rattle.scram_doc.specs.Members.{object_at, needed, no_more_than}
 
+-- There is a number, and it is 2.
 abbrev pub is_two : Option ℕ → Bool
 is_two None = false
 is_two (Some version) = version == 2

@@ -35,6 +35,7 @@ lists_want done want = wants_factor done want.factor.0
 abbrev pub lists_pair : List Bound → Bound → Bool
 lists_pair done bound = is_some (bound_in done bound.from.0 bound.to.0)
 
+-- The rank of an application.
 abbrev pub rank_of : AppSpec → ℕ
 rank_of app = app.rank
 

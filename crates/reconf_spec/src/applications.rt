@@ -1,13 +1,11 @@
 //! Applications and their modes, before the names of their needs are looked up.
 
 ghost use Rattle.std.specs.Prelude.{◌≡◌, ◌≤◌, ◌<◌, None, length, is_some, IfOk};
-ghost use Rattle.serde_json.specs.View.{view, items_view};
+ghost use Rattle.serde_json.specs.View.{view};
 ghost use Rattle.app_model.specs.Names.{mode_names, number_in};
 ghost use Rattle.scram_types.specs.Specification.{mode_in};
 ghost use Rattle.scram_doc.specs.Chain.{ok_map};
-ghost use Rattle.scram_doc.specs.Faults.{Answers};
-ghost use Rattle.scram_doc.specs.Lists.{folded_from, AllAfter};
-ghost use Rattle.reconf_spec.specs.Applications.{read_kind_mode, read_new_mode, read_phase, read_mode, read_modes, read_kind, check_text, check_text_list, read_app};
+ghost use Rattle.reconf_spec.specs.Applications.{read_kind_mode, read_new_mode, read_phase, read_mode, read_kind, check_text_list, read_app};
 ghost use Rattle.reconf_spec.specs.Facts.{IsListed, IsNewMode, IsNewApp};
 
 use crate::names::{ByName, read_new_name};
@@ -17,7 +15,7 @@ use scram_doc::{
     DocError, DocFault, Elements, NamedElements, Numbered, Path, list, need, no_more, object,
     read_list, text, whole_in,
 };
-use scram_types::limits::{MAX_LOAD, MAX_MODES, MAX_PHASE};
+use scram_types::limits::{MAX_APPLICATIONS, MAX_LOAD, MAX_MODES, MAX_PHASE};
 use scram_types::{AppSpec, KindId, List, Mode, ModeSpec};
 use serde_json::Value;
 use std::alloc::Global;
@@ -63,32 +61,6 @@ fn read_phase(v: &Value, at: &Path) -> Result<u8, DocFault>
     Ok(frames as u8)
 }
 
-fn read_mode(kind: KindId, done: &[ModeSpec], v: &Value, at: &Path) -> Result<ModeSpec, DocFault>
-    requires room { length at.now ≤ 40 }
-    ensures value { result ≡ read_mode kind.0 at.now done.now (view v.now) }
-    ensures fits { IfOk result (λ mode. IsNewMode kind.0 done.now mode) }
-{
-    object(v, at)?;
-    let mode = need(v, "mode", at)?;
-    let load = need(v, "load", at)?;
-    let halt = need(v, "halt", at)?;
-    let prepare = need(v, "prepare", at)?;
-    let init = need(v, "init", at)?;
-    no_more(v, 5, at)?;
-    let mode = read_new_mode(kind, done, mode, &at.member("mode"))?;
-    let load = whole_in(load, 0, MAX_LOAD + 1, &at.member("load"))?;
-    let halt = read_phase(halt, &at.member("halt"))?;
-    let prepare = read_phase(prepare, &at.member("prepare"))?;
-    let init = read_phase(init, &at.member("init"))?;
-    Ok(ModeSpec {
-        mode,
-        load,
-        halt,
-        prepare,
-        init,
-    })
-}
-
 #[derive(Clone, Copy)]
 struct Modes {
     kind: KindId,
@@ -108,18 +80,26 @@ impl Elements<ModeSpec> for Modes {
         v: &Value,
         at: &Path,
     ) -> Result<ModeSpec, DocError> {
-        Ok(read_mode(self.kind, done, v, at)?)
+        object(v, at)?;
+        let mode = need(v, "mode", at)?;
+        let load = need(v, "load", at)?;
+        let halt = need(v, "halt", at)?;
+        let prepare = need(v, "prepare", at)?;
+        let init = need(v, "init", at)?;
+        no_more(v, 5, at)?;
+        let mode = read_new_mode(self.kind, done, mode, &at.member("mode"))?;
+        let load = whole_in(load, 0, MAX_LOAD + 1, &at.member("load"))?;
+        let halt = read_phase(halt, &at.member("halt"))?;
+        let prepare = read_phase(prepare, &at.member("prepare"))?;
+        let init = read_phase(init, &at.member("init"))?;
+        Ok(ModeSpec {
+            mode,
+            load,
+            halt,
+            prepare,
+            init,
+        })
     }
-}
-
-fn read_modes(alloc: Global, kind: KindId, v: &Value, at: &Path) -> Result<Vec<ModeSpec>, DocError>
-    requires room { length at.now ≤ 34 }
-    ensures value { Answers (read_modes kind.0 at.now (view v.now)) (λ l. l.items) result }
-    ensures least { IfOk result (λ l. 1 ≤ length l.items) }
-    ensures most { IfOk result (λ l. length l.items ≤ 3) }
-    ensures fits { IfOk result (λ l. AllAfter (IsNewMode kind.0) l.items) }
-{
-    read_list(alloc, &Modes { kind }, v, 1, MAX_MODES, at)
 }
 
 fn read_kind(v: &Value, at: &Path) -> Result<KindId, DocFault>
@@ -129,52 +109,16 @@ fn read_kind(v: &Value, at: &Path) -> Result<KindId, DocFault>
     kind_named(text(v, at)?).ok_or_else(|| DocFault::new(rule::UNKNOWN_KIND, at))
 }
 
-fn check_texts(items: &[Value], at: &Path) -> Result<(), DocFault>
-    requires room { length at.now ≤ 40 }
-    requires few { length items.now ≤ 8 }
-    ensures { result ≡ folded_from check_text at.now 0 tt (items_view items.now) }
-{
-    for (i, v) in items.iter().enumerate() {
-        text(v, &at.item(i))?;
-    }
-    Ok(())
-}
-
 /// Tests that the value is a list of 0 to 8 texts.
 fn check_text_list(v: &Value, at: &Path) -> Result<(), DocFault>
     requires room { length at.now ≤ 40 }
     ensures { result ≡ check_text_list at.now (view v.now) }
 {
-    check_texts(list(v, 0, 8, at)?, at)
-}
-
-fn read_app(
-    alloc: Global,
-    done: &Numbered<AppSpec, ByName>,
-    v: &Value,
-    at: &Path,
-) -> Result<AppSpec, DocError>
-    requires room { length at.now ≤ 24 }
-    ensures value { Answers (read_app at.now done.now (view v.now)) (λ app. app) result }
-    ensures fits { IfOk result (λ app. IsNewApp done.now app) }
-{
-    object(v, at)?;
-    let name = need(v, "name", at)?;
-    let kind = need(v, "kind", at)?;
-    let needs = need(v, "needs", at)?;
-    let modes = need(v, "modes", at)?;
-    no_more(v, 4, at)?;
-    let name = read_new_name(done, name, &at.member("name"))?;
-    let kind = read_kind(kind, &at.member("kind"))?;
-    check_text_list(needs, &at.member("needs"))?;
-    let modes = read_modes(alloc, kind, modes, &at.member("modes"))?;
-    Ok(AppSpec {
-        name,
-        kind,
-        needs: List::of(Vec::new(alloc)),
-        modes: List::of(modes),
-        rank: 0,
-    })
+    let items = list(v, 0, MAX_APPLICATIONS, at)?;
+    for (i, v) in items.iter().enumerate() {
+        text(v, &at.item(i))?;
+    }
+    Ok(())
 }
 
 /// Applications, without their needs and their ranks.
@@ -196,6 +140,23 @@ impl NamedElements<AppSpec, ByName> for Apps {
         v: &Value,
         at: &Path,
     ) -> Result<AppSpec, DocError> {
-        read_app(alloc, done, v, at)
+        object(v, at)?;
+        let name = need(v, "name", at)?;
+        let kind = need(v, "kind", at)?;
+        let needs = need(v, "needs", at)?;
+        let modes = need(v, "modes", at)?;
+        no_more(v, 4, at)?;
+        let name = read_new_name(done, name, &at.member("name"))?;
+        let kind = read_kind(kind, &at.member("kind"))?;
+        check_text_list(needs, &at.member("needs"))?;
+        let at = at.member("modes");
+        let modes = read_list(alloc, &Modes { kind }, modes, 1, MAX_MODES, &at)?;
+        Ok(AppSpec {
+            name,
+            kind,
+            needs: List::of(Vec::new(alloc)),
+            modes: List::of(modes),
+            rank: 0,
+        })
     }
 }

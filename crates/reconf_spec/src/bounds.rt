@@ -54,28 +54,6 @@ fn read_new_target(
     }
 }
 
-fn read_bound(
-    vocabulary: &Vocabulary,
-    done: &[Bound],
-    v: &Value,
-    at: &Path,
-) -> Result<Bound, DocFault>
-    requires room { length at.now ≤ 40 }
-    ensures value { result ≡ read_bound vocabulary.now.confs at.now done.now (view v.now) }
-    ensures fits { IfOk result (λ bound. IsNewBound vocabulary.now.confs done.now bound) }
-{
-    object(v, at)?;
-    let from = need(v, "from", at)?;
-    let to = need(v, "to", at)?;
-    let frames = need(v, "frames", at)?;
-    no_more(v, 3, at)?;
-    let confs = &vocabulary.confs;
-    let from = read_conf_id(confs, from, &at.member("from"))?;
-    let to = read_new_target(confs, done, from, to, &at.member("to"))?;
-    let frames = whole_in(frames, 1, MAX_BOUND + 1, &at.member("frames"))?;
-    Ok(Bound { from, to, frames })
-}
-
 #[derive(Clone, Copy)]
 struct Bounds<'a> {
     vocabulary: &'a Vocabulary,
@@ -95,7 +73,17 @@ impl Elements<Bound> for Bounds<'_> {
         v: &Value,
         at: &Path,
     ) -> Result<Bound, DocError> {
-        Ok(read_bound(self.vocabulary, done, v, at)?)
+        object(v, at)?;
+        let from = need(v, "from", at)?;
+        let to = need(v, "to", at)?;
+        let frames = need(v, "frames", at)?;
+        no_more(v, 3, at)?;
+        let vocabulary = self.vocabulary;
+        let confs = &vocabulary.confs;
+        let from = read_conf_id(confs, from, &at.member("from"))?;
+        let to = read_new_target(confs, done, from, to, &at.member("to"))?;
+        let frames = whole_in(frames, 1, MAX_BOUND + 1, &at.member("frames"))?;
+        Ok(Bound { from, to, frames })
     }
 }
 

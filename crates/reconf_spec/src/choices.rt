@@ -1,11 +1,11 @@
 //! Rules of the choice table.
 
 ghost use Rattle.std.specs.Prelude.{◌≡◌, ◌≤◌, ◌<◌, ◌^◌, false, [], codes, length, slice_get, IfOk};
-ghost use Rattle.serde_json.specs.View.{view, items_view};
+ghost use Rattle.serde_json.specs.View.{view};
 ghost use Rattle.scram_types.specs.Specification.{IsIn, IsInIfNamed};
 ghost use Rattle.scram_doc.specs.Chain.{ok_map};
 ghost use Rattle.scram_doc.specs.Faults.{Answers};
-ghost use Rattle.scram_doc.specs.Lists.{elements_at, folded_from, AllAfter};
+ghost use Rattle.scram_doc.specs.Lists.{AllAfter};
 ghost use Rattle.reconf_spec.specs.Choices.{read_conf_id, read_source, wants_factor, read_new_factor, read_value_of, read_want, read_up, read_up_list, read_choice, read_choices};
 ghost use Rattle.reconf_spec.specs.Members.{member_in};
 ghost use Rattle.reconf_spec.specs.Facts.{IsNewWant, FitsChoice, FewValues, HasValue};
@@ -20,7 +20,7 @@ use scram_doc::{
     DocError, DocFault, Elements, Numbered, Path, list, need, no_more, object, read_list, text,
 };
 use scram_types::bits::has_bit;
-use scram_types::limits::{MAX_PROCESSORS, MAX_RULES};
+use scram_types::limits::{MAX_FACTORS, MAX_PROCESSORS, MAX_RULES};
 use scram_types::{Choice, Conf, ConfId, FactorId, List, Proc, Want};
 use serde_json::Value;
 use std::alloc::Global;
@@ -96,21 +96,6 @@ fn read_value_of(
     }
 }
 
-fn read_want(vocabulary: &Vocabulary, done: &[Want], v: &Value, at: &Path) -> Result<Want, DocFault>
-    requires room { length at.now ≤ 40 }
-    ensures value { result ≡ read_want vocabulary.now.factors at.now done.now (view v.now) }
-    ensures fits { IfOk result (λ want. IsNewWant vocabulary.now.factors done.now want) }
-{
-    object(v, at)?;
-    let factor = need(v, "factor", at)?;
-    let value = need(v, "value", at)?;
-    no_more(v, 2, at)?;
-    let factors = &vocabulary.factors;
-    let factor = read_new_factor(factors, done, factor, &at.member("factor"))?;
-    let value = read_value_of(factors, factor, value, &at.member("value"))?;
-    Ok(Want { factor, value })
-}
-
 #[derive(Clone, Copy)]
 struct Wants<'a> {
     vocabulary: &'a Vocabulary,
@@ -124,7 +109,15 @@ impl Elements<Want> for Wants<'_> {
     ghost Fits = { λ wants. IsNewWant wants.vocabulary.now.factors };
 
     fn read(&self, _alloc: Global, done: &[Want], v: &Value, at: &Path) -> Result<Want, DocError> {
-        Ok(read_want(self.vocabulary, done, v, at)?)
+        object(v, at)?;
+        let factor = need(v, "factor", at)?;
+        let value = need(v, "value", at)?;
+        no_more(v, 2, at)?;
+        let vocabulary = self.vocabulary;
+        let factors = &vocabulary.factors;
+        let factor = read_new_factor(factors, done, factor, &at.member("factor"))?;
+        let value = read_value_of(factors, factor, value, &at.member("value"))?;
+        Ok(Want { factor, value })
     }
 }
 
@@ -143,71 +136,19 @@ fn read_up(procs: &Numbered<Proc, ByName>, set: u8, v: &Value, at: &Path) -> Res
     }
 }
 
-fn read_ups(procs: &Numbered<Proc, ByName>, items: &[Value], at: &Path) -> Result<u8, DocFault>
-    requires room { length at.now ≤ 40 }
-    requires few_items { length items.now ≤ 8 }
-    requires few { length procs.now ≤ 8 }
-    ensures value { result ≡ folded_from (read_up procs.now) at.now 0 0 (items_view items.now) }
-    ensures below { IfOk result (λ up. up < 2 ^ length procs.now) }
-{
-    let mut set = 0;
-    for (i, v) in items.iter().enumerate() {
-        set = read_up(procs, set, v, &at.item(i))?;
-    }
-    Ok(set)
-}
-
+/// The set of the processors that the value lists, 0 to 8 of them.
 fn read_up_list(procs: &Numbered<Proc, ByName>, v: &Value, at: &Path) -> Result<u8, DocFault>
     requires room { length at.now ≤ 40 }
     requires few { length procs.now ≤ 8 }
     ensures value { result ≡ read_up_list procs.now at.now (view v.now) }
     ensures below { IfOk result (λ up. up < 2 ^ length procs.now) }
 {
-    read_ups(procs, list(v, 0, MAX_PROCESSORS, at)?, at)
-}
-
-fn read_wants(
-    alloc: Global,
-    vocabulary: &Vocabulary,
-    v: &Value,
-    at: &Path,
-) -> Result<Vec<Want>, DocError>
-    requires room { length at.now ≤ 34 }
-    ensures value { Answers (elements_at (read_want vocabulary.now.factors) 0 6 at.now (view v.now)) (λ l. l.items) result }
-    ensures few { IfOk result (λ l. length l.items ≤ 6) }
-    ensures fits { IfOk result (λ l. AllAfter (IsNewWant vocabulary.now.factors) l.items) }
-{
-    read_list(alloc, &Wants { vocabulary }, v, 0, 6, at)
-}
-
-fn read_choice(
-    alloc: Global,
-    vocabulary: &Vocabulary,
-    v: &Value,
-    at: &Path,
-) -> Result<Choice, DocError>
-    requires room { length at.now ≤ 24 }
-    ensures value { Answers (read_choice vocabulary.now.procs vocabulary.now.confs vocabulary.now.factors at.now [] (view v.now)) (λ rule. rule) result }
-    ensures fits { IfOk result (λ rule. FitsChoice vocabulary.now.procs vocabulary.now.confs vocabulary.now.factors rule) }
-{
-    object(v, at)?;
-    let from = need(v, "from", at)?;
-    let wants = need(v, "when", at)?;
-    let up = need(v, "up", at)?;
-    let to = need(v, "to", at)?;
-    no_more(v, 4, at)?;
-    let confs = &vocabulary.confs;
-    let from = read_source(confs, from, &at.member("from"))?;
-    let wants = read_wants(alloc, vocabulary, wants, &at.member("when"))?;
-    let procs = &vocabulary.procs;
-    let up = read_up_list(procs, up, &at.member("up"))?;
-    let to = read_conf_id(confs, to, &at.member("to"))?;
-    Ok(Choice {
-        from,
-        wants: List::of(wants),
-        up,
-        to,
-    })
+    let items = list(v, 0, MAX_PROCESSORS, at)?;
+    let mut set = 0;
+    for (i, v) in items.iter().enumerate() {
+        set = read_up(procs, set, v, &at.item(i))?;
+    }
+    Ok(set)
 }
 
 #[derive(Clone, Copy)]
@@ -229,7 +170,26 @@ impl Elements<Choice> for Choices<'_> {
         v: &Value,
         at: &Path,
     ) -> Result<Choice, DocError> {
-        read_choice(alloc, self.vocabulary, v, at)
+        object(v, at)?;
+        let from = need(v, "from", at)?;
+        let wants = need(v, "when", at)?;
+        let up = need(v, "up", at)?;
+        let to = need(v, "to", at)?;
+        no_more(v, 4, at)?;
+        let vocabulary = self.vocabulary;
+        let confs = &vocabulary.confs;
+        let from = read_source(confs, from, &at.member("from"))?;
+        let known = Wants { vocabulary };
+        let wants = read_list(alloc, &known, wants, 0, MAX_FACTORS, &at.member("when"))?;
+        let procs = &vocabulary.procs;
+        let up = read_up_list(procs, up, &at.member("up"))?;
+        let to = read_conf_id(confs, to, &at.member("to"))?;
+        Ok(Choice {
+            from,
+            wants: List::of(wants),
+            up,
+            to,
+        })
     }
 }
 

@@ -117,29 +117,6 @@ fn read_places(
     Ok(places)
 }
 
-fn read_conf(
-    procs: &Numbered<Proc, ByName>,
-    apps: &Numbered<AppSpec, ByName>,
-    done: &Numbered<Conf, ByName>,
-    v: &Value,
-    at: &Path,
-) -> Result<Conf, DocFault>
-    requires room { length at.now ≤ 24 }
-    requires procs { length procs.now ≤ 8 }
-    requires apps { length apps.now ≤ 8 }
-    ensures value { result ≡ read_conf procs.now apps.now at.now done.now (view v.now) }
-    ensures fits { IfOk result (λ conf. IsNewConf procs.now apps.now done.now conf) }
-{
-    object(v, at)?;
-    let name = need(v, "name", at)?;
-    let places = need(v, "apps", at)?;
-    no_more(v, 2, at)?;
-    let name = read_new_name(done, name, &at.member("name"))?;
-    let at = at.member("apps");
-    let places = read_places(procs, apps, list(places, 0, MAX_APPLICATIONS, &at)?, &at)?;
-    Ok(Conf { name, places })
-}
-
 #[derive(Clone, Copy)]
 struct Confs<'a> {
     procs: &'a Numbered<Proc, ByName>,
@@ -165,7 +142,15 @@ impl NamedElements<Conf, ByName> for Confs<'_> {
         v: &Value,
         at: &Path,
     ) -> Result<Conf, DocError> {
-        Ok(read_conf(self.procs, self.apps, done, v, at)?)
+        object(v, at)?;
+        let name = need(v, "name", at)?;
+        let places = need(v, "apps", at)?;
+        no_more(v, 2, at)?;
+        let name = read_new_name(done, name, &at.member("name"))?;
+        let at = at.member("apps");
+        let items = list(places, 0, MAX_APPLICATIONS, &at)?;
+        let places = read_places(self.procs, self.apps, items, &at)?;
+        Ok(Conf { name, places })
     }
 }
 

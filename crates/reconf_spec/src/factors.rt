@@ -42,26 +42,6 @@ impl NamedElements<Name, ByName> for Values {
     }
 }
 
-fn read_factor(
-    alloc: Global,
-    done: &Numbered<NumberedFactor, ByName>,
-    v: &Value,
-    at: &Path,
-) -> Result<NumberedFactor, DocError>
-    requires room { length at.now ≤ 24 }
-    ensures value { Answers (read_factor at.now done.now (view v.now)) (λ factor. factor) result }
-    ensures fits { IfOk result (λ factor. IsNewFactor done.now factor) }
-{
-    object(v, at)?;
-    let name = need(v, "name", at)?;
-    let values = need(v, "values", at)?;
-    no_more(v, 2, at)?;
-    let name = read_new_name(done, name, &at.member("name"))?;
-    let at = at.member("values");
-    let values = read_named_list(alloc, &Values, values, MIN_VALUES, MAX_VALUES, &at)?;
-    Ok(NumberedFactor { name, values })
-}
-
 /// A factor, with the numbers of its values.
 #[derive(Drop)]
 pub(crate) struct NumberedFactor {
@@ -125,7 +105,14 @@ impl NamedElements<NumberedFactor, ByName> for Factors {
         v: &Value,
         at: &Path,
     ) -> Result<NumberedFactor, DocError> {
-        read_factor(alloc, done, v, at)
+        object(v, at)?;
+        let name = need(v, "name", at)?;
+        let values = need(v, "values", at)?;
+        no_more(v, 2, at)?;
+        let name = read_new_name(done, name, &at.member("name"))?;
+        let at = at.member("values");
+        let values = read_named_list(alloc, &Values, values, MIN_VALUES, MAX_VALUES, &at)?;
+        Ok(NumberedFactor { name, values })
     }
 }
 

@@ -108,58 +108,6 @@ fn read_interval(
     })
 }
 
-fn read_invariant(vocabulary: &Vocabulary, v: &Value, at: &Path) -> Result<Invariant, DocFault>
-    requires room { length at.now ≤ 40 }
-    ensures value { result ≡ read_invariant vocabulary.now.apps vocabulary.now.confs at.now [] (view v.now) }
-    ensures fits { IfOk result (λ inv. FitsInvariant vocabulary.now.apps vocabulary.now.confs inv) }
-{
-    object(v, at)?;
-    let from = need(v, "from", at)?;
-    let app = need(v, "app", at)?;
-    let variable = need(v, "variable", at)?;
-    let least = need(v, "least", at)?;
-    let greatest = need(v, "greatest", at)?;
-    no_more(v, 5, at)?;
-    let from = read_source(&vocabulary.confs, from, &at.member("from"))?;
-    let apps = &vocabulary.apps;
-    let interval = read_interval(apps, app, variable, least, greatest, at)?;
-    Ok(Invariant {
-        from,
-        app: interval.app,
-        variable: interval.variable,
-        least: interval.ends.least,
-        greatest: interval.ends.greatest,
-    })
-}
-
-fn read_precondition(
-    vocabulary: &Vocabulary,
-    v: &Value,
-    at: &Path,
-) -> Result<Precondition, DocFault>
-    requires room { length at.now ≤ 40 }
-    ensures value { result ≡ read_precondition vocabulary.now.apps vocabulary.now.confs at.now [] (view v.now) }
-    ensures fits { IfOk result (λ pre. FitsPrecondition vocabulary.now.apps vocabulary.now.confs pre) }
-{
-    object(v, at)?;
-    let conf = need(v, "configuration", at)?;
-    let app = need(v, "app", at)?;
-    let variable = need(v, "variable", at)?;
-    let least = need(v, "least", at)?;
-    let greatest = need(v, "greatest", at)?;
-    no_more(v, 5, at)?;
-    let conf = read_conf_id(&vocabulary.confs, conf, &at.member("configuration"))?;
-    let apps = &vocabulary.apps;
-    let interval = read_interval(apps, app, variable, least, greatest, at)?;
-    Ok(Precondition {
-        conf,
-        app: interval.app,
-        variable: interval.variable,
-        least: interval.ends.least,
-        greatest: interval.ends.greatest,
-    })
-}
-
 #[derive(Clone, Copy)]
 struct Intervals<'a> {
     vocabulary: &'a Vocabulary,
@@ -179,7 +127,24 @@ impl Elements<Invariant> for Intervals<'_> {
         v: &Value,
         at: &Path,
     ) -> Result<Invariant, DocError> {
-        Ok(read_invariant(self.vocabulary, v, at)?)
+        object(v, at)?;
+        let from = need(v, "from", at)?;
+        let app = need(v, "app", at)?;
+        let variable = need(v, "variable", at)?;
+        let least = need(v, "least", at)?;
+        let greatest = need(v, "greatest", at)?;
+        no_more(v, 5, at)?;
+        let vocabulary = self.vocabulary;
+        let from = read_source(&vocabulary.confs, from, &at.member("from"))?;
+        let apps = &vocabulary.apps;
+        let interval = read_interval(apps, app, variable, least, greatest, at)?;
+        Ok(Invariant {
+            from,
+            app: interval.app,
+            variable: interval.variable,
+            least: interval.ends.least,
+            greatest: interval.ends.greatest,
+        })
     }
 }
 
@@ -197,7 +162,24 @@ impl Elements<Precondition> for Intervals<'_> {
         v: &Value,
         at: &Path,
     ) -> Result<Precondition, DocError> {
-        Ok(read_precondition(self.vocabulary, v, at)?)
+        object(v, at)?;
+        let conf = need(v, "configuration", at)?;
+        let app = need(v, "app", at)?;
+        let variable = need(v, "variable", at)?;
+        let least = need(v, "least", at)?;
+        let greatest = need(v, "greatest", at)?;
+        no_more(v, 5, at)?;
+        let vocabulary = self.vocabulary;
+        let conf = read_conf_id(&vocabulary.confs, conf, &at.member("configuration"))?;
+        let apps = &vocabulary.apps;
+        let interval = read_interval(apps, app, variable, least, greatest, at)?;
+        Ok(Precondition {
+            conf,
+            app: interval.app,
+            variable: interval.variable,
+            least: interval.ends.least,
+            greatest: interval.ends.greatest,
+        })
     }
 }
 

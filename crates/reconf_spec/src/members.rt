@@ -4,7 +4,6 @@ ghost use Rattle.std.specs.Prelude.{◌≡◌, [], Ok, Some, codes, length, opti
 ghost use Rattle.serde_json.specs.View.{view};
 ghost use Rattle.scram_doc.specs.Chain.{chain, ok_map};
 ghost use Rattle.scram_doc.specs.Members.{needed, no_more_than};
-ghost use Rattle.reconf_spec.specs.Members.{members_at};
 ghost use Rattle.reconf_spec.specs.Found.{AreMembers};
 ghost use Rattle.reconf_spec.specs.Versions.{IsPolicy, is_two_in, members_of, members_tested, policy_tested};
 
@@ -54,7 +53,8 @@ fn find_policy<'a>(document: &'a Value, scram: &Value) -> Result<Option<&'a Valu
     }
 }
 
-fn find_each(document: &Value) -> Result<Members<'_>, DocFault>
+/// The members of an object that has those of its version and no other.
+pub(crate) fn find_members(document: &Value) -> Result<Members<'_>, DocFault>
     ensures tested { ok_map (λ _. tt) result ≡ members_tested (view document.now) }
     ensures document { IfOk result (λ members. members.document.now ≡ document.now) }
     ensures members { IfOk result (λ members. AreMembers members) }
@@ -90,13 +90,4 @@ fn find_each(document: &Value) -> Result<Members<'_>, DocFault>
         assumption,
         policy,
     })
-}
-
-/// The members of an object that has those of its version and no other.
-pub(crate) fn find_members(document: &Value) -> Result<Members<'_>, DocFault>
-    ensures tested { ok_map (λ _. tt) result ≡ members_at (members_of (view document.now)) [] (view document.now) }
-    ensures document { IfOk result (λ members. members.document.now ≡ document.now) }
-    ensures members { IfOk result (λ members. AreMembers members) }
-{
-    find_each(document)
 }

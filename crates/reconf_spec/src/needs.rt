@@ -37,24 +37,6 @@ fn is_needed(needs: &[AppId], app: AppId) -> bool
     needs.iter().any(|needed| needed.0 == app.0)
 }
 
-fn read_need(
-    apps: &Numbered<AppSpec, ByName>,
-    done: &[AppId],
-    v: &Value,
-    at: &Path,
-) -> Result<AppId, DocFault>
-    requires few { length apps.now ≤ 8 }
-    ensures value { result ≡ read_need apps.now at.now done.now (view v.now) }
-    ensures fits { IfOk result (λ need. IsNewNeed apps.now done.now need) }
-{
-    let app = AppId(read_named(apps, rule::UNKNOWN_APPLICATION, v, at)?);
-    if is_needed(done, app) {
-        Err(DocFault::new(rule::TWICE_IN_LIST, at))
-    } else {
-        Ok(app)
-    }
-}
-
 /// Needs, among these applications.
 #[derive(Clone, Copy)]
 struct Needs<'a> {
@@ -77,25 +59,13 @@ impl Elements<AppId> for Needs<'_> {
         v: &Value,
         at: &Path,
     ) -> Result<AppId, DocError> {
-        Ok(read_need(self.apps, done, v, at)?)
+        let app = AppId(read_named(self.apps, rule::UNKNOWN_APPLICATION, v, at)?);
+        if is_needed(done, app) {
+            Err(DocError::from(DocFault::new(rule::TWICE_IN_LIST, at)))
+        } else {
+            Ok(app)
+        }
     }
-}
-
-fn read_needs(
-    alloc: Global,
-    apps: &Numbered<AppSpec, ByName>,
-    v: &Value,
-    at: &Path,
-) -> Result<List<AppId>, DocError>
-    requires room { length at.now ≤ 24 }
-    requires few { length apps.now ≤ 8 }
-    ensures value { Answers (read_needs apps.now at.now [] (view v.now)) (λ l. l) result }
-    ensures fits { IfOk result (λ l. AreNeeds apps.now l) }
-{
-    let needs = need(v, "needs", at)?;
-    let at = at.member("needs");
-    let needs = read_list(alloc, &Needs { apps }, needs, 0, MAX_APPLICATIONS, &at)?;
-    Ok(List::of(needs))
 }
 
 impl Elements<List<AppId>> for Needs<'_> {
@@ -112,7 +82,10 @@ impl Elements<List<AppId>> for Needs<'_> {
         v: &Value,
         at: &Path,
     ) -> Result<List<AppId>, DocError> {
-        read_needs(alloc, self.apps, v, at)
+        let needs = need(v, "needs", at)?;
+        let at = at.member("needs");
+        let needs: Vec<AppId> = read_list(alloc, self, needs, 0, MAX_APPLICATIONS, &at)?;
+        Ok(List::of(needs))
     }
 }
 

@@ -12,8 +12,7 @@ ghost use Rattle.reconf_spec.specs.Found.{AreMembers};
 use crate::members::Members;
 use crate::names::{ByName, read_new_name};
 use scram_doc::{
-    DocError, DocFault, NamedElements, Numbered, Path, need, no_more, object, read_named_list,
-    whole_in,
+    DocError, NamedElements, Numbered, Path, need, no_more, object, read_named_list, whole_in,
 };
 use scram_types::Proc;
 use scram_types::limits::{MAX_LOAD, MAX_PROCESSORS};
@@ -38,22 +37,14 @@ impl NamedElements<Proc, ByName> for Procs {
         v: &Value,
         at: &Path,
     ) -> Result<Proc, DocError> {
-        Ok(read_proc(done, v, at)?)
+        object(v, at)?;
+        let name = need(v, "name", at)?;
+        let capacity = need(v, "capacity", at)?;
+        no_more(v, 2, at)?;
+        let name = read_new_name(done, name, &at.member("name"))?;
+        let capacity = whole_in(capacity, 0, MAX_LOAD + 1, &at.member("capacity"))?;
+        Ok(Proc { name, capacity })
     }
-}
-
-fn read_proc(done: &Numbered<Proc, ByName>, v: &Value, at: &Path) -> Result<Proc, DocFault>
-    requires room { length at.now ≤ 40 }
-    ensures value { result ≡ read_proc at.now done.now (view v.now) }
-    ensures fits { IfOk result (λ proc. IsNewProc done.now proc) }
-{
-    object(v, at)?;
-    let name = need(v, "name", at)?;
-    let capacity = need(v, "capacity", at)?;
-    no_more(v, 2, at)?;
-    let name = read_new_name(done, name, &at.member("name"))?;
-    let capacity = whole_in(capacity, 0, MAX_LOAD + 1, &at.member("capacity"))?;
-    Ok(Proc { name, capacity })
 }
 
 /// The processors of a document, 1 to 8 of them.

@@ -22,12 +22,10 @@ use crate::processors::read_procs;
 use crate::vocabulary::Vocabulary;
 use crate::{SpecError, rule};
 use scram_doc::{DocError, DocFault, Numbered, Path, parse};
+use scram_types::limits::MAX_SPECIFICATION_BYTES;
 use scram_types::{AppSpec, Proc, Spec};
 use serde_json::Value;
 use std::alloc::Global;
-
-/// The longest document, in bytes.
-const MAX_BYTES: usize = 1_048_576;
 
 /// The configurations and factors, beside the processors and applications.
 fn read_more_names(
@@ -84,7 +82,7 @@ pub fn read_spec(alloc: Global, bytes: &[u8]) -> Result<Spec, SpecError>
     ensures cycle { IfErr result (λ error. ShowsCycle (unranked_of bytes.now) error) }
     ensures writable { IfOk result IsWritable }
 {
-    if bytes.len() > MAX_BYTES {
+    if bytes.len() > MAX_SPECIFICATION_BYTES {
         return Err(SpecError::from(DocFault::new(rule::TOO_LONG, &Path::root())));
     }
     let document = parse(alloc, bytes)?;

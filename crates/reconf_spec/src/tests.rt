@@ -4,6 +4,7 @@
 use crate::{SpecError, read_spec, write_spec};
 use scram_doc::Path;
 use scram_types::NoMemory;
+use scram_types::limits::MAX_SPECIFICATION_BYTES;
 use std::alloc::Global;
 use std::rt::HostRuntime;
 use std::test::Fail;
@@ -32,58 +33,40 @@ fn refusal(alloc: Global, bytes: &[u8]) -> Result<(u8, Path), NoMemory> {
     }
 }
 
-/// So many of a byte.
-fn repeated(alloc: Global, byte: u8, count: usize) -> Result<Vec<u8>, NoMemory> {
+/// So many opening brackets, and then closing ones up to this length.
+fn brackets(alloc: Global, open: usize, length: usize) -> Result<Vec<u8>, NoMemory> {
     let mut bytes = Vec::new(alloc);
-    bytes.resize(count, byte)?;
-    Ok(bytes)
-}
-
-/// An array in an array and so on, so many of them.
-fn nested(alloc: Global, levels: usize) -> Result<Vec<u8>, NoMemory> {
-    let mut bytes = repeated(alloc, b'[', levels)?;
-    for _level in 0..levels {
-        bytes.push(b']')?;
-    }
+    bytes.resize(open, b'[')?;
+    bytes.resize(length, b']')?;
     Ok(bytes)
 }
 
 #[test]
 fn deep_texts(rt: HostRuntime) -> Result<(), Fail> {
     let alloc = rt.alloc();
-    assert_eq!(rt; refusal(alloc, &nested(alloc, 100)?)?.0, 2);
-    assert_eq!(rt; refusal(alloc, &nested(alloc, 127)?)?.0, 2);
-    assert_eq!(rt; refusal(alloc, &nested(alloc, 128)?)?.0, 1);
-    assert_eq!(rt; refusal(alloc, &nested(alloc, 200)?)?.0, 1);
-    assert_eq!(rt; refusal(alloc, &repeated(alloc, b'[', 1_048_576)?)?.0, 1);
+    assert_eq!(rt; refusal(alloc, &brackets(alloc, 100, 200)?)?.0, 2);
+    assert_eq!(rt; refusal(alloc, &brackets(alloc, 127, 254)?)?.0, 2);
+    assert_eq!(rt; refusal(alloc, &brackets(alloc, 128, 256)?)?.0, 1);
+    assert_eq!(rt; refusal(alloc, &brackets(alloc, 200, 400)?)?.0, 1);
+    assert_eq!(rt;
+        refusal(alloc, &brackets(alloc, MAX_SPECIFICATION_BYTES, MAX_SPECIFICATION_BYTES)?)?.0,
+        1
+    );
     Ok(())
 }
 
 #[test]
-fn a_text_that_is_not_utf8(rt: HostRuntime) -> Result<(), Fail> {
+fn a_byte_before_it_and_cuts_are_no_json_text(rt: HostRuntime) -> Result<(), Fail> {
     let alloc = rt.alloc();
-    let mut bytes = repeated(alloc, 255, 1)?;
-    bytes.extend_from_slice(EXAMPLE.as_bytes())?;
+    let text = EXAMPLE.as_bytes();
+    let mut bytes = Vec::from_slice(alloc, &[255])?;
+    bytes.extend_from_slice(text)?;
     let (rule, path) = refusal(alloc, &bytes)?;
     assert_eq!(rt; (rule, path.as_str()), (1, "."));
-    Ok(())
-}
-
-/// The first cut of the example, from no byte on, that is not refused as no JSON text.
-fn first_wrong_cut(alloc: Global) -> Result<Option<usize>, NoMemory> {
-    let bytes = EXAMPLE.as_bytes();
-    for end in 0..bytes.len() {
-        let (rule, path) = refusal(alloc, &bytes[..end])?;
-        if rule != 1 || path.as_str() != "." {
-            return Ok(Some(end));
-        }
+    for end in 0..text.len() {
+        let (rule, path) = refusal(alloc, &text[..end])?;
+        assert_eq!(rt; (rule, path.as_str()), (1, "."), "cut at {end}");
     }
-    Ok(None)
-}
-
-#[test]
-fn cuts_are_no_json_text(rt: HostRuntime) -> Result<(), Fail> {
-    assert_eq!(rt; first_wrong_cut(rt.alloc())?, None);
     Ok(())
 }
 

@@ -1,21 +1,10 @@
 //! The names of what the items of a specification refer to.
 
 ghost use Rattle.std.specs.Prelude.{◌≡◌};
-ghost use Rattle.reconf_spec.specs.Texts.{name_of_app_mode, name_of_item, name_of_kind, name_of_mode, name_of_value, name_of_variable, source_name};
-ghost use Rattle.reconf_spec.specs.Applications.{name_of_app};
+ghost use Rattle.reconf_spec.specs.Texts.{name_of_app_mode, name_of_value, name_of_variable, source_name};
 
-use app_model::{kind_name, mode_name, variable_name};
-use scram_types::{AppId, AppSpec, ConfId, KindId, Mode, Spec, Want};
-
-/// The name of an application; no bytes where it does not exist.
-pub(crate) fn name_of_app(apps: &[AppSpec], app: usize) -> &str
-    ensures { result.now ≡ name_of_item name_of_app apps.now app }
-{
-    match apps.get(app) {
-        Some(app) => app.name.as_str(),
-        None => "",
-    }
-}
+use app_model::{mode_name, variable_name};
+use scram_types::{AppId, AppSpec, ConfId, Mode, Spec, Want};
 
 /// The name of a configuration, or `*` for any.
 pub(crate) fn source_name(spec: &Spec, from: Option<ConfId>) -> &str
@@ -37,30 +26,15 @@ pub(crate) fn name_of_value(spec: &Spec, want: Want) -> &str
     }
 }
 
-pub(crate) fn name_of_kind(kind: KindId) -> &'static str
-    ensures { result.now ≡ name_of_kind kind.0 }
-{
-    match kind_name(kind) {
-        Some(name) => name,
-        None => "",
-    }
-}
-
-pub(crate) fn name_of_mode(kind: KindId, mode: Mode) -> &'static str
-    ensures { result.now ≡ name_of_mode kind.0 mode.0 }
-{
-    match mode_name(kind, mode) {
-        Some(name) => name,
-        None => "",
-    }
-}
-
 /// The name of a mode of an application's kind.
-pub(crate) fn name_of_app_mode(apps: &[AppSpec], app: usize, mode: Mode) -> &'static str
-    ensures { result.now ≡ name_of_app_mode apps.now app mode.0 }
+pub(crate) fn name_of_app_mode(apps: &[AppSpec], app: AppId, mode: Mode) -> &'static str
+    ensures { result.now ≡ name_of_app_mode apps.now app.0 mode.0 }
 {
-    match apps.get(app) {
-        Some(app) => name_of_mode(app.kind, mode),
+    match apps.get(usize::from(app.0)) {
+        Some(app) => match mode_name(app.kind, mode) {
+            Some(name) => name,
+            None => "",
+        },
         None => "",
     }
 }

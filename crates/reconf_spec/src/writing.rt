@@ -7,12 +7,9 @@ ghost use Rattle.serde_json.specs.View.{members_view, view};
 ghost use Rattle.reconf_spec.specs.Documents.{spec_of};
 ghost use Rattle.reconf_spec.specs.Writable.{IsWritable};
 ghost use Rattle.reconf_spec.specs.Texts.{app_data, assumption_data, bound_data, choice_data, conf_data, factor_data, goal_data, invariant_data, mode_data, need_data, place_data, places_data, precondition_data, proc_data, spec_data, spec_text, up_data, want_data, with_limits, with_named, with_table, with_version};
-ghost use Rattle.scram_doc.specs.Canonical.{list_data};
 
-use crate::values::{
-    name_of_app, name_of_app_mode, name_of_kind, name_of_mode, name_of_value, name_of_variable,
-    source_name,
-};
+use crate::values::{name_of_app_mode, name_of_value, name_of_variable, source_name};
+use app_model::{kind_name, mode_name};
 use scram_doc::{Writes, put_list, write_list};
 use scram_types::bits::has_bit;
 use scram_types::{
@@ -47,7 +44,7 @@ impl Writes<ModeSpec> for ModeWriter {
     ghost written = { λ w. mode_data w.kind.0 };
 
     fn value(&self, alloc: Global, listed: &ModeSpec) -> Result<Value, AllocError> {
-        let mode = name_of_mode(self.kind, listed.mode);
+        let mode = mode_name(self.kind, listed.mode).unwrap_or("");
         json!(in alloc; {
             "halt": listed.halt,
             "init": listed.init,
@@ -72,7 +69,7 @@ impl Writes<AppSpec> for Writer<'_> {
     ghost written = { λ w. app_data w.spec.now.apps };
 
     fn value(&self, alloc: Global, app: &AppSpec) -> Result<Value, AllocError> {
-        let kind = name_of_kind(app.kind);
+        let kind = kind_name(app.kind).unwrap_or("");
         let modes = write_list(alloc, &ModeWriter { kind: app.kind }, app.modes.items())?;
         let name = app.name.as_str();
         let needs = write_list(alloc, self, app.needs.items())?;
@@ -80,12 +77,11 @@ impl Writes<AppSpec> for Writer<'_> {
     }
 }
 
-fn make_place(alloc: Global, spec: &Spec, app: usize, place: &Place) -> Result<Value, AllocError>
-    ensures { IfOk result (λ v. view v ≡ place_data spec.now app place.now) }
+fn make_place(alloc: Global, spec: &Spec, app: AppId, place: &Place) -> Result<Value, AllocError>
+    ensures { IfOk result (λ v. view v ≡ place_data spec.now app.0 place.now) }
 {
-    let apps = spec.apps.items();
-    let name = name_of_app(apps, app);
-    let mode = name_of_app_mode(apps, app, place.mode);
+    let name = spec.app_name(app);
+    let mode = name_of_app_mode(spec.apps.items(), app, place.mode);
     let on = spec.proc_name(place.proc);
     json!(in alloc; {"app": name, "mode": mode, "on": on})
 }
@@ -93,14 +89,14 @@ fn make_place(alloc: Global, spec: &Spec, app: usize, place: &Place) -> Result<V
 fn make_places(
     alloc: Global,
     spec: &Spec,
-    places: &[Option<Place>],
+    places: &[Option<Place>; 8],
 ) -> Result<Vec<Value>, AllocError>
     ensures { IfOk result (λ vs. map view vs.items ≡ places_data spec.now 0 places.now) }
 {
     let mut values = Vec::new(alloc);
     for (app, place) in places.iter().enumerate() {
         if let Some(place) = place {
-            let value = make_place(alloc, spec, app, place)?;
+            let value = make_place(alloc, spec, AppId(app as u8), place)?;
             serde_json::push(&mut values, value)?;
         }
     }

@@ -1,4 +1,5 @@
 use Rattle.std.proofs.Common.{◌≡◌, ◌≤◌, length, subst, sym}
+use Rattle.scram_types.specs.declared.limits.TheConstants.{MAX_SPECIFICATION_BYTES}
 use Rattle.scram_types.specs.Specification.{IsSpec}
 use Rattle.reconf_spec.specs.Texts.{spec_text}
 use Rattle.reconf_spec.proofs.Plain.{spec_depth, spec_no_float}
@@ -20,4 +21,4 @@ returns-in-Ok-to_vec-clause-back c =
     let text : c.in-Ok-to_vec.text.items ≡ spec_text c.args.spec.now =
     written_text _ _ _ c.in-Ok.ensures (spec_no_float c.args.spec.now) c.in-Ok-to_vec.ensures.text in
     λ writable. text_back c.args.spec.now c.in-Ok-to_vec.text.items is c.in-Ok-to_vec.ensures.utf8 value writable
-    (subst (λ bytes. length bytes ≤ 1048576) (sym text) (spec_text_short c.args.spec.now is))
+    (subst (λ bytes. length bytes ≤ MAX_SPECIFICATION_BYTES) (sym text) (spec_text_short c.args.spec.now is))

@@ -2,7 +2,7 @@ use Rattle.std.proofs.Common.{◌≡◌, ◌<◌, ◌^◌, length, drop}
 use Rattle.serde_json.specs.View.{items_view}
 use Rattle.scram_doc.specs.Lists.{folded_from}
 use Rattle.reconf_spec.specs.Choices.{read_up}
-use Rattle.reconf_spec.proofs.choices.read_ups.Given as goal
+use Rattle.reconf_spec.proofs.choices.read_up_list.Given as goal
 
 abbrev pub invariant-loop-i : goal.invariant-loop-i
 invariant-loop-i l =

@@ -1,4 +1,4 @@
-use Rattle.reconf_spec.proofs.applications.read_app.Goals as goal
+use Rattle.reconf_spec.proofs.applications.AppsNamedElementsAppSpecByName.read.Goals as goal
 
 pub returns-clause-fits : goal.returns-clause-fits
 returns-clause-fits c = rw (c.of-2.ensures) (record {
