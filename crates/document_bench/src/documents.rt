@@ -2,12 +2,14 @@
 
 ghost use Rattle.std.specs.Prelude.{◌≡◌, ◌∷◌, [], IfOk, OnOk};
 ghost use Rattle.scram_io.specs.Outside.{Grew};
-ghost use Rattle.document_bench.specs.Documents.{IsPrinted, IsRead, texts};
+ghost use Rattle.document_bench.specs.Documents.{IsPrinted, IsRead};
 
-use fault_script::{MAX_SCRIPT_BYTES, ScriptError, read_script, write_script};
-use reconf_spec::{SpecError, read_spec, write_spec};
+use fault_script::{ScriptError, read_script};
+use mission_gen::write_mission;
+use reconf_spec::{SpecError, read_spec};
 use scram_doc::Path;
 use scram_io::{Files, ReadFault, Sink, SinkFault};
+use scram_types::limits::MAX_SCRIPT_BYTES;
 use scram_types::{NoMemory, Script, Spec};
 use std::alloc::Global;
 use thiserror::Error;
@@ -74,22 +76,10 @@ pub fn print<'a, K: Sink>(
 {
     let (spec, script) = read(alloc, spec, script)?;
     for _ in 1..times {
-        write(alloc, &spec, &script)?;
+        write_mission(alloc, &spec, &script)?;
     }
-    let text = write(alloc, &spec, &script)?;
+    let text = write_mission(alloc, &spec, &script)?;
     out.put(&text)?;
     out.flush()?;
     Ok(())
-}
-
-/// The canonical texts of both documents, a line each.
-fn write(alloc: Global, spec: &Spec, script: &Script) -> Result<Vec<u8>, NoMemory>
-    ensures { IfOk result (λ text. text.items ≡ texts spec.now script.now) }
-{
-    let mut text = write_spec(alloc, spec)?;
-    text.push(b'\n')?;
-    let line = write_script(alloc, script, spec)?;
-    text.extend_from_slice(&line)?;
-    text.push(b'\n')?;
-    Ok(text)
 }

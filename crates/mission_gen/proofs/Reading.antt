@@ -16,6 +16,7 @@ use Rattle.json.specs.Word.{word, after_number}
 use Rattle.fast_float.specs.Text.{scan}
 use Rattle.serde_json.specs.Data.{Data}
 use Rattle.serde_json.specs.Read.{read, number_of}
+use Rattle.scram_types.specs.declared.limits.TheConstants.{MAX_SPECIFICATION_BYTES}
 use Rattle.scram_types.specs.declared.specification.Factor.{Factor}
 use Rattle.scram_types.specs.Specification.{Parts}
 use Rattle.scram_types.proofs.Booleans.{and_right, and_left}
@@ -53,7 +54,7 @@ unfolding generated_text value lex punctuate content word after_number number_of
 generated_reads = refl
 
 abbrev is_plain : List ℕ → Bool
-is_plain text = list_all (λ (b : ℕ). nat_lt b 128) text && nat_le (length text) 1048576
+is_plain text = list_all (λ (b : ℕ). nat_lt b 128) text && nat_le (length text) MAX_SPECIFICATION_BYTES
 
 uav_is_plain : is_plain uav_text ≡ true
 unfolding uav_text

@@ -17,6 +17,7 @@ use Rattle.fault_script.specs.Assumption.{IsWithin, changes_upto, down_below, is
 use Rattle.fault_script.specs.Environments.{env_at}
 use Rattle.fault_script.specs.Times.{factors_at, is_up, value_after}
 use Rattle.fault_script.proofs.Halts.{up_by_lists}
+use Rattle.fault_script.proofs.Walking.{six_same}
 use Rattle.mission_gen.specs.Blocks.{alternator, delay, first_frame, random, turns_both}
 use Rattle.mission_gen.specs.Changes.{changes_by, changes_of, frames_of, generated_script, last_block, value_by, values_by, generated_halt}
 use Rattle.mission_gen.specs.Turns.{Turn, turn, turns_in, turns_to}
@@ -93,10 +94,6 @@ value_kept values (t ∷ ts) x f v none =
     ap (λ (seen : Bool). value_after (changes_by (values_by values t) ts) x f (if t.factor == x && seen then value_by values t else v)) alike
     ∙ value_kept (values_by values t) ts x f (if t.factor == x && nat_le t.frame (suc f) then value_by values t else v)
     (no_right (t.frame == suc f) (turns_at (suc f) ts) none)
-
-six_same : (a b c d e f g h i j k l : ℕ) → a ≡ g → b ≡ h → c ≡ i → d ≡ j → e ≡ k → f ≡ l
-    → ◌≡◌ {A = List ℕ} (a ∷ b ∷ c ∷ d ∷ e ∷ f ∷ []) (g ∷ h ∷ i ∷ j ∷ k ∷ l ∷ [])
-six_same a b c d e f g h i j k l p q r s t u = rw (p, q, r, s, t, u) refl
 
 -- A script with one halt and no restart.
 

@@ -1,6 +1,7 @@
 -- The generator's random numbers, and what each says of its block of sixty frames.
 use Rattle.std.specs.Prelude.{ℕ, zero, suc, ◌+◌, ◌*◌, ◌/◌, ◌%◌, ◌^◌, Bool, nat_le}
 
+-- The random number after x.
 abbrev pub next_random : ℕ → ℕ
 next_random x = (1103515245 * x + 12345) % 2 ^ 31
 

@@ -18,6 +18,7 @@ next_value factor value = (value + 1) % count_of_values factor
 abbrev pub value_by : List ℕ → Turn → ℕ
 value_by values turn = next_value turn.factor (slice_index values turn.factor)
 
+-- The change that a turn makes, where the factors have these values.
 abbrev pub change_by : List ℕ → Turn → Change
 change_by values turn = record { frame = turn.frame; factor = record { 0 = turn.factor }; value = value_by values turn }
 
@@ -25,6 +26,7 @@ change_by values turn = record { frame = turn.frame; factor = record { 0 = turn.
 abbrev pub values_by : List ℕ → Turn → List ℕ
 values_by values turn = set values turn.factor (value_by values turn)
 
+-- The changes that turns make one after another, where the factors have these values before them.
 abbrev pub changes_by : List ℕ → List Turn → List Change
 changes_by values [] = []
 changes_by values (turn ∷ turns) = change_by values turn ∷ changes_by (values_by values turn) turns
@@ -50,6 +52,7 @@ changes_of n frames = changes_by (replicate 6 0) (turns_to n (last_block frames)
 abbrev pub generated_halt : ℕ → HaltAt
 generated_halt n = record { proc = record { 0 = n % 2 }; frame = first_frame 5 (random n 5); step = random n 5 % 26 }
 
+-- The script of mission n.
 abbrev pub generated_script : ℕ → ScriptParts
 generated_script n = record {
   frames = frames_of n;

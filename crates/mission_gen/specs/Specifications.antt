@@ -1,8 +1,11 @@
--- The texts of the specifications, and what texts give.
+-- The texts of the specifications and of missions, and what texts give.
 use Rattle.std.specs.Prelude.{◌≡◌, ℕ, List, [], ◌∷◌, ◌++◌, Ok, codes}
 use Rattle.scram_types.specs.declared.specification.Factor.{Factor}
+use Rattle.scram_types.specs.Scripts.{ScriptParts}
 use Rattle.scram_types.specs.Specification.{Parts}
+use Rattle.fault_script.specs.Texts.{script_text}
 use Rattle.reconf_spec.specs.Documents.{spec_of}
+use Rattle.reconf_spec.specs.Texts.{spec_text}
 use Rattle.mission_gen.specs.declared.texts.TheConstants.{GENERATED, UAV}
 
 -- the aircraft with two alternators and two computers
@@ -12,6 +15,10 @@ uav_text = UAV.now
 -- the same aircraft with four further factors
 unfoldable pub generated_text : List ℕ
 generated_text = GENERATED.now
+
+-- the canonical texts of a specification and of a script, a line each
+abbrev pub mission_text : Parts → ScriptParts → List ℕ
+mission_text spec script = spec_text spec ++ codes "\n" ++ script_text spec script ++ codes "\n"
 
 -- The text is that of a specification.
 pub record GivesSpecification (text : List ℕ) : Type 0 where

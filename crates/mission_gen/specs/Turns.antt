@@ -7,6 +7,7 @@ pub record Turn : Type 0 where
   pub frame : ℕ
   pub factor : ℕ
 
+-- The turn of a factor in a frame.
 abbrev pub turn : ℕ → ℕ → Turn
 turn frame factor = record { frame = frame; factor = factor }
 
@@ -14,6 +15,7 @@ turn frame factor = record { frame = frame; factor = factor }
 abbrev pub aux_turns : ℕ → ℕ → List Turn
 aux_turns k frame = if k % 3 == 0 then turn frame (2 + (k / 3) % 4) ∷ [] else []
 
+-- Where a block turns both alternators, the second one turns after a delay.
 abbrev pub other_turns : ℕ → ℕ → List Turn
 other_turns frame x = if turns_both x then turn (frame + delay x) (1 - alternator x) ∷ [] else []
 

@@ -1,5 +1,5 @@
 //! Missions made from a number: one specification for all of them, and a script that follows from the number alone,
-//! fits that specification and keeps to its failure assumption.
+//! fits that specification and keeps to its failure assumption. Any mission is written as its two canonical texts.
 #![tactic(auto)]
 
 mod missions;
@@ -9,4 +9,4 @@ mod tests;
 mod texts;
 mod walks;
 
-pub use missions::{generate, uav};
+pub use missions::{generate, uav, write_mission};

@@ -7,12 +7,13 @@ ghost use Rattle.fault_script.specs.Fits.{Fits};
 ghost use Rattle.reconf_spec.specs.Documents.{spec_of};
 ghost use Rattle.reconf_spec.specs.Texts.{spec_text};
 ghost use Rattle.mission_gen.specs.Changes.{frames_of, generated_script, generated_halt};
-ghost use Rattle.mission_gen.specs.Specifications.{GivesSpecification, generated_text, uav_text, with_further_factors};
+ghost use Rattle.mission_gen.specs.Specifications.{GivesSpecification, generated_text, mission_text, uav_text, with_further_factors};
 
 use crate::random::{first_frame, random};
 use crate::texts;
 use crate::walks::make_changes;
-use reconf_spec::{SpecError, read_spec};
+use fault_script::write_script;
+use reconf_spec::{SpecError, read_spec, write_spec};
 use scram_types::{HaltAt, List, NoMemory, ProcId, Script, Spec};
 use std::alloc::Global;
 
@@ -91,4 +92,20 @@ pub fn generate(alloc: Global, n: u32) -> Result<(Spec, Script), NoMemory>
     let spec = read_text(alloc, texts::generated())?;
     let script = make_script(alloc, n)?;
     Ok((spec, script))
+}
+
+/// The canonical texts of a specification and of a script for it, a line each.
+///
+/// # Errors
+///
+/// Want of memory.
+pub fn write_mission(alloc: Global, spec: &Spec, script: &Script) -> Result<Vec<u8>, NoMemory>
+    ensures { IfOk result (λ text. text.items ≡ mission_text spec.now script.now) }
+{
+    let mut text = write_spec(alloc, spec)?;
+    text.push(b'\n')?;
+    let line = write_script(alloc, script, spec)?;
+    text.extend_from_slice(&line)?;
+    text.push(b'\n')?;
+    Ok(text)
 }

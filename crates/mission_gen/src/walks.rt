@@ -1,6 +1,7 @@
 //! The changes of a generated script, block after block.
 
 ghost use Rattle.std.specs.Prelude.{◌≡◌, ◌<◌, ◌≤◌, ◌∷◌, [], IfOk, OnOk};
+ghost use Rattle.scram_types.specs.declared.limits.TheConstants.{MAX_FRAMES};
 ghost use Rattle.mission_gen.specs.Blocks.{first_frame, next_random, turns_both};
 ghost use Rattle.mission_gen.specs.Changes.{changes_of, last_block, next_value};
 ghost use Rattle.mission_gen.specs.Turns.{aux_turns, other_turns, turn, turns_in};
@@ -91,7 +92,7 @@ fn add_block(walk: &mut Walk, k: u32) -> Result<(), NoMemory>
 
 /// The changes of a script of so many frames.
 pub(crate) fn make_changes(alloc: Global, n: u32, frames: u32) -> Result<Vec<Change>, NoMemory>
-    requires { frames ≤ 20000 }
+    requires { frames ≤ MAX_FRAMES }
     ensures { IfOk result (λ changes. changes.items ≡ changes_of n frames) }
 {
     let mut walk = Walk {
@@ -107,7 +108,7 @@ pub(crate) fn make_changes(alloc: Global, n: u32, frames: u32) -> Result<Vec<Cha
 
 /// The last block that a script of so many frames has: the twentieth frame after its first is none after the end.
 fn last_block(frames: u32) -> u32
-    requires { frames ≤ 20000 }
+    requires { frames ≤ MAX_FRAMES }
     ensures value { result ≡ last_block frames }
     ensures most { result ≤ 333 }
 {
