@@ -1,0 +1,11 @@
+pub mod Bits
+pub mod Holds
+pub mod Closed
+pub mod Meeting
+pub mod Scopes
+pub mod LeastDigits
+pub mod Unions
+pub mod Tests
+pub mod Splitting
+pub mod Marking
+pub mod Targets

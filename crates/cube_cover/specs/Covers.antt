@@ -1,0 +1,50 @@
+-- What a configuration's choices come to over all environments in scope.
+use Rattle.std.specs.Prelude.{◌≡◌, ◌^◌, ◌<◌, ◌≤◌, Bool, true, false, not, ◌==◌, nat_le, length, Option, Some, None, if◌then◌else◌}
+use Rattle.scram_types.specs.declared.ids.ConfId.{ConfId}
+use Rattle.scram_types.specs.declared.flights.Env.{Env}
+use Rattle.scram_types.specs.Bits.{has_bit}
+use Rattle.scram_types.specs.Specification.{Parts}
+use Rattle.choice_table.specs.Environments.{IsEnv, in_scope}
+use Rattle.choice_table.specs.Choices.{IsTarget, choose, has_rule, is_runnable}
+use Rattle.choice_table.specs.Numbering.{number_of}
+use Rattle.cube_cover.specs.declared.answers.Cover.{Cover}
+
+-- It passes a test, is in scope, and no other such environment has a lesser number.
+pub record IsLeast (spec : Parts) (test : Env → Bool) (found : Env) : Type 0 where
+  pub belongs : IsEnv spec found
+  pub scope : in_scope spec found ≡ true
+  pub passes : test found ≡ true
+  pub least : (v : Env) → IsEnv spec v → in_scope spec v ≡ true → test v ≡ true → number_of spec found ≤ number_of spec v
+
+-- The environment in scope with the least number that passes a test, and none exactly where none passes it.
+abbrev pub IsLeastEnv : Parts → (Env → Bool) → Option Env → Type 0
+IsLeastEnv spec test (Some found) = IsLeast spec test found
+IsLeastEnv spec test None = (v : Env) → IsEnv spec v → in_scope spec v ≡ true → test v ≡ false
+
+-- Of two environments the one with the lesser number.
+abbrev pub earlier : Parts → Option Env → Option Env → Option Env
+earlier spec None None = None
+earlier spec (Some v) None = Some v
+earlier spec None (Some w) = Some w
+earlier spec (Some v) (Some w) = if nat_le (number_of spec v) (number_of spec w) then Some v else Some w
+
+-- No rule fits configuration i.
+abbrev pub is_unfit : Parts → ConfId → Env → Bool
+is_unfit spec i v = not (has_rule spec i v)
+
+-- What is chosen from configuration i cannot run.
+abbrev pub cannot_run : Parts → ConfId → Env → Bool
+cannot_run spec i v = not (is_runnable spec (choose spec i v) v)
+
+-- From what is chosen from configuration i another configuration is chosen.
+abbrev pub is_left_again : Parts → ConfId → Env → Bool
+is_left_again spec i v = not ((choose spec (choose spec i v) v).0 == (choose spec i v).0)
+
+-- Its possible targets and no others, and the least environments that break a demand on the table there.
+pub record IsCover (spec : Parts) (i : ConfId) (cover : Cover) : Type 0 where
+  pub few : cover.targets < 2 ^ length spec.confs
+  pub only : (j : ConfId) → has_bit cover.targets j.0 ≡ true → IsTarget spec i j
+  pub all : (j : ConfId) → IsTarget spec i j → has_bit cover.targets j.0 ≡ true
+  pub unfit : IsLeastEnv spec (is_unfit spec i) cover.unfit
+  pub not_runnable : IsLeastEnv spec (cannot_run spec i) cover.not_runnable
+  pub unsettled : IsLeastEnv spec (is_left_again spec i) cover.unsettled

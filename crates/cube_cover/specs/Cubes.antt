@@ -1,0 +1,64 @@
+-- Cubes of environments, and what they hold.
+use Rattle.std.specs.Prelude.{◌≡◌, ℕ, ◌+◌, ◌-◌, ◌*◌, ◌^◌, ◌<◌, ◌≤◌, Bool, true, not, ◌&&◌, ◌||◌, ◌==◌, nat_lt, List, length, if◌then◌else◌}
+use Rattle.std.specs.List.{list_any}
+use Rattle.scram_types.specs.declared.flights.Env.{Env}
+use Rattle.scram_types.specs.Specification.{Parts}
+use Rattle.scram_types.specs.Bits.{has_bit}
+use Rattle.scram_types.specs.Searches.{all_below}
+use Rattle.choice_table.specs.Environments.{IsEnv, factor_in, in_scope, is_up_in}
+use Rattle.choice_table.specs.Numbering.{value_count}
+use Rattle.cube_cover.specs.declared.cubes.Cube.{Cube}
+
+-- The digit of an environment at a place: places 0 to 5 are the factors, with their values; place 6 + p is processor p,
+-- with 0 where it is up and 1 where it is down.
+unfoldable pub digit_in : Env → ℕ → ℕ
+digit_in v x = if nat_lt x 6 then factor_in v x else (if is_up_in v (x - 6) then 0 else 1)
+
+-- An environment of some specification of at most six factors of at most four values, and eight processors.
+pub record HasDigits (v : Env) : Type 0 where
+  pub small : (x : ℕ) → digit_in v x < 4
+  pub past : (x : ℕ) → 6 ≤ x → factor_in v x ≡ 0
+  pub few : v.up < 256
+
+-- The environment's digit at place x is open.
+abbrev pub allows : Cube → Env → ℕ → Bool
+allows cube v x = has_bit cube.bits (4 * x + digit_in v x)
+
+-- The cube holds the environment: its digit is open at each place.
+unfoldable pub holds : Cube → Env → Bool
+holds cube v = all_below (allows cube v) 14
+
+-- Processor p may be up: digit 0 is open at its place.
+abbrev pub may_be_up : Cube → ℕ → Bool
+may_be_up cube p = has_bit cube.bits (4 * (6 + p) + 0)
+
+-- One of the cubes holds the environment.
+unfoldable pub is_in : List Cube → Env → Bool
+is_in cubes v = list_any (λ (cube : Cube). holds cube v) cubes
+
+-- An environment can have digit d at place x.
+unfoldable pub is_digit : Parts → ℕ → ℕ → Bool
+is_digit spec x d =
+    if nat_lt x 6 then (d == 0 || nat_lt d (value_count spec.factors x)) else (d == 1 || (d == 0 && nat_lt x (length spec.procs + 6)))
+
+-- The bits of all digits at place x.
+unfoldable pub field_of : ℕ → ℕ
+field_of x = 15 * 2 ^ (4 * x)
+
+-- An environment of the specification that is in scope.
+pub record IsInScope (spec : Parts) (v : Env) : Type 0 where
+  pub belongs : IsEnv spec v
+  pub scope : in_scope spec v ≡ true
+
+-- Two tests agree on each environment in scope.
+abbrev pub Agree : Parts → (Env → Bool) → (Env → Bool) → Type 0
+Agree spec one other = (v : Env) → IsInScope spec v → one v ≡ other v
+
+-- In scope, cubes came to hold what they held, and what passes a test.
+abbrev pub Gain : Parts → List Cube → List Cube → (Env → Bool) → Type 0
+Gain spec before after test = Agree spec (is_in after) (λ v. is_in before v || test v)
+
+-- In scope, two lists hold what lies inside and outside of a cube.
+pub record IsSplit (spec : Parts) (cubes : List Cube) (by : Cube) (inside outside : List Cube) : Type 0 where
+  pub within : Agree spec (is_in inside) (λ v. is_in cubes v && holds by v)
+  pub beyond : Agree spec (is_in outside) (λ v. is_in cubes v && not (holds by v))

@@ -1,0 +1,27 @@
+-- What a target comes to where it is chosen.
+use Rattle.std.specs.Prelude.{◌≡◌, ℕ, Bool, true, not, ◌&&◌, ◌==◌}
+use Rattle.scram_types.specs.declared.ids.ConfId.{ConfId}
+use Rattle.scram_types.specs.declared.flights.Env.{Env}
+use Rattle.scram_types.specs.Lookups.{conf_id}
+use Rattle.scram_types.specs.Specification.{Parts}
+use Rattle.choice_table.specs.Choices.{IsTarget, choose, is_runnable}
+use Rattle.cube_cover.specs.declared.covers.Finding.{Finding}
+use Rattle.cube_cover.specs.Covers.{IsLeastEnv}
+
+-- Configuration number t is chosen from i.
+abbrev pub is_chosen_at : Parts → ConfId → ℕ → Env → Bool
+is_chosen_at spec i t v = (choose spec i v).0 == t
+
+-- It is chosen and cannot run.
+abbrev pub is_stuck_at : Parts → ConfId → ℕ → Env → Bool
+is_stuck_at spec i t v = is_chosen_at spec i t v && not (is_runnable spec (conf_id t) v)
+
+-- It is chosen, and another target is chosen from it.
+abbrev pub is_left_at : Parts → ConfId → ℕ → Env → Bool
+is_left_at spec i t v = is_chosen_at spec i t v && not ((choose spec (conf_id t) v).0 == t)
+
+pub record IsFinding (spec : Parts) (i : ConfId) (t : ℕ) (finding : Finding) : Type 0 where
+  pub only : finding.is_chosen ≡ true → IsTarget spec i (conf_id t)
+  pub all : IsTarget spec i (conf_id t) → finding.is_chosen ≡ true
+  pub not_runnable : IsLeastEnv spec (is_stuck_at spec i t) finding.not_runnable
+  pub unsettled : IsLeastEnv spec (is_left_at spec i t) finding.unsettled

@@ -1,0 +1,25 @@
+-- The environment whose digits are the least that a cube has open.
+use Rattle.std.specs.Prelude.{ℕ, ◌+◌, ◌*◌, Bool, [], ◌∷◌, length, if◌then◌else◌}
+use Rattle.scram_types.specs.declared.flights.Env.{Env}
+use Rattle.scram_types.specs.Specification.{Parts}
+use Rattle.scram_types.specs.Bits.{bits_below, has_bit}
+use Rattle.scram_types.specs.Searches.{all_below}
+use Rattle.choice_table.specs.Environments.{factor_in}
+use Rattle.cube_cover.specs.declared.cubes.Cube.{Cube}
+use Rattle.cube_cover.specs.Cubes.{is_digit, may_be_up}
+
+-- The least digit that is open at place x, and the last one where none is.
+unfoldable pub least_digit : Cube → ℕ → ℕ
+least_digit cube x =
+    if has_bit cube.bits (4 * x + 0) then 0 else (if has_bit cube.bits (4 * x + 1) then 1 else (if has_bit cube.bits (4 * x + 2) then 2 else 3))
+
+-- The environment with these digits; processors past the last one are not up.
+abbrev pub least_env : Parts → Cube → Env
+least_env spec cube = record {
+  up = bits_below (may_be_up cube) (length spec.procs);
+  factors = least_digit cube 0 ∷ least_digit cube 1 ∷ least_digit cube 2 ∷ least_digit cube 3 ∷ least_digit cube 4 ∷ least_digit cube 5 ∷ [];
+}
+
+-- Each factor has a value that it can have.
+unfoldable pub belongs : Parts → Env → Bool
+belongs spec v = all_below (λ x. is_digit spec x (factor_in v x)) 6

@@ -1,0 +1,5 @@
+pub mod Cubes
+pub mod Leasts
+pub mod Regions
+pub mod Covers
+pub mod Findings

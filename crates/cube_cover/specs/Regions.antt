@@ -1,0 +1,51 @@
+-- Regions, in each of which one target is chosen.
+use Rattle.std.specs.Prelude.{◌≡◌, ℕ, Bool, false, not, ◌&&◌, ◌||◌, List, [], ◌∷◌, if◌then◌else◌}
+use Rattle.std.specs.List.{list_any}
+use Rattle.scram_types.specs.declared.ids.ConfId.{ConfId}
+use Rattle.scram_types.specs.declared.flights.Env.{Env}
+use Rattle.scram_types.specs.declared.specification.Choice.{Choice}
+use Rattle.scram_types.specs.Specification.{Parts}
+use Rattle.choice_table.specs.Choices.{choose, has_rule, rule_fits}
+use Rattle.cube_cover.specs.declared.cubes.Cube.{Cube}
+use Rattle.cube_cover.specs.declared.regions.Region.{Region}
+use Rattle.cube_cover.specs.Cubes.{Agree, holds, is_in}
+
+-- A region whose target passes a test holds the environment.
+abbrev pub is_held : (ℕ → Bool) → Env → Region → Bool
+is_held passes v region = passes region.target.0 && holds region.cube v
+
+-- Some region does.
+unfoldable pub is_marked : List Region → (ℕ → Bool) → Env → Bool
+is_marked regions passes v = list_any (is_held passes v) regions
+
+-- The first rule that fits has a target that passes a test; false where none fits.
+unfoldable pub is_ruled : List Choice → ConfId → (ℕ → Bool) → Env → Bool
+is_ruled [] c passes v = false
+is_ruled (rule ∷ rules) c passes v = if rule_fits c v rule then passes rule.to.0 else is_ruled rules c passes v
+
+-- In scope, regions are those of cubes of configuration c by its rules, and the rest is where no rule fits.
+pub record AreRegions (spec : Parts) (c : ConfId) (cubes : List Cube) (ruled : List Region) (unruled : List Cube) : Type 0 where
+  pub targets : (passes : ℕ → Bool) → Agree spec (is_marked ruled passes) (λ v. is_in cubes v && is_ruled spec.rules c passes v)
+  pub rest : Agree spec (is_in unruled) (λ v. is_in cubes v && not (has_rule spec c v))
+
+-- Regions came to mark what they marked, and what is in cubes whose target passes the test.
+abbrev pub MarksMore : List Region → List Region → List Cube → ConfId → Type 0
+MarksMore before after cubes target =
+    (passes : ℕ → Bool) (v : Env) → is_marked after passes v ≡ (is_marked before passes v || (is_in cubes v && passes target.0))
+
+-- In scope, regions came to mark what they marked, and what is in cubes where the rule fits, if its target passes the test.
+abbrev pub Rule : Parts → ConfId → Choice → List Cube → List Region → List Region → Type 0
+Rule spec c rule cubes before after = (passes : ℕ → Bool) →
+    Agree spec (is_marked after passes) (λ v. is_marked before passes v || (is_in cubes v && (rule_fits c v rule && passes rule.to.0)))
+
+-- Cubes hold what the regions mark whose target passes a test.
+abbrev pub HoldsMarked : List Region → (ℕ → Bool) → List Cube → Type 0
+HoldsMarked regions passes cubes = (v : Env) → is_in cubes v ≡ is_marked regions passes v
+
+-- Cubes came to hold what they held, and what one more holds, if it is wanted.
+abbrev pub HoldsMore : List Cube → List Cube → Cube → Bool → Type 0
+HoldsMore before after cube wanted = (v : Env) → is_in after v ≡ (is_in before v || (wanted && holds cube v))
+
+-- In scope, regions are where the targets are chosen from configuration i.
+abbrev pub AreAll : Parts → ConfId → List Region → Type 0
+AreAll spec i regions = (passes : ℕ → Bool) → Agree spec (is_marked regions passes) (λ v. passes (choose spec i v).0)

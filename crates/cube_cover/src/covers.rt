@@ -1,0 +1,142 @@
+//! Making the cover of a configuration.
+
+ghost use Rattle.std.specs.Prelude.{◌≡◌, ◌+◌, ◌^◌, ◌<◌, ◌≤◌, ◌&&◌, ◌==◌, IfOk, if◌then◌else◌, length, not, true};
+ghost use Rattle.scram_types.specs.Lookups.{conf_id};
+ghost use Rattle.scram_types.specs.Specification.{IsSpec};
+ghost use Rattle.choice_table.specs.Choices.{choose};
+ghost use Rattle.cube_cover.specs.Covers.{IsCover, IsLeastEnv, earlier};
+ghost use Rattle.cube_cover.specs.Cubes.{Agree, is_in};
+ghost use Rattle.cube_cover.specs.Findings.{IsFinding, is_chosen_at};
+ghost use Rattle.cube_cover.specs.Regions.{AreAll, MarksMore};
+
+use crate::answers::Cover;
+use crate::cubes::{Cube, running, whole};
+use crate::leasts::{earlier, least_of};
+use crate::regions::{Region, Regions, assign, regions_of, with_other_target, with_target};
+use crate::splits::split_by;
+use scram_types::{ConfId, Env, NoMemory, Spec};
+use std::alloc::Global;
+
+// What a target comes to where it is chosen.
+#[derive(Clone, Copy)]
+pub(crate) struct Finding {
+    is_chosen: bool,
+    not_runnable: Option<Env>,
+    unsettled: Option<Env>,
+}
+
+/// The cover of configuration `i`: its possible targets, and the least environments in scope, by number, in which
+/// no rule fits it, the target cannot run, or another target is chosen from the target.
+///
+/// # Errors
+///
+/// Want of memory.
+pub fn cover(alloc: Global, spec: &Spec, i: ConfId) -> Result<Cover, NoMemory>
+    requires { i.0 < length spec.now.confs }
+    ensures { IfOk result (λ cover. IsCover spec.now i cover) }
+{
+    let count = count_confs(spec);
+    let found = regions_of(alloc, spec, i, all_cubes(alloc, spec)?)?;
+    let unfit = least_of(spec, &found.unruled);
+    let regions = all_regions(found, i)?;
+    let mut cover = Cover {
+        targets: 0,
+        unfit,
+        not_runnable: None,
+        unsettled: None,
+    };
+    for t in 0..count {
+        let finding = find(alloc, spec, i, t, &regions)?;
+        cover = with_finding(spec, &cover, t, &finding);
+    }
+    Ok(cover)
+}
+
+fn count_confs(spec: &Spec) -> u8
+    ensures value { result ≡ length spec.now.confs }
+    ensures most { result ≤ 12 }
+    ensures known { IsSpec spec.now }
+{
+    spec.confs.items().len() as u8
+}
+
+// The one cube of all environments.
+fn all_cubes(alloc: Global, spec: &Spec) -> Result<Vec<Cube>, NoMemory>
+    requires { IsSpec spec.now }
+    ensures { IfOk result (λ cubes. Agree spec.now (is_in cubes.items) (λ v. true)) }
+{
+    let mut cubes = Vec::new(alloc);
+    cubes.push(whole(spec))?;
+    Ok(cubes)
+}
+
+// The regions with what no rule fits as a region more: there the configuration itself is the target.
+fn all_regions(found: Regions, i: ConfId) -> Result<Vec<Region>, NoMemory>
+    ensures { IfOk result (λ regions. MarksMore found.ruled.items regions.items found.unruled.items i) }
+{
+    let mut regions = found.ruled;
+    assign(&mut regions, &found.unruled, i)?;
+    Ok(regions)
+}
+
+// What target `t` comes to in the regions of configuration `i`.
+fn find(
+    alloc: Global,
+    spec: &Spec,
+    i: ConfId,
+    t: u8,
+    regions: &[Region],
+) -> Result<Finding, NoMemory>
+    requires known { IsSpec spec.now }
+    requires regions { AreAll spec.now i regions.now }
+    ensures { IfOk result (λ finding. IsFinding spec.now i t finding) }
+{
+    let cubes = with_target(alloc, regions, t)?;
+    let is_chosen = least_of(spec, &cubes).is_some();
+    let parts = split_by(alloc, spec, &cubes, running(spec, ConfId(t)))?;
+    let not_runnable = least_of(spec, &parts.outside);
+    let unsettled = find_unsettled(alloc, spec, i, t, cubes)?;
+    Ok(Finding {
+        is_chosen,
+        not_runnable,
+        unsettled,
+    })
+}
+
+// The least environment of the cubes in which another target is chosen from `t`; `i` itself is settled where it is
+// chosen from itself.
+fn find_unsettled(
+    alloc: Global,
+    spec: &Spec,
+    i: ConfId,
+    t: u8,
+    cubes: Vec<Cube>,
+) -> Result<Option<Env>, NoMemory>
+    requires known { IsSpec spec.now }
+    requires chosen { Agree spec.now (is_in cubes.items) (is_chosen_at spec.now i t) }
+    ensures { IfOk result (λ found. IsLeastEnv spec.now (λ v. is_chosen_at spec.now i t v && not ((choose spec.now (conf_id t) v).0 == t)) found) }
+{
+    if t == i.0 {
+        return Ok(None);
+    }
+    let found = regions_of(alloc, spec, ConfId(t), cubes)?;
+    let others = with_other_target(alloc, &found.ruled, t)?;
+    Ok(least_of(spec, &others))
+}
+
+fn with_finding(spec: &Spec, before: &Cover, t: u8, finding: &Finding) -> Cover
+    requires target { t < 12 }
+    requires few { before.now.targets < 2 ^ t }
+    ensures targets { result.targets ≡ before.now.targets + (if finding.now.is_chosen then 2 ^ t else 0) }
+    ensures unfit { result.unfit ≡ before.now.unfit }
+    ensures not_runnable { result.not_runnable ≡ earlier spec.now before.now.not_runnable finding.now.not_runnable }
+    ensures unsettled { result.unsettled ≡ earlier spec.now before.now.unsettled finding.now.unsettled }
+{
+    let target = if finding.is_chosen { 1 << t } else { 0 };
+    Cover {
+        targets: before.targets + target,
+        unfit: before.unfit,
+        not_runnable: earlier(spec, before.not_runnable, finding.not_runnable),
+        unsettled: earlier(spec, before.unsettled, finding.unsettled),
+    }
+}

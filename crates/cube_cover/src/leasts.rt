@@ -1,0 +1,126 @@
+//! The least environments that cubes hold.
+
+ghost use Rattle.std.specs.Prelude.{◌≡◌, ◌*◌, ◌+◌, ◌<◌, ◌≤◌, length};
+ghost use Rattle.scram_types.specs.Bits.{bits_below, has_bit};
+ghost use Rattle.scram_types.specs.Specification.{IsSpec};
+ghost use Rattle.cube_cover.specs.Covers.{IsLeastEnv, earlier};
+ghost use Rattle.cube_cover.specs.Cubes.{HasDigits, holds, is_in, may_be_up};
+ghost use Rattle.cube_cover.specs.Leasts.{belongs, least_digit, least_env};
+
+use crate::cubes::{Cube, digit_in, is_digit, is_open};
+use choice_table::{in_scope, number_of};
+use scram_types::bits::has_bit;
+use scram_types::{Env, Spec};
+
+// The environment in scope with the least number that one of the cubes holds.
+pub(crate) fn least_of(spec: &Spec, cubes: &[Cube]) -> Option<Env>
+    requires { IsSpec spec.now }
+    ensures { IsLeastEnv spec.now (is_in cubes.now) result }
+{
+    let mut least = None;
+    for cube in cubes {
+        least = earlier(spec, least, least_env(spec, *cube));
+    }
+    least
+}
+
+// Of two environments the one with the lesser number.
+pub(crate) fn earlier(spec: &Spec, one: Option<Env>, other: Option<Env>) -> Option<Env>
+    ensures { result ≡ earlier spec.now one other }
+{
+    match (one, other) {
+        (None, None) => None,
+        (Some(_), None) => one,
+        (None, Some(_)) => other,
+        (Some(first), Some(second)) => {
+            if number_of(spec, &first) <= number_of(spec, &second) {
+                one
+            } else {
+                other
+            }
+        }
+    }
+}
+
+// The environment in scope with the least number that a cube holds.
+pub(crate) fn least_env(spec: &Spec, cube: Cube) -> Option<Env>
+    requires { IsSpec spec.now }
+    ensures { IsLeastEnv spec.now (holds cube) result }
+{
+    let env = make_least(spec, cube);
+    if belongs(spec, &env) && holds(cube, &env) && in_scope(spec, &env) {
+        Some(env)
+    } else {
+        None
+    }
+}
+
+// The environment whose digits are the least that are open; past the last processor nobody is up.
+fn make_least(spec: &Spec, cube: Cube) -> Env
+    ensures { result ≡ least_env spec.now cube }
+{
+    Env {
+        up: least_up(spec, cube),
+        factors: [
+            least_digit(cube, 0),
+            least_digit(cube, 1),
+            least_digit(cube, 2),
+            least_digit(cube, 3),
+            least_digit(cube, 4),
+            least_digit(cube, 5),
+        ],
+    }
+}
+
+fn least_up(spec: &Spec, cube: Cube) -> u8
+    ensures { result ≡ bits_below (may_be_up cube) (length spec.now.procs) }
+{
+    let mut up = 0;
+    for p in 0..spec.procs.items().len() as u8 {
+        if is_open(cube, 6 + p, 0) {
+            up += 1 << p;
+        }
+    }
+    up
+}
+
+// The least digit that is open at place `x`, and the last one where none is.
+#[tactic(auto, unfolding(crate::specs::Leasts::least_digit))]
+fn least_digit(cube: Cube, x: u8) -> u8
+    requires { x < 14 }
+    ensures { result ≡ least_digit cube x }
+{
+    if is_open(cube, x, 0) {
+        0
+    } else if is_open(cube, x, 1) {
+        1
+    } else if is_open(cube, x, 2) {
+        2
+    } else {
+        3
+    }
+}
+
+// Whether each factor has a value that it can have.
+fn belongs(spec: &Spec, env: &Env) -> bool
+    ensures { result ≡ belongs spec.now env.now }
+{
+    for x in 0..6 {
+        if !is_digit(spec, x, env.factors[usize::from(x)]) {
+            return false;
+        }
+    }
+    true
+}
+
+fn holds(cube: Cube, env: &Env) -> bool
+    requires { HasDigits env.now }
+    ensures { result ≡ holds cube env.now }
+{
+    for x in 0..14 {
+        if !is_open(cube, x, digit_in(env, x)) {
+            return false;
+        }
+    }
+    true
+}

@@ -1,0 +1,134 @@
+//! The scope split into regions, in each of which the choice table chooses one target.
+
+ghost use Rattle.std.specs.Prelude.{◌≡◌, ◌&&◌, ◌==◌, IfOk, OnOk, not};
+ghost use Rattle.scram_types.specs.Specification.{IsSpec};
+ghost use Rattle.choice_table.specs.Choices.{has_source, rule_fits};
+ghost use Rattle.cube_cover.specs.Cubes.{Agree, is_in};
+ghost use Rattle.cube_cover.specs.Regions.{AreRegions, HoldsMarked, HoldsMore, MarksMore, Rule};
+
+use crate::cubes::{Cube, rule_cube};
+use crate::splits::split_by;
+use scram_types::{Choice, ConfId, NoMemory, Spec};
+use std::alloc::Global;
+
+// A cube in all of whose environments the same target is chosen.
+#[derive(Clone, Copy)]
+pub(crate) struct Region {
+    cube: Cube,
+    target: ConfId,
+}
+
+// Regions of the cubes of a configuration: those in which some rule fits, with its target, and the rest.
+#[derive(Drop)]
+pub(crate) struct Regions {
+    pub(crate) ruled: Vec<Region>,
+    pub(crate) unruled: Vec<Cube>,
+}
+
+// Splits cubes by the rules of configuration `c`, one after another.
+pub(crate) fn regions_of(
+    alloc: Global,
+    spec: &Spec,
+    c: ConfId,
+    cubes: Vec<Cube>,
+) -> Result<Regions, NoMemory>
+    requires { IsSpec spec.now }
+    ensures { IfOk result (λ found. AreRegions spec.now c cubes.items found.ruled.items found.unruled.items) }
+{
+    let mut ruled = Vec::new(alloc);
+    let mut open = cubes;
+    for rule in spec.rules.items() {
+        open = apply_rule(alloc, spec, c, rule, open, &mut ruled)?;
+    }
+    Ok(Regions {
+        ruled,
+        unruled: open,
+    })
+}
+
+// Moves to the regions what a rule takes of cubes, and gives the rest.
+fn apply_rule(
+    alloc: Global,
+    spec: &Spec,
+    c: ConfId,
+    rule: &Choice,
+    cubes: Vec<Cube>,
+    ruled: &mut Vec<Region>,
+) -> Result<Vec<Cube>, NoMemory>
+    requires { IsSpec spec.now }
+    ensures rest { IfOk result (λ rest. Agree spec.now (is_in rest.items) (λ v. is_in cubes.items v && not (rule_fits c v rule.now))) }
+    ensures ruled { OnOk result (Rule spec.now c rule.now cubes.items ruled.old.items ruled.new.items) }
+{
+    if !is_source(rule.from, c) {
+        return Ok(cubes);
+    }
+    if cubes.is_empty() {
+        return Ok(cubes);
+    }
+    let parts = split_by(alloc, spec, &cubes, rule_cube(rule))?;
+    assign(ruled, &parts.inside, rule.to)?;
+    Ok(parts.outside)
+}
+
+fn is_source(from: Option<ConfId>, c: ConfId) -> bool
+    ensures { result ≡ has_source from c }
+{
+    match from {
+        Some(from) => from.0 == c.0,
+        None => true,
+    }
+}
+
+// Adds cubes to the regions, with their target.
+pub(crate) fn assign(
+    regions: &mut Vec<Region>,
+    cubes: &[Cube],
+    target: ConfId,
+) -> Result<(), NoMemory>
+    ensures { OnOk result (MarksMore regions.old.items regions.new.items cubes.now target) }
+{
+    for cube in cubes {
+        regions.push(Region {
+            cube: *cube,
+            target,
+        })?;
+    }
+    Ok(())
+}
+
+// The cubes of the regions with target `t`.
+pub(crate) fn with_target(alloc: Global, regions: &[Region], t: u8) -> Result<Vec<Cube>, NoMemory>
+    ensures { IfOk result (λ cubes. HoldsMarked regions.now (λ j. j == t) cubes.items) }
+{
+    let mut cubes = Vec::new(alloc);
+    for region in regions {
+        push_where(&mut cubes, region.cube, region.target.0 == t)?;
+    }
+    Ok(cubes)
+}
+
+// The cubes of the regions with another target.
+pub(crate) fn with_other_target(
+    alloc: Global,
+    regions: &[Region],
+    t: u8,
+) -> Result<Vec<Cube>, NoMemory>
+    ensures { IfOk result (λ cubes. HoldsMarked regions.now (λ j. not (j == t)) cubes.items) }
+{
+    let mut cubes = Vec::new(alloc);
+    for region in regions {
+        push_where(&mut cubes, region.cube, region.target.0 != t)?;
+    }
+    Ok(cubes)
+}
+
+// Adds a cube to others where it is wanted.
+fn push_where(cubes: &mut Vec<Cube>, cube: Cube, is_wanted: bool) -> Result<(), NoMemory>
+    ensures { OnOk result (HoldsMore cubes.old.items cubes.new.items cube is_wanted) }
+{
+    if !is_wanted {
+        return Ok(());
+    }
+    cubes.push(cube)?;
+    Ok(())
+}

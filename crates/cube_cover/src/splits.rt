@@ -1,0 +1,108 @@
+//! Splitting cubes by a cube.
+
+ghost use Rattle.std.specs.Prelude.{◌≡◌, ◌&&◌, ◌<◌, IfOk, OnOk, length, not};
+ghost use Rattle.scram_types.specs.Bits.{count_below};
+ghost use Rattle.scram_types.specs.Specification.{IsSpec};
+ghost use Rattle.cube_cover.specs.Cubes.{Agree, Gain, IsSplit, allows, holds, may_be_up};
+
+use crate::cubes::{Cube, inside_at, is_open, is_open_at, meet, outside_at};
+use scram_types::{NoMemory, Spec};
+use std::alloc::Global;
+
+// Cubes inside of a cube, and cubes outside of it. Each holds an environment in scope, and no two hold one.
+#[derive(Drop)]
+pub(crate) struct Split {
+    pub(crate) inside: Vec<Cube>,
+    pub(crate) outside: Vec<Cube>,
+}
+
+// The parts of cubes that lie inside and outside of the cube `by`.
+pub(crate) fn split_by(
+    alloc: Global,
+    spec: &Spec,
+    cubes: &[Cube],
+    by: Cube,
+) -> Result<Split, NoMemory>
+    requires { IsSpec spec.now }
+    ensures { IfOk result (λ split. IsSplit spec.now cubes.now by split.inside.items split.outside.items) }
+{
+    let mut inside = Vec::new(alloc);
+    let mut outside = Vec::new(alloc);
+    for cube in cubes {
+        let within = cut(spec, *cube, by, &mut outside)?;
+        push_in_scope(spec, within, &mut inside)?;
+    }
+    Ok(Split { inside, outside })
+}
+
+// Cuts off what lies outside of the cube `by`, and gives what is left.
+fn cut(spec: &Spec, cube: Cube, by: Cube, outside: &mut Vec<Cube>) -> Result<Cube, NoMemory>
+    requires { IsSpec spec.now }
+    ensures beyond { OnOk result (Gain spec.now outside.old.items outside.new.items (λ v. holds cube v && not (holds by v))) }
+    ensures within { IfOk result (λ rest. Agree spec.now (holds rest) (λ v. holds cube v && holds by v)) }
+{
+    if meet(cube, by) {
+        cut_places(spec, cube, by, outside)
+    } else {
+        outside.push(cube)?;
+        Ok(Cube { bits: 0 })
+    }
+}
+
+// The same, place by place.
+fn cut_places(spec: &Spec, cube: Cube, by: Cube, outside: &mut Vec<Cube>) -> Result<Cube, NoMemory>
+    requires { IsSpec spec.now }
+    ensures beyond { OnOk result (Gain spec.now outside.old.items outside.new.items (λ v. holds cube v && not (holds by v))) }
+    ensures within { IfOk result (λ rest. Agree spec.now (holds rest) (λ v. holds cube v && holds by v)) }
+{
+    let mut rest = cube;
+    for x in 0..14 {
+        push_outside_at(spec, rest, by, x, outside)?;
+        rest = inside_at(rest, by, x);
+    }
+    Ok(rest)
+}
+
+fn push_outside_at(
+    spec: &Spec,
+    cube: Cube,
+    by: Cube,
+    x: u8,
+    outside: &mut Vec<Cube>,
+) -> Result<(), NoMemory>
+    requires known { IsSpec spec.now }
+    requires place { x < 14 }
+    ensures { OnOk result (Gain spec.now outside.old.items outside.new.items (λ v. holds cube v && not (allows by v x))) }
+{
+    let part = outside_at(cube, by, x);
+    if !is_open_at(part, x) {
+        return Ok(());
+    }
+    push_in_scope(spec, part, outside)?;
+    Ok(())
+}
+
+// Adds a cube to others where it holds an environment in scope.
+fn push_in_scope(spec: &Spec, cube: Cube, cubes: &mut Vec<Cube>) -> Result<(), NoMemory>
+    requires { IsSpec spec.now }
+    ensures { OnOk result (Gain spec.now cubes.old.items cubes.new.items (holds cube)) }
+{
+    if spec.halts < count_always_down(spec, cube) {
+        return Ok(());
+    }
+    cubes.push(cube)?;
+    Ok(())
+}
+
+// How many processors are down in each environment that the cube holds.
+fn count_always_down(spec: &Spec, cube: Cube) -> u8
+    ensures { result ≡ count_below (λ p. not (may_be_up cube p)) (length spec.now.procs) }
+{
+    let mut down = 0;
+    for p in 0..spec.procs.items().len() as u8 {
+        if !is_open(cube, 6 + p, 0) {
+            down += 1;
+        }
+    }
+    down
+}
