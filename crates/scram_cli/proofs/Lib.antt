@@ -5,3 +5,6 @@ mod Assuring
 mod Loading
 mod TextsBelow
 mod Counted
+mod ShownModes
+mod ShownRows
+mod ShownReports

@@ -3,6 +3,7 @@ pub mod Endings
 pub mod Assurance
 pub mod Bounds
 pub mod Forms
+pub mod Laws
 pub mod Lines
 pub mod Loads
 pub mod Summaries

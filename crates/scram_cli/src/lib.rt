@@ -9,6 +9,7 @@ mod flights;
 mod forms;
 mod generated;
 mod judgements;
+pub mod laws;
 mod lines;
 mod loads;
 mod program;

@@ -19,7 +19,7 @@ pub mod SameActs
 pub mod SameCourses
 pub mod Lists
 pub mod SameReports
-mod Sizes
+pub mod Sizes
 mod Firsts
 mod Words
 mod Differing

@@ -21,7 +21,9 @@ use Rattle.trace_text.specs.Pieces.{pieces_of}
 use Rattle.trace_text.specs.RowReading.{row_begun}
 use Rattle.trace_text.specs.Text.{app_line_in, app_lines, end_line, ending_text, report_line, reports_text, row_line, row_text, rows_text, text_of}
 use Rattle.trace_text.specs.TraceReading.{SoFar, after_app, after_line, go_on, trace_from, with_app}
-use Rattle.trace_text.proofs.LinesBack.{LineBack, app_back, end_back, in_apps, in_closing, in_rows, report_back, row_back}
+use Rattle.trace_text.proofs.LinesBack.{LineBack, app_back, in_apps}
+use Rattle.trace_text.proofs.ReportsBack.{end_back, in_closing, report_back}
+use Rattle.trace_text.proofs.RowsBack.{in_rows, row_back}
 use Rattle.trace_text.proofs.Splitting.{some_piece}
 use Rattle.trace_text.proofs.Walk.{line_then, of_length}
 use Rattle.trace_text.proofs.WordBytes.{line_split}

@@ -21,7 +21,7 @@ use Rattle.trace_text.specs.declared.progress.Standing.{Standing}
 use Rattle.trace_text.specs.declared.progress.Standing.TheVariants.{Rows, Apps, Reports, Over}
 use Rattle.trace_text.specs.declared.rule.TheConstants.{BROKEN_LINE, NOT_NEXT, NO_FORM, OUT_OF_ORDER, OUT_OF_PLACE, UNKNOWN_NAME, WRONG_COUNT, WRONG_NUMBER}
 use Rattle.trace_text.specs.AppReading.{app_in, app_read, bare_act, bare_line, done, is_bare_form, is_placed_form, phase_act, phase_line, phase_named, placed_line, ran_line}
-use Rattle.trace_text.specs.LineRules.{Form, Words, Ending, Finished, Unfinished, StableRow, MovingRow, RanApp, PhaseApp, BareApp, LeastRuleIsTold, app_due, app_form, asked_form, counts_rightly, end_form, form_by, form_of, has_form, is_due, is_in_order, is_in_place, is_measured, is_open, is_told, keeps, knows_names, report_form, row_form, spells_numbers}
+use Rattle.trace_text.specs.LineRules.{Form, Words, Ending, Finished, Unfinished, StableRow, MovingRow, RanApp, PhaseApp, BareApp, LeastRuleIsTold, app_due, app_form, asked_form, counts_rightly, end_form, form_by, line_form, has_form, is_due, is_in_order, is_in_place, is_measured, is_open, is_told, keeps, knows_names, report_form, row_form, spells_numbers}
 use Rattle.trace_text.specs.Lookups.{app_number, conf_or_none, listed_mode}
 use Rattle.trace_text.specs.Pieces.{is_word, sides_of, word_at, words_in, words_of, is_filled}
 use Rattle.trace_text.specs.ReportReading.{bound_or_none, end_in, end_read, finished_report, is_end_form, is_report_form, report_end, report_in, report_read, same_bound, unfinished_report}
@@ -281,7 +281,7 @@ split_case spec s words true read form h = h
 split_case spec s words false read form h = refl
 
 line_least : {A : Type 0} (spec : Parts) (s : SoFar) (line : List ℕ) (read : Words → Result A ℕ) → told_by (read (words_of line)) ≡ least_of spec s (words_of line) (form_by spec line (words_of line)) →
-    told_by (unless NO_FORM (words_in line) read) ≡ least_of spec s (words_of line) (form_of spec line)
+    told_by (unless NO_FORM (words_in line) read) ≡ least_of spec s (words_of line) (line_form spec line)
 line_least spec s line read h =
     split_case spec s (words_of line) (nat_le (length (words_of line)) 16 && list_all is_filled (words_of line)) read (form_by spec line) h
 
@@ -329,33 +329,33 @@ end_told s (Ok done) = refl
 end_told s (Err rule) = refl
 
 row_line_least : (spec : Parts) (s : SoFar) (line : List ℕ) → begins line (codes "frame") ≡ true →
-    told_by (with_row s (row_read spec (length s.rows) line)) ≡ least_of spec s (words_of line) (form_of spec line)
+    told_by (with_row s (row_read spec (length s.rows) line)) ≡ least_of spec s (words_of line) (line_form spec line)
 row_line_least spec s line first =
     row_told s (row_read spec (length s.rows) line)
     ∙ line_least spec s line (row_of_words spec (length s.rows)) (row_least spec s (words_of line) ∙ ap (least_of spec s (words_of line)) (row_formed spec line (words_of line) first))
 
 app_line_least : (spec : Parts) (s : SoFar) (a : ℕ) (row : Row) (line : List ℕ) → app_due s.standing ≡ a → begins line (codes "app") ≡ true →
-    told_by (with_done spec s a row (app_read spec a line)) ≡ least_of spec s (words_of line) (form_of spec line)
+    told_by (with_done spec s a row (app_read spec a line)) ≡ least_of spec s (words_of line) (line_form spec line)
 app_line_least spec s a row line due first =
     app_told spec s a row (app_read spec a line)
     ∙ ap (λ (n : ℕ). told_by (app_read spec n line)) (sym due)
     ∙ line_least spec s line (app_in spec (app_due s.standing)) (app_least spec s (words_of line) ∙ ap (least_of spec s (words_of line)) (app_formed spec line (words_of line) first))
 
 report_line_least : (spec : Parts) (s : SoFar) (line : List ℕ) → begins line (codes "reconfiguration") ≡ true →
-    told_by (with_report s (report_read spec (length s.rows) line)) ≡ least_of spec s (words_of line) (form_of spec line)
+    told_by (with_report s (report_read spec (length s.rows) line)) ≡ least_of spec s (words_of line) (line_form spec line)
 report_line_least spec s line first =
     report_told s (report_read spec (length s.rows) line)
     ∙ line_least spec s line (report_in spec (length s.rows)) (report_least spec s (words_of line) ∙ ap (least_of spec s (words_of line)) (report_formed spec line (words_of line) first))
 
 end_line_least : (spec : Parts) (s : SoFar) (line : List ℕ) → begins line (codes "end") ≡ true →
-    told_by (with_end s (end_read (length s.rows) (length s.reports) line)) ≡ least_of spec s (words_of line) (form_of spec line)
+    told_by (with_end s (end_read (length s.rows) (length s.reports) line)) ≡ least_of spec s (words_of line) (line_form spec line)
 end_line_least spec s line first =
     end_told s (end_read (length s.rows) (length s.reports) line)
     ∙ line_least spec s line (end_in (length s.rows) (length s.reports)) (end_least spec s (words_of line) ∙ ap (least_of spec s (words_of line)) (end_formed spec line (words_of line) first))
 
 -- rules 2 to 9, `placed` being whether rule 2 is kept
 abbrev placed_least : Parts → SoFar → List ℕ → Bool → Option ℕ
-placed_least spec s line placed = cond placed (least_of spec s (words_of line) (form_of spec line)) (Some OUT_OF_PLACE)
+placed_least spec s line placed = cond placed (least_of spec s (words_of line) (line_form spec line)) (Some OUT_OF_PLACE)
 
 closing_case : (spec : Parts) (s : SoFar) (line : List ℕ) (report end : Bool) → begins line (codes "reconfiguration") ≡ report → begins line (codes "end") ≡ end →
     told_by (cond report (with_report s (report_read spec (length s.rows) line)) (cond end (with_end s (end_read (length s.rows) (length s.reports) line)) (Err OUT_OF_PLACE)))

@@ -18,4 +18,6 @@ mod WordBytes
 mod NamesBack
 mod ListsBack
 mod LinesBack
-mod FlightsBack
+mod RowsBack
+mod ReportsBack
+pub mod FlightsBack

@@ -242,13 +242,19 @@ trace_only spec bytes f few small h =
     let read = not_long (nat_lt MAX_TRACE_BYTES (length bytes)) (fault_at 0 WRONG_END) (trace_from spec 1 before_first (pieces_of 10 bytes)) f h in
     sym (join_with_byte-slice_split 10 bytes) ∙ lines_only spec 1 before_first (pieces_of 10 bytes) f few small refl (some_piece 10 bytes) read
 
+-- what holds of each trace that is read holds of an answer that gives one
+answered : (P : Flown → Type 0) (reading : Result Flown TraceFault) (answer : Result Flown TraceError) → ((f : Flown) → reading ≡ Ok f → P f) → AnswersTrace reading answer → IfOk answer P
+answered P reading (Ok f) holds h = holds f h
+answered P reading (Err error) holds h = tt
+
 pub answered_text : (spec : Parts) (bytes : List ℕ) (answer : Result Flown TraceError) → length spec.factors ≤ 6 → length spec.apps ≤ 8 → AnswersTrace (trace_of spec bytes) answer →
     IfOk answer (λ (f : Flown). bytes ≡ text_of spec f.rows f.reports)
-answered_text spec bytes (Ok f) few small h = trace_only spec bytes f few small h
-answered_text spec bytes (Err error) few small h = tt
+answered_text spec bytes answer few small h =
+    answered (λ (f : Flown). bytes ≡ text_of spec f.rows f.reports) (trace_of spec bytes) answer (λ f read. trace_only spec bytes f few small read) h
 
 -- the text of what is read is read to the same again
 pub answered_again : (spec : Parts) (bytes : List ℕ) (answer : Result Flown TraceError) → length spec.factors ≤ 6 → length spec.apps ≤ 8 → AnswersTrace (trace_of spec bytes) answer →
     IfOk answer (λ (f : Flown). trace_of spec (text_of spec f.rows f.reports) ≡ Ok f)
-answered_again spec bytes (Ok f) few small h = ap (trace_of spec) (sym (trace_only spec bytes f few small h)) ∙ h
-answered_again spec bytes (Err error) few small h = tt
+answered_again spec bytes answer few small h =
+    answered (λ (f : Flown). trace_of spec (text_of spec f.rows f.reports) ≡ Ok f) (trace_of spec bytes) answer
+    (λ f read. ap (trace_of spec) (sym (trace_only spec bytes f few small read)) ∙ read) h

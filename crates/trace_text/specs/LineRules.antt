@@ -27,6 +27,7 @@ pub data Form : Type 0 where
   Unfinished : Form
   Ending : Form
 
+-- the words of a line
 abbrev pub Words : Type 0
 Words = List (List ℕ)
 
@@ -74,14 +75,14 @@ form_by spec line words =
     else (if begins line (codes "reconfiguration") then report_form words else end_form words))
 
 -- the form of a line, if it has one: no word is empty, and they are those of a form
-abbrev pub form_of : Parts → List ℕ → Option Form
-form_of spec line = option_and_then (form_by spec line) (words_in line)
+abbrev pub line_form : Parts → List ℕ → Option Form
+line_form spec line = option_and_then (form_by spec line) (words_in line)
 
 -- Rule 3: the words of the line are those of a form.
 abbrev pub has_form : Parts → Standing → List ℕ → Bool
-has_form spec Rows line = is_some (form_of spec line)
-has_form spec (Apps a row) line = is_some (form_of spec line)
-has_form spec Reports line = is_some (form_of spec line)
+has_form spec Rows line = is_some (line_form spec line)
+has_form spec (Apps a row) line = is_some (line_form spec line)
+has_form spec Reports line = is_some (line_form spec line)
 has_form spec Over line = true
 
 -- Rule 4: each name is known in its place.
@@ -99,8 +100,8 @@ knows_names spec words Unfinished = is_some (conf_named spec (word_at words 1))
 knows_names spec words Ending = true
 
 -- whether a word spells the number of a frame
-abbrev pub is_frame : List ℕ → Bool
-is_frame word = is_some (spelled_number MAX_FRAMES word)
+abbrev pub is_frame_number : List ℕ → Bool
+is_frame_number word = is_some (spelled_number MAX_FRAMES word)
 
 -- whether a word spells a count of 32 bits
 abbrev pub is_count : List ℕ → Bool
@@ -112,14 +113,14 @@ are_bytes sides = is_some (spelled_number 256 sides.0) && is_some (spelled_numbe
 
 -- Rule 5: each number is spelled as printed, in its range.
 abbrev pub spells_numbers : Words → Form → Bool
-spells_numbers words StableRow = is_frame (word_at words 1) && is_some (world_at words 9)
-spells_numbers words MovingRow = is_frame (word_at words 6) && is_frame (word_at words 1) && is_some (world_at words 12)
+spells_numbers words StableRow = is_frame_number (word_at words 1) && is_some (world_at words 9)
+spells_numbers words MovingRow = is_frame_number (word_at words 6) && is_frame_number (word_at words 1) && is_some (world_at words 12)
 spells_numbers words RanApp = is_some (signed_from 8 6 words)
 spells_numbers words PhaseApp = is_told (sides_of (word_at words 3)) are_bytes && is_some (signed_from 8 6 words)
 spells_numbers words BareApp = is_some (signed_from 8 4 words)
 spells_numbers words Finished =
-    is_frame (word_at words 7) && is_frame (word_at words 5) && is_count (word_at words 9) && is_some (bound_or_none (word_at words 11))
-spells_numbers words Unfinished = is_frame (word_at words 5) && is_count (word_at words 9) && is_some (bound_or_none (word_at words 11))
+    is_frame_number (word_at words 7) && is_frame_number (word_at words 5) && is_count (word_at words 9) && is_some (bound_or_none (word_at words 11))
+spells_numbers words Unfinished = is_frame_number (word_at words 5) && is_count (word_at words 9) && is_some (bound_or_none (word_at words 11))
 spells_numbers words Ending = is_count (word_at words 2) && is_count (word_at words 4)
 
 -- the application whose line is due
@@ -203,9 +204,9 @@ keeps (Some form) ask = ask form
 
 -- the form by which rules 4 to 8 ask
 abbrev pub asked_form : Parts → Standing → List ℕ → Option Form
-asked_form spec Rows line = form_of spec line
-asked_form spec (Apps a row) line = form_of spec line
-asked_form spec Reports line = form_of spec line
+asked_form spec Rows line = line_form spec line
+asked_form spec (Apps a row) line = line_form spec line
+asked_form spec Reports line = line_form spec line
 asked_form spec Over line = None
 
 -- Whether a line, behind those that were read so far, breaks the rule of this number.
