@@ -15,7 +15,7 @@ use Rattle.reconf_spec.specs.Documents.{spec_of}
 use Rattle.trace_text.specs.declared.trace_reading.TraceFault.{TraceFault}
 use Rattle.trace_text.specs.TraceReading.{trace_of}
 use Rattle.mission_gen.specs.Changes.{generated_script}
-use Rattle.mission_gen.specs.Specifications.{generated_text}
+use Rattle.mission_gen.specs.Specifications.{mission_text}
 use Rattle.coverage_check.specs.declared.shown.Shown.{Shown}
 use Rattle.coverage_check.specs.Acceptance.{Accepts, first_refusal}
 use Rattle.coverage_check.specs.Form.{state_refusal}
@@ -24,7 +24,6 @@ use Rattle.coverage_check.proofs.Accepting.{accepts_where_unrefused}
 use Rattle.coverage_check.proofs.Flights.{is_mission}
 use Rattle.trace_props.specs.declared.breaks.Broken.{Broken}
 use Rattle.trace_props.specs.Missions.{ReconfigurationsAreAssured}
-use Rattle.trace_props.specs.Properties.{HoldsAll}
 use Rattle.scram_cli.specs.declared.status.TheConstants.{ANSWERED}
 use Rattle.scram_cli.specs.declared.flights.FlightText.{FlightText}
 use Rattle.scram_cli.specs.declared.flights.FlightText.TheVariants.{Summary, Trace}
@@ -33,10 +32,10 @@ use Rattle.scram_cli.specs.declared.forms.Purpose.TheVariants.{Fly, Print}
 use Rattle.scram_cli.specs.declared.forms.Request.{Request}
 use Rattle.scram_cli.specs.declared.forms.Request.TheVariants.{Bounds, Check, Props, Run}
 use Rattle.scram_types.specs.declared.limits.TheConstants.{MAX_SCRIPT_BYTES, MAX_TRACE_BYTES}
-use Rattle.scram_cli.specs.Answers.{AnswersFile, Gives, IsGenerated, IsJudgement, IsMissionAnswer, Judges, RequestAnswers, TellsUnread, TraceAnswers, WithoutFiles, bounds_answer, check_answer, flight_answer, judged_answer, long_script, long_trace, mission_answer, mission_text, script_answer, flight_text, within_answer}
+use Rattle.scram_cli.specs.Answers.{Gives, IsGenerated, IsMissionAnswer, Judges, RequestAnswers, TellsUnread, TraceAnswers, bounds_answer, check_answer, flight_answer, judged_answer, long_script, long_trace, mission_answer, script_answer, flight_text, within_answer}
 use Rattle.scram_cli.specs.Assurance.{AssuresMission, AssuresPurpose, AssuresRequest, AssuresScript, AssuresSpec, AssuresTrace, FlightsAreAssured, IsAssured, IsAssuring}
 use Rattle.scram_cli.specs.Bounds.{bounds_text}
-use Rattle.scram_cli.specs.Endings.{IsMemoryRefusal, IsTaken, Tells}
+use Rattle.scram_cli.specs.Endings.{IsMemoryRefusal, Tells}
 use Rattle.scram_cli.specs.Lines.{accepted_line, holds_line}
 
 -- an answer with another status is none with the status of an answer

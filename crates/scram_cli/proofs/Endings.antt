@@ -2,7 +2,6 @@
 use Rattle.std.proofs.Common.{◌≡◌, ℕ, ◌-◌, ◌<◌, ◌≤◌, List, [], ◌∷◌, ◌++◌, length, append_assoc, append-nil, refl, sym, ◌∙◌, ap, inl, inr, arith}
 use Rattle.std.specs.Prelude.{Bool, Option, Some, None, IfSome, IsSome, IsTrue, ◌⊎◌, map}
 use Rattle.scram_io.specs.Outside.{Agrees, CutOff, FileMap, FilesState, Flushed, Grew, History, IsLonger, Printed, Rose, SinkState, StaysSteady, TakesSurely, Took, TookPrefix, Unrisen, file_at, greatest_count, taken}
-use Rattle.scram_io.proofs.Puts.{risen}
 use Rattle.scram_io.proofs.Histories.{grew_more, grew_none}
 use Rattle.scram_cli.specs.declared.status.TheConstants.{ANSWERED, UNREAD_FILE, UNWRITTEN_OUTPUT, WANTING_MEMORY}
 use Rattle.scram_cli.specs.Answers.{Answer, AnswersFile, Gives, TellsUnread, WithoutFiles, memory_line, read_line}

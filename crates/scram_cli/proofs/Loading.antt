@@ -1,5 +1,5 @@
 -- What is answered of the files that were loaded.
-use Rattle.std.proofs.Common.{◌≡◌, ℕ, List, [], ◌∷◌, refl, inl, inr, ◌⊎◌}
+use Rattle.std.proofs.Common.{ℕ, List, [], ◌∷◌, inl, inr, ◌⊎◌}
 use Rattle.std.specs.Prelude.{Some, ⊤}
 use Rattle.scram_types.specs.Scripts.{ScriptParts}
 use Rattle.scram_types.specs.declared.flights.Flown.{Flown}
@@ -18,7 +18,7 @@ use Rattle.scram_cli.specs.declared.forms.Form.TheVariants.{Specified}
 use Rattle.scram_cli.specs.declared.forms.Request.{Request}
 use Rattle.scram_cli.specs.declared.forms.Request.TheVariants.{Bounds, Check, Props, Run}
 use Rattle.scram_types.specs.declared.limits.TheConstants.{MAX_SCRIPT_BYTES, MAX_SPECIFICATION_BYTES, MAX_TRACE_BYTES}
-use Rattle.scram_cli.specs.Answers.{Answer, AnswersBytes, AnswersFile, FormAnswers, Gives, IsJudgement, RequestAnswers, SpecAnswers, TellsUnread, TraceAnswers, WithoutFiles, flight_answer, long_script, long_specification, long_trace, memory_line, script_answer}
+use Rattle.scram_cli.specs.Answers.{Answer, AnswersFile, FormAnswers, Gives, IsJudgement, RequestAnswers, SpecAnswers, TraceAnswers, WithoutFiles, flight_answer, long_script, long_specification, long_trace, memory_line, script_answer}
 use Rattle.scram_cli.specs.Endings.{Ends, IsTaken, Tells}
 use Rattle.scram_cli.specs.Forms.{further_files}
 use Rattle.scram_cli.specs.Lines.{script_line, specification_line, trace_line}

@@ -14,13 +14,11 @@ use Rattle.reconf_spec.specs.declared.rule.TheConstants as specification_rule
 use Rattle.fault_script.specs.declared.rule.TheConstants as script_rule
 use Rattle.reconf_spec.specs.Answers.{CycleAmong, NamedAmong}
 use Rattle.reconf_spec.specs.Documents.{spec_of, unranked_of}
-use Rattle.reconf_spec.specs.Texts.{spec_text}
 use Rattle.fault_script.specs.declared.assumption.Outside.{Outside}
 use Rattle.fault_script.specs.Assumption.{first_outside}
 use Rattle.fault_script.specs.Reading.{script_of}
-use Rattle.fault_script.specs.Texts.{script_text}
 use Rattle.mission_gen.specs.Changes.{generated_script}
-use Rattle.mission_gen.specs.Specifications.{generated_text}
+use Rattle.mission_gen.specs.Specifications.{generated_text, mission_text}
 use Rattle.coverage_check.specs.declared.shown.Shown.{Shown}
 use Rattle.coverage_check.specs.Acceptance.{first_refusal}
 use Rattle.coverage_check.specs.Form.{state_refusal}
@@ -178,10 +176,6 @@ pub record RefusesSpec (bytes : List ℕ) (fault : DocFault) (status : ℕ) (tex
 abbrev pub SpecAnswers : Request (List ℕ) → List ℕ → Result Parts DocFault → Answer
 SpecAnswers request bytes (Err fault) = WithoutFiles (RefusesSpec bytes fault)
 SpecAnswers request bytes (Ok spec) = RequestAnswers request spec
-
--- the canonical specification and the canonical script, a line each
-abbrev pub mission_text : Parts → ScriptParts → List ℕ
-mission_text spec script = spec_text spec ++ codes "\n" ++ script_text spec script ++ codes "\n"
 
 -- the answer for the mission of a number
 abbrev pub mission_answer : ℕ → Purpose → Parts → ScriptParts → ℕ × List ℕ

@@ -9,6 +9,7 @@ use Rattle.fault_script.specs.Reading.{script_of}
 use Rattle.reconf_spec.specs.Documents.{spec_of}
 use Rattle.trace_text.specs.TraceReading.{trace_of}
 use Rattle.mission_gen.specs.Changes.{generated_script}
+use Rattle.mission_gen.specs.Specifications.{mission_text}
 use Rattle.coverage_check.specs.Acceptance.{Accepts, first_refusal}
 use Rattle.coverage_check.specs.Missions.{IsMission, mission_of}
 use Rattle.frame_model.specs.Flights.{reports_of, rows_of}
@@ -22,7 +23,7 @@ use Rattle.scram_cli.specs.declared.forms.Purpose.{Purpose}
 use Rattle.scram_cli.specs.declared.forms.Purpose.TheVariants.{Print, Fly}
 use Rattle.scram_cli.specs.declared.forms.Request.{Request}
 use Rattle.scram_cli.specs.declared.forms.Request.TheVariants.{Run, Check, Bounds, Props}
-use Rattle.scram_cli.specs.Answers.{Answer, Gives, IsGenerated, flight_answer, mission_text, flight_text}
+use Rattle.scram_cli.specs.Answers.{Answer, Gives, IsGenerated, flight_answer, flight_text}
 use Rattle.scram_cli.specs.Bounds.{bounds_text}
 use Rattle.scram_cli.specs.Lines.{accepted_line, holds_line}
 

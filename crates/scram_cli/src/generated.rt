@@ -1,10 +1,11 @@
 //! Missions from a number: printed, or flown.
 
-ghost use Rattle.std.specs.Prelude.{◌≡◌, ◌≢◌, ℕ, List, [], IfOk};
+ghost use Rattle.std.specs.Prelude.{◌≡◌, ◌≢◌, ℕ, List, []};
 ghost use Rattle.app_model.specs.Racks.{RacksFit};
 ghost use Rattle.fault_script.specs.Fits.{Fits};
 ghost use Rattle.scram_io.specs.Outside.{Rose, Took};
-ghost use Rattle.scram_cli.specs.Answers.{Gives, IsMissionAnswer, mission_answer, mission_text};
+ghost use Rattle.scram_cli.specs.Answers.{Gives, IsMissionAnswer, mission_answer};
+ghost use Rattle.mission_gen.specs.Specifications.{mission_text};
 ghost use Rattle.scram_cli.specs.Assurance.{AssuresMission};
 ghost use Rattle.scram_cli.specs.Endings.{Tells};
 ghost use Rattle.scram_cli.specs.declared.status.TheConstants.{ANSWERED, UNREAD_FILE, UNWRITTEN_OUTPUT};
@@ -15,11 +16,9 @@ use crate::forms::Purpose;
 use crate::refusals::{refuse_memory, tell};
 use crate::status::{ANSWERED, Status};
 use app_model::Rack;
-use fault_script::write_script;
-use mission_gen::generate;
-use reconf_spec::write_spec;
+use mission_gen::{generate, write_mission};
 use scram_io::Sink;
-use scram_types::{NoMemory, Script, Spec};
+use scram_types::{Script, Spec};
 use std::alloc::Global;
 
 /// Generates the mission of a number, and does with it what it is for.
@@ -75,16 +74,4 @@ fn print_mission<K: Sink>(alloc: Global, spec: &Spec, script: &Script, out: &mut
         Ok(text) => tell(out, ANSWERED, &text),
         Err(_) => refuse_memory(out),
     }
-}
-
-// The canonical specification and the canonical script, a line each.
-fn write_mission(alloc: Global, spec: &Spec, script: &Script) -> Result<Vec<u8>, NoMemory>
-    ensures { IfOk result (λ text. text.items ≡ mission_text spec.now script.now) }
-{
-    let mut text = write_spec(alloc, spec)?;
-    text.push(b'\n')?;
-    let line = write_script(alloc, script, spec)?;
-    text.extend_from_slice(&line)?;
-    text.push(b'\n')?;
-    Ok(text)
 }

@@ -1,4 +1,4 @@
-use Rattle.std.proofs.Common.{◌≡◌, ℕ, ap, length, ◌∙◌}
+use Rattle.std.proofs.Common.{ℕ, ap, length, ◌∙◌}
 use Rattle.scram_types.specs.Bits.{has_bit}
 use Rattle.scram_types.proofs.BitSets.{has_bits}
 use Rattle.coverage_check.specs.Timing.{is_bound_asked}

@@ -1,4 +1,3 @@
-use Rattle.std.proofs.Common.{inl, refl}
 use Rattle.std.specs.Prelude.{Some}
 use Rattle.scram_cli.specs.Answers.{Gives, IsJudgement, judged_answer}
 use Rattle.scram_cli.proofs.Endings.{tells_other}
