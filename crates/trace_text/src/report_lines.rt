@@ -5,7 +5,6 @@ ghost use Rattle.trace_text.specs.Text.{bound_text, length_text, target_text, re
 ghost use Rattle.scram_types.specs.declared.limits.TheConstants.{MAX_LINE_BYTES};
 
 use crate::lines::Line;
-use crate::row_lines::name_of_conf;
 use scram_types::{ConfId, Report, Spec};
 
 /// The line of a reconfiguration: where it led, how long it took, and the bound on it.
@@ -14,7 +13,7 @@ pub fn make_report_line(spec: &Spec, report: &Report) -> Line
 {
     let mut line = Line::new();
     line.text(b"reconfiguration ");
-    line.text(name_of_conf(spec, report.from).as_bytes());
+    line.text(spec.conf_name(report.from).as_bytes());
     match report.to {
         Some(to) => add_finished(&mut line, spec, report, to),
         None => add_unfinished(&mut line, spec, report),
@@ -42,7 +41,7 @@ fn add_finished(line: &mut Line, spec: &Spec, report: &Report, to: ConfId)
     ensures short { length line.new ≤ length line.old + 90 }
 {
     line.text(b" > ");
-    line.text(name_of_conf(spec, to).as_bytes());
+    line.text(spec.conf_name(to).as_bytes());
     line.text(b" begin ");
     line.number(report.begin);
     line.text(b" end ");
@@ -72,7 +71,8 @@ fn add_length(line: &mut Line, report: &Report, bound: Option<u32>)
     add_bound(line, bound);
 }
 
-fn add_bound(line: &mut Line, bound: Option<u32>)
+/// Adds a bound in frames, or `-` for none.
+pub fn add_bound(line: &mut Line, bound: Option<u32>)
     requires { length line.old + 10 ≤ MAX_LINE_BYTES }
     ensures text { line.new ≡ line.old ++ bound_text bound }
     ensures short { length line.new ≤ length line.old + 10 }

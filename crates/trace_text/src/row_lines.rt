@@ -3,7 +3,6 @@
 ghost use Rattle.std.specs.Prelude.{◌≡◌, ◌+◌, ◌*◌, ◌≤◌, ◌++◌, [], length, codes, if◌then◌else◌};
 ghost use Rattle.app_model.specs.Names.{mode_text};
 ghost use Rattle.trace_text.specs.Names.{conf_or_dash, values_named, further_joined};
-ghost use Rattle.scram_types.specs.Lookups.{value_name, proc_name, conf_name};
 ghost use Rattle.trace_text.specs.Text.{kernel_mode_text, values_text, up_text, world_text, row_line, phase_text, act_text, area_text, app_line};
 ghost use Rattle.scram_types.specs.declared.limits.TheConstants.{MAX_LINE_BYTES};
 
@@ -47,37 +46,6 @@ pub fn make_app_line(spec: &Spec, app: &AppSpec, act: &Act, area: &Area) -> Line
     line
 }
 
-/// The name of a configuration, or nothing where there is none of this number.
-pub fn name_of_conf(spec: &Spec, conf: ConfId) -> &str
-    ensures name { result.now ≡ conf_name spec.now conf.0 }
-    ensures short { length result.now ≤ 16 }
-{
-    match spec.conf(conf) {
-        Some(conf) => conf.name.as_str(),
-        None => "",
-    }
-}
-
-fn name_of_proc(spec: &Spec, proc: ProcId) -> &str
-    ensures name { result.now ≡ proc_name spec.now proc.0 }
-    ensures short { length result.now ≤ 16 }
-{
-    match spec.proc(proc) {
-        Some(proc) => proc.name.as_str(),
-        None => "",
-    }
-}
-
-fn name_of_value(factor: &Factor, value: u8) -> &str
-    ensures name { result.now ≡ value_name factor.now value }
-    ensures short { length result.now ≤ 16 }
-{
-    match factor.values.items().get(usize::from(value)) {
-        Some(name) => name.as_str(),
-        None => "",
-    }
-}
-
 #[tactic(auto, using(app_model::proofs::ShortNames::mode_short))]
 pub fn name_of_mode(kind: KindId, mode: Mode) -> &'static str
     ensures name { result.now ≡ mode_text kind.0 mode.0 }
@@ -89,13 +57,14 @@ pub fn name_of_mode(kind: KindId, mode: Mode) -> &'static str
     }
 }
 
-fn add_conf_or_dash(line: &mut Line, spec: &Spec, conf: Option<ConfId>)
+/// Adds the name of a configuration, or `-` for none.
+pub fn add_conf_or_dash(line: &mut Line, spec: &Spec, conf: Option<ConfId>)
     requires { length line.old + 16 ≤ MAX_LINE_BYTES }
     ensures text { line.new ≡ line.old ++ conf_or_dash spec.now conf }
     ensures short { length line.new ≤ length line.old + 16 }
 {
     match conf {
-        Some(conf) => line.text(name_of_conf(spec, conf).as_bytes()),
+        Some(conf) => line.text(spec.conf_name(conf).as_bytes()),
         None => line.text(b"-"),
     }
 }
@@ -108,7 +77,7 @@ fn add_mode(line: &mut Line, spec: &Spec, mode: &KMode)
     match mode {
         KMode::Stable(conf) => {
             line.text(b"stable ");
-            line.text(name_of_conf(spec, *conf).as_bytes());
+            line.text(spec.conf_name(*conf).as_bytes());
         }
         KMode::Moving {
             from,
@@ -117,11 +86,11 @@ fn add_mode(line: &mut Line, spec: &Spec, mode: &KMode)
             since,
         } => {
             line.text(b"moving ");
-            line.text(name_of_conf(spec, *from).as_bytes());
+            line.text(spec.conf_name(*from).as_bytes());
             line.text(b" ");
             add_conf_or_dash(line, spec, *halting);
             line.text(b" ");
-            line.text(name_of_conf(spec, *to).as_bytes());
+            line.text(spec.conf_name(*to).as_bytes());
             line.text(b" ");
             line.number(*since);
         }
@@ -136,7 +105,7 @@ fn add_values(line: &mut Line, spec: &Spec, values: &[u8; 6])
     match spec.factors.items() {
         [] => line.text(b"-"),
         [first, rest @ ..] => {
-            line.text(name_of_value(first, values[0]).as_bytes());
+            line.text(first.value_name(values[0]).as_bytes());
             add_further_values(line, rest, values);
         }
     }
@@ -150,7 +119,7 @@ fn add_further_values(line: &mut Line, factors: &[Factor], values: &[u8; 6])
 {
     for (i, factor) in factors.iter().enumerate() {
         line.text(b",");
-        line.text(name_of_value(factor, values[i + 1]).as_bytes());
+        line.text(factor.value_name(values[i + 1]).as_bytes());
     }
 }
 
@@ -207,7 +176,7 @@ fn add_phase(line: &mut Line, spec: &Spec, k: u8, n: u8, proc: ProcId)
     line.text(b"/");
     line.number(u32::from(n));
     line.text(b" ");
-    line.text(name_of_proc(spec, proc).as_bytes());
+    line.text(spec.proc_name(proc).as_bytes());
 }
 
 fn add_act(line: &mut Line, spec: &Spec, kind: KindId, act: &Act)
@@ -220,7 +189,7 @@ fn add_act(line: &mut Line, spec: &Spec, kind: KindId, act: &Act)
             line.text(b"ran ");
             line.text(name_of_mode(kind, *mode).as_bytes());
             line.text(b" ");
-            line.text(name_of_proc(spec, *proc).as_bytes());
+            line.text(spec.proc_name(*proc).as_bytes());
         }
         Act::Halting(k, n, proc) => {
             line.text(b"halting ");
