@@ -4,11 +4,13 @@ use Rattle.std.specs.Prelude.{◌==◌, codes, nat_lt, ⊤, if◌then◌else◌}
 use Rattle.std.proofs.lemmas.Bool.{ltb-false}
 use Rattle.std.proofs.lemmas.List.Splits.{length-slice_split}
 use Rattle.std.proofs.lemmas.List.Sums.{count_by-le-length}
+use Rattle.scram_types.specs.declared.limits.TheConstants.{MAX_TRACE_BYTES}
 use Rattle.scram_types.specs.Specification.{Parts}
 use Rattle.scram_types.specs.declared.flights.Flown.{Flown}
 use Rattle.scram_types.specs.declared.flights.Report.{Report}
 use Rattle.scram_types.specs.declared.flights.Row.{Row}
 use Rattle.trace_text.specs.declared.app_reading.Done.{Done}
+use Rattle.trace_text.specs.declared.rule.TheConstants.{WRONG_END}
 use Rattle.trace_text.specs.declared.progress.Standing.{Standing}
 use Rattle.trace_text.specs.declared.progress.Standing.TheVariants.{Rows, Apps, Reports, Over}
 use Rattle.trace_text.specs.declared.trace_reading.TraceFault.{TraceFault}
@@ -121,16 +123,16 @@ few_pieces bytes =
     let test : ℕ → Bool = λ (b : ℕ). b == 10 in
     omega (arith, length-slice_split test bytes, count_by-le-length test bytes)
 
-up_to_bytes : (spec : Parts) (bytes : List ℕ) (b : Bool) → b ≡ nat_lt 33554432 (length bytes) →
-    UpTo 33554433 33554433 (if b then Err (fault_at 0 9) else trace_from spec 1 before_first (pieces_of 10 bytes))
+up_to_bytes : (spec : Parts) (bytes : List ℕ) (b : Bool) → b ≡ nat_lt MAX_TRACE_BYTES (length bytes) →
+    UpTo 33554433 33554433 (if b then Err (fault_at 0 WRONG_END) else trace_from spec 1 before_first (pieces_of 10 bytes))
 up_to_bytes spec bytes true long = tt
 up_to_bytes spec bytes false short =
-    let few : length (pieces_of 10 bytes) ≤ 33554433 = omega (arith, few_pieces bytes, ltb-false 33554432 (length bytes) (sym short)) in
+    let few : length (pieces_of 10 bytes) ≤ 33554433 = omega (arith, few_pieces bytes, ltb-false MAX_TRACE_BYTES (length bytes) (sym short)) in
     wider (0 + length (pieces_of 10 bytes)) (0 + length (pieces_of 10 bytes)) 33554433 33554433 (trace_from spec 1 before_first (pieces_of 10 bytes))
     (omega (arith, few)) (omega (arith, few)) (up_to_lines spec 1 before_first (pieces_of 10 bytes))
 
 -- the rows and reports of a trace can be counted with 32 bits
 pub counted : (spec : Parts) (bytes : List ℕ) (flown : Flown) → trace_of spec bytes ≡ Ok flown → IsCounted flown
 counted spec bytes flown reads =
-    let known : UpTo 33554433 33554433 (Ok flown) = rw reads at (up_to_bytes spec bytes (nat_lt 33554432 (length bytes)) refl) in
+    let known : UpTo 33554433 33554433 (Ok flown) = rw reads at (up_to_bytes spec bytes (nat_lt MAX_TRACE_BYTES (length bytes)) refl) in
     (omega (arith, known.0), omega (arith, known.1))

@@ -10,6 +10,7 @@ use Rattle.scram_types.specs.declared.specification.Conf.{Conf}
 use Rattle.scram_types.specs.declared.specification.Factor.{Factor}
 use Rattle.scram_types.specs.declared.specification.Policy.TheVariants as policy
 use Rattle.scram_types.specs.declared.specification.Proc.{Proc}
+use Rattle.scram_types.specs.Lookups.{conf_id}
 use Rattle.scram_types.specs.Specification.{Parts}
 use Rattle.fault_script.specs.declared.assumption.OutsideKind.TheVariants as kind
 use Rattle.coverage_check.specs.declared.shown.Other.TheVariants as other
@@ -24,9 +25,6 @@ two_valued name = record { name = name; values = codes "ok" ∷ codes "failed" �
 
 abbrev proc : List ℕ → Proc
 proc name = record { name = name; capacity = 100 }
-
-abbrev numbered : ℕ → ConfId
-numbered c = record { 0 = c }
 
 -- the names of a mission, and what its failure assumption is
 abbrev named : List Factor → List Bound → Parts
@@ -73,7 +71,7 @@ script = refl
 -- a processor is down, and nothing else is shown
 down : shown_line alternators (record {
   condition = 5;
-  conf = Some (numbered 0);
+  conf = Some (conf_id 0);
   env = Some (record { up = 2; factors = replicate 6 0 });
   other = other.Nothing;
 }) ≡ codes "refused: A5 full alternator1=ok,alternator2=ok,down=p0 -\n"
@@ -83,9 +81,9 @@ down = refl
 -- an alternator has failed, and a further configuration is shown
 failed : shown_line alternators (record {
   condition = 7;
-  conf = Some (numbered 0);
+  conf = Some (conf_id 0);
   env = Some (record { up = 3; factors = 1 ∷ 0 ∷ 0 ∷ 0 ∷ 0 ∷ 0 ∷ [] });
-  other = other.Conf (numbered 1);
+  other = other.Conf (conf_id 1);
 }) ≡ codes "refused: A7 full alternator1=failed,alternator2=ok,down=- reduced_a\n"
 unfolding digits
 failed = refl
@@ -93,7 +91,7 @@ failed = refl
 -- without factors, with both processors down
 both_down : shown_line (named [] []) (record {
   condition = 5;
-  conf = Some (numbered 1);
+  conf = Some (conf_id 1);
   env = Some (record { up = 0; factors = replicate 6 0 });
   other = other.Nothing;
 }) ≡ codes "refused: A5 reduced_a down=p0+p1 -\n"
@@ -104,22 +102,22 @@ states : shown_line alternators (record { condition = 2; conf = None; env = None
 unfolding digits
 states = refl
 
-bound : shown_line alternators (record { condition = 9; conf = Some (numbered 0); env = None; other = other.Least (numbered 1) 12 })
+bound : shown_line alternators (record { condition = 9; conf = Some (conf_id 0); env = None; other = other.Least (conf_id 1) 12 })
     ≡ codes "refused: A9 full - reduced_a:12\n"
 unfolding digits
 bound = refl
 
-place : shown_line alternators (record { condition = 12; conf = Some (numbered 1); env = None; other = other.Item 3 })
+place : shown_line alternators (record { condition = 12; conf = Some (conf_id 1); env = None; other = other.Item 3 })
     ≡ codes "refused: A12 reduced_a - 3\n"
 unfolding digits
 place = refl
 
-need : shown_line alternators (record { condition = 1; conf = Some (numbered 0); env = None; other = other.App (record { 0 = 0 }) })
+need : shown_line alternators (record { condition = 1; conf = Some (conf_id 0); env = None; other = other.App (record { 0 = 0 }) })
     ≡ codes "refused: A1 full - autopilot\n"
 unfolding digits
 need = refl
 
-load : shown_line alternators (record { condition = 4; conf = Some (numbered 0); env = None; other = other.Proc (record { 0 = 1 }) })
+load : shown_line alternators (record { condition = 4; conf = Some (conf_id 0); env = None; other = other.Proc (record { 0 = 1 }) })
     ≡ codes "refused: A4 full - p1\n"
 unfolding digits
 load = refl
@@ -152,7 +150,7 @@ unfolding digits
 broken = refl
 
 reconfiguration : Option ConfId → ℕ → ℕ → Report
-reconfiguration to begin end = record { from = numbered 0; to = to; begin = begin; end = end }
+reconfiguration to begin end = record { from = conf_id 0; to = to; begin = begin; end = end }
 
 -- an unfinished reconfiguration counts
 holds : (row : Row) → holds_line (record { rows = replicate 11 row; reports = reconfiguration None 10 11 ∷ [] })
@@ -161,7 +159,7 @@ unfolding digits
 holds row = refl
 
 -- without rows the start configuration is shown, and an unfinished reconfiguration is none of the longest
-flown : fly_line 18 alternators [] (reconfiguration (Some (numbered 1)) 10 15 ∷ reconfiguration (Some (numbered 0)) 50 57 ∷ reconfiguration None 60 99 ∷ [])
+flown : fly_line 18 alternators [] (reconfiguration (Some (conf_id 1)) 10 15 ∷ reconfiguration (Some (conf_id 0)) 50 57 ∷ reconfiguration None 60 99 ∷ [])
     ≡ codes "fly 18 frames 0 reconfigurations 3 longest 7 final full\n"
 unfolding digits reconfiguration
 flown = refl

@@ -12,6 +12,7 @@ use Rattle.scram_io.specs.Outside.{FilesState, History, IsLonger, Rose}
 use Rattle.reconf_spec.specs.declared.fault.SpecFault.{SpecFault}
 use Rattle.reconf_spec.specs.declared.rule.TheConstants as specification_rule
 use Rattle.fault_script.specs.declared.rule.TheConstants as script_rule
+use Rattle.trace_text.specs.declared.rule.TheConstants as trace_rule
 use Rattle.reconf_spec.specs.Answers.{CycleAmong, NamedAmong}
 use Rattle.reconf_spec.specs.Documents.{spec_of, unranked_of}
 use Rattle.fault_script.specs.declared.assumption.Outside.{Outside}
@@ -142,11 +143,13 @@ TraceAnswers spec (Ok flown) = IsJudgement spec flown
 abbrev pub long_specification : ℕ × List ℕ
 long_specification = (BROKEN_SPECIFICATION, specification_line (record { rule = specification_rule.TOO_LONG; path = []; cycle = record { items = [] }; names = record { items = [] } }))
 
+-- The answer to a script that is too long.
 abbrev pub long_script : ℕ × List ℕ
 long_script = (BROKEN_SCRIPT, script_line (record { rule = script_rule.TOO_LONG; path = [] }))
 
+-- The answer to a trace that is too long.
 abbrev pub long_trace : ℕ × List ℕ
-long_trace = (BROKEN_TRACE, trace_line (record { line = 0; rule = 9 }))
+long_trace = (BROKEN_TRACE, trace_line (record { line = 0; rule = trace_rule.WRONG_END }))
 
 -- the answer to what is asked of a specification that is read
 abbrev pub RequestAnswers : Request (List ℕ) → Parts → Answer

@@ -35,6 +35,7 @@ Loads Reads Refuses limit name before after NoMemory = Grew before after [] ⊎ 
 abbrev pub ReadsAsSpec : Parts → List ℕ → Type 0
 ReadsAsSpec spec bytes = spec_of bytes ≡ Ok spec
 
+-- The bytes are refused as a specification with this fault, and a cycle is shown where that is the fault.
 pub record RefusesAsSpec (fault : SpecFault) (bytes : List ℕ) : Type 0 where
   pub refuses : spec_of bytes ≡ Err (record { rule = fault.rule; path = fault.path })
   pub shows : ShowsCycle (unranked_of bytes) (Fault fault)
@@ -43,6 +44,7 @@ pub record RefusesAsSpec (fault : SpecFault) (bytes : List ℕ) : Type 0 where
 abbrev pub ReadsAsScript : Parts → ScriptParts → List ℕ → Type 0
 ReadsAsScript spec script bytes = script_of spec bytes ≡ Ok script
 
+-- The bytes are refused as a script with this fault.
 abbrev pub RefusesAsScript : Parts → DocFault → List ℕ → Type 0
 RefusesAsScript spec fault bytes = script_of spec bytes ≡ Err fault
 
@@ -58,6 +60,7 @@ FitsWhereGot spec NoMemory = ⊤
 abbrev pub ReadsAsTrace : Parts → Flown → List ℕ → Type 0
 ReadsAsTrace spec flown bytes = trace_of spec bytes ≡ Ok flown
 
+-- The bytes are refused as a trace with this fault.
 abbrev pub RefusesAsTrace : Parts → TraceFault → List ℕ → Type 0
 RefusesAsTrace spec fault bytes = trace_of spec bytes ≡ Err fault
 

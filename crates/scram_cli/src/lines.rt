@@ -1,9 +1,8 @@
 //! The lines in which the command answers, made without memory.
 
 ghost use Rattle.std.specs.Prelude.{◌≡◌, ◌+◌, ◌*◌, ◌≤◌, ◌++◌, [], ◌<◌, ◌^◌, length, codes, if◌then◌else◌};
-ghost use Rattle.scram_types.specs.Lookups.{app_name, proc_name, value_name};
-ghost use Rattle.trace_text.specs.Names.{conf_or_dash, further_joined};
-ghost use Rattle.trace_text.specs.Text.{bound_text};
+ghost use Rattle.scram_types.specs.declared.limits.TheConstants.{MAX_LINE_BYTES};
+ghost use Rattle.trace_text.specs.Names.{further_joined};
 ghost use Rattle.scram_cli.specs.Lines.{accepted_line, added, bound_line, broken_line, counts_text, cycle_text, env_or_dash, env_text, factors_text, fly_line, holds_line, outside_kind_text, names_down, other_text, outside_line, rule_text, script_line, shown_line, specification_line, trace_line};
 
 use crate::summaries::{last_run, longest_duration};
@@ -13,11 +12,12 @@ use coverage_check::{Other, Shown};
 use fault_script::{Outside, OutsideKind, ScriptFault};
 use reconf_spec::SpecFault;
 use scram_doc::Path;
-use scram_types::{AppId, ConfId, Env, Factor, Flown, Name, ProcId, Spec};
+use scram_types::{ConfId, Env, Factor, Flown, Name, Spec};
 use trace_props::Broken;
 use trace_text::TraceFault;
 use trace_text::lines::Line;
-use trace_text::row_lines::name_of_conf;
+use trace_text::report_lines::add_bound;
+use trace_text::row_lines::add_conf_or_dash;
 
 /// A specification document breaks a rule. Where its needs go in a cycle, the line has the names of the
 /// applications in it.
@@ -96,9 +96,9 @@ pub fn make_bound_line(spec: &Spec, from: ConfId, to: ConfId) -> Line
 {
     let mut line = Line::new();
     line.text(b"bound ");
-    line.text(name_of_conf(spec, from).as_bytes());
+    line.text(spec.conf_name(from).as_bytes());
     line.text(b" ");
-    line.text(name_of_conf(spec, to).as_bytes());
+    line.text(spec.conf_name(to).as_bytes());
     line.text(b" least ");
     line.number(least(spec, from, to));
     line.text(b" given ");
@@ -160,13 +160,13 @@ pub fn make_fly_line(number: u32, spec: &Spec, flown: &Flown) -> Line
     line.text(b" longest ");
     line.number(longest_duration(flown.reports.items()));
     line.text(b" final ");
-    line.text(name_of_conf(spec, last_run(spec, flown.rows.items())).as_bytes());
+    line.text(spec.conf_name(last_run(spec, flown.rows.items())).as_bytes());
     line.text(b"\n");
     line
 }
 
 fn add_counts(line: &mut Line, flown: &Flown)
-    requires room { length line.old + 46 ≤ 512 }
+    requires room { length line.old + 46 ≤ MAX_LINE_BYTES }
     requires rows { length flown.now.rows < 2 ^ 32 }
     requires reports { length flown.now.reports < 2 ^ 32 }
     ensures text { line.new ≡ line.old ++ counts_text flown.now.rows flown.now.reports }
@@ -179,7 +179,7 @@ fn add_counts(line: &mut Line, flown: &Flown)
 }
 
 fn add_rule(line: &mut Line, rule: u8, path: &Path)
-    requires { length line.old + 84 ≤ 512 }
+    requires { length line.old + 84 ≤ MAX_LINE_BYTES }
     ensures text { line.new ≡ line.old ++ rule_text rule path.now }
     ensures short { length line.new ≤ length line.old + 84 }
 {
@@ -190,7 +190,7 @@ fn add_rule(line: &mut Line, rule: u8, path: &Path)
 }
 
 fn add_cycle(line: &mut Line, names: &[Name])
-    requires room { length line.old + 150 ≤ 512 }
+    requires room { length line.old + 150 ≤ MAX_LINE_BYTES }
     requires few { length names.now ≤ 8 }
     ensures text { line.new ≡ line.old ++ cycle_text names.now }
     ensures short { length line.new ≤ length line.old + 150 }
@@ -206,7 +206,7 @@ fn add_cycle(line: &mut Line, names: &[Name])
 }
 
 fn add_further(line: &mut Line, names: &[Name])
-    requires { length line.old + 17 * length names.now ≤ 512 }
+    requires { length line.old + 17 * length names.now ≤ MAX_LINE_BYTES }
     ensures text { line.new ≡ line.old ++ further_joined names.now }
     ensures short { length line.new ≤ length line.old + 17 * length names.now }
 {
@@ -216,19 +216,8 @@ fn add_further(line: &mut Line, names: &[Name])
     }
 }
 
-fn add_conf_or_dash(line: &mut Line, spec: &Spec, conf: Option<ConfId>)
-    requires { length line.old + 16 ≤ 512 }
-    ensures text { line.new ≡ line.old ++ conf_or_dash spec.now conf }
-    ensures short { length line.new ≤ length line.old + 16 }
-{
-    match conf {
-        Some(conf) => line.text(name_of_conf(spec, conf).as_bytes()),
-        None => line.text(b"-"),
-    }
-}
-
 fn add_env_or_dash(line: &mut Line, spec: &Spec, env: &Option<Env>)
-    requires { length line.old + 346 ≤ 512 }
+    requires { length line.old + 346 ≤ MAX_LINE_BYTES }
     ensures text { line.new ≡ line.old ++ env_or_dash spec.now env.now }
     ensures short { length line.new ≤ length line.old + 346 }
 {
@@ -239,7 +228,7 @@ fn add_env_or_dash(line: &mut Line, spec: &Spec, env: &Option<Env>)
 }
 
 fn add_env(line: &mut Line, spec: &Spec, env: &Env)
-    requires { length line.old + 346 ≤ 512 }
+    requires { length line.old + 346 ≤ MAX_LINE_BYTES }
     ensures text { line.new ≡ line.old ++ env_text spec.now env.now }
     ensures short { length line.new ≤ length line.old + 346 }
 {
@@ -249,7 +238,7 @@ fn add_env(line: &mut Line, spec: &Spec, env: &Env)
 }
 
 fn add_factors(line: &mut Line, factors: &[Factor], values: &[u8; 6])
-    requires room { length line.old + 34 * length factors.now ≤ 512 }
+    requires room { length line.old + 34 * length factors.now ≤ MAX_LINE_BYTES }
     requires few { length factors.now ≤ 6 }
     ensures text { line.new ≡ line.old ++ factors_text factors.now 0 values.now }
     ensures short { length line.new ≤ length line.old + 34 * length factors.now }
@@ -257,13 +246,13 @@ fn add_factors(line: &mut Line, factors: &[Factor], values: &[u8; 6])
     for (i, factor) in factors.iter().enumerate() {
         line.text(factor.name.as_str().as_bytes());
         line.text(b"=");
-        line.text(name_of_value(factor, values[i]).as_bytes());
+        line.text(factor.value_name(values[i]).as_bytes());
         line.text(b",");
     }
 }
 
 fn add_down(line: &mut Line, spec: &Spec, up: u8)
-    requires { length line.old + 137 ≤ 512 }
+    requires { length line.old + 137 ≤ MAX_LINE_BYTES }
     ensures text { line.new ≡ line.old ++ added (names_down spec.now.procs up) }
     ensures short { length line.new ≤ length line.old + 137 }
 {
@@ -282,7 +271,7 @@ fn add_down(line: &mut Line, spec: &Spec, up: u8)
 }
 
 fn add_joined(line: &mut Line, is_further: bool, name: &Name)
-    requires { length line.old + 17 ≤ 512 }
+    requires { length line.old + 17 ≤ MAX_LINE_BYTES }
     ensures text { line.new ≡ line.old ++ (if is_further then codes "+" else []) ++ name.now }
     ensures short { length line.new ≤ length line.old + 17 }
 {
@@ -293,18 +282,18 @@ fn add_joined(line: &mut Line, is_further: bool, name: &Name)
 }
 
 fn add_other(line: &mut Line, spec: &Spec, other: &Other)
-    requires { length line.old + 27 ≤ 512 }
+    requires { length line.old + 27 ≤ MAX_LINE_BYTES }
     ensures text { line.new ≡ line.old ++ other_text spec.now other.now }
     ensures short { length line.new ≤ length line.old + 27 }
 {
     match other {
         Other::Nothing => line.text(b"-"),
-        Other::App(app) => line.text(name_of_app(spec, *app).as_bytes()),
-        Other::Proc(proc) => line.text(name_of_proc(spec, *proc).as_bytes()),
-        Other::Conf(conf) => line.text(name_of_conf(spec, *conf).as_bytes()),
+        Other::App(app) => line.text(spec.app_name(*app).as_bytes()),
+        Other::Proc(proc) => line.text(spec.proc_name(*proc).as_bytes()),
+        Other::Conf(conf) => line.text(spec.conf_name(*conf).as_bytes()),
         Other::Count(count) => line.number(*count),
         Other::Least(target, frames) => {
-            line.text(name_of_conf(spec, *target).as_bytes());
+            line.text(spec.conf_name(*target).as_bytes());
             line.text(b":");
             line.number(*frames);
         }
@@ -313,53 +302,12 @@ fn add_other(line: &mut Line, spec: &Spec, other: &Other)
 }
 
 fn add_outside_kind(line: &mut Line, kind: OutsideKind)
-    requires { length line.old + 7 ≤ 512 }
+    requires { length line.old + 7 ≤ MAX_LINE_BYTES }
     ensures text { line.new ≡ line.old ++ outside_kind_text kind }
     ensures short { length line.new ≤ length line.old + 7 }
 {
     match kind {
         OutsideKind::Halts => line.text(b"halts"),
         OutsideKind::Changes => line.text(b"changes"),
-    }
-}
-
-fn add_bound(line: &mut Line, bound: Option<u32>)
-    requires { length line.old + 10 ≤ 512 }
-    ensures text { line.new ≡ line.old ++ bound_text bound }
-    ensures short { length line.new ≤ length line.old + 10 }
-{
-    match bound {
-        Some(frames) => line.number(frames),
-        None => line.text(b"-"),
-    }
-}
-
-fn name_of_app(spec: &Spec, app: AppId) -> &str
-    ensures name { result.now ≡ app_name spec.now app.0 }
-    ensures short { length result.now ≤ 16 }
-{
-    match spec.app(app) {
-        Some(app) => app.name.as_str(),
-        None => "",
-    }
-}
-
-fn name_of_proc(spec: &Spec, proc: ProcId) -> &str
-    ensures name { result.now ≡ proc_name spec.now proc.0 }
-    ensures short { length result.now ≤ 16 }
-{
-    match spec.proc(proc) {
-        Some(proc) => proc.name.as_str(),
-        None => "",
-    }
-}
-
-fn name_of_value(factor: &Factor, value: u8) -> &str
-    ensures name { result.now ≡ value_name factor.now value }
-    ensures short { length result.now ≤ 16 }
-{
-    match factor.values.items().get(usize::from(value)) {
-        Some(name) => name.as_str(),
-        None => "",
     }
 }

@@ -109,6 +109,9 @@ pub fn refuse_long_trace<K: Sink>(out: &mut K) -> Status
     tell_line(
         out,
         BROKEN_TRACE,
-        &make_trace_line(TraceFault { line: 0, rule: 9 }),
+        &make_trace_line(TraceFault {
+            line: 0,
+            rule: trace_text::rule::WRONG_END,
+        }),
     )
 }
