@@ -7,7 +7,7 @@ use Rattle.bank_words.specs.declared.events.Event.{Event}
 use Rattle.bank_words.specs.declared.events.Event.TheVariants.{Start, Look, Store, Flip, Done, Halt, KNote, KStore, Release}
 use Rattle.scram_types.specs.Lookups.{proc_id}
 use Rattle.fail_stop.specs.Events.{At, Halted, Places, Word, ReleaseWord, KernelWord, MarkWord, EndWord, BankWord, IsStored, IsNext, Happens, halts_at, next_from}
-use Rattle.fail_stop.specs.Kept.{Kept, word_at, release_at, opening_places, opening_words}
+use Rattle.fail_stop.specs.Kept.{Kept, stored_word, release_at, opening_places, opening_words}
 use Rattle.fail_stop.proofs.Plans.{gate, is_less, Mid, mid, Begin, begin, plan_look, plan_store, plan_flip, plan_done, plan_halt, HaltsHere, halts_here, next_note, next_kstore, next_release}
 use Rattle.fail_stop.proofs.ProcessorEvents.{look_keeps, store_keeps, flip_keeps, done_keeps, halt_keeps, start_keeps, back_keeps, unflipped, bank_begin, made_none}
 use Rattle.fail_stop.proofs.KernelEvents.{note_keeps, kstore_keeps, release_keeps, kernel_zero}
@@ -60,7 +60,7 @@ module _ (m : Flight) (at : Places) (words : Word → ℕ) (at2 : Places) (words
   keeps (KStore x) i h = let c = next_kstore m at words x i in kstore_keeps m at words at2 words2 k x h c.1 c.2 c.3
   keeps Release i h = let c = next_release m at words i in release_keeps m at words at2 words2 k h c.0 c.1
 
-opening_word : (m : Flight) (w : Word) → IsStored m w → opening_words m w ≡ word_at m opening_places w
+opening_word : (m : Flight) (w : Word) → IsStored m w → opening_words m w ≡ stored_word m opening_places w
 unfolding last_commit side end_before bank_before
 opening_word m ReleaseWord l = refl
 opening_word m (KernelWord i) l = sym (kernel_zero m 0 0 i (omega arith))

@@ -8,7 +8,7 @@ use Rattle.bank_words.specs.declared.events.Event.{Event}
 use Rattle.bank_words.specs.declared.events.Event.TheVariants.{KNote, KStore, Release}
 use Rattle.scram_types.specs.Lookups.{proc_id}
 use Rattle.fail_stop.specs.Events.{Place, At, Halted, Places, Word, ReleaseWord, KernelWord, MarkWord, EndWord, BankWord, Happens, IsStored, is_actor, writes, written, may_note, frame_after, step_after}
-use Rattle.fail_stop.specs.Kept.{Kept, IsKernel, IsPlaced, Running, Stopped, end_at, word_at, release_at, kernel_at}
+use Rattle.fail_stop.specs.Kept.{Kept, IsKernel, IsPlaced, Running, Stopped, end_at, stored_word, release_at, kernel_at}
 use Rattle.fail_stop.proofs.FrameFacts.{end_le, end_back}
 
 pub by_kernel : (m : Flight) (at : Places) (words : Word → ℕ) (e : Event) (at2 : Places) (words2 : Word → ℕ)
@@ -28,7 +28,7 @@ by_kernel m at words e at2 words2 h k a kn mk en bk rl kr pl =
       words_are = λ w l. kernel_word w l same;
     }
   where
-    kernel_word : (w : Word) → IsStored m w → ((q : ℕ) → at2.proc q ≡ at.proc q) → words2 w ≡ word_at m at2 w
+    kernel_word : (w : Word) → IsStored m w → ((q : ℕ) → at2.proc q ≡ at.proc q) → words2 w ≡ stored_word m at2 w
     kernel_word ReleaseWord l same = rw h.frame (h.words_are ReleaseWord l ∙ rl)
     kernel_word (KernelWord i) l same = rw (h.frame, h.step) (h.words_are (KernelWord i) l ∙ kr i l)
     kernel_word (MarkWord q) l same = rw (same q) (h.words_are (MarkWord q) l ∙ mk q ∙ k.words_are (MarkWord q) l)

@@ -6,7 +6,7 @@ use native.Mathlib.Decide.{ℕ_discrete}
 use Rattle.fail_stop.specs.Flights.{Flight}
 use Rattle.bank_words.specs.declared.events.Event.{Event}
 use Rattle.fail_stop.specs.Events.{Place, Places, Word, ReleaseWord, KernelWord, MarkWord, EndWord, BankWord, IsStored, Happens, is_actor, moved, frame_after, step_after, writes, written}
-use Rattle.fail_stop.specs.Kept.{Kept, IsPlaced, mark_at, end_at, bank_at, word_at}
+use Rattle.fail_stop.specs.Kept.{Kept, IsPlaced, mark_at, end_at, bank_at, stored_word}
 
 abbrev pub owner : Word → Option ℕ
 owner ReleaseWord = None
@@ -72,7 +72,7 @@ module _ (m : Flight) (p : ℕ) (at : Places) (words : Word → ℕ) (at2 : Plac
   none_own : owner ReleaseWord ≢ Some p
   none_own e = cc
 
-  word_is : (w : Word) → IsStored m w → words2 w ≡ word_at m at2 w
+  word_is : (w : Word) → IsStored m w → words2 w ≡ stored_word m at2 w
   word_is ReleaseWord l = rw o.frame (o.others_words ReleaseWord l none_own ∙ k.words_are ReleaseWord l)
   word_is (KernelWord i) l = rw (o.frame, o.step) (o.others_words (KernelWord i) l none_own ∙ k.words_are (KernelWord i) l)
   word_is (MarkWord q) l = mark_is q l (ℕ_discrete q p)

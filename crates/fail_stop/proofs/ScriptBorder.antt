@@ -12,8 +12,9 @@ use Rattle.scram_types.proofs.Items.{any_found}
 use Rattle.scram_types.proofs.Naturals.{equal}
 use Rattle.fault_script.specs.Fits.{EachLater, Fits}
 use Rattle.fault_script.specs.Times.{commits, halt_in, is_halt_in, is_restart_between, is_restart_of, is_up, is_up_since, latest_halt, restart_of, words}
+use Rattle.fault_script.proofs.Fitting.{Differ}
 use Rattle.frame_model.specs.Flights.{draft, image_after}
-use Rattle.frame_model.specs.Storage.{bank_after, last_count, mark_after}
+use Rattle.frame_model.specs.Storage.{image_bank_after, last_count, mark_after}
 use Rattle.fail_stop.specs.Flights.{Flies, back_by, image_before, is_committed, last_commit, mark_before, reaches_mark, side}
 use Rattle.fail_stop.specs.Laws.{IsOfTrace}
 use Rattle.fail_stop.specs.Schedules.{IsUpBy, is_up_after, latest}
@@ -54,10 +55,7 @@ latest_same script p (suc f) = rw (found_some (is_halt_in p f) (λ (halt : HaltA
 
 -- a processor restarts once
 
-abbrev Once : RestartAt → RestartAt → Type 0
-Once a b = a.proc.0 ≡ b.proc.0 → ⊥
-
-none_later : (p h g : ℕ) (x : RestartAt) (xs : List RestartAt) → (x.proc.0 == p) ≡ true → EachLater Once (x ∷ xs) → list_any (is_restart_between p h g) xs ≡ false
+none_later : (p h g : ℕ) (x : RestartAt) (xs : List RestartAt) → (x.proc.0 == p) ≡ true → EachLater Differ (x ∷ xs) → list_any (is_restart_between p h g) xs ≡ false
 none_later p h g x xs of_p once = not_true (list_any (is_restart_between p h g) xs) (λ again.
     let found = any_found (is_restart_between p h g) xs again in
     let y = found.1 in
@@ -65,13 +63,13 @@ none_later p h g x xs of_p once = not_true (list_any (is_restart_between p h g) 
     let same = equal y.proc.0 p (and_left (y.proc.0 == p) (nat_lt h y.frame) first) in
     once 0 (suc found.0) x y (omega arith) refl found.2 (equal x.proc.0 p of_p ∙ sym same))
 
-back_list_at : (p h g : ℕ) (x : RestartAt) (xs : List RestartAt) → EachLater Once (x ∷ xs) → (b : Bool) → (x.proc.0 == p) ≡ b
+back_list_at : (p h g : ℕ) (x : RestartAt) (xs : List RestartAt) → EachLater Differ (x ∷ xs) → (b : Bool) → (x.proc.0 == p) ≡ b
     → back_by (option_map (λ (r : RestartAt). r.frame) (find (is_restart_of p) xs)) h g ≡ list_any (is_restart_between p h g) xs
     → back_by (option_map (λ (r : RestartAt). r.frame) (if b then Some x else find (is_restart_of p) xs)) h g ≡ ((b && nat_lt h x.frame && nat_le x.frame g) || list_any (is_restart_between p h g) xs)
 back_list_at p h g x xs once true is rest = rw (none_later p h g x xs is once) (sym (or_false (nat_lt h x.frame && nat_le x.frame g)))
 back_list_at p h g x xs once false is rest = rest
 
-back_list : (p h g : ℕ) (xs : List RestartAt) → EachLater Once xs
+back_list : (p h g : ℕ) (xs : List RestartAt) → EachLater Differ xs
     → back_by (option_map (λ (r : RestartAt). r.frame) (find (is_restart_of p) xs)) h g ≡ list_any (is_restart_between p h g) xs
 back_list p h g [] once = refl
 back_list p h g (x ∷ xs) once =
@@ -136,11 +134,11 @@ images_same spec script fits p (suc f) = images_next spec script fits p f (commi
 -- marks
 
 sides_next : (spec : Parts) (script : ScriptParts) → Fits spec script → (p f : ℕ) (b : Bool) → commits spec script p f ≡ b
-    → side (flight_of spec script) p f ≡ bank_after spec script p f → side (flight_of spec script) p (suc f) ≡ bank_after spec script p (suc f)
+    → side (flight_of spec script) p f ≡ image_bank_after spec script p f → side (flight_of spec script) p (suc f) ≡ image_bank_after spec script p (suc f)
 sides_next spec script fits p f true c rest = side_yes (flight_of spec script) p f (committed_same spec script fits p f ∙ c) ∙ rw (c, rest) refl
 sides_next spec script fits p f false c rest = side_no (flight_of spec script) p f (committed_same spec script fits p f ∙ c) ∙ rw (c, rest) refl
 
-pub sides_same : (spec : Parts) (script : ScriptParts) → Fits spec script → (p f : ℕ) → side (flight_of spec script) p f ≡ bank_after spec script p f
+pub sides_same : (spec : Parts) (script : ScriptParts) → Fits spec script → (p f : ℕ) → side (flight_of spec script) p f ≡ image_bank_after spec script p f
 unfolding side
 sides_same spec script fits p zero = refl
 sides_same spec script fits p (suc f) = sides_next spec script fits p f (commits spec script p f) refl (sides_same spec script fits p f)

@@ -35,12 +35,12 @@ abbrev pub release_at : Flight → ℕ → ℕ
 release_at m k = if nat_eq m.frames 0 then 0 else suc k
 
 -- Each word as a function of the places.
-abbrev pub word_at : Flight → Places → Word → ℕ
-word_at m at ReleaseWord = release_at m at.frame
-word_at m at (KernelWord i) = kernel_at m at.frame at.step i
-word_at m at (MarkWord p) = mark_at m p (at.proc p)
-word_at m at (EndWord p) = end_at m p (at.proc p)
-word_at m at (BankWord p b i) = bank_at m p (at.proc p) b i
+abbrev pub stored_word : Flight → Places → Word → ℕ
+stored_word m at ReleaseWord = release_at m at.frame
+stored_word m at (KernelWord i) = kernel_at m at.frame at.step i
+stored_word m at (MarkWord p) = mark_at m p (at.proc p)
+stored_word m at (EndWord p) = end_at m p (at.proc p)
+stored_word m at (BankWord p b i) = bank_at m p (at.proc p) b i
 
 -- The last step of a frame, by the halt in it.
 abbrev pub last_step : Flight → Option ℕ → ℕ
@@ -81,7 +81,7 @@ pub record IsKernel (m : Flight) (k j : ℕ) : Type 0 where
 pub record Kept (m : Flight) (at : Places) (words : Word → ℕ) : Type 0 where
   pub kernel : IsKernel m at.frame at.step
   pub placed : (p : ℕ) → p < m.procs → IsPlaced m at.frame at.step p (at.proc p)
-  pub words_are : (w : Word) → IsStored m w → words w ≡ word_at m at w
+  pub words_are : (w : Word) → IsStored m w → words w ≡ stored_word m at w
 
 -- All stand at the begin of frame 0.
 abbrev pub opening_places : Places

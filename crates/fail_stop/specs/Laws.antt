@@ -6,7 +6,7 @@ use Rattle.bank_words.specs.declared.events.Event.{Event}
 use Rattle.bank_words.specs.Marks.{pick}
 use Rattle.fault_script.specs.Fits.{Fits}
 use Rattle.fault_script.specs.Times.{commits, words as width_of}
-use Rattle.frame_model.specs.Storage.{bank_after, mark_after}
+use Rattle.frame_model.specs.Storage.{image_bank_after, mark_after}
 use Rattle.fail_stop.specs.Consistency.{IsConsistent, Reads}
 use Rattle.fail_stop.specs.Ends.{IsOver, IsStoredLast}
 use Rattle.fail_stop.specs.Events.{BankWord, Happens, IsNext, KernelWord, MarkWord, Places, Word, writes}
@@ -21,7 +21,7 @@ pub record IsOfTrace (spec : Parts) (script : ScriptParts) : Type 0 where
   pub flies : Flies (flight_of spec script)
   pub committed : (p f : ℕ) → is_committed (flight_of spec script) p f ≡ commits spec script p f
   pub marks : (p f : ℕ) → mark_before (flight_of spec script) p f ≡ mark_after spec script p f
-  pub banks : (p f : ℕ) → side (flight_of spec script) p f ≡ bank_after spec script p f
+  pub banks : (p f : ℕ) → side (flight_of spec script) p f ≡ image_bank_after spec script p f
   pub images : (p f : ℕ) → image_before (flight_of spec script) p f ≡ image_words_after spec script p f
 
 abbrev pub FlightsAreOfTraces : Type 0
@@ -62,9 +62,9 @@ SchedulesKeep = (spec : Parts) (script : ScriptParts) → Fits spec script → (
 -- What a processor that reads in frame f finds: the bank that it picks of q is the same all along, and holds the image
 -- of q after the first f frames; the kernel's words are those of frame f.
 pub record Finds (spec : Parts) (script : ScriptParts) (words : Word → ℕ) (f : ℕ) : Type 0 where
-  pub picked : (q : ℕ) → q < length spec.procs → pick (words (MarkWord q)) f ≡ bank_after spec script q f
+  pub picked : (q : ℕ) → q < length spec.procs → pick (words (MarkWord q)) f ≡ image_bank_after spec script q f
   pub held : (q i : ℕ) → q < length spec.procs → i < width_of spec
-      → words (BankWord q (bank_after spec script q f) i) ≡ word_in (image_words_after spec script q f) i
+      → words (BankWord q (image_bank_after spec script q f) i) ≡ word_in (image_words_after spec script q f) i
   pub kernel : (i : ℕ) → i < 20 → words (KernelWord i) ≡ word_in (kernel_words spec script f) i
 
 abbrev pub ReadersFind : Type 0
@@ -75,7 +75,7 @@ ReadersFind = (spec : Parts) (script : ScriptParts) → Fits spec script → (at
 pub record IsNoted (spec : Parts) (script : ScriptParts) (words : Word → ℕ) (k p : ℕ) : Type 0 where
   pub mark : words (MarkWord p) ≡ mark_after spec script p (suc k)
   pub held : (i : ℕ) → i < width_of spec
-      → words (BankWord p (bank_after spec script p (suc k)) i) ≡ word_in (image_words_after spec script p (suc k)) i
+      → words (BankWord p (image_bank_after spec script p (suc k)) i) ≡ word_in (image_words_after spec script p (suc k)) i
 
 abbrev pub NotesFix : Type 0
 NotesFix = (spec : Parts) (script : ScriptParts) → Fits spec script → (at : Places) (words : Word → ℕ)

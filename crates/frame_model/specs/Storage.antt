@@ -25,10 +25,10 @@ last_count spec script p zero = 0
 last_count spec script p (suc f) = if commits spec script p f then suc f else last_count spec script p f
 
 -- The bank that holds the image of processor p after the first f frames: the other one after each commit.
-abbrev pub bank_after : Parts → ScriptParts → ℕ → ℕ → ℕ
-bank_after spec script p zero = 0
-bank_after spec script p (suc f) = if commits spec script p f then 1 - bank_after spec script p f else bank_after spec script p f
+abbrev pub image_bank_after : Parts → ScriptParts → ℕ → ℕ → ℕ
+image_bank_after spec script p zero = 0
+image_bank_after spec script p (suc f) = if commits spec script p f then 1 - image_bank_after spec script p f else image_bank_after spec script p f
 
 -- The mark of processor p after the first f frames.
 abbrev pub mark_after : Parts → ScriptParts → ℕ → ℕ → ℕ
-mark_after spec script p f = mark_word (last_count spec script p f) (bank_after spec script p f)
+mark_after spec script p f = mark_word (last_count spec script p f) (image_bank_after spec script p f)
