@@ -1,0 +1,4 @@
+pub mod Commits
+pub mod Rows
+pub mod Ticks
+pub mod Fronts

@@ -1,0 +1,57 @@
+-- The row of a frame, drawn from what the kernel said of the frame and from the marks and images after it.
+use Rattle.std.specs.Prelude.{ℕ, suc, ◌/◌, ◌==◌, ℤ, Bool, List, Option, Some, None, if◌then◌else◌}
+use Rattle.scram_types.specs.Eights.{eight}
+use Rattle.scram_types.specs.Specification.{Parts}
+use Rattle.scram_types.specs.declared.flights.Row.{Row}
+use Rattle.scram_types.specs.declared.ids.ProcId.{ProcId}
+use Rattle.scram_types.specs.declared.orders.Act.{Act}
+use Rattle.bank_words.specs.declared.images.KernelImage.{KernelImage}
+use Rattle.frame_model.specs.declared.tasks.Task.{Task}
+use Rattle.frame_model.specs.Flights.{slot_in}
+use Rattle.frame_model.specs.States.{act_after, area_at, keeper_at, keeper_on, world_in, zeros}
+use Rattle.frame_model.specs.Tasks.{task_of}
+use Rattle.scram_kernel.specs.Marks.{image_in, mark_in}
+
+-- By the marks after frame f processor p has committed it: half of its mark counts the frames up to f.
+abbrev pub has_committed : List ℕ → ℕ → ℕ → Bool
+has_committed marks f p = mark_in marks p / 2 == suc f
+
+-- The area of application a: zeros where it is off, its slot where its processor has committed, else the old one.
+abbrev pub area_from : (ℕ → Bool) → List (List ℤ) → ℕ → List ℤ → Option ProcId → List ℤ
+area_from committed images a old None = zeros
+area_from committed images a old (Some proc) = if committed proc.0 then slot_in (image_in images proc.0) a else old
+
+-- What the image's frame asks of application a.
+abbrev pub task_said : Parts → KernelImage → ℕ → Task
+task_said spec image a = task_of spec image.mode image.frame a
+
+-- What application a did in that frame.
+abbrev pub act_drawn : Parts → KernelImage → List ℕ → ℕ → Act
+act_drawn spec image marks a = act_after (has_committed marks image.frame) (task_said spec image a)
+
+-- The processor that keeps its area after that frame.
+abbrev pub keeper_drawn : Parts → KernelImage → List ℕ → ℕ → Option ProcId
+keeper_drawn spec image marks a = keeper_on (has_committed marks image.frame) (keeper_at image.keepers a) (task_said spec image a).proc
+
+-- Its area after that frame, by the areas before it.
+abbrev pub area_drawn : Parts → KernelImage → List ℕ → List (List ℤ) → List (List ℤ) → ℕ → List ℤ
+area_drawn spec image marks images areas a = area_from (has_committed marks image.frame) images a (area_at areas a) (task_said spec image a).proc
+
+-- The areas of the eight applications after that frame.
+abbrev pub areas_drawn : Parts → KernelImage → List ℕ → List (List ℤ) → List (List ℤ) → List (List ℤ)
+areas_drawn spec image marks images areas = eight (area_drawn spec image marks images areas)
+
+-- The processors that keep them.
+abbrev pub keepers_drawn : Parts → KernelImage → List ℕ → List (Option ProcId)
+keepers_drawn spec image marks = eight (keeper_drawn spec image marks)
+
+-- The row of the image's frame, by the areas before that frame.
+abbrev pub row_drawn : Parts → KernelImage → List ℕ → List (List ℤ) → List (List ℤ) → Row
+row_drawn spec image marks images areas = record {
+  frame = image.frame;
+  env = image.env;
+  mode = image.mode;
+  acts = eight (act_drawn spec image marks);
+  areas = areas_drawn spec image marks images areas;
+  world = world_in spec image.world (areas_drawn spec image marks images areas);
+}

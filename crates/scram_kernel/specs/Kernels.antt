@@ -1,0 +1,51 @@
+-- A kernel, as its callers see it, and what it keeps.
+use Rattle.std.specs.Prelude.{◌≡◌, ℕ, suc, ◌≤◌, ℤ, List}
+use Rattle.scram_types.specs.Scripts.{ScriptParts}
+use Rattle.scram_types.specs.Searches.{listed_below}
+use Rattle.scram_types.specs.Specification.{IsSpec, Parts}
+use Rattle.scram_types.specs.declared.flights.Report.{Report}
+use Rattle.scram_types.specs.declared.flights.Row.{Row}
+use Rattle.bank_words.specs.declared.images.KernelImage.{KernelImage}
+use Rattle.fault_script.specs.Fits.{Fits}
+use Rattle.frame_model.specs.declared.readings.Reading.{Reading}
+use Rattle.frame_model.specs.Flights.{row_at, state_after}
+use Rattle.frame_model.specs.Readings.{ended, reading_of}
+use Rattle.frame_model.specs.Storage.{kernel_image}
+
+-- The specification and the script that it flies, and how many frames have ended.
+pub record KernelParts : Type 0 where
+  pub spec : Parts
+  pub script : ScriptParts
+  pub past : ℕ
+
+-- The kernel of a flight after the first f frames.
+abbrev pub kernel_after : Parts → ScriptParts → ℕ → KernelParts
+kernel_after spec script f = record { spec = spec; script = script; past = f }
+
+-- The rows of the first f frames.
+abbrev pub rows_below : Parts → ScriptParts → ℕ → List Row
+rows_below spec script f = listed_below (row_at spec script) f
+
+-- What stands in a kernel after f frames is what the script makes of them: the image of frame f, the areas, the reading
+-- of the rows so far, these rows, and the reports of reconfigurations that ended in them.
+pub record Stands (spec : Parts) (script : ScriptParts) (f : ℕ) (image : KernelImage) (areas : List (List ℤ)) (reading : Reading) (rows : List Row) (reports : List Report) : Type 0 where
+  pub image_is : image ≡ kernel_image spec script f
+  pub areas_are : areas ≡ (state_after spec script f).areas
+  pub rows_are : rows ≡ rows_below spec script f
+  pub reading_is : reading ≡ reading_of spec (rows_below spec script f)
+  pub reports_are : reports ≡ ended spec (rows_below spec script f)
+
+-- There is room for what is still to come after f frames: a row a frame, and a report a frame and one at the end.
+pub record HasRoom (frames f room_of_rows room_of_reports count_of_rows count_of_reports : ℕ) : Type 0 where
+  pub within : f ≤ frames
+  pub rows_fit : frames ≤ room_of_rows
+  pub reports_fit : suc frames ≤ room_of_reports
+  pub rows_told : count_of_rows ≡ f
+  pub reports_few : count_of_reports ≤ f
+
+-- What a kernel keeps. Its image is that of the frame that is running, so it tells how many frames have ended.
+pub record IsKernel (spec : Parts) (script : ScriptParts) (image : KernelImage) (areas : List (List ℤ)) (reading : Reading) (rows : List Row) (reports : List Report) (room_of_rows room_of_reports count_of_rows count_of_reports : ℕ) : Type 0 where
+  pub facts : IsSpec spec
+  pub fits : Fits spec script
+  pub stands : Stands spec script image.frame image areas reading rows reports
+  pub room : HasRoom script.frames image.frame room_of_rows room_of_reports count_of_rows count_of_reports

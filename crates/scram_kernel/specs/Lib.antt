@@ -1,0 +1,4 @@
+pub mod Marks
+pub mod Images
+pub mod Drawing
+pub mod Kernels

@@ -1,0 +1,185 @@
+//! The row of a frame, drawn from what the kernel said of the frame and from the marks and images after it.
+
+ghost use Rattle.std.specs.Prelude.{◌≡◌, ◌<◌};
+ghost use Rattle.scram_types.specs.Eights.{eight};
+ghost use Rattle.scram_types.specs.Specification.{Parts};
+ghost use Rattle.frame_model.specs.Flights.{slot_in};
+ghost use Rattle.frame_model.specs.States.{act_after, area_at, keeper_on};
+ghost use Rattle.scram_kernel.specs.Drawing.{act_drawn, area_from, areas_drawn, has_committed, keepers_drawn, row_drawn, task_said};
+ghost use Rattle.scram_kernel.specs.Marks.{image_in, mark_in};
+
+use bank_words::KernelImage;
+use frame_model::{Task, act_of_order, tasks_of, world_in};
+use scram_types::{Act, Area, Image, ProcId, Row, Spec};
+
+/// The row of the frame that an image is of, by the areas before that frame, and the keepers after it.
+pub(crate) fn draw(
+    spec: &Spec,
+    image: &KernelImage,
+    areas: &[Area; 8],
+    marks: &[u64; 8],
+    images: &[Image; 8],
+) -> (Row, [Option<ProcId>; 8])
+    ensures row { result.0 ≡ row_drawn spec.now image.now marks.now images.now areas.now }
+    ensures keepers { result.1 ≡ keepers_drawn spec.now image.now marks.now }
+{
+    let tasks = tasks_of(spec, &image.mode, image.frame);
+    let acts = acts_drawn(image, &tasks, marks);
+    let areas = areas_drawn(image, &tasks, marks, images, areas);
+    let world = world_in(spec, image.world, &areas);
+    let row = Row {
+        frame: image.frame,
+        env: image.env,
+        mode: image.mode,
+        acts,
+        areas,
+        world,
+    };
+    (row, keepers_drawn(image, &tasks, marks))
+}
+
+fn acts_drawn(image: &KernelImage, tasks: &[Task; 8], marks: &[u64; 8]) -> [Act; 8]
+    ensures { (spec : Parts) → tasks.now ≡ eight (task_said spec image.now) → result ≡ eight (act_drawn spec image.now marks.now) }
+{
+    [
+        act_after(&tasks[0], marks, image.frame),
+        act_after(&tasks[1], marks, image.frame),
+        act_after(&tasks[2], marks, image.frame),
+        act_after(&tasks[3], marks, image.frame),
+        act_after(&tasks[4], marks, image.frame),
+        act_after(&tasks[5], marks, image.frame),
+        act_after(&tasks[6], marks, image.frame),
+        act_after(&tasks[7], marks, image.frame),
+    ]
+}
+
+fn areas_drawn(
+    image: &KernelImage,
+    tasks: &[Task; 8],
+    marks: &[u64; 8],
+    images: &[Image; 8],
+    areas: &[Area; 8],
+) -> [Area; 8]
+    ensures { (spec : Parts) → tasks.now ≡ eight (task_said spec image.now) → result ≡ areas_drawn spec image.now marks.now images.now areas.now }
+{
+    [
+        area_from(&tasks[0], marks, images, areas, image.frame, 0),
+        area_from(&tasks[1], marks, images, areas, image.frame, 1),
+        area_from(&tasks[2], marks, images, areas, image.frame, 2),
+        area_from(&tasks[3], marks, images, areas, image.frame, 3),
+        area_from(&tasks[4], marks, images, areas, image.frame, 4),
+        area_from(&tasks[5], marks, images, areas, image.frame, 5),
+        area_from(&tasks[6], marks, images, areas, image.frame, 6),
+        area_from(&tasks[7], marks, images, areas, image.frame, 7),
+    ]
+}
+
+fn keepers_drawn(image: &KernelImage, tasks: &[Task; 8], marks: &[u64; 8]) -> [Option<ProcId>; 8]
+    ensures { (spec : Parts) → tasks.now ≡ eight (task_said spec image.now) → result ≡ keepers_drawn spec image.now marks.now }
+{
+    [
+        keeper_on(&tasks[0], marks, image.frame, image.keepers[0]),
+        keeper_on(&tasks[1], marks, image.frame, image.keepers[1]),
+        keeper_on(&tasks[2], marks, image.frame, image.keepers[2]),
+        keeper_on(&tasks[3], marks, image.frame, image.keepers[3]),
+        keeper_on(&tasks[4], marks, image.frame, image.keepers[4]),
+        keeper_on(&tasks[5], marks, image.frame, image.keepers[5]),
+        keeper_on(&tasks[6], marks, image.frame, image.keepers[6]),
+        keeper_on(&tasks[7], marks, image.frame, image.keepers[7]),
+    ]
+}
+
+fn act_after(task: &Task, marks: &[u64; 8], frame: u32) -> Act
+    ensures { result ≡ act_after (has_committed marks.now frame) task.now }
+{
+    match task.proc {
+        Some(proc) => {
+            if has_committed(marks, proc, frame) {
+                act_of_order(task.order, task.mode, proc)
+            } else {
+                Act::Lost
+            }
+        }
+        None => Act::Off,
+    }
+}
+
+fn area_from(
+    task: &Task,
+    marks: &[u64; 8],
+    images: &[Image; 8],
+    areas: &[Area; 8],
+    frame: u32,
+    a: u8,
+) -> Area
+    requires { a < 8 }
+    ensures { result ≡ area_from (has_committed marks.now frame) images.now a (area_at areas.now a) task.now.proc }
+{
+    match task.proc {
+        Some(proc) => {
+            if has_committed(marks, proc, frame) {
+                slot_of(images, proc, a)
+            } else {
+                areas[usize::from(a)]
+            }
+        }
+        None => [0; 8],
+    }
+}
+
+fn keeper_on(task: &Task, marks: &[u64; 8], frame: u32, old: Option<ProcId>) -> Option<ProcId>
+    ensures { result ≡ keeper_on (has_committed marks.now frame) old task.now.proc }
+{
+    match task.proc {
+        Some(proc) => {
+            if has_committed(marks, proc, frame) {
+                Some(proc)
+            } else {
+                old
+            }
+        }
+        None => None,
+    }
+}
+
+fn has_committed(marks: &[u64; 8], proc: ProcId, frame: u32) -> bool
+    ensures { result ≡ has_committed marks.now frame proc.0 }
+{
+    mark_in(marks, proc.0) / 2 == u64::from(frame) + 1
+}
+
+fn mark_in(marks: &[u64; 8], p: u8) -> u64
+    ensures { result ≡ mark_in marks.now p }
+{
+    match marks.get(usize::from(p)) {
+        Some(mark) => *mark,
+        None => 0,
+    }
+}
+
+fn slot_of(images: &[Image; 8], proc: ProcId, a: u8) -> Area
+    requires { a < 8 }
+    ensures { result ≡ slot_in (image_in images.now proc.0) a }
+{
+    match images.get(usize::from(proc.0)) {
+        Some(image) => slot_in(image, a),
+        None => [0; 8],
+    }
+}
+
+fn slot_in(image: &Image, a: u8) -> Area
+    requires { a < 8 }
+    ensures { result ≡ slot_in image.now a }
+{
+    let at = 8 * usize::from(a);
+    [
+        image[at],
+        image[at + 1],
+        image[at + 2],
+        image[at + 3],
+        image[at + 4],
+        image[at + 5],
+        image[at + 6],
+        image[at + 7],
+    ]
+}

@@ -1,0 +1,141 @@
+//! The kernel of a flight, with its log.
+
+use crate::drawing::draw;
+use crate::images::{image_given, image_next};
+use bank_words::KernelImage;
+use fault_script::Walk;
+use frame_model::{Reading, Sys, close, read_row};
+use scram_types::{Area, Flown, Image, List, NoMemory, Report, Row, Script, Spec};
+use std::alloc::Global;
+
+/// The kernel of a flight by a specification and a script, after some frames. It calls no application: what became
+/// of each one it reads off the marks and the images of the processors.
+#[derive(Drop)]
+pub struct Kernel<'a> {
+    spec: &'a Spec,
+    script: &'a Script,
+    image: KernelImage,
+    areas: [Area; 8],
+    reading: Reading,
+    rows: Vec<Row>,
+    reports: Vec<Report>,
+}
+
+impl<'a> std::marker::Model for Kernel<'a> {
+    ghost use Rattle.std.specs.Prelude.{vec_capacity, vec_len};
+    ghost use Rattle.scram_kernel.specs.Kernels.{IsKernel, KernelParts, kernel_after};
+
+    ghost Value = { KernelParts };
+
+    ghost view = { λ k. kernel_after k.spec.now k.script.now k.image.frame };
+
+    ghost invariant = { λ k. IsKernel k.spec.now k.script.now k.image k.areas k.reading k.rows.items k.reports.items (vec_capacity k.rows) (vec_capacity k.reports) (vec_len k.rows) (vec_len k.reports) };
+}
+
+impl<'a> Kernel<'a> {
+    ghost use Rattle.std.specs.Prelude.{◌≡◌, ◌<◌, ◌+◌, IfOk, take};
+    ghost use Rattle.fault_script.specs.Fits.{Fits};
+    ghost use Rattle.fault_script.specs.Times.{factors_at};
+    ghost use Rattle.frame_model.specs.Flights.{reports_of, rows_of};
+    ghost use Rattle.frame_model.specs.Storage.{kernel_image};
+    ghost use Rattle.scram_kernel.specs.Kernels.{kernel_after, rows_below};
+    ghost use Rattle.scram_kernel.specs.Marks.{AreImages, AreMarks};
+
+    /// A kernel before the first frame, with room for all rows and reports. The only refusal is want of memory.
+    pub fn new(alloc: Global, spec: &'a Spec, script: &'a Script) -> Result<Kernel<'a>, NoMemory>
+        requires { Fits spec.now script.now }
+        ensures { IfOk result (λ kernel. kernel ≡ kernel_after spec.now script.now 0) }
+    {
+        let rows = Vec::with_capacity(alloc, script.frames as usize)?;
+        let reports = Vec::with_capacity(alloc, script.frames as usize + 1)?;
+        let sys = Sys::start(spec);
+        let areas = sys.areas;
+        Ok(Kernel {
+            spec,
+            script,
+            image: image_given(spec, &sys, Walk::first(spec, script).env),
+            areas,
+            reading: Reading::Steady(spec.start),
+            rows,
+            reports,
+        })
+    }
+
+    /// What the kernel says of the first frame. It takes no memory.
+    pub fn first(&self) -> KernelImage
+        ensures { result ≡ kernel_image self.now.spec self.now.script 0 }
+    {
+        image_given(
+            self.spec,
+            &Sys::start(self.spec),
+            Walk::first(self.spec, self.script).env,
+        )
+    }
+
+    /// The rows of the frames that have ended. It takes no memory.
+    pub fn rows(&self) -> &[Row]
+        ensures rows { result.now ≡ rows_below self.now.spec self.now.script self.now.past }
+        ensures first { result.now ≡ take self.now.past (rows_of self.now.spec self.now.script) }
+    {
+        &self.rows
+    }
+
+    /// Ends a frame: from the processors' marks and images after it, appends its row and reads it; with the values
+    /// of the factors in the next frame, says what that is. It takes no memory.
+    pub fn tick(&mut self, marks: &[u64; 8], images: &[Image; 8], next: [u8; 6]) -> KernelImage
+        requires frames { self.old.past < self.old.script.frames }
+        requires marks { AreMarks self.old.spec self.old.script (self.old.past + 1) marks.now }
+        requires images { AreImages self.old.spec self.old.script (self.old.past + 1) images.now }
+        requires next { next ≡ factors_at self.old.script (self.old.past + 1) }
+        ensures kernel { self.new ≡ kernel_after self.old.spec self.old.script (self.old.past + 1) }
+        ensures image { result ≡ kernel_image self.old.spec self.old.script (self.old.past + 1) }
+    {
+        let (row, keepers) = draw(self.spec, &self.image, &self.areas, marks, images);
+        let (reading, report) = read_row(self.spec, self.reading, row.frame, &row.acts);
+        let image = image_next(self.spec, self.script, &row, keepers, next);
+        let areas = row.areas;
+        self.rows.push_reserved(row);
+        log(&mut self.reports, report);
+        self.areas = areas;
+        self.reading = reading;
+        self.image = image;
+        image
+    }
+
+    /// The finished flight. It takes no memory.
+    pub fn finish(self) -> Flown
+        requires { self.past ≡ self.script.frames }
+        ensures rows { result.rows ≡ rows_of self.entry.spec self.entry.script }
+        ensures reports { result.reports ≡ reports_of self.entry.spec self.entry.script }
+    {
+        let Kernel {
+            spec: _,
+            script,
+            image: _,
+            areas: _,
+            reading,
+            rows,
+            mut reports,
+        } = self;
+        log(&mut reports, close(reading, script.frames));
+        Flown {
+            rows: List::of(rows),
+            reports: List::of(reports),
+        }
+    }
+}
+
+ghost use Rattle.std.specs.Prelude.{◌≡◌, ◌<◌, ◌≤◌, ◌+◌, ◌++◌, vec_capacity, vec_len};
+ghost use Rattle.frame_model.specs.Readings.{as_list};
+
+// Appends a report, if there is one, in room that was reserved.
+fn log(reports: &mut Vec<Report>, report: Option<Report>)
+    requires { vec_len reports.old < vec_capacity reports.old }
+    ensures items { reports.new.items ≡ reports.old.items ++ as_list report }
+    ensures few { vec_len reports.new ≤ vec_len reports.old + 1 }
+    ensures room { vec_capacity reports.new ≡ vec_capacity reports.old }
+{
+    if let Some(report) = report {
+        reports.push_reserved(report);
+    }
+}
