@@ -2,6 +2,7 @@
 use Rattle.std.proofs.Common.{◌≡◌, ◌∙◌, ℕ, zero, suc, ◌≤◌, refl, ap, subst, sym, arith, length, List, [], ◌∷◌, ◌⊎◌}
 use mathlib.Core.Logic.{inl, inr}
 use Rattle.std.specs.Prelude.{ℤ, take}
+use Rattle.std.proofs.Math.Seq.{take-length}
 use Rattle.std.proofs.lemmas.List.{take-append-le}
 use Rattle.scram_types.specs.declared.flights.Report.{Report}
 use Rattle.scram_types.specs.declared.flights.Row.{Row}
@@ -14,17 +15,13 @@ use Rattle.frame_model.specs.Flights.{row_at, rows_of}
 use Rattle.scram_types.proofs.Searches.{length_listed}
 use Rattle.scram_kernel.specs.Kernels.{IsKernel, KernelParts, kernel_after}
 
-take_whole : (xs : List Row) → take (length xs) xs ≡ xs
-take_whole [] = refl
-take_whole (x ∷ xs) = ap (λ l. x ∷ l) (take_whole xs)
-
 last_or_below : (m n : ℕ) → m ≤ suc n → (m ≡ suc n) ⊎ (m ≤ n)
 last_or_below m n le = grind arith
 
 take_listed : (value : ℕ → Row) (m n : ℕ) → m ≤ n → take m (listed_below value n) ≡ listed_below value m
 take_listed value m zero le = let e : m ≡ 0 = omega arith in rw e refl
 take_listed value m (suc n) le = elim (last_or_below m n le) [
-  | inl last ↦ rw last (subst (λ k. take k (listed_below value (suc n)) ≡ listed_below value (suc n)) (length_listed value (suc n)) (take_whole (listed_below value (suc n))))
+  | inl last ↦ rw last (subst (λ k. take k (listed_below value (suc n)) ≡ listed_below value (suc n)) (length_listed value (suc n)) (take-length (listed_below value (suc n))))
   | inr below ↦
       let long = length_listed value n in
       take-append-le m (listed_below value n) (value n ∷ []) (rw long below) ∙ take_listed value m n below

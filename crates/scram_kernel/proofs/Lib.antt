@@ -1,3 +1,4 @@
+pub mod Examples
 pub mod Commits
 pub mod Rows
 pub mod Ticks

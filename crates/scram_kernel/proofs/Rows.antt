@@ -20,7 +20,6 @@ use Rattle.frame_model.specs.Storage.{kernel_image}
 use Rattle.scram_kernel.specs.Marks.{AreImages, AreMarks, image_in}
 use Rattle.scram_kernel.proofs.Commits.{committed_told}
 
-
 same_proc : (p : ℕ) → (p == p) ≡ true
 same_proc p = grind (arith, nat_tests)
 

@@ -183,3 +183,64 @@ fn slot_in(image: &Image, a: u8) -> Area
         image[at + 7],
     ]
 }
+
+#[cfg(test)]
+mod tests {
+    use super::*;
+    use scram_types::{Mode, Order};
+
+    // After frame 4: processor 0 has committed it, processor 1 frame 2 last and processor 2 none.
+    const MARKS: [u64; 8] = [11, 6, 0, 0, 0, 0, 0, 0];
+
+    fn task(proc: Option<ProcId>) -> Task {
+        Task {
+            order: Order::Run,
+            mode: Mode(2),
+            proc,
+        }
+    }
+
+    #[test]
+    fn marks_tell_who_has_committed_the_frame(rt: HostRuntime) {
+        assert!(rt; has_committed(&MARKS, ProcId(0), 4));
+        assert!(rt; !has_committed(&MARKS, ProcId(0), 5));
+        assert!(rt; !has_committed(&MARKS, ProcId(1), 4));
+        assert!(rt; !has_committed(&MARKS, ProcId(2), 0));
+        assert!(rt; !has_committed(&MARKS, ProcId(8), 4));
+    }
+
+    #[test]
+    fn who_has_not_committed_has_lost_its_application(rt: HostRuntime) {
+        let ran = act_after(&task(Some(ProcId(0))), &MARKS, 4);
+        assert_eq!(rt; ran, Act::Ran(Mode(2), ProcId(0)));
+        let lost = act_after(&task(Some(ProcId(1))), &MARKS, 4);
+        assert_eq!(rt; lost, Act::Lost);
+        assert_eq!(rt; act_after(&task(None), &MARKS, 4), Act::Off);
+    }
+
+    // A lost application keeps its area and its keeper, one that is off has neither.
+    #[test]
+    fn areas_are_slots_of_who_has_committed(rt: HostRuntime) {
+        let mut image = [0; 64];
+        image[8] = 5;
+        image[15] = -3;
+        let images = [image; 8];
+        let areas = [[7; 8]; 8];
+        let made = area_from(&task(Some(ProcId(0))), &MARKS, &images, &areas, 4, 1);
+        assert_eq!(rt; made, [5, 0, 0, 0, 0, 0, 0, -3]);
+        let lost = area_from(&task(Some(ProcId(1))), &MARKS, &images, &areas, 4, 1);
+        assert_eq!(rt; lost, [7; 8]);
+        let off = area_from(&task(None), &MARKS, &images, &areas, 4, 1);
+        assert_eq!(rt; off, [0; 8]);
+    }
+
+    #[test]
+    fn keepers_are_who_has_committed(rt: HostRuntime) {
+        let old = Some(ProcId(3));
+        let made = keeper_on(&task(Some(ProcId(0))), &MARKS, 4, old);
+        assert_eq!(rt; made, Some(ProcId(0)));
+        let lost = keeper_on(&task(Some(ProcId(1))), &MARKS, 4, old);
+        assert_eq!(rt; lost, old);
+        assert_eq!(rt; keeper_on(&task(None), &MARKS, 4, old), None);
+    }
+}

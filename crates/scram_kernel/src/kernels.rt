@@ -8,8 +8,10 @@ use frame_model::{Reading, Sys, close, read_row};
 use scram_types::{Area, Flown, Image, List, NoMemory, Report, Row, Script, Spec};
 use std::alloc::Global;
 
-/// The kernel of a flight by a specification and a script, after some frames. It calls no application: what became
-/// of each one it reads off the marks and the images of the processors.
+/// The kernel of a flight by a specification and a script, after some frames. It calls no application: what each one did
+/// in a frame it reads off the marks and the images of the processors after it, and who is up in the next frame it reads
+/// in the script. It keeps what it said of the frame that is running, the areas before that frame, and the rows and the
+/// reconfigurations of the frames that have ended.
 #[derive(Drop)]
 pub struct Kernel<'a> {
     spec: &'a Spec,
@@ -41,7 +43,8 @@ impl<'a> Kernel<'a> {
     ghost use Rattle.scram_kernel.specs.Kernels.{kernel_after, rows_below};
     ghost use Rattle.scram_kernel.specs.Marks.{AreImages, AreMarks};
 
-    /// A kernel before the first frame, with room for all rows and reports. The only refusal is want of memory.
+    /// The kernel before the first frame, with room for all rows and reports of the script. The only refusal is want of
+    /// memory.
     pub fn new(alloc: Global, spec: &'a Spec, script: &'a Script) -> Result<Kernel<'a>, NoMemory>
         requires { Fits spec.now script.now }
         ensures { IfOk result (λ kernel. kernel ≡ kernel_after spec.now script.now 0) }
@@ -61,7 +64,7 @@ impl<'a> Kernel<'a> {
         })
     }
 
-    /// What the kernel says of the first frame. It takes no memory.
+    /// What the kernel says of frame 0, however many frames have ended. It takes no memory.
     pub fn first(&self) -> KernelImage
         ensures { result ≡ kernel_image self.now.spec self.now.script 0 }
     {
@@ -72,7 +75,7 @@ impl<'a> Kernel<'a> {
         )
     }
 
-    /// The rows of the frames that have ended. It takes no memory.
+    /// The rows of the frames that have ended, which are the first rows of the one-thread trace. It takes no memory.
     pub fn rows(&self) -> &[Row]
         ensures rows { result.now ≡ rows_below self.now.spec self.now.script self.now.past }
         ensures first { result.now ≡ take self.now.past (rows_of self.now.spec self.now.script) }
@@ -80,8 +83,9 @@ impl<'a> Kernel<'a> {
         &self.rows
     }
 
-    /// Ends a frame: from the processors' marks and images after it, appends its row and reads it; with the values
-    /// of the factors in the next frame, says what that is. It takes no memory.
+    /// Ends the frame that is running, of which there is one more: from the processors' marks and images after it appends its
+    /// row, and goes on with the reading of reconfigurations. With the values of the factors in the next frame it says what
+    /// that frame is, also after the last one. It takes no memory.
     pub fn tick(&mut self, marks: &[u64; 8], images: &[Image; 8], next: [u8; 6]) -> KernelImage
         requires frames { self.old.past < self.old.script.frames }
         requires marks { AreMarks self.old.spec self.old.script (self.old.past + 1) marks.now }
@@ -102,7 +106,7 @@ impl<'a> Kernel<'a> {
         image
     }
 
-    /// The finished flight. It takes no memory.
+    /// The rows and reports of a flight all of whose frames have ended: the one-thread trace. It takes no memory.
     pub fn finish(self) -> Flown
         requires { self.past ≡ self.script.frames }
         ensures rows { result.rows ≡ rows_of self.entry.spec self.entry.script }
