@@ -7,7 +7,7 @@ use Rattle.scram_types.specs.Specification.{Parts}
 use Rattle.bank_words.specs.Marks.{mark_word}
 use Rattle.fault_script.specs.Times.{commits}
 use Rattle.scram_kernel.specs.Drawing.{has_committed}
-use Rattle.frame_model.specs.Storage.{bank_after, last_count, mark_after}
+use Rattle.frame_model.specs.Storage.{image_bank_after, last_count, mark_after}
 use Rattle.scram_kernel.specs.Marks.{AreMarks}
 
 last_low : (spec : Parts) (script : ScriptParts) (p n : ℕ) → last_count spec script p n ≤ n
@@ -17,7 +17,7 @@ last_low spec script p (suc n) = by_commit (commits spec script p n) (last_low s
   by_commit true low = omega arith
   by_commit false low = omega arith
 
-bank_low : (spec : Parts) (script : ScriptParts) (p n : ℕ) → bank_after spec script p n ≤ 1
+bank_low : (spec : Parts) (script : ScriptParts) (p n : ℕ) → image_bank_after spec script p n ≤ 1
 bank_low spec script p zero = omega arith
 bank_low spec script p (suc n) = by_commit (commits spec script p n) (bank_low spec script p n) where
   by_commit : {l : ℕ} (b : Bool) → l ≤ 1 → (if b then 1 - l else l) ≤ 1
@@ -31,7 +31,7 @@ told false last bank n low small = let half : mark_word last bank / 2 ≡ last =
 -- the mark after frame n tells whether frame n was committed
 pub mark_tells : (spec : Parts) (script : ScriptParts) (p n : ℕ) → (mark_after spec script p (suc n) / 2 == suc n) ≡ commits spec script p n
 mark_tells spec script p n =
-    told (commits spec script p n) (last_count spec script p n) (bank_after spec script p (suc n)) n (last_low spec script p n) (bank_low spec script p (suc n))
+    told (commits spec script p n) (last_count spec script p n) (image_bank_after spec script p (suc n)) n (last_low spec script p n) (bank_low spec script p (suc n))
 
 pub committed_told : (spec : Parts) (script : ScriptParts) (n : ℕ) (marks : List ℕ) → AreMarks spec script (suc n) marks
     → (p : ℕ) → p < length spec.procs → has_committed marks n p ≡ commits spec script p n
