@@ -1,5 +1,5 @@
 -- What is drawn, by computing: after frame 4 processor 0 has committed it, in bank 1, and processor 1 frame 2 last.
-use Rattle.std.proofs.Common.{◌≡◌, ℕ, refl, Bool, true, false, List, [], ◌∷◌}
+use Rattle.std.proofs.Common.{◌≡◌, ℕ, refl, true, false, List, [], ◌∷◌}
 use Rattle.std.specs.Prelude.{ℤ, pos, Some, None}
 use Rattle.scram_types.specs.Lookups.{proc_id}
 use Rattle.frame_model.specs.States.{keeper_on, zeros}

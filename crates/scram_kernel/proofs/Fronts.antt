@@ -1,5 +1,5 @@
 -- The first rows of all rows.
-use Rattle.std.proofs.Common.{◌≡◌, ◌∙◌, ℕ, zero, suc, ◌≤◌, refl, ap, subst, sym, arith, length, List, [], ◌∷◌, ◌⊎◌}
+use Rattle.std.proofs.Common.{◌≡◌, ◌∙◌, ℕ, zero, suc, ◌≤◌, refl, subst, sym, arith, length, List, [], ◌∷◌, ◌⊎◌}
 use mathlib.Core.Logic.{inl, inr}
 use Rattle.std.specs.Prelude.{ℤ, take}
 use Rattle.std.proofs.Math.Seq.{take-length}
@@ -13,7 +13,7 @@ use Rattle.frame_model.specs.declared.readings.Reading.{Reading}
 use Rattle.scram_types.specs.Searches.{listed_below}
 use Rattle.frame_model.specs.Flights.{row_at, rows_of}
 use Rattle.scram_types.proofs.Searches.{length_listed}
-use Rattle.scram_kernel.specs.Kernels.{IsKernel, KernelParts, kernel_after}
+use Rattle.scram_kernel.specs.Kernels.{KernelKeeps, KernelParts, kernel_after}
 
 last_or_below : (m n : ℕ) → m ≤ suc n → (m ≡ suc n) ⊎ (m ≤ n)
 last_or_below m n le = grind arith
@@ -29,7 +29,7 @@ take_listed value m (suc n) le = elim (last_or_below m n le) [
 
 -- The rows that a kernel has are the first ones of all rows.
 pub are_first : {spec : Parts} {script : ScriptParts} {image : KernelImage} {areas : List (List ℤ)} {reading : Reading} {rows : List Row} {reports : List Report} {rows_room reports_room rows_count reports_count : ℕ}
-    → IsKernel spec script image areas reading rows reports rows_room reports_room rows_count reports_count → (k : KernelParts) → kernel_after spec script image.frame ≡ k
+    → KernelKeeps spec script image areas reading rows reports rows_room reports_room rows_count reports_count → (k : KernelParts) → kernel_after spec script image.frame ≡ k
     → rows ≡ take k.past (rows_of k.spec k.script)
 are_first {spec} {script} {image} {rows = rows} i k is =
     subst (λ (k : KernelParts). rows ≡ take k.past (rows_of k.spec k.script)) is

@@ -17,7 +17,7 @@ use Rattle.frame_model.proofs.ReadLaws.{row_by_row}
 use Rattle.scram_kernel.specs.Drawing.{keepers_drawn, row_drawn}
 use Rattle.frame_model.specs.Storage.{kernel_image}
 use Rattle.scram_kernel.specs.Images.{env_with, image_given, image_next, state_left}
-use Rattle.scram_kernel.specs.Kernels.{IsKernel, KernelParts, Stands, kernel_after, rows_below}
+use Rattle.scram_kernel.specs.Kernels.{KernelKeeps, KernelParts, Stands, kernel_after, rows_below}
 use Rattle.scram_kernel.specs.Marks.{AreImages, AreMarks}
 use Rattle.scram_kernel.proofs.Rows.{keepers_are, row_is}
 use Rattle.frame_model.specs.Frames.{sys_of}
@@ -93,12 +93,12 @@ reports_all {spec} {script} {n} s is =
     rw (s.reports_are, s.reading_is, is, length_listed (row_at spec script) script.frames) refl
 
 pub kernel_more : {spec : Parts} {script : ScriptParts} {image : KernelImage} {areas : List (List ℤ)} {reading : Reading} {rows : List Row} {reports : List Report} {marks : List ℕ} {images : List (List ℤ)} {factors : List ℕ} {row : Row} {keepers : List (Option ProcId)} {next : KernelImage} {rows_room reports_room rows_count reports_count : ℕ}
-    → IsKernel spec script image areas reading rows reports rows_room reports_room rows_count reports_count → image.frame < script.frames
+    → KernelKeeps spec script image areas reading rows reports rows_room reports_room rows_count reports_count → image.frame < script.frames
     → Ticks spec script image.frame image areas marks images factors row keepers next
     → (read : Reading) (rows_after : List Row) (reports_after : List Report) (rows_room_after reports_room_after rows_count_after reports_count_after : ℕ)
     → read ≡ read_row spec reading row.frame row.acts → rows_after ≡ rows ++ row ∷ [] → reports_after ≡ reports ++ as_list (report_of spec reading row.frame row.acts)
     → rows_room_after ≡ rows_room → reports_room_after ≡ reports_room → rows_count_after ≡ rows_count + 1 → reports_count_after ≤ reports_count + 1
-    → IsKernel spec script next row.areas read rows_after reports_after rows_room_after reports_room_after rows_count_after reports_count_after
+    → KernelKeeps spec script next row.areas read rows_after reports_after rows_room_after reports_room_after rows_count_after reports_count_after
 kernel_more {spec} {script} {image} {reading = reading} {rows} {reports} {row = row} {next = next} k low t read rows_after reports_after rra rpa rca pca is_read is_rows is_reports is_rra is_rpa is_rca is_pca =
     let at : next.frame ≡ suc image.frame = ap (λ (i : KernelImage). i.frame) (next_told k.stands t) in
     record {
@@ -137,9 +137,3 @@ pub image_by : (k : KernelParts) (spec : Parts) (script : ScriptParts) (n : ℕ)
 image_by k spec script n next is is_next =
     let e : suc n ≡ n + 1 = omega arith in
     subst (λ (k : KernelParts). next ≡ kernel_image k.spec k.script (k.past + 1)) is (subst (λ m. next ≡ kernel_image spec script m) e is_next)
-
-pub value_by : (k : KernelParts) (spec : Parts) (script : ScriptParts) (n : ℕ) (next : KernelImage) → kernel_after spec script n ≡ k → next ≡ kernel_image spec script (suc n)
-    → kernel_after spec script next.frame ≡ kernel_after k.spec k.script (k.past + 1)
-value_by k spec script n next is is_next =
-    let at : next.frame ≡ n + 1 = ap (λ (i : KernelImage). i.frame) is_next ∙ omega arith in
-    ap (kernel_after spec script) at ∙ ap (λ (k : KernelParts). kernel_after k.spec k.script (k.past + 1)) is

@@ -36,7 +36,7 @@ pub record Stands (spec : Parts) (script : ScriptParts) (f : ℕ) (image : Kerne
   pub reports_are : reports ≡ ended spec (rows_below spec script f)
 
 -- There is room for what is still to come after f frames: a row a frame, and a report a frame and one at the end.
-pub record HasRoom (frames f room_of_rows room_of_reports count_of_rows count_of_reports : ℕ) : Type 0 where
+pub record HasRoomForFlight (frames f room_of_rows room_of_reports count_of_rows count_of_reports : ℕ) : Type 0 where
   pub within : f ≤ frames
   pub rows_fit : frames ≤ room_of_rows
   pub reports_fit : suc frames ≤ room_of_reports
@@ -44,8 +44,8 @@ pub record HasRoom (frames f room_of_rows room_of_reports count_of_rows count_of
   pub reports_few : count_of_reports ≤ f
 
 -- What a kernel keeps. Its image is that of the frame that is running, so it tells how many frames have ended.
-pub record IsKernel (spec : Parts) (script : ScriptParts) (image : KernelImage) (areas : List (List ℤ)) (reading : Reading) (rows : List Row) (reports : List Report) (room_of_rows room_of_reports count_of_rows count_of_reports : ℕ) : Type 0 where
+pub record KernelKeeps (spec : Parts) (script : ScriptParts) (image : KernelImage) (areas : List (List ℤ)) (reading : Reading) (rows : List Row) (reports : List Report) (room_of_rows room_of_reports count_of_rows count_of_reports : ℕ) : Type 0 where
   pub facts : IsSpec spec
   pub fits : Fits spec script
   pub stands : Stands spec script image.frame image areas reading rows reports
-  pub room : HasRoom script.frames image.frame room_of_rows room_of_reports count_of_rows count_of_reports
+  pub room : HasRoomForFlight script.frames image.frame room_of_rows room_of_reports count_of_rows count_of_reports

@@ -25,13 +25,13 @@ pub struct Kernel<'a> {
 
 impl<'a> std::marker::Model for Kernel<'a> {
     ghost use Rattle.std.specs.Prelude.{vec_capacity, vec_len};
-    ghost use Rattle.scram_kernel.specs.Kernels.{IsKernel, KernelParts, kernel_after};
+    ghost use Rattle.scram_kernel.specs.Kernels.{KernelKeeps, KernelParts, kernel_after};
 
     ghost Value = { KernelParts };
 
     ghost view = { λ k. kernel_after k.spec.now k.script.now k.image.frame };
 
-    ghost invariant = { λ k. IsKernel k.spec.now k.script.now k.image k.areas k.reading k.rows.items k.reports.items (vec_capacity k.rows) (vec_capacity k.reports) (vec_len k.rows) (vec_len k.reports) };
+    ghost invariant = { λ k. KernelKeeps k.spec.now k.script.now k.image k.areas k.reading k.rows.items k.reports.items (vec_capacity k.rows) (vec_capacity k.reports) (vec_len k.rows) (vec_len k.reports) };
 }
 
 impl<'a> Kernel<'a> {
