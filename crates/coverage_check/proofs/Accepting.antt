@@ -21,6 +21,7 @@ use Rattle.scram_types.proofs.Equality.{same_conf}
 use Rattle.choice_table.specs.Environments.{IsEnv, in_scope}
 use Rattle.choice_table.specs.Choices.{IsTarget, choose, has_rule, has_source, is_runnable}
 use Rattle.choice_table.specs.Numbering.{environments, is_number_in_scope, number_of, numbered, states}
+use Rattle.cube_cover.proofs.Targets.{choose_inside}
 use Rattle.coverage_check.specs.declared.choosing.Demand.{Demand}
 use Rattle.coverage_check.specs.declared.choosing.Demand.TheVariants as demand
 use Rattle.coverage_check.specs.Form.{is_empty, is_overloaded, is_same, lacks_need, load_refusal, load_refusal_in, need_refusal, need_refusal_in, shape_refusal, shape_refusal_of, state_refusal, twin_refusal_of}
@@ -29,11 +30,7 @@ use Rattle.coverage_check.specs.Timing.{bound_refusal, bound_refusal_of, can_ret
 use Rattle.coverage_check.specs.Holding.{breaks_entering, breaks_from, holds_entering, holds_from, holds_leaving, holds_on_way, holds_reached, invariant_refusal, invariant_refusal_at, invariant_refusal_of, precondition_refusal, precondition_refusal_at, precondition_refusal_of}
 use Rattle.coverage_check.specs.Acceptance.{Accepts, AcceptsWhereUnrefused, IsKept, IsServed, IsShaped, choice_refusal, first_refusal, form_refusal, range_refusal, time_refusal}
 use Rattle.coverage_check.proofs.Showing.{none_shown, not_shown}
-use Rattle.coverage_check.proofs.Reaching.{belongs_numbered, choose_inside, number_inside, numbered_number, target_test, target_tested}
-
-either_false : (a b : Bool) → (a ≡ true → b ≡ false) → (a && b) ≡ false
-either_false true b f = f refl
-either_false false b f = refl
+use Rattle.coverage_check.proofs.Reaching.{belongs_numbered, either_false, number_inside, numbered_number, target_test, target_tested}
 
 if_none : {A : Type 0} (b : Bool) (x : A) (o : Option A) → (if b then Some x else o) ≡ None → (b ≡ false) × (o ≡ None)
 if_none true x o e = some_none x e

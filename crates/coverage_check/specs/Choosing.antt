@@ -7,6 +7,7 @@ use Rattle.scram_types.specs.Specification.{Parts}
 use Rattle.scram_types.specs.Searches.{first_below}
 use Rattle.choice_table.specs.Choices.{choose, has_rule, is_runnable}
 use Rattle.choice_table.specs.Numbering.{environments, is_number_in_scope, numbered}
+use Rattle.cube_cover.specs.declared.answers.Cover.{Cover}
 use Rattle.coverage_check.specs.declared.shown.Shown.{Shown}
 use Rattle.coverage_check.specs.declared.shown.Other.{Other}
 use Rattle.coverage_check.specs.declared.shown.Other.TheVariants as other
@@ -40,6 +41,12 @@ unmet_env_at spec asked c n = shown_if (is_number_in_scope spec n && is_unmet sp
 -- The first environment in scope in which configuration c does not meet a demand.
 abbrev pub first_unmet_env : Parts → Demand → ConfId → Option Env
 first_unmet_env spec asked c = first_below (unmet_env_at spec asked c) (environments spec)
+
+-- What a cover tells of a demand.
+abbrev pub unmet_in : Cover → Demand → Option Env
+unmet_in cover demand.HasRule = cover.unfit
+unmet_in cover demand.CanRun = cover.not_runnable
+unmet_in cover demand.Stays = cover.unsettled
 
 -- The refusal for the first environment in which configuration c does not meet a demand.
 abbrev pub demand_refusal_of : Parts → Demand → ℕ → Option Shown

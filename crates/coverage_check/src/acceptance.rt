@@ -3,15 +3,16 @@
 ghost use Rattle.std.specs.Prelude.{◌≡◌, IfErr, IfOk, None, OnOk};
 ghost use Rattle.coverage_check.specs.Acceptance.{AcceptsWhereUnrefused, ShownIsBroken, choice_refusal, first_refusal, form_refusal, range_refusal, time_refusal};
 ghost use Rattle.coverage_check.specs.Answers.{IsRefusal};
-ghost use Rattle.coverage_check.specs.TargetSets.{HasAllTargets};
+ghost use Rattle.coverage_check.specs.TargetSets.{HasCovers};
 
 use crate::choosing::{Demand, refuse_demand, refuse_start};
 use crate::form::{refuse_load, refuse_need, refuse_shape, refuse_states};
 use crate::holding::{refuse_invariant, refuse_precondition};
 use crate::shown::Shown;
-use crate::target_sets::{TargetSet, find_all_targets};
+use crate::target_sets::find_covers;
 use crate::timing::{refuse_bound, refuse_window};
-use scram_types::Spec;
+use cube_cover::Cover;
+use scram_types::{NoMemory, Spec};
 use std::alloc::Global;
 
 /// A specification that is accepted: all twelve conditions hold of it.
@@ -58,31 +59,32 @@ pub enum AcceptError {
 /// number, then its least other value; of invariants and preconditions the first one, and then the least
 /// configuration. Or want of memory. The specification comes back in both.
 #[tactic(auto, using(crate::proofs::Accepting::accepted))]
-pub fn accept(_alloc: Global, spec: Spec) -> Result<Accepted, AcceptError>
+pub fn accept(alloc: Global, spec: Spec) -> Result<Accepted, AcceptError>
     ensures accepted { IfOk result (λ accepted. accepted ≡ spec) }
     ensures holds { OnOk result (first_refusal spec ≡ None) }
     ensures refused { IfErr result (λ refusal. IsRefusal spec refusal) }
 {
-    match first_refusal(&spec) {
-        None => Ok(Accepted { spec }),
-        Some(shown) => Err(AcceptError::NotAccepted(spec, shown)),
+    match first_refusal(alloc, &spec) {
+        Ok(None) => Ok(Accepted { spec }),
+        Ok(Some(shown)) => Err(AcceptError::NotAccepted(spec, shown)),
+        Err(NoMemory) => Err(AcceptError::NoMemory(spec)),
     }
 }
 
-fn first_refusal(spec: &Spec) -> Option<Shown>
-    ensures { result ≡ first_refusal spec.now }
+fn first_refusal(alloc: Global, spec: &Spec) -> Result<Option<Shown>, NoMemory>
+    ensures { IfOk result (λ refusal. refusal ≡ first_refusal spec.now) }
 {
     if let Some(shown) = refuse_form(spec) {
-        return Some(shown);
+        return Ok(Some(shown));
     }
-    if let Some(shown) = refuse_choice(spec) {
-        return Some(shown);
+    let covers = find_covers(alloc, spec)?;
+    if let Some(shown) = refuse_choice(spec, &covers) {
+        return Ok(Some(shown));
     }
-    let sets = find_all_targets(spec);
-    if let Some(shown) = refuse_time(spec, &sets) {
-        return Some(shown);
+    if let Some(shown) = refuse_time(spec, &covers) {
+        return Ok(Some(shown));
     }
-    refuse_ranges(spec, &sets)
+    Ok(refuse_ranges(spec, &covers))
 }
 
 fn refuse_form(spec: &Spec) -> Option<Shown>
@@ -100,36 +102,37 @@ fn refuse_form(spec: &Spec) -> Option<Shown>
     refuse_load(spec)
 }
 
-fn refuse_choice(spec: &Spec) -> Option<Shown>
+fn refuse_choice(spec: &Spec, covers: &[Cover; 12]) -> Option<Shown>
+    requires { HasCovers spec.now covers.now }
     ensures { result ≡ choice_refusal spec.now }
 {
-    if let Some(shown) = refuse_demand(spec, Demand::HasRule) {
+    if let Some(shown) = refuse_demand(spec, covers, Demand::HasRule) {
         return Some(shown);
     }
-    if let Some(shown) = refuse_demand(spec, Demand::CanRun) {
+    if let Some(shown) = refuse_demand(spec, covers, Demand::CanRun) {
         return Some(shown);
     }
-    if let Some(shown) = refuse_demand(spec, Demand::Stays) {
+    if let Some(shown) = refuse_demand(spec, covers, Demand::Stays) {
         return Some(shown);
     }
     refuse_start(spec)
 }
 
-fn refuse_time(spec: &Spec, sets: &[TargetSet; 12]) -> Option<Shown>
-    requires { HasAllTargets spec.now sets.now }
+fn refuse_time(spec: &Spec, covers: &[Cover; 12]) -> Option<Shown>
+    requires { HasCovers spec.now covers.now }
     ensures { result ≡ time_refusal spec.now }
 {
-    if let Some(shown) = refuse_bound(spec, sets) {
+    if let Some(shown) = refuse_bound(spec, covers) {
         return Some(shown);
     }
     refuse_window(spec)
 }
 
-fn refuse_ranges(spec: &Spec, sets: &[TargetSet; 12]) -> Option<Shown>
-    requires { HasAllTargets spec.now sets.now }
+fn refuse_ranges(spec: &Spec, covers: &[Cover; 12]) -> Option<Shown>
+    requires { HasCovers spec.now covers.now }
     ensures { result ≡ range_refusal spec.now }
 {
-    if let Some(shown) = refuse_invariant(spec, sets) {
+    if let Some(shown) = refuse_invariant(spec, covers) {
         return Some(shown);
     }
     refuse_precondition(spec)

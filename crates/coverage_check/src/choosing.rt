@@ -1,12 +1,16 @@
 //! What the choice table has to give in each environment in scope.
 
 ghost use Rattle.std.specs.Prelude.{◌≡◌};
+ghost use Rattle.scram_types.specs.Lookups.{conf_id};
 ghost use Rattle.scram_types.specs.Specification.{IsSpec};
-ghost use Rattle.coverage_check.specs.Choosing.{demand_refusal, demand_refusal_of, first_unmet_env, is_unmet, number_of_demand, start_refusal, target_shown};
+ghost use Rattle.cube_cover.specs.Covers.{IsCover};
+ghost use Rattle.coverage_check.specs.Choosing.{demand_refusal, demand_refusal_of, number_of_demand, start_refusal, target_shown, unmet_in};
+ghost use Rattle.coverage_check.specs.TargetSets.{HasCovers};
 
 use crate::places::count_confs;
 use crate::shown::{Other, Shown};
-use choice_table::{choose, has_rule, next_in_scope, runnable};
+use choice_table::choose;
+use cube_cover::Cover;
 use scram_types::{ConfId, Env, Spec};
 
 /// What is asked of a configuration in each environment in scope: that a rule fits it, that the target
@@ -19,11 +23,12 @@ pub enum Demand {
 }
 
 // The least configuration and environment in which a demand is not met.
-pub(crate) fn refuse_demand(spec: &Spec, demand: Demand) -> Option<Shown>
+pub(crate) fn refuse_demand(spec: &Spec, covers: &[Cover; 12], demand: Demand) -> Option<Shown>
+    requires { HasCovers spec.now covers.now }
     ensures { result ≡ demand_refusal spec.now demand }
 {
     for c in 0..count_confs(spec) {
-        let shown = refuse_demand_of(spec, demand, c);
+        let shown = refuse_demand_of(spec, &covers[usize::from(c)], demand, c);
         if shown.is_some() {
             return shown;
         }
@@ -31,11 +36,12 @@ pub(crate) fn refuse_demand(spec: &Spec, demand: Demand) -> Option<Shown>
     None
 }
 
-fn refuse_demand_of(spec: &Spec, demand: Demand, c: u8) -> Option<Shown>
-    requires { IsSpec spec.now }
+fn refuse_demand_of(spec: &Spec, cover: &Cover, demand: Demand, c: u8) -> Option<Shown>
+    requires known { IsSpec spec.now }
+    requires cover { IsCover spec.now (conf_id c) cover.now }
     ensures { result ≡ demand_refusal_of spec.now demand c }
 {
-    match first_unmet_env(spec, demand, ConfId(c)) {
+    match unmet_in(cover, demand) {
         Some(env) => {
             let target = target_shown(spec, demand, ConfId(c), &env);
             Some(Shown::within(number_of(demand), c, env, target))
@@ -44,31 +50,14 @@ fn refuse_demand_of(spec: &Spec, demand: Demand, c: u8) -> Option<Shown>
     }
 }
 
-// The first environment in scope in which configuration `c` does not meet a demand.
-fn first_unmet_env(spec: &Spec, demand: Demand, c: ConfId) -> Option<Env>
-    requires { IsSpec spec.now }
-    ensures { result ≡ first_unmet_env spec.now demand c }
-{
-    let mut low = 0;
-    while let Some(found) = next_in_scope(spec, low) {
-        if is_unmet(spec, demand, c, &found.env) {
-            return Some(found.env);
-        }
-        low = found.number + 1;
-    }
-    None
-}
-
-fn is_unmet(spec: &Spec, demand: Demand, c: ConfId, env: &Env) -> bool
-    ensures { result ≡ is_unmet spec.now demand c env.now }
+// What a cover tells of a demand: the first environment in scope in which it is not met.
+fn unmet_in(cover: &Cover, demand: Demand) -> Option<Env>
+    ensures { result ≡ unmet_in cover.now demand }
 {
     match demand {
-        Demand::HasRule => !has_rule(spec, c, env),
-        Demand::CanRun => !runnable(spec, choose(spec, c, env), env),
-        Demand::Stays => {
-            let target = choose(spec, c, env);
-            choose(spec, target, env).0 != target.0
-        }
+        Demand::HasRule => cover.unfit,
+        Demand::CanRun => cover.not_runnable,
+        Demand::Stays => cover.unsettled,
     }
 }
 

@@ -3,21 +3,25 @@
 ghost use Rattle.std.specs.Prelude.{◌≡◌, ◌<◌, length};
 ghost use Rattle.choice_table.specs.Choices.{has_source};
 ghost use Rattle.coverage_check.specs.Holding.{breaks_entering, breaks_from, holds, holds_during, holds_from, holds_leaving, holds_off, holds_on_way, holds_reached, holds_reaching, invariant_refusal, invariant_refusal_at, invariant_refusal_of, precondition_refusal, precondition_refusal_at, precondition_refusal_of};
-ghost use Rattle.coverage_check.specs.TargetSets.{HasAllTargets, HasTargets};
+ghost use Rattle.scram_types.specs.Lookups.{conf_id};
+ghost use Rattle.scram_types.specs.Specification.{IsSpec};
+ghost use Rattle.cube_cover.specs.Covers.{IsCover};
+ghost use Rattle.coverage_check.specs.TargetSets.{HasCovers};
 
 use crate::places::count_confs;
 use crate::shown::{Other, Shown};
-use crate::target_sets::TargetSet;
+use crate::target_sets::is_in;
 use app_model::{after_init, during};
+use cube_cover::Cover;
 use scram_types::{AppId, ConfId, Invariant, KindId, Mode, Place, Precondition, Spec};
 
 // The first invariant that may not hold throughout a reconfiguration, with its least source.
-pub(crate) fn refuse_invariant(spec: &Spec, sets: &[TargetSet; 12]) -> Option<Shown>
-    requires { HasAllTargets spec.now sets.now }
+pub(crate) fn refuse_invariant(spec: &Spec, covers: &[Cover; 12]) -> Option<Shown>
+    requires { HasCovers spec.now covers.now }
     ensures { result ≡ invariant_refusal spec.now }
 {
     for k in 0..spec.invariants.items().len() as u32 {
-        let shown = refuse_invariant_at(spec, sets, k);
+        let shown = refuse_invariant_at(spec, covers, k);
         if shown.is_some() {
             return shown;
         }
@@ -25,38 +29,33 @@ pub(crate) fn refuse_invariant(spec: &Spec, sets: &[TargetSet; 12]) -> Option<Sh
     None
 }
 
-fn refuse_invariant_at(spec: &Spec, sets: &[TargetSet; 12], k: u32) -> Option<Shown>
-    requires { HasAllTargets spec.now sets.now }
+fn refuse_invariant_at(spec: &Spec, covers: &[Cover; 12], k: u32) -> Option<Shown>
+    requires { HasCovers spec.now covers.now }
     ensures { result ≡ invariant_refusal_at spec.now k }
 {
     match spec.invariants.items().get(k as usize) {
-        Some(inv) => refuse_invariant_of(spec, sets, k, inv),
+        Some(inv) => refuse_invariant_of(spec, covers, k, inv),
         None => None,
     }
 }
 
-fn refuse_invariant_of(
-    spec: &Spec,
-    sets: &[TargetSet; 12],
-    k: u32,
-    inv: &Invariant,
-) -> Option<Shown>
-    requires { HasAllTargets spec.now sets.now }
+fn refuse_invariant_of(spec: &Spec, covers: &[Cover; 12], k: u32, inv: &Invariant) -> Option<Shown>
+    requires { HasCovers spec.now covers.now }
     ensures { result ≡ invariant_refusal_of spec.now k inv.now }
 {
     for i in 0..count_confs(spec) {
-        if breaks_from(spec, &sets[usize::from(i)], inv, i) {
+        if breaks_from(spec, &covers[usize::from(i)], inv, i) {
             return Some(Shown::at(11, i, Other::Item(k)));
         }
     }
     None
 }
 
-fn breaks_from(spec: &Spec, set: &TargetSet, inv: &Invariant, i: u8) -> bool
-    requires { HasTargets spec.now i set.now }
+fn breaks_from(spec: &Spec, cover: &Cover, inv: &Invariant, i: u8) -> bool
+    requires { IsCover spec.now (conf_id i) cover.now }
     ensures { result ≡ breaks_from spec.now inv.now (record { 0 = i }) }
 {
-    speaks_of(inv.from, i) && !holds_from(spec, set, inv, i)
+    speaks_of(inv.from, i) && !holds_from(spec, cover, inv, i)
 }
 
 fn speaks_of(from: Option<ConfId>, i: u8) -> bool
@@ -68,32 +67,34 @@ fn speaks_of(from: Option<ConfId>, i: u8) -> bool
     }
 }
 
-fn holds_from(spec: &Spec, set: &TargetSet, inv: &Invariant, i: u8) -> bool
-    requires { HasTargets spec.now i set.now }
+fn holds_from(spec: &Spec, cover: &Cover, inv: &Invariant, i: u8) -> bool
+    requires { IsCover spec.now (conf_id i) cover.now }
     ensures { result ≡ holds_from spec.now inv.now (record { 0 = i }) }
 {
-    holds_leaving(spec, inv, spec.place_of(ConfId(i), inv.app)) && holds_reached(spec, set, inv, i)
+    holds_leaving(spec, inv, spec.place_of(ConfId(i), inv.app))
+        && holds_reached(spec, cover, inv, i)
 }
 
 // Whether the interval holds what is seen on the way to each possible target.
-fn holds_reached(spec: &Spec, set: &TargetSet, inv: &Invariant, i: u8) -> bool
-    requires { HasTargets spec.now i set.now }
+fn holds_reached(spec: &Spec, cover: &Cover, inv: &Invariant, i: u8) -> bool
+    requires { IsCover spec.now (conf_id i) cover.now }
     ensures { result ≡ holds_reached spec.now inv.now (record { 0 = i }) }
 {
     for j in 0..count_confs(spec) {
-        if !holds_on_way(spec, set, inv, i, j) {
+        if !holds_on_way(spec, cover, inv, i, j) {
             return false;
         }
     }
     true
 }
 
-fn holds_on_way(spec: &Spec, set: &TargetSet, inv: &Invariant, i: u8, j: u8) -> bool
-    requires set { HasTargets spec.now i set.now }
+fn holds_on_way(spec: &Spec, cover: &Cover, inv: &Invariant, i: u8, j: u8) -> bool
+    requires known { IsSpec spec.now }
+    requires cover { IsCover spec.now (conf_id i) cover.now }
     requires inside { j < length spec.now.confs }
     ensures { result ≡ holds_on_way spec.now inv.now (record { 0 = i }) j }
 {
-    !set.has(j) || holds_reaching(spec, inv, spec.place_of(ConfId(j), inv.app))
+    !is_in(cover.targets, j) || holds_reaching(spec, inv, spec.place_of(ConfId(j), inv.app))
 }
 
 // Whether it holds what is seen while the application leaves its mode, or zeros where it is off.

@@ -2,13 +2,16 @@
 
 ghost use Rattle.std.specs.Prelude.{◌≡◌, ◌<◌, ◌≤◌, ◌+◌, IfOk, length};
 ghost use Rattle.scram_types.specs.Lookups.{conf_id};
+ghost use Rattle.scram_types.specs.Specification.{IsSpec};
 ghost use Rattle.dep_order.specs.Timetables.{halting_time, initialising_time, preparing_time};
-ghost use Rattle.coverage_check.specs.TargetSets.{HasAllTargets, HasTargets};
+ghost use Rattle.cube_cover.specs.Covers.{IsCover};
+ghost use Rattle.coverage_check.specs.TargetSets.{HasCovers};
 ghost use Rattle.coverage_check.specs.Timing.{asked_bounds, bound_refusal, bound_refusal_of, can_return, further, greatest_bound, is_bound_asked, is_bounded, least, may_end_in, slowest, window_refusal};
 
 use crate::places::count_confs;
 use crate::shown::{Other, Shown};
-use crate::target_sets::{TargetSet, find_targets};
+use crate::target_sets::is_in;
+use cube_cover::{Cover, cover};
 use dep_order::timetable;
 use scram_types::{Bound, ConfId, NoMemory, Policy, Spec};
 use std::alloc::Global;
@@ -30,24 +33,26 @@ pub fn least(spec: &Spec, i: ConfId, j: ConfId) -> u32
 /// # Errors
 ///
 /// Want of memory.
-pub fn asked_bounds(_alloc: Global, spec: &Spec, i: ConfId) -> Result<u16, NoMemory>
+pub fn asked_bounds(alloc: Global, spec: &Spec, i: ConfId) -> Result<u16, NoMemory>
     requires { i.0 < length spec.now.confs }
     ensures { IfOk result (λ asked. asked ≡ asked_bounds spec.now i) }
 {
     let count = count_confs(spec);
-    Ok(find_asked(spec, &find_targets(spec, i.0), i.0, count))
+    let cover = cover(alloc, spec, i)?;
+    Ok(find_asked(spec, &cover, i.0, count))
 }
 
-// The same, `set` being the possible targets of `i` and `count` the number of configurations.
-fn find_asked(spec: &Spec, set: &TargetSet, i: u8, count: u8) -> u16
-    requires targets { HasTargets spec.now i set.now }
+// The same, by the cover of `i`; `count` is the number of configurations.
+fn find_asked(spec: &Spec, cover: &Cover, i: u8, count: u8) -> u16
+    requires known { IsSpec spec.now }
+    requires cover { IsCover spec.now (conf_id i) cover.now }
     requires all { count ≡ length spec.now.confs }
     requires few { count ≤ 12 }
     ensures { result ≡ asked_bounds spec.now (conf_id i) }
 {
     let mut bits = 0;
     for j in 0..count {
-        if is_bound_asked(spec, set, i, j) {
+        if is_bound_asked(spec, cover, i, j) {
             bits += 1 << j;
         }
     }
@@ -86,12 +91,12 @@ fn way(spec: &Spec, k: ConfId) -> u32
 }
 
 // A pair of configurations with too small a bound, or with none.
-pub(crate) fn refuse_bound(spec: &Spec, sets: &[TargetSet; 12]) -> Option<Shown>
-    requires { HasAllTargets spec.now sets.now }
+pub(crate) fn refuse_bound(spec: &Spec, covers: &[Cover; 12]) -> Option<Shown>
+    requires { HasCovers spec.now covers.now }
     ensures { result ≡ bound_refusal spec.now }
 {
     for i in 0..count_confs(spec) {
-        let shown = refuse_bound_of(spec, &sets[usize::from(i)], i);
+        let shown = refuse_bound_of(spec, &covers[usize::from(i)], i);
         if shown.is_some() {
             return shown;
         }
@@ -99,12 +104,12 @@ pub(crate) fn refuse_bound(spec: &Spec, sets: &[TargetSet; 12]) -> Option<Shown>
     None
 }
 
-fn refuse_bound_of(spec: &Spec, set: &TargetSet, i: u8) -> Option<Shown>
-    requires { HasTargets spec.now i set.now }
+fn refuse_bound_of(spec: &Spec, cover: &Cover, i: u8) -> Option<Shown>
+    requires { IsCover spec.now (conf_id i) cover.now }
     ensures { result ≡ bound_refusal_of spec.now i }
 {
     for j in 0..count_confs(spec) {
-        if is_bound_asked(spec, set, i, j) && !is_bounded(spec, ConfId(i), ConfId(j)) {
+        if is_bound_asked(spec, cover, i, j) && !is_bounded(spec, ConfId(i), ConfId(j)) {
             let frames = least(spec, ConfId(i), ConfId(j));
             return Some(Shown::at(9, i, Other::Least(ConfId(j), frames)));
         }
@@ -112,13 +117,14 @@ fn refuse_bound_of(spec: &Spec, set: &TargetSet, i: u8) -> Option<Shown>
     None
 }
 
-// Whether a bound from `i` to `j` is asked for, `set` being the possible targets of `i`.
-fn is_bound_asked(spec: &Spec, set: &TargetSet, i: u8, j: u8) -> bool
-    requires targets { HasTargets spec.now i set.now }
+// Whether a bound from `i` to `j` is asked for, by the cover of `i`.
+fn is_bound_asked(spec: &Spec, cover: &Cover, i: u8, j: u8) -> bool
+    requires known { IsSpec spec.now }
+    requires cover { IsCover spec.now (conf_id i) cover.now }
     requires inside { j < length spec.now.confs }
     ensures { result ≡ is_bound_asked spec.now (conf_id i) j }
 {
-    set.has(j) && may_end_in(spec, ConfId(i), ConfId(j))
+    is_in(cover.targets, j) && may_end_in(spec, ConfId(i), ConfId(j))
 }
 
 // Whether a reconfiguration from `i` may end in `j`: elsewhere, or where it began.
