@@ -38,11 +38,11 @@ module _ (spec : Parts) (cube by rest next : Cube) (x : ℕ) where
 
 -- one cube more
 
-pub inside_more : (spec : Parts) (cubes : List Cube) (k : ℕ) (d by within : Cube) (old new : List Cube) → k < length cubes
-    → Agree spec (is_in old) (λ v. is_in (take k cubes) v && holds by v) → Agree spec (holds within) (λ v. holds (get_or cubes k d) v && holds by v)
-    → Gain spec old new (holds within) → Agree spec (is_in new) (λ v. is_in (take (k + 1) cubes) v && holds by v)
-inside_more spec cubes k d by within old new low before part gain v scope =
-    gain v scope ∙ ap (λ (b : Bool). b || holds within v) (before v scope) ∙ ap (λ (b : Bool). (is_in (take k cubes) v && holds by v) || b) (part v scope)
+pub inside_more : (spec : Parts) (cubes : List Cube) (k : ℕ) (d by : Cube) (old new : List Cube) → k < length cubes
+    → Agree spec (is_in old) (λ v. is_in (take k cubes) v && holds by v) → Gain spec old new (λ v. holds (get_or cubes k d) v && holds by v)
+    → Agree spec (is_in new) (λ v. is_in (take (k + 1) cubes) v && holds by v)
+inside_more spec cubes k d by old new low before gain v scope =
+    gain v scope ∙ ap (λ (b : Bool). b || (holds (get_or cubes k d) v && holds by v)) (before v scope)
     ∙ part_more (is_in (take k cubes) v) (holds (get_or cubes k d) v) (holds by v) ∙ ap (λ (b : Bool). b && holds by v) (sym (taken_more cubes k d v low))
 
 pub outside_more : (spec : Parts) (cubes : List Cube) (k : ℕ) (d by : Cube) (old new : List Cube) → k < length cubes
@@ -67,9 +67,6 @@ apart_beyond cube by v e = part (holds cube v) (holds by v) e
     part true true e = absurd (cc)
     part true false e = refl
     part false b e = refl
-
-pub apart_within : (cube by : Cube) (v : Env) → (holds cube v && holds by v) ≡ false → holds (record { bits = 0 }) v ≡ (holds cube v && holds by v)
-apart_within cube by v e = holds_none v ∙ sym e
 
 pub not_met : (cube by : Cube) (v : Env) (met : Bool) → met ≡ false → ((holds cube v && holds by v) ≡ true → met ≡ true) → (holds cube v && holds by v) ≡ false
 not_met cube by v met e h = by_bool (holds cube v && holds by v) (λ t. let clash : true ≡ false = sym (h t) ∙ e in absurd (cc)) (λ f. f)

@@ -29,28 +29,34 @@ pub(crate) fn split_by(
     let mut inside = Vec::new(alloc);
     let mut outside = Vec::new(alloc);
     for cube in cubes {
-        let within = cut(spec, *cube, by, &mut outside)?;
-        push_in_scope(spec, within, &mut inside)?;
+        split_cube(spec, *cube, by, &mut inside, &mut outside)?;
     }
     Ok(Split { inside, outside })
 }
 
-// Cuts off what lies outside of the cube `by`, and gives what is left.
-fn cut(spec: &Spec, cube: Cube, by: Cube, outside: &mut Vec<Cube>) -> Result<Cube, NoMemory>
+// Adds the parts of one cube to those of others. A cube that does not meet `by` lies outside whole.
+fn split_cube(
+    spec: &Spec,
+    cube: Cube,
+    by: Cube,
+    inside: &mut Vec<Cube>,
+    outside: &mut Vec<Cube>,
+) -> Result<(), NoMemory>
     requires { IsSpec spec.now }
+    ensures within { OnOk result (Gain spec.now inside.old.items inside.new.items (λ v. holds cube v && holds by v)) }
     ensures beyond { OnOk result (Gain spec.now outside.old.items outside.new.items (λ v. holds cube v && not (holds by v))) }
-    ensures within { IfOk result (λ rest. Agree spec.now (holds rest) (λ v. holds cube v && holds by v)) }
 {
-    if meet(cube, by) {
-        cut_places(spec, cube, by, outside)
-    } else {
+    if !meet(cube, by) {
         outside.push(cube)?;
-        Ok(Cube { bits: 0 })
+        return Ok(());
     }
+    let rest = cut(spec, cube, by, outside)?;
+    push_in_scope(spec, rest, inside)?;
+    Ok(())
 }
 
-// The same, place by place.
-fn cut_places(spec: &Spec, cube: Cube, by: Cube, outside: &mut Vec<Cube>) -> Result<Cube, NoMemory>
+// Cuts off what lies outside of the cube `by`, place by place, and gives what is left.
+fn cut(spec: &Spec, cube: Cube, by: Cube, outside: &mut Vec<Cube>) -> Result<Cube, NoMemory>
     requires { IsSpec spec.now }
     ensures beyond { OnOk result (Gain spec.now outside.old.items outside.new.items (λ v. holds cube v && not (holds by v))) }
     ensures within { IfOk result (λ rest. Agree spec.now (holds rest) (λ v. holds cube v && holds by v)) }

@@ -27,7 +27,7 @@ pub fn fly(rt: &HostRuntime, spec: &str, script: &str, trace: &str) -> io::Resul
 }
 
 /// What a call gave, where there was memory for it.
-fn given<T>(answer: Result<T, NoMemory>) -> io::Result<T> {
+pub fn given<T>(answer: Result<T, NoMemory>) -> io::Result<T> {
     match answer {
         Ok(value) => Ok(value),
         Err(_) => Err(ErrorKind::OutOfMemory.into()),

@@ -1,13 +1,16 @@
-//! Whole missions through the calls themselves. A row of `rows.txt` is `fly SPECIFICATION SCRIPT TRACE` or `judge
-//! SPECIFICATION TRACE`, whose files lie beside it. The traces were made by an independent model of the rules, but for
-//! that of `uav`, which is worked out by hand; so were the judgements, and the targets by a walk over all environments.
+//! Whole missions through the calls themselves. A row of `rows.txt` is `fly SPECIFICATION SCRIPT TRACE`, `judge
+//! SPECIFICATION TRACE` or `cover SPECIFICATION`, whose files lie beside it. The traces were made by an independent model
+//! of the rules, but for that of `uav`, which is worked out by hand; so were the judgements and the covers, and the targets
+//! by a walk over all environments.
 #![tactic(auto)]
 
+mod covers;
 mod flights;
 mod judgements;
 #[cfg(test)]
 mod rack_tests;
 
+use crate::covers::print_covers;
 use crate::flights::fly;
 use crate::judgements::judge;
 use std::fs;
@@ -34,6 +37,7 @@ fn answer(rt: &HostRuntime, row: &str) -> io::Result<()> {
             let trace = fs::read_to_string(rt, trace)?;
             fly(rt, spec.as_str(), script.as_str(), trace.as_str())
         }
+        ("cover", None) => print_covers(rt, spec.as_str()),
         ("judge", None) => {
             let trace = fs::read_to_string(rt, rest)?;
             judge(rt, spec.as_str(), trace.as_str())

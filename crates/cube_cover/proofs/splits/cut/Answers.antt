@@ -1,19 +1,27 @@
-use Rattle.std.proofs.Common.{◌∙◌, ap}
-use Rattle.std.specs.Prelude.{◌||◌}
-use Rattle.cube_cover.specs.Cubes.{is_in}
-use Rattle.cube_cover.proofs.Splitting.{apart_beyond, apart_within, digits_in_scope, not_met}
-use Rattle.cube_cover.proofs.Unions.{in_more}
+use Rattle.std.proofs.Common.{◌≡◌, ◌∙◌, ap, arith}
+use Rattle.std.specs.Prelude.{◌&&◌, ◌||◌, not}
+use Rattle.scram_types.specs.Searches.{all_below}
+use Rattle.cube_cover.specs.Cubes.{allows, holds, is_in}
+use Rattle.cube_cover.proofs.Splitting.{beyond_more, digits_in_scope, rest_more}
 use Rattle.cube_cover.proofs.splits.cut.Goals as goal
 
-pub returns-in_ok-push-clause-beyond : goal.returns-in_ok-push-clause-beyond
-returns-in_ok-push-clause-beyond c = λ v scope.
-    let digits = digits_in_scope c.args.spec.now c.requires v scope in
-    let apart = not_met c.args.cube c.args.by v c.meet.result c.if-meet.false (λ t. c.meet.ensures v digits t) in
-    ap (λ xs. is_in xs v) c.in_ok-push.ensures.items ∙ in_more c.args.outside.now.items c.args.cube v
-    ∙ ap (λ b. is_in c.args.outside.now.items v || b) (apart_beyond c.args.cube c.args.by v apart)
+pub loop-x-preserved : goal.loop-x-preserved
+loop-x-preserved c = record {
+  rest = rest_more c.args.spec.now c.args.cube c.args.by c.loop-x.rest c.inside_at-rest.result c.loop-x.x c.loop-x.invariant.rest
+      (λ v scope. c.inside_at-rest.ensures v (digits_in_scope c.args.spec.now c.requires v scope));
+  beyond = beyond_more c.args.spec.now c.args.cube c.args.by c.loop-x.rest c.inside_at-rest.result c.loop-x.x
+      c.args.outside.now.items c.loop-x.outside.items c.push_outside_at.new.outside.items c.loop-x.invariant.rest c.loop-x.invariant.beyond
+      (λ v scope. c.in_ok-push_outside_at.ensures v scope);
+}
 
-pub returns-in_ok-push-clause-within : goal.returns-in_ok-push-clause-within
-returns-in_ok-push-clause-within c = λ v scope.
-    let digits = digits_in_scope c.args.spec.now c.requires v scope in
-    let apart = not_met c.args.cube c.args.by v c.meet.result c.if-meet.false (λ t. c.meet.ensures v digits t) in
-    apart_within c.args.cube c.args.by v apart
+pub returns-clause-beyond : goal.returns-clause-beyond
+unfolding holds
+returns-clause-beyond c = λ v scope.
+    let end : c.loop-x.x ≡ 14 = omega arith in
+    c.loop-x.invariant.beyond v scope ∙ ap (λ n. is_in c.args.outside.now.items v || (holds c.args.cube v && not (all_below (allows c.args.by v) n))) end
+
+pub returns-clause-within : goal.returns-clause-within
+unfolding holds
+returns-clause-within c = λ v scope.
+    let end : c.loop-x.x ≡ 14 = omega arith in
+    c.loop-x.invariant.rest v scope ∙ ap (λ n. holds c.args.cube v && all_below (allows c.args.by v) n) end

@@ -6,8 +6,8 @@ loop-cube-init c = none_split c.args.spec.now c.args.by _ _ c.new-inside.ensures
 
 pub loop-cube-preserved : goal.loop-cube-preserved
 loop-cube-preserved c = record {
-  within = inside_more c.args.spec.now c.args.cubes.now c.loop-cube.cube-index _ c.args.by c.in_ok-within.within c.loop-cube.inside.items c.push_in_scope.new.cubes.items c.loop-cube-test.true
-      c.loop-cube.invariant.within (λ v scope. c.in_ok-within.ensures.within v scope) (λ v scope. c.in_ok-push_in_scope.ensures v scope);
-  beyond = outside_more c.args.spec.now c.args.cubes.now c.loop-cube.cube-index _ c.args.by c.loop-cube.outside.items c.cut.new.outside.items c.loop-cube-test.true
-      c.loop-cube.invariant.beyond (λ v scope. c.in_ok-within.ensures.beyond v scope);
+  within = inside_more c.args.spec.now c.args.cubes.now c.loop-cube.cube-index _ c.args.by c.loop-cube.inside.items c.split_cube.new.inside.items c.loop-cube-test.true
+      c.loop-cube.invariant.within (λ v scope. c.in_ok-split_cube.ensures.within v scope);
+  beyond = outside_more c.args.spec.now c.args.cubes.now c.loop-cube.cube-index _ c.args.by c.loop-cube.outside.items c.split_cube.new.outside.items c.loop-cube-test.true
+      c.loop-cube.invariant.beyond (λ v scope. c.in_ok-split_cube.ensures.beyond v scope);
 }

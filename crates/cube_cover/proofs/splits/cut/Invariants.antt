@@ -1,7 +1,7 @@
 use Rattle.std.proofs.Common.{◌&&◌, not}
 use Rattle.scram_types.specs.Searches.{all_below}
 use Rattle.cube_cover.specs.Cubes.{Agree, Gain, allows, holds}
-use Rattle.cube_cover.proofs.splits.cut_places.Given as goal
+use Rattle.cube_cover.proofs.splits.cut.Given as goal
 
 abbrev pub invariant-loop-x : goal.invariant-loop-x
 invariant-loop-x l = record {
