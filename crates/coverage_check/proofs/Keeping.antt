@@ -19,7 +19,7 @@ use Rattle.fault_script.proofs.Showing.{environments_show}
 use Rattle.fault_script.proofs.Walking.{first_later, none_taken, nothing_taken, values_are}
 use Rattle.coverage_check.specs.Keeping.{MissionsKeepScope}
 
-value_in : (script : ScriptParts) (f x : ℕ) → x < 6 → slice_index (factors_at script f) x ≡ factor_at script x f
+pub value_in : (script : ScriptParts) (f x : ℕ) → x < 6 → slice_index (factors_at script f) x ≡ factor_at script x f
 value_in script f zero h = refl
 value_in script f (suc zero) h = refl
 value_in script f (suc (suc zero)) h = refl

@@ -26,7 +26,7 @@ use Rattle.cube_cover.specs.Covers.{IsCover, IsLeastEnv}
 use Rattle.cube_cover.proofs.Targets.{choose_inside}
 use Rattle.coverage_check.specs.declared.choosing.Demand.{Demand}
 use Rattle.coverage_check.specs.declared.choosing.Demand.TheVariants as demand
-use Rattle.coverage_check.specs.Choosing.{first_unmet_env, is_unmet, unmet_env_at, unmet_in}
+use Rattle.coverage_check.specs.Choosing.{first_unmet_env, is_unmet, unmet_env_at, unmet_of_cover}
 use Rattle.coverage_check.specs.Timing.{is_chosen_in, is_target, targets}
 use Rattle.coverage_check.specs.TargetSets.{AreTargets, HasCovers}
 use Rattle.coverage_check.proofs.Showing.{is_shown, none_shown}
@@ -116,7 +116,7 @@ module _ (spec : Parts) (made : IsSpec spec) where
       let here : unmet_env_at spec asked c (number_of spec v) ≡ Some v = is_shown _ (numbered spec (number_of spec v)) unmet ∙ ap Some same in
       sym (first_found (unmet_env_at spec asked c) (environments spec) (number_of spec v) v before here inside)
 
-  pub cover_unmet : (asked : Demand) (c : ConfId) (cover : Cover) → IsCover spec c cover → unmet_in cover asked ≡ first_unmet_env spec asked c
+  pub cover_unmet : (asked : Demand) (c : ConfId) (cover : Cover) → IsCover spec c cover → unmet_of_cover cover asked ≡ first_unmet_env spec asked c
   cover_unmet demand.HasRule c cover is = first_is_least demand.HasRule c cover.unfit is.unfit
   cover_unmet demand.CanRun c cover is = first_is_least demand.CanRun c cover.not_runnable is.not_runnable
   cover_unmet demand.Stays c cover is = first_is_least demand.Stays c cover.unsettled is.unsettled

@@ -43,10 +43,10 @@ abbrev pub first_unmet_env : Parts → Demand → ConfId → Option Env
 first_unmet_env spec asked c = first_below (unmet_env_at spec asked c) (environments spec)
 
 -- What a cover tells of a demand.
-abbrev pub unmet_in : Cover → Demand → Option Env
-unmet_in cover demand.HasRule = cover.unfit
-unmet_in cover demand.CanRun = cover.not_runnable
-unmet_in cover demand.Stays = cover.unsettled
+abbrev pub unmet_of_cover : Cover → Demand → Option Env
+unmet_of_cover cover demand.HasRule = cover.unfit
+unmet_of_cover cover demand.CanRun = cover.not_runnable
+unmet_of_cover cover demand.Stays = cover.unsettled
 
 -- The refusal for the first environment in which configuration c does not meet a demand.
 abbrev pub demand_refusal_of : Parts → Demand → ℕ → Option Shown

@@ -17,17 +17,17 @@ use Rattle.coverage_check.specs.Showing.{shown_at}
 use Rattle.coverage_check.specs.Timing.{is_target}
 
 -- An interval from low to high holds a range.
-abbrev pub holds : ℤ → ℤ → ℤ × ℤ → Bool
-holds low high range = int_le low range.0 && int_le range.1 high
+abbrev pub holds_range : ℤ → ℤ → ℤ × ℤ → Bool
+holds_range low high range = int_le low range.0 && int_le range.1 high
 
 -- An invariant's interval holds the range of its variable for a status in a mode: 1 as the application
 -- runs, 2 as it halts, 3 as it prepares, 4 as it initialises.
 abbrev pub holds_during : Parts → Invariant → ℕ → ℕ → Bool
-holds_during spec inv status mode = holds inv.least inv.greatest (during (kind_of_app spec inv.app.0) status mode inv.variable)
+holds_during spec inv status mode = holds_range inv.least inv.greatest (during (kind_of_app spec inv.app.0) status mode inv.variable)
 
 -- It holds the zeros of an application that is off.
 abbrev pub holds_off : Invariant → Bool
-holds_off inv = holds inv.least inv.greatest (pos 0, pos 0)
+holds_off inv = holds_range inv.least inv.greatest (pos 0, pos 0)
 
 -- It holds what is seen while the source is still left: in the source's mode, as the application initialises, runs and halts.
 abbrev pub holds_leaving : Parts → Invariant → Option Place → Bool
@@ -70,8 +70,8 @@ invariant_refusal spec = first_below (invariant_refusal_at spec) (length spec.in
 
 -- A precondition's interval holds what its application has after its init phase, and zeros where it is off.
 abbrev pub holds_entering : Parts → Precondition → Option Place → Bool
-holds_entering spec pre None = holds pre.least pre.greatest (pos 0, pos 0)
-holds_entering spec pre (Some place) = holds pre.least pre.greatest (after_init (kind_of_app spec pre.app.0) place.mode.0 pre.variable)
+holds_entering spec pre None = holds_range pre.least pre.greatest (pos 0, pos 0)
+holds_entering spec pre (Some place) = holds_range pre.least pre.greatest (after_init (kind_of_app spec pre.app.0) place.mode.0 pre.variable)
 
 -- A precondition can be missed as its configuration is entered.
 abbrev pub breaks_entering : Parts → Precondition → Bool

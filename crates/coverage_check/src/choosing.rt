@@ -4,7 +4,7 @@ ghost use Rattle.std.specs.Prelude.{◌≡◌};
 ghost use Rattle.scram_types.specs.Lookups.{conf_id};
 ghost use Rattle.scram_types.specs.Specification.{IsSpec};
 ghost use Rattle.cube_cover.specs.Covers.{IsCover};
-ghost use Rattle.coverage_check.specs.Choosing.{demand_refusal, demand_refusal_of, number_of_demand, start_refusal, target_shown, unmet_in};
+ghost use Rattle.coverage_check.specs.Choosing.{demand_refusal, demand_refusal_of, number_of_demand, start_refusal, target_shown, unmet_of_cover};
 ghost use Rattle.coverage_check.specs.TargetSets.{HasCovers};
 
 use crate::places::count_confs;
@@ -41,7 +41,7 @@ fn refuse_demand_of(spec: &Spec, cover: &Cover, demand: Demand, c: u8) -> Option
     requires cover { IsCover spec.now (conf_id c) cover.now }
     ensures { result ≡ demand_refusal_of spec.now demand c }
 {
-    match unmet_in(cover, demand) {
+    match unmet_of_cover(cover, demand) {
         Some(env) => {
             let target = target_shown(spec, demand, ConfId(c), &env);
             Some(Shown::within(number_of(demand), c, env, target))
@@ -51,8 +51,8 @@ fn refuse_demand_of(spec: &Spec, cover: &Cover, demand: Demand, c: u8) -> Option
 }
 
 // What a cover tells of a demand: the first environment in scope in which it is not met.
-fn unmet_in(cover: &Cover, demand: Demand) -> Option<Env>
-    ensures { result ≡ unmet_in cover.now demand }
+fn unmet_of_cover(cover: &Cover, demand: Demand) -> Option<Env>
+    ensures { result ≡ unmet_of_cover cover.now demand }
 {
     match demand {
         Demand::HasRule => cover.unfit,

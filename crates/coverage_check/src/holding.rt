@@ -2,7 +2,7 @@
 
 ghost use Rattle.std.specs.Prelude.{◌≡◌, ◌<◌, length};
 ghost use Rattle.choice_table.specs.Choices.{has_source};
-ghost use Rattle.coverage_check.specs.Holding.{breaks_entering, breaks_from, holds, holds_during, holds_from, holds_leaving, holds_off, holds_on_way, holds_reached, holds_reaching, invariant_refusal, invariant_refusal_at, invariant_refusal_of, precondition_refusal, precondition_refusal_at, precondition_refusal_of};
+ghost use Rattle.coverage_check.specs.Holding.{breaks_entering, breaks_from, holds_during, holds_from, holds_leaving, holds_off, holds_on_way, holds_range, holds_reached, holds_reaching, invariant_refusal, invariant_refusal_at, invariant_refusal_of, precondition_refusal, precondition_refusal_at, precondition_refusal_of};
 ghost use Rattle.scram_types.specs.Lookups.{conf_id};
 ghost use Rattle.scram_types.specs.Specification.{IsSpec};
 ghost use Rattle.cube_cover.specs.Covers.{IsCover};
@@ -126,7 +126,7 @@ fn holds_reaching(spec: &Spec, inv: &Invariant, place: Option<Place>) -> bool
 fn holds_during(spec: &Spec, inv: &Invariant, status: u8, mode: Mode) -> bool
     ensures { result ≡ holds_during spec.now inv.now status mode.0 }
 {
-    holds(
+    holds_range(
         inv.least,
         inv.greatest,
         during(spec.kind_of_app(inv.app), status, mode, inv.variable),
@@ -136,12 +136,12 @@ fn holds_during(spec: &Spec, inv: &Invariant, status: u8, mode: Mode) -> bool
 fn holds_off(inv: &Invariant) -> bool
     ensures { result ≡ holds_off inv.now }
 {
-    holds(inv.least, inv.greatest, (0, 0))
+    holds_range(inv.least, inv.greatest, (0, 0))
 }
 
 // Whether an interval from `low` to `high` holds a range.
-fn holds(low: i64, high: i64, range: (i64, i64)) -> bool
-    ensures { result ≡ holds low high range }
+fn holds_range(low: i64, high: i64, range: (i64, i64)) -> bool
+    ensures { result ≡ holds_range low high range }
 {
     low <= range.0 && range.1 <= high
 }
@@ -184,12 +184,12 @@ fn breaks_entering(spec: &Spec, pre: &Precondition) -> bool
     match spec.place_of(pre.conf, pre.app) {
         Some(place) => {
             let kind = spec.kind_of_app(pre.app);
-            !holds(
+            !holds_range(
                 pre.least,
                 pre.greatest,
                 after_init(kind, place.mode, pre.variable),
             )
         }
-        None => !holds(pre.least, pre.greatest, (0, 0)),
+        None => !holds_range(pre.least, pre.greatest, (0, 0)),
     }
 }

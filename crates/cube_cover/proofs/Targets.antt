@@ -21,7 +21,7 @@ use Rattle.choice_table.specs.Choices.{IsTarget, choose, has_rule, is_runnable, 
 use Rattle.cube_cover.specs.declared.answers.Cover.{Cover}
 use Rattle.cube_cover.specs.declared.cubes.Cube.{Cube}
 use Rattle.cube_cover.specs.declared.regions.Region.{Region}
-use Rattle.cube_cover.specs.Covers.{IsCover, IsLeastEnv, cannot_run, earlier, is_left_again, is_unfit}
+use Rattle.cube_cover.specs.Covers.{IsCover, IsLeastEnv, cannot_run, earlier_env, is_left_again, is_unfit}
 use Rattle.cube_cover.specs.Cubes.{Agree, IsSplit, holds, is_in}
 use Rattle.cube_cover.specs.Findings.{is_chosen_at, is_left_at, is_stuck_at}
 use Rattle.cube_cover.specs.Regions.{AreAll, AreRegions, HoldsMarked, MarksMore, is_ruled}
@@ -144,7 +144,7 @@ left_somewhere spec made i known v scope =
     any_target (λ t. not ((choose spec (conf_id t) v).0 == t)) (choose spec i v).0 (length spec.confs) (choose_inside spec made i v known)
 
 pub least_more : (spec : Parts) (at : ℕ → Env → Bool) (t : ℕ) (before found after : Option Env) → IsLeastEnv spec (λ v. any_below (λ k. at k v) t) before → IsLeastEnv spec (at t) found
-    → after ≡ earlier spec before found → IsLeastEnv spec (λ v. any_below (λ k. at k v) (t + 1)) after
+    → after ≡ earlier_env spec before found → IsLeastEnv spec (λ v. any_below (λ k. at k v) (t + 1)) after
 least_more spec at t before found after so_far here is =
     least_same spec (λ v. any_below (λ k. at k v) t || at t v) _ after (λ v scope. ap (any_below (λ k. at k v)) (plus_one t))
     (subst (IsLeastEnv spec (λ v. any_below (λ k. at k v) t || at t v)) (sym is) (least_either spec (λ v. any_below (λ k. at k v) t) (at t) before found so_far here))

@@ -11,7 +11,7 @@ use Rattle.scram_types.proofs.Booleans.{by_bool, or_left, or_right, true_false}
 use Rattle.scram_types.proofs.Naturals.{above, at_most}
 use Rattle.choice_table.specs.Numbering.{number_of}
 use Rattle.cube_cover.specs.declared.cubes.Cube.{Cube}
-use Rattle.cube_cover.specs.Covers.{IsLeast, IsLeastEnv, earlier}
+use Rattle.cube_cover.specs.Covers.{IsLeast, IsLeastEnv, earlier_env}
 use Rattle.cube_cover.specs.Cubes.{Agree, holds, is_in}
 
 -- the least of two
@@ -24,7 +24,7 @@ cases_of : {P : Type 0} (a b : Bool) → (a || b) ≡ true → (a ≡ true → P
 cases_of true b e f g = f refl
 cases_of false b e f g = g e
 
-pub least_either : (spec : Parts) (s t : Env → Bool) (o p : Option Env) → IsLeastEnv spec s o → IsLeastEnv spec t p → IsLeastEnv spec (λ v. s v || t v) (earlier spec o p)
+pub least_either : (spec : Parts) (s t : Env → Bool) (o p : Option Env) → IsLeastEnv spec s o → IsLeastEnv spec t p → IsLeastEnv spec (λ v. s v || t v) (earlier_env spec o p)
 least_either spec s t None None a b = λ v known scope. either_false (s v) (t v) (a v known scope) (b v known scope)
 least_either spec s t (Some f) None a b = record {
   belongs = a.belongs;

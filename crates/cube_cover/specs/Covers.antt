@@ -22,11 +22,11 @@ IsLeastEnv spec test (Some found) = IsLeast spec test found
 IsLeastEnv spec test None = (v : Env) → IsEnv spec v → in_scope spec v ≡ true → test v ≡ false
 
 -- Of two environments the one with the lesser number.
-abbrev pub earlier : Parts → Option Env → Option Env → Option Env
-earlier spec None None = None
-earlier spec (Some v) None = Some v
-earlier spec None (Some w) = Some w
-earlier spec (Some v) (Some w) = if nat_le (number_of spec v) (number_of spec w) then Some v else Some w
+abbrev pub earlier_env : Parts → Option Env → Option Env → Option Env
+earlier_env spec None None = None
+earlier_env spec (Some v) None = Some v
+earlier_env spec None (Some w) = Some w
+earlier_env spec (Some v) (Some w) = if nat_le (number_of spec v) (number_of spec w) then Some v else Some w
 
 -- No rule fits configuration i.
 abbrev pub is_unfit : Parts → ConfId → Env → Bool

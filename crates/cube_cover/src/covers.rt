@@ -4,14 +4,14 @@ ghost use Rattle.std.specs.Prelude.{◌≡◌, ◌+◌, ◌^◌, ◌<◌, ◌≤
 ghost use Rattle.scram_types.specs.Lookups.{conf_id};
 ghost use Rattle.scram_types.specs.Specification.{IsSpec};
 ghost use Rattle.choice_table.specs.Choices.{choose};
-ghost use Rattle.cube_cover.specs.Covers.{IsCover, IsLeastEnv, earlier};
+ghost use Rattle.cube_cover.specs.Covers.{IsCover, IsLeastEnv, earlier_env};
 ghost use Rattle.cube_cover.specs.Cubes.{Agree, is_in};
 ghost use Rattle.cube_cover.specs.Findings.{IsFinding, is_chosen_at};
 ghost use Rattle.cube_cover.specs.Regions.{AreAll, MarksMore};
 
 use crate::answers::Cover;
 use crate::cubes::{Cube, running, whole};
-use crate::leasts::{earlier, least_of};
+use crate::leasts::{earlier_env, least_of};
 use crate::regions::{Region, Regions, assign, regions_of, with_other_target, with_target};
 use crate::splits::split_by;
 use scram_types::{ConfId, Env, NoMemory, Spec};
@@ -129,14 +129,14 @@ fn with_finding(spec: &Spec, before: &Cover, t: u8, finding: &Finding) -> Cover
     requires few { before.now.targets < 2 ^ t }
     ensures targets { result.targets ≡ before.now.targets + (if finding.now.is_chosen then 2 ^ t else 0) }
     ensures unfit { result.unfit ≡ before.now.unfit }
-    ensures not_runnable { result.not_runnable ≡ earlier spec.now before.now.not_runnable finding.now.not_runnable }
-    ensures unsettled { result.unsettled ≡ earlier spec.now before.now.unsettled finding.now.unsettled }
+    ensures not_runnable { result.not_runnable ≡ earlier_env spec.now before.now.not_runnable finding.now.not_runnable }
+    ensures unsettled { result.unsettled ≡ earlier_env spec.now before.now.unsettled finding.now.unsettled }
 {
     let target = if finding.is_chosen { 1 << t } else { 0 };
     Cover {
         targets: before.targets + target,
         unfit: before.unfit,
-        not_runnable: earlier(spec, before.not_runnable, finding.not_runnable),
-        unsettled: earlier(spec, before.unsettled, finding.unsettled),
+        not_runnable: earlier_env(spec, before.not_runnable, finding.not_runnable),
+        unsettled: earlier_env(spec, before.unsettled, finding.unsettled),
     }
 }

@@ -3,7 +3,7 @@
 ghost use Rattle.std.specs.Prelude.{◌≡◌, ◌*◌, ◌+◌, ◌<◌, ◌≤◌, length};
 ghost use Rattle.scram_types.specs.Bits.{bits_below, has_bit};
 ghost use Rattle.scram_types.specs.Specification.{IsSpec};
-ghost use Rattle.cube_cover.specs.Covers.{IsLeastEnv, earlier};
+ghost use Rattle.cube_cover.specs.Covers.{IsLeastEnv, earlier_env};
 ghost use Rattle.cube_cover.specs.Cubes.{HasDigits, holds, is_in, may_be_up};
 ghost use Rattle.cube_cover.specs.Leasts.{belongs, least_digit, least_env};
 
@@ -19,14 +19,14 @@ pub(crate) fn least_of(spec: &Spec, cubes: &[Cube]) -> Option<Env>
 {
     let mut least = None;
     for cube in cubes {
-        least = earlier(spec, least, least_env(spec, *cube));
+        least = earlier_env(spec, least, least_env(spec, *cube));
     }
     least
 }
 
 // Of two environments the one with the lesser number.
-pub(crate) fn earlier(spec: &Spec, one: Option<Env>, other: Option<Env>) -> Option<Env>
-    ensures { result ≡ earlier spec.now one other }
+pub(crate) fn earlier_env(spec: &Spec, one: Option<Env>, other: Option<Env>) -> Option<Env>
+    ensures { result ≡ earlier_env spec.now one other }
 {
     match (one, other) {
         (None, None) => None,

@@ -47,6 +47,7 @@ use Rattle.fault_script.specs.Fits.{Fits}
 use Rattle.fault_script.specs.Laws.{Shows}
 use Rattle.fault_script.specs.Times.{commits, factor_at, factors_at}
 use Rattle.fault_script.proofs.Showing.{environments_show}
+use Rattle.coverage_check.proofs.Keeping.{value_in}
 use Rattle.frame_model.specs.declared.phases.Phase.{Phase}
 use Rattle.frame_model.specs.declared.tasks.Task.{Task}
 use Rattle.frame_model.specs.Flights.{row_at, rows_of, state_after}
@@ -166,15 +167,6 @@ world_shown world flies =
 
 -- environments
 
-factor_is : (script : ScriptParts) (f x : ℕ) → x < 6 → slice_index (factors_at script f) x ≡ factor_at script x f
-factor_is script f zero low = refl
-factor_is script f (suc zero) low = refl
-factor_is script f (suc (suc zero)) low = refl
-factor_is script f (suc (suc (suc zero))) low = refl
-factor_is script f (suc (suc (suc (suc zero)))) low = refl
-factor_is script f (suc (suc (suc (suc (suc zero))))) low = refl
-factor_is script f (suc (suc (suc (suc (suc (suc x)))))) low = absurd (omega (arith, low))
-
 rest_by : (script : ScriptParts) (f : ℕ) (few : ℕ) → ((x : ℕ) → few ≤ x → factor_at script x f ≡ 0) → (x : ℕ) → few ≤ x → slice_index (factors_at script f) x ≡ 0
 rest_by script f few h zero past = h 0 past
 rest_by script f few h (suc zero) past = h 1 past
@@ -193,7 +185,7 @@ env_shown spec script f sound fits =
       width = refl;
       values = λ x factor there.
           let low = slice_get_within spec.factors x factor there in
-          rw (factor_is script f x (omega (arith, low, few))) (shows.values x factor there);
+          rw (value_in script f x (omega (arith, low, few))) (shows.values x factor there);
       rest = rest_by script f (length spec.factors) shows.rest;
     }
 

@@ -10,12 +10,12 @@ use Rattle.coverage_check.proofs.choosing.refuse_demand_of.Goals as goal
 pub returns-in-Some : goal.returns-in-Some
 returns-in-Some c =
     let first : Some c.in-Some.env ≡ first_unmet_env c.args.spec.now c.args.demand (conf_id c.args.c) =
-    sym c.in-Some.is ∙ c.unmet_in.ensures ∙ cover_unmet c.args.spec.now c.requires.known c.args.demand (conf_id c.args.c) c.args.cover.now c.requires.cover in
+    sym c.in-Some.is ∙ c.unmet_of_cover.ensures ∙ cover_unmet c.args.spec.now c.requires.known c.args.demand (conf_id c.args.c) c.args.cover.now c.requires.cover in
     rw (c.within.ensures, c.number_of.ensures, c.target_shown-target.ensures)
     (ap (option_map (λ (v : Env). shown_in (number_of_demand c.args.demand) c.args.c v (target_shown c.args.spec.now c.args.demand (conf_id c.args.c) v))) first)
 
 pub returns-in-None : goal.returns-in-None
 returns-in-None c =
     let first : None ≡ first_unmet_env c.args.spec.now c.args.demand (conf_id c.args.c) =
-    sym c.in-None.is ∙ c.unmet_in.ensures ∙ cover_unmet c.args.spec.now c.requires.known c.args.demand (conf_id c.args.c) c.args.cover.now c.requires.cover in
+    sym c.in-None.is ∙ c.unmet_of_cover.ensures ∙ cover_unmet c.args.spec.now c.requires.known c.args.demand (conf_id c.args.c) c.args.cover.now c.requires.cover in
     ap (option_map (λ (v : Env). shown_in (number_of_demand c.args.demand) c.args.c v (target_shown c.args.spec.now c.args.demand (conf_id c.args.c) v))) first

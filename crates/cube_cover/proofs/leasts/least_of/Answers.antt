@@ -10,9 +10,9 @@ loop-cube-init c = λ v known scope. in_none v
 
 pub loop-cube-preserved : goal.loop-cube-preserved
 loop-cube-preserved c =
-    least_same c.args.spec.now _ (is_in (take (c.loop-cube.cube-index + 1) c.args.cubes.now)) c.earlier-least.result
+    least_same c.args.spec.now _ (is_in (take (c.loop-cube.cube-index + 1) c.args.cubes.now)) c.earlier_env-least.result
     (λ v scope. sym (taken_more c.args.cubes.now c.loop-cube.cube-index _ v c.loop-cube-test.true))
-    (subst (IsLeastEnv c.args.spec.now _) (sym c.earlier-least.ensures)
+    (subst (IsLeastEnv c.args.spec.now _) (sym c.earlier_env-least.ensures)
     (least_either c.args.spec.now (is_in (take c.loop-cube.cube-index c.args.cubes.now)) _ c.loop-cube.least c.least_env.result c.loop-cube.invariant c.least_env.ensures))
 
 pub returns : goal.returns
