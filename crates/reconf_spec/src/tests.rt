@@ -49,7 +49,11 @@ fn deep_texts(rt: HostRuntime) -> Result<(), Fail> {
     assert_eq!(rt; refusal(alloc, &brackets(alloc, 128, 256)?)?.0, 1);
     assert_eq!(rt; refusal(alloc, &brackets(alloc, 200, 400)?)?.0, 1);
     assert_eq!(rt;
-        refusal(alloc, &brackets(alloc, MAX_SPECIFICATION_BYTES, MAX_SPECIFICATION_BYTES)?)?.0,
+        refusal(
+            alloc,
+            &brackets(alloc, MAX_SPECIFICATION_BYTES, MAX_SPECIFICATION_BYTES)?
+        )?
+        .0,
         1
     );
     Ok(())

@@ -160,7 +160,10 @@ pub fn make_fly_line(number: u32, spec: &Spec, flown: &Flown) -> Line
     line.text(b" longest ");
     line.number(longest_duration(flown.reports.items()));
     line.text(b" final ");
-    line.text(spec.conf_name(last_run(spec, flown.rows.items())).as_bytes());
+    line.text(
+        spec.conf_name(last_run(spec, flown.rows.items()))
+            .as_bytes(),
+    );
     line.text(b"\n");
     line
 }
