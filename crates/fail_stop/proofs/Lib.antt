@@ -1,3 +1,4 @@
+pub mod Drafting
 pub mod EachState
 pub mod Examples
 pub mod Facts
@@ -5,6 +6,7 @@ pub mod FrameFacts
 pub mod FrameSteps
 pub mod HaltSteps
 pub mod Keeps
+pub mod Joining
 pub mod KernelEvents
 pub mod ListLaw
 pub mod Moves

@@ -6,8 +6,11 @@ use Rattle.bank_words.specs.declared.events.Event.{Event}
 use Rattle.bank_words.specs.Marks.{pick}
 use Rattle.fault_script.specs.Fits.{Fits}
 use Rattle.fault_script.specs.Times.{commits, words as width_of}
+use Rattle.frame_model.specs.Flights.{draft}
 use Rattle.frame_model.specs.Storage.{image_bank_after, mark_after}
 use Rattle.fail_stop.specs.Consistency.{IsConsistent, Reads}
+use Rattle.fail_stop.specs.declared.snapshots.Snapshot.{Snapshot}
+use Rattle.fail_stop.specs.Drafts.{IsSnapshot, draft_made}
 use Rattle.fail_stop.specs.Ends.{IsOver, IsStoredLast}
 use Rattle.fail_stop.specs.Events.{BankWord, Happens, IsNext, KernelWord, MarkWord, Places, Word, writes}
 use Rattle.fail_stop.specs.Flights.{Flies, bank_before, image_before, is_committed, mark_before, side, word_in}
@@ -91,3 +94,8 @@ MachineGoesOn = (spec : Parts) (script : ScriptParts) → Fits spec script → (
 abbrev pub BanksHoldTheLastStores : Type 0
 BanksHoldTheLastStores = (spec : Parts) (script : ScriptParts) (p f b i : ℕ)
     → IsStoredLast (flight_of spec script) p f b i (bank_before (flight_of spec script) p f b i)
+
+-- What a processor makes of the snapshot of frame f is what it drafts in frame f of the one-thread trace.
+abbrev pub DraftsAreOfTraces : Type 0
+DraftsAreOfTraces = (spec : Parts) (script : ScriptParts) → IsSpec spec → (f p : ℕ) (snap : Snapshot) → p < length spec.procs
+    → IsSnapshot spec script f snap → draft_made spec snap p ≡ draft spec script p f

@@ -1,4 +1,5 @@
 pub mod Consistency
+pub mod Drafts
 pub mod Ends
 pub mod Events
 pub mod Flights

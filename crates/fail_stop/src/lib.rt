@@ -3,4 +3,10 @@
 //! images of that frame.
 #![tactic(auto)]
 
+mod drafts;
 pub mod law;
+pub mod snapshots;
+pub mod units;
+
+pub use snapshots::{Draft, Snapshot};
+pub use units::{Halted, Live};

@@ -11,6 +11,7 @@ pub mod laws;
 mod outcomes;
 pub mod phases;
 pub mod readings;
+pub mod sights;
 pub mod systems;
 pub mod tasks;
 

@@ -1,0 +1,146 @@
+-- What a processor makes of a snapshot is the definition's, and in a flight it is the draft of the one-thread trace.
+use Rattle.std.proofs.Common.{◌≡◌, ◌∙◌, ℕ, zero, suc, ◌<◌, refl, ap, sym, subst, arith, length, Bool, true, false, List}
+use Rattle.std.specs.Prelude.{ℤ, Option, Some, None, IfSome, option_map, if◌then◌else◌}
+use Rattle.scram_types.specs.declared.flights.Env.{Env}
+use Rattle.scram_types.specs.declared.ids.ProcId.{ProcId}
+use Rattle.scram_types.specs.declared.specification.Place.{Place}
+use Rattle.scram_types.specs.Eights.{eight}
+use Rattle.scram_types.specs.Lookups.{kind_of_app, place_of}
+use Rattle.scram_types.specs.Scripts.{ScriptParts}
+use Rattle.scram_types.specs.Specification.{IsSpec, Parts}
+use Rattle.scram_types.proofs.Eights.{eight_at, eight_same}
+use Rattle.app_model.specs.declared.seen.Seen.{Seen}
+use Rattle.app_model.specs.Law.{law}
+use Rattle.app_model.proofs.Lengths.{either_eight, law_eight}
+use Rattle.bank_words.specs.declared.images.KernelImage.{KernelImage}
+use Rattle.fault_script.specs.Environments.{env_at}
+use Rattle.fault_script.specs.Times.{commits}
+use Rattle.frame_model.specs.declared.tasks.Task.{Task}
+use Rattle.frame_model.specs.Flights.{decided, draft, image_of, is_proc, slot_after, slot_drafted, slot_in, state_after, task_given}
+use Rattle.frame_model.specs.Laws.{AreasAreKept, IsSlotOfKeeper}
+use Rattle.frame_model.specs.Phases.{phase_at}
+use Rattle.frame_model.specs.States.{State, area_at, keeper_after, keeper_at, keeper_on, law_of, seen_by_all, seen_in, start_keeper_of, zeros}
+use Rattle.frame_model.specs.Tasks.{off_task, task_in, task_of}
+use Rattle.frame_model.proofs.Agreeing.{Exists, place_exists, task_exists}
+use Rattle.frame_model.proofs.Slots.{slot_is}
+use Rattle.fail_stop.specs.declared.snapshots.Snapshot.{Snapshot}
+use Rattle.fail_stop.specs.Drafts.{AreEight, IsSnapshot, area_kept, areas_shown, draft_made, image_at, slot_made, state_shown, task_at}
+
+-- each slot that is made has eight words
+
+area_eight : (images : List (List ℤ)) (keeper : Option ProcId) (a : ℕ) → length (area_kept images keeper a) ≡ 8
+area_eight images None a = refl
+area_eight images (Some q) a = refl
+
+shown_eight : (snap : Snapshot) (a : ℕ) → a < 8 → length (area_at (areas_shown snap) a) ≡ 8
+shown_eight snap a low =
+    ap length (eight_at (λ b. area_kept snap.images (keeper_at snap.kernel.keepers b) b) a zeros low) ∙ area_eight snap.images (keeper_at snap.kernel.keepers a) a
+
+made_eight : (spec : Parts) (snap : Snapshot) (tasks : List Task) (seen : Seen) (own : List ℤ) (p a : ℕ) → a < 8 → length (slot_made spec tasks seen (areas_shown snap) own p a) ≡ 8
+made_eight spec snap tasks seen own p a low =
+    either_eight _ _ (is_proc p (task_at tasks a).proc)
+    (law_eight (kind_of_app spec a) (task_at tasks a).order (seen_in seen (task_at tasks a).mode (area_at (areas_shown snap) a)) (shown_eight snap a low))
+    refl
+
+pub slots_eight : (spec : Parts) (snap : Snapshot) (tasks : List Task) (seen : Seen) (areas slots : List (List ℤ)) (own : List ℤ) (p : ℕ)
+    → areas ≡ areas_shown snap → slots ≡ eight (slot_made spec tasks seen areas own p) → AreEight (area_at slots)
+slots_eight spec snap tasks seen areas slots own p is_areas is_slots a low =
+    let same : slots ≡ eight (slot_made spec tasks seen (areas_shown snap) own p) = is_slots ∙ ap (λ (shown : List (List ℤ)). eight (slot_made spec tasks seen shown own p)) is_areas in
+    ap (λ (made : List (List ℤ)). length (area_at made a)) same ∙ ap length (eight_at (slot_made spec tasks seen (areas_shown snap) own p) a zeros low) ∙ made_eight spec snap tasks seen own p a low
+
+-- the parts of a draft
+
+pub draft_is : (spec : Parts) (snap : Snapshot) (p : ℕ) (tasks : List Task) (seen : Seen) (areas slots : List (List ℤ)) (own image : List ℤ)
+    → tasks ≡ eight (task_of spec snap.kernel.mode snap.kernel.frame) → seen ≡ seen_by_all spec snap.kernel.env (state_shown snap)
+    → areas ≡ areas_shown snap → own ≡ image_at snap.images p
+    → slots ≡ eight (slot_made spec tasks seen areas own p) → image ≡ image_of (area_at slots) → image ≡ draft_made spec snap p
+draft_is spec snap p tasks seen areas slots own image is_tasks is_seen is_areas is_own is_slots is_image =
+    is_image ∙ rw (is_slots, is_tasks, is_seen, is_areas, is_own) refl
+
+-- keepers exist
+
+start_exists : (spec : Parts) (place : Option Place) → IfSome place (λ p. p.proc.0 < length spec.procs) → Exists spec (option_map (λ (place : Place). place.proc) place)
+unfolding Exists
+start_exists spec None there = tt
+start_exists spec (Some place) there = there
+
+either_exists : (spec : Parts) (proc : ProcId) (old : Option ProcId) (b : Bool) → Exists spec (Some proc) → Exists spec old → Exists spec (if b then Some proc else old)
+either_exists spec proc old true there before = there
+either_exists spec proc old false there before = before
+
+on_exists : (spec : Parts) (committed : ℕ → Bool) (old proc : Option ProcId) → Exists spec proc → Exists spec old → Exists spec (keeper_on committed old proc)
+unfolding Exists
+on_exists spec committed old None there before = tt
+on_exists spec committed old (Some proc) there before = either_exists spec proc old (committed proc.0) there before
+
+keeper_exists : (spec : Parts) → IsSpec spec → (script : ScriptParts) (f a : ℕ) → a < 8 → Exists spec (keeper_at (state_after spec script f).keepers a)
+keeper_exists spec is script zero a low =
+    subst (Exists spec) (sym (eight_at (start_keeper_of spec) a None low)) (start_exists spec (place_of spec spec.start a) (place_exists spec is spec.start a))
+keeper_exists spec is script (suc f) a low =
+    let phase = phase_at spec (decided spec script f) f in
+    subst (Exists spec) (sym (eight_at (λ b. keeper_after (λ p. commits spec script p f) (state_after spec script f) (task_in spec phase b) b) a None low))
+    (on_exists spec (λ p. commits spec script p f) (keeper_at (state_after spec script f).keepers a) (task_in spec phase a).proc (task_exists spec is phase a) (keeper_exists spec is script f a low))
+
+-- the areas that a snapshot shows are those before the frame
+
+kept_same : (spec : Parts) (script : ScriptParts) (f a : ℕ) (snap : Snapshot) (keeper : Option ProcId) (area : List ℤ) → a < 8 → IsSnapshot spec script f snap → Exists spec keeper
+    → IsSlotOfKeeper keeper area (λ p. slot_after spec script p f a) → area_kept snap.images keeper a ≡ area
+unfolding Exists
+kept_same spec script f a snap None area low of there kept = sym kept
+kept_same spec script f a snap (Some q) area low of there kept =
+    ap (λ (image : List ℤ). slot_in image a) (of.images q.0 there) ∙ slot_is spec script q.0 f a low ∙ sym kept
+
+areas_listed : (spec : Parts) (script : ScriptParts) (f : ℕ) → eight (area_at (state_after spec script f).areas) ≡ (state_after spec script f).areas
+areas_listed spec script zero = refl
+areas_listed spec script (suc f) = refl
+
+module _ (spec : Parts) (is : IsSpec spec) (script : ScriptParts) (f : ℕ) (snap : Snapshot) (of : IsSnapshot spec script f snap) (kept : AreasAreKept) where
+  keepers : snap.kernel.keepers ≡ (state_after spec script f).keepers
+  keepers = ap (λ (k : KernelImage). k.keepers) of.kernel
+
+  area_same : (a : ℕ) → a < 8 → area_kept snap.images (keeper_at snap.kernel.keepers a) a ≡ area_at (state_after spec script f).areas a
+  area_same a low =
+      ap (λ (all : List (Option ProcId)). area_kept snap.images (keeper_at all a) a) keepers
+      ∙ kept_same spec script f a snap (keeper_at (state_after spec script f).keepers a) (area_at (state_after spec script f).areas a) low of (keeper_exists spec is script f a low) (kept spec script f a low)
+
+  areas_same : areas_shown snap ≡ (state_after spec script f).areas
+  areas_same = eight_same (λ a. area_kept snap.images (keeper_at snap.kernel.keepers a) a) (area_at (state_after spec script f).areas) area_same ∙ areas_listed spec script f
+
+  seen_same : seen_by_all spec snap.kernel.env (state_shown snap) ≡ seen_by_all spec (env_at spec script f) (state_after spec script f)
+  seen_same = seen_of spec snap.kernel.env (env_at spec script f) (state_shown snap) (state_after spec script f) (ap (λ (k : KernelImage). k.env) of.kernel) areas_same (ap (λ (k : KernelImage). k.world) of.kernel)
+    where
+      seen_of : (spec : Parts) (v w : Env) (one other : State) → v ≡ w → one.areas ≡ other.areas → one.world ≡ other.world → seen_by_all spec v one ≡ seen_by_all spec w other
+      seen_of spec v w one other env areas world = rw (env, areas, world) refl
+
+  task_same : (a : ℕ) → a < 8 → task_at (eight (task_of spec snap.kernel.mode snap.kernel.frame)) a ≡ task_given spec script f a
+  task_same a low = eight_at (task_of spec snap.kernel.mode snap.kernel.frame) a off_task low ∙ ap (λ (k : KernelImage). task_of spec k.mode k.frame a) of.kernel
+
+  made_same : (p a : ℕ) → p < length spec.procs → a < 8
+      → slot_made spec (eight (task_of spec snap.kernel.mode snap.kernel.frame)) (seen_by_all spec snap.kernel.env (state_shown snap)) (areas_shown snap) (image_at snap.images p) p a
+      ≡ slot_drafted spec script p f a (slot_after spec script p f a)
+  made_same p a there low =
+      made_of p (kind_of_app spec a) (task_at (eight (task_of spec snap.kernel.mode snap.kernel.frame)) a) (task_given spec script f a)
+      (seen_by_all spec snap.kernel.env (state_shown snap)) (seen_by_all spec (env_at spec script f) (state_after spec script f))
+      (area_at (areas_shown snap) a) (area_at (state_after spec script f).areas a) (slot_in (image_at snap.images p) a) (slot_after spec script p f a)
+      (task_same a low) seen_same (ap (λ (areas : List (List ℤ)). area_at areas a) areas_same)
+      (ap (λ (image : List ℤ). slot_in image a) (of.images p there) ∙ slot_is spec script p f a low)
+    where
+      made_of : (p kind : ℕ) (task given : Task) (seen shown : Seen) (area kept old before : List ℤ) → task ≡ given → seen ≡ shown → area ≡ kept → old ≡ before
+          → (if is_proc p task.proc then law kind task.order (seen_in seen task.mode area) else old) ≡ (if is_proc p given.proc then law kind given.order (seen_in shown given.mode kept) else before)
+      made_of p kind task given seen shown area kept old before t s a o = rw (t, s, a, o) refl
+
+  pub draft_same : (p : ℕ) → p < length spec.procs → draft_made spec snap p ≡ draft spec script p f
+  draft_same p there = image_same _ _ (λ a low. made_same p a there low)
+    where
+      image_same : (slot other : ℕ → List ℤ) → ((a : ℕ) → a < 8 → slot a ≡ other a) → image_of slot ≡ image_of other
+      image_same slot other same =
+          rw (
+            same 0 (omega arith),
+            same 1 (omega arith),
+            same 2 (omega arith),
+            same 3 (omega arith),
+            same 4 (omega arith),
+            same 5 (omega arith),
+            same 6 (omega arith),
+            same 7 (omega arith),
+          ) refl

@@ -1,0 +1,62 @@
+-- What a processor makes of what it sees in a frame.
+use Rattle.std.specs.Prelude.{◌≡◌, ℕ, ◌<◌, ℤ, false, List, [], length, slice_index_or, Option, Some, None, if◌then◌else◌}
+use Rattle.scram_types.specs.declared.ids.ProcId.{ProcId}
+use Rattle.scram_types.specs.Eights.{eight}
+use Rattle.scram_types.specs.Lookups.{kind_of_app}
+use Rattle.scram_types.specs.Scripts.{ScriptParts}
+use Rattle.scram_types.specs.Specification.{Parts}
+use Rattle.app_model.specs.declared.seen.Seen.{Seen}
+use Rattle.app_model.specs.Law.{law}
+use Rattle.frame_model.specs.declared.tasks.Task.{Task}
+use Rattle.frame_model.specs.Flights.{image_after, image_of, is_proc, slot_in}
+use Rattle.frame_model.specs.States.{State, area_at, keeper_at, seen_by_all, seen_in, zeros}
+use Rattle.frame_model.specs.Storage.{kernel_image}
+use Rattle.frame_model.specs.Tasks.{off_task, task_of}
+use Rattle.fail_stop.specs.declared.snapshots.Snapshot.{Snapshot}
+
+-- Each of eight slots has eight words.
+abbrev pub AreEight : (ℕ → List ℤ) → Type 0
+AreEight slot = (a : ℕ) → a < 8 → length (slot a) ≡ 8
+
+-- The image of processor q among eight.
+abbrev pub image_at : List (List ℤ) → ℕ → List ℤ
+image_at images q = slice_index_or images q []
+
+-- The task of application a among eight.
+abbrev pub task_at : List Task → ℕ → Task
+task_at tasks a = slice_index_or tasks a off_task
+
+-- The area of application a: its slot in its keeper's image, and zeros without a keeper.
+abbrev pub area_kept : List (List ℤ) → Option ProcId → ℕ → List ℤ
+area_kept images None a = zeros
+area_kept images (Some q) a = slot_in (image_at images q.0) a
+
+-- The areas that a snapshot shows.
+abbrev pub areas_shown : Snapshot → List (List ℤ)
+areas_shown snap = eight (λ a. area_kept snap.images (keeper_at snap.kernel.keepers a) a)
+
+-- What a snapshot shows of the state before its frame.
+abbrev pub state_shown : Snapshot → State
+state_shown snap = record { mode = snap.kernel.mode; arrived = false; areas = areas_shown snap; keepers = snap.kernel.keepers; world = snap.kernel.world }
+
+-- The slot of application a that processor p makes: the law's where the task names p, else the old one.
+abbrev pub slot_made : Parts → List Task → Seen → List (List ℤ) → List ℤ → ℕ → ℕ → List ℤ
+slot_made spec tasks seen areas image p a =
+    if is_proc p (task_at tasks a).proc
+    then law (kind_of_app spec a) (task_at tasks a).order (seen_in seen (task_at tasks a).mode (area_at areas a))
+    else slot_in image a
+
+-- The image that processor p makes of a snapshot.
+abbrev pub draft_made : Parts → Snapshot → ℕ → List ℤ
+draft_made spec snap p = image_of (slot_made
+    spec
+    (eight (task_of spec snap.kernel.mode snap.kernel.frame))
+    (seen_by_all spec snap.kernel.env (state_shown snap))
+    (areas_shown snap)
+    (image_at snap.images p)
+    p)
+
+-- A snapshot is that of frame f of a script: it has what the kernel says of the frame, and all images before it.
+pub record IsSnapshot (spec : Parts) (script : ScriptParts) (f : ℕ) (snap : Snapshot) : Type 0 where
+  pub kernel : snap.kernel ≡ kernel_image spec script f
+  pub images : (q : ℕ) → q < length spec.procs → image_at snap.images q ≡ image_after spec script q f

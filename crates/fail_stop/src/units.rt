@@ -1,0 +1,106 @@
+//! Processors, while they live and once they have halted. That the boxes of a live one fit is told by clauses, since no
+//! type can keep a fact of a box; the fields are public so that clauses can name them.
+
+ghost use Rattle.std.specs.Prelude.{◌≡◌, ◌<◌};
+ghost use Rattle.app_model.specs.Racks.{RackFits};
+ghost use Rattle.fail_stop.specs.Drafts.{draft_made};
+
+use crate::drafts::{Setting, areas_shown, image_of, make_slots};
+use crate::snapshots::{Draft, Snapshot};
+use app_model::Rack;
+use frame_model::sights::seen_by_all;
+use frame_model::tasks_of;
+use scram_types::{ProcId, Spec};
+
+/// A processor that has not halted, with its boxes.
+#[derive(Drop)]
+pub struct Live {
+    pub proc: ProcId,
+    pub rack: Rack,
+}
+
+/// A processor that has halted, and the frame in which it did. It has no boxes.
+#[derive(Clone, Copy, Debug, PartialEq, Eq)]
+pub struct Halted {
+    pub proc: ProcId,
+    pub frame: u32,
+}
+
+impl Live {
+    /// The processor of this number, with these boxes. It takes no memory.
+    pub fn new(proc: ProcId, rack: Rack) -> Live
+        requires { RackFits (λ b. kind_of (b.vtable, b.value)) rack.boxes.items }
+        ensures proc { result.proc ≡ proc }
+        ensures fits { RackFits (λ b. kind_of (b.vtable, b.value)) result.rack.boxes.items }
+    {
+        Live { proc, rack }
+    }
+
+    /// The processor's number.
+    pub fn proc(&self) -> ProcId
+        ensures { result ≡ self.now.proc }
+    {
+        self.proc
+    }
+
+    /// The image of this processor after the snapshot's frame: the area of each application that it hosts there is made
+    /// by one call of the box of its kind, and the other words are as they were. It takes no memory.
+    pub fn draft(&mut self, spec: &Spec, snap: &Snapshot) -> Draft
+        requires proc { self.old.proc.0 < 8 }
+        requires fits { RackFits (λ b. kind_of (b.vtable, b.value)) self.old.rack.boxes.items }
+        ensures frame { result.frame ≡ snap.now.kernel.frame }
+        ensures image { result.image ≡ draft_made spec.now snap.now self.old.proc.0 }
+        ensures proc { self.new.proc ≡ self.old.proc }
+        ensures fits { RackFits (λ b. kind_of (b.vtable, b.value)) self.new.rack.boxes.items }
+    {
+        let kernel = snap.kernel;
+        let areas = areas_shown(snap);
+        let setting = Setting {
+            tasks: tasks_of(spec, &kernel.mode, kernel.frame),
+            seen: seen_by_all(spec, &areas, kernel.world, &kernel.env),
+            areas,
+        };
+        let own = &snap.images[usize::from(self.proc.0)];
+        let slots = make_slots(spec, self.proc, &mut self.rack, &setting, own);
+        Draft {
+            frame: kernel.frame,
+            image: image_of(&slots),
+        }
+    }
+
+    /// The processor halts in this frame, and its boxes are dropped. It takes no memory.
+    pub fn halt(self, frame: u32) -> Halted
+        ensures proc { result.proc ≡ self.proc }
+        ensures frame { result.frame ≡ frame }
+    {
+        Halted {
+            proc: self.proc,
+            frame,
+        }
+    }
+}
+
+impl Halted {
+    /// The processor's number.
+    pub fn proc(&self) -> ProcId
+        ensures { result ≡ self.now.proc }
+    {
+        self.proc
+    }
+
+    /// The frame in which the processor halted.
+    pub fn frame(&self) -> u32
+        ensures { result ≡ self.now.frame }
+    {
+        self.frame
+    }
+
+    /// The same processor lives again, with other boxes. It takes no memory.
+    pub fn restart(self, rack: Rack) -> Live
+        requires { RackFits (λ b. kind_of (b.vtable, b.value)) rack.boxes.items }
+        ensures proc { result.proc ≡ self.proc }
+        ensures fits { RackFits (λ b. kind_of (b.vtable, b.value)) result.rack.boxes.items }
+    {
+        Live::new(self.proc, rack)
+    }
+}

@@ -1,0 +1,71 @@
+//! What an application is shown, and the slots of images.
+
+ghost use Rattle.std.specs.Prelude.{◌≡◌, ◌<◌};
+ghost use Rattle.scram_types.specs.Eights.{eight};
+ghost use Rattle.frame_model.specs.Flights.{slot_in};
+ghost use Rattle.frame_model.specs.States.{State, lead_of, seen_by_all, seen_in};
+
+use crate::outcomes::lead_of;
+use app_model::Seen;
+use scram_types::{Area, Env, Image, Mode, Spec, World};
+
+/// What all applications see in a frame of this environment, before which the areas and the world are these. It
+/// takes no memory.
+pub fn seen_by_all(spec: &Spec, areas: &[Area; 8], world: World, env: &Env) -> Seen
+    ensures { (state : State) → state.areas ≡ areas.now → state.world ≡ world → result ≡ seen_by_all spec.now env.now state }
+{
+    let lead = leads(spec, areas);
+    let factors = env.factors;
+    Seen {
+        mode: Mode(0),
+        own: [0; 8],
+        lead,
+        world,
+        factors,
+        goal: spec.goal,
+    }
+}
+
+fn leads(spec: &Spec, areas: &[Area; 8]) -> [Area; 8]
+    ensures { result ≡ eight (lead_of spec.now areas.now) }
+{
+    [
+        lead_of(spec, areas, 0),
+        lead_of(spec, areas, 1),
+        lead_of(spec, areas, 2),
+        lead_of(spec, areas, 3),
+        lead_of(spec, areas, 4),
+        lead_of(spec, areas, 5),
+        lead_of(spec, areas, 6),
+        lead_of(spec, areas, 7),
+    ]
+}
+
+/// The same as one of them sees it, which is in a mode and has an area of its own. It takes no memory.
+pub fn seen_in(seen: &Seen, mode: Mode, own: &Area) -> Seen
+    ensures { result ≡ seen_in seen.now mode own.now }
+{
+    let own = *own;
+    let mut seen = *seen;
+    seen.mode = mode;
+    seen.own = own;
+    seen
+}
+
+/// The slot of an application in an image. It takes no memory.
+pub fn slot_in(image: &Image, a: u8) -> Area
+    requires { a < 8 }
+    ensures { result ≡ slot_in image.now a }
+{
+    let first = 8 * usize::from(a);
+    [
+        image[first],
+        image[first + 1],
+        image[first + 2],
+        image[first + 3],
+        image[first + 4],
+        image[first + 5],
+        image[first + 6],
+        image[first + 7],
+    ]
+}
