@@ -19,7 +19,7 @@ use Rattle.frame_model.specs.declared.tasks.Task.{Task}
 use Rattle.frame_model.specs.Flights.{decided, draft, image_of, is_proc, slot_after, slot_drafted, slot_in, state_after, task_given}
 use Rattle.frame_model.specs.Laws.{AreasAreKept, IsSlotOfKeeper}
 use Rattle.frame_model.specs.Phases.{phase_at}
-use Rattle.frame_model.specs.States.{State, area_at, keeper_after, keeper_at, keeper_on, law_of, seen_by_all, seen_in, start_keeper_of, zeros}
+use Rattle.frame_model.specs.States.{State, area_at, keeper_after, keeper_at, keeper_on, seen_by_all, seen_in, start_keeper_of, zeros}
 use Rattle.frame_model.specs.Tasks.{off_task, task_in, task_of}
 use Rattle.frame_model.proofs.Agreeing.{Exists, place_exists, task_exists}
 use Rattle.frame_model.proofs.Slots.{slot_is}

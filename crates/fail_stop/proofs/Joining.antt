@@ -1,11 +1,11 @@
 -- Eight slots, one after another, word by word.
-use Rattle.std.proofs.Common.{◌≡◌, ◌∙◌, ℕ, zero, suc, ◌+◌, ◌*◌, ◌/◌, ◌%◌, ◌<◌, refl, ap, sym, arith, length, List, [], ◌∷◌, ◌++◌, ◌⊎◌, get_or}
+use Rattle.std.proofs.Common.{◌≡◌, ◌∙◌, ℕ, ◌+◌, ◌*◌, ◌/◌, ◌%◌, ◌<◌, refl, ap, sym, arith, length, List, ◌++◌, ◌⊎◌, get_or}
 use mathlib.Core.Logic.{inl, inr}
 use Rattle.std.specs.Prelude.{ℤ, pos, slice_index_or, slice_set}
-use Rattle.std.proofs.lemmas.Grind.{common_steps, get_or-set_at}
+use Rattle.std.proofs.lemmas.Grind.{get_or-set_at}
 use Rattle.std.proofs.lemmas.List.{ext_get_or, get_or-set_other, length-append, length-set}
 use Rattle.scram_types.proofs.Eights.{eight_at}
-use Rattle.frame_model.specs.Flights.{image_of, slot_in}
+use Rattle.frame_model.specs.Flights.{image_of}
 use Rattle.frame_model.specs.States.{area_at}
 use Rattle.frame_model.proofs.Slots.{slot_found}
 

@@ -1,6 +1,6 @@
 //! In every state of every schedule of a fitting script, with halts and restarts in any frame, marks, banks, the kernel's
 //! words and places are what the one-thread trace and the actors' steps say, so that whoever reads in a frame finds the
-//! images of that frame.
+//! images of that frame; what a live processor makes of them is its draft in the one-thread trace.
 #![tactic(auto)]
 
 mod drafts;

@@ -1,11 +1,15 @@
 //! Processors, while they live and once they have halted. That the boxes of a live one fit is told by clauses, since no
 //! type can keep a fact of a box; the fields are public so that clauses can name them.
 
-ghost use Rattle.std.specs.Prelude.{◌≡◌, ◌<◌};
+ghost use Rattle.std.specs.Prelude.{◌≡◌, ◌<◌, length, ℕ};
+ghost use Rattle.scram_types.specs.Scripts.{ScriptParts};
+ghost use Rattle.scram_types.specs.Specification.{IsSpec};
 ghost use Rattle.app_model.specs.Racks.{RackFits};
-ghost use Rattle.fail_stop.specs.Drafts.{draft_made};
+ghost use Rattle.frame_model.specs.Flights.{draft};
+ghost use Rattle.fail_stop.specs.Drafts.{IsSnapshot, draft_made};
 
 use crate::drafts::{Setting, areas_shown, image_of, make_slots};
+use crate::law::drafts_are_of_traces;
 use crate::snapshots::{Draft, Snapshot};
 use app_model::Rack;
 use frame_model::sights::seen_by_all;
@@ -44,12 +48,14 @@ impl Live {
     }
 
     /// The image of this processor after the snapshot's frame: the area of each application that it hosts there is made
-    /// by one call of the box of its kind, and the other words are as they were. It takes no memory.
+    /// by one call of the box of its kind, and the other words are as they were. Where the snapshot is that of a frame
+    /// of a script, it is what the one-thread trace drafts in that frame. It takes no memory.
     pub fn draft(&mut self, spec: &Spec, snap: &Snapshot) -> Draft
         requires proc { self.old.proc.0 < 8 }
         requires fits { RackFits (λ b. kind_of (b.vtable, b.value)) self.old.rack.boxes.items }
         ensures frame { result.frame ≡ snap.now.kernel.frame }
         ensures image { result.image ≡ draft_made spec.now snap.now self.old.proc.0 }
+        ensures trace { (script : ScriptParts) (f : ℕ) → IsSpec spec.now → self.old.proc.0 < length spec.now.procs → IsSnapshot spec.now script f snap.now → result.image ≡ draft spec.now script self.old.proc.0 f }
         ensures proc { self.new.proc ≡ self.old.proc }
         ensures fits { RackFits (λ b. kind_of (b.vtable, b.value)) self.new.rack.boxes.items }
     {
@@ -62,6 +68,7 @@ impl Live {
         };
         let own = &snap.images[usize::from(self.proc.0)];
         let slots = make_slots(spec, self.proc, &mut self.rack, &setting, own);
+        drafts_are_of_traces();
         Draft {
             frame: kernel.frame,
             image: image_of(&slots),

@@ -1,4 +1,4 @@
-use Rattle.std.proofs.Common.{ap, refl, sym}
+use Rattle.std.proofs.Common.{ap, refl, sym, ◌∙◌}
 use Rattle.fail_stop.specs.Drafts.{image_at, state_shown}
 use Rattle.fail_stop.proofs.Drafting.{draft_is, slots_eight}
 use Rattle.fail_stop.proofs.units.Live.draft.Goals as goal
@@ -14,3 +14,8 @@ returns-clause-image g c =
     (image_at c.args.snap.now.images c.from.result) c.image_of.result
     c.tasks_of.ensures (c.seen_by_all.ensures (state_shown c.args.snap.now) (sym c.areas_shown-areas.ensures) refl) c.areas_shown-areas.ensures
     (ap (image_at c.args.snap.now.images) c.from.ensures) c.make_slots-slots.ensures.slots c.image_of.ensures
+
+pub returns-clause-trace : goal.returns-clause-trace
+returns-clause-trace g c =
+    let made = returns-clause-image g c in
+    λ script f is there of. made ∙ c.drafts_are_of_traces.ensures c.args.spec.now script is f c.args.self.now.proc.0 c.args.snap.now there of

@@ -1,0 +1,16 @@
+use Rattle.std.proofs.Common.{◌≡◌, suc, ap, arith}
+use Rattle.frame_model.specs.declared.systems.Sys.{Sys}
+use Rattle.draft_rows.proofs.flights.fly_all.Goals as goal
+
+pub loop-frame-preserved : goal.loop-frame-preserved
+loop-frame-preserved g c =
+    let next : c.frame-row.new.sys.frame ≡ suc c.loop-frame.sys.frame = ap (λ (sys : Sys). sys.frame) c.frame-row.ensures.after in
+    let at = c.loop-frame.invariant.at in
+    record {
+      at = omega (arith, next, at);
+      one_there = rw c.draft-first.ensures.proc c.loop-frame.invariant.one_there;
+      two_there = rw c.draft-second.ensures.proc c.loop-frame.invariant.two_there;
+      one = c.draft-first.ensures.fits;
+      two = c.draft-second.ensures.fits;
+      racks = c.frame-row.ensures.fits;
+    }

@@ -1,0 +1,196 @@
+//! Frames that two live processors draft beside the one-thread frame.
+
+ghost use Rattle.std.specs.Prelude.{◌<◌};
+ghost use Rattle.app_model.specs.Racks.{RackFits, RacksFit};
+
+use app_model::{Rack, rack_fits, racks_fit};
+use bank_words::KernelImage;
+use fail_stop::{Live, Snapshot};
+use frame_model::sights::slot_in;
+use frame_model::{Input, Sys, decide, frame};
+use mission_gen::uav;
+use scram_types::{Area, Env, Image, ProcId, Row, Spec};
+use std::io::{self, ErrorKind};
+use std::rt::HostRuntime;
+use std::sync::Arc;
+use std::sync::atomic::{AtomicU64, Ordering};
+
+/// How often the boxes in the autopilots' places were called.
+#[derive(Drop)]
+pub struct Calls {
+    pub first: Arc<AtomicU64>,
+    pub second: Arc<AtomicU64>,
+}
+
+/// Flies `uav`: two racks are those of its processors, the eight others those of the one thread.
+pub fn start(
+    rt: &HostRuntime,
+    racks: Vec<Rack>,
+    rack: Rack,
+    other: Rack,
+    calls: &Calls,
+) -> io::Result<()> {
+    if !rack_fits(&rack) || !rack_fits(&other) || !racks_fit(&racks) {
+        return Err(ErrorKind::InvalidInput.into());
+    }
+    let one = Live::new(ProcId(0), rack);
+    let two = Live::new(ProcId(1), other);
+    match uav(rt.alloc()) {
+        Ok(spec) => fly(rt, &spec, one, two, racks, calls),
+        Err(_) => Err(ErrorKind::OutOfMemory.into()),
+    }
+}
+
+/// Flies the frames, and prints how often the autopilots were called.
+fn fly(
+    rt: &HostRuntime,
+    spec: &Spec,
+    one: Live,
+    two: Live,
+    mut racks: Vec<Rack>,
+    calls: &Calls,
+) -> io::Result<()>
+    requires one_there { one.proc.0 < 8 }
+    requires two_there { two.proc.0 < 8 }
+    requires one { RackFits (λ b. kind_of (b.vtable, b.value)) one.rack.boxes.items }
+    requires two { RackFits (λ b. kind_of (b.vtable, b.value)) two.rack.boxes.items }
+    requires racks { RacksFit (λ b. kind_of (b.vtable, b.value)) (λ r. r.boxes.items) racks.items }
+{
+    fly_all(rt, spec, one, two, &mut racks)?;
+    println!(rt;
+        "autopilots called {} and {} times",
+        calls.first.load(Ordering::SeqCst),
+        calls.second.load(Ordering::SeqCst)
+    )
+}
+
+/// Flies fourteen frames, and prints the drafts of three and what came of all.
+fn fly_all(
+    rt: &HostRuntime,
+    spec: &Spec,
+    mut one: Live,
+    mut two: Live,
+    racks: &mut [Rack],
+) -> io::Result<()>
+    requires one_there { one.proc.0 < 8 }
+    requires two_there { two.proc.0 < 8 }
+    requires one { RackFits (λ b. kind_of (b.vtable, b.value)) one.rack.boxes.items }
+    requires two { RackFits (λ b. kind_of (b.vtable, b.value)) two.rack.boxes.items }
+    requires racks { RacksFit (λ b. kind_of (b.vtable, b.value)) (λ r. r.boxes.items) racks.old }
+{
+    let mut sys = Sys::start(spec);
+    let mut images = start_images(&sys);
+    println!(rt; "start")?;
+    print_images(rt, spec, &images)?;
+    for _frame in 0..14u32 {
+        let input = input_of(sys.frame);
+        let snap = snapshot(spec, &sys, &input, &images);
+        let first = one.draft(spec, &snap);
+        let second = two.draft(spec, &snap);
+        let image = first.image;
+        images[0] = image;
+        let image = second.image;
+        images[1] = image;
+        let row = frame(spec, &mut sys, &input, racks);
+        print_frame(rt, spec, &row, &images)?;
+        print_areas(rt, &sys, &row, &images)?;
+    }
+    Ok(())
+}
+
+/// What happens to a frame: the first alternator is failed from frame 10 on.
+fn input_of(frame: u32) -> Input {
+    let mut factors = [0; 6];
+    if frame >= 10 {
+        factors[0] = 1;
+    }
+    Input {
+        factors,
+        early: 0,
+        late: 0,
+        back: 0,
+    }
+}
+
+/// What the processors see in a frame.
+fn snapshot(spec: &Spec, sys: &Sys, input: &Input, images: &[Image; 8]) -> Snapshot {
+    let factors = input.factors;
+    let env = Env {
+        up: sys.up,
+        factors,
+    };
+    let keepers = sys.keepers;
+    let images = *images;
+    Snapshot {
+        kernel: KernelImage {
+            frame: sys.frame,
+            mode: decide(spec, sys, &env),
+            env,
+            keepers,
+            world: sys.world,
+        },
+        images,
+    }
+}
+
+/// The start images: each area in its keeper's image.
+fn start_images(sys: &Sys) -> [Image; 8] {
+    let mut images = [[0; 64]; 8];
+    for a in 0..8 {
+        if let Some(keeper) = sys.keepers[a] {
+            if keeper.0 < 8 {
+                put_area(&mut images[usize::from(keeper.0)], a, &sys.areas[a]);
+            }
+        }
+    }
+    images
+}
+
+fn put_area(image: &mut Image, a: usize, area: &Area)
+    requires { a < 8 }
+{
+    for i in 0..8 {
+        image[8 * a + i] = area[i];
+    }
+}
+
+/// Prints the drafts of frames 0, 10 and 13.
+fn print_frame(rt: &HostRuntime, spec: &Spec, row: &Row, images: &[Image; 8]) -> io::Result<()> {
+    if row.frame != 0 && row.frame != 10 && row.frame != 13 {
+        return Ok(());
+    }
+    println!(rt; "frame {}", row.frame)?;
+    print_images(rt, spec, images)
+}
+
+/// Prints the images of the two processors, application by application.
+fn print_images(rt: &HostRuntime, spec: &Spec, images: &[Image; 8]) -> io::Result<()> {
+    for p in 0..2 {
+        for (a, app) in spec.apps.items().iter().enumerate() {
+            print!(rt; "p{p} {}", app.name)?;
+            if a < 8 {
+                print_words(rt, &slot_in(&images[p], a as u8))?;
+            }
+        }
+    }
+    Ok(())
+}
+
+fn print_words(rt: &HostRuntime, area: &Area) -> io::Result<()> {
+    for word in area {
+        print!(rt; " {word}")?;
+    }
+    println!(rt; "")
+}
+
+/// Prints each area that does not stand in its keeper's image after the frame.
+fn print_areas(rt: &HostRuntime, sys: &Sys, row: &Row, images: &[Image; 8]) -> io::Result<()> {
+    for a in 0..8 {
+        if let Some(keeper) = sys.keepers[a] {
+            if keeper.0 < 8 && slot_in(&images[usize::from(keeper.0)], a as u8) != row.areas[a] {
+                println!(rt; "frame {} application {a} differs", row.frame)?;
+            }
+        }
+    }
+    Ok(())
+}
