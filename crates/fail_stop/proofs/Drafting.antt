@@ -24,7 +24,7 @@ use Rattle.frame_model.specs.Tasks.{off_task, task_in, task_of}
 use Rattle.frame_model.proofs.Agreeing.{Exists, place_exists, task_exists}
 use Rattle.frame_model.proofs.Slots.{slot_is}
 use Rattle.fail_stop.specs.declared.snapshots.Snapshot.{Snapshot}
-use Rattle.fail_stop.specs.Drafts.{AreEight, IsSnapshot, area_kept, areas_shown, draft_made, image_in, slot_made, state_shown, task_at}
+use Rattle.fail_stop.specs.Drafts.{AreEight, IsSnapshot, area_kept, areas_shown, draft_made, image_in, slot_made, state_shown, task_among}
 
 -- each slot that is made has eight words
 
@@ -38,8 +38,8 @@ shown_eight snap a low =
 
 made_eight : (spec : Parts) (snap : Snapshot) (tasks : List Task) (seen : Seen) (own : List ℤ) (p a : ℕ) → a < 8 → length (slot_made spec tasks seen (areas_shown snap) own p a) ≡ 8
 made_eight spec snap tasks seen own p a low =
-    either_eight _ _ (is_proc p (task_at tasks a).proc)
-    (law_eight (kind_of_app spec a) (task_at tasks a).order (seen_in seen (task_at tasks a).mode (area_at (areas_shown snap) a)) (shown_eight snap a low))
+    either_eight _ _ (is_proc p (task_among tasks a).proc)
+    (law_eight (kind_of_app spec a) (task_among tasks a).order (seen_in seen (task_among tasks a).mode (area_at (areas_shown snap) a)) (shown_eight snap a low))
     refl
 
 pub slots_eight : (spec : Parts) (snap : Snapshot) (tasks : List Task) (seen : Seen) (areas slots : List (List ℤ)) (own : List ℤ) (p : ℕ)
@@ -112,14 +112,14 @@ module _ (spec : Parts) (is : IsSpec spec) (script : ScriptParts) (f : ℕ) (sna
       seen_of : (spec : Parts) (v w : Env) (one other : State) → v ≡ w → one.areas ≡ other.areas → one.world ≡ other.world → seen_by_all spec v one ≡ seen_by_all spec w other
       seen_of spec v w one other env areas world = rw (env, areas, world) refl
 
-  task_same : (a : ℕ) → a < 8 → task_at (eight (task_of spec snap.kernel.mode snap.kernel.frame)) a ≡ task_given spec script f a
+  task_same : (a : ℕ) → a < 8 → task_among (eight (task_of spec snap.kernel.mode snap.kernel.frame)) a ≡ task_given spec script f a
   task_same a low = eight_at (task_of spec snap.kernel.mode snap.kernel.frame) a off_task low ∙ ap (λ (k : KernelImage). task_of spec k.mode k.frame a) of.kernel
 
   made_same : (p a : ℕ) → p < length spec.procs → a < 8
       → slot_made spec (eight (task_of spec snap.kernel.mode snap.kernel.frame)) (seen_by_all spec snap.kernel.env (state_shown snap)) (areas_shown snap) (image_in snap.images p) p a
       ≡ slot_drafted spec script p f a (slot_after spec script p f a)
   made_same p a there low =
-      made_of p (kind_of_app spec a) (task_at (eight (task_of spec snap.kernel.mode snap.kernel.frame)) a) (task_given spec script f a)
+      made_of p (kind_of_app spec a) (task_among (eight (task_of spec snap.kernel.mode snap.kernel.frame)) a) (task_given spec script f a)
       (seen_by_all spec snap.kernel.env (state_shown snap)) (seen_by_all spec (env_at spec script f) (state_after spec script f))
       (area_at (areas_shown snap) a) (area_at (state_after spec script f).areas a) (slot_in (image_in snap.images p) a) (slot_after spec script p f a)
       (task_same a low) seen_same (ap (λ (areas : List (List ℤ)). area_at areas a) areas_same)

@@ -1,10 +1,11 @@
 -- Eight slots, one after another, word by word.
-use Rattle.std.proofs.Common.{◌≡◌, ◌∙◌, ℕ, ◌+◌, ◌*◌, ◌/◌, ◌%◌, ◌<◌, refl, ap, sym, arith, length, List, ◌++◌, ◌⊎◌, get_or}
+use Rattle.std.proofs.Common.{◌≡◌, ◌∙◌, ℕ, ◌+◌, ◌*◌, ◌/◌, ◌%◌, ◌<◌, refl, ap, sym, arith, length, List, ◌++◌, get_or}
 use mathlib.Core.Logic.{inl, inr}
 use Rattle.std.specs.Prelude.{ℤ, pos, slice_index_or, slice_set}
 use Rattle.std.proofs.lemmas.Grind.{get_or-set_at}
 use Rattle.std.proofs.lemmas.List.{ext_get_or, get_or-set_other, length-append, length-set}
 use Rattle.scram_types.proofs.Eights.{eight_at}
+use Rattle.scram_types.proofs.Naturals.{below_or_at}
 use Rattle.frame_model.specs.Flights.{image_of}
 use Rattle.frame_model.specs.States.{area_at}
 use Rattle.frame_model.proofs.Slots.{slot_found}
@@ -14,14 +15,11 @@ pub record Joined (slots : List (List ℤ)) (image : List ℤ) (n : ℕ) : Type 
   pub long : length image ≡ 64
   pub front : (k : ℕ) → k < n → get_or image k (pos 0) ≡ get_or (area_at slots (k / 8)) (k % 8) (pos 0)
 
-last_or_below : (k n : ℕ) → k < n + 1 → (k ≡ n) ⊎ (k < n)
-last_or_below k n h = grind arith
-
 front_more : (slots : List (List ℤ)) (image : List ℤ) (n : ℕ) (v : ℤ) → Joined slots image n → n < 64 → v ≡ get_or (area_at slots (n / 8)) (n % 8) (pos 0)
     → (k : ℕ) → k < n + 1 → get_or (slice_set image n v) k (pos 0) ≡ get_or (area_at slots (k / 8)) (k % 8) (pos 0)
-front_more slots image n v joined low is k under = elim (last_or_below k n under) [
-  | inl here ↦ let inside : n < length image = rw joined.long low in get_or-set_at image n k v (pos 0) here inside ∙ is ∙ ap (λ (j : ℕ). get_or (area_at slots (j / 8)) (j % 8) (pos 0)) (sym here)
-  | inr before ↦ get_or-set_other image n k v (pos 0) (λ same. omega arith) ∙ joined.front k before
+front_more slots image n v joined low is k under = elim (below_or_at k n (omega arith)) [
+  | inl before ↦ get_or-set_other image n k v (pos 0) (λ same. omega arith) ∙ joined.front k before
+  | inr here ↦ let inside : n < length image = rw joined.long low in get_or-set_at image n k v (pos 0) here inside ∙ is ∙ ap (λ (j : ℕ). get_or (area_at slots (j / 8)) (j % 8) (pos 0)) (sym here)
 ]
 
 pub joined_more : (slots : List (List ℤ)) (image : List ℤ) (n : ℕ) (v : ℤ) → Joined slots image n → n < 64 → v ≡ get_or (area_at slots (n / 8)) (n % 8) (pos 0) → Joined slots (slice_set image n v) (n + 1)

@@ -23,8 +23,8 @@ abbrev pub image_in : List (List ℤ) → ℕ → List ℤ
 image_in images q = slice_index_or images q []
 
 -- The task of application a among eight.
-abbrev pub task_at : List Task → ℕ → Task
-task_at tasks a = slice_index_or tasks a off_task
+abbrev pub task_among : List Task → ℕ → Task
+task_among tasks a = slice_index_or tasks a off_task
 
 -- The area of application a: its slot in its keeper's image, and zeros without a keeper.
 abbrev pub area_kept : List (List ℤ) → Option ProcId → ℕ → List ℤ
@@ -42,8 +42,8 @@ state_shown snap = record { mode = snap.kernel.mode; arrived = false; areas = ar
 -- The slot of application a that processor p makes: the law's where the task names p, else the old one.
 abbrev pub slot_made : Parts → List Task → Seen → List (List ℤ) → List ℤ → ℕ → ℕ → List ℤ
 slot_made spec tasks seen areas image p a =
-    if is_proc p (task_at tasks a).proc
-    then law (kind_of_app spec a) (task_at tasks a).order (seen_in seen (task_at tasks a).mode (area_at areas a))
+    if is_proc p (task_among tasks a).proc
+    then law (kind_of_app spec a) (task_among tasks a).order (seen_in seen (task_among tasks a).mode (area_at areas a))
     else slot_in image a
 
 -- The image that processor p makes of a snapshot.

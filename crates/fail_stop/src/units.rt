@@ -24,7 +24,7 @@ pub struct Live {
 }
 
 /// A processor that has halted, and the frame in which it did. It has no boxes.
-#[derive(Clone, Copy, Debug, PartialEq, Eq)]
+#[derive(Drop)]
 pub struct Halted {
     pub proc: ProcId,
     pub frame: u32,
