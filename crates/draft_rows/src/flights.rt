@@ -45,8 +45,8 @@ pub fn start(
 fn fly(
     rt: &HostRuntime,
     spec: &Spec,
-    one: Live,
-    two: Live,
+    mut one: Live,
+    mut two: Live,
     mut racks: Vec<Rack>,
     calls: &Calls,
 ) -> io::Result<()>
@@ -56,7 +56,8 @@ fn fly(
     requires two { RackFits (λ b. kind_of (b.vtable, b.value)) two.rack.boxes.items }
     requires racks { RacksFit (λ b. kind_of (b.vtable, b.value)) (λ r. r.boxes.items) racks.items }
 {
-    fly_all(rt, spec, one, two, &mut racks)?;
+    fly_all(rt, spec, &mut one, &mut two, &mut racks)?;
+    print_return(rt, two, racks.pop())?;
     println!(rt;
         "autopilots called {} and {} times",
         calls.first.load(Ordering::SeqCst),
@@ -64,18 +65,33 @@ fn fly(
     )
 }
 
+/// A processor halts after the last frame, and lives again where there is a rack for it.
+fn print_return(rt: &HostRuntime, live: Live, spare: Option<Rack>) -> io::Result<()> {
+    let halted = live.halt(14);
+    println!(rt; "p{} halted in frame {}", halted.proc().0, halted.frame())?;
+    match spare {
+        Some(rack) => {
+            if rack_fits(&rack) {
+                println!(rt; "p{} lives again", halted.restart(rack).proc().0)?;
+            }
+            Ok(())
+        }
+        None => Ok(()),
+    }
+}
+
 /// Flies fourteen frames, and prints the drafts of three and what came of all.
 fn fly_all(
     rt: &HostRuntime,
     spec: &Spec,
-    mut one: Live,
-    mut two: Live,
+    one: &mut Live,
+    two: &mut Live,
     racks: &mut [Rack],
 ) -> io::Result<()>
-    requires one_there { one.proc.0 < 8 }
-    requires two_there { two.proc.0 < 8 }
-    requires one { RackFits (λ b. kind_of (b.vtable, b.value)) one.rack.boxes.items }
-    requires two { RackFits (λ b. kind_of (b.vtable, b.value)) two.rack.boxes.items }
+    requires one_there { one.old.proc.0 < 8 }
+    requires two_there { two.old.proc.0 < 8 }
+    requires one { RackFits (λ b. kind_of (b.vtable, b.value)) one.old.rack.boxes.items }
+    requires two { RackFits (λ b. kind_of (b.vtable, b.value)) two.old.rack.boxes.items }
     requires racks { RacksFit (λ b. kind_of (b.vtable, b.value)) (λ r. r.boxes.items) racks.old }
 {
     let mut sys = Sys::start(spec);
