@@ -4,22 +4,22 @@ ghost use Rattle.std.specs.Prelude.{◌≡◌, ◌<◌, ℕ};
 ghost use Rattle.scram_types.specs.declared.limits.TheConstants.{MAX_FRAMES};
 ghost use Rattle.scram_types.specs.Numbers.{word};
 ghost use Rattle.scram_types.specs.Specification.{Parts};
-ghost use Rattle.scram_types.specs.Eights.{eight};
 ghost use Rattle.app_model.specs.Racks.{RacksFit};
 ghost use Rattle.frame_model.specs.Frames.{committing, frame_env, row_given, state_of, sys_after, up_after};
 ghost use Rattle.frame_model.specs.Phases.{is_running, is_settled, phase_at};
-ghost use Rattle.frame_model.specs.States.{has_arrived, lead_of, world_in, seen_by_all};
+ghost use Rattle.frame_model.specs.States.{has_arrived, world_in};
 
 use crate::acts::runs;
 use crate::decisions::decide;
 use crate::outcomes::{Setting, lead_of, perform_all};
 use crate::phases::{Phase, stage_at, target};
+use crate::sights::seen_by_all;
 use crate::systems::Sys;
 use airframe::step;
+use app_model::Rack;
 use app_model::kinds::flight_control;
-use app_model::{Rack, Seen};
 use fault_script::Input;
-use scram_types::{Area, Env, KMode, Mode, Row, Spec, World};
+use scram_types::{Area, Env, KMode, Row, Spec, World};
 
 /// Flies one frame: whoever restarts is up; the kernel decides on the frame's environment; each
 /// application does what it is asked where its processor commits, and is lost where that is not up or
@@ -35,7 +35,7 @@ pub fn frame(spec: &Spec, sys: &mut Sys, input: &Input, racks: &mut [Rack]) -> R
     let env = frame_env(sys, input);
     let mode = decide(spec, sys, &env);
     let stage = stage_at(spec, &mode, sys.frame);
-    let seen = seen_by_all(spec, sys, &env);
+    let seen = seen_by_all(spec, &sys.areas, sys.world, &env);
     let setting = Setting {
         seen,
         committing: committing(sys, input),
@@ -86,36 +86,6 @@ fn up_after(sys: &Sys, input: &Input) -> u8
     ensures { result ≡ up_after sys.now input.now }
 {
     (sys.up | input.back) & !(input.early | input.late)
-}
-
-fn seen_by_all(spec: &Spec, sys: &Sys, env: &Env) -> Seen
-    ensures { result ≡ seen_by_all spec.now env.now (state_of sys.now) }
-{
-    let lead = leads(spec, &sys.areas);
-    let factors = env.factors;
-    Seen {
-        mode: Mode(0),
-        own: [0; 8],
-        lead,
-        world: sys.world,
-        factors,
-        goal: spec.goal,
-    }
-}
-
-fn leads(spec: &Spec, areas: &[Area; 8]) -> [Area; 8]
-    ensures { result ≡ eight (lead_of spec.now areas.now) }
-{
-    [
-        lead_of(spec, areas, 0),
-        lead_of(spec, areas, 1),
-        lead_of(spec, areas, 2),
-        lead_of(spec, areas, 3),
-        lead_of(spec, areas, 4),
-        lead_of(spec, areas, 5),
-        lead_of(spec, areas, 6),
-        lead_of(spec, areas, 7),
-    ]
 }
 
 /// The world after a frame that leaves these areas. It takes no memory.

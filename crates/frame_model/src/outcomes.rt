@@ -5,10 +5,11 @@ ghost use Rattle.scram_types.specs.Bits.{has_bit};
 ghost use Rattle.scram_types.specs.Eights.{eight};
 ghost use Rattle.app_model.specs.Racks.{RacksFit};
 ghost use Rattle.frame_model.specs.Phases.{offsets_in};
-ghost use Rattle.frame_model.specs.States.{act_of_order, lead_of, seen_in};
+ghost use Rattle.frame_model.specs.States.{act_of_order, lead_of};
 ghost use Rattle.frame_model.specs.Outcomes.{act_made, area_made, keeper_made};
 
 use crate::phases::Stage;
+use crate::sights::seen_in;
 use crate::systems::Sys;
 use crate::tasks::task_in;
 use app_model::racks::racks_frame;
@@ -109,16 +110,6 @@ fn perform(spec: &Spec, sys: &Sys, setting: &Setting, a: u8, racks: &mut [Rack])
             keeper: None,
         },
     }
-}
-
-fn seen_in(seen: &Seen, mode: Mode, own: &Area) -> Seen
-    ensures { result ≡ seen_in seen.now mode own.now }
-{
-    let own = *own;
-    let mut seen = *seen;
-    seen.mode = mode;
-    seen.own = own;
-    seen
 }
 
 /// What an application does of an order, where its processor commits.

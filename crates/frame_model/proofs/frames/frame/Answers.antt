@@ -1,3 +1,5 @@
+use Rattle.std.proofs.Common.{refl}
+use Rattle.frame_model.specs.Frames.{state_of}
 use Rattle.frame_model.proofs.FrameSteps.{acts_are, areas_are, frame_row, frame_sys, keepers_are}
 use Rattle.frame_model.proofs.frames.frame.Goals as goal
 
@@ -8,7 +10,7 @@ returns-clause-row g c =
     c.perform_all-outcomes.result.acts c.perform_all-outcomes.result.areas c.world_in-world.result
     c.frame_env-env.ensures c.decide-mode.ensures
     (acts_are c.args.spec.now c.args.sys.now c.args.input.now _ c.stage_at-stage.result.phase c.committing.result _ c.stage_at-stage.ensures.phase c.committing.ensures outcomes.acts)
-    (areas_are c.args.spec.now c.args.sys.now c.args.input.now c.frame_env-env.result _ c.stage_at-stage.result.phase c.seen_by_all-seen.result c.committing.result _ c.stage_at-stage.ensures.phase c.committing.ensures c.seen_by_all-seen.ensures outcomes.areas)
+    (areas_are c.args.spec.now c.args.sys.now c.args.input.now c.frame_env-env.result _ c.stage_at-stage.result.phase c.seen_by_all-seen.result c.committing.result _ c.stage_at-stage.ensures.phase c.committing.ensures (c.seen_by_all-seen.ensures (state_of c.args.sys.now) refl refl) outcomes.areas)
     c.world_in-world.ensures
 
 pub returns-clause-after : goal.returns-clause-after
