@@ -77,7 +77,8 @@ index_small m (MarkWord p) np nw a = omega arith
 index_small m (EndWord p) np nw a = omega arith
 index_small m (BankWord p b i) np nw a = omega arith
 
-list_written : (m : Flight) (list : List ℕ) (o : Option (Word × ℕ)) (w : Word) → HoldsWords m list → IsTarget m o → IsStored m w → stored_in (list_after list o) w ≡ written o (stored_in list) w
+-- the words after a write
+pub list_written : (m : Flight) (list : List ℕ) (o : Option (Word × ℕ)) (w : Word) → HoldsWords m list → IsTarget m o → IsStored m w → stored_in (list_after list o) w ≡ written o (stored_in list) w
 list_written m list None w s t l = refl
 list_written m list (Some t) w s k l =
     let small = index_small m t.0 s.procs s.width k in

@@ -10,14 +10,14 @@ use Rattle.scram_kernel.specs.Drawing.{has_committed}
 use Rattle.frame_model.specs.Storage.{image_bank_after, last_count, mark_after}
 use Rattle.scram_kernel.specs.Marks.{AreMarks}
 
-last_low : (spec : Parts) (script : ScriptParts) (p n : ℕ) → last_count spec script p n ≤ n
+pub last_low : (spec : Parts) (script : ScriptParts) (p n : ℕ) → last_count spec script p n ≤ n
 last_low spec script p zero = omega arith
 last_low spec script p (suc n) = by_commit (commits spec script p n) (last_low spec script p n) where
   by_commit : {l m : ℕ} (b : Bool) → l ≤ m → (if b then suc m else l) ≤ suc m
   by_commit true low = omega arith
   by_commit false low = omega arith
 
-bank_low : (spec : Parts) (script : ScriptParts) (p n : ℕ) → image_bank_after spec script p n ≤ 1
+pub bank_low : (spec : Parts) (script : ScriptParts) (p n : ℕ) → image_bank_after spec script p n ≤ 1
 bank_low spec script p zero = omega arith
 bank_low spec script p (suc n) = by_commit (commits spec script p n) (bank_low spec script p n) where
   by_commit : {l : ℕ} (b : Bool) → l ≤ 1 → (if b then 1 - l else l) ≤ 1

@@ -1,0 +1,14 @@
+pub mod Notes
+pub mod Moving
+pub mod Fewer
+pub mod Bounds
+pub mod Replays
+pub mod Opening
+pub mod Steps
+pub mod Opens
+pub mod Ranges
+pub mod Reading
+pub mod ImagesFound
+pub mod Noted
+pub mod Ending
+pub mod Overs

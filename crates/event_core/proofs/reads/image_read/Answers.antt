@@ -1,0 +1,13 @@
+use Rattle.std.proofs.Common.{refl}
+use Rattle.bank_words.specs.Numbers.{decode}
+use Rattle.fail_stop.specs.Events.{BankWord}
+use Rattle.fail_stop.specs.Listed.{stored_in}
+use Rattle.event_core.specs.Reads.{bank_taken}
+use Rattle.event_core.proofs.Reading.{none_read}
+use Rattle.event_core.proofs.reads.image_read.Goals as goal
+
+pub loop-i-init : goal.loop-i-init
+loop-i-init c = record {
+  words = λ i low. none_read (λ i. decode (stored_in c.args.stored.now (BankWord c.args.p (bank_taken c.args.stored.now c.args.frame c.args.p) i))) i;
+  long = refl;
+}

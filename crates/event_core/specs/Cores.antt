@@ -1,0 +1,77 @@
+-- A core, as its callers see it, and what it keeps.
+use Rattle.std.specs.Prelude.{◌≡◌, ℕ, ◌+◌, ◌≤◌, Bool, false, List, length, nat_eq, nat_le, if◌then◌else◌}
+use Rattle.scram_types.specs.Scripts.{ScriptParts}
+use Rattle.scram_types.specs.Specification.{IsSpec, Parts}
+use Rattle.bank_words.specs.declared.events.Event.{Event}
+use Rattle.bank_words.specs.declared.events.Event.TheVariants.{Start, Look, Store, Flip, Done, Halt, KNote, KStore, Release}
+use Rattle.bank_words.specs.declared.images.KernelImage.{KernelImage}
+use Rattle.fault_script.specs.declared.walks.Walk.{Walk}
+use Rattle.fault_script.specs.Fits.{Fits}
+use Rattle.fault_script.specs.Walks.{IsWalk}
+use Rattle.frame_model.specs.Storage.{kernel_image}
+use Rattle.scram_kernel.specs.Kernels.{KernelParts, kernel_after}
+use Rattle.fail_stop.specs.Events.{Places, Word}
+use Rattle.fail_stop.specs.Flights.{Flight}
+use Rattle.fail_stop.specs.Listed.{places_of_words, stored_in}
+use Rattle.fail_stop.specs.ScriptFlights.{flight_of}
+use Rattle.event_core.specs.declared.places.Places.{Places as KeptPlaces}
+use Rattle.event_core.specs.Places.{machine_places}
+use Rattle.event_core.specs.Replays.{IsReplay}
+use Rattle.event_core.specs.Rooms.{events_left}
+
+-- The specification and the script that it flies, where all stand, what is stored, and the codes of the events so far.
+pub record CoreParts : Type 0 where
+  pub spec : Parts
+  pub script : ScriptParts
+  pub places : KeptPlaces
+  pub stored : List ℕ
+  pub history : List ℕ
+
+-- The parts of a core that keeps these places, these words in one list, and this history.
+abbrev pub core_of : Parts → ScriptParts → KeptPlaces → List ℕ → List ℕ → CoreParts
+core_of spec script places stored history = record { spec = spec; script = script; places = places; stored = stored; history = history }
+
+-- The flight of the machine that a core flies.
+abbrev pub flown : CoreParts → Flight
+flown core = flight_of core.spec core.script
+
+-- Where all stand in it.
+abbrev pub standing : CoreParts → Places
+standing core = machine_places core.places
+
+-- What each word holds.
+abbrev pub standing_words : CoreParts → Word → ℕ
+standing_words core = stored_in core.stored
+
+-- How many frames have ended for the kernel: its own too, once all processors are noted in it.
+abbrev pub frames_ended : Parts → KeptPlaces → ℕ
+frames_ended spec places = if nat_le (length spec.procs) places.step then places.frame + 1 else places.frame
+
+-- An event is the last note of a frame.
+abbrev pub ends_frame : Parts → Event → Bool
+ends_frame spec (KNote p) = nat_eq (p.0 + 1) (length spec.procs)
+ends_frame spec (Start p) = false
+ends_frame spec (Look p q) = false
+ends_frame spec (Store p i) = false
+ends_frame spec (Flip p) = false
+ends_frame spec (Done p) = false
+ends_frame spec (Halt p) = false
+ends_frame spec (KStore i) = false
+ends_frame spec Release = false
+
+-- What the machine of a core keeps: the history is a schedule that leads to where all stand and to what is stored, and there is room for
+-- every event that can still come.
+pub record MachineKeeps (spec : Parts) (script : ScriptParts) (places : KeptPlaces) (stored history : List ℕ) (room count : ℕ) : Type 0 where
+  pub facts : IsSpec spec
+  pub fits : Fits spec script
+  pub long : length stored ≡ places_of_words
+  pub replay : IsReplay (flight_of spec script) history (machine_places places) (stored_in stored)
+  pub room_left : count + events_left (flight_of spec script) (machine_places places) ≤ room
+
+-- What a core keeps: its machine, and the kernel, the walk and the kernel's image after the frames that have ended.
+pub record CoreKeeps (spec : Parts) (script : ScriptParts) (places : KeptPlaces) (stored history : List ℕ) (room count : ℕ) (kernel : KernelParts) (walk : Walk) (image : KernelImage) : Type 0 where
+  pub machine : MachineKeeps spec script places stored history room count
+  pub kernel_is : kernel ≡ kernel_after spec script (frames_ended spec places)
+  pub walk_is : IsWalk spec script walk.frame walk
+  pub walk_at : walk.frame ≡ frames_ended spec places
+  pub image_is : image ≡ kernel_image spec script (frames_ended spec places)

@@ -1,0 +1,28 @@
+-- The places that are kept, as those of the event machine.
+use Rattle.std.specs.Prelude.{ℕ, ◌<◌, ◌+◌, ◌^◌, List, replicate, slice_index_or}
+use Rattle.event_core.specs.declared.places.Place.{Place as KeptPlace}
+use Rattle.event_core.specs.declared.places.Place.TheVariants as kept
+use Rattle.event_core.specs.declared.places.Places.{Places as KeptPlaces}
+use Rattle.fail_stop.specs.Events.{At, Halted, Place, Places}
+
+-- The place of the machine.
+abbrev pub machine_place : KeptPlace → Place
+machine_place (kept.At f n) = At f n
+machine_place (kept.Halted h) = Halted h
+
+-- Where processor p stands among these; at the opening place past the last.
+abbrev pub kept_place : List KeptPlace → ℕ → KeptPlace
+kept_place procs p = slice_index_or procs p (kept.At 0 0)
+
+-- The places of the machine.
+abbrev pub machine_places : KeptPlaces → Places
+machine_places places = record { proc = λ p. machine_place (kept_place places.procs p); frame = places.frame; step = places.step }
+
+-- All stand at the begin of frame 0.
+abbrev pub kept_opening : KeptPlaces
+kept_opening = record { procs = replicate 8 (kept.At 0 0); frame = 0; step = 0 }
+
+-- The numbers of a place can grow by one.
+abbrev pub CanGoOn : KeptPlace → Type 0
+CanGoOn (kept.At f n) = (f + 1 < 2 ^ 32) × (n + 1 < 2 ^ 32)
+CanGoOn (kept.Halted h) = Unit {0}

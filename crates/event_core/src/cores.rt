@@ -1,0 +1,258 @@
+//! A flight, event by event.
+
+use crate::frames::end_frame;
+use crate::moves::places_after;
+use crate::nexts::{kept_place, next_kernel, next_of};
+use crate::openings::opening_words;
+use crate::places::{Place, Places};
+use crate::stores::{frame_of, store};
+use bank_words::{Event, KernelImage, event_code, kernel_encode, words};
+use fault_script::Walk;
+use frame_model::Sys;
+use scram_kernel::Kernel;
+use scram_types::{Flown, NoMemory, ProcId, Row, Script, Spec};
+use std::alloc::Global;
+
+/// An event that is not the next of its actor, with that one, if there is one.
+#[derive(Clone, Copy, Debug)]
+pub struct Illegal {
+    pub given: Event,
+    pub next: Option<Event>,
+}
+
+/// A flight of a specification and a script after a schedule of events.
+#[derive(Drop)]
+pub struct Core<'a> {
+    spec: &'a Spec,
+    script: &'a Script,
+    places: Places,
+    stored: Vec<u64>,
+    history: Vec<u32>,
+    kernel: Kernel<'a>,
+    walk: Walk,
+    image: KernelImage,
+}
+
+impl<'a> std::marker::Model for Core<'a> {
+    ghost use Rattle.std.specs.Prelude.{vec_capacity, vec_len};
+    ghost use Rattle.event_core.specs.Cores.{CoreKeeps, CoreParts, core_of};
+
+    ghost Value = { CoreParts };
+
+    ghost view = { λ c. core_of c.spec.now c.script.now c.places c.stored.items c.history.items };
+
+    ghost invariant = { λ c. CoreKeeps c.spec.now c.script.now c.places c.stored.items c.history.items (vec_capacity c.history) (vec_len c.history) c.kernel c.walk c.image };
+}
+
+impl<'a> Core<'a> {
+    ghost use Rattle.std.specs.Prelude.{◌≡◌, ◌≢◌, ◌<◌, ◌++◌, [], ◌∷◌, IfErr, IfOk, IsTrue, ◌↔◌, ◌≤◌, ◌+◌, length};
+    ghost use Rattle.bank_words.specs.Events.{event_code};
+    ghost use Rattle.fail_stop.specs.Events.{Happens, IsNext, frame_of, next_kernel, next_of, next_of_actor};
+    ghost use Rattle.fail_stop.specs.Ends.{IsOver};
+    ghost use Rattle.fail_stop.specs.Flights.{word_in};
+    ghost use Rattle.fail_stop.specs.ScriptFlights.{kernel_words};
+    ghost use Rattle.frame_model.specs.Flights.{reports_of, rows_of};
+    ghost use Rattle.scram_kernel.specs.Kernels.{rows_below};
+    ghost use Rattle.event_core.specs.Cores.{frames_ended, flown, standing, standing_words};
+    ghost use Rattle.fault_script.specs.Fits.{Fits};
+    ghost use Rattle.event_core.specs.Stores.{IsEventWord};
+
+    /// The core of a flight before the first event, with room for every event that can come. The only refusal is want of
+    /// memory.
+    pub fn open(alloc: Global, spec: &'a Spec, script: &'a Script) -> Result<Core<'a>, NoMemory>
+        requires { Fits spec.now script.now }
+        ensures spec { IfOk result (λ core. core.spec ≡ spec.now) }
+        ensures script { IfOk result (λ core. core.script ≡ script.now) }
+        ensures history { IfOk result (λ core. core.history ≡ []) }
+    {
+        let history = Vec::with_capacity(alloc, events_of(spec, script))?;
+        let kernel = Kernel::new(alloc, spec, script)?;
+        let image = kernel.first();
+        let first = kernel_encode(&image);
+        let stored = opening_words(alloc, script.frames, &first, &Sys::start(spec))?;
+        Ok(Core {
+            spec,
+            script,
+            places: opening_places(),
+            stored,
+            history,
+            kernel,
+            walk: Walk::first(spec, script),
+            image,
+        })
+    }
+
+    /// The next event of a processor, or `None` exactly where it waits for the release, has halted for good or has
+    /// flown all frames, or does not exist. It takes no memory.
+    pub fn next_of(&self, p: ProcId) -> Option<Event>
+        ensures { result ≡ next_of (flown self.now) (standing self.now) (standing_words self.now) p.0 }
+    {
+        next_of(self.spec, self.script, &self.places, &self.stored, p)
+    }
+
+    /// The next event of the kernel, or `None` exactly where the processor that it would note may not be noted yet, or
+    /// all frames are noted. It takes no memory.
+    pub fn next_kernel(&self) -> Option<Event>
+        ensures { result ≡ next_kernel (flown self.now) (standing self.now) (standing_words self.now) }
+    {
+        next_kernel(self.spec, self.script, &self.places, &self.stored)
+    }
+
+    /// The frame in which a processor stands; where it has halted, that in which it halted. It takes no memory.
+    pub fn frame_of(&self, p: ProcId) -> u32
+        requires { p.0 < length self.now.spec.procs }
+        ensures { result ≡ frame_of ((standing self.now).proc p.0) }
+    {
+        frame_of(kept_place(&self.places.procs, p))
+    }
+
+    /// The frame in which the kernel stands. It takes no memory.
+    pub fn kernel_frame(&self) -> u32
+        ensures { result ≡ (standing self.now).frame }
+    {
+        self.places.frame
+    }
+
+    /// The codes of the events so far. It takes no memory.
+    pub fn history(&self) -> &[u32]
+        ensures { result.now ≡ self.now.history }
+    {
+        &self.history
+    }
+
+    /// The rows of the frames that have ended: those in which the kernel has noted every processor, which are the first
+    /// rows of the one-thread trace. It takes no memory.
+    pub fn rows(&self) -> &[Row]
+        ensures { result.now ≡ rows_below self.now.spec self.now.script (frames_ended self.now.spec self.now.places) }
+    {
+        self.kernel.rows()
+    }
+
+    /// Word `i` of what the kernel says of the next frame, once it has noted every processor. It takes no memory.
+    pub fn kernel_word(&self, i: u8) -> u64
+        requires word { i < 20 }
+        requires noted { length self.now.spec.procs ≤ self.now.places.step }
+        ensures { result ≡ word_in (kernel_words self.now.spec self.now.script (self.now.places.frame + 1)) i }
+    {
+        kernel_encode(&self.image)[usize::from(i)]
+    }
+
+    /// Whether no event can come any more: each processor has flown all frames or has halted for good and the kernel
+    /// has made its last note, or no frame is flown. It takes no memory.
+    pub fn over(&self) -> bool
+        ensures { IsTrue result ↔ IsOver (flown self.now) (standing self.now) }
+    {
+        let spec = self.spec;
+        let script = self.script;
+        let procs = spec.procs.items().len() as u32;
+        let frames = script.frames;
+        frames == 0 || self.places.frame == frames - 1 && self.places.step >= procs
+    }
+
+    /// The rows and reports of a flight that is over: those of the one-thread trace, whatever its schedule was. It takes
+    /// no memory.
+    pub fn finish(self) -> Flown
+        requires { IsOver (flown self) (standing self) }
+        ensures rows { result.rows ≡ rows_of self.entry.spec self.entry.script }
+        ensures reports { result.reports ≡ reports_of self.entry.spec self.entry.script }
+    {
+        self.kernel.finish()
+    }
+
+    fn next_of_actor(&self, event: Event) -> Option<Event>
+        ensures { result ≡ next_of_actor (flown self.now) (standing self.now) (standing_words self.now) event }
+    {
+        match event {
+            Event::Start(p) => self.next_of(p),
+            Event::Look(p, _) => self.next_of(p),
+            Event::Store(p, _) => self.next_of(p),
+            Event::Flip(p) => self.next_of(p),
+            Event::Done(p) => self.next_of(p),
+            Event::Halt(p) => self.next_of(p),
+            Event::KNote(_) => self.next_kernel(),
+            Event::KStore(_) => self.next_kernel(),
+            Event::Release => self.next_kernel(),
+        }
+    }
+
+    /// Makes an event, where it is the next of its actor. A store comes with its word, by the draft, and a store of the
+    /// kernel with its word, by the image of the next frame. Else it says what is next, and nothing changes. It takes
+    /// no memory.
+    pub fn step(&mut self, event: Event, word: u64) -> Result<(), Illegal>
+        requires { IsNext (flown self.old) (standing self.old) (standing_words self.old) event → IsEventWord (flown self.old) (standing self.old) event word }
+        ensures spec { self.new.spec ≡ self.old.spec }
+        ensures script { self.new.script ≡ self.old.script }
+        ensures next { IfOk result (λ _. IsNext (flown self.old) (standing self.old) (standing_words self.old) event) }
+        ensures happens { IfOk result (λ _. Happens (flown self.old) (standing self.old) (standing_words self.old) event (standing self.new) (standing_words self.new)) }
+        ensures history { IfOk result (λ _. self.new.history ≡ self.old.history ++ event_code event ∷ []) }
+        ensures illegal { IfErr result (λ e. (next_of_actor (flown self.old) (standing self.old) (standing_words self.old) event ≢ Some event) × (e.given ≡ event) × (e.next ≡ next_of_actor (flown self.old) (standing self.old) (standing_words self.old) event)) }
+        ensures same { IfErr result (λ _. self.new ≡ self.old) }
+    {
+        let next = self.next_of_actor(event);
+        if !is_event(next, event) {
+            return Err(Illegal { given: event, next });
+        }
+        store(&mut self.stored, &self.places, event, word);
+        self.places = places_after(self.script, &self.places, event);
+        self.history.push_reserved(event_code(event));
+        if ends_frame(self.spec, event) {
+            self.image = end_frame(
+                self.spec,
+                self.script,
+                &self.places,
+                &self.stored,
+                &mut self.kernel,
+                &mut self.walk,
+            );
+        }
+        Ok(())
+    }
+}
+
+ghost use Rattle.std.specs.Prelude.{◌≡◌, ◌==◌, ◌*◌, ◌+◌, ◌<◌, ◌^◌, Some, IsTrue, ◌↔◌, length};
+ghost use Rattle.scram_types.specs.Specification.{IsSpec};
+ghost use Rattle.event_core.specs.Cores.{ends_frame};
+ghost use Rattle.event_core.specs.Places.{kept_opening};
+
+fn opening_places() -> Places
+    ensures { result ≡ kept_opening }
+{
+    Places {
+        procs: [Place::At(0, 0); 8],
+        frame: 0,
+        step: 0,
+    }
+}
+
+// How many events a flight has at most.
+fn events_of(spec: &Spec, script: &Script) -> usize
+    ensures known { IsSpec spec.now }
+    ensures events { result ≡ script.now.frames * (length spec.now.procs * (length spec.now.procs + 8 * length spec.now.apps + 3) + (length spec.now.procs + 21)) }
+{
+    let procs = spec.procs.items().len();
+    let each = procs + words(spec) as usize + 3;
+    script.frames as usize * (procs * each + (procs + 21))
+}
+
+fn is_event(next: Option<Event>, event: Event) -> bool
+    ensures { IsTrue result ↔ (next ≡ Some event) }
+{
+    next == Some(event)
+}
+
+// Whether an event is the last note of a frame.
+fn ends_frame(spec: &Spec, event: Event) -> bool
+    ensures { result ≡ ends_frame spec.now event }
+{
+    match event {
+        Event::KNote(p) => usize::from(p.0) + 1 == spec.procs.items().len(),
+        Event::Start(_) => false,
+        Event::Look(_, _) => false,
+        Event::Store(_, _) => false,
+        Event::Flip(_) => false,
+        Event::Done(_) => false,
+        Event::Halt(_) => false,
+        Event::KStore(_) => false,
+        Event::Release => false,
+    }
+}

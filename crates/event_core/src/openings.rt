@@ -1,0 +1,82 @@
+//! The words at the opening.
+
+ghost use Rattle.std.specs.Prelude.{◌≡◌, ◌<◌, IfOk};
+ghost use Rattle.frame_model.specs.Flights.{is_proc};
+ghost use Rattle.frame_model.specs.States.{keeper_at};
+ghost use Rattle.event_core.specs.Openings.{opening_at, opening_list, proc_opening, start_word};
+
+use bank_words::encode;
+use frame_model::Sys;
+use scram_types::{NoMemory, ProcId};
+use std::alloc::Global;
+
+/// How many words there are, in one list.
+pub(crate) const WORDS: usize = 1_120;
+
+/// The words at the opening of a flight of so many frames: the kernel's are those of the first frame, bank 0 of each
+/// processor holds its start image, and the release is 1 where a frame is flown.
+#[tactic(auto, using(crate::proofs::Opening::list_whole))]
+pub(crate) fn opening_words(
+    alloc: Global,
+    frames: u32,
+    first: &[u64; 20],
+    sys: &Sys,
+) -> Result<Vec<u64>, NoMemory>
+    ensures { IfOk result (λ words. words.items ≡ opening_list frames first.now sys.now.areas sys.now.keepers) }
+{
+    let mut words = Vec::with_capacity(alloc, WORDS)?;
+    for n in 0..WORDS {
+        words.push(opening_at(frames, first, sys, n))?;
+    }
+    Ok(words)
+}
+
+fn opening_at(frames: u32, first: &[u64; 20], sys: &Sys, n: usize) -> u64
+    requires { n < 1120 }
+    ensures { result ≡ opening_at frames first.now sys.now.areas sys.now.keepers n }
+{
+    if n == 0 {
+        u64::from(frames > 0)
+    } else if n < 8 {
+        0
+    } else if n < 28 {
+        first[n - 8]
+    } else if n < 32 {
+        0
+    } else {
+        proc_opening(sys, (n - 32) / 136, (n - 32) % 136)
+    }
+}
+
+fn proc_opening(sys: &Sys, p: usize, r: usize) -> u64
+    ensures { result ≡ proc_opening sys.now.areas sys.now.keepers p r }
+{
+    if r < 8 {
+        0
+    } else if r < 72 {
+        start_word(sys, p, r - 8)
+    } else {
+        0
+    }
+}
+
+// Word `i` of the start image of a processor.
+fn start_word(sys: &Sys, p: usize, i: usize) -> u64
+    requires { i < 64 }
+    ensures { result ≡ start_word sys.now.areas sys.now.keepers p i }
+{
+    if is_proc(p, sys.keepers[i / 8]) {
+        encode(sys.areas[i / 8][i % 8])
+    } else {
+        0
+    }
+}
+
+fn is_proc(p: usize, proc: Option<ProcId>) -> bool
+    ensures { result ≡ is_proc p proc }
+{
+    match proc {
+        Some(proc) => usize::from(proc.0) == p,
+        None => false,
+    }
+}

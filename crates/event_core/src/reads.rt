@@ -1,0 +1,70 @@
+//! What is read of the words.
+
+ghost use Rattle.std.specs.Prelude.{◌≡◌, ℕ, ◌<◌, pos, length, slice_index_or};
+ghost use Rattle.scram_types.specs.Eights.{eight};
+ghost use Rattle.fail_stop.specs.Events.{MarkWord};
+ghost use Rattle.fail_stop.specs.Listed.{places_of_words, stored_in};
+ghost use Rattle.scram_kernel.specs.Marks.{image_in};
+ghost use Rattle.event_core.specs.Reads.{bank_taken, word_read};
+
+use bank_words::{decode, pick};
+use scram_types::{Image, Spec};
+
+/// The marks of the processors.
+pub(crate) fn marks_read(stored: &[u64]) -> [u64; 8]
+    requires { length stored.now ≡ places_of_words }
+    ensures { result ≡ eight (λ p. stored_in stored.now (MarkWord p)) }
+{
+    [
+        mark_read(stored, 0),
+        mark_read(stored, 1),
+        mark_read(stored, 2),
+        mark_read(stored, 3),
+        mark_read(stored, 4),
+        mark_read(stored, 5),
+        mark_read(stored, 6),
+        mark_read(stored, 7),
+    ]
+}
+
+fn mark_read(stored: &[u64], p: usize) -> u64
+    requires stored { length stored.now ≡ places_of_words }
+    requires p { p < 8 }
+    ensures { result ≡ stored_in stored.now (MarkWord p) }
+{
+    stored[32 + 136 * p]
+}
+
+/// The image of a processor that a reader in a frame finds.
+#[tactic(auto, using(crate::proofs::Reading::word_set, crate::proofs::Reading::none_read))]
+pub(crate) fn image_read(spec: &Spec, stored: &[u64], frame: u32, p: usize) -> Image
+    requires stored { length stored.now ≡ places_of_words }
+    requires p { p < 8 }
+    ensures words { (i : ℕ) → i < 64 → slice_index_or result i (pos 0) ≡ word_read spec.now stored.now frame p i }
+    ensures long { length result ≡ 64 }
+{
+    let bank = 40 + 136 * p + 64 * usize::from(pick(mark_read(stored, p), frame));
+    let mut image = [0; 64];
+    for i in 0..8 * spec.apps.items().len() {
+        image[i] = decode(stored[bank + i]);
+    }
+    image
+}
+
+/// The images of the processors that a reader in a frame finds.
+pub(crate) fn images_read(spec: &Spec, stored: &[u64], frame: u32) -> [Image; 8]
+    requires { length stored.now ≡ places_of_words }
+    ensures words { (p : ℕ) → p < 8 → (i : ℕ) → i < 64 → slice_index_or (image_in result p) i (pos 0) ≡ word_read spec.now stored.now frame p i }
+    ensures long { (p : ℕ) → p < 8 → length (image_in result p) ≡ 64 }
+{
+    [
+        image_read(spec, stored, frame, 0),
+        image_read(spec, stored, frame, 1),
+        image_read(spec, stored, frame, 2),
+        image_read(spec, stored, frame, 3),
+        image_read(spec, stored, frame, 4),
+        image_read(spec, stored, frame, 5),
+        image_read(spec, stored, frame, 6),
+        image_read(spec, stored, frame, 7),
+    ]
+}

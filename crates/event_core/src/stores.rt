@@ -1,0 +1,64 @@
+//! What an event stores.
+
+ghost use Rattle.std.specs.Prelude.{◌≡◌, ◌<◌, ◌-◌, ◌%◌, length};
+ghost use Rattle.fail_stop.specs.Events.{BankWord, MarkWord, frame_of, writes};
+ghost use Rattle.fail_stop.specs.Flights.{Flight};
+ghost use Rattle.fail_stop.specs.Listed.{list_after, places_of_words, stored_in};
+ghost use Rattle.event_core.specs.Places.{kept_place, machine_place, machine_places};
+ghost use Rattle.event_core.specs.Stores.{IsInside, IsEventWord};
+
+use crate::nexts::kept_place;
+use crate::places::{Place, Places};
+use bank_words::{Event, mark_word};
+use scram_types::ProcId;
+
+/// Stores what an event stores, with the word that is handed in where it is a store.
+pub(crate) fn store(stored: &mut Vec<u64>, places: &Places, event: Event, word: u64)
+    requires stored { length stored.old.items ≡ places_of_words }
+    requires event { IsInside event }
+    ensures { (m : Flight) → IsEventWord m (machine_places places.now) event word → stored.new.items ≡ list_after stored.old.items (writes m (machine_places places.now) (stored_in stored.old.items) event) }
+{
+    match event {
+        Event::Store(p, i) => {
+            let bank = other_bank(stored, p);
+            stored[40 + 136 * usize::from(p.0) + 64 * bank + usize::from(i)] = word;
+        }
+        Event::Flip(p) => {
+            let bank = other_bank(stored, p);
+            let frame = frame_of(kept_place(&places.procs, p));
+            stored[32 + 136 * usize::from(p.0)] = 2 * (u64::from(frame) + 1) + bank as u64;
+        }
+        Event::Done(p) => {
+            let frame = frame_of(kept_place(&places.procs, p));
+            stored[33 + 136 * usize::from(p.0)] = 2 * (u64::from(frame) + 1);
+        }
+        Event::Halt(p) => {
+            let frame = frame_of(kept_place(&places.procs, p));
+            stored[33 + 136 * usize::from(p.0)] = 2 * u64::from(frame) + 1;
+        }
+        Event::KStore(i) => stored[8 + usize::from(i)] = word,
+        Event::Release => stored[0] = u64::from(places.frame) + 2,
+        Event::Start(_) => {}
+        Event::Look(_, _) => {}
+        Event::KNote(_) => {}
+    }
+}
+
+/// The frame of a place.
+pub(crate) fn frame_of(place: Place) -> u32
+    ensures { result ≡ frame_of (machine_place place) }
+{
+    match place {
+        Place::At(frame, _) => frame,
+        Place::Halted(frame) => frame,
+    }
+}
+
+// The bank that the mark of a processor does not name.
+fn other_bank(stored: &[u64], p: ProcId) -> usize
+    requires stored { length stored.now ≡ places_of_words }
+    requires p { p.0 < 8 }
+    ensures { result ≡ 1 - stored_in stored.now (MarkWord p.0) % 2 }
+{
+    1 - (stored[32 + 136 * usize::from(p.0)] % 2) as usize
+}
