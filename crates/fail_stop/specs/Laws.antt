@@ -27,6 +27,7 @@ pub record IsOfTrace (spec : Parts) (script : ScriptParts) : Type 0 where
   pub banks : (p f : ℕ) → side (flight_of spec script) p f ≡ image_bank_after spec script p f
   pub images : (p f : ℕ) → image_before (flight_of spec script) p f ≡ image_words_after spec script p f
 
+-- The flight of a fitting script has the commits, marks, banks and images of its one-thread trace.
 abbrev pub FlightsAreOfTraces : Type 0
 FlightsAreOfTraces = (spec : Parts) (script : ScriptParts) → Fits spec script → IsOfTrace spec script
 
@@ -70,6 +71,7 @@ pub record Finds (spec : Parts) (script : ScriptParts) (words : Word → ℕ) (f
       → words (BankWord q (image_bank_after spec script q f) i) ≡ word_in (image_words_after spec script q f) i
   pub kernel : (i : ℕ) → i < 20 → words (KernelWord i) ≡ word_in (kernel_words spec script f) i
 
+-- Whoever reads in a frame finds the images and the kernel's words of that frame.
 abbrev pub ReadersFind : Type 0
 ReadersFind = (spec : Parts) (script : ScriptParts) → Fits spec script → (at : Places) (words : Word → ℕ)
     → Kept (flight_of spec script) at words → (p f n : ℕ) → p < length spec.procs → Reads at p f n → Finds spec script words f
@@ -80,6 +82,7 @@ pub record IsNoted (spec : Parts) (script : ScriptParts) (words : Word → ℕ) 
   pub held : (i : ℕ) → i < width_of spec
       → words (BankWord p (image_bank_after spec script p (suc k)) i) ≡ word_in (image_words_after spec script p (suc k)) i
 
+-- A processor that the kernel has noted shows its mark and its image of the end of the frame.
 abbrev pub NotesFix : Type 0
 NotesFix = (spec : Parts) (script : ScriptParts) → Fits spec script → (at : Places) (words : Word → ℕ)
     → Kept (flight_of spec script) at words → (p : ℕ) → p < length spec.procs → p < at.step → IsNoted spec script words at.frame p

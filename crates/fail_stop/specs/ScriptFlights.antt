@@ -22,6 +22,7 @@ image_words image = map encode image
 abbrev pub image_words_after : Parts → ScriptParts → ℕ → ℕ → List ℕ
 image_words_after spec script p f = image_words (image_after spec script p f)
 
+-- The words that processor p stores in frame f.
 abbrev pub draft_words : Parts → ScriptParts → ℕ → ℕ → List ℕ
 draft_words spec script p f = image_words (draft spec script p f)
 
