@@ -36,21 +36,13 @@ module _ (spec : Parts) (cube by rest next : Cube) (x : ℕ) where
       ∙ cut_more (is_in old v) (holds cube v) (all_below (allows by v) x) (allows by v x)
       ∙ ap (λ (n : ℕ). is_in old v || (holds cube v && not (all_below (allows by v) n))) (plus_one x)
 
--- one cube more
-
-pub inside_more : (spec : Parts) (cubes : List Cube) (k : ℕ) (d by : Cube) (old new : List Cube) → k < length cubes
-    → Agree spec (is_in old) (λ v. is_in (take k cubes) v && holds by v) → Gain spec old new (λ v. holds (get_or cubes k d) v && holds by v)
-    → Agree spec (is_in new) (λ v. is_in (take (k + 1) cubes) v && holds by v)
-inside_more spec cubes k d by old new low before gain v scope =
-    gain v scope ∙ ap (λ (b : Bool). b || (holds (get_or cubes k d) v && holds by v)) (before v scope)
-    ∙ part_more (is_in (take k cubes) v) (holds (get_or cubes k d) v) (holds by v) ∙ ap (λ (b : Bool). b && holds by v) (sym (taken_more cubes k d v low))
-
-pub outside_more : (spec : Parts) (cubes : List Cube) (k : ℕ) (d by : Cube) (old new : List Cube) → k < length cubes
-    → Agree spec (is_in old) (λ v. is_in (take k cubes) v && not (holds by v)) → Gain spec old new (λ v. holds (get_or cubes k d) v && not (holds by v))
-    → Agree spec (is_in new) (λ v. is_in (take (k + 1) cubes) v && not (holds by v))
-outside_more spec cubes k d by old new low before gain v scope =
-    gain v scope ∙ ap (λ (b : Bool). b || (holds (get_or cubes k d) v && not (holds by v))) (before v scope)
-    ∙ part_more (is_in (take k cubes) v) (holds (get_or cubes k d) v) (not (holds by v)) ∙ ap (λ (b : Bool). b && not (holds by v)) (sym (taken_more cubes k d v low))
+-- one cube more: of each cube the part that a test names
+pub parts_more : (spec : Parts) (cubes : List Cube) (k : ℕ) (d : Cube) (part : Env → Bool) (old new : List Cube) → k < length cubes
+    → Agree spec (is_in old) (λ v. is_in (take k cubes) v && part v) → Gain spec old new (λ v. holds (get_or cubes k d) v && part v)
+    → Agree spec (is_in new) (λ v. is_in (take (k + 1) cubes) v && part v)
+parts_more spec cubes k d part old new low before gain v scope =
+    gain v scope ∙ ap (λ (b : Bool). b || (holds (get_or cubes k d) v && part v)) (before v scope)
+    ∙ part_more (is_in (take k cubes) v) (holds (get_or cubes k d) v) (part v) ∙ ap (λ (b : Bool). b && part v) (sym (taken_more cubes k d v low))
 
 pub none_split : (spec : Parts) (by : Cube) (inside outside : List Cube) → inside ≡ [] → outside ≡ [] → IsSplit spec [] by inside outside
 none_split spec by inside outside e f = record {

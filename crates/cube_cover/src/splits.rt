@@ -9,7 +9,7 @@ use crate::cubes::{Cube, inside_at, is_open, is_open_at, meet, outside_at};
 use scram_types::{NoMemory, Spec};
 use std::alloc::Global;
 
-// Cubes inside of a cube, and cubes outside of it. Each holds an environment in scope, and no two hold one.
+// Cubes inside of a cube, and cubes outside of it.
 #[derive(Drop)]
 pub(crate) struct Split {
     pub(crate) inside: Vec<Cube>,

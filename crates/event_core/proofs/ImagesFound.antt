@@ -1,21 +1,21 @@
 -- The images that are read are those of the trace.
-use Rattle.std.proofs.Common.{◌≡◌, ◌∙◌, ℕ, suc, ℤ, pos, ◌+◌, ◌*◌, ◌/◌, ◌%◌, ◌<◌, ◌≤◌, Bool, true, false, refl, ap, sym, arith, List, [], ◌∷◌, ◌++◌, length}
+use Rattle.std.proofs.Common.{◌≡◌, ◌∙◌, ℕ, suc, ℤ, pos, ◌+◌, ◌*◌, ◌/◌, ◌%◌, ◌<◌, ◌≤◌, Bool, true, false, refl, ap, sym, arith, List, [], ◌∷◌, length}
 use Rattle.std.specs.Prelude.{nat_lt, slice_index_or, if◌then◌else◌}
 use Rattle.std.proofs.lemmas.Bool.Decides.{nat_tests}
-use Rattle.std.proofs.lemmas.List.{length-append}
 use Rattle.scram_types.specs.Scripts.{ScriptParts}
 use Rattle.scram_types.specs.Specification.{IsSpec, Parts}
 use Rattle.scram_types.proofs.Eights.{eight_at}
 use Rattle.bank_words.specs.Numbers.{decode}
 use Rattle.fault_script.specs.Times.{words}
-use Rattle.frame_model.specs.Flights.{image_after, image_of, slot_after}
+use Rattle.frame_model.specs.Flights.{image_after, image_in, slot_after}
 use Rattle.frame_model.proofs.Past.{slot_past}
 use Rattle.frame_model.proofs.Slots.{slot_is}
 use Rattle.fail_stop.specs.Events.{BankWord}
 use Rattle.fail_stop.specs.Flights.{word_in}
 use Rattle.fail_stop.specs.Listed.{stored_in}
 use Rattle.fail_stop.specs.ScriptFlights.{image_words_after}
-use Rattle.scram_kernel.specs.Marks.{AreImages, image_in}
+use Rattle.fail_stop.proofs.Joining.{image_long}
+use Rattle.scram_kernel.specs.Marks.{AreImages}
 use Rattle.event_core.specs.Reads.{bank_taken, word_read}
 use Rattle.event_core.proofs.Opening.{image_word, slot_word}
 use Rattle.event_core.proofs.Ranges.{read_back, slot_words}
@@ -29,15 +29,8 @@ same_words (x ∷ a) (y ∷ b) long same =
     let rest : a ≡ b = same_words a b (omega (arith, long)) (λ i low. same (suc i) (omega (arith, low))) in
     rw (first, rest) refl
 
-joined_long : (slot : ℕ → List ℤ) → ((a : ℕ) → a < 8 → length (slot a) ≡ 8) → length (image_of slot) ≡ 64
-joined_long slot long =
-    let a = long 0 (omega arith) in let b = long 1 (omega arith) in let c = long 2 (omega arith) in let d = long 3 (omega arith) in
-    let e = long 4 (omega arith) in let f = long 5 (omega arith) in let g = long 6 (omega arith) in let h = long 7 (omega arith) in
-    let to_1 = length-append (slot 0) (slot 1 ++ slot 2 ++ slot 3 ++ slot 4 ++ slot 5 ++ slot 6 ++ slot 7) in
-    grind (arith, length-append, a, b, c, d, e, f, g, h)
-
-image_long : (spec : Parts) (script : ScriptParts) (p f : ℕ) → length (image_after spec script p f) ≡ 64
-image_long spec script p f = joined_long (slot_after spec script p f) (λ a low. ap length (sym (slot_is spec script p f a low)))
+image_after_long : (spec : Parts) (script : ScriptParts) (p f : ℕ) → length (image_after spec script p f) ≡ 64
+image_after_long spec script p f = image_long (slot_after spec script p f) (λ a low. ap length (sym (slot_is spec script p f a low)))
 
 word_of_slot : (spec : Parts) (script : ScriptParts) (p f i : ℕ) → i < 64 → slice_index_or (image_after spec script p f) i (pos 0) ≡ slice_index_or (slot_after spec script p f (i / 8)) (i % 8) (pos 0)
 word_of_slot spec script p f i low =
@@ -57,7 +50,7 @@ module _ (spec : Parts) (facts : IsSpec spec) (script : ScriptParts) (stored : L
 
   pub image_found : (image : List ℤ) → length image ≡ 64 → ((i : ℕ) → i < 64 → slice_index_or image i (pos 0) ≡ word_read spec stored f p i) → image ≡ image_after spec script p f
   image_found image long read =
-      same_words image (image_after spec script p f) (long ∙ sym (image_long spec script p f))
+      same_words image (image_after spec script p f) (long ∙ sym (image_after_long spec script p f))
       (λ i low. let inside : i < 64 = omega (arith, low, long) in
       read i inside ∙ word_found i (nat_lt i (words spec)) inside refl ∙ sym (word_of_slot spec script p f i inside))
 

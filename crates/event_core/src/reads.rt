@@ -4,7 +4,7 @@ ghost use Rattle.std.specs.Prelude.{◌≡◌, ℕ, ◌<◌, pos, length, slice_
 ghost use Rattle.scram_types.specs.Eights.{eight};
 ghost use Rattle.fail_stop.specs.Events.{MarkWord};
 ghost use Rattle.fail_stop.specs.Listed.{places_of_words, stored_in};
-ghost use Rattle.scram_kernel.specs.Marks.{image_in};
+ghost use Rattle.frame_model.specs.Flights.{image_in};
 ghost use Rattle.event_core.specs.Reads.{bank_taken, word_read};
 
 use bank_words::{decode, pick};

@@ -16,7 +16,7 @@ use Rattle.bank_words.specs.declared.images.KernelImage.{KernelImage}
 use Rattle.fault_script.specs.Environments.{env_at}
 use Rattle.fault_script.specs.Times.{commits}
 use Rattle.frame_model.specs.declared.tasks.Task.{Task}
-use Rattle.frame_model.specs.Flights.{decided, draft, image_of, is_proc, slot_after, slot_drafted, slot_in, state_after, task_given}
+use Rattle.frame_model.specs.Flights.{decided, draft, image_in, image_of, is_proc, slot_after, slot_drafted, slot_in, state_after, task_given}
 use Rattle.frame_model.specs.Laws.{AreasAreKept, IsSlotOfKeeper}
 use Rattle.frame_model.specs.Phases.{phase_at}
 use Rattle.frame_model.specs.States.{State, area_at, keeper_after, keeper_at, keeper_on, seen_by_all, seen_in, start_keeper_of, zeros}
@@ -24,7 +24,7 @@ use Rattle.frame_model.specs.Tasks.{off_task, task_in, task_of}
 use Rattle.frame_model.proofs.Agreeing.{Exists, place_exists, task_exists}
 use Rattle.frame_model.proofs.Slots.{slot_is}
 use Rattle.fail_stop.specs.declared.snapshots.Snapshot.{Snapshot}
-use Rattle.fail_stop.specs.Drafts.{AreEight, IsSnapshot, area_kept, areas_shown, draft_made, image_among, slot_made, state_shown, task_among}
+use Rattle.fail_stop.specs.Drafts.{AreEight, IsSnapshot, area_kept, areas_shown, draft_made, slot_made, state_shown, task_among}
 
 -- each slot that is made has eight words
 
@@ -52,7 +52,7 @@ slots_eight spec snap tasks seen areas slots own p is_areas is_slots a low =
 
 pub draft_is : (spec : Parts) (snap : Snapshot) (p : ℕ) (tasks : List Task) (seen : Seen) (areas slots : List (List ℤ)) (own image : List ℤ)
     → tasks ≡ eight (task_of spec snap.kernel.mode snap.kernel.frame) → seen ≡ seen_by_all spec snap.kernel.env (state_shown snap)
-    → areas ≡ areas_shown snap → own ≡ image_among snap.images p
+    → areas ≡ areas_shown snap → own ≡ image_in snap.images p
     → slots ≡ eight (slot_made spec tasks seen areas own p) → image ≡ image_of (area_at slots) → image ≡ draft_made spec snap p
 draft_is spec snap p tasks seen areas slots own image is_tasks is_seen is_areas is_own is_slots is_image =
     is_image ∙ rw (is_slots, is_tasks, is_seen, is_areas, is_own) refl
@@ -116,12 +116,12 @@ module _ (spec : Parts) (is : IsSpec spec) (script : ScriptParts) (f : ℕ) (sna
   task_same a low = eight_at (task_of spec snap.kernel.mode snap.kernel.frame) a off_task low ∙ ap (λ (k : KernelImage). task_of spec k.mode k.frame a) of.kernel
 
   made_same : (p a : ℕ) → p < length spec.procs → a < 8
-      → slot_made spec (eight (task_of spec snap.kernel.mode snap.kernel.frame)) (seen_by_all spec snap.kernel.env (state_shown snap)) (areas_shown snap) (image_among snap.images p) p a
+      → slot_made spec (eight (task_of spec snap.kernel.mode snap.kernel.frame)) (seen_by_all spec snap.kernel.env (state_shown snap)) (areas_shown snap) (image_in snap.images p) p a
       ≡ slot_drafted spec script p f a (slot_after spec script p f a)
   made_same p a there low =
       made_of p (kind_of_app spec a) (task_among (eight (task_of spec snap.kernel.mode snap.kernel.frame)) a) (task_given spec script f a)
       (seen_by_all spec snap.kernel.env (state_shown snap)) (seen_by_all spec (env_at spec script f) (state_after spec script f))
-      (area_at (areas_shown snap) a) (area_at (state_after spec script f).areas a) (slot_in (image_among snap.images p) a) (slot_after spec script p f a)
+      (area_at (areas_shown snap) a) (area_at (state_after spec script f).areas a) (slot_in (image_in snap.images p) a) (slot_after spec script p f a)
       (task_same a low) seen_same (ap (λ (areas : List (List ℤ)). area_at areas a) areas_same)
       (ap (λ (image : List ℤ). slot_in image a) (of.images p there) ∙ slot_is spec script p f a low)
     where

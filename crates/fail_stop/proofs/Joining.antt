@@ -30,7 +30,7 @@ joined_more slots image n v joined low is = record { long = length-set image n v
 two_long : (xs ys : List ℤ) (n : ℕ) → length xs ≡ n → length ys ≡ 8 → length (xs ++ ys) ≡ n + 8
 two_long xs ys n is also = length-append xs ys ∙ rw (is, also) refl
 
-image_long : (slot : ℕ → List ℤ) → ((a : ℕ) → a < 8 → length (slot a) ≡ 8) → length (image_of slot) ≡ 64
+pub image_long : (slot : ℕ → List ℤ) → ((a : ℕ) → a < 8 → length (slot a) ≡ 8) → length (image_of slot) ≡ 64
 image_long slot is =
     let one = two_long (slot 0) (slot 1) 8 (is 0 (omega arith)) (is 1 (omega arith)) in
     let two = two_long (slot 0 ++ slot 1) (slot 2) 16 one (is 2 (omega arith)) in

@@ -10,10 +10,6 @@ abbrev pub marked : Flight → Place → ℕ
 marked m (At f n) = if is_flipped m n then suc f else f
 marked m (Halted h) = suc h
 
--- The word that p stored there last in a frame below f, or the opening word.
-abbrev pub stored_last : Flight → ℕ → ℕ → ℕ → ℕ → ℕ
-stored_last m p f b i = bank_before m p f b i
-
 -- The bank that the mark does not name.
 abbrev pub other : Flight → Places → ℕ → ℕ
 other m at p = 1 - commit_count m p (marked m (at.proc p)) % 2
@@ -32,8 +28,8 @@ pub record IsConsistent (m : Flight) (at : Places) (words : Word → ℕ) : Type
   pub mark : (p : ℕ) → p < m.procs → words (MarkWord p) ≡ 2 * last_commit m p (marked m (at.proc p)) + commit_count m p (marked m (at.proc p)) % 2
   pub marked_bank : (p i : ℕ) → p < m.procs → i < m.width → words (BankWord p (commit_count m p (marked m (at.proc p)) % 2) i) ≡ word_in (image_before m p (last_commit m p (marked m (at.proc p)))) i
   pub drafted : (p f n i : ℕ) → p < m.procs → i < m.width → at.proc p ≡ At f n → n ≤ m.procs + 1 + m.width → i < stores_made m n → words (BankWord p (other m at p) i) ≡ word_in (m.draft p f) i
-  pub not_drafted : (p f n i : ℕ) → p < m.procs → i < m.width → at.proc p ≡ At f n → n ≤ m.procs + 1 + m.width → stores_made m n ≤ i → words (BankWord p (other m at p) i) ≡ stored_last m p f (other m at p) i
-  pub after_flip : (p i : ℕ) → p < m.procs → i < m.width → ((f n : ℕ) → at.proc p ≡ At f n → m.procs + 1 + m.width < n) → words (BankWord p (other m at p) i) ≡ stored_last m p (marked m (at.proc p)) (other m at p) i
+  pub not_drafted : (p f n i : ℕ) → p < m.procs → i < m.width → at.proc p ≡ At f n → n ≤ m.procs + 1 + m.width → stores_made m n ≤ i → words (BankWord p (other m at p) i) ≡ bank_before m p f (other m at p) i
+  pub after_flip : (p i : ℕ) → p < m.procs → i < m.width → ((f n : ℕ) → at.proc p ≡ At f n → m.procs + 1 + m.width < n) → words (BankWord p (other m at p) i) ≡ bank_before m p (marked m (at.proc p)) (other m at p) i
   pub running : (p f n : ℕ) → p < m.procs → at.proc p ≡ At f n → (f ≡ at.frame) ⊎ ((f ≡ suc at.frame) × (n ≡ 0))
   pub halted : (p h : ℕ) → p < m.procs → at.proc p ≡ Halted h → (h ≤ at.frame) × ((r : ℕ) → m.restart p ≡ Some r → h < r → at.frame ≤ r)
   pub release : 0 < m.frames → words ReleaseWord ≡ suc at.frame

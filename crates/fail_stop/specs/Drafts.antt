@@ -8,7 +8,7 @@ use Rattle.scram_types.specs.Specification.{Parts}
 use Rattle.app_model.specs.declared.seen.Seen.{Seen}
 use Rattle.app_model.specs.Law.{law}
 use Rattle.frame_model.specs.declared.tasks.Task.{Task}
-use Rattle.frame_model.specs.Flights.{image_after, image_of, is_proc, slot_in}
+use Rattle.frame_model.specs.Flights.{image_after, image_in, image_of, is_proc, slot_in}
 use Rattle.frame_model.specs.States.{State, area_at, keeper_at, seen_by_all, seen_in, zeros}
 use Rattle.frame_model.specs.Storage.{kernel_image}
 use Rattle.frame_model.specs.Tasks.{off_task, task_of}
@@ -18,10 +18,6 @@ use Rattle.fail_stop.specs.declared.snapshots.Snapshot.{Snapshot}
 abbrev pub AreEight : (ℕ → List ℤ) → Type 0
 AreEight slot = (a : ℕ) → a < 8 → length (slot a) ≡ 8
 
--- The image of processor q among eight.
-abbrev pub image_among : List (List ℤ) → ℕ → List ℤ
-image_among images q = slice_index_or images q []
-
 -- The task of application a among eight.
 abbrev pub task_among : List Task → ℕ → Task
 task_among tasks a = slice_index_or tasks a off_task
@@ -29,7 +25,7 @@ task_among tasks a = slice_index_or tasks a off_task
 -- The area of application a: its slot in its keeper's image, and zeros without a keeper.
 abbrev pub area_kept : List (List ℤ) → Option ProcId → ℕ → List ℤ
 area_kept images None a = zeros
-area_kept images (Some q) a = slot_in (image_among images q.0) a
+area_kept images (Some q) a = slot_in (image_in images q.0) a
 
 -- The areas that a snapshot shows.
 abbrev pub areas_shown : Snapshot → List (List ℤ)
@@ -53,10 +49,10 @@ draft_made spec snap p = image_of (slot_made
     (eight (task_of spec snap.kernel.mode snap.kernel.frame))
     (seen_by_all spec snap.kernel.env (state_shown snap))
     (areas_shown snap)
-    (image_among snap.images p)
+    (image_in snap.images p)
     p)
 
 -- A snapshot is that of frame f of a script: it has what the kernel says of the frame, and all images before it.
 pub record IsSnapshot (spec : Parts) (script : ScriptParts) (f : ℕ) (snap : Snapshot) : Type 0 where
   pub kernel : snap.kernel ≡ kernel_image spec script f
-  pub images : (q : ℕ) → q < length spec.procs → image_among snap.images q ≡ image_after spec script q f
+  pub images : (q : ℕ) → q < length spec.procs → image_in snap.images q ≡ image_after spec script q f

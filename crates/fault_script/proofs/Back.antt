@@ -14,6 +14,7 @@ use Rattle.scram_types.specs.declared.scripts.HaltAt.{HaltAt}
 use Rattle.scram_types.specs.declared.scripts.RestartAt.{RestartAt}
 use Rattle.scram_types.specs.Scripts.{ScriptParts}
 use Rattle.scram_types.specs.Specification.{Each, IsSpec, Parts}
+use Rattle.scram_types.proofs.FoundByName.{proc_found_back}
 use Rattle.fault_script.specs.declared.version.Version.{Version}
 use Rattle.fault_script.specs.declared.version.Version.TheVariants.{First, Second}
 use Rattle.fault_script.specs.Fits.{AtMostTwice, ChangeBefore, EachLater, EachNext, Fits, HaltBefore, RestartBefore, IsChange, IsHalt, IsRestart}
@@ -24,7 +25,7 @@ use Rattle.fault_script.specs.Times.{words}
 use Rattle.fault_script.specs.Versions.{halts_limit}
 use Rattle.fault_script.proofs.Alternation.{Again}
 use Rattle.fault_script.proofs.Fitting.{Differ, IsLate}
-use Rattle.fault_script.proofs.Found.{factor_found, proc_found, value_found}
+use Rattle.fault_script.proofs.Found.{factor_found, value_found}
 use Rattle.fault_script.proofs.SecondHalts.{Apart, apart_without_restarts, halts_few, may_halt_by}
 use Rattle.fault_script.proofs.Splits.{change_follows_by, halt_after_all, never_halted, restart_follows_by, seam}
 
@@ -35,11 +36,11 @@ change_back spec frames at c is fits =
 halt_back : (spec : Parts) (frames : ℕ) (at : List ℕ) (h : HaltAt) → IsSpec spec → IsHalt spec frames h → read_halt spec frames at (halt_data spec h) ≡ Ok h
 halt_back spec frames at h is fits =
     let most = fits.step in
-    rw (proc_found spec h.proc is fits.proc, whole_back 0 frames h.frame (omega arith) fits.frame, whole_back 0 (words spec + 2) h.step (omega arith) (omega (arith, most))) refl
+    rw (proc_found_back spec h.proc is fits.proc, whole_back 0 frames h.frame (omega arith) fits.frame, whole_back 0 (words spec + 2) h.step (omega arith) (omega (arith, most))) refl
 
 restart_back : (spec : Parts) (frames : ℕ) (at : List ℕ) (r : RestartAt) → IsSpec spec → IsRestart spec frames r → read_restart spec frames at (restart_data spec r) ≡ Ok r
 restart_back spec frames at r is fits =
-    rw (proc_found spec r.proc is fits.proc, whole_back 2 frames r.frame fits.least fits.most) refl
+    rw (proc_found_back spec r.proc is fits.proc, whole_back 2 frames r.frame fits.least fits.most) refl
 
 -- each item, with those before it and those after it in the whole list
 abbrev pub EachSplit : {A : Type 0} → (List A → A → List A → Type 0) → List A → Type 0

@@ -3,21 +3,13 @@ use Rattle.std.proofs.Common.{◌≡◌, ◌+◌, ◌<◌, ℕ, List, length, ar
 use Rattle.std.specs.Prelude.{Some, slice_get}
 use Rattle.scram_types.specs.declared.scripts.Change.{Change}
 use Rattle.scram_types.specs.declared.ids.FactorId.{FactorId}
-use Rattle.scram_types.specs.declared.ids.ProcId.{ProcId}
 use Rattle.scram_types.specs.declared.specification.Factor.{Factor}
-use Rattle.scram_types.specs.declared.specification.Proc.{Proc}
 use Rattle.scram_types.specs.Specification.{IsSpec, Parts}
-use Rattle.scram_types.specs.Lookups.{factor_name, factor_named, number_from, proc_name, proc_named}
+use Rattle.scram_types.specs.Lookups.{factor_name, factor_named, number_from}
 use Rattle.scram_types.proofs.FoundByName.{found_named}
 use Rattle.scram_types.proofs.Items.{some_item}
 use Rattle.fault_script.specs.Reading.{find_value}
 use Rattle.fault_script.specs.Texts.{new_value_name}
-
-pub proc_found : (spec : Parts) (p : ProcId) → IsSpec spec → p.0 < length spec.procs → proc_named spec (proc_name spec p.0) ≡ Some p
-proc_found spec p is within = some_item spec.procs p.0 within (λ proc there.
-    let at : number_from (λ (one : Proc). one.name) 0 spec.procs proc.name ≡ Some (0 + p.0) = found_named (λ (one : Proc). one.name) 0 p.0 spec.procs proc is.procs_differ there in
-    let number : 0 + p.0 ≡ p.0 = omega arith in
-    rw (there, at, number) refl)
 
 pub factor_found : (spec : Parts) (x : FactorId) (factor : Factor) → IsSpec spec → slice_get spec.factors x.0 ≡ Some factor → factor_named spec (factor_name spec x.0) ≡ Some x
 factor_found spec x factor is there =

@@ -20,5 +20,5 @@ pub use inputs::Input;
 pub use reading::read_script;
 pub use scram_doc::{DocError as ScriptError, DocFault as ScriptFault};
 pub use times::{factors_at, halt_in, halt_of, restart_of, up_at};
-pub use walks::Walk;
+pub use walks::{Walk, up_set_at};
 pub use writing::write_script;

@@ -180,8 +180,8 @@ fn differs(env: &Env, other: &Env) -> bool
     !(env.up == other.up && env.factors == other.factors)
 }
 
-// The processors that are up in a frame, as bits.
-fn up_set_at(spec: &Spec, script: &Script, frame: u32) -> u8
+/// The processors that are up in a frame, as bits. It takes no memory.
+pub fn up_set_at(spec: &Spec, script: &Script, frame: u32) -> u8
     ensures { result ≡ bits_below (λ p. is_up script.now p frame) (length spec.now.procs) }
 {
     let mut up = 0;

@@ -70,6 +70,10 @@ image_of slot = slot 0 ++ slot 1 ++ slot 2 ++ slot 3 ++ slot 4 ++ slot 5 ++ slot
 abbrev pub slot_in : List ℤ → ℕ → List ℤ
 slot_in image a = eight (λ i. slice_index_or image (8 * a + i) (pos 0))
 
+-- The image of processor p among these; without words past the last.
+abbrev pub image_in : List (List ℤ) → ℕ → List ℤ
+image_in images p = slice_index_or images p []
+
 -- The image of processor p after the first f frames, and what it drafts in frame f.
 abbrev pub image_after : Parts → ScriptParts → ℕ → ℕ → List ℤ
 image_after spec script p f = image_of (slot_after spec script p f)

@@ -4,8 +4,6 @@
 
 mod missions;
 mod random;
-#[cfg(test)]
-mod tests;
 mod texts;
 mod walks;
 

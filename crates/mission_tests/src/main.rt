@@ -7,8 +7,6 @@
 mod covers;
 mod flights;
 mod judgements;
-#[cfg(test)]
-mod rack_tests;
 
 use crate::covers::print_covers;
 use crate::flights::fly;

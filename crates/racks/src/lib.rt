@@ -3,6 +3,8 @@
 #![tactic(auto)]
 
 pub mod macros;
+#[cfg(test)]
+mod tests;
 
 pub use app_model::{App, Rack};
 pub use autopilot::Autopilot;

@@ -24,6 +24,3 @@ mod writing;
 pub use fault::{SpecError, SpecFault};
 pub use reading::read_spec;
 pub use writing::write_spec;
-
-#[cfg(test)]
-mod tests;

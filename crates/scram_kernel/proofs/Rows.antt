@@ -10,14 +10,14 @@ use Rattle.scram_types.specs.Specification.{IsSpec, Parts}
 use Rattle.scram_types.proofs.Eights.{eight_same}
 use Rattle.fault_script.specs.Environments.{env_at}
 use Rattle.fault_script.specs.Times.{commits}
-use Rattle.frame_model.specs.Flights.{decided, row_at, slot_after, slot_in, state_after, task_given}
+use Rattle.frame_model.specs.Flights.{decided, image_in, row_at, slot_after, slot_in, state_after, task_given}
 use Rattle.frame_model.specs.Phases.{phase_at}
 use Rattle.frame_model.specs.States.{area_after, area_at, area_on, law_of, world_in}
 use Rattle.frame_model.proofs.Slots.{slot_is}
 use Rattle.frame_model.proofs.Agreeing.{Agree, Exists, acts_same, agreeing, keepers_same, task_exists}
 use Rattle.scram_kernel.specs.Drawing.{area_from, area_drawn, areas_drawn, has_committed, keepers_drawn, row_drawn}
 use Rattle.frame_model.specs.Storage.{kernel_image}
-use Rattle.scram_kernel.specs.Marks.{AreImages, AreMarks, image_in}
+use Rattle.scram_kernel.specs.Marks.{AreImages, AreMarks}
 use Rattle.scram_kernel.proofs.Commits.{committed_told}
 
 -- who commits the frame and was to host the application has its law in the slot

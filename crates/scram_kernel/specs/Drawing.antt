@@ -7,10 +7,10 @@ use Rattle.scram_types.specs.declared.ids.ProcId.{ProcId}
 use Rattle.scram_types.specs.declared.orders.Act.{Act}
 use Rattle.bank_words.specs.declared.images.KernelImage.{KernelImage}
 use Rattle.frame_model.specs.declared.tasks.Task.{Task}
-use Rattle.frame_model.specs.Flights.{slot_in}
+use Rattle.frame_model.specs.Flights.{image_in, slot_in}
 use Rattle.frame_model.specs.States.{act_after, area_at, keeper_at, keeper_on, world_in, zeros}
 use Rattle.frame_model.specs.Tasks.{task_of}
-use Rattle.scram_kernel.specs.Marks.{image_in, mark_in}
+use Rattle.scram_kernel.specs.Marks.{mark_in}
 
 -- By the marks after frame f processor p has committed it: half of its mark counts the frames up to f.
 abbrev pub has_committed : List ℕ → ℕ → ℕ → Bool

@@ -1,17 +1,13 @@
 -- The marks and the images of the processors after the first frames, as whoever ends a frame hands them in.
-use Rattle.std.specs.Prelude.{◌≡◌, ℕ, ◌<◌, ℤ, List, [], length, slice_index_or}
+use Rattle.std.specs.Prelude.{◌≡◌, ℕ, ◌<◌, ℤ, List, length, slice_index_or}
 use Rattle.scram_types.specs.Scripts.{ScriptParts}
 use Rattle.scram_types.specs.Specification.{Parts}
-use Rattle.frame_model.specs.Flights.{image_after}
+use Rattle.frame_model.specs.Flights.{image_after, image_in}
 use Rattle.frame_model.specs.Storage.{mark_after}
 
 -- The mark of processor p among these; 0 past the last.
 abbrev pub mark_in : List ℕ → ℕ → ℕ
 mark_in marks p = slice_index_or marks p 0
-
--- The image of processor p among these; without words past the last.
-abbrev pub image_in : List (List ℤ) → ℕ → List ℤ
-image_in images p = slice_index_or images p []
 
 -- These are the marks of the processors after the first f frames; what stands past the last processor is free.
 abbrev pub AreMarks : Parts → ScriptParts → ℕ → List ℕ → Type 0

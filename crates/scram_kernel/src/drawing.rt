@@ -3,10 +3,10 @@
 ghost use Rattle.std.specs.Prelude.{◌≡◌, ◌<◌};
 ghost use Rattle.scram_types.specs.Eights.{eight};
 ghost use Rattle.scram_types.specs.Specification.{Parts};
-ghost use Rattle.frame_model.specs.Flights.{slot_in};
+ghost use Rattle.frame_model.specs.Flights.{image_in, slot_in};
 ghost use Rattle.frame_model.specs.States.{act_after, area_at, keeper_on};
 ghost use Rattle.scram_kernel.specs.Drawing.{act_drawn, area_from, areas_drawn, has_committed, keepers_drawn, row_drawn, task_said};
-ghost use Rattle.scram_kernel.specs.Marks.{image_in, mark_in};
+ghost use Rattle.scram_kernel.specs.Marks.{mark_in};
 
 use bank_words::KernelImage;
 use frame_model::{Task, act_of_order, tasks_of, world_in};

@@ -1,13 +1,11 @@
 //! What the kernel says of a frame.
 
-ghost use Rattle.std.specs.Prelude.{◌≡◌, ◌<◌, length};
-ghost use Rattle.scram_types.specs.Bits.{bits_below};
+ghost use Rattle.std.specs.Prelude.{◌≡◌, ◌<◌};
 ghost use Rattle.scram_types.specs.declared.limits.TheConstants.{MAX_FRAMES};
-ghost use Rattle.fault_script.specs.Times.{is_up};
 ghost use Rattle.scram_kernel.specs.Images.{image_given, image_next};
 
 use bank_words::KernelImage;
-use fault_script::up_at;
+use fault_script::up_set_at;
 use frame_model::{Sys, decide, has_arrived, phase_at};
 use scram_types::{Env, ProcId, Row, Script, Spec};
 
@@ -52,17 +50,4 @@ pub(crate) fn image_next(
         factors,
     };
     image_given(spec, &sys, env)
-}
-
-// The processors that are up in a frame, as bits.
-fn up_set_at(spec: &Spec, script: &Script, frame: u32) -> u8
-    ensures { result ≡ bits_below (λ p. is_up script.now p frame) (length spec.now.procs) }
-{
-    let mut up = 0;
-    for p in 0..spec.procs.items().len() as u8 {
-        if up_at(script, ProcId(p), frame) {
-            up += 1 << p;
-        }
-    }
-    up
 }

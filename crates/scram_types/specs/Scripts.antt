@@ -4,6 +4,7 @@ use Rattle.scram_types.specs.declared.scripts.Change.{Change}
 use Rattle.scram_types.specs.declared.scripts.HaltAt.{HaltAt}
 use Rattle.scram_types.specs.declared.scripts.RestartAt.{RestartAt}
 
+-- A script, as contracts see it.
 pub record ScriptParts : Type 0 where
   pub frames : ℕ
   pub changes : List Change

@@ -18,6 +18,7 @@ use Rattle.scram_types.specs.declared.specification.Invariant.{Invariant}
 use Rattle.scram_types.specs.declared.specification.Precondition.{Precondition}
 use Rattle.scram_types.specs.declared.specification.Policy.{Policy}
 
+-- A specification, as contracts see it.
 pub record Parts : Type 0 where
   pub procs : List Proc
   pub apps : List AppSpec

@@ -15,6 +15,7 @@ use Rattle.scram_types.specs.declared.ids.ProcId.{ProcId}
 use Rattle.scram_types.specs.declared.orders.Act.{Act}
 use Rattle.scram_types.specs.declared.orders.Act.TheVariants as act
 use Rattle.scram_types.specs.declared.specification.AppSpec.{AppSpec}
+use Rattle.scram_types.proofs.FoundByName.{proc_found_back}
 use Rattle.app_model.specs.Names.{mode_text}
 use Rattle.trace_text.specs.declared.app_reading.Phase.{Phase}
 use Rattle.trace_text.specs.declared.app_reading.Phase.TheVariants.{Halting, Preparing, Initialising}
@@ -26,7 +27,7 @@ use Rattle.trace_text.specs.Spelling.{signed_from, signed_of, spelled_number}
 use Rattle.trace_text.specs.Text.{app_line, area_text}
 use Rattle.trace_text.specs.TraceReading.{SoFar, after_app, is_plain, standing_line, with_app}
 use Rattle.trace_text.proofs.AppOnly.{phase_line_text, tag_of}
-use Rattle.trace_text.proofs.NamesBack.{app_found_back, listed_back, mode_spelled, mode_valid, proc_back, proc_found_back}
+use Rattle.trace_text.proofs.NamesBack.{app_found_back, listed_back, mode_spelled, mode_valid, proc_back}
 use Rattle.trace_text.proofs.Shapes.{bare_shape, ran_shape}
 use Rattle.trace_text.proofs.Spelling.{number_some, signed_some}
 use Rattle.trace_text.proofs.WordBytes.{all_over, decimal_over, decimal_visible, is_visible, line_length, line_of, line_plain, name_short, name_visible, over, pieces_back, signed_visible, width, words_back, words_in_back}

@@ -5,7 +5,7 @@ use Rattle.std.specs.Option.{option_map_or}
 use Rattle.std.proofs.lemmas.Bool.{eq-eqb, eqb-true}
 use Rattle.std.proofs.lemmas.Slice.Eq.{bytes_eq-Decides}
 use Rattle.scram_types.specs.Specification.{Each, IsIn, IsInIfNamed, IsModeSpec, IsSpec, NamesDiffer, Parts, mode_in, modes_of_kind}
-use Rattle.scram_types.specs.Lookups.{conf_name, conf_named, number_from, proc_name, proc_named}
+use Rattle.scram_types.specs.Lookups.{conf_name, conf_named, number_from, proc_name}
 use Rattle.scram_types.specs.Names.{is_name}
 use Rattle.scram_types.specs.declared.ids.ConfId.{ConfId}
 use Rattle.scram_types.specs.declared.ids.Mode.{Mode}
@@ -48,9 +48,6 @@ conf_found_back spec c sound below = rw (conf_back spec c sound below).found ref
 
 pub proc_back : (spec : Parts) (p : ProcId) → IsSpec spec → p.0 < length spec.procs → NameBack (λ (proc : Proc). proc.name) spec.procs p.0
 proc_back spec p sound below = name_back (λ (proc : Proc). proc.name) spec.procs p.0 sound.names.procs sound.procs_differ below
-
-pub proc_found_back : (spec : Parts) (p : ProcId) → IsSpec spec → p.0 < length spec.procs → proc_named spec (proc_name spec p.0) ≡ Some p
-proc_found_back spec p sound below = rw (proc_back spec p sound below).found refl
 
 pub app_found_back : (spec : Parts) (a : ℕ) (app : AppSpec) → IsSpec spec → slice_get spec.apps a ≡ Some app → app_number spec app.name ≡ Some a
 app_found_back spec a app sound there = found_at (λ (x : AppSpec). x.name) spec.apps a app sound.apps_differ there

@@ -1,4 +1,6 @@
-use Rattle.cube_cover.proofs.Splitting.{inside_more, none_split, outside_more}
+use Rattle.std.specs.Prelude.{not}
+use Rattle.cube_cover.specs.Cubes.{holds}
+use Rattle.cube_cover.proofs.Splitting.{none_split, parts_more}
 use Rattle.cube_cover.proofs.splits.split_by.Goals as goal
 
 pub loop-cube-init : goal.loop-cube-init
@@ -6,8 +8,8 @@ loop-cube-init c = none_split c.args.spec.now c.args.by _ _ c.new-inside.ensures
 
 pub loop-cube-preserved : goal.loop-cube-preserved
 loop-cube-preserved c = record {
-  within = inside_more c.args.spec.now c.args.cubes.now c.loop-cube.cube-index _ c.args.by c.loop-cube.inside.items c.split_cube.new.inside.items c.loop-cube-test.true
+  within = parts_more c.args.spec.now c.args.cubes.now c.loop-cube.cube-index _ (holds c.args.by) c.loop-cube.inside.items c.split_cube.new.inside.items c.loop-cube-test.true
       c.loop-cube.invariant.within (λ v scope. c.in_ok-split_cube.ensures.within v scope);
-  beyond = outside_more c.args.spec.now c.args.cubes.now c.loop-cube.cube-index _ c.args.by c.loop-cube.outside.items c.split_cube.new.outside.items c.loop-cube-test.true
+  beyond = parts_more c.args.spec.now c.args.cubes.now c.loop-cube.cube-index _ (λ v. not (holds c.args.by v)) c.loop-cube.outside.items c.split_cube.new.outside.items c.loop-cube-test.true
       c.loop-cube.invariant.beyond (λ v scope. c.in_ok-split_cube.ensures.beyond v scope);
 }

@@ -1,9 +1,9 @@
 //! Racks that fit and racks that do not.
 
+use crate::{rack, racks};
 use app_model::racks::racks_frame;
 use app_model::{Rack, Seen, rack_fits, racks_fit};
 use more_apps::{Navigator, PlainAutopilot};
-use racks::{rack, racks};
 use scram_types::{Area, Goal, KindId, Mode, Order, ProcId, World};
 use std::test::Fail;
 

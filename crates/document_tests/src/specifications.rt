@@ -1,7 +1,7 @@
 //! The example of the documents' format is read and written. What is refused at which rule, and longer documents, are
 //! worked rows.
 
-use crate::{SpecError, read_spec, write_spec};
+use reconf_spec::{SpecError, read_spec, write_spec};
 use scram_doc::Path;
 use scram_types::NoMemory;
 use scram_types::limits::MAX_SPECIFICATION_BYTES;

@@ -1,0 +1,9 @@
+//! Tests of what reads, writes and makes documents. They stand by themselves, since a crate that has tests is proved twice.
+#![tactic(auto)]
+
+#[cfg(test)]
+mod missions;
+#[cfg(test)]
+mod scripts;
+#[cfg(test)]
+mod specifications;
