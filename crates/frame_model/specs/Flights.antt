@@ -1,5 +1,5 @@
 -- The one-thread trace of a script, and the images of its processors.
-use Rattle.std.specs.Prelude.{ℕ, zero, suc, ◌+◌, ◌*◌, ◌==◌, ℤ, pos, Bool, false, List, ◌++◌, slice_index_or, Option, if◌then◌else◌}
+use Rattle.std.specs.Prelude.{ℕ, zero, suc, ◌+◌, ◌*◌, ◌==◌, ℤ, pos, Bool, false, List, [], ◌++◌, slice_index_or, Option, if◌then◌else◌}
 use Rattle.std.specs.Option.{option_map_or}
 use Rattle.scram_types.specs.Eights.{eight}
 use Rattle.scram_types.specs.Searches.{listed_below}
