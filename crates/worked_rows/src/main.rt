@@ -1,7 +1,8 @@
 //! The worked rows: it gives the words of each row in `rows.txt` to the command, on files of which some pieces are
 //! changed, and prints what the command answers. What it has to print follows from the rules, worked out by hand, but
-//! for the lines of `fly`, which another program computed, the missions of `gen`, which `bench/generate` prints, and the
-//! traces that are judged, which this command printed.
+//! for the lines of `fly`, which another program computed, the missions of `gen`, which `bench/generate` prints, the
+//! flights and bounds of `vtol`, which `bench/flights` prints, and the other traces that are judged, which this command
+//! printed.
 #![tactic(auto)]
 
 mod answers;
