@@ -1,23 +1,23 @@
 pub mod Listing
 mod Steps
-mod Splitting
-mod Spelling
+pub mod Splitting
+pub mod Spelling
 mod Values
 mod NameLists
 mod Walk
 mod Shapes
-mod Inversion
-mod Found
+pub mod Inversion
+pub mod Found
 mod RowOnly
 mod AppOnly
 mod ReportOnly
 mod TraceOnly
 mod FirstBroken
 mod LeastRules
-mod WordBytes
-mod NamesBack
+pub mod WordBytes
+pub mod NamesBack
 mod ListsBack
-mod LinesBack
+pub mod LinesBack
 mod RowsBack
 mod ReportsBack
 pub mod FlightsBack

@@ -196,7 +196,8 @@ fn is_printable_line(line: &[u8]) -> bool
     line.len() <= MAX_LINE_BYTES && is_printable_text(line)
 }
 
-fn is_printable_text(text: &[u8]) -> bool
+/// Whether each byte of a text is printable.
+pub fn is_printable_text(text: &[u8]) -> bool
     ensures { result ≡ list_all is_printable text.now }
 {
     text.iter().all(|&byte| is_printable_byte(byte))

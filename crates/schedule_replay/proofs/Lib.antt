@@ -1,0 +1,4 @@
+mod Codes
+mod Walk
+mod EventsBack
+mod ScheduleBack

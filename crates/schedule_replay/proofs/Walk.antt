@@ -1,0 +1,58 @@
+-- One line more of a schedule.
+use Rattle.std.proofs.Common.{ℕ, zero, suc, ◌≡◌, ◌<◌, ◌≤◌, ◌+◌, ◌∙◌, List, [], ◌∷◌, ◌++◌, Result, Ok, Err, length, arith, refl, sym, ap}
+use Rattle.std.specs.Prelude.{Some, slice_get}
+use Rattle.std.proofs.lemmas.Bool.{le-ltb}
+use Rattle.scram_types.specs.Specification.{Each, Parts}
+use Rattle.scram_types.proofs.Options.{same_some}
+use Rattle.bank_words.specs.Events.{event_code}
+use Rattle.bank_words.specs.declared.events.Event.{Event}
+use Rattle.trace_text.specs.Pieces.{pieces_of}
+use Rattle.trace_text.proofs.Splitting.{some_piece}
+use Rattle.schedule_replay.specs.declared.limits.TheConstants.{MAX_SCHEDULE_BYTES}
+use Rattle.schedule_replay.specs.declared.schedule_reading.ScheduleFault.{ScheduleFault}
+use Rattle.schedule_replay.specs.Reading.{codes_from, event_read, fault_at, go_on, schedule_of}
+
+-- a line that is not the last
+pub line_then : (spec : Parts) (k : ℕ) (so_far line : List ℕ) (lines : List (List ℕ)) → 0 < length lines →
+    codes_from spec k so_far (line ∷ lines) ≡ go_on k (event_read spec line) (λ (event : Event). codes_from spec (k + 1) (so_far ++ event_code event ∷ []) lines)
+line_then spec k so_far line [] h = absurd (omega arith)
+line_then spec k so_far line (next ∷ lines) h = refl
+
+pub of_length : (spec : Parts) (bytes : List ℕ) → length bytes ≤ MAX_SCHEDULE_BYTES → schedule_of spec bytes ≡ codes_from spec 1 [] (pieces_of 10 bytes)
+of_length spec bytes h = rw (le-ltb MAX_SCHEDULE_BYTES (length bytes) h) refl
+
+step : (spec : Parts) (k : ℕ) (so_far text rest behind : List ℕ) (read : Result (List ℕ) ScheduleFault) → pieces_of 10 rest ≡ text ∷ pieces_of 10 behind
+    → codes_from spec k so_far (pieces_of 10 rest) ≡ read
+    → go_on k (event_read spec text) (λ (event : Event). codes_from spec (k + 1) (so_far ++ event_code event ∷ []) (pieces_of 10 behind)) ≡ read
+step spec k so_far text rest behind read split here =
+    sym (line_then spec k so_far text (pieces_of 10 behind) (some_piece 10 behind)) ∙ ap (codes_from spec k so_far) (sym split) ∙ here
+
+-- the reading goes on behind a line that is read
+pub taken : (spec : Parts) (k : ℕ) (so_far text rest behind : List ℕ) (event : Event) (read : Result (List ℕ) ScheduleFault) → pieces_of 10 rest ≡ text ∷ pieces_of 10 behind
+    → event_read spec text ≡ Ok event → codes_from spec k so_far (pieces_of 10 rest) ≡ read
+    → codes_from spec (k + 1) (so_far ++ event_code event ∷ []) (pieces_of 10 behind) ≡ read
+taken spec k so_far text rest behind event read split told here =
+    ap (λ (r : Result Event ℕ). go_on k r (λ (e : Event). codes_from spec (k + 1) (so_far ++ event_code e ∷ []) (pieces_of 10 behind))) (sym told)
+    ∙ step spec k so_far text rest behind read split here
+
+-- a line that breaks a rule ends it
+pub refused : (spec : Parts) (k : ℕ) (so_far text rest behind bytes : List ℕ) (rule : ℕ) → pieces_of 10 rest ≡ text ∷ pieces_of 10 behind
+    → event_read spec text ≡ Err rule → length bytes ≤ MAX_SCHEDULE_BYTES → codes_from spec k so_far (pieces_of 10 rest) ≡ codes_from spec 1 [] (pieces_of 10 bytes)
+    → schedule_of spec bytes ≡ Err (fault_at k rule)
+refused spec k so_far text rest behind bytes rule split told short here =
+    of_length spec bytes short ∙ sym (step spec k so_far text rest behind _ split here)
+    ∙ ap (λ (r : Result Event ℕ). go_on k r (λ (e : Event). codes_from spec (k + 1) (so_far ++ event_code e ∷ []) (pieces_of 10 behind))) told
+
+-- each item of both lists keeps the fact
+pub each_append : {A : Type 0} (Fact : A → Type 0) (xs ys : List A) → Each Fact xs → Each Fact ys → Each Fact (xs ++ ys)
+each_append Fact [] ys one two i y there = two i y there
+each_append Fact (x ∷ xs) ys one two zero y there = one 0 y there
+each_append Fact (x ∷ xs) ys one two (suc i) y there = each_append Fact xs ys (λ j z at. one (suc j) z at) two i y there
+
+-- a list with one item more
+pub each_more : {A : Type 0} (Fact : A → Type 0) (xs : List A) (x : A) → Each Fact xs → Fact x → Each Fact (xs ++ x ∷ [])
+each_more Fact xs x each fact = each_append Fact xs (x ∷ []) each (only Fact x fact)
+  where
+    only : {A : Type 0} (Fact : A → Type 0) (x : A) → Fact x → Each Fact (x ∷ [])
+    only Fact x fact zero y there = let same : x ≡ y = same_some x y there in rw (← same) fact
+    only Fact x fact (suc i) y there = absurd (let e = there in cc)

@@ -1,0 +1,26 @@
+use Rattle.std.proofs.Common.{◌≡◌, arith, rules, sym, ◌∙◌, subst}
+use Rattle.scram_types.specs.Specification.{Each}
+use Rattle.bank_words.specs.Events.{event_code}
+use Rattle.std.specs.Prelude.{◌++◌, ◌∷◌, []}
+use Rattle.schedule_replay.specs.Events.{AreCodes, IsCode}
+use Rattle.schedule_replay.specs.Reading.{AnswersSchedule, codes_from, schedule_of}
+use Rattle.trace_text.specs.Pieces.{pieces_of}
+use Rattle.schedule_replay.proofs.Walk.{each_more, refused, taken}
+use Rattle.schedule_replay.proofs.schedule_reading.read_schedule.Goals as goal
+
+pub returns-in-Err-clause-read : goal.returns-in-Err-clause-read
+returns-in-Err-clause-read c =
+    rw c.fault_at-in-Err.ensures
+    (refused c.args.spec.now c.loop-text.line c.loop-text.list.items c.in-Some.text.now c.loop-text.rest.now c.in-Some.behind.now c.args.bytes.now c.in-Err.rule
+    c.in-Some.ensures.pieces (sym c.in-Err.ensures.event) (omega arith) c.loop-text.invariant.rest)
+
+pub loop-text-preserved : goal.loop-text-preserved
+loop-text-preserved c =
+    let items : c.push.new.self.items ≡ c.loop-text.list.items ++ event_code c.in-Ok.event ∷ [] = search rules in
+    record {
+      rest = rw items (taken c.args.spec.now c.loop-text.line c.loop-text.list.items c.in-Some.text.now c.loop-text.rest.now c.in-Some.behind.now c.in-Ok.event _
+          c.in-Some.ensures.pieces (sym c.in-Ok.ensures.event) c.loop-text.invariant.rest);
+      known = rw items (each_more (IsCode c.args.spec.now) c.loop-text.list.items (event_code c.in-Ok.event) c.loop-text.invariant.known
+          (record { event = c.in-Ok.event; of_code = (let b = c.event_code.ensures.back in let e = c.event_code.ensures.code in rw e at b); has = c.in-Ok.ensures.known }));
+      place = omega (arith, c.in-Some.ensures.shorter, c.loop-text.invariant.place);
+    }

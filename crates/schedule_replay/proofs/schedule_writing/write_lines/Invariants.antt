@@ -1,0 +1,6 @@
+use Rattle.std.proofs.Common.{◌≡◌, ◌++◌, drop}
+use Rattle.schedule_replay.specs.Events.{schedule_text}
+use Rattle.schedule_replay.proofs.schedule_writing.write_lines.Given as goal
+
+abbrev pub invariant-loop-code : goal.invariant-loop-code
+invariant-loop-code l = schedule_text l.spec l.events ≡ l.text.items ++ schedule_text l.spec (drop l.code-index l.events)

@@ -1,0 +1,56 @@
+-- Which events a specification has, and their text.
+use Rattle.std.specs.Prelude.{◌≡◌, ℕ, ◌<◌, List, [], ◌∷◌, ◌++◌, length, codes, decimal, Option, Some, None, ⊤}
+use Rattle.std.specs.Option.{option_map_or}
+use Rattle.scram_types.specs.Specification.{Each, Parts}
+use Rattle.scram_types.specs.Lookups.{proc_name}
+use Rattle.bank_words.specs.Events.{event_of}
+use Rattle.bank_words.specs.declared.events.Event.{Event}
+use Rattle.bank_words.specs.declared.events.Event.TheVariants.{Start, Look, Store, Flip, Done, Halt, KNote, KStore, Release}
+use Rattle.fault_script.specs.Times.{words as width_of}
+
+-- The specification has an event: its processors exist, and its number is that of a word.
+abbrev pub HasEvent : Parts → Event → Type 0
+HasEvent spec (Start p) = p.0 < length spec.procs
+HasEvent spec (Look p q) = (p.0 < length spec.procs) × (q.0 < length spec.procs)
+HasEvent spec (Store p i) = (p.0 < length spec.procs) × (i < width_of spec)
+HasEvent spec (Flip p) = p.0 < length spec.procs
+HasEvent spec (Done p) = p.0 < length spec.procs
+HasEvent spec (Halt p) = p.0 < length spec.procs
+HasEvent spec (KNote p) = p.0 < length spec.procs
+HasEvent spec (KStore i) = i < 20
+HasEvent spec Release = ⊤
+
+-- A number is the code of an event that the specification has.
+pub record IsCode (spec : Parts) (code : ℕ) : Type 0 where
+  pub event : Event
+  pub of_code : event_of code ≡ Some event
+  pub has : HasEvent spec event
+
+-- Each number of a list is the code of an event that the specification has.
+abbrev pub AreCodes : Parts → List ℕ → Type 0
+AreCodes spec list = Each (IsCode spec) list
+
+-- An event as a line of a schedule tells it.
+abbrev pub event_text : Parts → Event → List ℕ
+event_text spec (Start p) = codes "start " ++ proc_name spec p.0
+event_text spec (Look p q) = codes "look " ++ proc_name spec p.0 ++ codes " " ++ proc_name spec q.0
+event_text spec (Store p i) = codes "store " ++ proc_name spec p.0 ++ codes " " ++ decimal i
+event_text spec (Flip p) = codes "flip " ++ proc_name spec p.0
+event_text spec (Done p) = codes "done " ++ proc_name spec p.0
+event_text spec (Halt p) = codes "halt " ++ proc_name spec p.0
+event_text spec (KNote p) = codes "note " ++ proc_name spec p.0
+event_text spec (KStore i) = codes "kstore " ++ decimal i
+event_text spec Release = codes "release"
+
+-- The line of an event.
+abbrev pub event_line : Parts → Event → List ℕ
+event_line spec event = event_text spec event ++ codes "\n"
+
+-- The line of the event that has a code, and nothing where none has it.
+abbrev pub code_line : Parts → ℕ → List ℕ
+code_line spec code = option_map_or (event_line spec) (event_of code) []
+
+-- A schedule as text: a line for each event, in order.
+abbrev pub schedule_text : Parts → List ℕ → List ℕ
+schedule_text spec [] = []
+schedule_text spec (code ∷ list) = code_line spec code ++ schedule_text spec list

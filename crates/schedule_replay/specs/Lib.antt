@@ -1,0 +1,3 @@
+pub mod Verbs
+pub mod Events
+pub mod Reading

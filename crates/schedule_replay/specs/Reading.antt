@@ -1,0 +1,92 @@
+-- The schedule that bytes are, or the first line that breaks a rule, with the least rule that it breaks.
+use Rattle.std.specs.Prelude.{◌≡◌, ℕ, ◌+◌, ◌==◌, ◌&&◌, Bool, List, [], ◌∷◌, ◌++◌, length, nat_le, nat_lt, Option, Some, None, option_map, option_and_then, ⊤, Result, Ok, Err, Vec, if◌then◌else◌}
+use Rattle.std.specs.List.{list_all}
+use Rattle.scram_types.specs.Specification.{Parts}
+use Rattle.scram_types.specs.Lookups.{proc_named}
+use Rattle.scram_types.specs.declared.ids.ProcId.{ProcId}
+use Rattle.bank_words.specs.Events.{event_code}
+use Rattle.bank_words.specs.declared.events.Event.{Event}
+use Rattle.bank_words.specs.declared.events.Event.TheVariants as event
+use Rattle.fault_script.specs.Times.{words as width_of}
+use Rattle.trace_text.specs.Pieces.{is_filled, pieces_of, word_at, words_in, words_of}
+use Rattle.trace_text.specs.Rules.{unless}
+use Rattle.trace_text.specs.Spelling.{spelled_number}
+use Rattle.trace_text.specs.TraceReading.{is_printable}
+use Rattle.schedule_replay.specs.declared.limits.TheConstants.{MAX_EVENT_BYTES, MAX_SCHEDULE_BYTES}
+use Rattle.schedule_replay.specs.declared.rule.TheConstants.{BROKEN_LINE, NO_FORM, TOO_LONG, UNKNOWN_EVENT, UNKNOWN_WORD}
+use Rattle.schedule_replay.specs.declared.schedule_reading.ScheduleError.{ScheduleError}
+use Rattle.schedule_replay.specs.declared.schedule_reading.ScheduleError.TheVariants.{Fault, NoMemory}
+use Rattle.schedule_replay.specs.declared.schedule_reading.ScheduleFault.{ScheduleFault}
+use Rattle.schedule_replay.specs.declared.verbs.Verb.{Verb}
+use Rattle.schedule_replay.specs.declared.verbs.Verb.TheVariants.{Start, Look, Store, Flip, Done, Halt, Note, KernelStore, Release}
+use Rattle.schedule_replay.specs.Verbs.{verb_named, word_count}
+
+-- Rule 1 of a line that has its line feed: its bytes are printable, and they are not too many.
+abbrev pub is_legible : List ℕ → Bool
+is_legible line = nat_le (length line) MAX_EVENT_BYTES && list_all is_printable line
+
+-- The kind of event that the first word of a line names; rule 2 asks for one.
+abbrev pub verb_of : List ℕ → Option Verb
+verb_of line = verb_named (word_at (words_of line) 0)
+
+-- The words of a line that is to tell an event of a kind: rule 3 asks that none is empty and that they are so many.
+abbrev pub counted : Verb → List (List ℕ) → Option (List (List ℕ))
+counted verb words = if length words == word_count verb then Some words else None
+
+abbrev pub words_for : Verb → List ℕ → Option (List (List ℕ))
+words_for verb line = option_and_then (counted verb) (words_in line)
+
+-- The processor that the second word names.
+abbrev pub proc_in : Parts → List (List ℕ) → Option ProcId
+proc_in spec words = proc_named spec (word_at words 1)
+
+-- The event that the words of a line of a kind tell; rule 4 asks for one.
+abbrev pub event_told : Parts → Verb → List (List ℕ) → Option Event
+event_told spec Start words = option_map event.Start (proc_in spec words)
+event_told spec Look words =
+    option_and_then (λ (p : ProcId). option_map (λ (q : ProcId). event.Look p q) (proc_named spec (word_at words 2))) (proc_in spec words)
+event_told spec Store words =
+    option_and_then (λ (p : ProcId). option_map (λ (i : ℕ). event.Store p i) (spelled_number (width_of spec) (word_at words 2))) (proc_in spec words)
+event_told spec Flip words = option_map event.Flip (proc_in spec words)
+event_told spec Done words = option_map event.Done (proc_in spec words)
+event_told spec Halt words = option_map event.Halt (proc_in spec words)
+event_told spec Note words = option_map event.KNote (proc_in spec words)
+event_told spec KernelStore words = option_map event.KStore (spelled_number 20 (word_at words 1))
+event_told spec Release words = Some event.Release
+
+-- The event that a printable line tells.
+abbrev pub line_event : Parts → List ℕ → Result Event ℕ
+line_event spec line =
+    unless UNKNOWN_WORD (verb_of line) (λ (verb : Verb).
+    unless NO_FORM (words_for verb line) (λ (words : List (List ℕ)).
+    unless UNKNOWN_EVENT (event_told spec verb words) (λ (event : Event). Ok event)))
+
+-- The event that a line tells, or the least rule that the line breaks.
+abbrev pub event_read : Parts → List ℕ → Result Event ℕ
+event_read spec line = if is_legible line then line_event spec line else Err BROKEN_LINE
+
+-- A fault in a line of a number, counted from 1.
+abbrev pub fault_at : ℕ → ℕ → ScheduleFault
+fault_at line rule = record { line = line; rule = rule }
+
+-- The reading goes on behind a line that is read, and ends at line k where that one breaks a rule.
+abbrev pub go_on : ℕ → Result Event ℕ → (Event → Result (List ℕ) ScheduleFault) → Result (List ℕ) ScheduleFault
+go_on k (Ok event) next = next event
+go_on k (Err rule) next = Err (fault_at k rule)
+
+-- From line k on, behind lines with these codes: the lines, and what follows the last line feed, which has to be nothing.
+abbrev pub codes_from : Parts → ℕ → List ℕ → List (List ℕ) → Result (List ℕ) ScheduleFault
+codes_from spec k so_far [] = Ok so_far
+codes_from spec k so_far (last ∷ []) = if is_filled last then Err (fault_at k BROKEN_LINE) else Ok so_far
+codes_from spec k so_far (line ∷ next ∷ lines) =
+    go_on k (event_read spec line) (λ (event : Event). codes_from spec (k + 1) (so_far ++ event_code event ∷ []) (next ∷ lines))
+
+-- The codes of the events that the lines tell. A file that is too long breaks its rule at line 0.
+abbrev pub schedule_of : Parts → List ℕ → Result (List ℕ) ScheduleFault
+schedule_of spec bytes = if nat_lt MAX_SCHEDULE_BYTES (length bytes) then Err (fault_at 0 TOO_LONG) else codes_from spec 1 [] (pieces_of 10 bytes)
+
+-- An answer of the reader: it is the reading's, or memory was wanting.
+abbrev pub AnswersSchedule : {A : Type 0} → Result (List ℕ) ScheduleFault → Result (Vec ℕ A) ScheduleError → Type 0
+AnswersSchedule reading (Ok list) = reading ≡ Ok list.items
+AnswersSchedule reading (Err (Fault fault)) = reading ≡ Err fault
+AnswersSchedule reading (Err NoMemory) = ⊤

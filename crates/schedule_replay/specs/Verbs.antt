@@ -1,0 +1,29 @@
+-- The words that lines of a schedule begin with.
+use Rattle.std.specs.Prelude.{ℕ, List, Option, Some, None, bytes_eq, codes, if◌then◌else◌}
+use Rattle.schedule_replay.specs.declared.verbs.Verb.{Verb}
+use Rattle.schedule_replay.specs.declared.verbs.Verb.TheVariants.{Start, Look, Store, Flip, Done, Halt, Note, KernelStore, Release}
+
+-- The kind of event that a word names.
+abbrev pub verb_named : List ℕ → Option Verb
+verb_named word =
+    if bytes_eq word (codes "start") then Some Start
+    else (if bytes_eq word (codes "look") then Some Look
+    else (if bytes_eq word (codes "store") then Some Store
+    else (if bytes_eq word (codes "flip") then Some Flip
+    else (if bytes_eq word (codes "done") then Some Done
+    else (if bytes_eq word (codes "halt") then Some Halt
+    else (if bytes_eq word (codes "note") then Some Note
+    else (if bytes_eq word (codes "kstore") then Some KernelStore
+    else (if bytes_eq word (codes "release") then Some Release else None))))))))
+
+-- How many words a line of this kind has, the first one too.
+abbrev pub word_count : Verb → ℕ
+word_count Start = 2
+word_count Look = 3
+word_count Store = 3
+word_count Flip = 2
+word_count Done = 2
+word_count Halt = 2
+word_count Note = 2
+word_count KernelStore = 2
+word_count Release = 1

@@ -1,0 +1,13 @@
+//! A schedule's text is read as exactly the codes of its events, or refused at its first broken line with the least rule
+//! that it breaks; what is written of codes of the specification's events is read back where it is not too long.
+#![tactic(auto)]
+
+pub mod event_lines;
+pub mod limits;
+pub mod rule;
+pub mod schedule_reading;
+pub mod schedule_writing;
+pub mod verbs;
+
+pub use schedule_reading::{ScheduleError, ScheduleFault, read_schedule};
+pub use schedule_writing::write_schedule;

@@ -1,0 +1,65 @@
+//! A schedule read from its bytes.
+
+ghost use Rattle.std.specs.Prelude.{◌≡◌, IfOk};
+ghost use Rattle.schedule_replay.specs.Events.{AreCodes};
+ghost use Rattle.schedule_replay.specs.Reading.{AnswersSchedule, fault_at, schedule_of};
+ghost use Rattle.schedule_replay.specs.declared.schedule_reading.ScheduleError.TheVariants.{Fault};
+
+use crate::event_lines::read_event;
+use crate::limits::MAX_SCHEDULE_BYTES;
+use crate::rule;
+use bank_words::event_code;
+use scram_types::Spec;
+use std::alloc::Global;
+use trace_text::pieces::split_once;
+
+/// The first line, counted from 1, that breaks a rule, with the least rule, 1 to 5, that it breaks. A schedule that is
+/// too long breaks rule 5 at line 0.
+#[derive(Clone, Copy, Debug, PartialEq, Eq)]
+pub struct ScheduleFault {
+    pub line: u32,
+    pub rule: u8,
+}
+
+/// Why bytes were not read as a schedule.
+#[derive(Clone, Copy, Debug, PartialEq, Eq)]
+pub enum ScheduleError {
+    Fault(ScheduleFault),
+    NoMemory,
+}
+
+/// The codes of the events that the lines tell, in order, or the first line that breaks a rule with the least rule that
+/// it breaks. What is read has codes of events that the specification has.
+pub fn read_schedule(alloc: Global, bytes: &[u8], spec: &Spec) -> Result<Vec<u32>, ScheduleError>
+    ensures read { AnswersSchedule (schedule_of spec.now bytes.now) result }
+    ensures known { IfOk result (λ list. AreCodes spec.now list.items) }
+{
+    if bytes.len() > MAX_SCHEDULE_BYTES {
+        return Err(fault_at(0, rule::TOO_LONG));
+    }
+    let mut list = Vec::new(alloc);
+    let mut line: u32 = 1;
+    let mut rest = bytes;
+    while let Some((text, behind)) = split_once(rest, b'\n') {
+        match read_event(spec, text) {
+            Ok(event) => match list.push(event_code(event)) {
+                Ok(()) => {}
+                Err(_) => return Err(ScheduleError::NoMemory),
+            },
+            Err(rule) => return Err(fault_at(line, rule)),
+        }
+        rest = behind;
+        line += 1;
+    }
+    if rest.is_empty() {
+        Ok(list)
+    } else {
+        Err(fault_at(line, rule::BROKEN_LINE))
+    }
+}
+
+fn fault_at(line: u32, rule: u8) -> ScheduleError
+    ensures { result ≡ Fault (fault_at line rule) }
+{
+    ScheduleError::Fault(ScheduleFault { line, rule })
+}
