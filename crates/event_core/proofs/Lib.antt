@@ -12,3 +12,5 @@ pub mod ImagesFound
 pub mod Noted
 pub mod Ending
 pub mod Overs
+pub mod Snapshots
+pub mod Actors

@@ -21,7 +21,7 @@ use Rattle.fail_stop.specs.ScriptFlights.{flight_of, image_words_after, kernel_w
 use Rattle.event_core.specs.Openings.{opening_at, opening_list, proc_opening, start_word}
 
 -- a word of an image is that of its slot
-encoded_at : (xs : List ℤ) (i : ℕ) → word_in (map encode xs) i ≡ encode (slice_index_or xs i (pos 0))
+pub encoded_at : (xs : List ℤ) (i : ℕ) → word_in (map encode xs) i ≡ encode (slice_index_or xs i (pos 0))
 encoded_at [] i = refl
 encoded_at (x ∷ xs) zero = refl
 encoded_at (x ∷ xs) (suc i) = encoded_at xs i

@@ -53,7 +53,7 @@ module _ (spec : Parts) (script : ScriptParts) (places : KeptPlaces) (stored his
       let below = kept.kernel.below flying in
       can_move (flight_of spec script) places (stored_in stored) few narrow flies kept (omega (arith, below, k.fits.frames)) e next
 
-  less : (at2 : Places) → Moves (flight_of spec script) (machine_places places) e at2 → events_left (flight_of spec script) at2 < events_left (flight_of spec script) (machine_places places)
+  pub less : (at2 : Places) → Moves (flight_of spec script) (machine_places places) e at2 → events_left (flight_of spec script) at2 < events_left (flight_of spec script) (machine_places places)
   less at2 moves = fewer (flight_of spec script) (machine_places places) (stored_in stored) flies kept (λ p r is. restarts_within spec script k.fits p r is) flying at2 e next moves
 
   pub has_room : count < room
@@ -94,3 +94,9 @@ pub happens_by : (core : CoreParts) (spec : Parts) (script : ScriptParts) (place
     → core_of spec script places stored history ≡ core → Happens (flight_of spec script) (machine_places places) (stored_in stored) e (machine_places places2) (stored_in stored2)
     → Happens (flown core) (standing core) (standing_words core) e (machine_places places2) (stored_in stored2)
 happens_by core spec script places stored history e places2 stored2 is h = subst (λ (core : CoreParts). Happens (flown core) (standing core) (standing_words core) e (machine_places places2) (stored_in stored2)) is h
+
+pub fewer_by : (core : CoreParts) (spec : Parts) (script : ScriptParts) (places : KeptPlaces) (stored history : List ℕ) (places2 : KeptPlaces)
+    → core_of spec script places stored history ≡ core → events_left (flight_of spec script) (machine_places places2) < events_left (flight_of spec script) (machine_places places)
+    → events_left (flight_of spec script) (machine_places places2) < events_left (flown core) (standing core)
+fewer_by core spec script places stored history places2 is low =
+    subst (λ (core : CoreParts). events_left (flight_of spec script) (machine_places places2) < events_left (flown core) (standing core)) is low

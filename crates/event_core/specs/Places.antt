@@ -4,6 +4,7 @@ use Rattle.event_core.specs.declared.places.Place.{Place as KeptPlace}
 use Rattle.event_core.specs.declared.places.Place.TheVariants as kept
 use Rattle.event_core.specs.declared.places.Places.{Places as KeptPlaces}
 use Rattle.fail_stop.specs.Events.{At, Halted, Place, Places}
+use Rattle.fail_stop.specs.Flights.{Flight}
 
 -- The place of the machine.
 abbrev pub machine_place : KeptPlace → Place
@@ -26,3 +27,8 @@ kept_opening = record { procs = replicate 8 (kept.At 0 0); frame = 0; step = 0 }
 abbrev pub CanGoOn : KeptPlace → Type 0
 CanGoOn (kept.At f n) = (f + 1 < 2 ^ 32) × (n + 1 < 2 ^ 32)
 CanGoOn (kept.Halted h) = Unit {0}
+
+-- Whoever stands here has made all looks of its frame, and neither its flip nor its halt.
+abbrev pub HasLooked : Flight → Place → Type 0
+HasLooked m (At f n) = (m.procs < n) × (n < m.procs + m.width + 2)
+HasLooked m (Halted h) = ⊥

@@ -1,10 +1,10 @@
 -- What is read of the words.
-use Rattle.std.specs.Prelude.{ℕ, ℤ, pos, List, nat_lt, if◌then◌else◌}
+use Rattle.std.specs.Prelude.{ℕ, ℤ, pos, List, [], ◌∷◌, nat_lt, if◌then◌else◌}
 use Rattle.scram_types.specs.Specification.{Parts}
 use Rattle.bank_words.specs.Marks.{pick}
 use Rattle.bank_words.specs.Numbers.{decode}
 use Rattle.fault_script.specs.Times.{words}
-use Rattle.fail_stop.specs.Events.{BankWord, MarkWord}
+use Rattle.fail_stop.specs.Events.{BankWord, KernelWord, MarkWord}
 use Rattle.fail_stop.specs.Listed.{stored_in}
 
 -- The bank of processor p that a reader in frame f takes.
@@ -14,3 +14,11 @@ bank_taken stored f p = pick (stored_in stored (MarkWord p)) f
 -- Word i of the image of processor p that a reader in frame f finds; 0 past the words of the specification.
 abbrev pub word_read : Parts → List ℕ → ℕ → ℕ → ℕ → ℤ
 word_read spec stored f p i = if nat_lt i (words spec) then decode (stored_in stored (BankWord p (bank_taken stored f p) i)) else pos 0
+
+-- The kernel's twenty words.
+abbrev pub kernel_words_stored : List ℕ → List ℕ
+kernel_words_stored stored =
+    stored_in stored (KernelWord 0) ∷ stored_in stored (KernelWord 1) ∷ stored_in stored (KernelWord 2) ∷ stored_in stored (KernelWord 3) ∷ stored_in stored (KernelWord 4)
+    ∷ stored_in stored (KernelWord 5) ∷ stored_in stored (KernelWord 6) ∷ stored_in stored (KernelWord 7) ∷ stored_in stored (KernelWord 8) ∷ stored_in stored (KernelWord 9)
+    ∷ stored_in stored (KernelWord 10) ∷ stored_in stored (KernelWord 11) ∷ stored_in stored (KernelWord 12) ∷ stored_in stored (KernelWord 13) ∷ stored_in stored (KernelWord 14)
+    ∷ stored_in stored (KernelWord 15) ∷ stored_in stored (KernelWord 16) ∷ stored_in stored (KernelWord 17) ∷ stored_in stored (KernelWord 18) ∷ stored_in stored (KernelWord 19) ∷ []

@@ -5,8 +5,11 @@ use crate::moves::places_after;
 use crate::nexts::{kept_place, next_kernel, next_of};
 use crate::openings::opening_words;
 use crate::places::{Place, Places};
+use crate::reads::{images_read, kernel_read};
 use crate::stores::{frame_of, store};
 use bank_words::{Event, KernelImage, event_code, kernel_encode, words};
+use fail_stop::Snapshot;
+use fail_stop::law::{machine_goes_on, readers_find};
 use fault_script::Walk;
 use frame_model::Sys;
 use scram_kernel::Kernel;
@@ -45,9 +48,10 @@ impl<'a> std::marker::Model for Core<'a> {
 }
 
 impl<'a> Core<'a> {
-    ghost use Rattle.std.specs.Prelude.{◌≡◌, ◌≢◌, ◌<◌, ◌++◌, [], ◌∷◌, IfErr, IfOk, IsTrue, ◌↔◌, ◌≤◌, ◌+◌, length};
+    ghost use Rattle.std.specs.Prelude.{◌≡◌, ◌≢◌, ◌<◌, ◌++◌, [], ◌∷◌, IfErr, IfOk, IsTrue, ◌↔◌, ◌≤◌, ◌+◌, ◌⊎◌, length};
     ghost use Rattle.bank_words.specs.Events.{event_code};
     ghost use Rattle.fail_stop.specs.Events.{Happens, IsNext, frame_of, next_kernel, next_of, next_of_actor};
+    ghost use Rattle.fail_stop.specs.Drafts.{IsSnapshot};
     ghost use Rattle.fail_stop.specs.Ends.{IsOver};
     ghost use Rattle.fail_stop.specs.Flights.{word_in};
     ghost use Rattle.fail_stop.specs.ScriptFlights.{kernel_words};
@@ -55,6 +59,8 @@ impl<'a> Core<'a> {
     ghost use Rattle.scram_kernel.specs.Kernels.{rows_below};
     ghost use Rattle.event_core.specs.Cores.{frames_ended, flown, standing, standing_words};
     ghost use Rattle.fault_script.specs.Fits.{Fits};
+    ghost use Rattle.event_core.specs.Places.{HasLooked};
+    ghost use Rattle.event_core.specs.Rooms.{events_left};
     ghost use Rattle.event_core.specs.Stores.{IsEventWord};
 
     /// The core of a flight before the first event, with room for every event that can come. The only refusal is want of
@@ -128,6 +134,29 @@ impl<'a> Core<'a> {
         self.kernel.rows()
     }
 
+    /// What a processor that has made all looks of its frame, and neither its flip nor its halt, finds: what the kernel
+    /// says of that frame, and every processor's image before it. It takes no memory.
+    pub fn snapshot(&self, p: ProcId) -> Snapshot
+        requires known { p.0 < length self.now.spec.procs }
+        requires looked { HasLooked (flown self.now) ((standing self.now).proc p.0) }
+        ensures { IsSnapshot self.now.spec self.now.script (frame_of ((standing self.now).proc p.0)) result }
+    {
+        readers_find();
+        let frame = self.frame_of(p);
+        Snapshot {
+            kernel: kernel_read(&self.stored, &self.image),
+            images: images_read(self.spec, &self.stored, frame),
+        }
+    }
+
+    /// Where a flight is not over, some actor has a next event. It states this and does nothing.
+    pub fn goes_on(&self)
+        ensures { IsOver (flown self.now) (standing self.now) ⊎ ((event : Event) × IsNext (flown self.now) (standing self.now) (standing_words self.now) event) }
+    {
+        let _places = &self.places;
+        machine_goes_on();
+    }
+
     /// Word `i` of what the kernel says of the next frame, once it has noted every processor. It takes no memory.
     pub fn kernel_word(&self, i: u8) -> u64
         requires word { i < 20 }
@@ -184,6 +213,7 @@ impl<'a> Core<'a> {
         ensures script { self.new.script ≡ self.old.script }
         ensures next { IfOk result (λ _. IsNext (flown self.old) (standing self.old) (standing_words self.old) event) }
         ensures happens { IfOk result (λ _. Happens (flown self.old) (standing self.old) (standing_words self.old) event (standing self.new) (standing_words self.new)) }
+        ensures fewer { IfOk result (λ _. events_left (flown self.new) (standing self.new) < events_left (flown self.old) (standing self.old)) }
         ensures history { IfOk result (λ _. self.new.history ≡ self.old.history ++ event_code event ∷ []) }
         ensures illegal { IfErr result (λ e. (next_of_actor (flown self.old) (standing self.old) (standing_words self.old) event ≢ Some event) × (e.given ≡ event) × (e.next ≡ next_of_actor (flown self.old) (standing self.old) (standing_words self.old) event)) }
         ensures same { IfErr result (λ _. self.new ≡ self.old) }
@@ -209,9 +239,26 @@ impl<'a> Core<'a> {
     }
 }
 
+/// Two flights of one specification and one script that are over give equal rows and reports, whatever their schedules
+/// were. It takes no memory.
+pub fn finish_both<'a>(one: Core<'a>, other: Core<'a>) -> (Flown, Flown)
+    requires spec { other.spec ≡ one.spec }
+    requires script { other.script ≡ one.script }
+    requires one_over { IsOver (flown one) (standing one) }
+    requires other_over { IsOver (flown other) (standing other) }
+    ensures equal_rows { result.1.rows ≡ result.0.rows }
+    ensures equal_reports { result.1.reports ≡ result.0.reports }
+    ensures rows { result.0.rows ≡ rows_of one.entry.spec one.entry.script }
+    ensures reports { result.0.reports ≡ reports_of one.entry.spec one.entry.script }
+{
+    (one.finish(), other.finish())
+}
+
 ghost use Rattle.std.specs.Prelude.{◌≡◌, ◌==◌, ◌*◌, ◌+◌, ◌<◌, ◌^◌, Some, IsTrue, ◌↔◌, length};
 ghost use Rattle.scram_types.specs.Specification.{IsSpec};
-ghost use Rattle.event_core.specs.Cores.{ends_frame};
+ghost use Rattle.fail_stop.specs.Ends.{IsOver};
+ghost use Rattle.frame_model.specs.Flights.{reports_of, rows_of};
+ghost use Rattle.event_core.specs.Cores.{ends_frame, flown, standing};
 ghost use Rattle.event_core.specs.Places.{kept_opening};
 
 fn opening_places() -> Places

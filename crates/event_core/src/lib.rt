@@ -12,5 +12,5 @@ pub mod places;
 mod reads;
 mod stores;
 
-pub use cores::{Core, Illegal};
+pub use cores::{Core, Illegal, finish_both};
 pub use places::{Place, Places};

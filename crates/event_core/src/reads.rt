@@ -2,12 +2,14 @@
 
 ghost use Rattle.std.specs.Prelude.{◌≡◌, ℕ, ◌<◌, pos, length, slice_index_or};
 ghost use Rattle.scram_types.specs.Eights.{eight};
-ghost use Rattle.fail_stop.specs.Events.{MarkWord};
+ghost use Rattle.bank_words.specs.Images.{kernel_encode};
+ghost use Rattle.fail_stop.specs.Events.{KernelWord, MarkWord};
+ghost use Rattle.fail_stop.specs.Flights.{word_in};
 ghost use Rattle.fail_stop.specs.Listed.{places_of_words, stored_in};
 ghost use Rattle.frame_model.specs.Flights.{image_in};
-ghost use Rattle.event_core.specs.Reads.{bank_taken, word_read};
+ghost use Rattle.event_core.specs.Reads.{bank_taken, kernel_words_stored, word_read};
 
-use bank_words::{decode, pick};
+use bank_words::{KernelImage, decode, kernel_decode, kernel_encode, pick};
 use scram_types::{Image, Spec};
 
 /// The marks of the processors.
@@ -66,5 +68,26 @@ pub(crate) fn images_read(spec: &Spec, stored: &[u64], frame: u32) -> [Image; 8]
         image_read(spec, stored, frame, 5),
         image_read(spec, stored, frame, 6),
         image_read(spec, stored, frame, 7),
+    ]
+}
+
+/// What the kernel says of a frame, read back from its words, which are those of this image.
+pub(crate) fn kernel_read(stored: &[u64], image: &KernelImage) -> KernelImage
+    requires stored { length stored.now ≡ places_of_words }
+    requires held { (i : ℕ) → i < 20 → stored_in stored.now (KernelWord i) ≡ word_in (kernel_encode image.now) i }
+    ensures { result ≡ image.now }
+{
+    let _said = kernel_encode(image);
+    kernel_decode(&kernel_words(stored))
+}
+
+fn kernel_words(stored: &[u64]) -> [u64; 20]
+    requires { length stored.now ≡ places_of_words }
+    ensures { result ≡ kernel_words_stored stored.now }
+{
+    [
+        stored[8], stored[9], stored[10], stored[11], stored[12], stored[13], stored[14],
+        stored[15], stored[16], stored[17], stored[18], stored[19], stored[20], stored[21],
+        stored[22], stored[23], stored[24], stored[25], stored[26], stored[27],
     ]
 }

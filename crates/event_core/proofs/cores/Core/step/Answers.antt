@@ -8,7 +8,7 @@ use Rattle.scram_kernel.specs.Kernels.{kernel_after}
 use Rattle.event_core.specs.Cores.{MachineKeeps, ends_frame}
 use Rattle.event_core.specs.Places.{machine_places}
 use Rattle.event_core.proofs.Ending.{Ends, core_on, core_still, ends, goes_on}
-use Rattle.event_core.proofs.Steps.{happens, happens_by, has_room, kept_of, low, moves_on, step_keeps}
+use Rattle.event_core.proofs.Steps.{fewer_by, happens, happens_by, has_room, kept_of, less, low, moves_on, step_keeps}
 use Rattle.event_core.proofs.cores.Core.step.Goals as goal
 
 pub places_after-self-inside-requires-clause-room : goal.places_after-self-inside-requires-clause-room
@@ -104,3 +104,15 @@ returns-else-ends_frame-clause-happens c =
     happens_by c.args.self.now c.self.inside.spec.now c.self.inside.script.now c.self.inside.places c.self.inside.stored.items c.self.inside.history.items c.args.event
     c.places_after-self-inside.result c.store.new.stored.items c.self.view_is
     (happens _ _ _ _ _ _ _ c.self.invariant.machine c.args.event next c.places_after-self-inside.result c.store.new.stored.items (c.places_after-self-inside.ensures c.self.inside.spec.now) (search rules))
+
+pub returns-then-ends_frame-clause-fewer : goal.returns-then-ends_frame-clause-fewer
+returns-then-ends_frame-clause-fewer c =
+    let next : IsNext (flight_of c.self.inside.spec.now c.self.inside.script.now) (machine_places c.self.inside.places) (stored_in c.self.inside.stored.items) c.args.event = search rules in
+    fewer_by c.args.self.now c.self.inside.spec.now c.self.inside.script.now c.self.inside.places c.self.inside.stored.items c.self.inside.history.items c.places_after-self-inside.result c.self.view_is
+    (less _ _ _ _ _ _ _ c.self.invariant.machine c.args.event next (machine_places c.places_after-self-inside.result) (c.places_after-self-inside.ensures c.self.inside.spec.now))
+
+pub returns-else-ends_frame-clause-fewer : goal.returns-else-ends_frame-clause-fewer
+returns-else-ends_frame-clause-fewer c =
+    let next : IsNext (flight_of c.self.inside.spec.now c.self.inside.script.now) (machine_places c.self.inside.places) (stored_in c.self.inside.stored.items) c.args.event = search rules in
+    fewer_by c.args.self.now c.self.inside.spec.now c.self.inside.script.now c.self.inside.places c.self.inside.stored.items c.self.inside.history.items c.places_after-self-inside.result c.self.view_is
+    (less _ _ _ _ _ _ _ c.self.invariant.machine c.args.event next (machine_places c.places_after-self-inside.result) (c.places_after-self-inside.ensures c.self.inside.spec.now))
