@@ -2,3 +2,5 @@ mod Codes
 mod Walk
 mod EventsBack
 mod ScheduleBack
+mod TurnsLead
+mod TurnsWhole

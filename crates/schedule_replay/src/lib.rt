@@ -3,6 +3,7 @@
 #![tactic(auto)]
 
 pub mod event_lines;
+pub mod laws;
 pub mod limits;
 pub mod rule;
 pub mod schedule_reading;
