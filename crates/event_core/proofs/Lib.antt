@@ -3,10 +3,8 @@ pub mod Moving
 pub mod Fewer
 pub mod Bounds
 pub mod Replays
-pub mod Opening
 pub mod Steps
 pub mod Opens
-pub mod Ranges
 pub mod Reading
 pub mod ImagesFound
 pub mod Noted

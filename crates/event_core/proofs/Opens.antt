@@ -20,10 +20,10 @@ use Rattle.fail_stop.specs.Schedules.{opening as opening_of}
 use Rattle.event_core.specs.declared.places.Place.{Place as KeptPlace}
 use Rattle.event_core.specs.declared.places.Places.{Places as KeptPlaces}
 use Rattle.event_core.specs.Cores.{CoreKeeps, MachineKeeps, frames_ended}
-use Rattle.event_core.specs.Openings.{opening_list}
+use Rattle.fail_stop.specs.Openings.{opening_list}
 use Rattle.event_core.specs.Places.{kept_opening, machine_place, machine_places}
 use Rattle.event_core.specs.Rooms.{events_a_frame, events_left, left_below}
-use Rattle.event_core.proofs.Opening.{opening_listed, opening_long}
+use Rattle.fail_stop.proofs.OpeningLists.{opening_listed, opening_long}
 use Rattle.event_core.proofs.Replays.{places_same}
 
 replicated : (n q : ℕ) (x : KeptPlace) → slice_index_or (replicate n x) q x ≡ x

@@ -3,13 +3,13 @@
 use crate::frames::end_frame;
 use crate::moves::places_after;
 use crate::nexts::{kept_place, next_kernel, next_of};
-use crate::openings::opening_words;
 use crate::places::{Place, Places};
 use crate::reads::{images_read, kernel_read};
 use crate::stores::{frame_of, store};
 use bank_words::{Event, KernelImage, event_code, kernel_encode, words};
 use fail_stop::Snapshot;
 use fail_stop::law::{machine_goes_on, readers_find};
+use fail_stop::openings::opening_words;
 use fault_script::Walk;
 use frame_model::Sys;
 use scram_kernel::Kernel;

@@ -7,7 +7,6 @@ pub mod cores;
 mod frames;
 mod moves;
 mod nexts;
-mod openings;
 pub mod places;
 mod reads;
 mod stores;

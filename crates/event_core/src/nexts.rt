@@ -7,13 +7,13 @@ ghost use Rattle.scram_types.specs.Specification.{Parts};
 ghost use Rattle.bank_words.specs.declared.events.Event.TheVariants.{KNote};
 ghost use Rattle.scram_types.specs.declared.scripts.HaltAt.{HaltAt};
 ghost use Rattle.fail_stop.specs.Events.{EndWord, halts_at, may_note, next_from, next_halted, next_kernel, next_of, plan, plan_step};
-ghost use Rattle.fail_stop.specs.Flights.{back_by};
 ghost use Rattle.fail_stop.specs.Listed.{places_of_words, stored_in};
 ghost use Rattle.fail_stop.specs.ScriptFlights.{flight_of};
 ghost use Rattle.event_core.specs.Places.{kept_place, machine_place, machine_places};
 
 use crate::places::{Place, Places};
 use bank_words::{Event, words};
+use fail_stop::notes;
 use fault_script::{halt_in, restart_of};
 use scram_types::{HaltAt, ProcId, Script, Spec};
 
@@ -167,15 +167,5 @@ fn end_in(stored: &[u64], p: ProcId) -> u64
 fn may_note(script: &Script, p: ProcId, frame: u32, end: u64) -> bool
     ensures { (spec : Parts) → result ≡ may_note (flight_of spec script.now) p.0 frame end }
 {
-    end == 2 * (u64::from(frame) + 1)
-        || end % 2 == 1 && !back_by(restart_of(script, p), end / 2, frame)
-}
-
-fn back_by(restart: Option<u32>, halted: u64, frame: u32) -> bool
-    ensures { result ≡ back_by restart halted frame }
-{
-    match restart {
-        Some(restart) => halted < u64::from(restart) && restart <= frame,
-        None => false,
-    }
+    notes::may_note(restart_of(script, p), frame, end)
 }

@@ -6,10 +6,14 @@ pub mod FrameFacts
 pub mod FrameSteps
 pub mod HaltSteps
 pub mod Keeps
+pub mod ImageRanges
+pub mod ImagesFound
 pub mod Joining
+pub mod KernelBack
 pub mod KernelEvents
 pub mod ListLaw
 pub mod Moves
+pub mod OpeningLists
 pub mod Plans
 pub mod ProcessorEvents
 pub mod Progress

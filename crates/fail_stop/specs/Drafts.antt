@@ -1,5 +1,5 @@
 -- What a processor makes of what it sees in a frame.
-use Rattle.std.specs.Prelude.{◌≡◌, ℕ, ◌<◌, ℤ, false, List, [], length, slice_index_or, Option, Some, None, if◌then◌else◌}
+use Rattle.std.specs.Prelude.{◌≡◌, ℕ, ◌<◌, ℤ, false, List, length, slice_index_or, Option, Some, None, if◌then◌else◌}
 use Rattle.scram_types.specs.declared.ids.ProcId.{ProcId}
 use Rattle.scram_types.specs.Eights.{eight}
 use Rattle.scram_types.specs.Lookups.{kind_of_app}

@@ -3,11 +3,12 @@ use Rattle.std.specs.Prelude.{◌≡◌, ◌⊎◌, ℕ, suc, ◌<◌, List, len
 use Rattle.scram_types.specs.Scripts.{ScriptParts}
 use Rattle.scram_types.specs.Specification.{IsSpec, Parts}
 use Rattle.bank_words.specs.declared.events.Event.{Event}
+use Rattle.bank_words.specs.Images.{kernel_decode}
 use Rattle.bank_words.specs.Marks.{pick}
 use Rattle.fault_script.specs.Fits.{Fits}
 use Rattle.fault_script.specs.Times.{commits, words as width_of}
 use Rattle.frame_model.specs.Flights.{draft}
-use Rattle.frame_model.specs.Storage.{image_bank_after, mark_after}
+use Rattle.frame_model.specs.Storage.{image_bank_after, kernel_image, mark_after}
 use Rattle.fail_stop.specs.Consistency.{IsConsistent, Reads}
 use Rattle.fail_stop.specs.declared.snapshots.Snapshot.{Snapshot}
 use Rattle.fail_stop.specs.Drafts.{IsSnapshot, draft_made}
@@ -97,6 +98,11 @@ MachineGoesOn = (spec : Parts) (script : ScriptParts) → Fits spec script → (
 abbrev pub BanksHoldTheLastStores : Type 0
 BanksHoldTheLastStores = (spec : Parts) (script : ScriptParts) (p f b i : ℕ)
     → IsStoredLast (flight_of spec script) p f b i (bank_before (flight_of spec script) p f b i)
+
+-- What the kernel says of a frame comes back from the words of it.
+abbrev pub KernelImagesComeBack : Type 0
+KernelImagesComeBack = (spec : Parts) (script : ScriptParts) (f : ℕ) → IsSpec spec → Fits spec script → f < 4294967296
+    → kernel_decode (kernel_words spec script f) ≡ kernel_image spec script f
 
 -- What a processor makes of the snapshot of frame f is what it drafts in frame f of the one-thread trace.
 abbrev pub DraftsAreOfTraces : Type 0

@@ -6,5 +6,6 @@ pub mod Flights
 pub mod Kept
 pub mod Laws
 pub mod Listed
+pub mod Openings
 pub mod Schedules
 pub mod ScriptFlights

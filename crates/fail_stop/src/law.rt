@@ -1,7 +1,7 @@
 //! The law of events: what holds of places and words in each state of each schedule of a script that fits its
 //! specification, whoever halts and restarts. Each function states a part of it by its contract and does nothing.
 
-ghost use Rattle.fail_stop.specs.Laws.{BanksHoldTheLastStores, DraftsAreOfTraces, EventsKeep, EventsKeepLists, FlightsAreOfTraces, KeptIsConsistent, MachineGoesOn, NotesFix, OpeningKeeps, ReadersFind, SchedulesKeep};
+ghost use Rattle.fail_stop.specs.Laws.{BanksHoldTheLastStores, DraftsAreOfTraces, EventsKeep, EventsKeepLists, FlightsAreOfTraces, KernelImagesComeBack, KeptIsConsistent, MachineGoesOn, NotesFix, OpeningKeeps, ReadersFind, SchedulesKeep};
 
 /// The flight of a script commits the frames and has the images of the one-thread trace.
 pub fn flights_are_of_traces()
@@ -52,6 +52,11 @@ pub fn machine_goes_on()
 /// What a bank holds as a frame begins is what its processor stored there last, or the opening word.
 pub fn banks_hold_the_last_stores()
     ensures { BanksHoldTheLastStores }
+{}
+
+/// What the kernel says of a frame comes back from the words of it.
+pub fn kernel_images_come_back()
+    ensures { KernelImagesComeBack }
 {}
 
 /// What a processor makes of the snapshot of a frame is its draft in the one-thread trace.

@@ -5,6 +5,8 @@
 
 mod drafts;
 pub mod law;
+pub mod notes;
+pub mod openings;
 pub mod snapshots;
 pub mod units;
 

@@ -18,7 +18,7 @@ use Rattle.fail_stop.specs.Flights.{word_in}
 use Rattle.fail_stop.specs.Kept.{opening_words}
 use Rattle.fail_stop.specs.Listed.{index_of, places_of_words, stored_in}
 use Rattle.fail_stop.specs.ScriptFlights.{flight_of, image_words_after, kernel_words}
-use Rattle.event_core.specs.Openings.{opening_at, opening_list, proc_opening, start_word}
+use Rattle.fail_stop.specs.Openings.{opening_at, opening_list, proc_opening, start_word}
 
 -- a word of an image is that of its slot
 pub encoded_at : (xs : List ℤ) (i : ℕ) → word_in (map encode xs) i ≡ encode (slice_index_or xs i (pos 0))

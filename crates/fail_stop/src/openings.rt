@@ -1,22 +1,42 @@
 //! The words at the opening.
 
 ghost use Rattle.std.specs.Prelude.{◌≡◌, ◌<◌, IfOk};
+ghost use Rattle.fault_script.specs.Fits.{Fits};
 ghost use Rattle.frame_model.specs.Flights.{is_proc};
 ghost use Rattle.frame_model.specs.States.{keeper_at};
-ghost use Rattle.event_core.specs.Openings.{opening_at, opening_list, proc_opening, start_word};
+ghost use Rattle.frame_model.specs.Storage.{kernel_image};
+ghost use Rattle.fail_stop.specs.Openings.{opening_at, opening_list, proc_opening, start_word};
 
-use bank_words::encode;
-use frame_model::Sys;
-use scram_types::{NoMemory, ProcId};
+use bank_words::{KernelImage, encode};
+use fault_script::Walk;
+use frame_model::{Sys, decide};
+use scram_types::{NoMemory, ProcId, Script, Spec};
 use std::alloc::Global;
 
 /// How many words there are, in one list.
-pub(crate) const WORDS: usize = 1_120;
+pub const WORDS: usize = 1_120;
+
+/// What the kernel says of the first frame. It takes no memory.
+pub fn first_image(spec: &Spec, script: &Script) -> KernelImage
+    requires { Fits spec.now script.now }
+    ensures { result ≡ kernel_image spec.now script.now 0 }
+{
+    let sys = Sys::start(spec);
+    let env = Walk::first(spec, script).env;
+    let keepers = sys.keepers;
+    KernelImage {
+        frame: 0,
+        mode: decide(spec, &sys, &env),
+        env,
+        keepers,
+        world: sys.world,
+    }
+}
 
 /// The words at the opening of a flight of so many frames: the kernel's are those of the first frame, bank 0 of each
 /// processor holds its start image, and the release is 1 where a frame is flown.
-#[tactic(auto, using(crate::proofs::Opening::list_whole))]
-pub(crate) fn opening_words(
+#[tactic(auto, using(crate::proofs::OpeningLists::list_whole))]
+pub fn opening_words(
     alloc: Global,
     frames: u32,
     first: &[u64; 20],
