@@ -1,0 +1,12 @@
+pub mod Allowing
+pub mod Closings
+pub mod Dealing
+pub mod Dealt
+pub mod Ending
+pub mod Filling
+pub mod Finding
+pub mod Laying
+pub mod Seating
+pub mod Starting
+pub mod Stepping
+pub mod Telling

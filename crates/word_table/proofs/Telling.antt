@@ -1,0 +1,78 @@
+-- What a step tells of a seat whose mission and actors are known.
+use Rattle.std.proofs.Common.{◌≡◌, ◌∙◌, ℕ, suc, ◌<◌, ◌≤◌, Bool, true, false, refl, ap, subst, arith, List, [], ◌∷◌, map}
+use Rattle.std.specs.Prelude.{Option, Some, IfSome, nat_lt}
+use Rattle.std.proofs.lemmas.Bool.Decides.{nat_tests}
+use Rattle.coverage_check.specs.Missions.{MissionParts}
+use Rattle.fail_stop.specs.Events.{At, Halted, Place, may_note}
+use Rattle.fail_stop.specs.Flights.{Flight}
+use Rattle.word_table.specs.declared.actors.Actor.{Actor}
+use Rattle.word_table.specs.declared.actors.Actor.TheVariants.{Kernel, Runs}
+use Rattle.word_table.specs.declared.actors.View.{View}
+use Rattle.word_table.specs.Actors.{actor_at, awaited, begun, frame_awaited, mission_flight, one_more, tried, with_actor, with_actors}
+use Rattle.word_table.specs.Plays.{GoesOrTries, Has, IsFound, Sat, Shows, can_note, each_actor, may_start}
+
+pub third : {A B C : Type 0} → A × B × C → C
+third t = t.2
+
+pub second : {A B : Type 0} → A × B → B
+second t = t.1
+
+pub first : {A B : Type 0} → A × B → A
+first t = t.0
+
+pub shown_to : (mission : MissionParts) (v : View) (actors : List Actor) (i n : ℕ) → v.mission ≡ Some mission → v.actors ≡ actors → Shows v i n → IsFound (mission_flight mission) actors i n
+shown_to mission v actors i n planned alone shows =
+    subst (λ (l : List Actor). IsFound (mission_flight mission) l i n) alone
+    (subst (λ (o : Option MissionParts). IfSome o (λ mission. IsFound (mission_flight mission) v.actors i n)) planned shows)
+
+by_true : (b : Bool) (go : Actor → Actor) (v : View) (after : Sat) → b ≡ true → GoesOrTries b go v after → Has after (each_actor go v)
+by_true true go v after is told = told
+by_true false go v after is told = cc
+
+by_false : (b : Bool) (go : Actor → Actor) (v : View) (after : Sat) → b ≡ false → GoesOrTries b go v after → Has after (tried v)
+by_false true go v after is told = cc
+by_false false go v after is told = told
+
+awaited_at : (m : Flight) (p : ℕ) (x : Place) → awaited m (actor_at p x) ≡ frame_awaited m p x
+awaited_at m p (At f n) = refl
+awaited_at m p (Halted h) = refl
+
+begun_at : (m : Flight) (p : ℕ) (x : Place) → begun m (actor_at p x) ≡ Runs p (frame_awaited m p x) 1
+begun_at m p (At f n) = refl
+begun_at m p (Halted h) = refl
+
+module _ (mission : MissionParts) (v : View) (after : Sat) (n p : ℕ) (x : Place) (planned : v.mission ≡ Some mission) (alone : v.actors ≡ actor_at p x ∷ [])
+    (told : IfSome v.mission (λ mission. GoesOrTries (may_start (mission_flight mission) v.actors n) (begun (mission_flight mission)) v after)) where
+  abbrev m : Flight
+  m = mission_flight mission
+
+  start_told : GoesOrTries (nat_lt (frame_awaited m p x) n) (begun m) v after
+  start_told =
+      let by_mission : GoesOrTries (may_start m v.actors n) (begun m) v after =
+      subst (λ (o : Option MissionParts). IfSome o (λ mission. GoesOrTries (may_start (mission_flight mission) v.actors n) (begun (mission_flight mission)) v after)) planned told in
+      let by_actors : GoesOrTries (nat_lt (awaited m (actor_at p x)) n) (begun m) v after = subst (λ (l : List Actor). GoesOrTries (may_start m l n) (begun m) v after) alone by_mission in
+      subst (λ f. GoesOrTries (nat_lt f n) (begun m) v after) (awaited_at m p x) by_actors
+
+  pub start_made : frame_awaited m p x < n → after ≡ (with_actor v (Runs p (frame_awaited m p x) 1), [])
+  start_made low =
+      let ready : nat_lt (frame_awaited m p x) n ≡ true = grind (arith, nat_tests, low) in
+      let has = by_true (nat_lt (frame_awaited m p x) n) (begun m) v after ready start_told in
+      let view : after.0 ≡ with_actor v (Runs p (frame_awaited m p x) 1) = has.0 ∙ ap (λ (l : List Actor). with_actors v (map (begun m) l)) alone ∙ ap (with_actor v) (begun_at m p x) in
+      both after view has.1
+    where
+      both : (s : Sat) {w : View} → s.0 ≡ w → s.1 ≡ [] → s ≡ (w, [])
+      both (a, b) is empty = rw (is, empty) refl
+
+  pub start_tried : n ≤ frame_awaited m p x → Has after (tried v)
+  start_tried low =
+      let late : nat_lt (frame_awaited m p x) n ≡ false = grind (arith, nat_tests, low) in
+      by_false (nat_lt (frame_awaited m p x) n) (begun m) v after late start_told
+
+pub note_made : (mission : MissionParts) (v : View) (after : Sat) (n k p : ℕ) → v.mission ≡ Some mission → v.actors ≡ Kernel k p ∷ [] → may_note (mission_flight mission) p k n ≡ true
+    → IfSome v.mission (λ mission. GoesOrTries (can_note (mission_flight mission) v.actors n) one_more v after) → after.0.actors ≡ Kernel k (suc p) ∷ []
+note_made mission v after n k p planned alone may told =
+    let by_mission : GoesOrTries (can_note (mission_flight mission) v.actors n) one_more v after =
+    subst (λ (o : Option MissionParts). IfSome o (λ mission. GoesOrTries (can_note (mission_flight mission) v.actors n) one_more v after)) planned told in
+    let by_actors : GoesOrTries (may_note (mission_flight mission) p k n) one_more v after = subst (λ (l : List Actor). GoesOrTries (can_note (mission_flight mission) l n) one_more v after) alone by_mission in
+    let has = by_true (may_note (mission_flight mission) p k n) one_more v after may by_actors in
+    ap (λ (w : View). w.actors) has.0 ∙ rw alone refl

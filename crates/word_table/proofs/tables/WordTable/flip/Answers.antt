@@ -1,0 +1,31 @@
+use Rattle.std.proofs.Common.{◌≡◌, ◌∙◌, rules, arith, sym, ap}
+use Rattle.scram_types.specs.Lookups.{proc_id}
+use Rattle.bank_words.specs.declared.events.Event.TheVariants.{Flip}
+use Rattle.fail_stop.specs.Flights.{side}
+use Rattle.fail_stop.proofs.ScriptBorder.{sides_same}
+use Rattle.word_table.specs.Plays.{Sat}
+use Rattle.word_table.specs.Tables.{flight_in, flown, proc_of}
+use Rattle.word_table.proofs.Allowing.{flip_allows}
+use Rattle.word_table.proofs.Seating.{sound}
+use Rattle.word_table.proofs.Stepping.{flip_low, runs_there, step_is}
+use Rattle.word_table.proofs.tables.WordTable.flip.Goals as goal
+
+pub store-requires : goal.store-requires
+store-requires c =
+    let words = c.args.self.now in
+    let seat = c.args.seat.now in
+    let m = flight_in words in
+    let p = proc_of seat in
+    let event = Flip (proc_id p) in
+    let step = step_is m p seat.frame seat.step seat.halted event c.requires.next in
+    let same = c.bank_picked-bank.ensures.same in
+    let low = flip_low m p seat.frame _ step.next in
+    let bank : c.bank_picked-bank.result ≡ side m p seat.frame = c.bank_picked-bank.ensures.bank ∙ sym (sides_same (flown words).spec (flown words).script c.requires.seat.holds.fits p seat.frame) in
+    let few = c.requires.seat.holds.facts.procs_count.few in
+    let own = c.from-2.ensures in (
+      c.bank_picked-bank.ensures.table ∙ c.requires.seat.table,
+      omega (arith, c.requires.seat.proc, words.keeps.places, few, own),
+      flip_allows (flown words) words.table.shared.table_id.slots c.bank_picked-bank.new.seat.id c.bank_picked-bank.new.seat.me (sound (flown words) c.requires.seat.holds.facts c.requires.seat.holds.fits) (ap (λ (me : Sat). me.1) same ∙ seat.empty)
+          p seat.frame step.before c.requires.seat.proc (ap (λ (me : Sat). me.0.actors) same ∙ runs_there m p seat.frame seat.step seat.halted event step seat.inner.me.0.actors seat.alone)
+          _ _ step.next (omega (arith, low)) (omega (arith, own)) (search rules),
+    )

@@ -1,0 +1,114 @@
+-- Actors, and where they stand.
+use Rattle.std.specs.Prelude.{◌≡◌, ◌≢◌, ◌<◌, ◌≤◌, ℕ, zero, suc, Bool, true, false, List, [], ◌∷◌, Option, Some, None}
+use Rattle.coverage_check.specs.Missions.{MissionParts}
+use Rattle.bank_words.specs.declared.events.Event.{Event}
+use Rattle.fail_stop.specs.Events.{At, Halted, Place, Places, plan}
+use Rattle.fail_stop.specs.Flights.{Flight}
+use Rattle.fail_stop.specs.ScriptFlights.{flight_of}
+use Rattle.word_table.specs.declared.actors.Actor.{Actor}
+use Rattle.word_table.specs.declared.actors.Actor.TheVariants.{Runs, Stopped, Kernel}
+use Rattle.word_table.specs.declared.actors.View.{View}
+
+-- The flight of a mission.
+abbrev pub mission_flight : MissionParts → Flight
+mission_flight mission = flight_of mission.spec mission.script
+
+-- The number of a processor, or none for the kernel.
+abbrev pub who : Actor → Option ℕ
+who (Runs p f n) = Some p
+who (Stopped p h) = Some p
+who (Kernel k j) = None
+
+-- An actor stands where it says.
+abbrev pub Stands : Places → Actor → Type 0
+Stands at (Runs p f n) = at.proc p ≡ At f n
+Stands at (Stopped p h) = at.proc p ≡ Halted h
+Stands at (Kernel k j) = (at.frame ≡ k) × (at.step ≡ j)
+
+-- Processor p at a place.
+abbrev pub actor_at : ℕ → Place → Actor
+actor_at p (At f n) = Runs p f n
+actor_at p (Halted h) = Stopped p h
+
+-- A place by its parts.
+abbrev pub place_at : ℕ → ℕ → Bool → Place
+place_at frame step true = Halted frame
+place_at frame step false = At frame step
+
+-- The next step of processor p where it waits for no release; none at the begin of a frame, and where it has halted.
+abbrev pub step_at : Flight → ℕ → Place → Option Event
+step_at m p (At f zero) = None
+step_at m p (At f (suc n)) = plan m p f (suc n)
+step_at m p (Halted h) = None
+
+-- The steps made in the frame of a place; none where the processor has halted.
+abbrev pub steps_of : Place → ℕ
+steps_of (At f n) = n
+steps_of (Halted h) = 0
+
+-- The processor has halted.
+abbrev pub is_halted : Place → Bool
+is_halted (At f n) = false
+is_halted (Halted h) = true
+
+-- A place is in a flight: a step is made only in a frame that is flown.
+abbrev pub IsInFlight : Flight → Place → Type 0
+IsInFlight m (At f n) = (f ≤ m.frames) × (0 < n → f < m.frames)
+IsInFlight m (Halted h) = h < m.frames
+
+-- The frame of a restart that is still to come after frame h; h itself where none is.
+abbrev pub restart_or : ℕ → Option ℕ → ℕ
+restart_or h None = h
+restart_or h (Some r) = r
+
+-- The frame for whose release processor p waits at a place: where it has halted, that of its restart.
+abbrev pub frame_awaited : Flight → ℕ → Place → ℕ
+frame_awaited m p (At f n) = f
+frame_awaited m p (Halted h) = restart_or h (m.restart p)
+
+-- Processor p waits for a release: it has made no step of a frame that is flown, or has halted and restarts later.
+abbrev pub Waits : Flight → ℕ → Place → Type 0
+Waits m p (At f n) = (n ≡ 0) × (f < m.frames)
+Waits m p (Halted h) = h < restart_or h (m.restart p)
+
+-- The frame for which an actor waits.
+abbrev pub awaited : Flight → Actor → ℕ
+awaited m (Runs p f n) = frame_awaited m p (At f n)
+awaited m (Stopped p h) = frame_awaited m p (Halted h)
+awaited m (Kernel k j) = k
+
+-- An actor after its start.
+abbrev pub begun : Flight → Actor → Actor
+begun m (Runs p f n) = Runs p f 1
+begun m (Stopped p h) = Runs p (restart_or h (m.restart p)) 1
+begun m (Kernel k j) = Kernel k j
+
+-- An actor one step on.
+abbrev pub one_more : Actor → Actor
+one_more (Runs p f n) = Runs p f (suc n)
+one_more (Stopped p h) = Stopped p h
+one_more (Kernel k j) = Kernel k (suc j)
+
+-- An actor at the begin of the next frame.
+abbrev pub next_frame : Actor → Actor
+next_frame (Runs p f n) = Runs p (suc f) 0
+next_frame (Stopped p h) = Stopped p h
+next_frame (Kernel k j) = Kernel (suc k) 0
+
+-- A processor that halts in its frame.
+abbrev pub halted : Actor → Actor
+halted (Runs p f n) = Stopped p f
+halted (Stopped p h) = Stopped p h
+halted (Kernel k j) = Kernel k j
+
+-- A view of one actor.
+abbrev pub with_actor : View → Actor → View
+with_actor v a = record { mission = v.mission; tries = v.tries; actors = a ∷ [] }
+
+-- A view of other actors.
+abbrev pub with_actors : View → List Actor → View
+with_actors v actors = record { mission = v.mission; tries = v.tries; actors = actors }
+
+-- A view after a load that found nothing ready.
+abbrev pub tried : View → View
+tried v = record { mission = v.mission; tries = suc v.tries; actors = v.actors }

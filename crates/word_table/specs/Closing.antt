@@ -1,0 +1,16 @@
+-- What the last words hold.
+use Rattle.std.specs.Prelude.{◌≡◌, ◌+◌, ◌*◌, ◌%◌, ◌<◌, ◌≤◌, ℕ, ℤ, pos, List, length, slice_index, slice_index_or}
+use Rattle.bank_words.specs.Numbers.{decode}
+use Rattle.fail_stop.specs.Events.{BankWord, MarkWord}
+use Rattle.fail_stop.specs.Listed.{index_of, stored_in}
+
+-- The first `width` words of an image stand from a place on, and past them it has zeros.
+pub record IsStoredImage (list : List ℕ) (width at : ℕ) (image : List ℤ) : Type 0 where
+  pub long : length image ≡ 64
+  pub words : (i : ℕ) → i < width → slice_index_or image i (pos 0) ≡ decode (slice_index list (at + i))
+  pub past : (i : ℕ) → width ≤ i → slice_index_or image i (pos 0) ≡ pos 0
+
+-- The mark of processor p, and the image in the bank that it names.
+pub record AreLast (list : List ℕ) (width p mark : ℕ) (image : List ℤ) : Type 0 where
+  pub mark_is : mark ≡ stored_in list (MarkWord p)
+  pub image_is : IsStoredImage list width (index_of (BankWord p (mark % 2) 0)) image

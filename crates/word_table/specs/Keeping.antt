@@ -1,0 +1,26 @@
+-- What a table keeps of the mission that it is made of.
+use Rattle.std.specs.Prelude.{◌≡◌, ◌≤◌, ℕ, List, length, Option}
+use Rattle.scram_types.specs.Eights.{eight}
+use Rattle.scram_types.specs.Specification.{IsSpec}
+use Rattle.atomic_table.specs.Seated.{TableId}
+use Rattle.coverage_check.specs.Missions.{MissionParts}
+use Rattle.fail_stop.specs.Listed.{places_of_words}
+use Rattle.fault_script.specs.Fits.{Fits}
+use Rattle.fault_script.specs.Times.{restart_of, words}
+
+-- The specification of a mission is one, and its script fits it.
+pub record IsFlown (mission : MissionParts) : Type 0 where
+  pub facts : IsSpec mission.spec
+  pub fits : Fits mission.spec mission.script
+
+-- The table has a place for each word, and the numbers are those of the mission.
+pub record TableKeeps (mission : MissionParts) (table : TableId) (frames procs width : ℕ) (restarts : List (Option ℕ)) : Type 0 where
+  pub places : table.words ≡ places_of_words
+  pub slots : table.slots ≡ 0
+  pub frames_are : frames ≡ mission.script.frames
+  pub procs_are : procs ≡ length mission.spec.procs
+  pub procs_few : procs ≤ 8
+  pub width_is : width ≡ words mission.spec
+  pub width_most : width ≤ 64
+  pub width_least : 8 ≤ width
+  pub restarts_are : restarts ≡ eight (restart_of mission.script)

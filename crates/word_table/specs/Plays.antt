@@ -1,0 +1,122 @@
+-- What a step tells, of the step, the seat before, the number found and the seat after.
+use Rattle.std.specs.Prelude.{◌≡◌, ℕ, Bool, false, List, [], ◌∷◌, ◌++◌, map, slice_index, Option, None, IfSome, nat_lt}
+use Rattle.std.specs.Bool.{MatchBool}
+use Rattle.atomic_table.specs.Table.{Me, Step}
+use Rattle.coverage_check.specs.Missions.{MissionParts}
+use Rattle.fail_stop.specs.Events.{Places, may_note}
+use Rattle.fail_stop.specs.Flights.{Flight}
+use Rattle.fail_stop.specs.Kept.{Kept}
+use Rattle.fail_stop.specs.Listed.{stored_in}
+use Rattle.word_table.specs.declared.actors.Actor.{Actor}
+use Rattle.word_table.specs.declared.actors.Actor.TheVariants.{Runs, Stopped, Kernel}
+use Rattle.word_table.specs.declared.actors.View.{View}
+use Rattle.word_table.specs.Actors.{Stands, awaited, begun, halted, mission_flight, next_frame, one_more, tried, with_actors}
+
+-- A seat as the table has it: its view, and the slots that it holds, which are none.
+abbrev pub Sat : Type 0
+Sat = Me (Unit {0}) View
+
+-- A step of the table.
+abbrev pub Stepped : Type 0
+Stepped = Step (Unit {0})
+
+-- A seat has this view and no slot.
+abbrev pub Has : Sat → View → Type 0
+Has me v = (me.0 ≡ v) × (me.1 ≡ [])
+
+-- Each of these actors stands where it says.
+abbrev pub AllStand : Places → List Actor → Type 0
+AllStand at [] = Unit {0}
+AllStand at (a ∷ rest) = Stands at a × AllStand at rest
+
+-- A number is the word at place i in a state that the law of events allows, in which these actors stand where they say.
+pub record IsFound (m : Flight) (actors : List Actor) (i n : ℕ) : Type 0 where
+  pub at : Places
+  pub list : List ℕ
+  pub kept : Kept m at (stored_in list)
+  pub value : n ≡ slice_index list i
+  pub stand : AllStand at actors
+
+-- What a load shows to a seat.
+abbrev pub Shows : View → ℕ → ℕ → Type 0
+Shows v i n = IfSome v.mission (λ mission. IsFound (mission_flight mission) v.actors i n)
+
+-- A view with each of its actors moved.
+abbrev pub each_actor : (Actor → Actor) → View → View
+each_actor go v = with_actors v (map go v.actors)
+
+-- Whether the first actor may start, by the release.
+abbrev pub may_start : Flight → List Actor → ℕ → Bool
+may_start m [] release = false
+may_start m (a ∷ rest) release = nat_lt (awaited m a) release
+
+-- Whether the first actor, which is the kernel, may note its next processor, by that one's end word.
+abbrev pub can_note : Flight → List Actor → ℕ → Bool
+can_note m [] end = false
+can_note m (Runs p f n ∷ rest) end = false
+can_note m (Stopped p h ∷ rest) end = false
+can_note m (Kernel k j ∷ rest) end = may_note m j k end
+
+-- The seat moves by `go`, or has tried once more.
+abbrev pub GoesOrTries : Bool → (Actor → Actor) → View → Sat → Type 0
+GoesOrTries ready go v after = MatchBool ready (Has after (each_actor go v)) (Has after (tried v))
+
+-- A load that is no event shows a word, and the seat stays.
+abbrev pub reads : Stepped → Sat → ℕ → Sat → Type 0
+reads s me n after = Has after me.0 × Shows me.0 s.word n
+
+-- A load with which a look is made shows a word too.
+abbrev pub looks : Stepped → Sat → ℕ → Sat → Type 0
+looks s me n after = Has after (each_actor one_more me.0) × Shows me.0 s.word n
+
+-- A load of the release makes the start, or is a try.
+abbrev pub starts : Stepped → Sat → ℕ → Sat → Type 0
+starts s me n after = IfSome me.0.mission (λ mission. GoesOrTries (may_start (mission_flight mission) me.0.actors n) (begun (mission_flight mission)) me.0 after)
+
+-- A load of an end word makes the note, or is a try; it shows that word.
+abbrev pub notes : Stepped → Sat → ℕ → Sat → Type 0
+notes s me n after = IfSome me.0.mission (λ mission. GoesOrTries (can_note (mission_flight mission) me.0.actors n) one_more me.0 after) × Shows me.0 s.word n
+
+-- A store into a bank, or of a mark.
+abbrev pub stores : Stepped → Sat → ℕ → Sat → Type 0
+stores s me n after = Has after (each_actor one_more me.0)
+
+-- A store of the end word of a frame that is done.
+abbrev pub ends : Stepped → Sat → ℕ → Sat → Type 0
+ends s me n after = Has after (each_actor next_frame me.0)
+
+-- A store of the end word of a frame in which the processor halts.
+abbrev pub halts : Stepped → Sat → ℕ → Sat → Type 0
+halts s me n after = Has after (each_actor halted me.0)
+
+-- A store of one of the kernel's words.
+abbrev pub publishes : Stepped → Sat → ℕ → Sat → Type 0
+publishes s me n after = Has after (each_actor one_more me.0)
+
+-- A store of the release.
+abbrev pub releases : Stepped → Sat → ℕ → Sat → Type 0
+releases s me n after = Has after (each_actor next_frame me.0)
+
+-- The first of some actors, and the others.
+abbrev pub first_of : List Actor → List Actor
+first_of [] = []
+first_of (a ∷ rest) = a ∷ []
+
+abbrev pub others_of : List Actor → List Actor
+others_of [] = []
+others_of (a ∷ rest) = rest
+
+-- A split leaves all but the first actor, which the new seat has.
+abbrev pub other_actors : View → View
+other_actors v = with_actors v (others_of v.actors)
+
+abbrev pub first_actor : View → View
+first_actor v = with_actors v (first_of v.actors)
+
+-- A join puts the other's actors behind the own ones.
+abbrev pub all_actors : View → View → View
+all_actors v w = with_actors v (v.actors ++ w.actors)
+
+-- What is left of the other view.
+abbrev pub spent : View
+spent = record { mission = None; tries = 0; actors = [] }

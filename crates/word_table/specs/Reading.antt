@@ -1,0 +1,26 @@
+-- Images and the kernel's words, as they are read word by word.
+use Rattle.std.specs.Prelude.{◌≡◌, ◌+◌, ◌<◌, ◌≤◌, ℕ, suc, ℤ, pos, List, [], ◌∷◌, length, slice_index, slice_index_or}
+use Rattle.bank_words.specs.Numbers.{decode}
+use Rattle.fail_stop.specs.Flights.{Flight}
+use Rattle.word_table.specs.declared.actors.Actor.{Actor}
+use Rattle.word_table.specs.declared.actors.Actor.TheVariants.{Runs}
+use Rattle.word_table.specs.Plays.{IsFound}
+
+-- The one actor is a processor that has begun frame f.
+pub record IsReader (m : Flight) (actors : List Actor) (f : ℕ) : Type 0 where
+  pub proc : ℕ
+  pub before : ℕ
+  pub low : proc < m.procs
+  pub alone : actors ≡ Runs proc f (suc before) ∷ []
+
+-- A number that an image has was found as a word.
+pub record IsRead (m : Flight) (actors : List Actor) (i : ℕ) (x : ℤ) : Type 0 where
+  pub word : ℕ
+  pub found : IsFound m actors i word
+  pub value : x ≡ decode word
+
+-- The words of an image from word `from` up to word `to` were found from place `at` on, and past them it has zeros.
+pub record AreRead (m : Flight) (actors : List Actor) (at from to : ℕ) (image : List ℤ) : Type 0 where
+  pub long : length image ≡ 64
+  pub read : (i : ℕ) → from ≤ i → i < to → IsRead m actors (at + i) (slice_index_or image i (pos 0))
+  pub past : (i : ℕ) → to ≤ i → slice_index_or image i (pos 0) ≡ pos 0

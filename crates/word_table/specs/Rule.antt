@@ -1,0 +1,53 @@
+-- The rule of the table, on words and views.
+use Rattle.std.specs.Prelude.{◌≡◌, ◌≢◌, ℕ, zero, suc, List, [], ◌∷◌, length, Option, Some}
+use mathlib.Core.Option.{some}
+use lib.ListN.{get_elem?}
+use Rattle.atomic_table.specs.Table.{State}
+use Rattle.coverage_check.specs.Missions.{MissionParts}
+use Rattle.fail_stop.specs.Events.{Places}
+use Rattle.fail_stop.specs.Flights.{Flight}
+use Rattle.fail_stop.specs.Kept.{Kept}
+use Rattle.fail_stop.specs.Listed.{places_of_words, stored_in}
+use Rattle.word_table.specs.declared.actors.Actor.{Actor}
+use Rattle.word_table.specs.declared.actors.Actor.TheVariants.{Runs, Kernel}
+use Rattle.word_table.specs.declared.actors.View.{View}
+use Rattle.word_table.specs.Actors.{Stands, mission_flight, who}
+
+-- The actors of view j stand where they say, and in no other view.
+abbrev pub Hosts : Places → (Option ℕ → ℕ) → ℕ → List Actor → Type 0
+Hosts at home j [] = Unit {0}
+Hosts at home j (a ∷ rest) = (home (who a) ≡ j) × Stands at a × Hosts at home j rest
+
+-- An actor is not among these.
+abbrev pub IsNotIn : Option ℕ → List Actor → Type 0
+IsNotIn o [] = Unit {0}
+IsNotIn o (a ∷ rest) = (who a ≢ o) × IsNotIn o rest
+
+-- These actors differ.
+abbrev pub AreApart : List Actor → Type 0
+AreApart [] = Unit {0}
+AreApart (a ∷ rest) = IsNotIn (who a) rest × AreApart rest
+
+-- The rule, by the flight of a mission: the law of events holds of words and places, each actor stands where its view
+-- says and in no other view, and each view with an actor knows the mission.
+pub record Ruled (m : Flight) (mission : MissionParts) (s : State (Unit {0}) View) : Type 0 where
+  pub at : Places
+  pub home : Option ℕ → ℕ
+  pub long : length s.words ≡ places_of_words
+  pub kept : Kept m at (stored_in s.words)
+  pub each : (j : ℕ) (v : View) → get_elem? s.views j ≡ some v → Hosts at home j v.actors
+  pub planned : (j : ℕ) (v : View) → get_elem? s.views j ≡ some v → v.actors ≢ [] → v.mission ≡ Some mission
+  pub apart : (j : ℕ) (v : View) → get_elem? s.views j ≡ some v → AreApart v.actors
+
+-- The rule of a mission's table.
+abbrev pub IsRuled : MissionParts → State (Unit {0}) View → Type 0
+IsRuled mission s = Ruled (mission_flight mission) mission s
+
+-- The n processors from p on at their opening places, and the kernel.
+abbrev pub opening_actors : ℕ → ℕ → List Actor
+opening_actors p zero = Kernel 0 0 ∷ []
+opening_actors p (suc n) = Runs p 0 0 ∷ opening_actors (suc p) n
+
+-- The first view has all actors.
+abbrev pub first_view : MissionParts → View
+first_view mission = record { mission = Some mission; tries = 0; actors = opening_actors 0 (length mission.spec.procs) }

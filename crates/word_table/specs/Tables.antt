@@ -1,0 +1,78 @@
+-- Tables, and the seats that are theirs.
+use Rattle.std.specs.Prelude.{◌≡◌, ◌+◌, ◌<◌, ℕ, suc, Bool, not, ◌&&◌, List, length, slice_get, Option, Some, None, is_none, if◌then◌else◌}
+use Rattle.coverage_check.specs.Missions.{MissionParts}
+use Rattle.fail_stop.specs.Consistency.{marked}
+use Rattle.fail_stop.specs.Events.{At, Place}
+use Rattle.fail_stop.specs.Flights.{Flight}
+use Rattle.word_table.specs.declared.actors.Actor.{Actor}
+use Rattle.word_table.specs.declared.seats.KSeat.{KSeat}
+use Rattle.word_table.specs.declared.seats.Seat.{Seat}
+use Rattle.word_table.specs.declared.tables.WordTable.{WordTable}
+use Rattle.word_table.specs.Keeping.{IsFlown}
+use Rattle.word_table.specs.Actors.{IsInFlight, actor_at, mission_flight, place_at}
+
+-- The mission whose words a table has.
+abbrev pub flown : WordTable → MissionParts
+flown words = words.table.shared.key
+
+-- Its flight.
+abbrev pub flight_in : WordTable → Flight
+flight_in words = mission_flight (flown words)
+
+-- The number of a seat's processor.
+abbrev pub proc_of : Seat → ℕ
+proc_of seat = seat.proc.0
+
+-- Where a seat's processor stands.
+abbrev pub place_of : Seat → Place
+place_of seat = place_at seat.frame seat.step seat.halted
+
+-- How many loads of a seat found nothing ready.
+abbrev pub tries_of : Seat → ℕ
+tries_of seat = seat.inner.me.0.tries
+
+-- The frame in which the kernel stands, and the steps that it has made there.
+abbrev pub kernel_frame : KSeat → ℕ
+kernel_frame kseat = kseat.frame
+
+abbrev pub kernel_steps : KSeat → ℕ
+kernel_steps kseat = kseat.step
+
+-- How many loads of the kernel's seat found nothing ready.
+abbrev pub kernel_tries : KSeat → ℕ
+kernel_tries kseat = kseat.inner.me.0.tries
+
+-- A seat is one of a table's: of a processor of its mission.
+pub record IsSeatOf (words : WordTable) (seat : Seat) : Type 0 where
+  pub holds : IsFlown (flown words)
+  pub table : seat.inner.table_id ≡ words.table.shared.table_id
+  pub mission : seat.inner.me.0.mission ≡ Some (flown words)
+  pub proc : proc_of seat < length (flown words).spec.procs
+  pub in_flight : IsInFlight (flight_in words) (place_of seat)
+
+-- The kernel's seat is a table's.
+pub record IsKernelSeatOf (words : WordTable) (kseat : KSeat) : Type 0 where
+  pub holds : IsFlown (flown words)
+  pub table : kseat.inner.table_id ≡ words.table.shared.table_id
+  pub mission : kseat.inner.me.0.mission ≡ Some (flown words)
+
+-- These are all seats of a table's processors, in the order of their numbers.
+pub record AreSeatsOf (words : WordTable) (seats : List Seat) : Type 0 where
+  pub count : length seats ≡ length (flown words).spec.procs
+  pub each : (p : ℕ) (seat : Seat) → slice_get seats p ≡ Some seat → IsSeatOf words seat × (proc_of seat ≡ p)
+
+-- Each seat stands at the begin of frame 0.
+abbrev pub AreOpening : List Seat → Type 0
+AreOpening seats = (p : ℕ) (seat : Seat) → slice_get seats p ≡ Some seat → place_of seat ≡ At 0 0
+
+-- Processor p has halted by the end of frame k, and has not lived again by then.
+abbrev pub has_halted_by : Flight → ℕ → ℕ → Bool
+has_halted_by m p k = not (m.up p k && is_none (m.halt p k))
+
+-- The mark of a processor where it stands is that of so many frames of a mission.
+abbrev pub frames_marked : MissionParts → Place → ℕ
+frames_marked mission place = marked (mission_flight mission) place
+
+-- The actor of a seat.
+abbrev pub actor_of : Seat → Actor
+actor_of seat = actor_at (proc_of seat) (place_of seat)

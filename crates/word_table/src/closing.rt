@@ -1,0 +1,113 @@
+//! The end of a table.
+
+ghost use Rattle.std.specs.Prelude.{◌≡◌, ◌+◌, ◌≤◌, ◌<◌, ◌∷◌, Some, [], map, slice_get, slice_index, slice_index_or, ℕ};
+ghost use Rattle.std.specs.Mem.Slots.{IsFull, slots_items, slots_len};
+ghost use Rattle.frame_model.specs.Flights.{image_after};
+ghost use Rattle.frame_model.specs.Storage.{mark_after};
+ghost use Rattle.fail_stop.specs.Listed.{places_of_words};
+ghost use Rattle.word_table.specs.Closing.{AreLast, IsStoredImage};
+ghost use Rattle.word_table.specs.Tables.{AreSeatsOf, IsKernelSeatOf, actor_of, flown, frames_marked, kernel_frame, kernel_steps, place_of};
+ghost use Rattle.word_table.specs.declared.actors.Actor.TheVariants.{Kernel};
+ghost use Rattle.word_table.specs.declared.seats.Seat as seat_types;
+
+use crate::actors::{Deals, View};
+use crate::seats::{KSeat, Seat};
+use crate::tables::WordTable;
+use atomic_table::Closed;
+use bank_words::decode;
+use scram_types::Image;
+use std::alloc::Global;
+
+/// The marks of the processors as they were stored last, and the images that these name. What stands past the last
+/// processor is zero.
+#[derive(Clone, Copy, Debug)]
+pub struct LastWords {
+    pub images: [Image; 8],
+    pub marks: [u64; 8],
+}
+
+impl WordTable {
+    /// Ends the table: all its seats are given back, and the marks and the marked images are those of the frames that
+    /// each processor has committed where it stands. It takes no memory and waits for nobody.
+    pub fn close(self, kseat: KSeat, seats: Vec<Seat>) -> LastWords
+        requires kernel { IsKernelSeatOf self kseat }
+        requires seats { AreSeatsOf self seats.items }
+        ensures marks { (p : ℕ) (seat : seat_types.Seat) → slice_get seats.items p ≡ Some seat → slice_index result.marks p ≡ mark_after (flown self).spec (flown self).script p (frames_marked (flown self) (place_of seat)) }
+        ensures images { (p : ℕ) (seat : seat_types.Seat) → slice_get seats.items p ≡ Some seat → slice_index_or result.images p [] ≡ image_after (flown self).spec (flown self).script p (frames_marked (flown self) (place_of seat)) }
+    {
+        let all = self.gather(kseat, seats);
+        let procs = self.procs as usize;
+        let width = self.width as usize;
+        let WordTable {
+            table,
+            frames: _,
+            procs: _,
+            width: _,
+            restarts: _,
+            turns: _,
+        } = self;
+        let closed = table.close_with(all);
+        let last = last_words(&closed, procs, width);
+        closed.free();
+        last
+    }
+
+    // One seat with all actors.
+    fn gather(&self, kseat: KSeat, seats: Vec<Seat>) -> atomic_table::Seat<(), View>
+        requires kernel { IsKernelSeatOf self.now kseat }
+        requires seats { AreSeatsOf self.now seats.items }
+        ensures table { result.table_id ≡ self.now.table.shared.table_id }
+        ensures actors { result.me.0.actors ≡ Kernel (kernel_frame kseat) (kernel_steps kseat) ∷ map actor_of seats.items }
+    {
+        let KSeat {
+            frame: _,
+            step: _,
+            inner: mut all,
+        } = kseat;
+        for seat in seats {
+            let Seat {
+                proc: _,
+                frame: _,
+                step: _,
+                halted: _,
+                inner,
+            } = seat;
+            self.table.shared.join_seat::<Deals>(&mut all, inner);
+        }
+        all
+    }
+}
+
+// The marks and the images that they name, as they stand in the words.
+fn last_words(closed: &Closed<(), Global>, procs: usize, width: usize) -> LastWords
+    requires full { IsFull closed.now.words }
+    requires places { slots_len closed.now.words ≡ places_of_words }
+    requires procs { procs ≤ 8 }
+    requires width { width ≤ 64 }
+    ensures { (p : ℕ) → p < procs → AreLast (slots_items closed.now.words) width p (slice_index result.marks p) (slice_index_or result.images p []) }
+{
+    let mut marks = [0; 8];
+    let mut images = [[0; 64]; 8];
+    for p in 0..procs {
+        let own = 32 + 136 * p;
+        let mark = closed.word(own);
+        marks[p] = mark;
+        images[p] = stored_image(closed, own + 8 + 64 * (mark % 2) as usize, width);
+    }
+    LastWords { images, marks }
+}
+
+// The image whose words stand from place `at` on.
+fn stored_image(closed: &Closed<(), Global>, at: usize, width: usize) -> Image
+    requires full { IsFull closed.now.words }
+    requires places { slots_len closed.now.words ≡ places_of_words }
+    requires at { at + 64 ≤ places_of_words }
+    requires width { width ≤ 64 }
+    ensures { IsStoredImage (slots_items closed.now.words) width at result }
+{
+    let mut image = [0; 64];
+    for i in 0..width {
+        image[i] = decode(closed.word(at + i));
+    }
+    image
+}

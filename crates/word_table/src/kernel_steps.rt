@@ -1,0 +1,102 @@
+//! The steps of the kernel.
+
+ghost use Rattle.std.specs.Prelude.{◌≡◌, ◌+◌, ◌<◌, IfSome, MatchOption, length};
+ghost use Rattle.frame_model.specs.Flights.{image_after};
+ghost use Rattle.frame_model.specs.Storage.{mark_after};
+ghost use Rattle.fail_stop.specs.Events.{may_note};
+ghost use Rattle.fail_stop.specs.Flights.{word_in};
+ghost use Rattle.fail_stop.specs.ScriptFlights.{kernel_words};
+ghost use Rattle.word_table.specs.Tables.{IsKernelSeatOf, flight_in, flown, has_halted_by, kernel_frame, kernel_steps, kernel_tries};
+
+use crate::actors::{Notes, Publishes, Releases};
+use crate::seats::KSeat;
+use crate::tables::WordTable;
+use fail_stop::notes::may_note;
+use scram_types::{Image, ProcId};
+
+/// What a processor has committed by the end of a frame: whether it has halted, its mark, and the image that this names.
+#[derive(Clone, Copy, Debug)]
+pub struct Marked {
+    pub halted: bool,
+    pub mark: u64,
+    pub image: Image,
+}
+
+impl WordTable {
+    /// Notes a processor in the kernel's frame, once it is done with it or has halted: `Some` is what it has committed
+    /// by the end of that frame. `None` comes only where the end word that this call loads does not allow the note. It
+    /// takes no memory and waits for nobody.
+    pub fn gone(&self, kseat: &mut KSeat, p: ProcId) -> Option<Marked>
+        requires seat { IsKernelSeatOf self.now kseat.old }
+        requires frame { kernel_frame kseat.old < (flown self.now).script.frames }
+        requires p { p.0 < length (flown self.now).spec.procs }
+        requires next { kernel_steps kseat.old ≡ p.0 }
+        ensures seat { IsKernelSeatOf self.now kseat.new }
+        ensures frame { kernel_frame kseat.new ≡ kernel_frame kseat.old }
+        ensures steps { MatchOption result (kernel_steps kseat.new ≡ kernel_steps kseat.old) (λ marked. kernel_steps kseat.new ≡ kernel_steps kseat.old + 1) }
+        ensures tries { MatchOption result (kernel_tries kseat.new ≡ kernel_tries kseat.old + 1) (λ marked. kernel_tries kseat.new ≡ kernel_tries kseat.old) }
+        ensures halted { IfSome result (λ marked. marked.halted ≡ has_halted_by (flight_in self.now) p.0 (kernel_frame kseat.old)) }
+        ensures mark { IfSome result (λ marked. marked.mark ≡ mark_after (flown self.now).spec (flown self.now).script p.0 (kernel_frame kseat.old + 1)) }
+        ensures image { IfSome result (λ marked. marked.image ≡ image_after (flown self.now).spec (flown self.now).script p.0 (kernel_frame kseat.old + 1)) }
+    {
+        let own = 32 + 136 * usize::from(p.0);
+        let end = self.table.shared.load::<Notes>(&mut kseat.inner, own + 1);
+        if !self.may_note(p, kseat.frame, end) {
+            return None;
+        }
+        kseat.step += 1;
+        let mark = self.load(&mut kseat.inner, own);
+        let bank = (mark % 2) as usize;
+        let image = self.read_image(&mut kseat.inner, own + 8 + 64 * bank, 0);
+        Some(Marked {
+            halted: end % 2 == 1,
+            mark,
+            image,
+        })
+    }
+
+    /// Whether a processor may be noted in a frame, by its end word.
+    pub(crate) fn may_note(&self, p: ProcId, frame: u32, end: u64) -> bool
+        requires { p.0 < 8 }
+        ensures { result ≡ may_note (flight_in self.now) p.0 frame end }
+    {
+        may_note(self.restarts[usize::from(p.0)], frame, end)
+    }
+
+    /// Stores word `i` of what the kernel says of the next frame. It takes no memory and waits for nobody.
+    pub fn publish(&self, kseat: &mut KSeat, i: u32, word: u64)
+        requires seat { IsKernelSeatOf self.now kseat.old }
+        requires i { i < 20 }
+        requires next { kernel_steps kseat.old ≡ length (flown self.now).spec.procs + i }
+        requires frame { kernel_frame kseat.old + 1 < (flown self.now).script.frames }
+        requires word { word ≡ word_in (kernel_words (flown self.now).spec (flown self.now).script (kernel_frame kseat.old + 1)) i }
+        ensures seat { IsKernelSeatOf self.now kseat.new }
+        ensures frame { kernel_frame kseat.new ≡ kernel_frame kseat.old }
+        ensures steps { kernel_steps kseat.new ≡ kernel_steps kseat.old + 1 }
+        ensures tries { kernel_tries kseat.new ≡ kernel_tries kseat.old }
+    {
+        self.table
+            .shared
+            .store::<Publishes>(&mut kseat.inner, 8 + i as usize, word);
+        kseat.step += 1;
+    }
+
+    /// Releases the next frame, and wakes the processors that sleep on that. It takes no memory and waits for nobody.
+    pub fn release(&self, kseat: &mut KSeat)
+        requires seat { IsKernelSeatOf self.now kseat.old }
+        requires next { kernel_steps kseat.old ≡ length (flown self.now).spec.procs + 20 }
+        requires frame { kernel_frame kseat.old + 1 < (flown self.now).script.frames }
+        ensures seat { IsKernelSeatOf self.now kseat.new }
+        ensures frame { kernel_frame kseat.new ≡ kernel_frame kseat.old + 1 }
+        ensures steps { kernel_steps kseat.new ≡ 0 }
+        ensures tries { kernel_tries kseat.new ≡ kernel_tries kseat.old }
+    {
+        let release = u64::from(kseat.frame) + 2;
+        self.table
+            .shared
+            .store::<Releases>(&mut kseat.inner, 0, release);
+        kseat.frame += 1;
+        kseat.step = 0;
+        self.table.shared.wake_all(0);
+    }
+}

@@ -1,0 +1,84 @@
+//! Loads that are no events, and what is read by them.
+
+ghost use Rattle.std.specs.Prelude.{◌≡◌, ◌+◌, ◌≤◌, ◌<◌, ℕ, [], Some, length, slice_index};
+ghost use Rattle.frame_model.specs.Storage.{image_bank_after};
+ghost use Rattle.fail_stop.specs.Listed.{places_of_words};
+ghost use Rattle.word_table.specs.Keeping.{IsFlown};
+ghost use Rattle.word_table.specs.Plays.{IsFound};
+ghost use Rattle.word_table.specs.Reading.{AreRead, IsReader};
+ghost use Rattle.word_table.specs.Tables.{flight_in, flown};
+
+use crate::actors::{Reads, View};
+use crate::tables::WordTable;
+use atomic_table::Seat;
+use bank_words::{decode, pick};
+use scram_types::{Image, ProcId};
+
+impl WordTable {
+    pub(crate) fn load(&self, seat: &mut Seat<(), View>, i: usize) -> u64
+        requires table { seat.old.table_id ≡ self.now.table.shared.table_id }
+        requires holds { IsFlown (flown self.now) }
+        requires mission { seat.old.me.0.mission ≡ Some (flown self.now) }
+        requires empty { seat.old.me.1 ≡ [] }
+        requires i { i < places_of_words }
+        ensures table { seat.new.table_id ≡ seat.old.table_id }
+        ensures same { seat.new.me ≡ seat.old.me }
+        ensures found { IsFound (flight_in self.now) seat.old.me.0.actors i result }
+    {
+        self.table.shared.load::<Reads>(seat, i)
+    }
+
+    /// The words of an image from word `from` on, which stand from place `at` on.
+    pub(crate) fn read_image(&self, seat: &mut Seat<(), View>, at: usize, from: usize) -> Image
+        requires table { seat.old.table_id ≡ self.now.table.shared.table_id }
+        requires holds { IsFlown (flown self.now) }
+        requires mission { seat.old.me.0.mission ≡ Some (flown self.now) }
+        requires empty { seat.old.me.1 ≡ [] }
+        requires at { at + 64 ≤ places_of_words }
+        requires from { from ≤ 1 }
+        ensures table { seat.new.table_id ≡ seat.old.table_id }
+        ensures same { seat.new.me ≡ seat.old.me }
+        ensures read { AreRead (flight_in self.now) seat.old.me.0.actors at from (flight_in self.now).width result }
+    {
+        let mut image = [0; 64];
+        for i in from..self.width as usize {
+            image[i] = decode(self.load(seat, at + i));
+        }
+        image
+    }
+
+    /// The bank of a processor that a reader in a frame takes.
+    pub(crate) fn bank_picked(&self, seat: &mut Seat<(), View>, frame: u32, q: ProcId) -> usize
+        requires table { seat.old.table_id ≡ self.now.table.shared.table_id }
+        requires holds { IsFlown (flown self.now) }
+        requires mission { seat.old.me.0.mission ≡ Some (flown self.now) }
+        requires empty { seat.old.me.1 ≡ [] }
+        requires reader { IsReader (flight_in self.now) seat.old.me.0.actors frame }
+        requires q { q.0 < length (flown self.now).spec.procs }
+        ensures table { seat.new.table_id ≡ seat.old.table_id }
+        ensures same { seat.new.me ≡ seat.old.me }
+        ensures bank { result ≡ image_bank_after (flown self.now).spec (flown self.now).script q.0 frame }
+        ensures low { result ≤ 1 }
+    {
+        let mark = self.load(seat, 32 + 136 * usize::from(q.0));
+        usize::from(pick(mark, frame))
+    }
+
+    /// The kernel's words.
+    pub(crate) fn read_kernel(&self, seat: &mut Seat<(), View>) -> [u64; 20]
+        requires table { seat.old.table_id ≡ self.now.table.shared.table_id }
+        requires holds { IsFlown (flown self.now) }
+        requires mission { seat.old.me.0.mission ≡ Some (flown self.now) }
+        requires empty { seat.old.me.1 ≡ [] }
+        ensures table { seat.new.table_id ≡ seat.old.table_id }
+        ensures same { seat.new.me ≡ seat.old.me }
+        ensures read { (i : ℕ) → i < 20 → IsFound (flight_in self.now) seat.old.me.0.actors (8 + i) (slice_index result i) }
+        ensures long { length result ≡ 20 }
+    {
+        let mut words = [0; 20];
+        for i in 0..20 {
+            words[i] = self.load(seat, 8 + i);
+        }
+        words
+    }
+}

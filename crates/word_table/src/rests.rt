@@ -1,0 +1,48 @@
+//! Sleeping until there may be something to do. Nothing is promised: a rest may end for no reason.
+
+ghost use Rattle.std.specs.Prelude.{◌≡◌, ◌<◌};
+ghost use Rattle.fail_stop.specs.Listed.{places_of_words};
+ghost use Rattle.word_table.specs.Tables.{IsSeatOf, proc_of};
+
+use crate::seats::{KSeat, Seat};
+use crate::tables::WordTable;
+use scram_types::ProcId;
+use std::sync::Wait;
+
+impl WordTable {
+    /// May sleep while the release does not show the frame for which the seat waits. It may end for no reason.
+    pub fn rest<R: Wait>(&self, rt: &R, seat: &Seat)
+        requires { IsSeatOf self.now seat.now }
+    {
+        let frame = u64::from(self.frame_awaited(seat));
+        for _ in 0..self.turns {
+            if self.table.shared.peek(0) > frame {
+                return;
+            }
+        }
+        let release = self.table.shared.peek(0);
+        if release <= frame {
+            self.table
+                .shared
+                .park(rt, 0, (release & 0xffff_ffff) as u32);
+        }
+    }
+
+    /// May sleep while the processor whose note is next may not be noted. It may end for no reason.
+    pub fn rest_kernel<R: Wait>(&self, rt: &R, kseat: &KSeat) {
+        if kseat.step >= self.procs {
+            return;
+        }
+        let p = ProcId(kseat.step as u8);
+        let at = 33 + 136 * kseat.step as usize;
+        for _ in 0..self.turns {
+            if self.may_note(p, kseat.frame, self.table.shared.peek(at)) {
+                return;
+            }
+        }
+        let end = self.table.shared.peek(at);
+        if !self.may_note(p, kseat.frame, end) {
+            self.table.shared.park(rt, at, (end & 0xffff_ffff) as u32);
+        }
+    }
+}

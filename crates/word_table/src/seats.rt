@@ -1,0 +1,83 @@
+//! Seats: by a seat one actor steps on the words, and it knows where that stands.
+
+ghost use Rattle.std.specs.Prelude.{◌≡◌, [], ◌∷◌, true};
+ghost use Rattle.word_table.specs.Actors.{actor_at, place_at};
+ghost use Rattle.word_table.specs.declared.actors.Actor.TheVariants.{Kernel};
+
+use crate::actors::View;
+use scram_types::ProcId;
+
+/// The seat of a processor.
+#[derive(Drop)]
+pub struct Seat {
+    pub(crate) proc: ProcId,
+    pub(crate) frame: u32,
+    pub(crate) step: u32,
+    pub(crate) halted: bool,
+    pub(crate) inner: atomic_table::Seat<(), View>,
+    ghost alone: { inner.me.0.actors ≡ actor_at proc.0 (place_at frame step halted) ∷ [] },
+    ghost empty: { inner.me.1 ≡ [] },
+    ghost still: { halted ≡ true → step ≡ 0 },
+}
+
+/// The seat of the kernel.
+#[derive(Drop)]
+pub struct KSeat {
+    pub(crate) frame: u32,
+    pub(crate) step: u32,
+    pub(crate) inner: atomic_table::Seat<(), View>,
+    ghost alone: { inner.me.0.actors ≡ Kernel frame step ∷ [] },
+    ghost empty: { inner.me.1 ≡ [] },
+}
+
+impl Seat {
+    ghost use Rattle.fail_stop.specs.Events.{frame_of};
+    ghost use Rattle.word_table.specs.Actors.{is_halted, steps_of};
+    ghost use Rattle.word_table.specs.Tables.{place_of, proc_of};
+
+    /// The seat's processor. It takes no memory.
+    pub fn proc(&self) -> ProcId
+        ensures { result.0 ≡ proc_of self.now }
+    {
+        self.proc
+    }
+
+    /// The frame in which the processor stands; where it has halted, that in which it halted. It takes no memory.
+    pub fn frame(&self) -> u32
+        ensures { result ≡ frame_of (place_of self.now) }
+    {
+        self.frame
+    }
+
+    /// How many steps the processor has made in its frame; 0 where it has halted. It takes no memory.
+    pub fn steps(&self) -> u32
+        ensures { result ≡ steps_of (place_of self.now) }
+    {
+        self.step
+    }
+
+    /// Whether the processor has halted. It takes no memory.
+    pub fn halted(&self) -> bool
+        ensures { result ≡ is_halted (place_of self.now) }
+    {
+        self.halted
+    }
+}
+
+impl KSeat {
+    ghost use Rattle.word_table.specs.Tables.{kernel_frame, kernel_steps};
+
+    /// The frame in which the kernel stands. It takes no memory.
+    pub fn frame(&self) -> u32
+        ensures { result ≡ kernel_frame self.now }
+    {
+        self.frame
+    }
+
+    /// How many steps the kernel has made in its frame. It takes no memory.
+    pub fn steps(&self) -> u32
+        ensures { result ≡ kernel_steps self.now }
+    {
+        self.step
+    }
+}

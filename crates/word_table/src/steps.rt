@@ -1,0 +1,147 @@
+//! The steps of a processor.
+
+ghost use Rattle.std.specs.Prelude.{◌≡◌, ◌+◌, ◌<◌, ◌^◌, MatchOption, Some, length};
+ghost use Rattle.scram_types.specs.Lookups.{proc_id};
+ghost use Rattle.bank_words.specs.declared.events.Event.TheVariants.{Done, Flip, Halt, Look, Store};
+ghost use Rattle.frame_model.specs.Flights.{image_after};
+ghost use Rattle.frame_model.specs.Storage.{kernel_image};
+ghost use Rattle.fail_stop.specs.Events.{At, frame_of, frame_on, halted_there, one_on};
+ghost use Rattle.fail_stop.specs.Flights.{word_in};
+ghost use Rattle.fail_stop.specs.ScriptFlights.{draft_words};
+ghost use Rattle.word_table.specs.Actors.{Waits, frame_awaited, step_at};
+ghost use Rattle.word_table.specs.Tables.{IsSeatOf, flight_in, flown, place_of, proc_of, tries_of};
+
+use crate::actors::{Ends, Halts, Looks, Starts, Stores};
+use crate::seats::Seat;
+use crate::tables::WordTable;
+use bank_words::{KernelImage, decode, kernel_decode};
+use fail_stop::law::kernel_images_come_back;
+use scram_types::{Image, ProcId};
+
+impl WordTable {
+    /// Starts the frame for which the seat waits, once it is released: `Some` is what the kernel says of that frame. A
+    /// processor that has halted starts the frame of its restart. `None` comes only where the release that this call
+    /// loads does not show the frame. It takes no memory and waits for nobody.
+    pub fn started(&self, seat: &mut Seat) -> Option<KernelImage>
+        requires seat { IsSeatOf self.now seat.old }
+        requires waits { Waits (flight_in self.now) (proc_of seat.old) (place_of seat.old) }
+        ensures seat { IsSeatOf self.now seat.new }
+        ensures proc { proc_of seat.new ≡ proc_of seat.old }
+        ensures image { MatchOption result (place_of seat.new ≡ place_of seat.old) (λ image. image ≡ kernel_image (flown self.now).spec (flown self.now).script (frame_awaited (flight_in self.now) (proc_of seat.old) (place_of seat.old))) }
+        ensures place { MatchOption result (place_of seat.new ≡ place_of seat.old) (λ image. place_of seat.new ≡ At (frame_awaited (flight_in self.now) (proc_of seat.old) (place_of seat.old)) 1) }
+        ensures tries { MatchOption result (tries_of seat.new ≡ tries_of seat.old + 1) (λ image. tries_of seat.new ≡ tries_of seat.old) }
+    {
+        let frame = self.frame_awaited(seat);
+        let release = self.table.shared.load::<Starts>(&mut seat.inner, 0);
+        if release <= u64::from(frame) {
+            return None;
+        }
+        seat.frame = frame;
+        seat.step = 1;
+        seat.halted = false;
+        kernel_images_come_back();
+        Some(kernel_decode(&self.read_kernel(&mut seat.inner)))
+    }
+
+    /// The frame for whose release a seat waits.
+    pub(crate) fn frame_awaited(&self, seat: &Seat) -> u32
+        requires { proc_of seat.now < 8 }
+        ensures { result ≡ frame_awaited (flight_in self.now) (proc_of seat.now) (place_of seat.now) }
+    {
+        if !seat.halted {
+            return seat.frame;
+        }
+        match self.restarts[usize::from(seat.proc.0)] {
+            Some(restart) => restart,
+            None => seat.frame,
+        }
+    }
+
+    /// The image of a processor as the frame of the seat begins. It takes no memory and waits for nobody.
+    pub fn look(&self, seat: &mut Seat, q: ProcId) -> Image
+        requires seat { IsSeatOf self.now seat.old }
+        requires q { q.0 < length (flown self.now).spec.procs }
+        requires next { step_at (flight_in self.now) (proc_of seat.old) (place_of seat.old) ≡ Some (Look (proc_id (proc_of seat.old)) q) }
+        ensures seat { IsSeatOf self.now seat.new }
+        ensures proc { proc_of seat.new ≡ proc_of seat.old }
+        ensures place { place_of seat.new ≡ one_on (place_of seat.old) }
+        ensures tries { tries_of seat.new ≡ tries_of seat.old }
+        ensures image { result ≡ image_after (flown self.now).spec (flown self.now).script q.0 (frame_of (place_of seat.old)) }
+    {
+        let bank = self.bank_picked(&mut seat.inner, seat.frame, q);
+        let at = 40 + 136 * usize::from(q.0) + 64 * bank;
+        let mut image = self.read_image(&mut seat.inner, at, 1);
+        image[0] = decode(self.table.shared.load::<Looks>(&mut seat.inner, at));
+        seat.step += 1;
+        image
+    }
+
+    /// Stores word `i` of the draft of the seat's frame in the bank that the mark does not name. It takes no memory and
+    /// waits for nobody.
+    pub fn store(&self, seat: &mut Seat, i: u32, word: u64)
+        requires seat { IsSeatOf self.now seat.old }
+        requires next { step_at (flight_in self.now) (proc_of seat.old) (place_of seat.old) ≡ Some (Store (proc_id (proc_of seat.old)) i) }
+        requires word { word ≡ word_in (draft_words (flown self.now).spec (flown self.now).script (proc_of seat.old) (frame_of (place_of seat.old))) i }
+        ensures seat { IsSeatOf self.now seat.new }
+        ensures proc { proc_of seat.new ≡ proc_of seat.old }
+        ensures place { place_of seat.new ≡ one_on (place_of seat.old) }
+        ensures tries { tries_of seat.new ≡ tries_of seat.old }
+    {
+        let bank = self.bank_picked(&mut seat.inner, seat.frame, seat.proc);
+        let at = 40 + 136 * usize::from(seat.proc.0) + 64 * (1 - bank) + i as usize;
+        self.table.shared.store::<Stores>(&mut seat.inner, at, word);
+        seat.step += 1;
+    }
+
+    /// Commits the frame of the seat: the mark names it, and the bank in which its draft was stored. It takes no memory
+    /// and waits for nobody.
+    pub fn flip(&self, seat: &mut Seat)
+        requires seat { IsSeatOf self.now seat.old }
+        requires next { step_at (flight_in self.now) (proc_of seat.old) (place_of seat.old) ≡ Some (Flip (proc_id (proc_of seat.old))) }
+        ensures seat { IsSeatOf self.now seat.new }
+        ensures proc { proc_of seat.new ≡ proc_of seat.old }
+        ensures place { place_of seat.new ≡ one_on (place_of seat.old) }
+        ensures tries { tries_of seat.new ≡ tries_of seat.old }
+    {
+        let bank = self.bank_picked(&mut seat.inner, seat.frame, seat.proc);
+        let mark = 2 * (u64::from(seat.frame) + 1) + (1 - bank as u64);
+        let at = 32 + 136 * usize::from(seat.proc.0);
+        self.table.shared.store::<Stores>(&mut seat.inner, at, mark);
+        seat.step += 1;
+    }
+
+    /// Ends the frame of the seat, and wakes the kernel where it sleeps on that. It takes no memory and waits for nobody.
+    pub fn done(&self, seat: &mut Seat)
+        requires seat { IsSeatOf self.now seat.old }
+        requires next { step_at (flight_in self.now) (proc_of seat.old) (place_of seat.old) ≡ Some (Done (proc_id (proc_of seat.old))) }
+        ensures seat { IsSeatOf self.now seat.new }
+        ensures proc { proc_of seat.new ≡ proc_of seat.old }
+        ensures place { place_of seat.new ≡ frame_on (place_of seat.old) }
+        ensures tries { tries_of seat.new ≡ tries_of seat.old }
+    {
+        let at = 33 + 136 * usize::from(seat.proc.0);
+        let end = 2 * (u64::from(seat.frame) + 1);
+        self.table.shared.store::<Ends>(&mut seat.inner, at, end);
+        seat.frame += 1;
+        seat.step = 0;
+        self.table.shared.wake_one(at);
+    }
+
+    /// Halts the seat's processor in its frame, and wakes the kernel where it sleeps on that. It takes no memory and
+    /// waits for nobody.
+    pub fn halt(&self, seat: &mut Seat)
+        requires seat { IsSeatOf self.now seat.old }
+        requires next { step_at (flight_in self.now) (proc_of seat.old) (place_of seat.old) ≡ Some (Halt (proc_id (proc_of seat.old))) }
+        ensures seat { IsSeatOf self.now seat.new }
+        ensures proc { proc_of seat.new ≡ proc_of seat.old }
+        ensures place { place_of seat.new ≡ halted_there (place_of seat.old) }
+        ensures tries { tries_of seat.new ≡ tries_of seat.old }
+    {
+        let at = 33 + 136 * usize::from(seat.proc.0);
+        let end = 2 * u64::from(seat.frame) + 1;
+        self.table.shared.store::<Halts>(&mut seat.inner, at, end);
+        seat.step = 0;
+        seat.halted = true;
+        self.table.shared.wake_one(at);
+    }
+}

@@ -1,0 +1,32 @@
+//! The table of words.
+
+ghost use Rattle.word_table.specs.Keeping.{TableKeeps};
+
+use crate::actors::{View, WordRule};
+use atomic_table::Table;
+use coverage_check::Mission;
+use std::alloc::Global;
+
+/// The words of a mission, with the numbers of it that its steps go by. It has no lifetime, so threads can share it.
+#[derive(Drop)]
+pub struct WordTable {
+    pub(crate) table: Table<(), View, Mission, WordRule, Global>,
+    pub(crate) frames: u32,
+    pub(crate) procs: u32,
+    pub(crate) width: u32,
+    pub(crate) restarts: [Option<u32>; 8],
+    pub(crate) turns: u32,
+    pub(crate) ghost keeps: { TableKeeps table.shared.key table.shared.table_id frames procs width restarts },
+}
+
+impl WordTable {
+    ghost use Rattle.std.specs.Prelude.{◌≡◌};
+
+    /// A rest looks so many times whether it may end before it sleeps; none where nobody says otherwise. It takes no
+    /// memory.
+    pub fn set_turns(&mut self, turns: u32)
+        ensures { self.new.table ≡ self.old.table }
+    {
+        self.turns = turns;
+    }
+}

@@ -1,0 +1,209 @@
+//! The words of a mission, with the mission beside them.
+
+ghost use Rattle.std.specs.Prelude.{◌≡◌};
+
+use crate::closing::LastWords;
+use crate::kernel_steps::Marked;
+use crate::seats::{KSeat, Seat};
+use crate::tables::WordTable;
+use bank_words::KernelImage;
+use coverage_check::Mission;
+use scram_types::{Image, NoMemory, ProcId};
+use std::alloc::Global;
+use std::sync::Wait;
+
+/// The shared words of a mission. What threads share of it is the table, whose calls these pass on.
+#[derive(Drop)]
+pub struct Words<'a> {
+    pub mission: &'a Mission,
+    pub table: WordTable,
+    ghost same: { table.table.shared.key ≡ mission.now },
+}
+
+impl<'a> Words<'a> {
+    ghost use Rattle.std.specs.Prelude.{◌+◌, ◌<◌, ℕ, [], IfOk, IfSome, MatchOption, Some, length, slice_get, slice_index, slice_index_or};
+    ghost use Rattle.scram_types.specs.Lookups.{proc_id};
+    ghost use Rattle.bank_words.specs.declared.events.Event.TheVariants.{Done, Flip, Halt, Look, Store};
+    ghost use Rattle.frame_model.specs.Flights.{image_after};
+    ghost use Rattle.frame_model.specs.Storage.{kernel_image, mark_after};
+    ghost use Rattle.fail_stop.specs.Events.{At, frame_of, frame_on, halted_there, one_on};
+    ghost use Rattle.fail_stop.specs.Flights.{word_in};
+    ghost use Rattle.fail_stop.specs.ScriptFlights.{draft_words, kernel_words};
+    ghost use Rattle.word_table.specs.Actors.{Waits, frame_awaited, step_at};
+    ghost use Rattle.word_table.specs.Tables.{AreOpening, AreSeatsOf, IsKernelSeatOf, IsSeatOf, flight_in, flown, frames_marked, has_halted_by, kernel_frame, kernel_steps, kernel_tries, place_of, proc_of, tries_of};
+    ghost use Rattle.word_table.specs.declared.seats.Seat as seat_types;
+
+    /// The words of a mission before its first frame, the kernel's seat, and the seats of the processors in order, each
+    /// where its actor opens. The only refusal is want of memory.
+    pub fn open(
+        alloc: Global,
+        mission: &'a Mission,
+    ) -> Result<(Words<'a>, KSeat, Vec<Seat>), NoMemory>
+        ensures mission { IfOk result (λ t. flown t.0.table ≡ mission.now) }
+        ensures kernel { IfOk result (λ t. IsKernelSeatOf t.0.table t.1) }
+        ensures kernel_place { IfOk result (λ t. (kernel_frame t.1 ≡ 0) × (kernel_steps t.1 ≡ 0)) }
+        ensures seats { IfOk result (λ t. AreSeatsOf t.0.table t.2.items) }
+        ensures opening { IfOk result (λ t. AreOpening t.2.items) }
+    {
+        let (table, kseat, seats) = WordTable::open(alloc, mission)?;
+        Ok((Words { mission, table }, kseat, seats))
+    }
+
+    /// The mission whose words these are. It takes no memory.
+    pub fn mission(&self) -> &Mission
+        ensures { result.now ≡ flown self.now.table }
+    {
+        self.mission
+    }
+
+    /// Starts the frame for which the seat waits, once it is released: `Some` is what the kernel says of that frame. A
+    /// processor that has halted starts the frame of its restart. `None` comes only where the release that this call
+    /// loads does not show the frame. It takes no memory and waits for nobody.
+    pub fn started(&self, seat: &mut Seat) -> Option<KernelImage>
+        requires seat { IsSeatOf self.now.table seat.old }
+        requires waits { Waits (flight_in self.now.table) (proc_of seat.old) (place_of seat.old) }
+        ensures seat { IsSeatOf self.now.table seat.new }
+        ensures proc { proc_of seat.new ≡ proc_of seat.old }
+        ensures image { MatchOption result (place_of seat.new ≡ place_of seat.old) (λ image. image ≡ kernel_image (flown self.now.table).spec (flown self.now.table).script (frame_awaited (flight_in self.now.table) (proc_of seat.old) (place_of seat.old))) }
+        ensures place { MatchOption result (place_of seat.new ≡ place_of seat.old) (λ image. place_of seat.new ≡ At (frame_awaited (flight_in self.now.table) (proc_of seat.old) (place_of seat.old)) 1) }
+        ensures tries { MatchOption result (tries_of seat.new ≡ tries_of seat.old + 1) (λ image. tries_of seat.new ≡ tries_of seat.old) }
+    {
+        self.table.started(seat)
+    }
+
+    /// The image of a processor as the frame of the seat begins. It takes no memory and waits for nobody.
+    pub fn look(&self, seat: &mut Seat, q: ProcId) -> Image
+        requires seat { IsSeatOf self.now.table seat.old }
+        requires q { q.0 < length (flown self.now.table).spec.procs }
+        requires next { step_at (flight_in self.now.table) (proc_of seat.old) (place_of seat.old) ≡ Some (Look (proc_id (proc_of seat.old)) q) }
+        ensures seat { IsSeatOf self.now.table seat.new }
+        ensures proc { proc_of seat.new ≡ proc_of seat.old }
+        ensures place { place_of seat.new ≡ one_on (place_of seat.old) }
+        ensures tries { tries_of seat.new ≡ tries_of seat.old }
+        ensures image { result ≡ image_after (flown self.now.table).spec (flown self.now.table).script q.0 (frame_of (place_of seat.old)) }
+    {
+        self.table.look(seat, q)
+    }
+
+    /// Stores word `i` of the draft of the seat's frame in the bank that the mark does not name. It takes no memory and
+    /// waits for nobody.
+    pub fn store(&self, seat: &mut Seat, i: u32, word: u64)
+        requires seat { IsSeatOf self.now.table seat.old }
+        requires next { step_at (flight_in self.now.table) (proc_of seat.old) (place_of seat.old) ≡ Some (Store (proc_id (proc_of seat.old)) i) }
+        requires word { word ≡ word_in (draft_words (flown self.now.table).spec (flown self.now.table).script (proc_of seat.old) (frame_of (place_of seat.old))) i }
+        ensures seat { IsSeatOf self.now.table seat.new }
+        ensures proc { proc_of seat.new ≡ proc_of seat.old }
+        ensures place { place_of seat.new ≡ one_on (place_of seat.old) }
+        ensures tries { tries_of seat.new ≡ tries_of seat.old }
+    {
+        self.table.store(seat, i, word);
+    }
+
+    /// Commits the frame of the seat: the mark names it, and the bank in which its draft was stored. It takes no memory
+    /// and waits for nobody.
+    pub fn flip(&self, seat: &mut Seat)
+        requires seat { IsSeatOf self.now.table seat.old }
+        requires next { step_at (flight_in self.now.table) (proc_of seat.old) (place_of seat.old) ≡ Some (Flip (proc_id (proc_of seat.old))) }
+        ensures seat { IsSeatOf self.now.table seat.new }
+        ensures proc { proc_of seat.new ≡ proc_of seat.old }
+        ensures place { place_of seat.new ≡ one_on (place_of seat.old) }
+        ensures tries { tries_of seat.new ≡ tries_of seat.old }
+    {
+        self.table.flip(seat);
+    }
+
+    /// Ends the frame of the seat, and wakes the kernel where it sleeps on that. It takes no memory and waits for nobody.
+    pub fn done(&self, seat: &mut Seat)
+        requires seat { IsSeatOf self.now.table seat.old }
+        requires next { step_at (flight_in self.now.table) (proc_of seat.old) (place_of seat.old) ≡ Some (Done (proc_id (proc_of seat.old))) }
+        ensures seat { IsSeatOf self.now.table seat.new }
+        ensures proc { proc_of seat.new ≡ proc_of seat.old }
+        ensures place { place_of seat.new ≡ frame_on (place_of seat.old) }
+        ensures tries { tries_of seat.new ≡ tries_of seat.old }
+    {
+        self.table.done(seat);
+    }
+
+    /// Halts the seat's processor in its frame, and wakes the kernel where it sleeps on that. It takes no memory and
+    /// waits for nobody.
+    pub fn halt(&self, seat: &mut Seat)
+        requires seat { IsSeatOf self.now.table seat.old }
+        requires next { step_at (flight_in self.now.table) (proc_of seat.old) (place_of seat.old) ≡ Some (Halt (proc_id (proc_of seat.old))) }
+        ensures seat { IsSeatOf self.now.table seat.new }
+        ensures proc { proc_of seat.new ≡ proc_of seat.old }
+        ensures place { place_of seat.new ≡ halted_there (place_of seat.old) }
+        ensures tries { tries_of seat.new ≡ tries_of seat.old }
+    {
+        self.table.halt(seat);
+    }
+
+    /// Notes a processor in the kernel's frame, once it is done with it or has halted: `Some` is what it has committed
+    /// by the end of that frame. `None` comes only where the end word that this call loads does not allow the note. It
+    /// takes no memory and waits for nobody.
+    pub fn gone(&self, kseat: &mut KSeat, p: ProcId) -> Option<Marked>
+        requires seat { IsKernelSeatOf self.now.table kseat.old }
+        requires frame { kernel_frame kseat.old < (flown self.now.table).script.frames }
+        requires p { p.0 < length (flown self.now.table).spec.procs }
+        requires next { kernel_steps kseat.old ≡ p.0 }
+        ensures seat { IsKernelSeatOf self.now.table kseat.new }
+        ensures frame { kernel_frame kseat.new ≡ kernel_frame kseat.old }
+        ensures steps { MatchOption result (kernel_steps kseat.new ≡ kernel_steps kseat.old) (λ marked. kernel_steps kseat.new ≡ kernel_steps kseat.old + 1) }
+        ensures tries { MatchOption result (kernel_tries kseat.new ≡ kernel_tries kseat.old + 1) (λ marked. kernel_tries kseat.new ≡ kernel_tries kseat.old) }
+        ensures halted { IfSome result (λ marked. marked.halted ≡ has_halted_by (flight_in self.now.table) p.0 (kernel_frame kseat.old)) }
+        ensures mark { IfSome result (λ marked. marked.mark ≡ mark_after (flown self.now.table).spec (flown self.now.table).script p.0 (kernel_frame kseat.old + 1)) }
+        ensures image { IfSome result (λ marked. marked.image ≡ image_after (flown self.now.table).spec (flown self.now.table).script p.0 (kernel_frame kseat.old + 1)) }
+    {
+        self.table.gone(kseat, p)
+    }
+
+    /// Stores word `i` of what the kernel says of the next frame. It takes no memory and waits for nobody.
+    pub fn publish(&self, kseat: &mut KSeat, i: u32, word: u64)
+        requires seat { IsKernelSeatOf self.now.table kseat.old }
+        requires i { i < 20 }
+        requires next { kernel_steps kseat.old ≡ length (flown self.now.table).spec.procs + i }
+        requires frame { kernel_frame kseat.old + 1 < (flown self.now.table).script.frames }
+        requires word { word ≡ word_in (kernel_words (flown self.now.table).spec (flown self.now.table).script (kernel_frame kseat.old + 1)) i }
+        ensures seat { IsKernelSeatOf self.now.table kseat.new }
+        ensures frame { kernel_frame kseat.new ≡ kernel_frame kseat.old }
+        ensures steps { kernel_steps kseat.new ≡ kernel_steps kseat.old + 1 }
+        ensures tries { kernel_tries kseat.new ≡ kernel_tries kseat.old }
+    {
+        self.table.publish(kseat, i, word);
+    }
+
+    /// Releases the next frame, and wakes the processors that sleep on that. It takes no memory and waits for nobody.
+    pub fn release(&self, kseat: &mut KSeat)
+        requires seat { IsKernelSeatOf self.now.table kseat.old }
+        requires next { kernel_steps kseat.old ≡ length (flown self.now.table).spec.procs + 20 }
+        requires frame { kernel_frame kseat.old + 1 < (flown self.now.table).script.frames }
+        ensures seat { IsKernelSeatOf self.now.table kseat.new }
+        ensures frame { kernel_frame kseat.new ≡ kernel_frame kseat.old + 1 }
+        ensures steps { kernel_steps kseat.new ≡ 0 }
+        ensures tries { kernel_tries kseat.new ≡ kernel_tries kseat.old }
+    {
+        self.table.release(kseat);
+    }
+
+    /// May sleep while the release does not show the frame for which the seat waits. It may end for no reason.
+    pub fn rest<R: Wait>(&self, rt: &R, seat: &Seat)
+        requires { IsSeatOf self.now.table seat.now }
+    {
+        self.table.rest(rt, seat);
+    }
+
+    /// May sleep while the processor whose note is next may not be noted. It may end for no reason.
+    pub fn rest_kernel<R: Wait>(&self, rt: &R, kseat: &KSeat) {
+        self.table.rest_kernel(rt, kseat);
+    }
+
+    /// Ends the table: all its seats are given back, and the marks and the marked images are those of the frames that
+    /// each processor has committed where it stands. It takes no memory and waits for nobody.
+    pub fn close(self, kseat: KSeat, seats: Vec<Seat>) -> LastWords
+        requires kernel { IsKernelSeatOf self.table kseat }
+        requires seats { AreSeatsOf self.table seats.items }
+        ensures marks { (p : ℕ) (seat : seat_types.Seat) → slice_get seats.items p ≡ Some seat → slice_index result.marks p ≡ mark_after (flown self.entry.table).spec (flown self.entry.table).script p (frames_marked (flown self.entry.table) (place_of seat)) }
+        ensures images { (p : ℕ) (seat : seat_types.Seat) → slice_get seats.items p ≡ Some seat → slice_index_or result.images p [] ≡ image_after (flown self.entry.table).spec (flown self.entry.table).script p (frames_marked (flown self.entry.table) (place_of seat)) }
+    {
+        self.table.close(kseat, seats)
+    }
+}
