@@ -1,16 +1,15 @@
 -- What each kind of step is allowed to do, and what it tells.
-use Rattle.std.proofs.Common.{◌≡◌, ◌≢◌, ℕ, zero, suc, ◌+◌, ◌-◌, ◌*◌, ◌%◌, ◌<◌, ◌≤◌, Bool, true, false, refl, sym, ap, subst, ◌∙◌, arith, List, [], ◌∷◌, length}
+use Rattle.std.proofs.Common.{◌≡◌, ℕ, zero, suc, ◌+◌, ◌-◌, ◌*◌, ◌%◌, ◌<◌, ◌≤◌, Bool, true, false, refl, sym, ap, subst, ◌∙◌, arith, List, [], ◌∷◌}
 use Rattle.std.specs.Prelude.{Option, Some, None, IfSome, nat_lt, nat_eq, slice_index, slice_set}
 use Rattle.std.specs.Bool.{MatchBool}
 use Rattle.std.proofs.lemmas.Bool.Decides.{nat_tests}
 use mathlib.Core.Option.{some, none}
 use lib.ListN.{get_elem?}
 use Rattle.scram_types.specs.Lookups.{proc_id}
-use Rattle.bank_words.specs.declared.events.Event.{Event}
 use Rattle.bank_words.specs.declared.events.Event.TheVariants.{Start, Look, Store, Flip, Done, Halt, KNote, KStore, Release}
 use Rattle.coverage_check.specs.Missions.{MissionParts}
-use Rattle.atomic_table.specs.Table.{State, Me, Act, keeps, Allows, stepped, Valid, carried_after, step}
-use Rattle.fail_stop.specs.Events.{Place, At, Halted, Places, ReleaseWord, KernelWord, MarkWord, EndWord, BankWord, IsNext, moved, plan, may_note, next_from, writes}
+use Rattle.atomic_table.specs.Table.{State, Act, keeps, Allows, stepped, Valid, carried_after, step}
+use Rattle.fail_stop.specs.Events.{Place, At, Halted, KernelWord, MarkWord, EndWord, BankWord, IsNext, moved, plan, may_note, next_from, writes}
 use Rattle.fail_stop.specs.Flights.{Flight, word_in, side, mark_before}
 use Rattle.fail_stop.specs.Kept.{mark_at}
 use Rattle.fail_stop.specs.Listed.{index_of, list_after, stored_in}
@@ -18,8 +17,8 @@ use Rattle.fail_stop.proofs.ProcessorEvents.{side_of, unflipped}
 use Rattle.word_table.specs.declared.actors.Actor.{Actor}
 use Rattle.word_table.specs.declared.actors.Actor.TheVariants.{Runs, Stopped, Kernel}
 use Rattle.word_table.specs.declared.actors.View.{View}
-use Rattle.word_table.specs.Actors.{Waits, actor_at, awaited, begun, frame_awaited, halted, mission_flight, next_frame, one_more, restart_or, tried}
-use Rattle.word_table.specs.Plays.{GoesOrTries, Has, Sat, Shows, can_note, each_actor, ends, halts, looks, may_start, notes, publishes, reads, releases, starts, stores}
+use Rattle.word_table.specs.Actors.{Waits, actor_at, awaited, begun, halted, mission_flight, next_frame, one_more, restart_or, tried}
+use Rattle.word_table.specs.Plays.{GoesOrTries, Has, Sat, can_note, each_actor, ends, halts, looks, may_start, notes, publishes, reads, releases, starts, stores}
 use Rattle.word_table.specs.Rule.{Ruled}
 use Rattle.word_table.proofs.Seating.{IsSound, kernel_by, kernel_stands, loaded, set_same, shown, stands, stepped_by}
 

@@ -1,5 +1,5 @@
 -- The opening, splits and joins keep the rule on words and views.
-use Rattle.std.proofs.Common.{◌≡◌, ◌≢◌, ◌⊎◌, ℕ, zero, suc, ◌+◌, ◌<◌, ◌≤◌, Bool, true, false, refl, sym, ap, subst, ◌∙◌, inl, inr, arith, List, [], ◌∷◌, ◌++◌, length}
+use Rattle.std.proofs.Common.{◌≡◌, ◌≢◌, ◌⊎◌, ℕ, zero, suc, ◌<◌, Bool, true, false, refl, sym, ap, subst, ◌∙◌, inl, inr, arith, List, [], ◌∷◌, ◌++◌, length}
 use Rattle.std.specs.Prelude.{Option, Some, None, nat_eq, if◌then◌else◌, slice_set}
 use Rattle.std.proofs.lemmas.Bool.Decides.{nat_tests}
 use Rattle.std.proofs.lemmas.Grind.{common_steps}
@@ -9,13 +9,12 @@ use Rattle.atomic_table.specs.Table.{State, Splits, Joins}
 use Rattle.atomic_table.specs.Table as table
 use Rattle.atomic_table.proofs.Lists.{at_set}
 use Rattle.coverage_check.specs.Missions.{MissionParts}
-use Rattle.fail_stop.specs.Events.{At, IsStored, Places, Word}
+use Rattle.fail_stop.specs.Events.{IsStored, Places, Word}
 use Rattle.fail_stop.specs.Flights.{Flight}
 use Rattle.fail_stop.specs.Kept.{Kept, opening_places, opening_words}
 use Rattle.fail_stop.specs.Listed.{places_of_words, stored_in}
 use Rattle.fail_stop.proofs.Keeps.{opens}
 use Rattle.word_table.specs.declared.actors.Actor.{Actor}
-use Rattle.word_table.specs.declared.actors.Actor.TheVariants.{Runs, Kernel}
 use Rattle.word_table.specs.declared.actors.View.{View}
 use Rattle.word_table.specs.Actors.{mission_flight, who, with_actor, with_actors}
 use Rattle.word_table.specs.Plays.{all_actors, first_actor, first_of, other_actors, others_of, spent}

@@ -1,5 +1,5 @@
 -- The seats that an opening deals.
-use Rattle.std.proofs.Common.{◌≡◌, ◌⊎◌, ◌∙◌, ℕ, zero, suc, ◌+◌, ◌-◌, ◌<◌, ◌≤◌, refl, sym, ap, inl, inr, arith, List, [], ◌∷◌, ◌++◌, length}
+use Rattle.std.proofs.Common.{◌≡◌, ◌⊎◌, ◌∙◌, ℕ, zero, suc, ◌+◌, ◌-◌, ◌<◌, refl, sym, ap, inl, inr, arith, List, [], ◌∷◌, ◌++◌, length}
 use Rattle.std.specs.Prelude.{Some, slice_get}
 use Rattle.coverage_check.specs.Missions.{MissionParts}
 use Rattle.fail_stop.specs.Events.{At}
@@ -8,11 +8,11 @@ use Rattle.word_table.specs.declared.actors.Actor.TheVariants.{Runs}
 use Rattle.word_table.specs.declared.actors.View.{View}
 use Rattle.word_table.specs.declared.seats.Seat.{Seat}
 use Rattle.word_table.specs.declared.tables.WordTable.{WordTable}
-use Rattle.word_table.specs.Actors.{IsInFlight, with_actors}
+use Rattle.word_table.specs.Actors.{with_actors}
 use Rattle.word_table.specs.Keeping.{IsFlown}
 use Rattle.word_table.specs.Plays.{Sat, first_actor, first_of, other_actors, others_of}
 use Rattle.word_table.specs.Rule.{first_view, opening_actors}
-use Rattle.word_table.specs.Tables.{IsSeatOf, flight_in, flown, place_of, proc_of}
+use Rattle.word_table.specs.Tables.{IsSeatOf, flown, place_of, proc_of}
 
 -- The seats of the first processors, each where its actor opens.
 pub record AreDealt (words : WordTable) (seats : List Seat) : Type 0 where

@@ -1,7 +1,6 @@
 -- The last words are those of the places at which the actors stand.
-use Rattle.std.proofs.Common.{◌≡◌, ℕ, zero, suc, ℤ, pos, ◌+◌, ◌*◌, ◌%◌, ◌<◌, ◌≤◌, Bool, true, false, refl, sym, ap, subst, ◌∙◌, arith, List, [], ◌∷◌, map, length}
-use Rattle.std.specs.Prelude.{Option, Some, None, if◌then◌else◌, slice_get, slice_index, slice_index_or}
-use lib.ListN.{get_elem?}
+use Rattle.std.proofs.Common.{◌≡◌, ℕ, zero, suc, ℤ, ◌+◌, ◌*◌, ◌%◌, ◌<◌, Bool, true, false, refl, sym, ap, subst, ◌∙◌, arith, List, [], ◌∷◌, map, length}
+use Rattle.std.specs.Prelude.{Option, Some, if◌then◌else◌, slice_get, slice_index}
 use Rattle.scram_types.specs.Specification.{IsSpec}
 use Rattle.bank_words.specs.Numbers.{decode}
 use Rattle.coverage_check.specs.Missions.{MissionParts}
@@ -12,7 +11,7 @@ use Rattle.frame_model.specs.Storage.{mark_after}
 use Rattle.atomic_table.specs.Table.{Final, Seen}
 use Rattle.fail_stop.specs.Consistency.{IsConsistent, marked}
 use Rattle.fail_stop.specs.Events.{Place, At, Halted, Places, BankWord, MarkWord}
-use Rattle.fail_stop.specs.Flights.{Flight, commit_count, image_before, last_commit, mark_before, side, word_in}
+use Rattle.fail_stop.specs.Flights.{Flight, commit_count, last_commit, mark_before, side, word_in}
 use Rattle.fail_stop.specs.Kept.{Kept, is_flipped, mark_at}
 use Rattle.fail_stop.specs.Listed.{index_of, stored_in}
 use Rattle.fail_stop.specs.ScriptFlights.{image_words_after}

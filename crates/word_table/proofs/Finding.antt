@@ -1,6 +1,6 @@
 -- What the words that are found say of the mission.
-use Rattle.std.proofs.Common.{◌≡◌, ◌≢◌, ◌⊎◌, ℕ, zero, suc, ℤ, pos, ◌+◌, ◌*◌, ◌/◌, ◌%◌, ◌<◌, ◌≤◌, Bool, true, false, not, ◌&&◌, refl, sym, ap, subst, ◌∙◌, inl, inr, arith, List, [], ◌∷◌, length, get_or}
-use Rattle.std.specs.Prelude.{Option, Some, None, is_none, nat_eq, slice_index, slice_index_or, slice_set}
+use Rattle.std.proofs.Common.{◌≡◌, ℕ, suc, ℤ, pos, ◌+◌, ◌*◌, ◌%◌, ◌<◌, ◌≤◌, Bool, true, false, refl, sym, ap, subst, ◌∙◌, arith, List, [], ◌∷◌, length}
+use Rattle.std.specs.Prelude.{Option, Some, None, nat_eq, slice_index, slice_index_or, slice_set}
 use Rattle.std.proofs.lemmas.Bool.Decides.{nat_tests}
 use Rattle.std.proofs.lemmas.Grind.{get_or-set_at}
 use Rattle.std.proofs.lemmas.List.{ext_get_or, get_or-set_other, length-set}
@@ -14,7 +14,7 @@ use Rattle.frame_model.specs.Flights.{image_after}
 use Rattle.frame_model.specs.Storage.{image_bank_after, mark_after}
 use Rattle.fail_stop.specs.Events.{Place, At, Halted, KernelWord, MarkWord, EndWord, BankWord, may_note}
 use Rattle.fail_stop.specs.Flights.{Flies, Flight, back_by, end_before, end_word_after, side, word_in}
-use Rattle.fail_stop.specs.Kept.{IsPlaced, Kept, Running, Stopped, end_at}
+use Rattle.fail_stop.specs.Kept.{IsPlaced, Running, end_at}
 use Rattle.fail_stop.specs.Listed.{index_of, stored_in}
 use Rattle.fail_stop.specs.ScriptFlights.{image_words_after, kernel_words}
 use Rattle.fail_stop.proofs.FrameFacts.{end_le, side_le}
@@ -23,7 +23,6 @@ use Rattle.fail_stop.proofs.ImagesFound.{image_found}
 use Rattle.fail_stop.proofs.KernelEvents.{halted_end, noted_by}
 use Rattle.fail_stop.proofs.Reading.{holds, kernel_reads, note_bank, note_mark, picks}
 use Rattle.fail_stop.proofs.ScriptBorder.{images_same, marks_same, script_flies, sides_same}
-use Rattle.word_table.specs.declared.actors.Actor.{Actor}
 use Rattle.word_table.specs.declared.actors.Actor.TheVariants.{Runs, Kernel}
 use Rattle.word_table.specs.Actors.{mission_flight}
 use Rattle.word_table.specs.Plays.{IsFound}

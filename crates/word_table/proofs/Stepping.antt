@@ -1,12 +1,12 @@
 -- What it says that an event is the next step of a seat.
-use Rattle.std.proofs.Common.{◌≡◌, ◌∙◌, ℕ, zero, suc, ◌+◌, ◌<◌, ◌≤◌, Bool, true, false, refl, sym, ap, arith, List, [], ◌∷◌}
-use Rattle.std.specs.Prelude.{Option, Some, None}
+use Rattle.std.proofs.Common.{◌≡◌, ◌∙◌, ℕ, zero, suc, ◌+◌, ◌<◌, ◌≤◌, Bool, true, false, refl, List, [], ◌∷◌}
+use Rattle.std.specs.Prelude.{Some}
 use Rattle.scram_types.specs.Lookups.{proc_id}
 use Rattle.bank_words.specs.declared.events.Event.{Event}
-use Rattle.bank_words.specs.declared.events.Event.TheVariants.{Done, Flip, Halt, Look, Store}
-use Rattle.fail_stop.specs.Events.{At, Halted, Place, frame_of, halts_at, plan}
-use Rattle.fail_stop.specs.Flights.{Flies, Flight}
-use Rattle.fail_stop.proofs.Plans.{HaltsHere, halts_here, plan_done, plan_flip, plan_halt, plan_look, plan_store}
+use Rattle.bank_words.specs.declared.events.Event.TheVariants.{Flip, Look, Store}
+use Rattle.fail_stop.specs.Events.{frame_of, halts_at, plan}
+use Rattle.fail_stop.specs.Flights.{Flight}
+use Rattle.fail_stop.proofs.Plans.{plan_flip, plan_look, plan_store}
 use Rattle.word_table.specs.declared.actors.Actor.{Actor}
 use Rattle.word_table.specs.declared.actors.Actor.TheVariants.{Runs}
 use Rattle.word_table.specs.Actors.{actor_at, place_at, step_at}

@@ -1,5 +1,5 @@
 -- Actors, and where they stand.
-use Rattle.std.specs.Prelude.{◌≡◌, ◌≢◌, ◌<◌, ◌≤◌, ℕ, zero, suc, Bool, true, false, List, [], ◌∷◌, Option, Some, None}
+use Rattle.std.specs.Prelude.{◌≡◌, ◌<◌, ◌≤◌, ℕ, zero, suc, Bool, true, false, List, [], ◌∷◌, Option, Some, None}
 use Rattle.coverage_check.specs.Missions.{MissionParts}
 use Rattle.bank_words.specs.declared.events.Event.{Event}
 use Rattle.fail_stop.specs.Events.{At, Halted, Place, Places, plan}

@@ -1,5 +1,5 @@
 -- What the last words hold.
-use Rattle.std.specs.Prelude.{◌≡◌, ◌+◌, ◌*◌, ◌%◌, ◌<◌, ◌≤◌, ℕ, ℤ, pos, List, length, slice_index, slice_index_or}
+use Rattle.std.specs.Prelude.{◌≡◌, ◌+◌, ◌%◌, ◌<◌, ◌≤◌, ℕ, ℤ, pos, List, length, slice_index, slice_index_or}
 use Rattle.bank_words.specs.Numbers.{decode}
 use Rattle.fail_stop.specs.Events.{BankWord, MarkWord}
 use Rattle.fail_stop.specs.Listed.{index_of, stored_in}

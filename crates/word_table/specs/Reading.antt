@@ -1,5 +1,5 @@
 -- Images and the kernel's words, as they are read word by word.
-use Rattle.std.specs.Prelude.{◌≡◌, ◌+◌, ◌<◌, ◌≤◌, ℕ, suc, ℤ, pos, List, [], ◌∷◌, length, slice_index, slice_index_or}
+use Rattle.std.specs.Prelude.{◌≡◌, ◌+◌, ◌<◌, ◌≤◌, ℕ, suc, ℤ, pos, List, [], ◌∷◌, length, slice_index_or}
 use Rattle.bank_words.specs.Numbers.{decode}
 use Rattle.fail_stop.specs.Flights.{Flight}
 use Rattle.word_table.specs.declared.actors.Actor.{Actor}

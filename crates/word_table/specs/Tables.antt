@@ -1,5 +1,5 @@
 -- Tables, and the seats that are theirs.
-use Rattle.std.specs.Prelude.{◌≡◌, ◌+◌, ◌<◌, ℕ, suc, Bool, not, ◌&&◌, List, length, slice_get, Option, Some, None, is_none, if◌then◌else◌}
+use Rattle.std.specs.Prelude.{◌≡◌, ◌<◌, ℕ, Bool, not, ◌&&◌, List, length, slice_get, Some, is_none}
 use Rattle.coverage_check.specs.Missions.{MissionParts}
 use Rattle.fail_stop.specs.Consistency.{marked}
 use Rattle.fail_stop.specs.Events.{At, Place}

@@ -1,4 +1,4 @@
-use Rattle.std.proofs.Common.{◌≡◌, ◌∙◌, suc, ◌+◌, ◌*◌, refl, rules, subst, arith, List, [], ◌∷◌}
+use Rattle.std.proofs.Common.{◌∙◌, suc, ◌+◌, ◌*◌, rules, subst, arith, List, [], ◌∷◌}
 use Rattle.word_table.specs.declared.actors.Actor.{Actor}
 use Rattle.word_table.specs.declared.actors.Actor.TheVariants.{Runs}
 use Rattle.word_table.specs.Plays.{IsFound}

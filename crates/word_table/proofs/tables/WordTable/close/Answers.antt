@@ -1,4 +1,4 @@
-use Rattle.std.proofs.Common.{◌≡◌, ◌<◌, ℕ, subst, arith, [], length}
+use Rattle.std.proofs.Common.{◌<◌, ℕ, subst, arith, [], length}
 use Rattle.std.specs.Prelude.{slice_index, slice_index_or}
 use Rattle.std.specs.Mem.Slots.{slots_items}
 use Rattle.word_table.specs.Closing.{AreLast}

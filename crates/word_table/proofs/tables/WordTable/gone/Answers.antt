@@ -1,4 +1,4 @@
-use Rattle.std.proofs.Common.{◌≡◌, ◌∙◌, ℕ, suc, ◌+◌, ◌*◌, ◌%◌, true, sym, ap, subst, rules, arith, List, [], ◌∷◌}
+use Rattle.std.proofs.Common.{◌≡◌, ◌∙◌, suc, ◌+◌, ◌*◌, ◌%◌, true, sym, ap, subst, rules, arith, List, [], ◌∷◌}
 use Rattle.frame_model.specs.Flights.{image_after}
 use Rattle.frame_model.specs.Storage.{mark_after}
 use Rattle.fail_stop.specs.Events.{may_note}

@@ -1,4 +1,4 @@
-use Rattle.std.proofs.Common.{◌≡◌, ◌∙◌, ℕ, suc, ◌+◌, ◌*◌, ℤ, sym, ap, subst, rules, arith, List, [], ◌∷◌, to_z, of_z}
+use Rattle.std.proofs.Common.{◌≡◌, ◌∙◌, ℕ, suc, ◌+◌, ◌*◌, sym, ap, subst, rules, arith, List, [], ◌∷◌, to_z, of_z}
 use Rattle.std.specs.Prelude.{slice_set}
 use Rattle.std.specs.Int.{w64}
 use Rattle.scram_types.specs.Lookups.{proc_id}

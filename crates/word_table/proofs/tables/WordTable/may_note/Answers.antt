@@ -1,5 +1,5 @@
 use Rattle.std.proofs.Common.{◌≡◌, ◌∙◌, ap, rules}
-use Rattle.std.specs.Prelude.{Option, None, List, slice_index_or}
+use Rattle.std.specs.Prelude.{None, slice_index_or}
 use Rattle.scram_types.proofs.Eights.{eight_at}
 use Rattle.fault_script.specs.Times.{restart_of}
 use Rattle.word_table.specs.Tables.{flight_in, flown}

@@ -1,4 +1,4 @@
-use Rattle.std.proofs.Common.{◌≡◌, ◌≤◌}
+use Rattle.std.proofs.Common.{◌≡◌}
 use Rattle.word_table.specs.Reading.{AreRead}
 use Rattle.word_table.specs.Tables.{flight_in}
 use Rattle.word_table.proofs.tables.WordTable.read_image.Given as goal

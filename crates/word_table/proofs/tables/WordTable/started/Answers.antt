@@ -1,4 +1,4 @@
-use Rattle.std.proofs.Common.{◌≡◌, ◌∙◌, ◌+◌, ◌<◌, ap, subst, arith, List}
+use Rattle.std.proofs.Common.{◌∙◌, ◌+◌, ◌<◌, ap, subst, arith, List}
 use Rattle.std.specs.Prelude.{slice_index}
 use Rattle.bank_words.specs.Images.{kernel_decode}
 use Rattle.word_table.specs.declared.actors.Actor.{Actor}

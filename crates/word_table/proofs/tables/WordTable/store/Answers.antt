@@ -1,4 +1,4 @@
-use Rattle.std.proofs.Common.{◌≡◌, ◌∙◌, rules, arith, sym, ap}
+use Rattle.std.proofs.Common.{◌≡◌, ◌∙◌, arith, sym, ap}
 use Rattle.scram_types.specs.Lookups.{proc_id}
 use Rattle.bank_words.specs.declared.events.Event.TheVariants.{Store}
 use Rattle.fail_stop.specs.Flights.{side, word_in}
