@@ -13,7 +13,7 @@ use Rattle.trace_text.proofs.WordBytes.{line_split}
 use Rattle.schedule_replay.specs.declared.limits.TheConstants.{MAX_SCHEDULE_BYTES}
 use Rattle.schedule_replay.specs.declared.schedule_reading.ScheduleFault.{ScheduleFault}
 use Rattle.schedule_replay.specs.Events.{AreCodes, IsCode, code_line, event_line, event_text, schedule_text}
-use Rattle.schedule_replay.specs.Reading.{codes_from, event_read, go_on, schedule_of}
+use Rattle.schedule_replay.specs.Reading.{codes_from, event_read, read_on, schedule_of}
 use Rattle.schedule_replay.proofs.Codes.{code_back}
 use Rattle.schedule_replay.proofs.EventsBack.{line_back}
 use Rattle.schedule_replay.proofs.Walk.{line_then, of_length}
@@ -26,7 +26,7 @@ one_line spec k code so_far rest event sound is same =
     rw (← same)
     (ap (codes_from spec k so_far) (line_split (event_text spec is.event) rest line.plain)
     ∙ line_then spec k so_far (event_text spec is.event) (pieces_of 10 rest) (some_piece 10 rest)
-    ∙ ap (λ (r : Result Event ℕ). go_on k r (λ (e : Event). codes_from spec (k + 1) (so_far ++ event_code e ∷ []) (pieces_of 10 rest))) line.read
+    ∙ ap (λ (r : Result Event ℕ). read_on k r (λ (e : Event). codes_from spec (k + 1) (so_far ++ event_code e ∷ []) (pieces_of 10 rest))) line.read
     ∙ ap (λ (c : ℕ). codes_from spec (k + 1) (so_far ++ c ∷ []) (pieces_of 10 rest)) (code_back code is.event is.of_code))
 
 code_line_is : (spec : Parts) (code : ℕ) (rest : List ℕ) (is : IsCode spec code) → code_line spec code ++ rest ≡ event_text spec is.event ++ 10 ∷ rest

@@ -1,4 +1,5 @@
 -- The turn of a processor leads from the begin of a frame to its end.
+use Rattle.std.proofs.lemmas.Bool.{lt-ltb}
 use Rattle.std.proofs.Common.{◌≡◌, ◌≢◌, ◌∙◌, ℕ, zero, suc, ◌+◌, ◌-◌, ◌*◌, ◌<◌, ◌≤◌, Bool, true, false, refl, ap, sym, subst, arith, List, [], ◌∷◌, ◌++◌}
 use Rattle.std.specs.Prelude.{Option, Some, None, nat_eq, nat_le, nat_lt, ◌&&◌, if◌then◌else◌}
 use Rattle.std.proofs.lemmas.Bool.Decides.{nat_tests}
@@ -14,13 +15,7 @@ use Rattle.fail_stop.specs.Schedules.{IsSchedule, Machine, happened}
 use Rattle.fail_stop.proofs.EachState.{happens_so}
 use Rattle.fail_stop.proofs.Keeps.{keeps}
 use Rattle.fail_stop.proofs.Moves.{nat_eq_self}
-use Rattle.schedule_replay.specs.Turns.{ending, steps_by, turn, turns_of_procs}
-
-less_true : (a b : ℕ) → a < b → nat_lt a b ≡ true
-less_true a b h = grind (arith, nat_tests)
-
-less_false : (a b : ℕ) → b ≤ a → nat_lt a b ≡ false
-less_false a b h = grind (arith, nat_tests)
+use Rattle.schedule_replay.specs.Turns.{ending, steps_by, turn_of_proc, turns_of_procs}
 
 other_false : (a b : ℕ) → a ≢ b → nat_eq a b ≡ false
 other_false a b h = grind (arith, nat_tests, h)
@@ -108,7 +103,7 @@ module _ (m : Flight) (y : Flies m) (p : ℕ) (low : p < m.procs) where
       }
 
   asked : (s : Machine) (place : Place) → s.at.proc p ≡ place → next_of m s.at s.words p ≡ next_from m p (s.words ReleaseWord) place
-  asked s place here = rw (less_true p m.procs low, here) refl
+  asked s place here = rw (lt-ltb p m.procs low, here) refl
 
   -- so many events of one kind from step suc n of frame f on
   many : (f n : ℕ) (value : ℕ → Event) (count : ℕ) (s : Machine) → Kept m s.at s.words → s.at.proc p ≡ At f (suc n) → ((k : ℕ) → IsOf p (value k))

@@ -1,4 +1,5 @@
 -- The schedule in turns leads from the opening to the end of the flight.
+use Rattle.std.proofs.lemmas.Bool.{eq-eqb, le-ltb, lt-ltb}
 use Rattle.std.proofs.Common.{◌≡◌, ◌≢◌, ◌⊎◌, ◌∙◌, ℕ, zero, suc, ◌+◌, ◌-◌, ◌*◌, ◌/◌, ◌%◌, ◌<◌, ◌≤◌, Bool, true, false, ◌||◌, refl, ap, sym, subst, inl, inr, arith, List, [], ◌∷◌, ◌++◌, length, map}
 use Rattle.std.specs.Prelude.{Option, Some, None, not, nat_eq, nat_lt, nat_le, ◌&&◌, if◌then◌else◌}
 use Rattle.std.proofs.lemmas.Bool.Decides.{nat_tests}
@@ -17,17 +18,8 @@ use Rattle.fail_stop.proofs.Keeps.{opens}
 use Rattle.fail_stop.proofs.KernelEvents.{halted_end}
 use Rattle.fail_stop.proofs.ScriptBorder.{restarts_within, script_flies}
 use Rattle.fail_stop.specs.ScriptFlights.{flight_of}
-use Rattle.schedule_replay.specs.Turns.{LeadsToTheEnd, TurnsLeadToTheEnd, in_turns, frames_in_turns, releasing, steps_by, turn, turn_of_kernel, turns_of_procs}
+use Rattle.schedule_replay.specs.Turns.{LeadsToTheEnd, TurnsLeadToTheEnd, in_turns, frames_in_turns, releasing, steps_by, turn_of_proc, turn_of_kernel, turns_of_procs}
 use Rattle.schedule_replay.proofs.TurnsLead.{Came, Leads, ended_at, joined, kept_after, steps_lead}
-
-less_true : (a b : ℕ) → a < b → nat_lt a b ≡ true
-less_true a b h = grind (arith, nat_tests)
-
-less_false : (a b : ℕ) → b ≤ a → nat_lt a b ≡ false
-less_false a b h = grind (arith, nat_tests)
-
-eq_true : (a b : ℕ) → a ≡ b → nat_eq a b ≡ true
-eq_true a b h = grind (arith, nat_tests)
 
 -- a restart between two frames
 record Back (o : Option ℕ) (h f : ℕ) : Type 0 where
@@ -62,7 +54,7 @@ ended_went m p f None = (refl, refl)
 ended_went m p f (Some s) = (omega arith, not_at_once (m.restart p) f)
 
 module _ (m : Flight) (y : Flies m) where
-  -- the first step of a turn
+  -- the first step of a turn_of_proc
   record Starts (s : Machine) (p f : ℕ) : Type 0 where
     next : next_of m s.at s.words p ≡ Some (Start (proc_id p))
     goes : moved m (Start (proc_id p)) p (s.at.proc p) ≡ At f 1
@@ -77,7 +69,7 @@ module _ (m : Flight) (y : Flies m) where
   halted_starts p f h release r None is late same low = cc
   halted_starts p f h release r (Some t) is late same low =
       let e : t ≡ r = cc in
-      rw (less_true h t (omega (arith, e, late)), less_true t release (omega (arith, e, same, low))) refl
+      rw (lt-ltb h t (omega (arith, e, late)), lt-ltb t release (omega (arith, e, same, low))) refl
 
   starts : (s : Machine) (p f : ℕ) (place : Place) → Kept m s.at s.words → s.at.frame ≡ f → f < m.frames → p < m.procs → m.up p f ≡ true → s.at.proc p ≡ place → IsPlaced m s.at.frame s.at.step p place → Waits f place → Starts s p f
   starts s p f (At g n) kept frame flying low up here is w =
@@ -85,7 +77,7 @@ module _ (m : Flight) (y : Flies m) where
       let g_is = w.0 in
       let at_zero : s.at.proc p ≡ At f 0 = here ∙ ap (λ (k : ℕ). At k n) w.0 ∙ ap (λ (k : ℕ). At f k) w.1 in
       record {
-        next = rw (less_true p m.procs low, at_zero, less_true f m.frames flying, less_true f (s.words ReleaseWord) (omega (arith, release, frame))) refl;
+        next = rw (lt-ltb p m.procs low, at_zero, lt-ltb f m.frames flying, lt-ltb f (s.words ReleaseWord) (omega (arith, release, frame))) refl;
         goes = ap (moved m (Start (proc_id p)) p) at_zero;
       }
   starts s p f (Halted h) kept frame flying low up here is w = halted_by (back_by (m.restart p) h f) refl
@@ -99,7 +91,7 @@ module _ (m : Flight) (y : Flies m) where
           let same : b.r ≡ f = omega (arith, after, frame, r_low) in
           let release = released s kept (omega (arith, flying)) in
           record {
-            next = rw (less_true p m.procs low, here) (halted_starts p f h (s.words ReleaseWord) b.r (m.restart p) b.is b.late same (omega (arith, release, frame)));
+            next = rw (lt-ltb p m.procs low, here) (halted_starts p f h (s.words ReleaseWord) b.r (m.restart p) b.is b.late same (omega (arith, release, frame)));
             goes = ap (moved m (Start (proc_id p)) p) here ∙ (rw b.is (ap (λ (k : ℕ). At k 1) same));
           }
 
@@ -120,7 +112,7 @@ module _ (m : Flight) (y : Flies m) where
 
   record Turned (s : Machine) (p f : ℕ) : Type 0 where
     place : Place
-    leads : Leads m s (turn m p f) p place
+    leads : Leads m s (turn_of_proc m p f) p place
     went : Went m p f place
 
   turned : (s : Machine) (p f : ℕ) (b : Bool) → m.up p f ≡ b → Kept m s.at s.words → s.at.frame ≡ f → f < m.frames → p < m.procs → Waits f (s.at.proc p) → Turned s p f
@@ -161,7 +153,7 @@ module _ (m : Flight) (y : Flies m) where
       let t = turned r.state n f (m.up n f) refl r.kept r.frame flying low (r.waits n (omega arith) low) in
       record {
         state = t.leads.state;
-        schedule = joined m s (turns_of_procs m f n) r.state (turn m n f) t.leads.state r.schedule t.leads.schedule;
+        schedule = joined m s (turns_of_procs m f n) r.state (turn_of_proc m n f) t.leads.state r.schedule t.leads.schedule;
         kept = t.leads.came.kept;
         frame = t.leads.came.frame ∙ r.frame;
         step = t.leads.came.step ∙ r.step;
@@ -178,12 +170,12 @@ module _ (m : Flight) (y : Flies m) where
   noted_end s p (At g n) kept low here is w =
       let past = w.0 in
       let word : s.words (EndWord p) ≡ 2 * suc s.at.frame = kept.words_are (EndWord p) low ∙ ap (end_at m p) here ∙ is.done (omega (arith, past)) ∙ ap (λ (k : ℕ). 2 * k) w.0 in
-      rw (eq_true (s.words (EndWord p)) (2 * suc s.at.frame) word) refl
+      rw (eq-eqb (s.words (EndWord p)) (2 * suc s.at.frame) word) refl
   noted_end s p (Halted h) kept low here is w =
       let word : s.words (EndWord p) ≡ 2 * h + 1 = kept.words_are (EndWord p) low ∙ ap (end_at m p) here ∙ halted_end m s.at.frame s.at.step p h is in
       let half : s.words (EndWord p) / 2 ≡ h = omega (arith, word) in
       let odd : s.words (EndWord p) % 2 ≡ 1 = omega (arith, word) in
-      rw (half, w.1, eq_true (s.words (EndWord p) % 2) 1 odd) (or_true (nat_eq (s.words (EndWord p)) (2 * suc s.at.frame)))
+      rw (half, w.1, eq-eqb (s.words (EndWord p) % 2) 1 odd) (or_true (nat_eq (s.words (EndWord p)) (2 * suc s.at.frame)))
     where
       or_true : (b : Bool) → (b || true) ≡ true
       or_true true = refl
@@ -210,7 +202,7 @@ module _ (m : Flight) (y : Flies m) where
       let frame_is = k.frame in
       let step_is = k.step in
       let next : next_kernel m k.state.at k.state.words ≡ Some (KNote (proc_id n)) =
-      rw (less_true k.state.at.frame m.frames (omega (arith, frame_is, flying)), less_true k.state.at.step m.procs (omega (arith, step_is, low)), step_is, may) refl in
+      rw (lt-ltb k.state.at.frame m.frames (omega (arith, frame_is, flying)), lt-ltb k.state.at.step m.procs (omega (arith, step_is, low)), step_is, may) refl in
       record {
         state = happened m k.state (KNote (proc_id n));
         schedule = joined m s (listed_below (λ (p : ℕ). KNote (proc_id p)) n) k.state (KNote (proc_id n) ∷ []) (happened m k.state (KNote (proc_id n))) k.schedule (next, refl);
@@ -229,10 +221,10 @@ module _ (m : Flight) (y : Flies m) where
       let index : m.procs + n - m.procs ≡ n = omega arith in
       let next : next_kernel m k.state.at k.state.words ≡ Some (KStore n) =
       rw (
-        less_true k.state.at.frame m.frames (omega (arith, frame_is, flying)),
-        less_false k.state.at.step m.procs (omega (arith, step_is)),
-        less_true (suc k.state.at.frame) m.frames (omega (arith, frame_is, flying)),
-        less_true k.state.at.step (m.procs + 20) (omega (arith, step_is, few)),
+        lt-ltb k.state.at.frame m.frames (omega (arith, frame_is, flying)),
+        le-ltb k.state.at.step m.procs (omega (arith, step_is)),
+        lt-ltb (suc k.state.at.frame) m.frames (omega (arith, frame_is, flying)),
+        lt-ltb k.state.at.step (m.procs + 20) (omega (arith, step_is, few)),
         step_is,
         index,
       ) refl in
@@ -255,11 +247,11 @@ module _ (m : Flight) (y : Flies m) where
   released_next s f flying kept frame step went =
       let next : next_kernel m s.at s.words ≡ Some Release =
       rw (
-        less_true s.at.frame m.frames (omega (arith, frame, flying)),
-        less_false s.at.step m.procs (omega (arith, step)),
-        less_true (suc s.at.frame) m.frames (omega (arith, frame, flying)),
-        less_false s.at.step (m.procs + 20) (omega (arith, step)),
-        eq_true s.at.step (m.procs + 20) step,
+        lt-ltb s.at.frame m.frames (omega (arith, frame, flying)),
+        le-ltb s.at.step m.procs (omega (arith, step)),
+        lt-ltb (suc s.at.frame) m.frames (omega (arith, frame, flying)),
+        le-ltb s.at.step (m.procs + 20) (omega (arith, step)),
+        eq-eqb s.at.step (m.procs + 20) step,
       ) refl in
       record {
         state = happened m s Release;
@@ -283,7 +275,7 @@ module _ (m : Flight) (y : Flies m) where
       let k = stores n.state f 20 flying n.kept n.frame n.step (omega arith) in
       let went = moved_went n.state k.state f k.procs (moved_went r.state n.state f n.procs r.went) in
       let x = released_next k.state f flying k.kept k.frame k.step went in
-      let behind : IsSchedule m n.state (releasing m f) x.state = rw (less_true (suc f) m.frames flying) (joined m n.state (listed_below KStore 20) k.state (Release ∷ []) x.state k.schedule x.schedule) in
+      let behind : IsSchedule m n.state (releasing m f) x.state = rw (lt-ltb (suc f) m.frames flying) (joined m n.state (listed_below KStore 20) k.state (Release ∷ []) x.state k.schedule x.schedule) in
       record {
         state = x.state;
         schedule = joined m s (turns_of_procs m f m.procs) r.state (turn_of_kernel m f) x.state r.schedule
@@ -326,7 +318,7 @@ module _ (m : Flight) (y : Flies m) where
       let front = frames_lead f (omega (arith, last)) in
       let r = round front.state f m.procs (omega (arith, last)) front.begun (omega arith) in
       let n = notes r.state f m.procs (omega (arith, last)) r.kept r.frame r.step r.went (omega arith) in
-      let behind : IsSchedule m n.state (releasing m f) n.state = rw (less_false (suc f) m.frames (omega (arith, last))) refl in
+      let behind : IsSchedule m n.state (releasing m f) n.state = rw (le-ltb (suc f) m.frames (omega (arith, last))) refl in
       let went = moved_went r.state n.state f n.procs r.went in
       let frame_is = n.frame in
       let step_is = n.step in

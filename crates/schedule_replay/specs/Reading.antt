@@ -29,12 +29,13 @@ is_legible line = nat_le (length line) MAX_EVENT_BYTES && list_all is_printable 
 abbrev pub verb_of : List ℕ → Option Verb
 verb_of line = verb_named (word_at (words_of line) 0)
 
--- The words of a line that is to tell an event of a kind: rule 3 asks that none is empty and that they are so many.
-abbrev pub counted : Verb → List (List ℕ) → Option (List (List ℕ))
-counted verb words = if length words == word_count verb then Some words else None
+-- The words of a line, where they are as many as an event of a kind has.
+abbrev pub words_counted : Verb → List (List ℕ) → Option (List (List ℕ))
+words_counted verb words = if length words == word_count verb then Some words else None
 
+-- The words of a line that is to tell an event of a kind: rule 3 asks that none is empty and that they are so many.
 abbrev pub words_for : Verb → List ℕ → Option (List (List ℕ))
-words_for verb line = option_and_then (counted verb) (words_in line)
+words_for verb line = option_and_then (words_counted verb) (words_in line)
 
 -- The processor that the second word names.
 abbrev pub proc_in : Parts → List (List ℕ) → Option ProcId
@@ -66,24 +67,24 @@ abbrev pub event_read : Parts → List ℕ → Result Event ℕ
 event_read spec line = if is_legible line then line_event spec line else Err BROKEN_LINE
 
 -- A fault in a line of a number, counted from 1.
-abbrev pub fault_at : ℕ → ℕ → ScheduleFault
-fault_at line rule = record { line = line; rule = rule }
+abbrev pub schedule_fault : ℕ → ℕ → ScheduleFault
+schedule_fault line rule = record { line = line; rule = rule }
 
 -- The reading goes on behind a line that is read, and ends at line k where that one breaks a rule.
-abbrev pub go_on : ℕ → Result Event ℕ → (Event → Result (List ℕ) ScheduleFault) → Result (List ℕ) ScheduleFault
-go_on k (Ok event) next = next event
-go_on k (Err rule) next = Err (fault_at k rule)
+abbrev pub read_on : ℕ → Result Event ℕ → (Event → Result (List ℕ) ScheduleFault) → Result (List ℕ) ScheduleFault
+read_on k (Ok event) next = next event
+read_on k (Err rule) next = Err (schedule_fault k rule)
 
 -- From line k on, behind lines with these codes: the lines, and what follows the last line feed, which has to be nothing.
 abbrev pub codes_from : Parts → ℕ → List ℕ → List (List ℕ) → Result (List ℕ) ScheduleFault
 codes_from spec k so_far [] = Ok so_far
-codes_from spec k so_far (last ∷ []) = if is_filled last then Err (fault_at k BROKEN_LINE) else Ok so_far
+codes_from spec k so_far (last ∷ []) = if is_filled last then Err (schedule_fault k BROKEN_LINE) else Ok so_far
 codes_from spec k so_far (line ∷ next ∷ lines) =
-    go_on k (event_read spec line) (λ (event : Event). codes_from spec (k + 1) (so_far ++ event_code event ∷ []) (next ∷ lines))
+    read_on k (event_read spec line) (λ (event : Event). codes_from spec (k + 1) (so_far ++ event_code event ∷ []) (next ∷ lines))
 
 -- The codes of the events that the lines tell. A file that is too long breaks its rule at line 0.
 abbrev pub schedule_of : Parts → List ℕ → Result (List ℕ) ScheduleFault
-schedule_of spec bytes = if nat_lt MAX_SCHEDULE_BYTES (length bytes) then Err (fault_at 0 TOO_LONG) else codes_from spec 1 [] (pieces_of 10 bytes)
+schedule_of spec bytes = if nat_lt MAX_SCHEDULE_BYTES (length bytes) then Err (schedule_fault 0 TOO_LONG) else codes_from spec 1 [] (pieces_of 10 bytes)
 
 -- An answer of the reader: it is the reading's, or memory was wanting.
 abbrev pub AnswersSchedule : {A : Type 0} → Result (List ℕ) ScheduleFault → Result (Vec ℕ A) ScheduleError → Type 0

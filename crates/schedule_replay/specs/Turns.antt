@@ -24,13 +24,13 @@ steps_by m p halt =
     ++ (listed_below (λ (i : ℕ). Store (proc_id p) i) (stores_by m.width halt) ++ ending m p halt))
 
 -- All steps of processor p in frame f: none where it is down.
-abbrev pub turn : Flight → ℕ → ℕ → List Event
-turn m p f = if m.up p f then steps_by m p (m.halt p f) else []
+abbrev pub turn_of_proc : Flight → ℕ → ℕ → List Event
+turn_of_proc m p f = if m.up p f then steps_by m p (m.halt p f) else []
 
 -- The turns of the processors below n in frame f.
 abbrev pub turns_of_procs : Flight → ℕ → ℕ → List Event
 turns_of_procs m f zero = []
-turns_of_procs m f (suc n) = turns_of_procs m f n ++ turn m n f
+turns_of_procs m f (suc n) = turns_of_procs m f n ++ turn_of_proc m n f
 
 -- What the kernel does behind its notes in frame f: nothing in the last one.
 abbrev pub releasing : Flight → ℕ → List Event

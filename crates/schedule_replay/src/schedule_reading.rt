@@ -2,7 +2,7 @@
 
 ghost use Rattle.std.specs.Prelude.{◌≡◌, IfOk};
 ghost use Rattle.schedule_replay.specs.Events.{AreCodes};
-ghost use Rattle.schedule_replay.specs.Reading.{AnswersSchedule, fault_at, schedule_of};
+ghost use Rattle.schedule_replay.specs.Reading.{AnswersSchedule, schedule_fault, schedule_of};
 ghost use Rattle.schedule_replay.specs.declared.schedule_reading.ScheduleError.TheVariants.{Fault};
 
 use crate::event_lines::read_event;
@@ -35,7 +35,7 @@ pub fn read_schedule(alloc: Global, bytes: &[u8], spec: &Spec) -> Result<Vec<u32
     ensures known { IfOk result (λ list. AreCodes spec.now list.items) }
 {
     if bytes.len() > MAX_SCHEDULE_BYTES {
-        return Err(fault_at(0, rule::TOO_LONG));
+        return Err(schedule_fault(0, rule::TOO_LONG));
     }
     let mut list = Vec::new(alloc);
     let mut line: u32 = 1;
@@ -46,7 +46,7 @@ pub fn read_schedule(alloc: Global, bytes: &[u8], spec: &Spec) -> Result<Vec<u32
                 Ok(()) => {}
                 Err(_) => return Err(ScheduleError::NoMemory),
             },
-            Err(rule) => return Err(fault_at(line, rule)),
+            Err(rule) => return Err(schedule_fault(line, rule)),
         }
         rest = behind;
         line += 1;
@@ -54,12 +54,12 @@ pub fn read_schedule(alloc: Global, bytes: &[u8], spec: &Spec) -> Result<Vec<u32
     if rest.is_empty() {
         Ok(list)
     } else {
-        Err(fault_at(line, rule::BROKEN_LINE))
+        Err(schedule_fault(line, rule::BROKEN_LINE))
     }
 }
 
-fn fault_at(line: u32, rule: u8) -> ScheduleError
-    ensures { result ≡ Fault (fault_at line rule) }
+fn schedule_fault(line: u32, rule: u8) -> ScheduleError
+    ensures { result ≡ Fault (schedule_fault line rule) }
 {
     ScheduleError::Fault(ScheduleFault { line, rule })
 }

@@ -10,7 +10,7 @@ use Rattle.schedule_replay.proofs.schedule_reading.read_schedule.Goals as goal
 
 pub returns-in-Err-clause-read : goal.returns-in-Err-clause-read
 returns-in-Err-clause-read c =
-    rw c.fault_at-in-Err.ensures
+    rw c.schedule_fault-in-Err.ensures
     (refused c.args.spec.now c.loop-text.line c.loop-text.list.items c.in-Some.text.now c.loop-text.rest.now c.in-Some.behind.now c.args.bytes.now c.in-Err.rule
     c.in-Some.ensures.pieces (sym c.in-Err.ensures.event) (omega arith) c.loop-text.invariant.rest)
 
