@@ -8,10 +8,8 @@ use Rattle.bank_words.specs.declared.events.Event.{Event}
 use Rattle.bank_words.specs.declared.events.Event.TheVariants.{Start, Look, Store, Flip, Done, Halt, KNote, KStore, Release}
 use Rattle.fail_stop.specs.Events.{At, EndWord, Halted, IsNext, Place, Places, ReleaseWord, Word, halts_at, is_actor, may_note, next_from, next_halted, next_kernel, next_of, next_of_actor}
 use Rattle.fail_stop.specs.Flights.{Flight}
+use Rattle.fail_stop.proofs.Moves.{nat_eq_self}
 use Rattle.fail_stop.proofs.Plans.{gate}
-
-self_same : (p : ℕ) → nat_eq p p ≡ true
-self_same p = grind (arith, nat_tests)
 
 is_same : (p q : ℕ) → nat_eq p q ≡ true → q ≡ p
 is_same p q e = grind (arith, nat_tests)
@@ -23,17 +21,17 @@ told p x e own is = let same : x ≡ e = cc in subst (λ (e : Event). is_actor e
 plan_told : (p i : ℕ) (q : ProcId) (e : Event) (h a b c d f : Bool)
     → (if h then Some (Halt (proc_id p)) else (if a then Some (Start (proc_id p)) else (if b then Some (Look (proc_id p) q) else (if c then Some (Store (proc_id p) i)
     else (if d then Some (Flip (proc_id p)) else (if f then Some (Done (proc_id p)) else None)))))) ≡ Some e → is_actor e p ≡ true
-plan_told p i q e true a b c d f is = told p (Halt (proc_id p)) e (self_same p) is
-plan_told p i q e false true b c d f is = told p (Start (proc_id p)) e (self_same p) is
-plan_told p i q e false false true c d f is = told p (Look (proc_id p) q) e (self_same p) is
-plan_told p i q e false false false true d f is = told p (Store (proc_id p) i) e (self_same p) is
-plan_told p i q e false false false false true f is = told p (Flip (proc_id p)) e (self_same p) is
-plan_told p i q e false false false false false true is = told p (Done (proc_id p)) e (self_same p) is
+plan_told p i q e true a b c d f is = told p (Halt (proc_id p)) e (nat_eq_self p) is
+plan_told p i q e false true b c d f is = told p (Start (proc_id p)) e (nat_eq_self p) is
+plan_told p i q e false false true c d f is = told p (Look (proc_id p) q) e (nat_eq_self p) is
+plan_told p i q e false false false true d f is = told p (Store (proc_id p) i) e (nat_eq_self p) is
+plan_told p i q e false false false false true f is = told p (Flip (proc_id p)) e (nat_eq_self p) is
+plan_told p i q e false false false false false true is = told p (Done (proc_id p)) e (nat_eq_self p) is
 plan_told p i q e false false false false false false is = cc
 
 halted_told : (p h release : ℕ) (restart : Option ℕ) (e : Event) → next_halted p h release restart ≡ Some e → is_actor e p ≡ true
 halted_told p h release None e is = cc
-halted_told p h release (Some r) e is = told p (Start (proc_id p)) e (self_same p) (gate _ (Some (Start (proc_id p))) e is).1
+halted_told p h release (Some r) e is = told p (Start (proc_id p)) e (nat_eq_self p) (gate _ (Some (Start (proc_id p))) e is).1
 
 -- the kernel is the actor of an event
 abbrev of_kernel : Event → Bool
@@ -59,7 +57,7 @@ kernel_told p i e true false c false f g is = cc
 
 module _ (m : Flight) (at : Places) (words : Word → ℕ) where
   from_told : (p release : ℕ) (place : Place) (e : Event) → next_from m p release place ≡ Some e → is_actor e p ≡ true
-  from_told p release (At f zero) e is = told p (Start (proc_id p)) e (self_same p) (gate _ (Some (Start (proc_id p))) e is).1
+  from_told p release (At f zero) e is = told p (Start (proc_id p)) e (nat_eq_self p) (gate _ (Some (Start (proc_id p))) e is).1
   from_told p release (At f (suc n)) e is = plan_told p _ _ e (halts_at m (suc n) (m.halt p f)) _ _ _ _ _ is
   from_told p release (Halted h) e is = halted_told p h release (m.restart p) e is
 

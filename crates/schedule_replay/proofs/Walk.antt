@@ -1,9 +1,7 @@
 -- One line more of a schedule.
-use Rattle.std.proofs.Common.{ℕ, zero, suc, ◌≡◌, ◌<◌, ◌≤◌, ◌+◌, ◌∙◌, List, [], ◌∷◌, ◌++◌, Result, Ok, Err, length, arith, refl, sym, ap}
-use Rattle.std.specs.Prelude.{Some, slice_get}
+use Rattle.std.proofs.Common.{ℕ, ◌≡◌, ◌<◌, ◌≤◌, ◌+◌, ◌∙◌, List, [], ◌∷◌, ◌++◌, Result, Ok, Err, length, arith, refl, sym, ap}
 use Rattle.std.proofs.lemmas.Bool.{le-ltb}
-use Rattle.scram_types.specs.Specification.{Each, Parts}
-use Rattle.scram_types.proofs.Options.{same_some}
+use Rattle.scram_types.specs.Specification.{Parts}
 use Rattle.bank_words.specs.Events.{event_code}
 use Rattle.bank_words.specs.declared.events.Event.{Event}
 use Rattle.trace_text.specs.Pieces.{pieces_of}
@@ -42,17 +40,3 @@ pub refused : (spec : Parts) (k : ℕ) (so_far text rest behind bytes : List ℕ
 refused spec k so_far text rest behind bytes rule split told short here =
     of_length spec bytes short ∙ sym (step spec k so_far text rest behind _ split here)
     ∙ ap (λ (r : Result Event ℕ). read_on k r (λ (e : Event). codes_from spec (k + 1) (so_far ++ event_code e ∷ []) (pieces_of 10 behind))) told
-
--- each item of both lists keeps the fact
-pub each_append : {A : Type 0} (Fact : A → Type 0) (xs ys : List A) → Each Fact xs → Each Fact ys → Each Fact (xs ++ ys)
-each_append Fact [] ys one two i y there = two i y there
-each_append Fact (x ∷ xs) ys one two zero y there = one 0 y there
-each_append Fact (x ∷ xs) ys one two (suc i) y there = each_append Fact xs ys (λ j z at. one (suc j) z at) two i y there
-
--- a list with one item more
-pub each_more : {A : Type 0} (Fact : A → Type 0) (xs : List A) (x : A) → Each Fact xs → Fact x → Each Fact (xs ++ x ∷ [])
-each_more Fact xs x each fact = each_append Fact xs (x ∷ []) each (only Fact x fact)
-  where
-    only : {A : Type 0} (Fact : A → Type 0) (x : A) → Fact x → Each Fact (x ∷ [])
-    only Fact x fact zero y there = let same : x ≡ y = same_some x y there in rw (← same) fact
-    only Fact x fact (suc i) y there = absurd (let e = there in cc)

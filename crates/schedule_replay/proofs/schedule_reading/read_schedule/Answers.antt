@@ -1,3 +1,4 @@
+use Rattle.fault_script.proofs.Ends.{each_end}
 use Rattle.std.proofs.Common.{◌≡◌, arith, rules, sym, ◌∙◌, subst}
 use Rattle.scram_types.specs.Specification.{Each}
 use Rattle.bank_words.specs.Events.{event_code}
@@ -5,7 +6,7 @@ use Rattle.std.specs.Prelude.{◌++◌, ◌∷◌, []}
 use Rattle.schedule_replay.specs.Events.{AreCodes, IsCode}
 use Rattle.schedule_replay.specs.Reading.{AnswersSchedule, codes_from, schedule_of}
 use Rattle.trace_text.specs.Pieces.{pieces_of}
-use Rattle.schedule_replay.proofs.Walk.{each_more, refused, taken}
+use Rattle.schedule_replay.proofs.Walk.{refused, taken}
 use Rattle.schedule_replay.proofs.schedule_reading.read_schedule.Goals as goal
 
 pub returns-in-Err-clause-read : goal.returns-in-Err-clause-read
@@ -20,7 +21,7 @@ loop-text-preserved c =
     record {
       rest = rw items (taken c.args.spec.now c.loop-text.line c.loop-text.list.items c.in-Some.text.now c.loop-text.rest.now c.in-Some.behind.now c.in-Ok.event _
           c.in-Some.ensures.pieces (sym c.in-Ok.ensures.event) c.loop-text.invariant.rest);
-      known = rw items (each_more (IsCode c.args.spec.now) c.loop-text.list.items (event_code c.in-Ok.event) c.loop-text.invariant.known
+      known = rw items (each_end (IsCode c.args.spec.now) c.loop-text.list.items (event_code c.in-Ok.event) c.loop-text.invariant.known
           (record { event = c.in-Ok.event; of_code = (let b = c.event_code.ensures.back in let e = c.event_code.ensures.code in rw e at b); has = c.in-Ok.ensures.known }));
       place = omega (arith, c.in-Some.ensures.shorter, c.loop-text.invariant.place);
     }
