@@ -27,6 +27,3 @@ pub use names::{kind_name, kind_named, mode_name, mode_named, variable_name, var
 pub use racks::{Rack, rack_fits, racks_fit};
 pub use seen::Seen;
 pub use starts::start_area;
-
-#[cfg(test)]
-mod tests;

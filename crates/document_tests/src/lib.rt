@@ -4,6 +4,8 @@
 #[cfg(test)]
 mod missions;
 #[cfg(test)]
+mod reading;
+#[cfg(test)]
 mod scripts;
 #[cfg(test)]
 mod specifications;

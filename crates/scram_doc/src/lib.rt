@@ -23,6 +23,3 @@ pub use numbered::{NamedElements, Naming, Numbered, Numbers, read_named_items, r
 pub use path::Path;
 pub use values::{int_in, list, text, whole_in};
 pub use writers::{Writes, put_list, write_list};
-
-#[cfg(test)]
-mod tests;

@@ -1,6 +1,8 @@
+//! A small document read by path, and what each call refuses.
+
 ghost use Rattle.std.specs.Prelude.{◌≤◌, length};
 
-use crate::{
+use scram_doc::{
     DocError, DocFault, Path, field, int_in, list, name_of, need, no_more, object, parse, text,
     whole_in,
 };

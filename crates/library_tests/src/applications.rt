@@ -1,7 +1,7 @@
-//! Values from the tables.
+//! Names, ranges and first areas of applications, by the tables.
 
-use crate::kinds::{autopilot, data_link, flight_control, navigator, power_monitor};
-use crate::{
+use app_model::kinds::{autopilot, data_link, flight_control, navigator, power_monitor};
+use app_model::{
     Rack, after_halt, after_init, during, kind_name, kind_named, mode_name, mode_named, rack_fits,
     racks_fit, sane, start_area, variable_name, variable_named,
 };

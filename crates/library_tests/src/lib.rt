@@ -1,0 +1,15 @@
+//! Tests of what stands below the documents. They stand by themselves, since a crate that has tests is proved twice.
+#![tactic(auto)]
+
+#[cfg(test)]
+mod applications;
+#[cfg(test)]
+mod events;
+#[cfg(test)]
+mod images;
+#[cfg(test)]
+mod marks;
+#[cfg(test)]
+mod numbers;
+#[cfg(test)]
+mod ranks;
