@@ -12,3 +12,4 @@ pub mod Ending
 pub mod Overs
 pub mod Snapshots
 pub mod Actors
+pub mod Histories

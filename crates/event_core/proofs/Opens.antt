@@ -38,7 +38,7 @@ left_open : (m : Flight) (n : ℕ) → left_below m opening_places n ≡ n * (m.
 left_open m zero = grind arith
 left_open m (suc n) = let front = left_open m n in grind (arith, front)
 
-all_events : (m : Flight) → events_left m opening_places ≡ m.frames * (m.procs * events_a_frame m + (m.procs + 21))
+pub all_events : (m : Flight) → events_left m opening_places ≡ m.frames * (m.procs * events_a_frame m + (m.procs + 21))
 all_events m = let procs = left_open m m.procs in rw procs (grind arith)
 
 pub open_keeps : (spec : Parts) (script : ScriptParts) (first : List ℕ) (areas : List (List ℤ)) (keepers : List (Option ProcId)) (places : KeptPlaces) (stored history : List ℕ) (room count : ℕ)

@@ -26,7 +26,7 @@ map_more (x ∷ es) e = ap (λ l. event_code x ∷ l) (map_more es e)
 
 -- words that agree have the same next events
 module _ (m : Flight) (at : Places) (v w : Word → ℕ) (same : (x : Word) → IsStored m x → v x ≡ w x) where
-  next_same : (p : ℕ) → next_of m at v p ≡ next_of m at w p
+  pub next_same : (p : ℕ) → next_of m at v p ≡ next_of m at w p
   next_same p = ap (λ r. if nat_lt p m.procs then next_from m p r (at.proc p) else None) (same ReleaseWord tt)
 
   note_same : (b : Bool) (e : Option Event) → nat_lt at.step m.procs ≡ b
@@ -37,7 +37,7 @@ module _ (m : Flight) (at : Places) (v w : Word → ℕ) (same : (x : Word) → 
       ap (λ end. if may_note m at.step at.frame end then Some (KNote (proc_id at.step)) else None) (same (EndWord at.step) low)
   note_same false e is = refl
 
-  kernel_same : next_kernel m at v ≡ next_kernel m at w
+  pub kernel_same : next_kernel m at v ≡ next_kernel m at w
   kernel_same = ap (λ o. if nat_lt at.frame m.frames then o else None) (note_same (nat_lt at.step m.procs) _ refl)
 
   pub next_moved : (e : Event) → IsNext m at v e → IsNext m at w e

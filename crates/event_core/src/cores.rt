@@ -48,8 +48,9 @@ impl<'a> std::marker::Model for Core<'a> {
 }
 
 impl<'a> Core<'a> {
-    ghost use Rattle.std.specs.Prelude.{◌≡◌, ◌≢◌, ◌<◌, ◌++◌, [], ◌∷◌, IfErr, IfOk, IsTrue, ◌↔◌, ◌≤◌, ◌+◌, ◌⊎◌, length};
+    ghost use Rattle.std.specs.Prelude.{◌≡◌, ◌≢◌, ◌<◌, ◌++◌, [], ◌∷◌, IfErr, IfOk, IsTrue, ◌↔◌, ◌≤◌, ◌+◌, ◌⊎◌, ◌^◌, length};
     ghost use Rattle.bank_words.specs.Events.{event_code};
+    ghost use Rattle.event_core.specs.Replays.{IsReplay};
     ghost use Rattle.fail_stop.specs.Events.{Happens, IsNext, frame_of, next_kernel, next_of, next_of_actor};
     ghost use Rattle.fail_stop.specs.Drafts.{IsSnapshot};
     ghost use Rattle.fail_stop.specs.Ends.{IsOver};
@@ -119,9 +120,12 @@ impl<'a> Core<'a> {
         self.places.frame
     }
 
-    /// The codes of the events so far. It takes no memory.
+    /// The codes of the events so far: a schedule from the opening that leads to where all stand and to what is stored. It
+    /// takes no memory.
     pub fn history(&self) -> &[u32]
-        ensures { result.now ≡ self.now.history }
+        ensures history { result.now ≡ self.now.history }
+        ensures schedule { IsReplay (flown self.now) self.now.history (standing self.now) (standing_words self.now) }
+        ensures few { length result.now < 2 ^ 32 }
     {
         &self.history
     }
@@ -188,7 +192,8 @@ impl<'a> Core<'a> {
         self.kernel.finish()
     }
 
-    fn next_of_actor(&self, event: Event) -> Option<Event>
+    /// The next event of the actor of an event, as `next_of` and `next_kernel` tell it. It takes no memory.
+    pub fn next_of_actor(&self, event: Event) -> Option<Event>
         ensures { result ≡ next_of_actor (flown self.now) (standing self.now) (standing_words self.now) event }
     {
         match event {

@@ -18,7 +18,7 @@ marked_low m f n h = grind (arith, nat_tests)
 marked_high : (m : Flight) (f n : ℕ) → m.procs + 1 + m.width < n → marked m (At f n) ≡ suc f
 marked_high m f n h = grind (arith, nat_tests)
 
-choose_in : (m : Flight) (p f : ℕ) (b : Bool) → (if b then mark_before m p (suc f) else mark_before m p f) ≡ mark_before m p (if b then suc f else f)
+pub choose_in : (m : Flight) (p f : ℕ) (b : Bool) → (if b then mark_before m p (suc f) else mark_before m p f) ≡ mark_before m p (if b then suc f else f)
 choose_in m p f true = refl
 choose_in m p f false = refl
 

@@ -85,7 +85,7 @@ module _ (m : Flight) (p : ℕ) (at : Places) (words : Word → ℕ) (at2 : Plac
 pub nat_eq_self : (p : ℕ) → nat_eq p p ≡ true
 nat_eq_self p = grind (arith, nat_tests)
 
-nat_eq_other : (q p : ℕ) → q ≢ p → nat_eq q p ≡ false
+pub nat_eq_other : (q p : ℕ) → q ≢ p → nat_eq q p ≡ false
 nat_eq_other q p n = grind (arith, nat_tests)
 
 -- an event of p, which stood at y: the words of p are left to show

@@ -2,6 +2,7 @@
 use Rattle.std.proofs.Common.{◌≡◌, ◌≢◌, ◌⊎◌, ℕ, zero, suc, ◌+◌, ◌-◌, ◌*◌, ◌/◌, ◌%◌, ◌<◌, ◌≤◌, Bool, true, false, ◌||◌, refl, ap, subst, ◌∙◌, inl, inr, arith}
 use Rattle.std.specs.Prelude.{Option, Some, None, nat_lt, nat_eq, if◌then◌else◌}
 use Rattle.std.proofs.lemmas.Bool.Decides.{nat_tests}
+use Rattle.std.proofs.lemmas.Bool.{eq-eqb, le-ltb, lt-ltb}
 use native.Mathlib.Decide.{dec_le, ℕ_discrete}
 use Rattle.fail_stop.specs.Flights.{Flight, Flies, back_by, side, stores_in, laid, bank_before}
 use Rattle.bank_words.specs.declared.events.Event.{Event}
@@ -13,22 +14,13 @@ use Rattle.fail_stop.specs.Ends.{IsOver, IsDone, Stores, IsStoredLast}
 use Rattle.fail_stop.proofs.FrameFacts.{laid_new, laid_past}
 use Rattle.fail_stop.proofs.KernelEvents.{halted_end}
 
-less_true : (a b : ℕ) → a < b → nat_lt a b ≡ true
-less_true a b h = grind (arith, nat_tests)
-
-less_false : (a b : ℕ) → b ≤ a → nat_lt a b ≡ false
-less_false a b h = grind (arith, nat_tests)
-
-eq_true : (a b : ℕ) → a ≡ b → nat_eq a b ≡ true
-eq_true a b h = grind (arith, nat_tests)
-
 -- some event is next
 abbrev pub Goes : Flight → Places → (Word → ℕ) → Type 0
 Goes m at words = (e : Event) × IsNext m at words e
 
 restarted_at : (m : Flight) (p h release r : ℕ) (o : Option ℕ) → o ≡ Some r → h < r → r < release → next_halted p h release o ≡ Some (Start (proc_id p))
 restarted_at m p h release r None e a b = cc
-restarted_at m p h release r (Some s) e a b = let same : s ≡ r = cc in rw (less_true h s (omega arith), less_true s release (omega arith)) refl
+restarted_at m p h release r (Some s) e a b = let same : s ≡ r = cc in rw (lt-ltb h s (omega arith), lt-ltb s release (omega arith)) refl
 
 plan_goes : (m : Flight) (at : Places) (words : Word → ℕ) (p n : ℕ) (b : Bool) → next_of m at words p ≡ (if b then Some (Halt (proc_id p)) else plan_step m p n)
     → 0 < n → (b ≡ false → n ≤ m.procs + 2 + m.width) → Goes m at words
@@ -59,13 +51,13 @@ in_limit m n None y h = h
 in_limit m n (Some s) y h = let small : s ≤ m.width + 1 = y s refl in omega arith
 
 may_done : (m : Flight) (p k e : ℕ) → e ≡ 2 * suc k → may_note m p k e ≡ true
-may_done m p k e h = rw (eq_true e (2 * suc k) h) refl
+may_done m p k e h = rw (eq-eqb e (2 * suc k) h) refl
 
 may_halted : (m : Flight) (p k h e : ℕ) → e ≡ 2 * h + 1 → back_by (m.restart p) h k ≡ false → may_note m p k e ≡ true
 may_halted m p k h e w b =
     let half : e / 2 ≡ h = omega arith in
     let one : e % 2 ≡ 1 = omega arith in
-    rw (half, b, eq_true (e % 2) 1 one) (or_true (nat_eq e (2 * suc k)))
+    rw (half, b, eq-eqb (e % 2) 1 one) (or_true (nat_eq e (2 * suc k)))
   where
     or_true : (b : Bool) → (b || true) ≡ true
     or_true true = refl
@@ -92,13 +84,13 @@ module _ (m : Flight) (at : Places) (words : Word → ℕ) (y : Flies m) (k : Ke
   in_frame = k.kernel.below some_frames
 
   noting : at.step < m.procs → may_note m at.step at.frame (words (EndWord at.step)) ≡ true → Goes m at words
-  noting l c = (KNote (proc_id at.step), rw (less_true at.frame m.frames in_frame, less_true at.step m.procs l, c) refl)
+  noting l c = (KNote (proc_id at.step), rw (lt-ltb at.frame m.frames in_frame, lt-ltb at.step m.procs l, c) refl)
 
   own_next : (p : ℕ) (x : Place) → p < m.procs → at.proc p ≡ x → next_of m at words p ≡ next_from m p (words ReleaseWord) x
-  own_next p x l here = rw (less_true p m.procs l, here) refl
+  own_next p x l here = rw (lt-ltb p m.procs l, here) refl
 
   start_goes : (p f : ℕ) → p < m.procs → at.proc p ≡ At f 0 → f ≡ at.frame → Goes m at words
-  start_goes p f l here e = (Start (proc_id p), own_next p (At f 0) l here ∙ rw (less_true f m.frames (omega (arith, in_frame)), less_true f (words ReleaseWord) (omega (arith, release_is))) refl)
+  start_goes p f l here e = (Start (proc_id p), own_next p (At f 0) l here ∙ rw (lt-ltb f m.frames (omega (arith, in_frame)), lt-ltb f (words ReleaseWord) (omega (arith, release_is))) refl)
 
   running_goes : (p f n : ℕ) → p < m.procs → at.proc p ≡ At f n → Running m at.frame at.step p f n → f ≡ at.frame → Goes m at words
   running_goes p f zero l here r e = start_goes p f l here e
@@ -125,8 +117,8 @@ module _ (m : Flight) (at : Places) (words : Word → ℕ) (y : Flies m) (k : Ke
   note_goes l (Halted h) here s = halted_goes l h here s (back_by (m.restart at.step) h at.frame) refl
 
   store_goes : m.procs ≤ at.step → suc at.frame < m.frames → Dec (at.step < m.procs + 20) → Goes m at words
-  store_goes l f (yes d) = (KStore (at.step - m.procs), rw (less_true at.frame m.frames in_frame, less_false at.step m.procs l, less_true (suc at.frame) m.frames f, less_true at.step (m.procs + 20) d) refl)
-  store_goes l f (no d) = (Release, rw (less_true at.frame m.frames in_frame, less_false at.step m.procs l, less_true (suc at.frame) m.frames f, less_false at.step (m.procs + 20) (omega arith), eq_true at.step (m.procs + 20) (omega (arith, k.kernel.steps))) refl)
+  store_goes l f (yes d) = (KStore (at.step - m.procs), rw (lt-ltb at.frame m.frames in_frame, le-ltb at.step m.procs l, lt-ltb (suc at.frame) m.frames f, lt-ltb at.step (m.procs + 20) d) refl)
+  store_goes l f (no d) = (Release, rw (lt-ltb at.frame m.frames in_frame, le-ltb at.step m.procs l, lt-ltb (suc at.frame) m.frames f, le-ltb at.step (m.procs + 20) (omega arith), eq-eqb at.step (m.procs + 20) (omega (arith, k.kernel.steps))) refl)
 
   done_at : ((p r : ℕ) → m.restart p ≡ Some r → r < m.frames) → suc at.frame ≡ m.frames → (p : ℕ) (x : Place) → p < at.step → IsPlaced m at.frame at.step p x → IsDone m p x
   done_at bound e p (At f n) l r = let late : at.frame < f = r.noted l in omega (arith, r.high)

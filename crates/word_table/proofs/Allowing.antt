@@ -3,6 +3,7 @@ use Rattle.std.proofs.Common.{◌≡◌, ℕ, zero, suc, ◌+◌, ◌-◌, ◌*�
 use Rattle.std.specs.Prelude.{Option, Some, None, IfSome, nat_lt, nat_eq, slice_index, slice_set}
 use Rattle.std.specs.Bool.{MatchBool}
 use Rattle.std.proofs.lemmas.Bool.Decides.{nat_tests}
+use Rattle.std.proofs.lemmas.Bool.{eq-eqb, le-ltb, lt-ltb}
 use mathlib.Core.Option.{some, none}
 use lib.ListN.{get_elem?}
 use Rattle.scram_types.specs.Lookups.{proc_id}
@@ -17,19 +18,10 @@ use Rattle.fail_stop.proofs.ProcessorEvents.{side_of, unflipped}
 use Rattle.word_table.specs.declared.actors.Actor.{Actor}
 use Rattle.word_table.specs.declared.actors.Actor.TheVariants.{Runs, Stopped, Kernel}
 use Rattle.word_table.specs.declared.actors.View.{View}
-use Rattle.word_table.specs.Actors.{Waits, actor_at, awaited, begun, halted, mission_flight, next_frame, one_more, restart_or, tried}
-use Rattle.word_table.specs.Plays.{GoesOrTries, Has, Sat, can_note, each_actor, ends, halts, looks, may_start, notes, publishes, reads, releases, starts, stores}
+use Rattle.word_table.specs.Actors.{Waits, actor_at, awaited, begun, halted_actor, mission_flight, next_frame, one_more, restart_or, tried}
+use Rattle.word_table.specs.Plays.{GoesOrTries, Has, Sat, can_note, each_actor, finishes_frame, halts, looks, may_start, notes, reads, starts, stores}
 use Rattle.word_table.specs.Rule.{Ruled}
 use Rattle.word_table.proofs.Seating.{IsSound, kernel_by, kernel_stands, loaded, set_same, shown, stands, stepped_by}
-
-less_yes : (a b : ℕ) → a < b → nat_lt a b ≡ true
-less_yes a b h = grind (arith, nat_tests)
-
-less_no : (a b : ℕ) → b ≤ a → nat_lt a b ≡ false
-less_no a b h = grind (arith, nat_tests)
-
-same_yes : (a b : ℕ) → a ≡ b → nat_eq a b ≡ true
-same_yes a b h = grind (arith, nat_tests)
 
 module _ (mission : MissionParts) (slots id : ℕ) (me : Sat) (y : IsSound (mission_flight mission)) (empty : me.1 ≡ []) where
   abbrev m : Flight
@@ -45,7 +37,7 @@ module _ (mission : MissionParts) (slots id : ℕ) (me : Sat) (y : IsSound (miss
     pub look_allows : (q i : ℕ) → me.0.mission ≡ Some mission → plan m p f (suc n) ≡ Some (Look (proc_id p) (proc_id q)) → Allows (Ruled m mission) slots id me i (λ n. n) (looks (step slots i 0 0 none) me)
     look_allows q i planned next = λ s r homes here small.
         let there : r.at.proc p ≡ At f (suc n) = stands m mission s id me.0 y r here p (At f (suc n)) alone in
-        let go : IsNext m r.at (stored_in s.words) (Look (proc_id p) (proc_id q)) = rw (less_yes p m.procs l, there) next in (
+        let go : IsNext m r.at (stored_in s.words) (Look (proc_id p) (proc_id q)) = rw (lt-ltb p m.procs l, there) next in (
           each_actor one_more me.0,
           keeps,
           tt,
@@ -66,7 +58,7 @@ module _ (mission : MissionParts) (slots id : ℕ) (me : Sat) (y : IsSound (miss
         → Allows (Ruled m mission) slots id me i (λ z. v) (λ z. stores (step slots i v 0 none) me v)
     store_allows x i v next low place value = λ s r homes here small.
         let there : r.at.proc p ≡ At f (suc n) = stands m mission s id me.0 y r here p (At f (suc n)) alone in
-        let go : IsNext m r.at (stored_in s.words) (Store (proc_id p) x) = rw (less_yes p m.procs l, there) next in (
+        let go : IsNext m r.at (stored_in s.words) (Store (proc_id p) x) = rw (lt-ltb p m.procs l, there) next in (
           each_actor one_more me.0,
           keeps,
           tt,
@@ -79,7 +71,7 @@ module _ (mission : MissionParts) (slots id : ℕ) (me : Sat) (y : IsSound (miss
         → Allows (Ruled m mission) slots id me i (λ z. v) (λ z. stores (step slots i v 0 none) me v)
     flip_allows i v next low place value = λ s r homes here small.
         let there : r.at.proc p ≡ At f (suc n) = stands m mission s id me.0 y r here p (At f (suc n)) alone in
-        let go : IsNext m r.at (stored_in s.words) (Flip (proc_id p)) = rw (less_yes p m.procs l, there) next in (
+        let go : IsNext m r.at (stored_in s.words) (Flip (proc_id p)) = rw (lt-ltb p m.procs l, there) next in (
           each_actor one_more me.0,
           keeps,
           tt,
@@ -89,10 +81,10 @@ module _ (mission : MissionParts) (slots id : ℕ) (me : Sat) (y : IsSound (miss
 
     -- the stores of the end word
     pub done_allows : (i v : ℕ) → plan m p f (suc n) ≡ Some (Done (proc_id p)) → i ≡ index_of (EndWord p) → v ≡ 2 * suc f
-        → Allows (Ruled m mission) slots id me i (λ z. v) (λ z. ends (step slots i v 0 none) me v)
+        → Allows (Ruled m mission) slots id me i (λ z. v) (λ z. finishes_frame (step slots i v 0 none) me v)
     done_allows i v next place value = λ s r homes here small.
         let there : r.at.proc p ≡ At f (suc n) = stands m mission s id me.0 y r here p (At f (suc n)) alone in
-        let go : IsNext m r.at (stored_in s.words) (Done (proc_id p)) = rw (less_yes p m.procs l, there) next in (
+        let go : IsNext m r.at (stored_in s.words) (Done (proc_id p)) = rw (lt-ltb p m.procs l, there) next in (
           each_actor next_frame me.0,
           keeps,
           tt,
@@ -104,11 +96,11 @@ module _ (mission : MissionParts) (slots id : ℕ) (me : Sat) (y : IsSound (miss
         → Allows (Ruled m mission) slots id me i (λ z. v) (λ z. halts (step slots i v 0 none) me v)
     halt_allows i v next place value = λ s r homes here small.
         let there : r.at.proc p ≡ At f (suc n) = stands m mission s id me.0 y r here p (At f (suc n)) alone in
-        let go : IsNext m r.at (stored_in s.words) (Halt (proc_id p)) = rw (less_yes p m.procs l, there) next in (
-          each_actor halted me.0,
+        let go : IsNext m r.at (stored_in s.words) (Halt (proc_id p)) = rw (lt-ltb p m.procs l, there) next in (
+          each_actor halted_actor me.0,
           keeps,
           tt,
-          stepped_by m mission s id me.0 y r here p (At f (suc n)) alone (Halt (proc_id p)) (λ x. refl) refl refl i v go (rw (there, place, value) refl) halted refl,
+          stepped_by m mission s id me.0 y r here p (At f (suc n)) alone (Halt (proc_id p)) (λ x. refl) refl refl i v go (rw (there, place, value) refl) halted_actor refl,
           (refl, empty),
         )
 
@@ -127,7 +119,7 @@ module _ (mission : MissionParts) (slots id : ℕ) (me : Sat) (y : IsSound (miss
         (tried me.0, keeps, tt, loaded m mission s id me.0 y r here (tried me.0) 0 refl refl, start_told (tried me.0) (slice_index s.words 0) false b (refl, empty))
     start_by s r here true b =
         let there : r.at.proc p ≡ x = stands m mission s id me.0 y r here p x alone in
-        let is_next : IsNext m r.at (stored_in s.words) (Start (proc_id p)) = rw (less_yes p m.procs l, there) (next (slice_index s.words 0) b) in
+        let is_next : IsNext m r.at (stored_in s.words) (Start (proc_id p)) = rw (lt-ltb p m.procs l, there) (next (slice_index s.words 0) b) in
         let is_go : begun m (actor_at p x) ≡ actor_at p (moved m (Start (proc_id p)) p x) = go ∙ sym (ap (actor_at p) to) in (
           each_actor (begun m) me.0,
           keeps,
@@ -143,12 +135,12 @@ module _ (mission : MissionParts) (slots id : ℕ) (me : Sat) (y : IsSound (miss
       → Allows (Ruled m mission) slots id me 0 (λ n. n) (starts (step slots 0 0 0 none) me)
   back_allows p h None l alone planned is waits = absurd (omega arith)
   back_allows p h (Some g) l alone planned is waits =
-      start_any p g (Halted h) l alone planned (λ release b. rw (is, less_yes h g waits, b) refl) (rw is refl) (rw is refl) (rw is refl)
+      start_any p g (Halted h) l alone planned (λ release b. rw (is, lt-ltb h g waits, b) refl) (rw is refl) (rw is refl) (rw is refl)
 
   pub start_allows : (p : ℕ) (x : Place) → p < m.procs → me.0.actors ≡ actor_at p x ∷ [] → me.0.mission ≡ Some mission → Waits m p x
       → Allows (Ruled m mission) slots id me 0 (λ n. n) (starts (step slots 0 0 0 none) me)
   start_allows p (At f zero) l alone planned waits =
-      start_any p f (At f 0) l alone planned (λ release b. rw (less_yes f m.frames waits.1, b) refl) refl refl refl
+      start_any p f (At f 0) l alone planned (λ release b. rw (lt-ltb f m.frames waits.1, b) refl) refl refl refl
   start_allows p (At f (suc n)) l alone planned waits = absurd (let none = waits.0 in omega (arith, none))
   start_allows p (Halted h) l alone planned waits = back_allows p h (m.restart p) l alone planned refl waits
 
@@ -167,7 +159,7 @@ module _ (mission : MissionParts) (slots id : ℕ) (me : Sat) (y : IsSound (miss
     note_by i s r place here true b =
         let there : (r.at.frame ≡ k) × (r.at.step ≡ p) = kernel_stands m mission s id me.0 y r here k p alone in
         let may : may_note m p k (stored_in s.words (EndWord p)) ≡ true = rw place at b in
-        let go : IsNext m r.at (stored_in s.words) (KNote (proc_id p)) = rw (there.0, there.1, less_yes k m.frames flown, less_yes p m.procs l, may) refl in (
+        let go : IsNext m r.at (stored_in s.words) (KNote (proc_id p)) = rw (there.0, there.1, lt-ltb k m.frames flown, lt-ltb p m.procs l, may) refl in (
           each_actor one_more me.0,
           keeps,
           tt,
@@ -180,11 +172,11 @@ module _ (mission : MissionParts) (slots id : ℕ) (me : Sat) (y : IsSound (miss
 
   -- the kernel's stores
   pub publish_allows : (k j x i v : ℕ) → x < 20 → suc k < m.frames → j ≡ m.procs + x → me.0.actors ≡ Kernel k j ∷ [] → i ≡ index_of (KernelWord x) → v ≡ word_in (m.kernel_image (suc k)) x
-      → Allows (Ruled m mission) slots id me i (λ z. v) (λ z. publishes (step slots i v 0 none) me v)
+      → Allows (Ruled m mission) slots id me i (λ z. v) (λ z. stores (step slots i v 0 none) me v)
   publish_allows k j x i v low flown steps alone place value = λ s r homes here small.
       let there : (r.at.frame ≡ k) × (r.at.step ≡ j) = kernel_stands m mission s id me.0 y r here k j alone in
       let left : j - m.procs ≡ x = omega arith in
-      let go : IsNext m r.at (stored_in s.words) (KStore x) = rw (there.0, there.1, less_yes k m.frames (omega arith), less_no j m.procs (omega arith), less_yes (suc k) m.frames flown, less_yes j (m.procs + 20) (omega arith), left) refl in
+      let go : IsNext m r.at (stored_in s.words) (KStore x) = rw (there.0, there.1, lt-ltb k m.frames (omega arith), le-ltb j m.procs (omega arith), lt-ltb (suc k) m.frames flown, lt-ltb j (m.procs + 20) (omega arith), left) refl in
       let put : slice_set s.words i v ≡ list_after s.words (writes m r.at (stored_in s.words) (KStore x)) =
       ap (λ n. slice_set s.words n v) place ∙ ap (slice_set s.words (index_of (KernelWord x))) (value ∙ ap (λ f. word_in (m.kernel_image (suc f)) x) (sym there.0)) in (
         each_actor one_more me.0,
@@ -195,10 +187,10 @@ module _ (mission : MissionParts) (slots id : ℕ) (me : Sat) (y : IsSound (miss
       )
 
   pub release_allows : (k j i v : ℕ) → suc k < m.frames → j ≡ m.procs + 20 → me.0.actors ≡ Kernel k j ∷ [] → i ≡ 0 → v ≡ suc (suc k)
-      → Allows (Ruled m mission) slots id me i (λ z. v) (λ z. releases (step slots i v 0 none) me v)
+      → Allows (Ruled m mission) slots id me i (λ z. v) (λ z. finishes_frame (step slots i v 0 none) me v)
   release_allows k j i v flown steps alone place value = λ s r homes here small.
       let there : (r.at.frame ≡ k) × (r.at.step ≡ j) = kernel_stands m mission s id me.0 y r here k j alone in
-      let go : IsNext m r.at (stored_in s.words) Release = rw (there.0, there.1, less_yes k m.frames (omega arith), less_no j m.procs (omega arith), less_yes (suc k) m.frames flown, less_no j (m.procs + 20) (omega arith), same_yes j (m.procs + 20) steps) refl in (
+      let go : IsNext m r.at (stored_in s.words) Release = rw (there.0, there.1, lt-ltb k m.frames (omega arith), le-ltb j m.procs (omega arith), lt-ltb (suc k) m.frames flown, le-ltb j (m.procs + 20) (omega arith), eq-eqb j (m.procs + 20) steps) refl in (
         each_actor next_frame me.0,
         keeps,
         tt,

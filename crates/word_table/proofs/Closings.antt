@@ -15,7 +15,7 @@ index_is [] i w there = absurd (some-ne-none w (sym there))
 index_is (x ∷ l) zero w there = some-injective x w there
 index_is (x ∷ l) (suc i) w there = index_is l i w there
 
-zeros_at : (n i : ℕ) → slice_index_or (replicate n (pos 0)) i (pos 0) ≡ pos 0
+pub zeros_at : (n i : ℕ) → slice_index_or (replicate n (pos 0)) i (pos 0) ≡ pos 0
 zeros_at zero i = refl
 zeros_at (suc n) zero = refl
 zeros_at (suc n) (suc i) = zeros_at n i

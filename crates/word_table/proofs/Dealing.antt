@@ -1,6 +1,7 @@
 -- The opening, splits and joins keep the rule on words and views.
 use Rattle.std.proofs.Common.{◌≡◌, ◌≢◌, ◌⊎◌, ℕ, zero, suc, ◌<◌, Bool, true, false, refl, sym, ap, subst, ◌∙◌, inl, inr, arith, List, [], ◌∷◌, ◌++◌, length}
 use Rattle.std.specs.Prelude.{Option, Some, None, nat_eq, if◌then◌else◌, slice_set}
+use Rattle.std.proofs.lemmas.Bool.{eq-eqb}
 use Rattle.std.proofs.lemmas.Bool.Decides.{nat_tests}
 use Rattle.std.proofs.lemmas.Grind.{common_steps}
 use mathlib.Core.Option.{some, some-injective, some-ne-none}
@@ -14,6 +15,7 @@ use Rattle.fail_stop.specs.Flights.{Flight}
 use Rattle.fail_stop.specs.Kept.{Kept, opening_places, opening_words}
 use Rattle.fail_stop.specs.Listed.{places_of_words, stored_in}
 use Rattle.fail_stop.proofs.Keeps.{opens}
+use Rattle.fail_stop.proofs.Moves.{nat_eq_other}
 use Rattle.word_table.specs.declared.actors.Actor.{Actor}
 use Rattle.word_table.specs.declared.actors.View.{View}
 use Rattle.word_table.specs.Actors.{mission_flight, who, with_actor, with_actors}
@@ -130,17 +132,11 @@ joined_home home id other q = if nat_eq (home q) other then id else home q
 
 join_to : (home : Option ℕ → ℕ) (id other : ℕ) (q : Option ℕ) → home q ≡ other → joined_home home id other q ≡ id
 unfolding joined_home
-join_to home id other q e = let b : nat_eq (home q) other ≡ true = same_yes (home q) other e in rw b refl
-  where
-    same_yes : (a b : ℕ) → a ≡ b → nat_eq a b ≡ true
-    same_yes a b h = grind (arith, nat_tests)
+join_to home id other q e = let b : nat_eq (home q) other ≡ true = eq-eqb (home q) other e in rw b refl
 
 join_else : (home : Option ℕ → ℕ) (id other : ℕ) (q : Option ℕ) → home q ≢ other → joined_home home id other q ≡ home q
 unfolding joined_home
-join_else home id other q e = let b : nat_eq (home q) other ≡ false = same_no (home q) other e in rw b refl
-  where
-    same_no : (a b : ℕ) → a ≢ b → nat_eq a b ≡ false
-    same_no a b h = grind (arith, nat_tests)
+join_else home id other q e = let b : nat_eq (home q) other ≡ false = nat_eq_other (home q) other e in rw b refl
 
 hosts_to : (at : Places) (home : Option ℕ → ℕ) (id other : ℕ) (l : List Actor) → Hosts at home other l → Hosts at (joined_home home id other) id l
 hosts_to at home id other [] h = tt

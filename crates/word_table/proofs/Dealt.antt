@@ -12,11 +12,11 @@ use Rattle.word_table.specs.Actors.{with_actors}
 use Rattle.word_table.specs.Keeping.{IsFlown}
 use Rattle.word_table.specs.Plays.{Sat, first_actor, first_of, other_actors, others_of}
 use Rattle.word_table.specs.Rule.{first_view, opening_actors}
-use Rattle.word_table.specs.Tables.{IsSeatOf, flown, place_of, proc_of}
+use Rattle.word_table.specs.Tables.{IsSeatOf, mission_in, seat_place, proc_of}
 
 -- The seats of the first processors, each where its actor opens.
 pub record AreDealt (words : WordTable) (seats : List Seat) : Type 0 where
-  pub each : (p : ℕ) (seat : Seat) → slice_get seats p ≡ Some seat → IsSeatOf words seat × (proc_of seat ≡ p) × (place_of seat ≡ At 0 0)
+  pub each : (p : ℕ) (seat : Seat) → slice_get seats p ≡ Some seat → IsSeatOf words seat × (proc_of seat ≡ p) × (seat_place seat ≡ At 0 0)
 
 pub none_dealt : (words : WordTable) (seats : List Seat) → seats ≡ [] → AreDealt words seats
 none_dealt words [] none = record { each = λ p seat there. absurd (let e = there in cc) }
@@ -32,10 +32,10 @@ at_end (x ∷ l) a b (suc j) there = end_more (at_end l a b j there)
     end_more (inl t) = inl t
     end_more (inr t) = inr (ap (λ (z : ℕ). suc z) t.0, t.1)
 
-pub one_dealt : (words : WordTable) (seats : List Seat) (x : Seat) → AreDealt words seats → IsSeatOf words x → proc_of x ≡ length seats → place_of x ≡ At 0 0 → AreDealt words (seats ++ x ∷ [])
+pub one_dealt : (words : WordTable) (seats : List Seat) (x : Seat) → AreDealt words seats → IsSeatOf words x → proc_of x ≡ length seats → seat_place x ≡ At 0 0 → AreDealt words (seats ++ x ∷ [])
 one_dealt words seats x dealt is own place = record { each = λ p seat there. by_end p seat (at_end seats x seat p there) }
   where
-    by_end : (p : ℕ) (seat : Seat) → (slice_get seats p ≡ Some seat) ⊎ ((p ≡ length seats) × (x ≡ seat)) → IsSeatOf words seat × (proc_of seat ≡ p) × (place_of seat ≡ At 0 0)
+    by_end : (p : ℕ) (seat : Seat) → (slice_get seats p ≡ Some seat) ⊎ ((p ≡ length seats) × (x ≡ seat)) → IsSeatOf words seat × (proc_of seat ≡ p) × (seat_place seat ≡ At 0 0)
     by_end p seat (inl t) = dealt.each p seat t
     by_end p seat (inr t) = rw (← t.1) (is, own ∙ sym t.0, place)
 
@@ -44,7 +44,7 @@ long_one [] x = refl
 long_one (y ∷ l) x = let more = long_one l x in omega (arith, more)
 
 -- a seat that a split gave is the table's
-pub dealt_is : (words : WordTable) (seat : Seat) → IsFlown (flown words) → seat.inner.table_id ≡ words.table.shared.table_id → seat.inner.me.0.mission ≡ Some (flown words) → proc_of seat < length (flown words).spec.procs → place_of seat ≡ At 0 0
+pub dealt_is : (words : WordTable) (seat : Seat) → IsFlown (mission_in words) → seat.inner.table_id ≡ words.table.shared.table_id → seat.inner.me.0.mission ≡ Some (mission_in words) → proc_of seat < length (mission_in words).spec.procs → seat_place seat ≡ At 0 0
     → IsSeatOf words seat
 dealt_is words seat holds table mission low place =
     record { holds = holds; table = table; mission = mission; proc = low; in_flight = rw place (omega arith, λ none. absurd (omega (arith, none))) }

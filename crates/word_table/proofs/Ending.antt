@@ -15,7 +15,7 @@ use Rattle.fail_stop.specs.Flights.{Flight, commit_count, last_commit, mark_befo
 use Rattle.fail_stop.specs.Kept.{Kept, is_flipped, mark_at}
 use Rattle.fail_stop.specs.Listed.{index_of, stored_in}
 use Rattle.fail_stop.specs.ScriptFlights.{image_words_after}
-use Rattle.fail_stop.proofs.Facts.{facts}
+use Rattle.fail_stop.proofs.Facts.{choose_in, facts}
 use Rattle.fail_stop.proofs.FrameFacts.{img_last, side_count, side_le}
 use Rattle.fail_stop.proofs.ImagesFound.{image_found}
 use Rattle.fail_stop.proofs.ScriptBorder.{images_same, marks_same, script_flies}
@@ -25,15 +25,11 @@ use Rattle.word_table.specs.declared.seats.Seat.{Seat}
 use Rattle.word_table.specs.Actors.{mission_flight}
 use Rattle.word_table.specs.Closing.{AreLast}
 use Rattle.word_table.specs.Rule.{Hosts, IsRuled}
-use Rattle.word_table.specs.Tables.{actor_of, place_of, proc_of}
+use Rattle.word_table.specs.Tables.{actor_of, seat_place, proc_of}
 use Rattle.word_table.proofs.Seating.{stand_of}
 
-mark_by : (m : Flight) (p f : ℕ) (b : Bool) → (if b then mark_before m p (suc f) else mark_before m p f) ≡ mark_before m p (if b then suc f else f)
-mark_by m p f true = refl
-mark_by m p f false = refl
-
 mark_marked : (m : Flight) (p : ℕ) (x : Place) → mark_at m p x ≡ mark_before m p (marked m x)
-mark_marked m p (At f n) = mark_by m p f (is_flipped m n)
+mark_marked m p (At f n) = choose_in m p f (is_flipped m n)
 mark_marked m p (Halted h) = refl
 
 module _ (mission : MissionParts) (is : IsSpec mission.spec) (fits : Fits mission.spec mission.script) (at : Places) (list : List ℕ) (kept : Kept (mission_flight mission) at (stored_in list)) (p : ℕ) (l : p < (mission_flight mission).procs) where
@@ -67,15 +63,15 @@ module _ (mission : MissionParts) (is : IsSpec mission.spec) (fits : Fits missio
       place : (i : ℕ) → index_of (BankWord p (mark % 2) 0) + i ≡ index_of (BankWord p (stored_in list (MarkWord p) % 2) i)
       place i = ap (λ n. index_of (BankWord p (n % 2) 0) + i) last.mark_is ∙ omega arith
 
-seat_stands : (at : Places) (home : Option ℕ → ℕ) (id : ℕ) (seats : List Seat) → Hosts at home id (map actor_of seats) → (p : ℕ) (seat : Seat) → slice_get seats p ≡ Some seat → at.proc (proc_of seat) ≡ place_of seat
+seat_stands : (at : Places) (home : Option ℕ → ℕ) (id : ℕ) (seats : List Seat) → Hosts at home id (map actor_of seats) → (p : ℕ) (seat : Seat) → slice_get seats p ≡ Some seat → at.proc (proc_of seat) ≡ seat_place seat
 seat_stands at home id [] h p seat there = absurd (let e = there in cc)
-seat_stands at home id (x ∷ seats) h zero seat there = let same : x ≡ seat = cc in subst (λ (s : Seat). at.proc (proc_of s) ≡ place_of s) same (stand_of at (proc_of x) (place_of x) h.1)
+seat_stands at home id (x ∷ seats) h zero seat there = let same : x ≡ seat = cc in subst (λ (s : Seat). at.proc (proc_of s) ≡ seat_place s) same (stand_of at (proc_of x) (seat_place x) h.1)
 seat_stands at home id (x ∷ seats) h (suc p) seat there = seat_stands at home id seats h.2 p seat there
 
 module _ (mission : MissionParts) (is : IsSpec mission.spec) (fits : Fits mission.spec mission.script) (id k j : ℕ) (v : View) (seats : List Seat) (list : List ℕ) (slots : List (Unit {0}))
     (final : Final (Seen (IsRuled mission) id v) list slots) (actors : v.actors ≡ Kernel k j ∷ map actor_of seats) (p : ℕ) (seat : Seat) (there : slice_get seats p ≡ Some seat) (own : proc_of seat ≡ p)
     (l : p < length mission.spec.procs) (mark : ℕ) (image : List ℤ) (last : AreLast list (words mission.spec) p mark image) where
-  stands : final.1.0.at.proc p ≡ place_of seat
+  stands : final.1.0.at.proc p ≡ seat_place seat
   stands =
       let hosted : Hosts final.1.0.at final.1.0.home id (Kernel k j ∷ map actor_of seats) = rw actors at (final.1.0.each id v final.1.1) in
       ap final.1.0.at.proc (sym own) ∙ seat_stands final.1.0.at final.1.0.home id seats hosted.2 p seat there
@@ -83,8 +79,8 @@ module _ (mission : MissionParts) (is : IsSpec mission.spec) (fits : Fits missio
   kept : Kept (mission_flight mission) final.1.0.at (stored_in list)
   kept = subst (λ (words : List ℕ). Kept (mission_flight mission) final.1.0.at (stored_in words)) final.2 final.1.0.kept
 
-  pub ended_mark : mark ≡ mark_after mission.spec mission.script p (marked (mission_flight mission) (place_of seat))
+  pub ended_mark : mark ≡ mark_after mission.spec mission.script p (marked (mission_flight mission) (seat_place seat))
   ended_mark = last_mark mission is fits final.1.0.at list kept p l mark image last ∙ ap (λ x. mark_after mission.spec mission.script p (marked (mission_flight mission) x)) stands
 
-  pub ended_image : image ≡ image_after mission.spec mission.script p (marked (mission_flight mission) (place_of seat))
+  pub ended_image : image ≡ image_after mission.spec mission.script p (marked (mission_flight mission) (seat_place seat))
   ended_image = last_image mission is fits final.1.0.at list kept p l mark image last ∙ ap (λ x. image_after mission.spec mission.script p (marked (mission_flight mission) x)) stands

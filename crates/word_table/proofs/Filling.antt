@@ -8,12 +8,8 @@ use Rattle.bank_words.specs.Numbers.{decode}
 use Rattle.fail_stop.specs.Flights.{Flight}
 use Rattle.word_table.specs.declared.actors.Actor.{Actor}
 use Rattle.word_table.specs.Plays.{IsFound}
-use Rattle.word_table.specs.Reading.{AreRead, IsRead}
-
-zeros_at : (n i : ℕ) → slice_index_or (replicate n (pos 0)) i (pos 0) ≡ pos 0
-zeros_at zero i = refl
-zeros_at (suc n) zero = refl
-zeros_at (suc n) (suc i) = zeros_at n i
+use Rattle.word_table.specs.Reading.{AreRead, IsWordRead}
+use Rattle.word_table.proofs.Closings.{zeros_at}
 
 pub none_read : (m : Flight) (actors : List Actor) (at from : ℕ) → AreRead m actors at from from (replicate 64 (pos 0))
 none_read m actors at from = record { long = refl; read = λ i least most. absurd (omega (arith, least, most)); past = λ i under. zeros_at 64 i }
@@ -24,10 +20,10 @@ one_read m actors at from to image w read low found = record {
   read = λ i least most. by_word i least most (ℕ_discrete i to);
   past = λ i under. get_or-set_other image to i (decode w) (pos 0) (λ same. omega (arith, same, under)) ∙ read.past i (omega (arith, under));
 } where
-  by_word : (i : ℕ) → from ≤ i → i < to + 1 → Dec (i ≡ to) → IsRead m actors (at + i) (slice_index_or (slice_set image to (decode w)) i (pos 0))
+  by_word : (i : ℕ) → from ≤ i → i < to + 1 → Dec (i ≡ to) → IsWordRead m actors (at + i) (slice_index_or (slice_set image to (decode w)) i (pos 0))
   by_word i least most (yes d) = record { word = w; found = subst (λ k. IsFound m actors (at + k) w) (sym d) found; value = get_or-set_at image to i (decode w) (pos 0) d (omega (arith, low, read.long)) }
   by_word i least most (no d) =
-      let r : IsRead m actors (at + i) (slice_index_or image i (pos 0)) = read.read i least (omega (arith, most, d)) in
+      let r : IsWordRead m actors (at + i) (slice_index_or image i (pos 0)) = read.read i least (omega (arith, most, d)) in
       record { word = r.word; found = r.found; value = get_or-set_other image to i (decode w) (pos 0) d ∙ r.value }
 
 -- the same of words as they are

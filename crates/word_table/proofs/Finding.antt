@@ -26,7 +26,7 @@ use Rattle.fail_stop.proofs.ScriptBorder.{images_same, marks_same, script_flies,
 use Rattle.word_table.specs.declared.actors.Actor.TheVariants.{Runs, Kernel}
 use Rattle.word_table.specs.Actors.{mission_flight}
 use Rattle.word_table.specs.Plays.{IsFound}
-use Rattle.word_table.specs.Reading.{AreRead, IsRead}
+use Rattle.word_table.specs.Reading.{AreRead, IsWordRead}
 use Rattle.word_table.specs.Tables.{has_halted_by}
 
 -- whether a noted processor has halted
@@ -146,7 +146,7 @@ module _ (mission : MissionParts) (fits : Fits mission.spec mission.script) wher
             let there : at ≡ index_of (BankWord q (image_bank_after mission.spec mission.script q f) i) = place ∙ ap (λ x. index_of (BankWord q (image_bank_after mission.spec mission.script q f) x)) (sym d) in
             get_or-set_at image 0 i (decode z) (pos 0) d (omega (arith, read.long)) ∙ ap decode (bank_found p f n l begun q i at z lq inside there first)
         by_word i inside (no d) =
-            let r : IsRead m (Runs p f n ∷ []) (at + i) (slice_index_or image i (pos 0)) = read.read i (omega (arith, d)) inside in
+            let r : IsWordRead m (Runs p f n ∷ []) (at + i) (slice_index_or image i (pos 0)) = read.read i (omega (arith, d)) inside in
             get_or-set_other image 0 i (decode z) (pos 0) d ∙ r.value
             ∙ ap decode (bank_found p f n l begun q i (at + i) r.word lq inside (omega (arith, place)) r.found)
 
@@ -155,7 +155,7 @@ module _ (mission : MissionParts) (fits : Fits mission.spec mission.script) wher
         → AreRead m (Kernel k (suc p) ∷ []) at 0 m.width image → image ≡ image_after mission.spec mission.script p (suc k)
     image_noted k p at image l place read =
         image_found mission.spec facts mission.script (suc k) p image read.long
-        (λ i inside. let r : IsRead m (Kernel k (suc p) ∷ []) (at + i) (slice_index_or image i (pos 0)) = read.read i (omega arith) inside in
+        (λ i inside. let r : IsWordRead m (Kernel k (suc p) ∷ []) (at + i) (slice_index_or image i (pos 0)) = read.read i (omega arith) inside in
         r.value ∙ ap decode (noted_bank k p l i (at + i) r.word inside (omega (arith, place)) r.found))
         (λ i low past. read.past i past)
 

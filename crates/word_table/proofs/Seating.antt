@@ -1,7 +1,6 @@
 -- A step of a seat keeps the rule on words and views.
 use Rattle.std.proofs.Common.{◌≡◌, ◌≢◌, ◌⊎◌, ℕ, zero, suc, ◌≤◌, false, refl, sym, ap, subst, ◌∙◌, inl, inr, arith, List, [], ◌∷◌, map, length}
 use Rattle.std.specs.Prelude.{Option, Some, None, IfSome, nat_eq, slice_index, slice_set}
-use Rattle.std.proofs.lemmas.Bool.Decides.{nat_tests}
 use Rattle.std.proofs.lemmas.Grind.{common_steps}
 use mathlib.Core.Option.{some}
 use lib.ListN.{get_elem?}
@@ -15,13 +14,13 @@ use Rattle.fail_stop.specs.Events.{Place, At, Halted, Places, IsNext, writes, is
 use Rattle.fail_stop.specs.Flights.{Flies, Flight}
 use Rattle.fail_stop.specs.Listed.{HoldsWords, Moves, list_after, places_of_words, stored_in}
 use Rattle.fail_stop.proofs.ListLaw.{list_keeps}
-use Rattle.fail_stop.proofs.Moves.{nat_eq_self}
+use Rattle.fail_stop.proofs.Moves.{nat_eq_other, nat_eq_self}
 use Rattle.fail_stop.proofs.ScriptBorder.{script_flies}
 use Rattle.word_table.specs.declared.actors.Actor.{Actor}
 use Rattle.word_table.specs.declared.actors.Actor.TheVariants.{Runs, Stopped, Kernel}
 use Rattle.word_table.specs.declared.actors.View.{View}
-use Rattle.word_table.specs.Actors.{Stands, actor_at, mission_flight, who, with_actor, with_actors}
-use Rattle.word_table.specs.Plays.{AllStand, IsFound, Shows, each_actor}
+use Rattle.word_table.specs.Actors.{StandsAt, actor_at, mission_flight, who, with_actor, with_actors}
+use Rattle.word_table.specs.Plays.{AllStand, IsFound, ShowsWord, each_actor}
 use Rattle.word_table.specs.Rule.{AreApart, Hosts, Ruled}
 
 -- What the law asks of a flight.
@@ -47,26 +46,23 @@ set_same [] i = refl
 set_same (x ∷ xs) zero = refl
 set_same (x ∷ xs) (suc i) = ap (λ (z : List ℕ). x ∷ z) (set_same xs i)
 
-other_no : (q p : ℕ) → q ≢ p → nat_eq q p ≡ false
-other_no q p n = grind (arith, nat_tests)
-
 pub who_at : (p : ℕ) (x : Place) → who (actor_at p x) ≡ Some p
 who_at p (At f n) = refl
 who_at p (Halted h) = refl
 
-pub stand_of : (at : Places) (p : ℕ) (x : Place) → Stands at (actor_at p x) → at.proc p ≡ x
+pub stand_of : (at : Places) (p : ℕ) (x : Place) → StandsAt at (actor_at p x) → at.proc p ≡ x
 stand_of at p (At f n) h = h
 stand_of at p (Halted h) s = s
 
-pub stand_at : (at : Places) (p : ℕ) (x : Place) → at.proc p ≡ x → Stands at (actor_at p x)
+pub stand_at : (at : Places) (p : ℕ) (x : Place) → at.proc p ≡ x → StandsAt at (actor_at p x)
 stand_at at p (At f n) h = h
 stand_at at p (Halted h) s = s
 
 proc_still : (m : Flight) (at : Places) (e : Event) (p q : ℕ) (x : Place) → ((r : ℕ) → is_actor e r ≡ nat_eq r p) → Some q ≢ Some p → at.proc q ≡ x → (places_after m at e).proc q ≡ x
-proc_still m at e p q x c n h = rw (c q, other_no q p (λ i. n (ap (λ (z : ℕ). Some z) i))) h
+proc_still m at e p q x c n h = rw (c q, nat_eq_other q p (λ i. n (ap (λ (z : ℕ). Some z) i))) h
 
 -- an actor of another view stays where it is
-stands_still : (m : Flight) (at : Places) (e : Event) (p : ℕ) (a : Actor) → ((q : ℕ) → is_actor e q ≡ nat_eq q p) → frame_after at e ≡ at.frame → step_after at e ≡ at.step → who a ≢ Some p → Stands at a → Stands (places_after m at e) a
+stands_still : (m : Flight) (at : Places) (e : Event) (p : ℕ) (a : Actor) → ((q : ℕ) → is_actor e q ≡ nat_eq q p) → frame_after at e ≡ at.frame → step_after at e ≡ at.step → who a ≢ Some p → StandsAt at a → StandsAt (places_after m at e) a
 stands_still m at e p (Runs q f n) c fr st d h = proc_still m at e p q (At f n) c d h
 stands_still m at e p (Stopped q g) c fr st d h = proc_still m at e p q (Halted g) c d h
 stands_still m at e p (Kernel k j) c fr st d h = (fr ∙ h.0, st ∙ h.1)
@@ -101,7 +97,7 @@ module _ (m : Flight) (mission : MissionParts) (s : State (Unit {0}) View) (id :
 
     module _ (e : Event) (c : (q : ℕ) → is_actor e q ≡ nat_eq q p) (fr : frame_after r.at e ≡ r.at.frame) (st : step_after r.at e ≡ r.at.step) (i n : ℕ) (next : IsNext m r.at (stored_in s.words) e)
         (put : slice_set s.words i n ≡ list_after s.words (writes m r.at (stored_in s.words) e)) where
-      stands_after : Stands (places_after m r.at e) (actor_at p (moved m e p x))
+      stands_after : StandsAt (places_after m r.at e) (actor_at p (moved m e p x))
       stands_after = stand_at (places_after m r.at e) p (moved m e p x) (rw (c p, nat_eq_self p) (ap (λ (z : Place). moved m e p z) stands))
 
       each_after : (j : ℕ) (w : View) → ((j ≡ id) × (with_actor v (actor_at p (moved m e p x)) ≡ w)) ⊎ ((j ≢ id) × (get_elem? s.views j ≡ some w)) → Hosts (places_after m r.at e) r.home j w.actors
@@ -140,7 +136,7 @@ module _ (m : Flight) (mission : MissionParts) (s : State (Unit {0}) View) (id :
 
     module _ (e : Event) (c : (q : ℕ) → is_actor e q ≡ false) (k2 j2 : ℕ) (fr : frame_after r.at e ≡ k2) (st : step_after r.at e ≡ j2) (i n : ℕ) (next : IsNext m r.at (stored_in s.words) e)
         (put : slice_set s.words i n ≡ list_after s.words (writes m r.at (stored_in s.words) e)) where
-      others_still : (a : Actor) → who a ≢ None → Stands r.at a → Stands (places_after m r.at e) a
+      others_still : (a : Actor) → who a ≢ None → StandsAt r.at a → StandsAt (places_after m r.at e) a
       others_still (Runs q f t) d h = rw (c q) h
       others_still (Stopped q g) d h = rw (c q) h
       others_still (Kernel a b) d h = absurd (d refl)
@@ -197,7 +193,7 @@ all_stand at home j [] h = tt
 all_stand at home j (a ∷ rest) h = (h.1, all_stand at home j rest h.2)
 
 -- what a load shows
-pub shown : (mission : MissionParts) (s : State (Unit {0}) View) (id : ℕ) (v : View) (i : ℕ) → Ruled (mission_flight mission) mission s → get_elem? s.views id ≡ some v → v.mission ≡ Some mission → Shows v i (slice_index s.words i)
+pub shown : (mission : MissionParts) (s : State (Unit {0}) View) (id : ℕ) (v : View) (i : ℕ) → Ruled (mission_flight mission) mission s → get_elem? s.views id ≡ some v → v.mission ≡ Some mission → ShowsWord v i (slice_index s.words i)
 shown mission s id v i r here planned =
     subst (λ (o : Option MissionParts). IfSome o (λ mission. IsFound (mission_flight mission) v.actors i (slice_index s.words i))) (sym planned)
     (record { at = r.at; list = s.words; kept = r.kept; value = refl; stand = all_stand r.at r.home id v.actors (r.each id v here) })

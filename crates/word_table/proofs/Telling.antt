@@ -9,7 +9,7 @@ use Rattle.word_table.specs.declared.actors.Actor.{Actor}
 use Rattle.word_table.specs.declared.actors.Actor.TheVariants.{Kernel, Runs}
 use Rattle.word_table.specs.declared.actors.View.{View}
 use Rattle.word_table.specs.Actors.{actor_at, awaited, begun, frame_awaited, mission_flight, one_more, tried, with_actor, with_actors}
-use Rattle.word_table.specs.Plays.{GoesOrTries, Has, IsFound, Sat, Shows, can_note, each_actor, may_start}
+use Rattle.word_table.specs.Plays.{GoesOrTries, Has, IsFound, Sat, ShowsWord, can_note, each_actor, may_start}
 
 pub third : {A B C : Type 0} → A × B × C → C
 third t = t.2
@@ -20,7 +20,7 @@ second t = t.1
 pub first : {A B : Type 0} → A × B → A
 first t = t.0
 
-pub shown_to : (mission : MissionParts) (v : View) (actors : List Actor) (i n : ℕ) → v.mission ≡ Some mission → v.actors ≡ actors → Shows v i n → IsFound (mission_flight mission) actors i n
+pub shown_to : (mission : MissionParts) (v : View) (actors : List Actor) (i n : ℕ) → v.mission ≡ Some mission → v.actors ≡ actors → ShowsWord v i n → IsFound (mission_flight mission) actors i n
 shown_to mission v actors i n planned alone shows =
     subst (λ (l : List Actor). IsFound (mission_flight mission) l i n) alone
     (subst (λ (o : Option MissionParts). IfSome o (λ mission. IsFound (mission_flight mission) v.actors i n)) planned shows)

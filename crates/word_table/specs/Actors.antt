@@ -20,10 +20,10 @@ who (Stopped p h) = Some p
 who (Kernel k j) = None
 
 -- An actor stands where it says.
-abbrev pub Stands : Places → Actor → Type 0
-Stands at (Runs p f n) = at.proc p ≡ At f n
-Stands at (Stopped p h) = at.proc p ≡ Halted h
-Stands at (Kernel k j) = (at.frame ≡ k) × (at.step ≡ j)
+abbrev pub StandsAt : Places → Actor → Type 0
+StandsAt at (Runs p f n) = at.proc p ≡ At f n
+StandsAt at (Stopped p h) = at.proc p ≡ Halted h
+StandsAt at (Kernel k j) = (at.frame ≡ k) × (at.step ≡ j)
 
 -- Processor p at a place.
 abbrev pub actor_at : ℕ → Place → Actor
@@ -96,10 +96,10 @@ next_frame (Stopped p h) = Stopped p h
 next_frame (Kernel k j) = Kernel (suc k) 0
 
 -- A processor that halts in its frame.
-abbrev pub halted : Actor → Actor
-halted (Runs p f n) = Stopped p f
-halted (Stopped p h) = Stopped p h
-halted (Kernel k j) = Kernel k j
+abbrev pub halted_actor : Actor → Actor
+halted_actor (Runs p f n) = Stopped p f
+halted_actor (Stopped p h) = Stopped p h
+halted_actor (Kernel k j) = Kernel k j
 
 -- A view of one actor.
 abbrev pub with_actor : View → Actor → View

@@ -9,7 +9,7 @@ use Rattle.fail_stop.specs.Listed.{stored_in}
 use Rattle.word_table.specs.declared.actors.Actor.{Actor}
 use Rattle.word_table.specs.declared.actors.Actor.TheVariants.{Runs, Stopped, Kernel}
 use Rattle.word_table.specs.declared.actors.View.{View}
-use Rattle.word_table.specs.Actors.{Stands, awaited, begun, halted, mission_flight, next_frame, one_more, tried, with_actors}
+use Rattle.word_table.specs.Actors.{StandsAt, awaited, begun, halted_actor, mission_flight, next_frame, one_more, tried, with_actors}
 
 -- A seat as the table has it: its view, and the slots that it holds, which are none.
 abbrev pub Sat : Type 0
@@ -26,7 +26,7 @@ Has me v = (me.0 ≡ v) × (me.1 ≡ [])
 -- Each of these actors stands where it says.
 abbrev pub AllStand : Places → List Actor → Type 0
 AllStand at [] = Unit {0}
-AllStand at (a ∷ rest) = Stands at a × AllStand at rest
+AllStand at (a ∷ rest) = StandsAt at a × AllStand at rest
 
 -- A number is the word at place i in a state that the law of events allows, in which these actors stand where they say.
 pub record IsFound (m : Flight) (actors : List Actor) (i n : ℕ) : Type 0 where
@@ -37,8 +37,8 @@ pub record IsFound (m : Flight) (actors : List Actor) (i n : ℕ) : Type 0 where
   pub stand : AllStand at actors
 
 -- What a load shows to a seat.
-abbrev pub Shows : View → ℕ → ℕ → Type 0
-Shows v i n = IfSome v.mission (λ mission. IsFound (mission_flight mission) v.actors i n)
+abbrev pub ShowsWord : View → ℕ → ℕ → Type 0
+ShowsWord v i n = IfSome v.mission (λ mission. IsFound (mission_flight mission) v.actors i n)
 
 -- A view with each of its actors moved.
 abbrev pub each_actor : (Actor → Actor) → View → View
@@ -62,11 +62,11 @@ GoesOrTries ready go v after = MatchBool ready (Has after (each_actor go v)) (Ha
 
 -- A load that is no event shows a word, and the seat stays.
 abbrev pub reads : Stepped → Sat → ℕ → Sat → Type 0
-reads s me n after = Has after me.0 × Shows me.0 s.word n
+reads s me n after = Has after me.0 × ShowsWord me.0 s.word n
 
 -- A load with which a look is made shows a word too.
 abbrev pub looks : Stepped → Sat → ℕ → Sat → Type 0
-looks s me n after = Has after (each_actor one_more me.0) × Shows me.0 s.word n
+looks s me n after = Has after (each_actor one_more me.0) × ShowsWord me.0 s.word n
 
 -- A load of the release makes the start, or is a try.
 abbrev pub starts : Stepped → Sat → ℕ → Sat → Type 0
@@ -74,41 +74,35 @@ starts s me n after = IfSome me.0.mission (λ mission. GoesOrTries (may_start (m
 
 -- A load of an end word makes the note, or is a try; it shows that word.
 abbrev pub notes : Stepped → Sat → ℕ → Sat → Type 0
-notes s me n after = IfSome me.0.mission (λ mission. GoesOrTries (can_note (mission_flight mission) me.0.actors n) one_more me.0 after) × Shows me.0 s.word n
+notes s me n after = IfSome me.0.mission (λ mission. GoesOrTries (can_note (mission_flight mission) me.0.actors n) one_more me.0 after) × ShowsWord me.0 s.word n
 
--- A store into a bank, or of a mark.
+-- A store into a bank, of a mark, or of one of the kernel's words.
 abbrev pub stores : Stepped → Sat → ℕ → Sat → Type 0
 stores s me n after = Has after (each_actor one_more me.0)
 
--- A store of the end word of a frame that is done.
-abbrev pub ends : Stepped → Sat → ℕ → Sat → Type 0
-ends s me n after = Has after (each_actor next_frame me.0)
+-- A store of the end word of a frame that is done, or of the release, after which its actor stands before the next frame.
+abbrev pub finishes_frame : Stepped → Sat → ℕ → Sat → Type 0
+finishes_frame s me n after = Has after (each_actor next_frame me.0)
 
 -- A store of the end word of a frame in which the processor halts.
 abbrev pub halts : Stepped → Sat → ℕ → Sat → Type 0
-halts s me n after = Has after (each_actor halted me.0)
+halts s me n after = Has after (each_actor halted_actor me.0)
 
--- A store of one of the kernel's words.
-abbrev pub publishes : Stepped → Sat → ℕ → Sat → Type 0
-publishes s me n after = Has after (each_actor one_more me.0)
-
--- A store of the release.
-abbrev pub releases : Stepped → Sat → ℕ → Sat → Type 0
-releases s me n after = Has after (each_actor next_frame me.0)
-
--- The first of some actors, and the others.
+-- The first of some actors.
 abbrev pub first_of : List Actor → List Actor
 first_of [] = []
 first_of (a ∷ rest) = a ∷ []
 
+-- All but the first of some actors.
 abbrev pub others_of : List Actor → List Actor
 others_of [] = []
 others_of (a ∷ rest) = rest
 
--- A split leaves all but the first actor, which the new seat has.
+-- A split leaves all but the first actor.
 abbrev pub other_actors : View → View
 other_actors v = with_actors v (others_of v.actors)
 
+-- A split gives the first actor to the new seat.
 abbrev pub first_actor : View → View
 first_actor v = with_actors v (first_of v.actors)
 

@@ -14,7 +14,7 @@ pub record IsReader (m : Flight) (actors : List Actor) (f : ℕ) : Type 0 where
   pub alone : actors ≡ Runs proc f (suc before) ∷ []
 
 -- A number that an image has was found as a word.
-pub record IsRead (m : Flight) (actors : List Actor) (i : ℕ) (x : ℤ) : Type 0 where
+pub record IsWordRead (m : Flight) (actors : List Actor) (i : ℕ) (x : ℤ) : Type 0 where
   pub word : ℕ
   pub found : IsFound m actors i word
   pub value : x ≡ decode word
@@ -22,5 +22,5 @@ pub record IsRead (m : Flight) (actors : List Actor) (i : ℕ) (x : ℤ) : Type 
 -- The words of an image from word `from` up to word `to` were found from place `at` on, and past them it has zeros.
 pub record AreRead (m : Flight) (actors : List Actor) (at from to : ℕ) (image : List ℤ) : Type 0 where
   pub long : length image ≡ 64
-  pub read : (i : ℕ) → from ≤ i → i < to → IsRead m actors (at + i) (slice_index_or image i (pos 0))
+  pub read : (i : ℕ) → from ≤ i → i < to → IsWordRead m actors (at + i) (slice_index_or image i (pos 0))
   pub past : (i : ℕ) → to ≤ i → slice_index_or image i (pos 0) ≡ pos 0

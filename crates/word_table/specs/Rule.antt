@@ -11,12 +11,12 @@ use Rattle.fail_stop.specs.Listed.{places_of_words, stored_in}
 use Rattle.word_table.specs.declared.actors.Actor.{Actor}
 use Rattle.word_table.specs.declared.actors.Actor.TheVariants.{Runs, Kernel}
 use Rattle.word_table.specs.declared.actors.View.{View}
-use Rattle.word_table.specs.Actors.{Stands, mission_flight, who}
+use Rattle.word_table.specs.Actors.{StandsAt, mission_flight, who}
 
 -- The actors of view j stand where they say, and in no other view.
 abbrev pub Hosts : Places → (Option ℕ → ℕ) → ℕ → List Actor → Type 0
 Hosts at home j [] = Unit {0}
-Hosts at home j (a ∷ rest) = (home (who a) ≡ j) × Stands at a × Hosts at home j rest
+Hosts at home j (a ∷ rest) = (home (who a) ≡ j) × StandsAt at a × Hosts at home j rest
 
 -- An actor is not among these.
 abbrev pub IsNotIn : Option ℕ → List Actor → Type 0

@@ -12,20 +12,20 @@ use Rattle.word_table.specs.Keeping.{IsFlown}
 use Rattle.word_table.specs.Actors.{IsInFlight, actor_at, mission_flight, place_at}
 
 -- The mission whose words a table has.
-abbrev pub flown : WordTable → MissionParts
-flown words = words.table.shared.key
+abbrev pub mission_in : WordTable → MissionParts
+mission_in words = words.table.shared.key
 
 -- Its flight.
 abbrev pub flight_in : WordTable → Flight
-flight_in words = mission_flight (flown words)
+flight_in words = mission_flight (mission_in words)
 
 -- The number of a seat's processor.
 abbrev pub proc_of : Seat → ℕ
 proc_of seat = seat.proc.0
 
 -- Where a seat's processor stands.
-abbrev pub place_of : Seat → Place
-place_of seat = place_at seat.frame seat.step seat.halted
+abbrev pub seat_place : Seat → Place
+seat_place seat = place_at seat.frame seat.step seat.halted
 
 -- How many loads of a seat found nothing ready.
 abbrev pub tries_of : Seat → ℕ
@@ -35,6 +35,7 @@ tries_of seat = seat.inner.me.0.tries
 abbrev pub kernel_frame : KSeat → ℕ
 kernel_frame kseat = kseat.frame
 
+-- The steps that the kernel has made in its frame.
 abbrev pub kernel_steps : KSeat → ℕ
 kernel_steps kseat = kseat.step
 
@@ -44,26 +45,26 @@ kernel_tries kseat = kseat.inner.me.0.tries
 
 -- A seat is one of a table's: of a processor of its mission.
 pub record IsSeatOf (words : WordTable) (seat : Seat) : Type 0 where
-  pub holds : IsFlown (flown words)
+  pub holds : IsFlown (mission_in words)
   pub table : seat.inner.table_id ≡ words.table.shared.table_id
-  pub mission : seat.inner.me.0.mission ≡ Some (flown words)
-  pub proc : proc_of seat < length (flown words).spec.procs
-  pub in_flight : IsInFlight (flight_in words) (place_of seat)
+  pub mission : seat.inner.me.0.mission ≡ Some (mission_in words)
+  pub proc : proc_of seat < length (mission_in words).spec.procs
+  pub in_flight : IsInFlight (flight_in words) (seat_place seat)
 
 -- The kernel's seat is a table's.
 pub record IsKernelSeatOf (words : WordTable) (kseat : KSeat) : Type 0 where
-  pub holds : IsFlown (flown words)
+  pub holds : IsFlown (mission_in words)
   pub table : kseat.inner.table_id ≡ words.table.shared.table_id
-  pub mission : kseat.inner.me.0.mission ≡ Some (flown words)
+  pub mission : kseat.inner.me.0.mission ≡ Some (mission_in words)
 
 -- These are all seats of a table's processors, in the order of their numbers.
 pub record AreSeatsOf (words : WordTable) (seats : List Seat) : Type 0 where
-  pub count : length seats ≡ length (flown words).spec.procs
+  pub count : length seats ≡ length (mission_in words).spec.procs
   pub each : (p : ℕ) (seat : Seat) → slice_get seats p ≡ Some seat → IsSeatOf words seat × (proc_of seat ≡ p)
 
 -- Each seat stands at the begin of frame 0.
 abbrev pub AreOpening : List Seat → Type 0
-AreOpening seats = (p : ℕ) (seat : Seat) → slice_get seats p ≡ Some seat → place_of seat ≡ At 0 0
+AreOpening seats = (p : ℕ) (seat : Seat) → slice_get seats p ≡ Some seat → seat_place seat ≡ At 0 0
 
 -- Processor p has halted by the end of frame k, and has not lived again by then.
 abbrev pub has_halted_by : Flight → ℕ → ℕ → Bool
@@ -75,4 +76,4 @@ frames_marked mission place = marked (mission_flight mission) place
 
 -- The actor of a seat.
 abbrev pub actor_of : Seat → Actor
-actor_of seat = actor_at (proc_of seat) (place_of seat)
+actor_of seat = actor_at (proc_of seat) (seat_place seat)

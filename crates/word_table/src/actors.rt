@@ -71,9 +71,9 @@ impl Play<(), View> for Stores {
 pub struct Ends;
 
 impl Play<(), View> for Ends {
-    ghost use Rattle.word_table.specs.Plays.{ends};
+    ghost use Rattle.word_table.specs.Plays.{finishes_frame};
 
-    ghost then = { ends };
+    ghost then = { finishes_frame };
 }
 
 /// A store of the end word of a frame in which the processor halts.
@@ -98,18 +98,18 @@ impl Play<(), View> for Notes {
 pub struct Publishes;
 
 impl Play<(), View> for Publishes {
-    ghost use Rattle.word_table.specs.Plays.{publishes};
+    ghost use Rattle.word_table.specs.Plays.{stores};
 
-    ghost then = { publishes };
+    ghost then = { stores };
 }
 
 /// A store of the release.
 pub struct Releases;
 
 impl Play<(), View> for Releases {
-    ghost use Rattle.word_table.specs.Plays.{releases};
+    ghost use Rattle.word_table.specs.Plays.{finishes_frame};
 
-    ghost then = { releases };
+    ghost then = { finishes_frame };
 }
 
 /// A seat gives up its first actor to a new one, or takes in the actors of another.

@@ -6,7 +6,7 @@ ghost use Rattle.frame_model.specs.Flights.{image_after};
 ghost use Rattle.frame_model.specs.Storage.{mark_after};
 ghost use Rattle.fail_stop.specs.Listed.{places_of_words};
 ghost use Rattle.word_table.specs.Closing.{AreLast, IsStoredImage};
-ghost use Rattle.word_table.specs.Tables.{AreSeatsOf, IsKernelSeatOf, actor_of, flown, frames_marked, kernel_frame, kernel_steps, place_of};
+ghost use Rattle.word_table.specs.Tables.{AreSeatsOf, IsKernelSeatOf, actor_of, mission_in, frames_marked, kernel_frame, kernel_steps, seat_place};
 ghost use Rattle.word_table.specs.declared.actors.Actor.TheVariants.{Kernel};
 ghost use Rattle.word_table.specs.declared.seats.Seat as seat_types;
 
@@ -32,8 +32,8 @@ impl WordTable {
     pub fn close(self, kseat: KSeat, seats: Vec<Seat>) -> LastWords
         requires kernel { IsKernelSeatOf self kseat }
         requires seats { AreSeatsOf self seats.items }
-        ensures marks { (p : ℕ) (seat : seat_types.Seat) → slice_get seats.items p ≡ Some seat → slice_index result.marks p ≡ mark_after (flown self).spec (flown self).script p (frames_marked (flown self) (place_of seat)) }
-        ensures images { (p : ℕ) (seat : seat_types.Seat) → slice_get seats.items p ≡ Some seat → slice_index_or result.images p [] ≡ image_after (flown self).spec (flown self).script p (frames_marked (flown self) (place_of seat)) }
+        ensures marks { (p : ℕ) (seat : seat_types.Seat) → slice_get seats.items p ≡ Some seat → slice_index result.marks p ≡ mark_after (mission_in self).spec (mission_in self).script p (frames_marked (mission_in self) (seat_place seat)) }
+        ensures images { (p : ℕ) (seat : seat_types.Seat) → slice_get seats.items p ≡ Some seat → slice_index_or result.images p [] ≡ image_after (mission_in self).spec (mission_in self).script p (frames_marked (mission_in self) (seat_place seat)) }
     {
         let all = self.gather(kseat, seats);
         let procs = self.procs as usize;

@@ -6,7 +6,7 @@ ghost use Rattle.frame_model.specs.Storage.{mark_after};
 ghost use Rattle.fail_stop.specs.Events.{may_note};
 ghost use Rattle.fail_stop.specs.Flights.{word_in};
 ghost use Rattle.fail_stop.specs.ScriptFlights.{kernel_words};
-ghost use Rattle.word_table.specs.Tables.{IsKernelSeatOf, flight_in, flown, has_halted_by, kernel_frame, kernel_steps, kernel_tries};
+ghost use Rattle.word_table.specs.Tables.{IsKernelSeatOf, flight_in, mission_in, has_halted_by, kernel_frame, kernel_steps, kernel_tries};
 
 use crate::actors::{Notes, Publishes, Releases};
 use crate::seats::KSeat;
@@ -28,16 +28,16 @@ impl WordTable {
     /// takes no memory and waits for nobody.
     pub fn gone(&self, kseat: &mut KSeat, p: ProcId) -> Option<Marked>
         requires seat { IsKernelSeatOf self.now kseat.old }
-        requires frame { kernel_frame kseat.old < (flown self.now).script.frames }
-        requires p { p.0 < length (flown self.now).spec.procs }
+        requires frame { kernel_frame kseat.old < (mission_in self.now).script.frames }
+        requires p { p.0 < length (mission_in self.now).spec.procs }
         requires next { kernel_steps kseat.old ≡ p.0 }
         ensures seat { IsKernelSeatOf self.now kseat.new }
         ensures frame { kernel_frame kseat.new ≡ kernel_frame kseat.old }
         ensures steps { MatchOption result (kernel_steps kseat.new ≡ kernel_steps kseat.old) (λ marked. kernel_steps kseat.new ≡ kernel_steps kseat.old + 1) }
         ensures tries { MatchOption result (kernel_tries kseat.new ≡ kernel_tries kseat.old + 1) (λ marked. kernel_tries kseat.new ≡ kernel_tries kseat.old) }
         ensures halted { IfSome result (λ marked. marked.halted ≡ has_halted_by (flight_in self.now) p.0 (kernel_frame kseat.old)) }
-        ensures mark { IfSome result (λ marked. marked.mark ≡ mark_after (flown self.now).spec (flown self.now).script p.0 (kernel_frame kseat.old + 1)) }
-        ensures image { IfSome result (λ marked. marked.image ≡ image_after (flown self.now).spec (flown self.now).script p.0 (kernel_frame kseat.old + 1)) }
+        ensures mark { IfSome result (λ marked. marked.mark ≡ mark_after (mission_in self.now).spec (mission_in self.now).script p.0 (kernel_frame kseat.old + 1)) }
+        ensures image { IfSome result (λ marked. marked.image ≡ image_after (mission_in self.now).spec (mission_in self.now).script p.0 (kernel_frame kseat.old + 1)) }
     {
         let own = 32 + 136 * usize::from(p.0);
         let end = self.table.shared.load::<Notes>(&mut kseat.inner, own + 1);
@@ -67,9 +67,9 @@ impl WordTable {
     pub fn publish(&self, kseat: &mut KSeat, i: u32, word: u64)
         requires seat { IsKernelSeatOf self.now kseat.old }
         requires i { i < 20 }
-        requires next { kernel_steps kseat.old ≡ length (flown self.now).spec.procs + i }
-        requires frame { kernel_frame kseat.old + 1 < (flown self.now).script.frames }
-        requires word { word ≡ word_in (kernel_words (flown self.now).spec (flown self.now).script (kernel_frame kseat.old + 1)) i }
+        requires next { kernel_steps kseat.old ≡ length (mission_in self.now).spec.procs + i }
+        requires frame { kernel_frame kseat.old + 1 < (mission_in self.now).script.frames }
+        requires word { word ≡ word_in (kernel_words (mission_in self.now).spec (mission_in self.now).script (kernel_frame kseat.old + 1)) i }
         ensures seat { IsKernelSeatOf self.now kseat.new }
         ensures frame { kernel_frame kseat.new ≡ kernel_frame kseat.old }
         ensures steps { kernel_steps kseat.new ≡ kernel_steps kseat.old + 1 }
@@ -84,8 +84,8 @@ impl WordTable {
     /// Releases the next frame, and wakes the processors that sleep on that. It takes no memory and waits for nobody.
     pub fn release(&self, kseat: &mut KSeat)
         requires seat { IsKernelSeatOf self.now kseat.old }
-        requires next { kernel_steps kseat.old ≡ length (flown self.now).spec.procs + 20 }
-        requires frame { kernel_frame kseat.old + 1 < (flown self.now).script.frames }
+        requires next { kernel_steps kseat.old ≡ length (mission_in self.now).spec.procs + 20 }
+        requires frame { kernel_frame kseat.old + 1 < (mission_in self.now).script.frames }
         ensures seat { IsKernelSeatOf self.now kseat.new }
         ensures frame { kernel_frame kseat.new ≡ kernel_frame kseat.old + 1 }
         ensures steps { kernel_steps kseat.new ≡ 0 }

@@ -6,7 +6,7 @@ ghost use Rattle.fail_stop.specs.Listed.{places_of_words};
 ghost use Rattle.word_table.specs.Keeping.{IsFlown};
 ghost use Rattle.word_table.specs.Plays.{IsFound};
 ghost use Rattle.word_table.specs.Reading.{AreRead, IsReader};
-ghost use Rattle.word_table.specs.Tables.{flight_in, flown};
+ghost use Rattle.word_table.specs.Tables.{flight_in, mission_in};
 
 use crate::actors::{Reads, View};
 use crate::tables::WordTable;
@@ -17,8 +17,8 @@ use scram_types::{Image, ProcId};
 impl WordTable {
     pub(crate) fn load(&self, seat: &mut Seat<(), View>, i: usize) -> u64
         requires table { seat.old.table_id ≡ self.now.table.shared.table_id }
-        requires holds { IsFlown (flown self.now) }
-        requires mission { seat.old.me.0.mission ≡ Some (flown self.now) }
+        requires holds { IsFlown (mission_in self.now) }
+        requires mission { seat.old.me.0.mission ≡ Some (mission_in self.now) }
         requires empty { seat.old.me.1 ≡ [] }
         requires i { i < places_of_words }
         ensures table { seat.new.table_id ≡ seat.old.table_id }
@@ -31,8 +31,8 @@ impl WordTable {
     /// The words of an image from word `from` on, which stand from place `at` on.
     pub(crate) fn read_image(&self, seat: &mut Seat<(), View>, at: usize, from: usize) -> Image
         requires table { seat.old.table_id ≡ self.now.table.shared.table_id }
-        requires holds { IsFlown (flown self.now) }
-        requires mission { seat.old.me.0.mission ≡ Some (flown self.now) }
+        requires holds { IsFlown (mission_in self.now) }
+        requires mission { seat.old.me.0.mission ≡ Some (mission_in self.now) }
         requires empty { seat.old.me.1 ≡ [] }
         requires at { at + 64 ≤ places_of_words }
         requires from { from ≤ 1 }
@@ -50,14 +50,14 @@ impl WordTable {
     /// The bank of a processor that a reader in a frame takes.
     pub(crate) fn bank_picked(&self, seat: &mut Seat<(), View>, frame: u32, q: ProcId) -> usize
         requires table { seat.old.table_id ≡ self.now.table.shared.table_id }
-        requires holds { IsFlown (flown self.now) }
-        requires mission { seat.old.me.0.mission ≡ Some (flown self.now) }
+        requires holds { IsFlown (mission_in self.now) }
+        requires mission { seat.old.me.0.mission ≡ Some (mission_in self.now) }
         requires empty { seat.old.me.1 ≡ [] }
         requires reader { IsReader (flight_in self.now) seat.old.me.0.actors frame }
-        requires q { q.0 < length (flown self.now).spec.procs }
+        requires q { q.0 < length (mission_in self.now).spec.procs }
         ensures table { seat.new.table_id ≡ seat.old.table_id }
         ensures same { seat.new.me ≡ seat.old.me }
-        ensures bank { result ≡ image_bank_after (flown self.now).spec (flown self.now).script q.0 frame }
+        ensures bank { result ≡ image_bank_after (mission_in self.now).spec (mission_in self.now).script q.0 frame }
         ensures low { result ≤ 1 }
     {
         let mark = self.load(seat, 32 + 136 * usize::from(q.0));
@@ -67,8 +67,8 @@ impl WordTable {
     /// The kernel's words.
     pub(crate) fn read_kernel(&self, seat: &mut Seat<(), View>) -> [u64; 20]
         requires table { seat.old.table_id ≡ self.now.table.shared.table_id }
-        requires holds { IsFlown (flown self.now) }
-        requires mission { seat.old.me.0.mission ≡ Some (flown self.now) }
+        requires holds { IsFlown (mission_in self.now) }
+        requires mission { seat.old.me.0.mission ≡ Some (mission_in self.now) }
         requires empty { seat.old.me.1 ≡ [] }
         ensures table { seat.new.table_id ≡ seat.old.table_id }
         ensures same { seat.new.me ≡ seat.old.me }

@@ -9,7 +9,7 @@ ghost use Rattle.fail_stop.specs.Listed.{places_of_words};
 ghost use Rattle.word_table.specs.Actors.{with_actors};
 ghost use Rattle.word_table.specs.Keeping.{IsFlown};
 ghost use Rattle.word_table.specs.Rule.{first_view};
-ghost use Rattle.word_table.specs.Tables.{AreOpening, AreSeatsOf, IsKernelSeatOf, flown, kernel_frame, kernel_steps};
+ghost use Rattle.word_table.specs.Tables.{AreOpening, AreSeatsOf, IsKernelSeatOf, mission_in, kernel_frame, kernel_steps};
 ghost use Rattle.word_table.specs.declared.actors.Actor.TheVariants.{Kernel};
 
 use crate::actors::{Deals, View, WordRule};
@@ -28,7 +28,7 @@ impl WordTable {
     /// The words of a mission before its first frame, the kernel's seat, and the seats of the processors in order, each
     /// where its actor opens. The only refusal is want of memory.
     pub fn open(alloc: Global, mission: &Mission) -> Result<(WordTable, KSeat, Vec<Seat>), NoMemory>
-        ensures mission { IfOk result (λ t. flown t.0 ≡ mission.now) }
+        ensures mission { IfOk result (λ t. mission_in t.0 ≡ mission.now) }
         ensures kernel { IfOk result (λ t. IsKernelSeatOf t.0 t.1) }
         ensures kernel_place { IfOk result (λ t. (kernel_frame t.1 ≡ 0) × (kernel_steps t.1 ≡ 0)) }
         ensures seats { IfOk result (λ t. AreSeatsOf t.0 t.2.items) }
@@ -50,8 +50,8 @@ impl WordTable {
         alloc: Global,
         mission: &Mission,
     ) -> Result<(WordTable, atomic_table::Seat<(), View>), NoMemory>
-        ensures holds { IfOk result (λ t. IsFlown (flown t.0)) }
-        ensures mission { IfOk result (λ t. flown t.0 ≡ mission.now) }
+        ensures holds { IfOk result (λ t. IsFlown (mission_in t.0)) }
+        ensures mission { IfOk result (λ t. mission_in t.0 ≡ mission.now) }
         ensures table { IfOk result (λ t. t.1.table_id ≡ t.0.table.shared.table_id) }
         ensures seat { IfOk result (λ t. t.1.me ≡ (first_view mission.now, [])) }
     {
@@ -80,12 +80,12 @@ impl WordTable {
         rest: &mut atomic_table::Seat<(), View>,
         seats: &mut Vec<Seat>,
     ) -> Result<(), NoMemory>
-        requires holds { IsFlown (flown self.now) }
+        requires holds { IsFlown (mission_in self.now) }
         requires table { rest.old.table_id ≡ self.now.table.shared.table_id }
-        requires seat { rest.old.me ≡ (first_view (flown self.now), []) }
+        requires seat { rest.old.me ≡ (first_view (mission_in self.now), []) }
         requires none { seats.old.items ≡ [] }
         ensures table { rest.new.table_id ≡ rest.old.table_id }
-        ensures seat { OnOk result (rest.new.me ≡ (with_actors (first_view (flown self.now)) (Kernel 0 0 ∷ []), [])) }
+        ensures seat { OnOk result (rest.new.me ≡ (with_actors (first_view (mission_in self.now)) (Kernel 0 0 ∷ []), [])) }
         ensures seats { OnOk result (AreSeatsOf self.now seats.new.items) }
         ensures opening { OnOk result (AreOpening seats.new.items) }
     {

@@ -33,7 +33,7 @@ pub struct KSeat {
 impl Seat {
     ghost use Rattle.fail_stop.specs.Events.{frame_of};
     ghost use Rattle.word_table.specs.Actors.{is_halted, steps_of};
-    ghost use Rattle.word_table.specs.Tables.{place_of, proc_of};
+    ghost use Rattle.word_table.specs.Tables.{seat_place, proc_of};
 
     /// The seat's processor. It takes no memory.
     pub fn proc(&self) -> ProcId
@@ -44,21 +44,21 @@ impl Seat {
 
     /// The frame in which the processor stands; where it has halted, that in which it halted. It takes no memory.
     pub fn frame(&self) -> u32
-        ensures { result ≡ frame_of (place_of self.now) }
+        ensures { result ≡ frame_of (seat_place self.now) }
     {
         self.frame
     }
 
     /// How many steps the processor has made in its frame; 0 where it has halted. It takes no memory.
     pub fn steps(&self) -> u32
-        ensures { result ≡ steps_of (place_of self.now) }
+        ensures { result ≡ steps_of (seat_place self.now) }
     {
         self.step
     }
 
     /// Whether the processor has halted. It takes no memory.
     pub fn halted(&self) -> bool
-        ensures { result ≡ is_halted (place_of self.now) }
+        ensures { result ≡ is_halted (seat_place self.now) }
     {
         self.halted
     }

@@ -9,7 +9,7 @@ ghost use Rattle.fail_stop.specs.Events.{At, frame_of, frame_on, halted_there, o
 ghost use Rattle.fail_stop.specs.Flights.{word_in};
 ghost use Rattle.fail_stop.specs.ScriptFlights.{draft_words};
 ghost use Rattle.word_table.specs.Actors.{Waits, frame_awaited, step_at};
-ghost use Rattle.word_table.specs.Tables.{IsSeatOf, flight_in, flown, place_of, proc_of, tries_of};
+ghost use Rattle.word_table.specs.Tables.{IsSeatOf, flight_in, mission_in, seat_place, proc_of, tries_of};
 
 use crate::actors::{Ends, Halts, Looks, Starts, Stores};
 use crate::seats::Seat;
@@ -24,11 +24,11 @@ impl WordTable {
     /// loads does not show the frame. It takes no memory and waits for nobody.
     pub fn started(&self, seat: &mut Seat) -> Option<KernelImage>
         requires seat { IsSeatOf self.now seat.old }
-        requires waits { Waits (flight_in self.now) (proc_of seat.old) (place_of seat.old) }
+        requires waits { Waits (flight_in self.now) (proc_of seat.old) (seat_place seat.old) }
         ensures seat { IsSeatOf self.now seat.new }
         ensures proc { proc_of seat.new ≡ proc_of seat.old }
-        ensures image { MatchOption result (place_of seat.new ≡ place_of seat.old) (λ image. image ≡ kernel_image (flown self.now).spec (flown self.now).script (frame_awaited (flight_in self.now) (proc_of seat.old) (place_of seat.old))) }
-        ensures place { MatchOption result (place_of seat.new ≡ place_of seat.old) (λ image. place_of seat.new ≡ At (frame_awaited (flight_in self.now) (proc_of seat.old) (place_of seat.old)) 1) }
+        ensures image { MatchOption result (seat_place seat.new ≡ seat_place seat.old) (λ image. image ≡ kernel_image (mission_in self.now).spec (mission_in self.now).script (frame_awaited (flight_in self.now) (proc_of seat.old) (seat_place seat.old))) }
+        ensures place { MatchOption result (seat_place seat.new ≡ seat_place seat.old) (λ image. seat_place seat.new ≡ At (frame_awaited (flight_in self.now) (proc_of seat.old) (seat_place seat.old)) 1) }
         ensures tries { MatchOption result (tries_of seat.new ≡ tries_of seat.old + 1) (λ image. tries_of seat.new ≡ tries_of seat.old) }
     {
         let frame = self.frame_awaited(seat);
@@ -46,7 +46,7 @@ impl WordTable {
     /// The frame for whose release a seat waits.
     pub(crate) fn frame_awaited(&self, seat: &Seat) -> u32
         requires { proc_of seat.now < 8 }
-        ensures { result ≡ frame_awaited (flight_in self.now) (proc_of seat.now) (place_of seat.now) }
+        ensures { result ≡ frame_awaited (flight_in self.now) (proc_of seat.now) (seat_place seat.now) }
     {
         if !seat.halted {
             return seat.frame;
@@ -60,13 +60,13 @@ impl WordTable {
     /// The image of a processor as the frame of the seat begins. It takes no memory and waits for nobody.
     pub fn look(&self, seat: &mut Seat, q: ProcId) -> Image
         requires seat { IsSeatOf self.now seat.old }
-        requires q { q.0 < length (flown self.now).spec.procs }
-        requires next { step_at (flight_in self.now) (proc_of seat.old) (place_of seat.old) ≡ Some (Look (proc_id (proc_of seat.old)) q) }
+        requires q { q.0 < length (mission_in self.now).spec.procs }
+        requires next { step_at (flight_in self.now) (proc_of seat.old) (seat_place seat.old) ≡ Some (Look (proc_id (proc_of seat.old)) q) }
         ensures seat { IsSeatOf self.now seat.new }
         ensures proc { proc_of seat.new ≡ proc_of seat.old }
-        ensures place { place_of seat.new ≡ one_on (place_of seat.old) }
+        ensures place { seat_place seat.new ≡ one_on (seat_place seat.old) }
         ensures tries { tries_of seat.new ≡ tries_of seat.old }
-        ensures image { result ≡ image_after (flown self.now).spec (flown self.now).script q.0 (frame_of (place_of seat.old)) }
+        ensures image { result ≡ image_after (mission_in self.now).spec (mission_in self.now).script q.0 (frame_of (seat_place seat.old)) }
     {
         let bank = self.bank_picked(&mut seat.inner, seat.frame, q);
         let at = 40 + 136 * usize::from(q.0) + 64 * bank;
@@ -80,11 +80,11 @@ impl WordTable {
     /// waits for nobody.
     pub fn store(&self, seat: &mut Seat, i: u32, word: u64)
         requires seat { IsSeatOf self.now seat.old }
-        requires next { step_at (flight_in self.now) (proc_of seat.old) (place_of seat.old) ≡ Some (Store (proc_id (proc_of seat.old)) i) }
-        requires word { word ≡ word_in (draft_words (flown self.now).spec (flown self.now).script (proc_of seat.old) (frame_of (place_of seat.old))) i }
+        requires next { step_at (flight_in self.now) (proc_of seat.old) (seat_place seat.old) ≡ Some (Store (proc_id (proc_of seat.old)) i) }
+        requires word { word ≡ word_in (draft_words (mission_in self.now).spec (mission_in self.now).script (proc_of seat.old) (frame_of (seat_place seat.old))) i }
         ensures seat { IsSeatOf self.now seat.new }
         ensures proc { proc_of seat.new ≡ proc_of seat.old }
-        ensures place { place_of seat.new ≡ one_on (place_of seat.old) }
+        ensures place { seat_place seat.new ≡ one_on (seat_place seat.old) }
         ensures tries { tries_of seat.new ≡ tries_of seat.old }
     {
         let bank = self.bank_picked(&mut seat.inner, seat.frame, seat.proc);
@@ -97,10 +97,10 @@ impl WordTable {
     /// and waits for nobody.
     pub fn flip(&self, seat: &mut Seat)
         requires seat { IsSeatOf self.now seat.old }
-        requires next { step_at (flight_in self.now) (proc_of seat.old) (place_of seat.old) ≡ Some (Flip (proc_id (proc_of seat.old))) }
+        requires next { step_at (flight_in self.now) (proc_of seat.old) (seat_place seat.old) ≡ Some (Flip (proc_id (proc_of seat.old))) }
         ensures seat { IsSeatOf self.now seat.new }
         ensures proc { proc_of seat.new ≡ proc_of seat.old }
-        ensures place { place_of seat.new ≡ one_on (place_of seat.old) }
+        ensures place { seat_place seat.new ≡ one_on (seat_place seat.old) }
         ensures tries { tries_of seat.new ≡ tries_of seat.old }
     {
         let bank = self.bank_picked(&mut seat.inner, seat.frame, seat.proc);
@@ -113,10 +113,10 @@ impl WordTable {
     /// Ends the frame of the seat, and wakes the kernel where it sleeps on that. It takes no memory and waits for nobody.
     pub fn done(&self, seat: &mut Seat)
         requires seat { IsSeatOf self.now seat.old }
-        requires next { step_at (flight_in self.now) (proc_of seat.old) (place_of seat.old) ≡ Some (Done (proc_id (proc_of seat.old))) }
+        requires next { step_at (flight_in self.now) (proc_of seat.old) (seat_place seat.old) ≡ Some (Done (proc_id (proc_of seat.old))) }
         ensures seat { IsSeatOf self.now seat.new }
         ensures proc { proc_of seat.new ≡ proc_of seat.old }
-        ensures place { place_of seat.new ≡ frame_on (place_of seat.old) }
+        ensures place { seat_place seat.new ≡ frame_on (seat_place seat.old) }
         ensures tries { tries_of seat.new ≡ tries_of seat.old }
     {
         let at = 33 + 136 * usize::from(seat.proc.0);
@@ -131,10 +131,10 @@ impl WordTable {
     /// waits for nobody.
     pub fn halt(&self, seat: &mut Seat)
         requires seat { IsSeatOf self.now seat.old }
-        requires next { step_at (flight_in self.now) (proc_of seat.old) (place_of seat.old) ≡ Some (Halt (proc_id (proc_of seat.old))) }
+        requires next { step_at (flight_in self.now) (proc_of seat.old) (seat_place seat.old) ≡ Some (Halt (proc_id (proc_of seat.old))) }
         ensures seat { IsSeatOf self.now seat.new }
         ensures proc { proc_of seat.new ≡ proc_of seat.old }
-        ensures place { place_of seat.new ≡ halted_there (place_of seat.old) }
+        ensures place { seat_place seat.new ≡ halted_there (seat_place seat.old) }
         ensures tries { tries_of seat.new ≡ tries_of seat.old }
     {
         let at = 33 + 136 * usize::from(seat.proc.0);

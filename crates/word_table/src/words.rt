@@ -30,7 +30,7 @@ impl<'a> Words<'a> {
     ghost use Rattle.fail_stop.specs.Flights.{word_in};
     ghost use Rattle.fail_stop.specs.ScriptFlights.{draft_words, kernel_words};
     ghost use Rattle.word_table.specs.Actors.{Waits, frame_awaited, step_at};
-    ghost use Rattle.word_table.specs.Tables.{AreOpening, AreSeatsOf, IsKernelSeatOf, IsSeatOf, flight_in, flown, frames_marked, has_halted_by, kernel_frame, kernel_steps, kernel_tries, place_of, proc_of, tries_of};
+    ghost use Rattle.word_table.specs.Tables.{AreOpening, AreSeatsOf, IsKernelSeatOf, IsSeatOf, flight_in, mission_in, frames_marked, has_halted_by, kernel_frame, kernel_steps, kernel_tries, seat_place, proc_of, tries_of};
     ghost use Rattle.word_table.specs.declared.seats.Seat as seat_types;
 
     /// The words of a mission before its first frame, the kernel's seat, and the seats of the processors in order, each
@@ -39,7 +39,7 @@ impl<'a> Words<'a> {
         alloc: Global,
         mission: &'a Mission,
     ) -> Result<(Words<'a>, KSeat, Vec<Seat>), NoMemory>
-        ensures mission { IfOk result (λ t. flown t.0.table ≡ mission.now) }
+        ensures mission { IfOk result (λ t. mission_in t.0.table ≡ mission.now) }
         ensures kernel { IfOk result (λ t. IsKernelSeatOf t.0.table t.1) }
         ensures kernel_place { IfOk result (λ t. (kernel_frame t.1 ≡ 0) × (kernel_steps t.1 ≡ 0)) }
         ensures seats { IfOk result (λ t. AreSeatsOf t.0.table t.2.items) }
@@ -51,7 +51,7 @@ impl<'a> Words<'a> {
 
     /// The mission whose words these are. It takes no memory.
     pub fn mission(&self) -> &Mission
-        ensures { result.now ≡ flown self.now.table }
+        ensures { result.now ≡ mission_in self.now.table }
     {
         self.mission
     }
@@ -61,11 +61,11 @@ impl<'a> Words<'a> {
     /// loads does not show the frame. It takes no memory and waits for nobody.
     pub fn started(&self, seat: &mut Seat) -> Option<KernelImage>
         requires seat { IsSeatOf self.now.table seat.old }
-        requires waits { Waits (flight_in self.now.table) (proc_of seat.old) (place_of seat.old) }
+        requires waits { Waits (flight_in self.now.table) (proc_of seat.old) (seat_place seat.old) }
         ensures seat { IsSeatOf self.now.table seat.new }
         ensures proc { proc_of seat.new ≡ proc_of seat.old }
-        ensures image { MatchOption result (place_of seat.new ≡ place_of seat.old) (λ image. image ≡ kernel_image (flown self.now.table).spec (flown self.now.table).script (frame_awaited (flight_in self.now.table) (proc_of seat.old) (place_of seat.old))) }
-        ensures place { MatchOption result (place_of seat.new ≡ place_of seat.old) (λ image. place_of seat.new ≡ At (frame_awaited (flight_in self.now.table) (proc_of seat.old) (place_of seat.old)) 1) }
+        ensures image { MatchOption result (seat_place seat.new ≡ seat_place seat.old) (λ image. image ≡ kernel_image (mission_in self.now.table).spec (mission_in self.now.table).script (frame_awaited (flight_in self.now.table) (proc_of seat.old) (seat_place seat.old))) }
+        ensures place { MatchOption result (seat_place seat.new ≡ seat_place seat.old) (λ image. seat_place seat.new ≡ At (frame_awaited (flight_in self.now.table) (proc_of seat.old) (seat_place seat.old)) 1) }
         ensures tries { MatchOption result (tries_of seat.new ≡ tries_of seat.old + 1) (λ image. tries_of seat.new ≡ tries_of seat.old) }
     {
         self.table.started(seat)
@@ -74,13 +74,13 @@ impl<'a> Words<'a> {
     /// The image of a processor as the frame of the seat begins. It takes no memory and waits for nobody.
     pub fn look(&self, seat: &mut Seat, q: ProcId) -> Image
         requires seat { IsSeatOf self.now.table seat.old }
-        requires q { q.0 < length (flown self.now.table).spec.procs }
-        requires next { step_at (flight_in self.now.table) (proc_of seat.old) (place_of seat.old) ≡ Some (Look (proc_id (proc_of seat.old)) q) }
+        requires q { q.0 < length (mission_in self.now.table).spec.procs }
+        requires next { step_at (flight_in self.now.table) (proc_of seat.old) (seat_place seat.old) ≡ Some (Look (proc_id (proc_of seat.old)) q) }
         ensures seat { IsSeatOf self.now.table seat.new }
         ensures proc { proc_of seat.new ≡ proc_of seat.old }
-        ensures place { place_of seat.new ≡ one_on (place_of seat.old) }
+        ensures place { seat_place seat.new ≡ one_on (seat_place seat.old) }
         ensures tries { tries_of seat.new ≡ tries_of seat.old }
-        ensures image { result ≡ image_after (flown self.now.table).spec (flown self.now.table).script q.0 (frame_of (place_of seat.old)) }
+        ensures image { result ≡ image_after (mission_in self.now.table).spec (mission_in self.now.table).script q.0 (frame_of (seat_place seat.old)) }
     {
         self.table.look(seat, q)
     }
@@ -89,11 +89,11 @@ impl<'a> Words<'a> {
     /// waits for nobody.
     pub fn store(&self, seat: &mut Seat, i: u32, word: u64)
         requires seat { IsSeatOf self.now.table seat.old }
-        requires next { step_at (flight_in self.now.table) (proc_of seat.old) (place_of seat.old) ≡ Some (Store (proc_id (proc_of seat.old)) i) }
-        requires word { word ≡ word_in (draft_words (flown self.now.table).spec (flown self.now.table).script (proc_of seat.old) (frame_of (place_of seat.old))) i }
+        requires next { step_at (flight_in self.now.table) (proc_of seat.old) (seat_place seat.old) ≡ Some (Store (proc_id (proc_of seat.old)) i) }
+        requires word { word ≡ word_in (draft_words (mission_in self.now.table).spec (mission_in self.now.table).script (proc_of seat.old) (frame_of (seat_place seat.old))) i }
         ensures seat { IsSeatOf self.now.table seat.new }
         ensures proc { proc_of seat.new ≡ proc_of seat.old }
-        ensures place { place_of seat.new ≡ one_on (place_of seat.old) }
+        ensures place { seat_place seat.new ≡ one_on (seat_place seat.old) }
         ensures tries { tries_of seat.new ≡ tries_of seat.old }
     {
         self.table.store(seat, i, word);
@@ -103,10 +103,10 @@ impl<'a> Words<'a> {
     /// and waits for nobody.
     pub fn flip(&self, seat: &mut Seat)
         requires seat { IsSeatOf self.now.table seat.old }
-        requires next { step_at (flight_in self.now.table) (proc_of seat.old) (place_of seat.old) ≡ Some (Flip (proc_id (proc_of seat.old))) }
+        requires next { step_at (flight_in self.now.table) (proc_of seat.old) (seat_place seat.old) ≡ Some (Flip (proc_id (proc_of seat.old))) }
         ensures seat { IsSeatOf self.now.table seat.new }
         ensures proc { proc_of seat.new ≡ proc_of seat.old }
-        ensures place { place_of seat.new ≡ one_on (place_of seat.old) }
+        ensures place { seat_place seat.new ≡ one_on (seat_place seat.old) }
         ensures tries { tries_of seat.new ≡ tries_of seat.old }
     {
         self.table.flip(seat);
@@ -115,10 +115,10 @@ impl<'a> Words<'a> {
     /// Ends the frame of the seat, and wakes the kernel where it sleeps on that. It takes no memory and waits for nobody.
     pub fn done(&self, seat: &mut Seat)
         requires seat { IsSeatOf self.now.table seat.old }
-        requires next { step_at (flight_in self.now.table) (proc_of seat.old) (place_of seat.old) ≡ Some (Done (proc_id (proc_of seat.old))) }
+        requires next { step_at (flight_in self.now.table) (proc_of seat.old) (seat_place seat.old) ≡ Some (Done (proc_id (proc_of seat.old))) }
         ensures seat { IsSeatOf self.now.table seat.new }
         ensures proc { proc_of seat.new ≡ proc_of seat.old }
-        ensures place { place_of seat.new ≡ frame_on (place_of seat.old) }
+        ensures place { seat_place seat.new ≡ frame_on (seat_place seat.old) }
         ensures tries { tries_of seat.new ≡ tries_of seat.old }
     {
         self.table.done(seat);
@@ -128,10 +128,10 @@ impl<'a> Words<'a> {
     /// waits for nobody.
     pub fn halt(&self, seat: &mut Seat)
         requires seat { IsSeatOf self.now.table seat.old }
-        requires next { step_at (flight_in self.now.table) (proc_of seat.old) (place_of seat.old) ≡ Some (Halt (proc_id (proc_of seat.old))) }
+        requires next { step_at (flight_in self.now.table) (proc_of seat.old) (seat_place seat.old) ≡ Some (Halt (proc_id (proc_of seat.old))) }
         ensures seat { IsSeatOf self.now.table seat.new }
         ensures proc { proc_of seat.new ≡ proc_of seat.old }
-        ensures place { place_of seat.new ≡ halted_there (place_of seat.old) }
+        ensures place { seat_place seat.new ≡ halted_there (seat_place seat.old) }
         ensures tries { tries_of seat.new ≡ tries_of seat.old }
     {
         self.table.halt(seat);
@@ -142,16 +142,16 @@ impl<'a> Words<'a> {
     /// takes no memory and waits for nobody.
     pub fn gone(&self, kseat: &mut KSeat, p: ProcId) -> Option<Marked>
         requires seat { IsKernelSeatOf self.now.table kseat.old }
-        requires frame { kernel_frame kseat.old < (flown self.now.table).script.frames }
-        requires p { p.0 < length (flown self.now.table).spec.procs }
+        requires frame { kernel_frame kseat.old < (mission_in self.now.table).script.frames }
+        requires p { p.0 < length (mission_in self.now.table).spec.procs }
         requires next { kernel_steps kseat.old ≡ p.0 }
         ensures seat { IsKernelSeatOf self.now.table kseat.new }
         ensures frame { kernel_frame kseat.new ≡ kernel_frame kseat.old }
         ensures steps { MatchOption result (kernel_steps kseat.new ≡ kernel_steps kseat.old) (λ marked. kernel_steps kseat.new ≡ kernel_steps kseat.old + 1) }
         ensures tries { MatchOption result (kernel_tries kseat.new ≡ kernel_tries kseat.old + 1) (λ marked. kernel_tries kseat.new ≡ kernel_tries kseat.old) }
         ensures halted { IfSome result (λ marked. marked.halted ≡ has_halted_by (flight_in self.now.table) p.0 (kernel_frame kseat.old)) }
-        ensures mark { IfSome result (λ marked. marked.mark ≡ mark_after (flown self.now.table).spec (flown self.now.table).script p.0 (kernel_frame kseat.old + 1)) }
-        ensures image { IfSome result (λ marked. marked.image ≡ image_after (flown self.now.table).spec (flown self.now.table).script p.0 (kernel_frame kseat.old + 1)) }
+        ensures mark { IfSome result (λ marked. marked.mark ≡ mark_after (mission_in self.now.table).spec (mission_in self.now.table).script p.0 (kernel_frame kseat.old + 1)) }
+        ensures image { IfSome result (λ marked. marked.image ≡ image_after (mission_in self.now.table).spec (mission_in self.now.table).script p.0 (kernel_frame kseat.old + 1)) }
     {
         self.table.gone(kseat, p)
     }
@@ -160,9 +160,9 @@ impl<'a> Words<'a> {
     pub fn publish(&self, kseat: &mut KSeat, i: u32, word: u64)
         requires seat { IsKernelSeatOf self.now.table kseat.old }
         requires i { i < 20 }
-        requires next { kernel_steps kseat.old ≡ length (flown self.now.table).spec.procs + i }
-        requires frame { kernel_frame kseat.old + 1 < (flown self.now.table).script.frames }
-        requires word { word ≡ word_in (kernel_words (flown self.now.table).spec (flown self.now.table).script (kernel_frame kseat.old + 1)) i }
+        requires next { kernel_steps kseat.old ≡ length (mission_in self.now.table).spec.procs + i }
+        requires frame { kernel_frame kseat.old + 1 < (mission_in self.now.table).script.frames }
+        requires word { word ≡ word_in (kernel_words (mission_in self.now.table).spec (mission_in self.now.table).script (kernel_frame kseat.old + 1)) i }
         ensures seat { IsKernelSeatOf self.now.table kseat.new }
         ensures frame { kernel_frame kseat.new ≡ kernel_frame kseat.old }
         ensures steps { kernel_steps kseat.new ≡ kernel_steps kseat.old + 1 }
@@ -174,8 +174,8 @@ impl<'a> Words<'a> {
     /// Releases the next frame, and wakes the processors that sleep on that. It takes no memory and waits for nobody.
     pub fn release(&self, kseat: &mut KSeat)
         requires seat { IsKernelSeatOf self.now.table kseat.old }
-        requires next { kernel_steps kseat.old ≡ length (flown self.now.table).spec.procs + 20 }
-        requires frame { kernel_frame kseat.old + 1 < (flown self.now.table).script.frames }
+        requires next { kernel_steps kseat.old ≡ length (mission_in self.now.table).spec.procs + 20 }
+        requires frame { kernel_frame kseat.old + 1 < (mission_in self.now.table).script.frames }
         ensures seat { IsKernelSeatOf self.now.table kseat.new }
         ensures frame { kernel_frame kseat.new ≡ kernel_frame kseat.old + 1 }
         ensures steps { kernel_steps kseat.new ≡ 0 }
@@ -201,8 +201,8 @@ impl<'a> Words<'a> {
     pub fn close(self, kseat: KSeat, seats: Vec<Seat>) -> LastWords
         requires kernel { IsKernelSeatOf self.table kseat }
         requires seats { AreSeatsOf self.table seats.items }
-        ensures marks { (p : ℕ) (seat : seat_types.Seat) → slice_get seats.items p ≡ Some seat → slice_index result.marks p ≡ mark_after (flown self.entry.table).spec (flown self.entry.table).script p (frames_marked (flown self.entry.table) (place_of seat)) }
-        ensures images { (p : ℕ) (seat : seat_types.Seat) → slice_get seats.items p ≡ Some seat → slice_index_or result.images p [] ≡ image_after (flown self.entry.table).spec (flown self.entry.table).script p (frames_marked (flown self.entry.table) (place_of seat)) }
+        ensures marks { (p : ℕ) (seat : seat_types.Seat) → slice_get seats.items p ≡ Some seat → slice_index result.marks p ≡ mark_after (mission_in self.entry.table).spec (mission_in self.entry.table).script p (frames_marked (mission_in self.entry.table) (seat_place seat)) }
+        ensures images { (p : ℕ) (seat : seat_types.Seat) → slice_get seats.items p ≡ Some seat → slice_index_or result.images p [] ≡ image_after (mission_in self.entry.table).spec (mission_in self.entry.table).script p (frames_marked (mission_in self.entry.table) (seat_place seat)) }
     {
         self.table.close(kseat, seats)
     }

@@ -2,7 +2,7 @@ use Rattle.std.proofs.Common.{◌∙◌, suc, ◌+◌, ◌*◌, rules, subst, ar
 use Rattle.word_table.specs.declared.actors.Actor.{Actor}
 use Rattle.word_table.specs.declared.actors.Actor.TheVariants.{Runs}
 use Rattle.word_table.specs.Plays.{IsFound}
-use Rattle.word_table.specs.Tables.{flight_in, flown}
+use Rattle.word_table.specs.Tables.{flight_in, mission_in}
 use Rattle.word_table.proofs.Finding.{mark_found}
 use Rattle.word_table.proofs.tables.WordTable.bank_picked.Goals as goal
 
@@ -12,5 +12,5 @@ returns-clause-bank c =
     let reader = c.requires.reader in
     let found : IsFound (flight_in words) (Runs reader.proc c.args.frame (suc reader.before) ∷ []) (32 + 136 * c.from.result) c.load-mark.result =
     subst (λ (actors : List Actor). IsFound (flight_in words) actors (32 + 136 * c.from.result) c.load-mark.result) reader.alone c.load-mark.ensures.found in
-    let picked = mark_found (flown words) c.requires.holds.fits reader.proc c.args.frame (suc reader.before) reader.low (omega arith) c.args.q.0 (32 + 136 * c.from.result) c.load-mark.result c.requires.q (search rules) found in
+    let picked = mark_found (mission_in words) c.requires.holds.fits reader.proc c.args.frame (suc reader.before) reader.low (omega arith) c.args.q.0 (32 + 136 * c.from.result) c.load-mark.result c.requires.q (search rules) found in
     (search rules) ∙ c.pick.ensures.bank ∙ picked

@@ -9,7 +9,7 @@ use Rattle.word_table.specs.declared.actors.Actor.{Actor}
 use Rattle.word_table.specs.declared.actors.Actor.TheVariants.{Runs}
 use Rattle.word_table.specs.Plays.{Sat}
 use Rattle.word_table.specs.Reading.{AreRead}
-use Rattle.word_table.specs.Tables.{flight_in, flown, proc_of}
+use Rattle.word_table.specs.Tables.{flight_in, mission_in, proc_of}
 use Rattle.word_table.proofs.Allowing.{look_allows}
 use Rattle.word_table.proofs.Finding.{image_looked}
 use Rattle.word_table.proofs.Seating.{sound}
@@ -29,7 +29,7 @@ load-requires c =
     let few = c.requires.seat.holds.facts.procs_count.few in (
       c.read_image-image.ensures.table ∙ c.bank_picked-bank.ensures.table ∙ c.requires.seat.table,
       omega (arith, c.requires.q, words.keeps.places, few, c.from.ensures, c.bank_picked-bank.ensures.low),
-      look_allows (flown words) words.table.shared.table_id.slots c.read_image-image.new.seat.id c.read_image-image.new.seat.me (sound (flown words) c.requires.seat.holds.facts c.requires.seat.holds.fits) (ap (λ (me : Sat). me.1) same ∙ seat.empty)
+      look_allows (mission_in words) words.table.shared.table_id.slots c.read_image-image.new.seat.id c.read_image-image.new.seat.me (sound (mission_in words) c.requires.seat.holds.facts c.requires.seat.holds.fits) (ap (λ (me : Sat). me.1) same ∙ seat.empty)
           p seat.frame step.before c.requires.seat.proc (ap (λ (me : Sat). me.0.actors) same ∙ runs_there m p seat.frame seat.step seat.halted event step seat.inner.me.0.actors seat.alone)
           c.args.q.0 _ (ap (λ (me : Sat). me.0.mission) same ∙ c.requires.seat.mission) step.next,
     )
@@ -48,11 +48,11 @@ returns-clause-image c =
     let read : AreRead m (Runs p seat.frame (suc step.before) ∷ []) (40 + 136 * c.from.result + 64 * c.bank_picked-bank.result) 1 m.width c.read_image-image.result =
     subst (λ (l : List Actor). AreRead m l (40 + 136 * c.from.result + 64 * c.bank_picked-bank.result) 1 m.width c.read_image-image.result) (ap (λ (me : Sat). me.0.actors) c.bank_picked-bank.ensures.same ∙ alone)
     c.read_image-image.ensures.read in
-    let found = shown_to (flown words) c.read_image-image.new.seat.me.0 (Runs p seat.frame (suc step.before) ∷ []) (40 + 136 * c.from.result + 64 * c.bank_picked-bank.result) c.load.result
+    let found = shown_to (mission_in words) c.read_image-image.new.seat.me.0 (Runs p seat.frame (suc step.before) ∷ []) (40 + 136 * c.from.result + 64 * c.bank_picked-bank.result) c.load.result
     (ap (λ (me : Sat). me.0.mission) same ∙ c.requires.seat.mission) (ap (λ (me : Sat). me.0.actors) same ∙ alone) (second (third c.load.ensures)) in
     let bank = c.bank_picked-bank.ensures.bank in
     let value : to_z w64 (of_z w64 c.decode.result) ≡ decode c.load.result = search rules in
     ap (slice_set c.read_image-image.result 0) value
-    ∙ image_looked (flown words) c.requires.seat.holds.fits c.requires.seat.holds.facts p seat.frame (suc step.before) c.args.q.0 (40 + 136 * c.from.result + 64 * c.bank_picked-bank.result) c.load.result c.read_image-image.result
+    ∙ image_looked (mission_in words) c.requires.seat.holds.fits c.requires.seat.holds.facts p seat.frame (suc step.before) c.args.q.0 (40 + 136 * c.from.result + 64 * c.bank_picked-bank.result) c.load.result c.read_image-image.result
     c.requires.seat.proc (omega arith) c.requires.q (omega (arith, c.from.ensures, bank)) read found
-    ∙ ap (image_after (flown words).spec (flown words).script c.args.q.0) (sym (frame_at seat.frame seat.step seat.halted))
+    ∙ ap (image_after (mission_in words).spec (mission_in words).script c.args.q.0) (sym (frame_at seat.frame seat.step seat.halted))
