@@ -1,0 +1,147 @@
+//! Who makes the next event.
+
+ghost use Rattle.std.specs.Prelude.{◌≡◌, ℕ, ◌+◌, ◌≤◌, ◌<◌, IfSome, None, nat_eq, if◌then◌else◌, length};
+ghost use Rattle.event_core.specs.Cores.{flown, standing, standing_words};
+ghost use Rattle.fail_stop.specs.Ends.{IsOver};
+ghost use Rattle.fail_stop.specs.Events.{IsNext};
+ghost use Rattle.schedule_flights.specs.Choices.{next_in_order};
+
+use bank_words::Event;
+use event_core::Core;
+use rand_core::utils::NextWord;
+use rand_pcg::Pcg32;
+use scram_types::ProcId;
+
+/// By which rule it is chosen who makes the next event. Whoever has no next event is passed over.
+#[derive(Clone, Copy, Debug)]
+pub enum Rule {
+    /// Whoever comes after who made the last one: the processors in order, then the kernel.
+    InTurns,
+    /// The least-numbered processor, and the kernel where none has a next event.
+    LeastFirst,
+    /// The greatest-numbered processor, and the kernel where none has a next event.
+    GreatestFirst,
+    /// The kernel, and the least-numbered processor where it has no next event.
+    KernelFirst,
+    /// Whoever a generator of random numbers with this seed names.
+    Seeded(u64),
+}
+
+/// What a rule has to know from one choice to the next.
+#[derive(Drop)]
+pub(crate) struct Chooser {
+    rule: Rule,
+    last: Option<usize>,
+    generator: Pcg32,
+}
+
+impl Chooser {
+    /// Before the first choice.
+    pub(crate) fn new(rule: Rule) -> Chooser {
+        let seed = match rule {
+            Rule::Seeded(seed) => seed,
+            _ => 0,
+        };
+        Chooser {
+            rule,
+            last: None,
+            generator: Pcg32::new(seed, 1),
+        }
+    }
+
+    // The place among the actors, or the one past them, at which to look first.
+    fn begin(&mut self, procs: usize) -> usize
+        requires { procs ≤ 8 }
+        ensures { result ≤ procs + 1 }
+    {
+        match self.rule {
+            Rule::InTurns => match self.last {
+                Some(place) => place % (procs + 1) + 1,
+                None => 0,
+            },
+            Rule::LeastFirst => 0,
+            Rule::GreatestFirst => 0,
+            Rule::KernelFirst => procs,
+            Rule::Seeded(_) => self.generator.next_word() as usize % (procs + 1),
+        }
+    }
+
+    /// The next event of whom the rule chooses; none where the flight is over.
+    pub(crate) fn choose(&mut self, core: &Core, procs: usize) -> Option<Event>
+        requires procs { procs ≡ length core.now.spec.procs }
+        requires few { procs ≤ 8 }
+        ensures next { IfSome result (IsNext (flown core.now) (standing core.now) (standing_words core.now)) }
+        ensures over { result ≡ None → IsOver (flown core.now) (standing core.now) }
+    {
+        let backwards = is_backwards(self.rule);
+        let begin = self.begin(procs);
+        let (place, event) = first_from(core, procs, backwards, begin)?;
+        self.last = Some(place);
+        Some(event)
+    }
+}
+
+fn is_backwards(rule: Rule) -> bool {
+    match rule {
+        Rule::GreatestFirst => true,
+        Rule::InTurns => false,
+        Rule::LeastFirst => false,
+        Rule::KernelFirst => false,
+        Rule::Seeded(_) => false,
+    }
+}
+
+// The next event of the actor at a place: the processors in order, or from the last one down, and then the kernel.
+fn next_in_order(core: &Core, procs: usize, backwards: bool, place: usize) -> Option<Event>
+    requires procs { procs ≡ length core.now.spec.procs }
+    requires few { procs ≤ 8 }
+    requires place { place ≤ procs }
+    ensures same { result ≡ next_in_order (flown core.now) (standing core.now) (standing_words core.now) backwards place }
+    ensures next { IfSome result (IsNext (flown core.now) (standing core.now) (standing_words core.now)) }
+{
+    if place == procs {
+        core.next_kernel()
+    } else if backwards {
+        core.next_of(ProcId((procs - 1 - place) as u8))
+    } else {
+        core.next_of(ProcId(place as u8))
+    }
+}
+
+// The first place, of those from `begin` and then of those before it, whose actor has a next event, and the event.
+fn first_from(core: &Core, procs: usize, backwards: bool, begin: usize) -> Option<(usize, Event)>
+    requires procs { procs ≡ length core.now.spec.procs }
+    requires few { procs ≤ 8 }
+    requires begin { begin ≤ procs + 1 }
+    ensures next { IfSome result (λ found. IsNext (flown core.now) (standing core.now) (standing_words core.now) found.1) }
+    ensures over { result ≡ None → IsOver (flown core.now) (standing core.now) }
+{
+    core.goes_on();
+    match first_in(core, procs, backwards, begin, procs + 1) {
+        Some(found) => Some(found),
+        None => first_in(core, procs, backwards, 0, begin),
+    }
+}
+
+// The first place, of those from `begin` and below `end`, whose actor has a next event, and the event.
+fn first_in(
+    core: &Core,
+    procs: usize,
+    backwards: bool,
+    begin: usize,
+    end: usize,
+) -> Option<(usize, Event)>
+    requires procs { procs ≡ length core.now.spec.procs }
+    requires few { procs ≤ 8 }
+    requires end { end ≤ procs + 1 }
+    ensures next { IfSome result (λ found. IsNext (flown core.now) (standing core.now) (standing_words core.now) found.1) }
+    ensures none { result ≡ None → (place : ℕ) → begin ≤ place → place < end → next_in_order (flown core.now) (standing core.now) (standing_words core.now) backwards place ≡ None }
+{
+    for place in begin..end {
+        match next_in_order(core, procs, backwards, place) {
+            Some(event) => return Some((place, event)),
+            None => {}
+        }
+    }
+    None
+}

@@ -1,0 +1,165 @@
+//! Flights to their end.
+
+ghost use Rattle.std.specs.Prelude.{◌≡◌, ◌<◌, IfOk, length};
+ghost use Rattle.app_model.specs.Racks.{RacksFit};
+ghost use Rattle.event_core.specs.Cores.{flown, standing, standing_words};
+ghost use Rattle.event_core.specs.Rooms.{events_left};
+ghost use Rattle.event_core.specs.Stores.{IsEventWord};
+ghost use Rattle.fail_stop.specs.Ends.{IsOver};
+ghost use Rattle.fail_stop.specs.Events.{IsNext};
+ghost use Rattle.fault_script.specs.Fits.{Fits};
+ghost use Rattle.schedule_flights.specs.Flyers.{FlyersFit};
+
+use crate::choices::{Chooser, Rule};
+use crate::flyers::{Flyer, draft_word, halt_processor, make_flyers};
+use app_model::Rack;
+use bank_words::Event;
+use event_core::Core;
+use scram_types::{NoMemory, Script, Spec};
+use std::alloc::Global;
+
+/// Flies a specification and a script to the end by a rule. Rack `p` is that of processor `p`, and spare rack `p` is for
+/// its restart. The core that comes out is over, so `finish` gives the one-thread trace.
+///
+/// # Errors
+///
+/// Want of memory.
+pub fn fly<'a>(
+    alloc: Global,
+    spec: &'a Spec,
+    script: &'a Script,
+    racks: Vec<Rack>,
+    spares: Vec<Rack>,
+    rule: Rule,
+) -> Result<Core<'a>, NoMemory>
+    requires script { Fits spec.now script.now }
+    requires racks { RacksFit (λ b. kind_of (b.vtable, b.value)) (λ r. r.boxes.items) racks.items }
+    requires spares { RacksFit (λ b. kind_of (b.vtable, b.value)) (λ r. r.boxes.items) spares.items }
+    ensures spec { IfOk result (λ core. core.spec ≡ spec.now) }
+    ensures script { IfOk result (λ core. core.script ≡ script.now) }
+    ensures over { IfOk result (λ core. IsOver (flown core) (standing core)) }
+{
+    let core = Core::open(alloc, spec, script)?;
+    let mut flyers = make_flyers(alloc, racks, spares)?;
+    Ok(fly_on(core, spec, &mut flyers, rule))
+}
+
+/// Flies so many events of a specification and a script by a rule, or fewer where the flight is over before.
+///
+/// # Errors
+///
+/// Want of memory.
+pub fn fly_some<'a>(
+    alloc: Global,
+    spec: &'a Spec,
+    script: &'a Script,
+    racks: Vec<Rack>,
+    spares: Vec<Rack>,
+    rule: Rule,
+    events: u32,
+) -> Result<Core<'a>, NoMemory>
+    requires script { Fits spec.now script.now }
+    requires racks { RacksFit (λ b. kind_of (b.vtable, b.value)) (λ r. r.boxes.items) racks.items }
+    requires spares { RacksFit (λ b. kind_of (b.vtable, b.value)) (λ r. r.boxes.items) spares.items }
+    ensures spec { IfOk result (λ core. core.spec ≡ spec.now) }
+    ensures script { IfOk result (λ core. core.script ≡ script.now) }
+{
+    let core = Core::open(alloc, spec, script)?;
+    let mut flyers = make_flyers(alloc, racks, spares)?;
+    Ok(fly_events(core, spec, &mut flyers, rule, events))
+}
+
+// Flies to the end.
+fn fly_on<'a>(core: Core<'a>, spec: &Spec, flyers: &mut [Flyer], rule: Rule) -> Core<'a>
+    requires spec { core.spec ≡ spec.now }
+    requires fits { FlyersFit (λ b. kind_of (b.vtable, b.value)) (λ r. r.boxes.items) core.spec core.script flyers.old }
+    ensures spec { result.spec ≡ core.entry.spec }
+    ensures script { result.script ≡ core.entry.script }
+    ensures over { IsOver (flown result) (standing result) }
+{
+    let mut core = core;
+    let mut chooser = Chooser::new(rule);
+    let procs = spec.procs.items().len();
+    while let Some(event) = chooser.choose(&core, procs) {
+        make(&mut core, spec, flyers, event);
+    }
+    core
+}
+
+// Flies so many events, or fewer where the flight is over before.
+fn fly_events<'a>(
+    core: Core<'a>,
+    spec: &Spec,
+    flyers: &mut [Flyer],
+    rule: Rule,
+    events: u32,
+) -> Core<'a>
+    requires spec { core.spec ≡ spec.now }
+    requires fits { FlyersFit (λ b. kind_of (b.vtable, b.value)) (λ r. r.boxes.items) core.spec core.script flyers.old }
+    ensures spec { result.spec ≡ core.entry.spec }
+    ensures script { result.script ≡ core.entry.script }
+{
+    let mut core = core;
+    let mut chooser = Chooser::new(rule);
+    let procs = spec.procs.items().len();
+    for _event in 0..events {
+        match chooser.choose(&core, procs) {
+            Some(event) => make(&mut core, spec, flyers, event),
+            None => return core,
+        }
+    }
+    core
+}
+
+// Makes the next event of its actor, with its word where it is a store.
+fn make(core: &mut Core, spec: &Spec, flyers: &mut [Flyer], event: Event)
+    requires spec { core.old.spec ≡ spec.now }
+    requires next { IsNext (flown core.old) (standing core.old) (standing_words core.old) event }
+    requires fits { FlyersFit (λ b. kind_of (b.vtable, b.value)) (λ r. r.boxes.items) core.old.spec core.old.script flyers.old }
+    ensures spec { core.new.spec ≡ core.old.spec }
+    ensures script { core.new.script ≡ core.old.script }
+    ensures fewer { events_left (flown core.new) (standing core.new) < events_left (flown core.old) (standing core.old) }
+    ensures fits { FlyersFit (λ b. kind_of (b.vtable, b.value)) (λ r. r.boxes.items) core.old.spec core.old.script flyers.new }
+{
+    let word = word_of(core, spec, flyers, event);
+    step(core, event, word);
+}
+
+// The word that comes with the next event of its actor; where a processor halts, it drops its boxes.
+fn word_of(core: &Core, spec: &Spec, flyers: &mut [Flyer], event: Event) -> u64
+    requires spec { core.now.spec ≡ spec.now }
+    requires next { IsNext (flown core.now) (standing core.now) (standing_words core.now) event }
+    requires fits { FlyersFit (λ b. kind_of (b.vtable, b.value)) (λ r. r.boxes.items) core.now.spec core.now.script flyers.old }
+    ensures word { IsEventWord (flown core.now) (standing core.now) event result }
+    ensures fits { FlyersFit (λ b. kind_of (b.vtable, b.value)) (λ r. r.boxes.items) core.now.spec core.now.script flyers.new }
+{
+    let _procs = spec.procs.items().len();
+    match event {
+        Event::Store(p, i) => draft_word(flyers, core, spec, p, i),
+        Event::KStore(i) => core.kernel_word(i),
+        Event::Halt(p) => {
+            halt_processor(flyers, core, p);
+            0
+        }
+        Event::Start(_) => 0,
+        Event::Look(_, _) => 0,
+        Event::Flip(_) => 0,
+        Event::Done(_) => 0,
+        Event::KNote(_) => 0,
+        Event::Release => 0,
+    }
+}
+
+// Makes the next event of its actor with this word.
+fn step(core: &mut Core, event: Event, word: u64)
+    requires next { IsNext (flown core.old) (standing core.old) (standing_words core.old) event }
+    requires word { IsEventWord (flown core.old) (standing core.old) event word }
+    ensures spec { core.new.spec ≡ core.old.spec }
+    ensures script { core.new.script ≡ core.old.script }
+    ensures fewer { events_left (flown core.new) (standing core.new) < events_left (flown core.old) (standing core.old) }
+{
+    match core.step(event, word) {
+        Ok(()) => {}
+        Err(_) => {}
+    }
+}
