@@ -60,5 +60,5 @@ few spec script (e ∷ es) t sound fits is =
 pub history_few : (spec : Parts) (script : ScriptParts) (codes : List ℕ) (at : Places) (words : Word → ℕ) → IsSpec spec → Fits spec script → IsReplay (flight_of spec script) codes at words → length codes ≤ 12580000
 history_few spec script codes at words sound fits r =
     let all = few spec script r.events r.state sound fits r.schedule in
-    let same : length codes ≡ length r.events = ap length r.codes_are ∙ length-map event_code r.events in
+    let same : length codes ≡ length r.events = ap length r.codes_are ∙ length-map r.events event_code in
     omega (arith, all, same)
