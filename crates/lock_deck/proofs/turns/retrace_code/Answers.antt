@@ -1,0 +1,12 @@
+use Rattle.std.proofs.Common.{◌≡◌, ◌∙◌}
+use Rattle.std.proofs.lemmas.List.{length-set}
+use Rattle.std.proofs.lemmas.List.Elements.{All-set}
+use Rattle.lock_deck.specs.Members.{MemberFits}
+use Rattle.lock_deck.proofs.turns.retrace_code.Goals as goal
+
+pub loop-place-preserved : goal.loop-place-preserved
+loop-place-preserved g c = (
+  length-set c.loop-place.members c.loop-place.place c.retrace_turn.new.member ∙ c.loop-place.invariant.0,
+  c.retrace_turn.ensures.own,
+  All-set (MemberFits (λ z. (goal.App-dyn g (z.vtable, z.value)).kind_of z.value) (λ r. r.boxes.items) c.args.mission.now) c.loop-place.members c.loop-place.place c.retrace_turn.new.member c.retrace_turn.ensures.fits c.loop-place.invariant.2,
+)

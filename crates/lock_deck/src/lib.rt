@@ -1,0 +1,14 @@
+//! A flight with a thread for each processor and the kernel on the caller's, over a core under a lock. Each change under
+//! the lock is one step of the core, so the history is a schedule, and the core that comes out is that of the mission
+//! and is over.
+#![tactic(auto)]
+
+mod desks;
+pub mod flights;
+pub mod made;
+pub mod members;
+mod steps;
+mod turns;
+
+pub use flights::LockFlight;
+pub use members::Member;

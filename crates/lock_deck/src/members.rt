@@ -1,0 +1,127 @@
+//! Processors with what they need in a flight. That the boxes fit is told by clauses, since no type can keep a fact of a
+//! box; the fields are public so that clauses can name them.
+
+ghost use Rattle.std.specs.Prelude.{◌≡◌, ◌<◌, ◌&&◌, false, length, IfSome, None, is_some};
+ghost use Rattle.app_model.specs.Racks.{RackFits};
+ghost use Rattle.coverage_check.specs.Missions.{MissionParts, mission_of};
+ghost use Rattle.lock_deck.specs.Desks.{IfSaw, IsDraftOf, IsSnapshotOf, is_start};
+ghost use Rattle.lock_deck.specs.Members.{MemberFits};
+
+use crate::made::Made;
+use crate::steps::make_step;
+use app_model::Rack;
+use coverage_check::Mission;
+use event_core::Core;
+use fail_stop::{Draft, Halted, Live, Snapshot};
+use scram_types::ProcId;
+
+/// A processor, live or halted, with the rack for its restart, and its last draft.
+#[derive(Drop)]
+pub struct Member {
+    pub proc: ProcId,
+    pub live: Option<Live>,
+    pub halted: Option<Halted>,
+    pub spare: Option<Rack>,
+    pub drafted: Option<Draft>,
+}
+
+impl Member {
+    /// A processor that lives, with the rack for its restart. It takes no memory.
+    pub fn new(mission: &Mission, proc: ProcId, rack: Rack, spare: Rack) -> Member
+        requires proc { proc.0 < length mission.now.spec.procs }
+        requires rack { RackFits (λ b. kind_of (b.vtable, b.value)) rack.boxes.items }
+        requires spare { RackFits (λ b. kind_of (b.vtable, b.value)) spare.boxes.items }
+        ensures proc { result.proc ≡ proc }
+        ensures fits { MemberFits (λ b. kind_of (b.vtable, b.value)) (λ r. r.boxes.items) mission.now result }
+    {
+        Member {
+            proc,
+            live: Some(Live::new(proc, rack)),
+            halted: None,
+            spare: Some(spare),
+            drafted: None,
+        }
+    }
+
+    /// A turn of this processor on a core of the mission: its next step, if there is one, and what follows of it. It
+    /// takes no memory.
+    pub fn turn(&mut self, mission: &Mission, core: &mut Core) -> Made
+        requires own { mission_of core.old.spec core.old.script ≡ mission.now }
+        requires fits { MemberFits (λ b. kind_of (b.vtable, b.value)) (λ r. r.boxes.items) mission.now self.old }
+        ensures own { mission_of core.new.spec core.new.script ≡ mission.now }
+        ensures fits { MemberFits (λ b. kind_of (b.vtable, b.value)) (λ r. r.boxes.items) mission.now self.new }
+        ensures proc { self.new.proc ≡ self.old.proc }
+    {
+        let made = make_step(core, self.proc, self.drafted.as_ref());
+        self.follow(mission, &made);
+        made
+    }
+
+    /// Does what follows of a turn at the lock: it drafts what it saw, halts with its halt, and lives again with a start
+    /// after that, in its spare rack, which it leaves alone until then. It takes no memory.
+    pub(crate) fn follow(&mut self, mission: &Mission, made: &Made)
+        requires saw { IfSaw made.now (IsSnapshotOf mission.now) }
+        requires fits { MemberFits (λ b. kind_of (b.vtable, b.value)) (λ r. r.boxes.items) mission.now self.old }
+        ensures fits { MemberFits (λ b. kind_of (b.vtable, b.value)) (λ r. r.boxes.items) mission.now self.new }
+        ensures proc { self.new.proc ≡ self.old.proc }
+        ensures spare { (is_start made.now && is_some self.old.halted) ≡ false → self.new.spare ≡ self.old.spare }
+    {
+        match made {
+            Made::Saw(snap) => self.draft(mission, snap),
+            Made::Halted(frame) => self.halt(*frame),
+            Made::Started => self.restart(),
+            Made::Nothing => {}
+            Made::Moved => {}
+            Made::Done => {}
+        }
+    }
+
+    fn draft(&mut self, mission: &Mission, snap: &Snapshot)
+        requires saw { IsSnapshotOf mission.now snap.now }
+        requires fits { MemberFits (λ b. kind_of (b.vtable, b.value)) (λ r. r.boxes.items) mission.now self.old }
+        ensures fits { MemberFits (λ b. kind_of (b.vtable, b.value)) (λ r. r.boxes.items) mission.now self.new }
+        ensures proc { self.new.proc ≡ self.old.proc }
+        ensures spare { self.new.spare ≡ self.old.spare }
+    {
+        if let Some(live) = &mut self.live {
+            self.drafted = Some(draft_by(mission, live, snap));
+        }
+    }
+
+    fn halt(&mut self, frame: u32)
+        ensures fits { (mission : MissionParts) → MemberFits (λ b. kind_of (b.vtable, b.value)) (λ r. r.boxes.items) mission self.old → MemberFits (λ b. kind_of (b.vtable, b.value)) (λ r. r.boxes.items) mission self.new }
+        ensures proc { self.new.proc ≡ self.old.proc }
+        ensures live { self.new.live ≡ None }
+        ensures spare { self.new.spare ≡ self.old.spare }
+    {
+        if let Some(live) = self.live.take() {
+            self.halted = Some(live.halt(frame));
+        }
+    }
+
+    fn restart(&mut self)
+        requires { IfSome self.old.spare (λ rack. RackFits (λ b. kind_of (b.vtable, b.value)) rack.boxes.items) }
+        ensures fits { (mission : MissionParts) → MemberFits (λ b. kind_of (b.vtable, b.value)) (λ r. r.boxes.items) mission self.old → MemberFits (λ b. kind_of (b.vtable, b.value)) (λ r. r.boxes.items) mission self.new }
+        ensures proc { self.new.proc ≡ self.old.proc }
+        ensures spare { is_some self.old.halted ≡ false → self.new.spare ≡ self.old.spare }
+    {
+        if let Some(halted) = self.halted.take() {
+            if let Some(spare) = self.spare.take() {
+                self.live = Some(halted.restart(spare));
+            }
+        }
+    }
+}
+
+// What a live processor of a mission drafts by what it sees.
+fn draft_by(mission: &Mission, live: &mut Live, snap: &Snapshot) -> Draft
+    requires known { live.old.proc.0 < length mission.now.spec.procs }
+    requires saw { IsSnapshotOf mission.now snap.now }
+    requires fits { RackFits (λ b. kind_of (b.vtable, b.value)) live.old.rack.boxes.items }
+    ensures draft { IsDraftOf mission.now live.old.proc.0 result }
+    ensures proc { live.new.proc ≡ live.old.proc }
+    ensures fits { RackFits (λ b. kind_of (b.vtable, b.value)) live.new.rack.boxes.items }
+{
+    mission.holds();
+    live.draft(mission.spec(), snap)
+}

@@ -1,0 +1,200 @@
+//! Turns at the lock, and who makes them.
+
+ghost use Rattle.std.specs.Prelude.{◌≡◌, All, Some};
+ghost use Rattle.coverage_check.specs.Missions.{mission_of};
+ghost use Rattle.lock_deck.specs.Members.{MemberFits};
+
+use crate::desks::{Desk, FlightOf};
+use crate::made::Made;
+use crate::members::Member;
+use crate::steps::make_kernel;
+use bank_words::{Event, event_of};
+use coverage_check::Mission;
+use event_core::Core;
+use scram_types::ProcId;
+use std::sync::{Condvar, Mutex, MutexGuard, Wait};
+
+/// Flies a processor until the flight is over.
+pub(crate) fn fly_processor<'a, J: FlightOf, R: Wait>(
+    rt: &R,
+    mission: &Mission,
+    desk: &Mutex<Desk<'a, J>>,
+    moved: &Condvar,
+    member: Member,
+)
+    requires own { J.mission ≡ Some mission.now }
+    requires fits { MemberFits (λ b. kind_of (b.vtable, b.value)) (λ r. r.boxes.items) mission.now member }
+{
+    let mut member = member;
+    for _ in rt.forever() {
+        let p = member.proc;
+        let desk = moved.wait_while(rt, desk.lock(rt), |desk| desk.waits(p));
+        if !make_turn(mission, desk, moved, &mut member) {
+            return;
+        }
+    }
+}
+
+/// Flies the kernel, and in turns the processors that no thread flies, until the flight is over.
+pub(crate) fn fly_kernel<'a, J: FlightOf, R: Wait>(
+    rt: &R,
+    mission: &Mission,
+    desk: &Mutex<Desk<'a, J>>,
+    moved: &Condvar,
+    members: Vec<Member>,
+)
+    requires own { J.mission ≡ Some mission.now }
+    requires fits { All (MemberFits (λ b. kind_of (b.vtable, b.value)) (λ r. r.boxes.items) mission.now) members.items }
+{
+    let mut members = members;
+    for _ in rt.forever() {
+        let desk_now = moved.wait_while(rt, desk.lock(rt), |desk| desk.all_wait(&members));
+        if !make_turn_of_kernel(desk_now, moved) {
+            return;
+        }
+        make_turn_of_each(rt, mission, desk, moved, &mut members);
+    }
+}
+
+// Makes a step of the kernel, if one is next; wakes those who wait for it; and tells whether the flight goes on.
+fn make_turn_of_kernel<'a, J: FlightOf>(
+    desk: MutexGuard<'_, Desk<'a, J>>,
+    moved: &Condvar,
+) -> bool {
+    let mut desk = desk;
+    if desk.is_over() {
+        moved.notify_all();
+        return false;
+    }
+    if desk.make_kernel() == Some(Event::Release) {
+        moved.notify_all();
+    }
+    true
+}
+
+// A turn of each of these processors.
+fn make_turn_of_each<'a, J: FlightOf, R: Wait>(
+    rt: &R,
+    mission: &Mission,
+    desk: &Mutex<Desk<'a, J>>,
+    moved: &Condvar,
+    members: &mut [Member],
+)
+    requires own { J.mission ≡ Some mission.now }
+    requires fits { All (MemberFits (λ b. kind_of (b.vtable, b.value)) (λ r. r.boxes.items) mission.now) members.old }
+    ensures fits { All (MemberFits (λ b. kind_of (b.vtable, b.value)) (λ r. r.boxes.items) mission.now) members.new }
+{
+    for place in 0..members.len() {
+        make_turn(mission, desk.lock(rt), moved, &mut members[place]);
+    }
+}
+
+// A turn of a processor: a step under the lock, where one is next, and what follows of it outside; it tells whether
+// there was anything to do.
+fn make_turn<'a, J: FlightOf>(
+    mission: &Mission,
+    desk: MutexGuard<'_, Desk<'a, J>>,
+    moved: &Condvar,
+    member: &mut Member,
+) -> bool
+    requires own { J.mission ≡ Some mission.now }
+    requires fits { MemberFits (λ b. kind_of (b.vtable, b.value)) (λ r. r.boxes.items) mission.now member.old }
+    ensures fits { MemberFits (λ b. kind_of (b.vtable, b.value)) (λ r. r.boxes.items) mission.now member.new }
+{
+    let mut desk = desk;
+    let made = desk.make_step(member.proc, member.drafted.as_ref());
+    drop(desk);
+    if is_awaited(&made) {
+        moved.notify_all();
+    }
+    member.follow(mission, &made);
+    is_something(&made)
+}
+
+// Whether the kernel may wait for it.
+fn is_awaited(made: &Made) -> bool {
+    match made {
+        Made::Done => true,
+        Made::Halted(_) => true,
+        Made::Nothing => false,
+        Made::Started => false,
+        Made::Moved => false,
+        Made::Saw(_) => false,
+    }
+}
+
+fn is_something(made: &Made) -> bool {
+    match made {
+        Made::Nothing => false,
+        Made::Started => true,
+        Made::Moved => true,
+        Made::Saw(_) => true,
+        Made::Done => true,
+        Made::Halted(_) => true,
+    }
+}
+
+/// Makes the events of a history, as far as each is next of its actor where it comes.
+pub(crate) fn retrace_history(
+    mission: &Mission,
+    core: &mut Core,
+    members: &mut [Member],
+    history: &[u32],
+)
+    requires own { mission_of core.old.spec core.old.script ≡ mission.now }
+    requires fits { All (MemberFits (λ b. kind_of (b.vtable, b.value)) (λ r. r.boxes.items) mission.now) members.old }
+    ensures { mission_of core.new.spec core.new.script ≡ mission.now }
+{
+    for code in history {
+        retrace_code(mission, core, members, *code);
+    }
+}
+
+// Makes the event of a code, where it is next of its actor: the turn of its processor, or the step of the kernel.
+fn retrace_code(mission: &Mission, core: &mut Core, members: &mut [Member], code: u32)
+    requires own { mission_of core.old.spec core.old.script ≡ mission.now }
+    requires fits { All (MemberFits (λ b. kind_of (b.vtable, b.value)) (λ r. r.boxes.items) mission.now) members.old }
+    ensures own { mission_of core.new.spec core.new.script ≡ mission.now }
+    ensures fits { All (MemberFits (λ b. kind_of (b.vtable, b.value)) (λ r. r.boxes.items) mission.now) members.new }
+{
+    let Some(event) = event_of(code) else {
+        return;
+    };
+    let Some(p) = processor_of(event) else {
+        make_kernel(core);
+        return;
+    };
+    for place in 0..members.len() {
+        retrace_turn(mission, core, p, &mut members[place]);
+    }
+}
+
+// The turn of this processor, and a second one where the first had to see what to draft by; of another one nothing.
+fn retrace_turn(mission: &Mission, core: &mut Core, p: ProcId, member: &mut Member)
+    requires own { mission_of core.old.spec core.old.script ≡ mission.now }
+    requires fits { MemberFits (λ b. kind_of (b.vtable, b.value)) (λ r. r.boxes.items) mission.now member.old }
+    ensures own { mission_of core.new.spec core.new.script ≡ mission.now }
+    ensures fits { MemberFits (λ b. kind_of (b.vtable, b.value)) (λ r. r.boxes.items) mission.now member.new }
+{
+    if member.proc.0 != p.0 {
+        return;
+    }
+    if let Made::Saw(_) = member.turn(mission, core) {
+        member.turn(mission, core);
+    }
+}
+
+// The processor that makes an event, if one does.
+fn processor_of(event: Event) -> Option<ProcId> {
+    match event {
+        Event::Start(p) => Some(p),
+        Event::Look(p, _) => Some(p),
+        Event::Store(p, _) => Some(p),
+        Event::Flip(p) => Some(p),
+        Event::Done(p) => Some(p),
+        Event::Halt(p) => Some(p),
+        Event::KNote(_) => None,
+        Event::KStore(_) => None,
+        Event::Release => None,
+    }
+}
