@@ -4,3 +4,5 @@ mod EventsBack
 mod ScheduleBack
 mod TurnsLead
 mod TurnsWhole
+mod Adding
+mod TurnsKnown

@@ -8,7 +8,9 @@ pub mod limits;
 pub mod rule;
 pub mod schedule_reading;
 pub mod schedule_writing;
+pub mod turns;
 pub mod verbs;
 
 pub use schedule_reading::{ScheduleError, ScheduleFault, read_schedule};
 pub use schedule_writing::write_schedule;
+pub use turns::in_turns;
