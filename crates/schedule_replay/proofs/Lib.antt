@@ -6,3 +6,5 @@ mod TurnsLead
 mod TurnsWhole
 mod Adding
 mod TurnsKnown
+mod Pending
+mod Unique

@@ -177,7 +177,8 @@ fn add(list: &mut Vec<u32>, event: Event) -> Result<(), NoMemory>
     Ok(())
 }
 
-fn proc_count(spec: &Spec) -> u8
+/// How many processors there are.
+pub(crate) fn proc_count(spec: &Spec) -> u8
     ensures { result ≡ length spec.now.procs }
 {
     spec.procs.items().len() as u8
