@@ -1,5 +1,5 @@
 -- The event of a code has that code, and the code of an event whose numbers are small has that event.
-use Rattle.std.proofs.Common.{ℕ, zero, suc, ◌≡◌, ◌<◌, ◌+◌, ◌*◌, ◌/◌, ◌%◌, ◌∙◌, Bool, true, false, arith, refl, sym, ap}
+use Rattle.std.proofs.Common.{ℕ, zero, suc, ◌≡◌, ◌<◌, ◌+◌, ◌*◌, ◌/◌, ◌%◌, ◌∙◌, arith, refl, sym, ap}
 use Rattle.std.specs.Prelude.{◌==◌, Option, Some, None, nat_lt}
 use Rattle.std.proofs.lemmas.Bool.{eqb-true, lt-ltb, ne_eqb}
 use Rattle.scram_types.specs.Lookups.{proc_id}

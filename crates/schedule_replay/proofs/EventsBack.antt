@@ -1,5 +1,5 @@
 -- The line of an event tells that event.
-use Rattle.std.proofs.Common.{ℕ, ◌≡◌, ◌<◌, ◌≤◌, ◌+◌, ◌*◌, ◌^◌, ◌∙◌, Bool, true, List, [], ◌∷◌, ◌++◌, Some, Ok, length, decimal, append_assoc, arith, refl, sym, ap, subst}
+use Rattle.std.proofs.Common.{ℕ, ◌≡◌, ◌<◌, ◌≤◌, Bool, true, List, [], ◌∷◌, ◌++◌, Some, Ok, length, decimal, append_assoc, arith, refl, sym, ap, subst}
 use Rattle.std.specs.Prelude.{◌==◌, ◌&&◌, codes, nat_le}
 use Rattle.std.specs.List.{list_all}
 use Rattle.std.proofs.lemmas.Bool.{and_from, and_parts, le-leb}
@@ -20,7 +20,7 @@ use Rattle.schedule_replay.specs.declared.verbs.Verb.{Verb}
 use Rattle.schedule_replay.specs.declared.verbs.Verb.TheVariants as verb
 use Rattle.schedule_replay.specs.Verbs.{verb_named, word_count}
 use Rattle.schedule_replay.specs.Events.{HasEvent, event_text}
-use Rattle.schedule_replay.specs.Reading.{event_read, event_told, is_legible, line_event, proc_in}
+use Rattle.schedule_replay.specs.Reading.{event_read, event_told, is_legible}
 
 -- a line without its line feed: it can be printed, and tells an event
 pub record LineBack (spec : Parts) (line : List ℕ) (event : Event) : Type 0 where

@@ -4,3 +4,7 @@ mod EventsBack
 mod ScheduleBack
 mod TurnsLead
 mod TurnsWhole
+mod Adding
+mod TurnsKnown
+mod Pending
+mod Unique

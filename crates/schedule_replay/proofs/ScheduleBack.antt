@@ -1,19 +1,17 @@
 -- What is written is read back.
-use Rattle.std.proofs.Common.{ℕ, suc, ◌≡◌, ◌<◌, ◌≤◌, ◌+◌, ◌∙◌, Bool, true, false, List, [], ◌∷◌, ◌++◌, Option, Some, Result, Ok, Err, length, arith, refl, sym, ap, append_assoc, append-nil}
+use Rattle.std.proofs.Common.{ℕ, suc, ◌≡◌, ◌≤◌, ◌+◌, ◌∙◌, List, [], ◌∷◌, ◌++◌, Option, Result, Ok, Err, length, refl, sym, ap, append_assoc, append-nil}
 use Rattle.std.specs.Prelude.{IfOk, Vec, codes}
 use Rattle.std.specs.Option.{option_map_or}
-use Rattle.std.proofs.lemmas.Bool.{le-ltb}
 use Rattle.scram_types.specs.Specification.{IsSpec, Parts}
 use Rattle.scram_types.specs.declared.memory.NoMemory.{NoMemory}
-use Rattle.bank_words.specs.Events.{event_code, event_of}
+use Rattle.bank_words.specs.Events.{event_code}
 use Rattle.bank_words.specs.declared.events.Event.{Event}
 use Rattle.trace_text.specs.Pieces.{pieces_of}
 use Rattle.trace_text.proofs.Splitting.{some_piece}
 use Rattle.trace_text.proofs.WordBytes.{line_split}
 use Rattle.schedule_replay.specs.declared.limits.TheConstants.{MAX_SCHEDULE_BYTES}
-use Rattle.schedule_replay.specs.declared.schedule_reading.ScheduleFault.{ScheduleFault}
 use Rattle.schedule_replay.specs.Events.{AreCodes, IsCode, code_line, event_line, event_text, schedule_text}
-use Rattle.schedule_replay.specs.Reading.{codes_from, event_read, read_on, schedule_of}
+use Rattle.schedule_replay.specs.Reading.{codes_from, read_on, schedule_of}
 use Rattle.schedule_replay.proofs.Codes.{code_back}
 use Rattle.schedule_replay.proofs.EventsBack.{line_back}
 use Rattle.schedule_replay.proofs.Walk.{line_then, of_length}

@@ -1,21 +1,20 @@
 -- The turn of a processor leads from the begin of a frame to its end.
 use Rattle.std.proofs.lemmas.Bool.{lt-ltb}
-use Rattle.std.proofs.Common.{◌≡◌, ◌≢◌, ◌∙◌, ℕ, zero, suc, ◌+◌, ◌-◌, ◌*◌, ◌<◌, ◌≤◌, Bool, true, false, refl, ap, sym, subst, arith, List, [], ◌∷◌, ◌++◌}
-use Rattle.std.specs.Prelude.{Option, Some, None, nat_eq, nat_le, nat_lt, ◌&&◌, if◌then◌else◌}
+use Rattle.std.proofs.Common.{◌≡◌, ◌≢◌, ◌∙◌, ℕ, zero, suc, ◌+◌, ◌-◌, ◌<◌, ◌≤◌, Bool, true, false, refl, ap, subst, arith, List, [], ◌∷◌, ◌++◌}
+use Rattle.std.specs.Prelude.{Option, Some, None, nat_eq, nat_lt, if◌then◌else◌}
 use Rattle.std.proofs.lemmas.Bool.Decides.{nat_tests}
-use native.Mathlib.Decide.{dec_le, ℕ_discrete}
 use Rattle.scram_types.specs.Lookups.{proc_id}
 use Rattle.scram_types.specs.Searches.{listed_below}
 use Rattle.bank_words.specs.declared.events.Event.{Event}
-use Rattle.bank_words.specs.declared.events.Event.TheVariants.{Start, Look, Store, Flip, Done, Halt, KNote, KStore, Release}
-use Rattle.fail_stop.specs.Events.{At, EndWord, Halted, IsNext, Place, Places, ReleaseWord, Word, frame_after, halts_at, is_actor, moved, next_from, next_halted, next_of, next_of_actor, plan, plan_step, step_after}
-use Rattle.fail_stop.specs.Flights.{Flies, Flight, back_by, stores_by}
-use Rattle.fail_stop.specs.Kept.{IsPlaced, Kept, Running, Stopped}
+use Rattle.bank_words.specs.declared.events.Event.TheVariants.{Start, Look, Store, Flip, Done, Halt}
+use Rattle.fail_stop.specs.Events.{At, Halted, IsNext, Place, Places, ReleaseWord, Word, frame_after, halts_at, is_actor, moved, next_from, next_of, next_of_actor, plan, plan_step, step_after}
+use Rattle.fail_stop.specs.Flights.{Flies, Flight, stores_by}
+use Rattle.fail_stop.specs.Kept.{Kept}
 use Rattle.fail_stop.specs.Schedules.{IsSchedule, Machine, happened}
 use Rattle.fail_stop.proofs.EachState.{happens_so}
 use Rattle.fail_stop.proofs.Keeps.{keeps}
 use Rattle.fail_stop.proofs.Moves.{nat_eq_self}
-use Rattle.schedule_replay.specs.Turns.{ending, steps_by, turn_of_proc, turns_of_procs}
+use Rattle.schedule_replay.specs.Turns.{ending, steps_by}
 
 other_false : (a b : ℕ) → a ≢ b → nat_eq a b ≡ false
 other_false a b h = grind (arith, nat_tests, h)

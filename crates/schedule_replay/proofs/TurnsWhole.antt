@@ -1,25 +1,24 @@
 -- The schedule in turns leads from the opening to the end of the flight.
 use Rattle.std.proofs.lemmas.Bool.{eq-eqb, le-ltb, lt-ltb}
-use Rattle.std.proofs.Common.{◌≡◌, ◌≢◌, ◌⊎◌, ◌∙◌, ℕ, zero, suc, ◌+◌, ◌-◌, ◌*◌, ◌/◌, ◌%◌, ◌<◌, ◌≤◌, Bool, true, false, ◌||◌, refl, ap, sym, subst, inl, inr, arith, List, [], ◌∷◌, ◌++◌, length, map}
-use Rattle.std.specs.Prelude.{Option, Some, None, not, nat_eq, nat_lt, nat_le, ◌&&◌, if◌then◌else◌}
+use Rattle.std.proofs.Common.{◌≡◌, ◌∙◌, ℕ, zero, suc, ◌+◌, ◌-◌, ◌*◌, ◌/◌, ◌%◌, ◌<◌, ◌≤◌, Bool, true, false, ◌||◌, refl, ap, sym, subst, inl, inr, arith, List, [], ◌∷◌, ◌++◌}
+use Rattle.std.specs.Prelude.{Option, Some, None, nat_eq, nat_lt, nat_le, ◌&&◌, if◌then◌else◌}
 use Rattle.std.proofs.lemmas.Bool.Decides.{nat_tests}
 use native.Mathlib.Decide.{dec_le, ℕ_discrete}
 use Rattle.scram_types.specs.Lookups.{proc_id}
 use Rattle.scram_types.specs.Searches.{listed_below}
-use Rattle.bank_words.specs.Events.{event_code}
 use Rattle.bank_words.specs.declared.events.Event.{Event}
 use Rattle.bank_words.specs.declared.events.Event.TheVariants.{Start, KNote, KStore, Release}
-use Rattle.fail_stop.specs.Ends.{IsDone, IsOver}
-use Rattle.fail_stop.specs.Events.{At, EndWord, Halted, IsNext, Place, Places, ReleaseWord, Word, may_note, moved, next_from, next_halted, next_kernel, next_of}
+use Rattle.fail_stop.specs.Ends.{IsDone}
+use Rattle.fail_stop.specs.Events.{At, EndWord, Halted, Place, ReleaseWord, may_note, moved, next_halted, next_kernel, next_of}
 use Rattle.fail_stop.specs.Flights.{Flies, Flight, back_by}
-use Rattle.fail_stop.specs.Kept.{IsPlaced, Kept, Running, Stopped, end_at, opening_places, opening_words}
+use Rattle.fail_stop.specs.Kept.{IsPlaced, Kept, end_at}
 use Rattle.fail_stop.specs.Schedules.{IsSchedule, Machine, happened, opening}
 use Rattle.fail_stop.proofs.Keeps.{opens}
 use Rattle.fail_stop.proofs.KernelEvents.{halted_end}
 use Rattle.fail_stop.proofs.ScriptBorder.{restarts_within, script_flies}
 use Rattle.fail_stop.specs.ScriptFlights.{flight_of}
-use Rattle.schedule_replay.specs.Turns.{LeadsToTheEnd, TurnsLeadToTheEnd, in_turns, frames_in_turns, releasing, steps_by, turn_of_proc, turn_of_kernel, turns_of_procs}
-use Rattle.schedule_replay.proofs.TurnsLead.{Came, Leads, ended_at, joined, kept_after, steps_lead}
+use Rattle.schedule_replay.specs.Turns.{LeadsToTheEnd, TurnsLeadToTheEnd, frames_in_turns, releasing, turn_of_proc, turn_of_kernel, turns_of_procs}
+use Rattle.schedule_replay.proofs.TurnsLead.{Leads, ended_at, joined, kept_after, steps_lead}
 
 -- a restart between two frames
 record Back (o : Option ℕ) (h f : ℕ) : Type 0 where

@@ -1,5 +1,5 @@
 -- Which events a specification has, and their text.
-use Rattle.std.specs.Prelude.{◌≡◌, ℕ, ◌<◌, List, [], ◌∷◌, ◌++◌, length, codes, decimal, Option, Some, None, ⊤}
+use Rattle.std.specs.Prelude.{◌≡◌, ℕ, ◌<◌, List, [], ◌∷◌, ◌++◌, length, codes, decimal, Some, ⊤}
 use Rattle.std.specs.Option.{option_map_or}
 use Rattle.scram_types.specs.Specification.{Each, Parts}
 use Rattle.scram_types.specs.Lookups.{proc_name}

@@ -2,3 +2,5 @@ pub mod Verbs
 pub mod Events
 pub mod Reading
 pub mod Turns
+pub mod Replaying
+pub mod Laws

@@ -5,10 +5,14 @@
 pub mod event_lines;
 pub mod laws;
 pub mod limits;
+pub mod replays;
 pub mod rule;
 pub mod schedule_reading;
 pub mod schedule_writing;
+pub mod turns;
 pub mod verbs;
 
+pub use replays::{ReplayError, replay};
 pub use schedule_reading::{ScheduleError, ScheduleFault, read_schedule};
 pub use schedule_writing::write_schedule;
+pub use turns::in_turns;

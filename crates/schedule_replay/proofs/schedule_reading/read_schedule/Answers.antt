@@ -1,11 +1,8 @@
 use Rattle.fault_script.proofs.Ends.{each_end}
-use Rattle.std.proofs.Common.{◌≡◌, arith, rules, sym, ◌∙◌, subst}
-use Rattle.scram_types.specs.Specification.{Each}
+use Rattle.std.proofs.Common.{◌≡◌, arith, rules, sym}
 use Rattle.bank_words.specs.Events.{event_code}
 use Rattle.std.specs.Prelude.{◌++◌, ◌∷◌, []}
-use Rattle.schedule_replay.specs.Events.{AreCodes, IsCode}
-use Rattle.schedule_replay.specs.Reading.{AnswersSchedule, codes_from, schedule_of}
-use Rattle.trace_text.specs.Pieces.{pieces_of}
+use Rattle.schedule_replay.specs.Events.{IsCode}
 use Rattle.schedule_replay.proofs.Walk.{refused, taken}
 use Rattle.schedule_replay.proofs.schedule_reading.read_schedule.Goals as goal
 

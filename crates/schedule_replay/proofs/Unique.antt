@@ -1,0 +1,247 @@
+-- A list of codes leads to one state, and has one answer.
+use Rattle.std.proofs.Common.{ℕ, zero, suc, ◌≡◌, ◌≢◌, ◌<◌, ◌≤◌, ◌+◌, ◌-◌, ◌*◌, ◌∙◌, Bool, true, false, List, [], ◌∷◌, Option, Some, None, Result, Ok, Err, length, map, take, arith, refl, sym, ap, subst, inl, inr}
+use Rattle.std.specs.Prelude.{nat_eq, nat_le, nat_lt, slice_get, if◌then◌else◌}
+use Rattle.std.proofs.lemmas.Bool.{cases_order}
+use Rattle.scram_types.specs.Lookups.{proc_id}
+use Rattle.scram_types.specs.Scripts.{ScriptParts}
+use Rattle.scram_types.specs.Specification.{Parts}
+use Rattle.scram_types.specs.declared.flights.Flown.{Flown}
+use Rattle.scram_types.specs.declared.ids.ProcId.{ProcId}
+use Rattle.scram_types.proofs.Options.{same_some}
+use Rattle.bank_words.specs.Events.{IsEvent, event_code, event_of}
+use Rattle.bank_words.specs.declared.events.Event.{Event}
+use Rattle.bank_words.specs.declared.events.Event.TheVariants.{Start, Look, Store, Flip, Done, Halt, KNote, KStore, Release}
+use Rattle.event_core.specs.declared.cores.Illegal.{Illegal}
+use Rattle.event_core.specs.Replays.{IsReplay}
+use Rattle.event_core.proofs.Bounds.{inside}
+use Rattle.event_core.proofs.Replays.{kernel_same, next_moved, next_same}
+use Rattle.fail_stop.specs.Ends.{IsOver}
+use Rattle.fail_stop.specs.Events.{IsNext, IsStored, Places, ReleaseWord, Word, halts_at, next_from, next_of_actor, plan_step}
+use Rattle.fail_stop.specs.Flights.{Flight}
+use Rattle.fail_stop.specs.Schedules.{IsSchedule, Machine, happened, opening}
+use Rattle.fail_stop.specs.ScriptFlights.{flight_of}
+use Rattle.fail_stop.proofs.Plans.{Mid, fork, gate, mid, plan_look}
+use Rattle.schedule_replay.specs.declared.replays.ReplayError.{ReplayError}
+use Rattle.schedule_replay.specs.declared.replays.ReplayError.TheVariants as error
+use Rattle.schedule_replay.specs.Laws.{OneAnswer}
+use Rattle.schedule_replay.specs.Replaying.{AnswersReplay, IsIllegal, IsShort, IsWhole, first_next, next_below}
+use Rattle.schedule_replay.proofs.Codes.{event_back}
+
+-- the numbers of an event that is next are small
+
+looked_at : (m : Flight) (p n : ℕ) (q : ProcId) → plan_step m p n ≡ Some (Look (proc_id p) q) → q.0 ≡ n - 1
+looked_at m p n q h = elim (fork (nat_eq n 0) (Some (Start (proc_id p))) _ (Look (proc_id p) q) h) [
+  | inl start ↦ absurd (let e = start.1 in cc)
+  | inr more ↦ (elim (fork (nat_le n m.procs) (Some (Look (proc_id p) (proc_id (n - 1)))) _ (Look (proc_id p) q) more.1) [
+    | inl look ↦ (let e = look.1 in let same : proc_id (n - 1) ≡ q = cc in sym (ap (λ (r : ProcId). r.0) same))
+    | inr later ↦ absurd (no_store (nat_lt n (m.procs + 1 + m.width)) (nat_eq n (m.procs + 1 + m.width)) (nat_eq n (m.procs + 2 + m.width)) _ later.1)
+  ])
+] where
+  no_store : (a b c : Bool) (i : ℕ) → (if a then Some (Store (proc_id p) i) else (if b then Some (Flip (proc_id p)) else (if c then Some (Done (proc_id p)) else None))) ≡ Some (Look (proc_id p) q) → ⊥
+  no_store true b c i e = cc
+  no_store false true c i e = cc
+  no_store false false true i e = cc
+  no_store false false false i e = cc
+
+module _ (m : Flight) (few : m.procs ≤ 8) (narrow : m.width ≤ 64) where
+  looks_low : (at : Places) (words : Word → ℕ) (p q : ProcId) → IsNext m at words (Look p q) → q.0 < 8
+  looks_low at words p q i =
+      let next = (gate (nat_lt p.0 m.procs) (next_from m p.0 (words ReleaseWord) (at.proc p.0)) (Look p q) i).1 in
+      let b : Mid m p.0 (at.proc p.0) (Look p q) = mid m p.0 (words ReleaseWord) (at.proc p.0) (Look p q) next (λ e. cc) in
+      let c = plan_look m p.0 b.n q.0 (halts_at m b.n (m.halt p.0 b.f)) b.next in
+      let uncut : plan_step m p.0 b.n ≡ Some (Look p q) = ap (λ (t : Bool). if t then Some (Halt (proc_id p.0)) else plan_step m p.0 b.n) (sym c.0) ∙ b.next in
+      let e = looked_at m p.0 b.n q uncut in
+      omega (arith, e, c.1, b.begun, few)
+
+  small : (at : Places) (words : Word → ℕ) (e : Event) → IsNext m at words e → IsEvent e
+  small at words (Start p) i = let low = inside m at words few narrow (Start p) i in omega (arith, low)
+  small at words (Look p q) i = let low = inside m at words few narrow (Look p q) i in
+      let other = looks_low at words p q i in
+      (omega (arith, low), omega (arith, other))
+  small at words (Store p x) i = let low = inside m at words few narrow (Store p x) i in
+      let a = low.0 in
+      let b = low.1 in
+      (omega (arith, a), omega (arith, b))
+  small at words (Flip p) i = let low = inside m at words few narrow (Flip p) i in omega (arith, low)
+  small at words (Done p) i = let low = inside m at words few narrow (Done p) i in omega (arith, low)
+  small at words (Halt p) i = let low = inside m at words few narrow (Halt p) i in omega (arith, low)
+  small at words (KNote p) i = let low = inside m at words few narrow (KNote p) i in omega (arith, low)
+  small at words (KStore x) i = let low = inside m at words few narrow (KStore x) i in omega (arith, low)
+  small at words Release i = omega arith
+
+  -- one state for one list
+
+  same_event : (s : Machine) (e f : Event) → IsNext m s.at s.words e → IsNext m s.at s.words f → event_code e ≡ event_code f → e ≡ f
+  same_event s e f i j code = same_some e f (sym (event_back e (small s.at s.words e i)) ∙ ap event_of code ∙ event_back f (small s.at s.words f j))
+
+  one_state : (s : Machine) (es fs : List Event) (t u : Machine) → IsSchedule m s es t → IsSchedule m s fs u → map event_code es ≡ map event_code fs → t ≡ u
+  one_state s [] [] t u i j codes = i ∙ sym j
+  one_state s [] (f ∷ fs) t u i j codes = absurd (cc)
+  one_state s (e ∷ es) [] t u i j codes = absurd (cc)
+  one_state s (e ∷ es) (f ∷ fs) t u i j codes =
+      let head : event_code e ≡ event_code f = cc in
+      let tail : map event_code es ≡ map event_code fs = cc in
+      let same = same_event s e f i.0 j.0 head in
+      one_state (happened m s e) es fs t u i.1 (subst (λ (x : Event). IsSchedule m (happened m s x) fs u) (sym same) j.1) tail
+
+  record NextIn (s : Machine) (list : List ℕ) (index code : ℕ) : Type 0 where
+    before : List Event
+    there : Machine
+    schedule : IsSchedule m s before there
+    codes_are : map event_code before ≡ take index list
+    event : Event
+    next : IsNext m there.at there.words event
+    has_code : event_code event ≡ code
+
+  next_in : (s : Machine) (es : List Event) (t : Machine) (index code : ℕ) → IsSchedule m s es t → slice_get (map event_code es) index ≡ Some code → NextIn s (map event_code es) index code
+  next_in s [] t index code i h = absurd (let e = h in cc)
+  next_in s (e ∷ es) t zero code i h = record { before = []; there = s; schedule = refl; codes_are = refl; event = e; next = i.0; has_code = same_some (event_code e) code h }
+  next_in s (e ∷ es) t (suc index) code i h =
+      let more = next_in (happened m s e) es t index code i.1 h in
+      record {
+        before = e ∷ more.before;
+        there = more.there;
+        schedule = (i.0, more.schedule);
+        codes_are = ap (λ (l : List ℕ). event_code e ∷ l) more.codes_are;
+        event = more.event;
+        next = more.next;
+        has_code = more.has_code;
+      }
+
+  -- no event of a schedule is out of turn
+  in_turn : (list : List ℕ) (at : Places) (words : Word → ℕ) (index : ℕ) (illegal : Illegal) → IsReplay m list at words → IsIllegal m list index illegal → ⊥
+  in_turn list at words index illegal r j =
+      let n = next_in (opening m) r.events r.state index j.code r.schedule (subst (λ (l : List ℕ). slice_get l index ≡ Some j.code) r.codes_are j.there) in
+      let codes : map event_code n.before ≡ map event_code j.before.events = n.codes_are ∙ ap (take index) (sym r.codes_are) ∙ j.before.codes_are in
+      let same = one_state (opening m) n.before j.before.events n.there j.before.state n.schedule j.before.schedule codes in
+      let next : IsNext m j.before.state.at j.before.state.words n.event = subst (λ (s : Machine). IsNext m s.at s.words n.event) same n.next in
+      let placed : IsNext m j.at j.before.state.words n.event = subst (λ (a : Places). IsNext m a j.before.state.words n.event) (sym j.before.places_are) next in
+      let here : IsNext m j.at j.words n.event = next_moved m j.at j.before.state.words j.words (λ w s. sym (j.before.words_are w s)) n.event placed in
+      let coded : event_of j.code ≡ Some n.event = ap event_of (sym n.has_code) ∙ event_back n.event (small n.there.at n.there.words n.event n.next) in
+      let event : n.event ≡ illegal.given = same_some n.event illegal.given (sym coded ∙ j.given) in
+      j.not_next (j.next ∙ subst (λ (e : Event). next_of_actor m j.at j.words e ≡ Some e) event here)
+
+  -- two replays of one list
+  record Agrees (at : Places) (words : Word → ℕ) (at2 : Places) (words2 : Word → ℕ) : Type 0 where
+    places : at ≡ at2
+    words_are : (w : Word) → IsStored m w → words w ≡ words2 w
+
+  agree : (list : List ℕ) (at : Places) (words : Word → ℕ) (at2 : Places) (words2 : Word → ℕ) → IsReplay m list at words → IsReplay m list at2 words2 → Agrees at words at2 words2
+  agree list at words at2 words2 r s =
+      let same = one_state (opening m) r.events s.events r.state s.state r.schedule s.schedule (sym r.codes_are ∙ s.codes_are) in
+      record {
+        places = r.places_are ∙ ap (λ (x : Machine). x.at) same ∙ sym s.places_are;
+        words_are = λ w t. r.words_are w t ∙ ap (λ (x : Machine). x.words w) same ∙ sym (s.words_are w t);
+      }
+
+  module _ (at : Places) (words words2 : Word → ℕ) (same : (w : Word) → IsStored m w → words w ≡ words2 w) where
+    actor_same : (e : Event) → next_of_actor m at words e ≡ next_of_actor m at words2 e
+    actor_same (Start p) = next_same m at words words2 same p.0
+    actor_same (Look p q) = next_same m at words words2 same p.0
+    actor_same (Store p x) = next_same m at words words2 same p.0
+    actor_same (Flip p) = next_same m at words words2 same p.0
+    actor_same (Done p) = next_same m at words words2 same p.0
+    actor_same (Halt p) = next_same m at words words2 same p.0
+    actor_same (KNote p) = kernel_same m at words words2 same
+    actor_same (KStore x) = kernel_same m at words words2 same
+    actor_same Release = kernel_same m at words words2 same
+
+    below_same : (n : ℕ) → next_below m at words n ≡ next_below m at words2 n
+    below_same zero = refl
+    below_same (suc n) = rw (below_same n, next_same m at words words2 same n) refl
+
+    first_same : first_next m at words ≡ first_next m at words2
+    first_same = rw (below_same m.procs, kernel_same m at words words2 same) refl
+
+  moved_first : (at : Places) (words : Word → ℕ) (at2 : Places) (words2 : Word → ℕ) → Agrees at words at2 words2 → first_next m at words ≡ first_next m at2 words2
+  moved_first at words at2 words2 a = first_same at words words2 a.words_are ∙ ap (λ (p : Places). first_next m p words2) a.places
+
+  moved_actor : (at : Places) (words : Word → ℕ) (at2 : Places) (words2 : Word → ℕ) (e : Event) → Agrees at words at2 words2 → next_of_actor m at words e ≡ next_of_actor m at2 words2 e
+  moved_actor at words at2 words2 e a = actor_same at words words2 a.words_are e ∙ ap (λ (p : Places). next_of_actor m p words2 e) a.places
+
+  -- two answers
+
+  not_both : (list : List ℕ) → IsWhole m list → (events : ℕ) (next : Event) → IsShort m list events next → ⊥
+  not_both list w events next s = let a = agree list w.at w.words s.at s.words w.replay s.replay in s.going (subst (λ (p : Places). IsOver m p) a.places w.over)
+
+  one_short : (list : List ℕ) (events : ℕ) (next : Event) (events2 : ℕ) (next2 : Event) → IsShort m list events next → IsShort m list events2 next2 → (events ≡ events2) × (next ≡ next2)
+  one_short list events next events2 next2 s t =
+      let a = agree list s.at s.words t.at t.words s.replay t.replay in
+      (s.count ∙ sym t.count, same_some next next2 (sym s.next_is ∙ moved_first s.at s.words t.at t.words a ∙ t.next_is))
+
+  cut : (list : List ℕ) (i j : ℕ) (illegal : Illegal) → i < j → IsIllegal m list i illegal → IsIllegal m (take j list) i illegal
+  cut list i j illegal less x = record {
+    at = x.at;
+    words = x.words;
+    before = subst (λ (l : List ℕ). IsReplay m l x.at x.words) (sym (taken_again list i j less)) x.before;
+    code = x.code;
+    there = got_again list i j less ∙ x.there;
+    given = x.given;
+    next = x.next;
+    not_next = x.not_next;
+  }
+    where
+      taken_again : (list : List ℕ) (i j : ℕ) → i < j → take i (take j list) ≡ take i list
+      taken_again list zero j less = refl
+      taken_again list (suc i) zero less = absurd (omega arith)
+      taken_again [] (suc i) (suc j) less = refl
+      taken_again (x ∷ list) (suc i) (suc j) less = ap (λ (l : List ℕ). x ∷ l) (taken_again list i j (omega arith))
+
+      got_again : (list : List ℕ) (i j : ℕ) → i < j → slice_get (take j list) i ≡ slice_get list i
+      got_again list i zero less = absurd (omega arith)
+      got_again [] i (suc j) less = refl
+      got_again (x ∷ list) zero (suc j) less = refl
+      got_again (x ∷ list) (suc i) (suc j) less = got_again list i j (omega arith)
+
+  earlier : (list : List ℕ) (i j : ℕ) (x y : Illegal) → i < j → IsIllegal m list i x → IsIllegal m list j y → ⊥
+  earlier list i j x y less one other = in_turn (take j list) other.at other.words i x other.before (cut list i j x less one)
+
+  same_illegal : (x y : Illegal) → x.given ≡ y.given → x.next ≡ y.next → x ≡ y
+  same_illegal x y given next =
+      ap (λ (e : Event). record { given = e; next = x.next }) given ∙ ap (λ (o : Option Event). record { given = y.given; next = o }) next
+
+  here_same : (list : List ℕ) (i : ℕ) (x y : Illegal) → IsIllegal m list i x → IsIllegal m list i y → x ≡ y
+  here_same list i x y one other =
+      let code = same_some one.code other.code (sym one.there ∙ other.there) in
+      let given : x.given ≡ y.given = same_some x.given y.given (sym one.given ∙ ap event_of code ∙ other.given) in
+      let a = agree (take i list) one.at one.words other.at other.words one.before other.before in
+      same_illegal x y given (one.next ∙ moved_actor one.at one.words other.at other.words x.given a ∙ ap (next_of_actor m other.at other.words) given ∙ sym other.next)
+
+  one_illegal : (list : List ℕ) (i j : ℕ) (x y : Illegal) → IsIllegal m list i x → IsIllegal m list j y → (i ≡ j) × (x ≡ y)
+  one_illegal list i j x y one other = elim (cases_order i j) [
+    | inl same ↦ (same, here_same list i x y one (subst (λ (k : ℕ). IsIllegal m list k y) (sym same) other))
+    | inr apart ↦ absurd (elim apart [
+      | inl less ↦ earlier list i j x y less one other
+      | inr more ↦ earlier list j i y x more other one
+    ])
+  ]
+
+same_flown : (one other : Flown) → one.rows ≡ other.rows → one.reports ≡ other.reports → one ≡ other
+same_flown one other rows reports = ap (λ r. record { rows = r; reports = one.reports }) rows ∙ ap (λ r. record { rows = other.rows; reports = r }) reports
+
+module _ (spec : Parts) (script : ScriptParts) (list : List ℕ) (few : length spec.procs ≤ 8) (narrow : 8 * length spec.apps ≤ 64) where
+  by_both : (one other : Result Flown ReplayError) → one ≢ Err error.NoMemory → other ≢ Err error.NoMemory
+      → AnswersReplay spec script list one → AnswersReplay spec script list other → one ≡ other
+  by_both (Ok one) (Ok other) a b x y = ap (λ (f : Flown). Ok f) (same_flown one other (x.1 ∙ sym y.1) (x.2 ∙ sym y.2))
+  by_both (Ok one) (Err (error.Illegal index illegal)) a b x y = absurd (in_turn (flight_of spec script) few narrow list x.0.at x.0.words index illegal x.0.replay y)
+  by_both (Ok one) (Err (error.Short events next)) a b x y = absurd (not_both (flight_of spec script) few narrow list x.0 events next y)
+  by_both (Ok one) (Err error.NoMemory) a b x y = absurd (b refl)
+  by_both (Err (error.Illegal index illegal)) (Ok other) a b x y = absurd (in_turn (flight_of spec script) few narrow list y.0.at y.0.words index illegal y.0.replay x)
+  by_both (Err (error.Illegal i one)) (Err (error.Illegal j other)) a b x y =
+      let same = one_illegal (flight_of spec script) few narrow list i j one other x y in
+      ap (λ (k : ℕ). Err (error.Illegal k one)) same.0 ∙ ap (λ (z : Illegal). Err (error.Illegal j z)) same.1
+  by_both (Err (error.Illegal index illegal)) (Err (error.Short events next)) a b x y = absurd (in_turn (flight_of spec script) few narrow list y.at y.words index illegal y.replay x)
+  by_both (Err (error.Illegal index illegal)) (Err error.NoMemory) a b x y = absurd (b refl)
+  by_both (Err (error.Short events next)) (Ok other) a b x y = absurd (not_both (flight_of spec script) few narrow list y.0 events next x)
+  by_both (Err (error.Short events next)) (Err (error.Illegal index illegal)) a b x y = absurd (in_turn (flight_of spec script) few narrow list x.at x.words index illegal x.replay y)
+  by_both (Err (error.Short events next)) (Err (error.Short events2 next2)) a b x y =
+      let same = one_short (flight_of spec script) few narrow list events next events2 next2 x y in
+      ap (λ (k : ℕ). Err (error.Short k next)) same.0 ∙ ap (λ (e : Event). Err (error.Short events2 e)) same.1
+  by_both (Err (error.Short events next)) (Err error.NoMemory) a b x y = absurd (b refl)
+  by_both (Err error.NoMemory) other a b x y = absurd (a refl)
+
+pub one_answer : OneAnswer
+one_answer spec script list sound one other a b x y =
+    let procs = sound.procs_count.few in
+    let apps = sound.apps_count.few in
+    by_both spec script list procs (omega (arith, apps)) one other a b x y

@@ -1,0 +1,28 @@
+use Rattle.std.proofs.Common.{◌++◌, ◌∷◌, ◌∙◌, [], ℕ, List, Some, ap, subst, sym, take}
+use Rattle.std.specs.Prelude.{slice_get}
+use Rattle.bank_words.specs.declared.events.Event.{Event}
+use Rattle.event_core.specs.Cores.{flown, standing, standing_words}
+use Rattle.event_core.specs.Replays.{IsReplay}
+use Rattle.fail_stop.specs.Events.{next_of_actor}
+use Rattle.schedule_replay.proofs.Codes.{code_back}
+use Rattle.schedule_replay.proofs.replays.make.Goals as goal
+
+pub returns-in-Ok-clause-history : goal.returns-in-Ok-clause-history
+returns-in-Ok-clause-history g c =
+    c.in-Ok.ensures.history ∙ ap (λ (code : ℕ). c.args.core.now.history ++ code ∷ []) (code_back c.args.code c.event_at-event.result c.event_at-event.ensures)
+
+pub returns-in-Err-clause-refused : goal.returns-in-Err-clause-refused
+returns-in-Err-clause-refused g c = λ list before there.
+    let core = c.args.core.now in
+    let refused = c.in-Err.ensures.illegal in
+    let count = c.events_made-index.ensures.count in
+    record {
+      at = standing core;
+      words = standing_words core;
+      before = subst (λ (codes : List ℕ). IsReplay (flown core) codes (standing core) (standing_words core)) (sym (ap (λ (n : ℕ). take n list) count ∙ before)) c.events_made-index.ensures.schedule;
+      code = c.args.code;
+      there = ap (λ (n : ℕ). slice_get list n) count ∙ there;
+      given = c.event_at-event.ensures ∙ ap (λ (e : Event). Some e) (sym refused.1);
+      next = refused.2 ∙ ap (λ (e : Event). next_of_actor (flown core) (standing core) (standing_words core) e) (sym refused.1);
+      not_next = λ same. refused.0 (sym refused.2 ∙ same ∙ ap (λ (e : Event). Some e) refused.1);
+    }

@@ -1,0 +1,65 @@
+-- What comes of numbers that are flown as the codes of a schedule.
+use Rattle.std.specs.Prelude.{◌≡◌, ◌≢◌, ℕ, zero, suc, List, length, take, slice_get, Option, Some, None, Result, Ok, Err, ⊤}
+use Rattle.bank_words.specs.Events.{event_of}
+use Rattle.bank_words.specs.declared.events.Event.{Event}
+use Rattle.event_core.specs.declared.cores.Illegal.{Illegal}
+use Rattle.event_core.specs.Replays.{IsReplay}
+use Rattle.fail_stop.specs.Ends.{IsOver}
+use Rattle.fail_stop.specs.Events.{Places, Word, next_kernel, next_of, next_of_actor}
+use Rattle.fail_stop.specs.Flights.{Flight}
+use Rattle.fail_stop.specs.ScriptFlights.{flight_of}
+use Rattle.frame_model.specs.Flights.{reports_of, rows_of}
+use Rattle.scram_types.specs.Scripts.{ScriptParts}
+use Rattle.scram_types.specs.Specification.{Parts}
+use Rattle.scram_types.specs.declared.flights.Flown.{Flown}
+use Rattle.schedule_replay.specs.declared.replays.ReplayError.{ReplayError}
+use Rattle.schedule_replay.specs.declared.replays.ReplayError.TheVariants as error
+
+-- The first of two, where there is one, else the second.
+abbrev pub first_of_two : Option Event → Option Event → Option Event
+first_of_two (Some event) other = Some event
+first_of_two None other = other
+
+-- The next event of the least of the processors below n that has one.
+abbrev pub next_below : Flight → Places → (Word → ℕ) → ℕ → Option Event
+next_below m at words zero = None
+next_below m at words (suc n) = first_of_two (next_below m at words n) (next_of m at words n)
+
+-- The next event of the least processor that has one, else that of the kernel.
+abbrev pub first_next : Flight → Places → (Word → ℕ) → Option Event
+first_next m at words = first_of_two (next_below m at words m.procs) (next_kernel m at words)
+
+-- The numbers are the codes of a schedule at whose end the machine is over.
+pub record IsWhole (m : Flight) (list : List ℕ) : Type 0 where
+  pub at : Places
+  pub words : Word → ℕ
+  pub replay : IsReplay m list at words
+  pub over : IsOver m at
+
+-- The numbers before this place are the codes of a schedule, and behind it the event at this place is not the next of its actor.
+pub record IsIllegal (m : Flight) (list : List ℕ) (index : ℕ) (illegal : Illegal) : Type 0 where
+  pub at : Places
+  pub words : Word → ℕ
+  pub before : IsReplay m (take index list) at words
+  pub code : ℕ
+  pub there : slice_get list index ≡ Some code
+  pub given : event_of code ≡ Some illegal.given
+  pub next : illegal.next ≡ next_of_actor m at words illegal.given
+  pub not_next : illegal.next ≢ Some illegal.given
+
+-- The numbers are the codes of a schedule at whose end the machine is not over.
+pub record IsShort (m : Flight) (list : List ℕ) (events : ℕ) (next : Event) : Type 0 where
+  pub at : Places
+  pub words : Word → ℕ
+  pub replay : IsReplay m list at words
+  pub going : IsOver m at → ⊥
+  pub count : events ≡ length list
+  pub next_is : first_next m at words ≡ Some next
+
+-- An answer to a list: the one-thread trace where the list is a whole schedule, the first event that is out of turn, or what comes next
+-- where the list ends too early.
+abbrev pub AnswersReplay : Parts → ScriptParts → List ℕ → Result Flown ReplayError → Type 0
+AnswersReplay spec script list (Ok flown) = IsWhole (flight_of spec script) list × (flown.rows ≡ rows_of spec script) × (flown.reports ≡ reports_of spec script)
+AnswersReplay spec script list (Err (error.Illegal index illegal)) = IsIllegal (flight_of spec script) list index illegal
+AnswersReplay spec script list (Err (error.Short events next)) = IsShort (flight_of spec script) list events next
+AnswersReplay spec script list (Err error.NoMemory) = ⊤

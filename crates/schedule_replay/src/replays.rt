@@ -1,0 +1,192 @@
+//! A schedule flown on one thread.
+
+ghost use Rattle.std.specs.Prelude.{◌≡◌, ◌++◌, ◌∷◌, [], ℕ, List, Err, IfErr, IfOk, IfSome, None, Some, length, slice_get, take};
+ghost use Rattle.app_model.specs.Racks.{RacksFit};
+ghost use Rattle.bank_words.specs.Events.{event_of};
+ghost use Rattle.event_core.specs.Cores.{flown, standing, standing_words};
+ghost use Rattle.event_core.specs.Flyers.{FlyersFit};
+ghost use Rattle.event_core.specs.Replays.{IsReplay};
+ghost use Rattle.event_core.specs.Stores.{IsEventWord};
+ghost use Rattle.fail_stop.specs.Ends.{IsOver};
+ghost use Rattle.fail_stop.specs.Events.{IsNext};
+ghost use Rattle.fault_script.specs.Fits.{Fits};
+ghost use Rattle.scram_types.specs.Specification.{Parts};
+ghost use Rattle.schedule_replay.specs.declared.replays.ReplayError.TheVariants.{NoMemory as WantsMemory};
+ghost use Rattle.schedule_replay.specs.Events.{AreCodes, IsCode};
+ghost use Rattle.schedule_replay.specs.Replaying.{AnswersReplay, first_next, next_below};
+
+use crate::turns::proc_count;
+use app_model::Rack;
+use bank_words::{Event, event_of};
+use event_core::flyers::{Flyer, make_flyers, word_of};
+use event_core::{Core, Illegal};
+use scram_types::{Flown, NoMemory, ProcId, Script, Spec};
+use std::alloc::Global;
+
+/// Why a list was not flown as a schedule to the end.
+#[derive(Clone, Copy, Debug)]
+pub enum ReplayError {
+    /// The event at this place, counted from 0, is the first that is not the next of its actor.
+    Illegal(u32, Illegal),
+    /// All events of the list, of this number, were made, and the flight is not over. The event is the next of the least
+    /// processor that has one, else of the kernel.
+    Short(u32, Event),
+    /// No memory was to be had.
+    NoMemory,
+}
+
+impl From<NoMemory> for ReplayError {
+    ghost from_gives = { λ _ error. error ≡ WantsMemory };
+
+    fn from(_wanting: NoMemory) -> ReplayError {
+        ReplayError::NoMemory
+    }
+}
+
+/// Flies a list of codes as a schedule, on one thread. Where it is a schedule at whose end the flight is over, the rows and
+/// reports are those of the one-thread trace, whatever the list is. Rack `p` is that of processor `p`, and spare rack `p`
+/// is for its restart. It waits for nobody.
+///
+/// # Errors
+///
+/// The first event that is not the next of its actor; what would come next, where the list ends before the flight does;
+/// want of memory.
+pub fn replay(
+    alloc: Global,
+    spec: &Spec,
+    script: &Script,
+    racks: Vec<Rack>,
+    spares: Vec<Rack>,
+    events: &[u32],
+) -> Result<Flown, ReplayError>
+    requires script { Fits spec.now script.now }
+    requires racks { RacksFit (λ b. kind_of (b.vtable, b.value)) (λ r. r.boxes.items) racks.items }
+    requires spares { RacksFit (λ b. kind_of (b.vtable, b.value)) (λ r. r.boxes.items) spares.items }
+    requires codes { AreCodes spec.now events.now }
+    ensures { AnswersReplay spec.now script.now events.now result }
+{
+    let core = Core::open(alloc, spec, script)?;
+    let flyers = make_flyers(alloc, racks, spares)?;
+    let core = fly(core, spec, flyers, events)?;
+    land(core, spec, events)
+}
+
+// Makes the events of a list, one after another, as long as each is the next of its actor.
+fn fly<'a>(
+    core: Core<'a>,
+    spec: &Spec,
+    flyers: Vec<Flyer>,
+    events: &[u32],
+) -> Result<Core<'a>, ReplayError>
+    requires spec { core.spec ≡ spec.now }
+    requires opening { core.history ≡ [] }
+    requires fits { FlyersFit (λ b. kind_of (b.vtable, b.value)) (λ r. r.boxes.items) core.spec core.script flyers.items }
+    requires codes { AreCodes spec.now events.now }
+    ensures spec { IfOk result (λ after. after.spec ≡ core.entry.spec) }
+    ensures script { IfOk result (λ after. after.script ≡ core.entry.script) }
+    ensures history { IfOk result (λ after. after.history ≡ events.now) }
+    ensures refused { IfErr result (λ error. AnswersReplay core.entry.spec core.entry.script events.now (Err error)) }
+{
+    let mut core = core;
+    let mut flyers = flyers;
+    for code in events {
+        match make(&mut core, spec, &mut flyers, *code) {
+            Ok(()) => {}
+            Err(error) => return Err(error),
+        }
+    }
+    Ok(core)
+}
+
+// Makes the event that has a code, where it is the next of its actor.
+fn make(core: &mut Core, spec: &Spec, flyers: &mut Vec<Flyer>, code: u32) -> Result<(), ReplayError>
+    requires spec { core.old.spec ≡ spec.now }
+    requires code { IsCode spec.now code }
+    requires fits { FlyersFit (λ b. kind_of (b.vtable, b.value)) (λ r. r.boxes.items) core.old.spec core.old.script flyers.old.items }
+    ensures spec { core.new.spec ≡ core.old.spec }
+    ensures script { core.new.script ≡ core.old.script }
+    ensures fits { FlyersFit (λ b. kind_of (b.vtable, b.value)) (λ r. r.boxes.items) core.old.spec core.old.script flyers.new.items }
+    ensures history { IfOk result (λ _. core.new.history ≡ core.old.history ++ code ∷ []) }
+    ensures refused { (list : List ℕ) → take (length core.old.history) list ≡ core.old.history → slice_get list (length core.old.history) ≡ Some code → IfErr result (λ error. AnswersReplay core.old.spec core.old.script list (Err error)) }
+{
+    let event = event_at(code);
+    let index = events_made(core);
+    let word = word_where_next(core, spec, flyers, event);
+    match core.step(event, word) {
+        Ok(()) => Ok(()),
+        Err(illegal) => Err(ReplayError::Illegal(index, illegal)),
+    }
+}
+
+// The event that has a code; there is one.
+fn event_at(code: u32) -> Event
+    requires { (spec : Parts) × IsCode spec code }
+    ensures { event_of code ≡ Some result }
+{
+    match event_of(code) {
+        Some(event) => event,
+        None => unreachable!(),
+    }
+}
+
+// How many events were made. They are a schedule.
+fn events_made(core: &Core) -> u32
+    ensures count { result ≡ length core.now.history }
+    ensures schedule { IsReplay (flown core.now) core.now.history (standing core.now) (standing_words core.now) }
+{
+    core.history().len() as u32
+}
+
+// The word with which an event is made where it is next of its actor.
+fn word_where_next(core: &Core, spec: &Spec, flyers: &mut [Flyer], event: Event) -> u64
+    requires spec { core.now.spec ≡ spec.now }
+    requires fits { FlyersFit (λ b. kind_of (b.vtable, b.value)) (λ r. r.boxes.items) core.now.spec core.now.script flyers.old }
+    ensures word { IsNext (flown core.now) (standing core.now) (standing_words core.now) event → IsEventWord (flown core.now) (standing core.now) event result }
+    ensures fits { FlyersFit (λ b. kind_of (b.vtable, b.value)) (λ r. r.boxes.items) core.now.spec core.now.script flyers.new }
+{
+    if core.next_of_actor(event) == Some(event) {
+        word_of(core, spec, flyers, event)
+    } else {
+        0
+    }
+}
+
+// The flight's rows and reports where it is over, else what would come next.
+fn land(core: Core, spec: &Spec, events: &[u32]) -> Result<Flown, ReplayError>
+    requires spec { core.spec ≡ spec.now }
+    requires history { core.history ≡ events.now }
+    ensures { AnswersReplay core.entry.spec core.entry.script events.now result }
+{
+    match pending(&core, spec) {
+        Some(next) => Err(ReplayError::Short(events_made(&core), next)),
+        None => Ok(core.finish()),
+    }
+}
+
+// The next event of the least processor that has one, else of the kernel, where the flight is not over.
+fn pending(core: &Core, spec: &Spec) -> Option<Event>
+    requires spec { core.now.spec ≡ spec.now }
+    ensures over { result ≡ None → IsOver (flown core.now) (standing core.now) }
+    ensures going { IfSome result (λ _. IsOver (flown core.now) (standing core.now) → ⊥) }
+    ensures next { IfSome result (λ next. first_next (flown core.now) (standing core.now) (standing_words core.now) ≡ Some next) }
+{
+    if core.over() {
+        return None;
+    }
+    core.goes_on();
+    match next_below(core, proc_count(spec)) {
+        Some(next) => Some(next),
+        None => core.next_kernel(),
+    }
+}
+
+fn next_below(core: &Core, procs: u8) -> Option<Event>
+    ensures { result ≡ next_below (flown core.now) (standing core.now) (standing_words core.now) procs }
+{
+    for p in 0..procs {
+        if let Some(next) = core.next_of(ProcId(p)) {
+            return Some(next);
+        }
+    }
+    None
+}
