@@ -1,5 +1,5 @@
 -- The history of a core is a schedule, and it has few events.
-use Rattle.std.proofs.Common.{◌≡◌, ◌∙◌, ℕ, ◌+◌, ◌*◌, ◌<◌, ◌≤◌, ap, subst, arith, List, [], ◌∷◌, length, map, refl}
+use Rattle.std.proofs.Common.{◌≡◌, ◌∙◌, ℕ, ◌+◌, ◌*◌, ◌<◌, ◌≤◌, ap, subst, arith, List, [], ◌∷◌, length, refl}
 use Rattle.std.specs.Prelude.{Some}
 use Rattle.std.proofs.lemmas.List.{length-map}
 use Rattle.std.proofs.lemmas.Nat.{mul-le}
@@ -60,5 +60,5 @@ few spec script (e ∷ es) t sound fits is =
 pub history_few : (spec : Parts) (script : ScriptParts) (codes : List ℕ) (at : Places) (words : Word → ℕ) → IsSpec spec → Fits spec script → IsReplay (flight_of spec script) codes at words → length codes ≤ 12580000
 history_few spec script codes at words sound fits r =
     let all = few spec script r.events r.state sound fits r.schedule in
-    let same : length codes ≡ length r.events = ap length r.codes_are ∙ length-map event_code r.events in
+    let same : length codes ≡ length r.events = ap length r.codes_are ∙ length-map r.events event_code in
     omega (arith, all, same)

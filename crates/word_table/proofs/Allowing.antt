@@ -1,8 +1,7 @@
 -- What each kind of step is allowed to do, and what it tells.
 use Rattle.std.proofs.Common.{◌≡◌, ℕ, zero, suc, ◌+◌, ◌-◌, ◌*◌, ◌%◌, ◌<◌, ◌≤◌, Bool, true, false, refl, sym, ap, subst, ◌∙◌, arith, List, [], ◌∷◌}
-use Rattle.std.specs.Prelude.{Option, Some, None, IfSome, nat_lt, nat_eq, slice_index, slice_set}
+use Rattle.std.specs.Prelude.{Option, Some, None, IfSome, nat_lt, slice_index, slice_set}
 use Rattle.std.specs.Bool.{MatchBool}
-use Rattle.std.proofs.lemmas.Bool.Decides.{nat_tests}
 use Rattle.std.proofs.lemmas.Bool.{eq-eqb, le-ltb, lt-ltb}
 use mathlib.Core.Option.{some, none}
 use lib.ListN.{get_elem?}

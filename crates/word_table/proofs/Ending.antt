@@ -1,6 +1,6 @@
 -- The last words are those of the places at which the actors stand.
-use Rattle.std.proofs.Common.{◌≡◌, ℕ, zero, suc, ℤ, ◌+◌, ◌*◌, ◌%◌, ◌<◌, Bool, true, false, refl, sym, ap, subst, ◌∙◌, arith, List, [], ◌∷◌, map, length}
-use Rattle.std.specs.Prelude.{Option, Some, if◌then◌else◌, slice_get, slice_index}
+use Rattle.std.proofs.Common.{◌≡◌, ℕ, zero, suc, ℤ, ◌+◌, ◌*◌, ◌%◌, ◌<◌, refl, sym, ap, subst, ◌∙◌, arith, List, [], ◌∷◌, map, length}
+use Rattle.std.specs.Prelude.{Option, Some, slice_get, slice_index}
 use Rattle.scram_types.specs.Specification.{IsSpec}
 use Rattle.bank_words.specs.Numbers.{decode}
 use Rattle.coverage_check.specs.Missions.{MissionParts}

@@ -1,4 +1,4 @@
-use Rattle.std.proofs.Common.{◌≡◌, arith, length, ap}
+use Rattle.std.proofs.Common.{arith}
 use Rattle.event_core.proofs.Histories.{history_few, replayed_by}
 use Rattle.event_core.proofs.cores.Core.history.Goals as goal
 

@@ -1,0 +1,86 @@
+-- What a turn of a processor does to its place.
+use Rattle.std.proofs.Common.{◌≡◌, ◌∙◌, ◌↔◌, ℕ, ◌<◌, ◌≤◌, ap, sym, refl, arith, Bool, true, false, not}
+use Rattle.std.specs.Prelude.{Option, Some, None, is_some, if◌then◌else◌}
+use Rattle.std.proofs.lemmas.Bool.Decides.{nat_tests}
+use Rattle.fail_stop.specs.Ends.{IsDone}
+use Rattle.fail_stop.specs.Events.{At, Halted, Place, frame_of}
+use Rattle.fail_stop.specs.Flights.{Flight}
+use Rattle.word_table.specs.Actors.{IsInFlight, Waits, frame_awaited, is_halted, restart_or, steps_of}
+use Rattle.word_deck.specs.Crews.{HasSpare, after_frame, comes_back, is_done, place_after, place_flown, tries_after}
+use Rattle.word_deck.specs.declared.turns.Turn.{Turn}
+use Rattle.word_deck.specs.declared.turns.Turn.TheVariants.{Worked, NotYet, Finished}
+
+-- who is done
+
+late : (h : ℕ) (o : Option ℕ) → not (comes_back h o) ≡ true → (r : ℕ) → o ≡ Some r → r ≤ h
+late h None e r s = cc
+late h (Some q) e r s = let same : q ≡ r = cc in grind (arith, nat_tests)
+
+early : (h : ℕ) (o : Option ℕ) → ((r : ℕ) → o ≡ Some r → r ≤ h) → not (comes_back h o) ≡ true
+early h None l = refl
+early h (Some q) l = let m = l q refl in grind (arith, nat_tests)
+
+pub done_by : (m : Flight) (p : ℕ) (place : Place) → is_done m p place ≡ true → IsDone m p place
+done_by m p (At f n) e = grind (arith, nat_tests)
+done_by m p (Halted h) e = late h (m.restart p) e
+
+pub by_done : (m : Flight) (p : ℕ) (place : Place) → IsDone m p place → is_done m p place ≡ true
+by_done m p (At f n) e = grind (arith, nat_tests)
+by_done m p (Halted h) e = early h (m.restart p) e
+
+-- who is not done waits
+
+comes : (h : ℕ) (o : Option ℕ) → not (comes_back h o) ≡ false → h < restart_or h o
+comes h None e = cc
+comes h (Some r) e = grind (arith, nat_tests)
+
+pub waits : (m : Flight) (p : ℕ) (place : Place) → is_done m p place ≡ false → steps_of place ≡ 0 → IsInFlight m place → Waits m p place
+waits m p (At f n) e s l = (s, let ne : f ≡ m.frames → ⊥ = (λ same. grind (arith, nat_tests)) in let le = l.0 in grind (arith, ne, le))
+waits m p (Halted h) e s l = comes h (m.restart p) e
+
+-- who has halted and waits has its spare rack
+
+has_restart : {R : Type 0} (h : ℕ) (o : Option ℕ) (spare : Option R) → h < restart_or h o → ((r : ℕ) → o ≡ Some r → h < r → is_some spare ≡ true) → is_some spare ≡ true
+has_restart h None spare l s = absurd (omega (arith, l))
+has_restart h (Some r) spare l s = s r refl l
+
+pub spare_there : {R : Type 0} (m : Flight) (p : ℕ) (place : Place) (spare : Option R) → Waits m p place → is_halted place ≡ true → HasSpare m p (frame_of place) spare → is_some spare ≡ true
+spare_there m p (At f n) spare w e s = cc
+spare_there m p (Halted h) spare w e s = has_restart h (m.restart p) spare w s
+
+none_later : {R : Type 0} (h : ℕ) (o : Option ℕ) (spare : Option R) → h < restart_or h o → (r : ℕ) → o ≡ Some r → restart_or h o < r → is_some spare ≡ true
+none_later h None spare l r e more = cc
+none_later h (Some q) spare l r e more = let same : q ≡ r = cc in absurd (omega (arith, same, more))
+
+-- the spare rack after a start: of one that had halted none is asked for
+pub spare_begun : {R : Type 0} (m : Flight) (p : ℕ) (place : Place) (spare after : Option R) → Waits m p place → HasSpare m p (frame_of place) spare
+    → (is_halted place ≡ false → after ≡ spare) → HasSpare m p (frame_awaited m p place) after
+spare_begun m p (At f n) spare after w s same = λ r e more. ap is_some (same refl) ∙ s r e more
+spare_begun m p (Halted h) spare after w s same = none_later h (m.restart p) after w
+
+-- a frame that is flown
+
+pub begins : (f : ℕ) (o : Option ℕ) → steps_of (after_frame f o) ≡ 0
+begins f None = refl
+begins f (Some s) = refl
+
+not_yet : (b : Bool) → NotYet ≡ (if b then Finished else Worked) → ⊥
+not_yet true e = cc
+not_yet false e = cc
+
+pub flown_after : (m : Flight) (p : ℕ) (before after : Place) (turn : Turn) → is_done m p before ≡ false → turn ≡ (if is_done m p after then Finished else Worked)
+    → after ≡ place_flown m p before → after ≡ place_after turn m p before
+flown_after m p before after NotYet e t a = absurd (not_yet (is_done m p after) t)
+flown_after m p before after Worked e t a = a
+flown_after m p before after Finished e t a = a ∙ sym (rw e refl)
+
+finished_if : (b : Bool) (turn : Turn) → turn ≡ (if b then Finished else Worked) → (turn ≡ Finished) ↔ (b ≡ true)
+finished_if true turn e = (λ f. refl, λ f. e)
+finished_if false turn e = (λ f. absurd (cc), λ f. absurd (cc))
+
+pub finished_by : (m : Flight) (p : ℕ) (place : Place) (turn : Turn) → turn ≡ (if is_done m p place then Finished else Worked) → (turn ≡ Finished) ↔ IsDone m p place
+finished_by m p place turn e = let f = finished_if (is_done m p place) turn e in (λ t. done_by m p place (f.0 t), λ d. f.1 (by_done m p place d))
+
+pub tried_by : (b : Bool) (turn : Turn) (tries : ℕ) → turn ≡ (if b then Finished else Worked) → tries_after turn tries ≡ tries
+tried_by true turn tries e = rw e refl
+tried_by false turn tries e = rw e refl

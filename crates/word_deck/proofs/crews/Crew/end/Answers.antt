@@ -1,0 +1,10 @@
+use Rattle.std.proofs.Common.{rules, ◌≡◌, ◌∙◌, Some, ap}
+use Rattle.fault_script.specs.Times.{halt_in, words}
+use Rattle.word_deck.proofs.Steps.{halt_in_width}
+use Rattle.word_deck.proofs.crews.Crew.end.Goals as goal
+
+pub halt_after-requires-clause-step : goal.halt_after-requires-clause-step
+halt_after-requires-clause-step g c =
+    let there : halt_in c.args.mission.now.script c.proc.result.0 c.frame-frame.result ≡ Some c.in-Some.halt = search rules in
+    halt_in_width c.args.mission.now.spec c.args.mission.now.script c.proc.result.0 c.frame-frame.result c.in-Some.halt c.from.result c.words-width.result
+    (c.flights_are_of_traces.ensures c.args.mission.now.spec c.args.mission.now.script c.holds.ensures.mission.fits).flies there c.from.ensures (c.words-width.ensures ∙ ap words c.spec.ensures)

@@ -1,0 +1,215 @@
+//! Processors with what they need in a flight. That their boxes fit is told by clauses, since no type can keep a fact of
+//! a box; the fields are public so that clauses can name them.
+
+ghost use Rattle.std.specs.Prelude.{◌≡◌, ◌↔◌, ◌+◌, ◌<◌, IfSome, MatchOption, false, if◌then◌else◌, is_some, length, not, true};
+ghost use Rattle.app_model.specs.Racks.{RackFits};
+ghost use Rattle.frame_model.specs.Flights.{draft};
+ghost use Rattle.frame_model.specs.Storage.{kernel_image};
+ghost use Rattle.fail_stop.specs.Drafts.{IsSnapshot};
+ghost use Rattle.fail_stop.specs.Ends.{IsDone};
+ghost use Rattle.fail_stop.specs.Events.{At, frame_of};
+ghost use Rattle.word_table.specs.Actors.{Waits, frame_awaited, mission_flight};
+ghost use Rattle.word_table.specs.Tables.{IsSeatOf, flight_in, mission_in, seat_place, proc_of, tries_of};
+ghost use Rattle.word_deck.specs.Crews.{CrewFits, CrewFlies, UnitFits, after_frame, is_done, place_after, tries_after};
+ghost use Rattle.word_table.specs.declared.tables.WordTable as word_tables;
+ghost use Rattle.word_deck.specs.declared.turns.Turn.TheVariants.{Finished, Worked};
+
+use crate::frames::{commit, halt_after, look_at_all};
+use crate::turns::Turn;
+use app_model::Rack;
+use bank_words::KernelImage;
+use coverage_check::Mission;
+use fail_stop::law::flights_are_of_traces;
+use fail_stop::{Halted, Live, Snapshot};
+use fault_script::{halt_in, restart_of};
+use scram_types::Image;
+use word_table::{Seat, WordTable};
+
+/// A processor of a flight on words: its seat, its unit, which lives or has halted, and the rack for its restart.
+#[derive(Drop)]
+pub struct Crew {
+    pub seat: Seat,
+    pub live: Option<Live>,
+    pub halted: Option<Halted>,
+    pub spare: Option<Rack>,
+}
+
+impl Crew {
+    /// A processor at its opening place, with its unit and the rack for its restart. It takes no memory.
+    pub fn processor(seat: Seat, live: Live, spare: Rack) -> Crew
+        requires opening { seat_place seat ≡ At 0 0 }
+        requires proc { live.proc.0 ≡ proc_of seat }
+        requires live { RackFits (λ b. kind_of (b.vtable, b.value)) live.rack.boxes.items }
+        requires spare { RackFits (λ b. kind_of (b.vtable, b.value)) spare.boxes.items }
+        ensures seat { result.seat ≡ seat }
+        ensures fits { (words : word_tables.WordTable) → IsSeatOf words seat → CrewFits (λ b. kind_of (b.vtable, b.value)) (λ r. r.boxes.items) words result }
+    {
+        Crew {
+            seat,
+            live: Some(live),
+            halted: None,
+            spare: Some(spare),
+        }
+    }
+
+    /// A turn: the frame that the processor waits for, whole or up to its halt in it, where that is released. A
+    /// processor that has halted lives again with the start of the frame of its restart, in its spare rack. `NotYet`
+    /// comes only where the release that this call loads does not show the frame; `Finished` comes exactly where the
+    /// processor has then flown all frames or has halted for good. It takes no memory and waits for nobody.
+    #[tactic(auto, using(crate::proofs::Places::waits, crate::proofs::Places::done_by, crate::proofs::Places::flown_after, crate::proofs::Places::finished_by, crate::proofs::Places::tried_by))]
+    pub fn turn(&mut self, mission: &Mission, words: &WordTable) -> Turn
+        requires mission { mission_in words.now ≡ mission.now }
+        requires fits { CrewFits (λ b. kind_of (b.vtable, b.value)) (λ r. r.boxes.items) words.now self.old }
+        ensures fits { CrewFits (λ b. kind_of (b.vtable, b.value)) (λ r. r.boxes.items) words.now self.new }
+        ensures proc { proc_of self.new.seat ≡ proc_of self.old.seat }
+        ensures place { seat_place self.new.seat ≡ place_after result (flight_in words.now) (proc_of self.old.seat) (seat_place self.old.seat) }
+        ensures finished { (result ≡ Finished) ↔ IsDone (flight_in words.now) (proc_of self.old.seat) (seat_place self.new.seat) }
+        ensures tries { tries_of self.new.seat ≡ tries_after result (tries_of self.old.seat) }
+    {
+        mission.holds();
+        if self.is_done(mission) {
+            return Turn::Finished;
+        }
+        match self.begin(words) {
+            Some(kernel) => {
+                self.fly(mission, words, kernel);
+                self.outcome(mission)
+            }
+            None => Turn::NotYet,
+        }
+    }
+
+    fn is_done(&self, mission: &Mission) -> bool
+        ensures { result ≡ is_done (mission_flight mission.now) (proc_of self.now.seat) (seat_place self.now.seat) }
+    {
+        let frame = self.seat.frame();
+        if !self.seat.halted() {
+            return frame == mission.script().frames;
+        }
+        match restart_of(mission.script(), self.seat.proc()) {
+            Some(restart) => restart <= frame,
+            None => true,
+        }
+    }
+
+    // What comes of a turn in which the processor has flown a frame.
+    fn outcome(&self, mission: &Mission) -> Turn
+        ensures { result ≡ (if is_done (mission_flight mission.now) (proc_of self.now.seat) (seat_place self.now.seat) then Finished else Worked) }
+    {
+        if self.is_done(mission) {
+            Turn::Finished
+        } else {
+            Turn::Worked
+        }
+    }
+
+    // Starts the frame that the processor waits for, where it is released, and lives again with that where it had halted.
+    #[tactic(auto, using(crate::proofs::Places::spare_there, crate::proofs::Places::spare_begun))]
+    fn begin(&mut self, words: &WordTable) -> Option<KernelImage>
+        requires fits { CrewFits (λ b. kind_of (b.vtable, b.value)) (λ r. r.boxes.items) words.now self.old }
+        requires waits { Waits (flight_in words.now) (proc_of self.old.seat) (seat_place self.old.seat) }
+        ensures proc { proc_of self.new.seat ≡ proc_of self.old.seat }
+        ensures fits { MatchOption result (CrewFits (λ b. kind_of (b.vtable, b.value)) (λ r. r.boxes.items) words.now self.new) (λ image. CrewFlies (λ b. kind_of (b.vtable, b.value)) (λ r. r.boxes.items) words.now 1 self.new) }
+        ensures place { MatchOption result (seat_place self.new.seat ≡ seat_place self.old.seat) (λ image. seat_place self.new.seat ≡ At (frame_awaited (flight_in words.now) (proc_of self.old.seat) (seat_place self.old.seat)) 1) }
+        ensures tries { MatchOption result (tries_of self.new.seat ≡ tries_of self.old.seat + 1) (λ image. tries_of self.new.seat ≡ tries_of self.old.seat) }
+        ensures image { IfSome result (λ image. image ≡ kernel_image (mission_in words.now).spec (mission_in words.now).script (frame_awaited (flight_in words.now) (proc_of self.old.seat) (seat_place self.old.seat))) }
+    {
+        let image = words.started(&mut self.seat)?;
+        self.restart();
+        Some(image)
+    }
+
+    // A unit that has halted lives again in the spare rack, which is left alone otherwise.
+    fn restart(&mut self)
+        requires one { is_some self.old.live ≡ not (is_some self.old.halted) }
+        requires spare { is_some self.old.halted ≡ true → is_some self.old.spare ≡ true }
+        requires fits { UnitFits (λ b. kind_of (b.vtable, b.value)) (λ r. r.boxes.items) (proc_of self.old.seat) self.old }
+        ensures seat { self.new.seat ≡ self.old.seat }
+        ensures lives { is_some self.new.live ≡ true }
+        ensures halted { is_some self.new.halted ≡ false }
+        ensures spare { is_some self.old.halted ≡ false → self.new.spare ≡ self.old.spare }
+        ensures fits { UnitFits (λ b. kind_of (b.vtable, b.value)) (λ r. r.boxes.items) (proc_of self.old.seat) self.new }
+    {
+        if let Some(halted) = self.halted.take() {
+            if let Some(spare) = self.spare.take() {
+                self.live = Some(halted.restart(spare));
+            }
+        }
+    }
+
+    // Flies the frame that has been started: looks, draft, and the steps up to the halt or the end.
+    fn fly(&mut self, mission: &Mission, words: &WordTable, kernel: KernelImage)
+        requires mission { mission_in words.now ≡ mission.now }
+        requires flies { CrewFlies (λ b. kind_of (b.vtable, b.value)) (λ r. r.boxes.items) words.now 1 self.old }
+        requires kernel { kernel ≡ kernel_image mission.now.spec mission.now.script (frame_of (seat_place self.old.seat)) }
+        ensures fits { CrewFits (λ b. kind_of (b.vtable, b.value)) (λ r. r.boxes.items) words.now self.new }
+        ensures proc { proc_of self.new.seat ≡ proc_of self.old.seat }
+        ensures place { seat_place self.new.seat ≡ after_frame (frame_of (seat_place self.old.seat)) ((flight_in words.now).halt (proc_of self.old.seat) (frame_of (seat_place self.old.seat))) }
+        ensures tries { tries_of self.new.seat ≡ tries_of self.old.seat }
+    {
+        mission.holds();
+        let procs = mission.spec().procs.items().len() as u8;
+        let images = look_at_all(words, procs, &mut self.seat);
+        let image = self.draft(mission, &Snapshot { kernel, images });
+        self.end(mission, words, &image);
+    }
+
+    // What the unit, which lives, drafts in the frame of this snapshot.
+    #[tactic(auto, using(crate::proofs::Steps::drafted_by))]
+    fn draft(&mut self, mission: &Mission, snap: &Snapshot) -> Image
+        requires lives { is_some self.old.live ≡ true }
+        requires known { proc_of self.old.seat < length mission.now.spec.procs }
+        requires fits { UnitFits (λ b. kind_of (b.vtable, b.value)) (λ r. r.boxes.items) (proc_of self.old.seat) self.old }
+        requires snap { IsSnapshot mission.now.spec mission.now.script (frame_of (seat_place self.old.seat)) snap.now }
+        ensures image { result ≡ draft mission.now.spec mission.now.script (proc_of self.old.seat) (frame_of (seat_place self.old.seat)) }
+        ensures seat { self.new.seat ≡ self.old.seat }
+        ensures lives { is_some self.new.live ≡ true }
+        ensures halted { self.new.halted ≡ self.old.halted }
+        ensures spare { self.new.spare ≡ self.old.spare }
+        ensures fits { UnitFits (λ b. kind_of (b.vtable, b.value)) (λ r. r.boxes.items) (proc_of self.old.seat) self.new }
+    {
+        mission.holds();
+        match &mut self.live {
+            Some(live) => live.draft(mission.spec(), snap).image,
+            None => unreachable!(),
+        }
+    }
+
+    // Ends the frame whose draft this is: commits it, or halts where the script has a halt in it.
+    fn end(&mut self, mission: &Mission, words: &WordTable, image: &Image)
+        requires mission { mission_in words.now ≡ mission.now }
+        requires flies { CrewFlies (λ b. kind_of (b.vtable, b.value)) (λ r. r.boxes.items) words.now (length mission.now.spec.procs + 1) self.old }
+        requires image { image.now ≡ draft mission.now.spec mission.now.script (proc_of self.old.seat) (frame_of (seat_place self.old.seat)) }
+        ensures fits { CrewFits (λ b. kind_of (b.vtable, b.value)) (λ r. r.boxes.items) words.now self.new }
+        ensures proc { proc_of self.new.seat ≡ proc_of self.old.seat }
+        ensures place { seat_place self.new.seat ≡ after_frame (frame_of (seat_place self.old.seat)) ((flight_in words.now).halt (proc_of self.old.seat) (frame_of (seat_place self.old.seat))) }
+        ensures tries { tries_of self.new.seat ≡ tries_of self.old.seat }
+    {
+        mission.holds();
+        flights_are_of_traces();
+        let width = bank_words::words(mission.spec());
+        let frame = self.seat.frame();
+        match halt_in(mission.script(), self.seat.proc(), frame) {
+            Some(halt) => {
+                halt_after(words, &mut self.seat, image, width, u32::from(halt.step));
+                self.halt(frame);
+            }
+            None => commit(words, &mut self.seat, image, width),
+        }
+    }
+
+    // The unit, which lives, halts in this frame.
+    fn halt(&mut self, frame: u32)
+        requires lives { is_some self.old.live ≡ true }
+        requires fits { UnitFits (λ b. kind_of (b.vtable, b.value)) (λ r. r.boxes.items) (proc_of self.old.seat) self.old }
+        ensures seat { self.new.seat ≡ self.old.seat }
+        ensures lives { is_some self.new.live ≡ false }
+        ensures halted { is_some self.new.halted ≡ true }
+        ensures spare { self.new.spare ≡ self.old.spare }
+        ensures fits { UnitFits (λ b. kind_of (b.vtable, b.value)) (λ r. r.boxes.items) (proc_of self.old.seat) self.new }
+    {
+        if let Some(live) = self.live.take() {
+            self.halted = Some(live.halt(frame));
+        }
+    }
+}

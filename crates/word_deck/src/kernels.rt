@@ -1,0 +1,187 @@
+//! The kernel with what it needs in a flight.
+
+ghost use Rattle.std.specs.Prelude.{◌≡◌, ◌↔◌, ◌+◌, ◌<◌, ◌≤◌, length};
+ghost use Rattle.fault_script.specs.Walks.{IsWalk};
+ghost use Rattle.frame_model.specs.Storage.{kernel_image};
+ghost use Rattle.scram_kernel.specs.Kernels.{kernel_after, rows_below};
+ghost use Rattle.word_table.specs.Tables.{IsKernelSeatOf, mission_in, kernel_frame, kernel_steps, kernel_tries};
+ghost use Rattle.word_deck.specs.Kernels.{AreNoted, IsKernelDone, IsKernelMoved, KernelCrewKeeps, frames_noted};
+ghost use Rattle.word_deck.specs.declared.turns.Turn.TheVariants.{Finished};
+
+use crate::turns::Turn;
+use bank_words::{KernelImage, kernel_encode};
+use coverage_check::Mission;
+use fault_script::Walk;
+use scram_kernel::Kernel;
+use scram_types::{Image, ProcId, Row};
+use word_table::{KSeat, WordTable};
+
+/// What the kernel has noted of processors in its frame: their marks and images after it.
+#[derive(Clone, Copy)]
+pub(crate) struct Noted {
+    pub(crate) marks: [u64; 8],
+    pub(crate) images: [Image; 8],
+}
+
+/// The kernel of a flight on words: its seat, its log, its walk along the script, and what it has noted in its frame.
+/// Its rows are those of the frames in which it has noted every processor.
+#[derive(Drop)]
+pub struct KernelCrew<'a> {
+    pub mission: &'a Mission,
+    pub kseat: KSeat,
+    pub kernel: Kernel<'a>,
+    pub(crate) walk: Walk,
+    pub(crate) noted: Noted,
+    ghost keeps: { KernelCrewKeeps mission.now kseat kernel walk noted },
+}
+
+impl<'a> KernelCrew<'a> {
+    /// The kernel before the first frame, with its seat. It takes no memory.
+    #[tactic(auto, using(crate::proofs::Noting::below))]
+    pub fn kernel(mission: &'a Mission, kseat: KSeat, kernel: Kernel<'a>) -> KernelCrew<'a>
+        requires frame { kernel_frame kseat ≡ 0 }
+        requires steps { kernel_steps kseat ≡ 0 }
+        requires new { kernel ≡ kernel_after mission.now.spec mission.now.script 0 }
+        ensures mission { result.mission ≡ mission.entry }
+        ensures seat { result.kseat ≡ kseat }
+    {
+        mission.holds();
+        let walk = Walk::first(mission.spec(), mission.script());
+        let noted = Noted {
+            marks: [0; 8],
+            images: [[0; 64]; 8],
+        };
+        KernelCrew {
+            mission,
+            kseat,
+            kernel,
+            walk,
+            noted,
+        }
+    }
+
+    /// The rows of the frames in which the kernel has noted every processor: the first rows of the one-thread trace. It
+    /// takes no memory.
+    pub fn rows(&self) -> &[Row]
+        ensures { let m = self.now.mission.now in result.now ≡ rows_below m.spec m.script (frames_noted (length m.spec.procs) self.now.kseat) }
+    {
+        self.kernel.rows()
+    }
+
+    /// A turn: the kernel notes processors in order, as far as they are done with its frame or have halted. Once all are
+    /// noted it ends the frame, and where there is a next one it says what that is and releases it. `NotYet` comes only
+    /// where the end word that this call loads does not allow the next note; `Finished` comes exactly where the kernel
+    /// has then made its last note, or no frame is flown. It takes no memory and waits for nobody.
+    #[tactic(auto, using(crate::proofs::Noting::below, crate::proofs::Noting::all))]
+    pub fn turn(&mut self, words: &WordTable) -> Turn
+        requires mission { mission_in words.now ≡ self.old.mission.now }
+        requires seat { IsKernelSeatOf words.now self.old.kseat }
+        ensures mission { self.new.mission ≡ self.old.mission }
+        ensures seat { IsKernelSeatOf words.now self.new.kseat }
+        ensures place { IsKernelMoved result (length (mission_in words.now).spec.procs) (mission_in words.now).script.frames self.old.kseat self.new.kseat }
+        ensures finished { (result ≡ Finished) ↔ IsKernelDone (length (mission_in words.now).spec.procs) (mission_in words.now).script.frames self.new.kseat }
+    {
+        let procs = self.mission.spec().procs.items().len() as u32;
+        let frames = self.mission.script().frames;
+        let before = self.kseat.steps();
+        if frames == 0 || before >= procs {
+            return Turn::Finished;
+        }
+        note_all(words, procs, &mut self.kseat, &mut self.noted);
+        if self.kseat.steps() == before {
+            return Turn::NotYet;
+        }
+        if self.kseat.steps() < procs {
+            return Turn::Worked;
+        }
+        let image = end_frame(self.mission, &self.noted, &mut self.kernel, &mut self.walk);
+        if self.kseat.frame() + 1 == frames {
+            return Turn::Finished;
+        }
+        say(words, procs, &mut self.kseat, &image);
+        Turn::Worked
+    }
+
+    /// The seat and the log. It takes no memory.
+    #[tactic(auto, using(crate::proofs::Noting::done_log))]
+    pub(crate) fn into_parts(self) -> (KSeat, Kernel<'a>)
+        ensures seat { result.0 ≡ self.entry.kseat }
+        ensures kernel { let m = self.entry.mission.now in IsKernelDone (length m.spec.procs) m.script.frames self.entry.kseat → result.1 ≡ kernel_after m.spec m.script m.script.frames }
+    {
+        let KernelCrew {
+            mission: _,
+            kseat,
+            kernel,
+            walk: _,
+            noted: _,
+        } = self;
+        (kseat, kernel)
+    }
+}
+
+// Notes processors in order, as far as they may be noted.
+fn note_all(words: &WordTable, procs: u32, kseat: &mut KSeat, noted: &mut Noted)
+    requires seat { IsKernelSeatOf words.now kseat.old }
+    requires procs { procs ≡ length (mission_in words.now).spec.procs }
+    requires few { procs ≤ 8 }
+    requires frame { kernel_frame kseat.old < (mission_in words.now).script.frames }
+    requires steps { kernel_steps kseat.old ≤ procs }
+    requires noted { AreNoted (mission_in words.now) (kernel_frame kseat.old) (kernel_steps kseat.old) noted.old }
+    ensures seat { IsKernelSeatOf words.now kseat.new }
+    ensures frame { kernel_frame kseat.new ≡ kernel_frame kseat.old }
+    ensures more { kernel_steps kseat.old ≤ kernel_steps kseat.new }
+    ensures most { kernel_steps kseat.new ≤ procs }
+    ensures tries { kernel_steps kseat.new ≡ kernel_steps kseat.old → kernel_steps kseat.old < procs → kernel_tries kseat.new ≡ kernel_tries kseat.old + 1 }
+    ensures noted { AreNoted (mission_in words.now) (kernel_frame kseat.new) (kernel_steps kseat.new) noted.new }
+{
+    for p in kseat.steps()..procs {
+        match words.gone(kseat, ProcId(p as u8)) {
+            Some(marked) => {
+                let image = marked.image;
+                noted.marks[p as usize] = marked.mark;
+                noted.images[p as usize] = image;
+            }
+            None => return,
+        }
+    }
+}
+
+// Ends the frame all of whose processors have been noted: the kernel and the walk go on to the next one, and what the
+// kernel says of that comes back.
+#[tactic(auto, using(crate::proofs::Noting::images_for))]
+fn end_frame(mission: &Mission, noted: &Noted, kernel: &mut Kernel, walk: &mut Walk) -> KernelImage
+    requires frame { kernel.old.past < mission.now.script.frames }
+    requires kernel { kernel.old ≡ kernel_after mission.now.spec mission.now.script kernel.old.past }
+    requires noted { AreNoted mission.now kernel.old.past (length mission.now.spec.procs) noted.now }
+    requires walk { IsWalk mission.now.spec mission.now.script walk.old.frame walk.old }
+    requires at { walk.old.frame ≡ kernel.old.past }
+    ensures kernel { kernel.new ≡ kernel_after mission.now.spec mission.now.script (kernel.old.past + 1) }
+    ensures walk { IsWalk mission.now.spec mission.now.script walk.new.frame walk.new }
+    ensures at { walk.new.frame ≡ kernel.old.past + 1 }
+    ensures image { result ≡ kernel_image mission.now.spec mission.now.script (kernel.old.past + 1) }
+{
+    mission.holds();
+    let next = walk.next(mission.spec(), mission.script());
+    let factors = next.env.factors;
+    *walk = next;
+    kernel.tick(&noted.marks, &noted.images, factors)
+}
+
+// Says what the next frame is, word by word, and releases it.
+fn say(words: &WordTable, procs: u32, kseat: &mut KSeat, image: &KernelImage)
+    requires seat { IsKernelSeatOf words.now kseat.old }
+    requires procs { procs ≡ length (mission_in words.now).spec.procs }
+    requires steps { kernel_steps kseat.old ≡ procs }
+    requires frame { kernel_frame kseat.old + 1 < (mission_in words.now).script.frames }
+    requires image { image.now ≡ kernel_image (mission_in words.now).spec (mission_in words.now).script (kernel_frame kseat.old + 1) }
+    ensures seat { IsKernelSeatOf words.now kseat.new }
+    ensures frame { kernel_frame kseat.new ≡ kernel_frame kseat.old + 1 }
+    ensures steps { kernel_steps kseat.new ≡ 0 }
+    ensures tries { kernel_tries kseat.new ≡ kernel_tries kseat.old }
+{
+    let said = kernel_encode(image);
+    for i in 0..20 {
+        words.publish(kseat, i, said[i as usize]);
+    }
+    words.release(kseat);
+}

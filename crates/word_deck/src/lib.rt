@@ -1,0 +1,13 @@
+//! Threads that fly a mission over shared words. A turn makes the steps of one actor on the table of words and nothing
+//! else: a processor's turn is its next frame, whole or up to its halt, and the kernel's turn notes whom it can and ends
+//! the frame once all are noted. Whoever makes which turn when, what comes of a flight is the one-thread trace.
+#![tactic(auto)]
+
+pub mod crews;
+mod frames;
+pub mod kernels;
+pub mod turns;
+
+pub use crews::Crew;
+pub use kernels::KernelCrew;
+pub use turns::Turn;
