@@ -13,3 +13,4 @@ pub mod Overs
 pub mod Snapshots
 pub mod Actors
 pub mod Histories
+pub mod Replacing

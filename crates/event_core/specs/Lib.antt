@@ -4,3 +4,4 @@ pub mod Rooms
 pub mod Replays
 pub mod Cores
 pub mod Reads
+pub mod Flyers

@@ -4,6 +4,7 @@
 #![tactic(auto)]
 
 pub mod cores;
+pub mod flyers;
 mod frames;
 mod moves;
 mod nexts;

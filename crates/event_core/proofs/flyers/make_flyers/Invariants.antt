@@ -1,0 +1,18 @@
+use Rattle.std.proofs.Common.{◌≡◌, ◌+◌, length}
+use Rattle.std.specs.Prelude.{All}
+use Rattle.app_model.specs.Racks.{AllRacksFit}
+use Rattle.scram_types.specs.Scripts.{ScriptParts}
+use Rattle.scram_types.specs.Specification.{Parts}
+use Rattle.event_core.specs.Flyers.{NumberedByPlace, FlyerFits}
+use Rattle.event_core.proofs.flyers.make_flyers.Given as goal
+
+abbrev pub invariant-loop-p : goal.invariant-loop-p
+invariant-loop-p g l = record {
+  racks_left : l.racks.rest.len + l.p ≡ 8;
+  racks : AllRacksFit (λ z. (goal.App-dyn g (z.vtable, z.value)).kind_of z.value) (λ r. r.boxes.items) l.racks.rest.items;
+  spares_left : l.spares.rest.len + l.p ≡ 8;
+  spares : AllRacksFit (λ z. (goal.App-dyn g (z.vtable, z.value)).kind_of z.value) (λ r. r.boxes.items) l.spares.rest.items;
+  made : length l.flyers.items ≡ l.p;
+  numbered : NumberedByPlace (λ flyer. flyer.live.proc.0) l.flyers.items;
+  fits : (spec : Parts) (script : ScriptParts) → All (FlyerFits (λ z. (goal.App-dyn g (z.vtable, z.value)).kind_of z.value) (λ r. r.boxes.items) spec script) l.flyers.items;
+}
