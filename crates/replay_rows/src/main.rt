@@ -11,8 +11,10 @@ mod schedules;
 use crate::answers::answer_row;
 use racks::racks;
 use reconf_spec::read_spec;
+use scram_types::Spec;
 use std::fs;
 use std::io::{self, ErrorKind};
+use std::rt::HostRuntime;
 
 fn main(rt: HostRuntime) -> io::Result<()> {
     let text = fs::read_to_string(&rt, "uav.json")?;
@@ -21,9 +23,13 @@ fn main(rt: HostRuntime) -> io::Result<()> {
         return Err(ErrorKind::InvalidData.into());
     };
     for row in rows.as_str().split("\n\n") {
-        let racks = racks!(rt);
-        let spares = racks!(rt);
-        answer_row(&rt, &spec, row, racks, spares)?;
+        make_racks_and_answer(&rt, &spec, row)?;
     }
     Ok(())
+}
+
+fn make_racks_and_answer(rt: &HostRuntime, spec: &Spec, row: &str) -> io::Result<()> {
+    let racks = racks!(rt);
+    let spares = racks!(rt);
+    answer_row(rt, spec, row, racks, spares)
 }
