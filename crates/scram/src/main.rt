@@ -9,8 +9,10 @@ use std::env;
 use std::io::{self, ErrorKind};
 use std::process::ExitCode;
 
-/// The status where memory is wanting before the command is called; nothing is printed then.
+/// The status where memory is wanting before the command is called.
 const NO_MEMORY: u8 = 9;
+/// The status where the line of that is not written.
+const UNWRITTEN_OUTPUT: u8 = 4;
 /// The status where the boxes that the program makes are not those of the kinds, which its line says.
 const UNFIT_RACKS: u8 = 1;
 
@@ -19,11 +21,19 @@ fn main(rt: HostRuntime) -> ExitCode {
         Ok(words) => words,
         // A word that is no UTF-8 is in no form of the command, and no words are in none either.
         Err(error) if error.kind() != ErrorKind::OutOfMemory => Vec::new(rt.alloc()),
-        Err(_) => return ExitCode::from(NO_MEMORY),
+        Err(_) => return refuse_memory(&rt),
     };
     match answer(&rt, &words) {
         Ok(code) => ExitCode::from(code),
-        Err(_) => ExitCode::from(NO_MEMORY),
+        Err(_) => refuse_memory(&rt),
+    }
+}
+
+/// Tells that memory was wanting before the command was called, when nothing had been read or printed.
+fn refuse_memory(rt: &HostRuntime) -> ExitCode {
+    match println!(rt; "refused: memory") {
+        Ok(()) => ExitCode::from(NO_MEMORY),
+        Err(_) => ExitCode::from(UNWRITTEN_OUTPUT),
     }
 }
 

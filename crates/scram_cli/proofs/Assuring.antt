@@ -24,7 +24,7 @@ use Rattle.coverage_check.proofs.Accepting.{accepts_where_unrefused}
 use Rattle.coverage_check.proofs.Flights.{is_mission}
 use Rattle.trace_props.specs.declared.breaks.Broken.{Broken}
 use Rattle.trace_props.specs.Missions.{ReconfigurationsAreAssured}
-use Rattle.scram_cli.specs.declared.status.TheConstants.{ANSWERED}
+use Rattle.scram_cli.specs.declared.status.TheConstants.{ANSWERED, UNWRITTEN_OUTPUT}
 use Rattle.scram_cli.specs.declared.flights.FlightText.{FlightText}
 use Rattle.scram_cli.specs.declared.flights.FlightText.TheVariants.{Summary, Trace}
 use Rattle.scram_cli.specs.declared.forms.Purpose.{Purpose}
@@ -35,7 +35,7 @@ use Rattle.scram_types.specs.declared.limits.TheConstants.{MAX_SCRIPT_BYTES, MAX
 use Rattle.scram_cli.specs.Answers.{Gives, IsGenerated, IsMissionAnswer, Judges, RequestAnswers, TellsUnread, TraceAnswers, bounds_answer, check_answer, flight_answer, judged_answer, long_script, long_trace, mission_answer, script_answer, flight_text, within_answer}
 use Rattle.scram_cli.specs.Assurance.{AssuresMission, AssuresPurpose, AssuresRequest, AssuresScript, AssuresSpec, AssuresTrace, FlightsAreAssured, IsAssured, IsAssuring}
 use Rattle.scram_cli.specs.Bounds.{bounds_text}
-use Rattle.scram_cli.specs.Endings.{IsMemoryRefusal, Tells}
+use Rattle.scram_cli.specs.Endings.{IsMemoryRefusal, IsTaken, Tells}
 use Rattle.scram_cli.specs.Lines.{accepted_line, holds_line}
 
 -- an answer with another status is none with the status of an answer
@@ -161,3 +161,12 @@ mission_assures number purpose spec old new code generated law fits tells zero =
 pub mission_told : (number : ℕ) (purpose : Purpose) (spec : Parts) → IsGenerated spec → (status : ℕ) (text : List ℕ)
     → Gives (mission_answer number purpose spec (generated_script number)) status text → IsMissionAnswer number purpose status text
 mission_told number purpose spec generated status text gives = record { spec = spec; generated = generated; gives = gives }
+
+-- what was told with status 0 went out whole
+whole_by : (old new : SinkState) (code : ℕ) (text : List ℕ) → code ≡ ANSWERED
+    → ((code ≡ ANSWERED) × Took old new text) ⊎ ((code ≡ UNWRITTEN_OUTPUT) × TookPrefix old new text × Rose old.faults new.faults) → Took old new text
+whole_by old new code text zero (inl is) = is.1
+whole_by old new code text zero (inr is) = absurd (omega (arith, zero, is.0))
+
+pub taken_whole : (old new : SinkState) (code : ℕ) (text : List ℕ) → code ≡ ANSWERED → IsTaken old new code ANSWERED text → Took old new text
+taken_whole old new code text zero taken = whole_by old new code text zero taken.shown

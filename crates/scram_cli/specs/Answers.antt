@@ -32,7 +32,7 @@ use Rattle.trace_text.specs.Text.{text_of}
 use Rattle.trace_text.specs.TraceReading.{trace_of}
 use Rattle.scram_cli.specs.declared.status.TheConstants.{ANSWERED, BROKEN_PROPERTY, BROKEN_SCRIPT, BROKEN_SPECIFICATION, BROKEN_TRACE, BROKEN_USAGE, NOT_ACCEPTED, UNASSUMED_SCRIPT, UNREAD_FILE}
 use Rattle.scram_cli.specs.declared.forms.Form.{Form}
-use Rattle.scram_cli.specs.declared.forms.Form.TheVariants.{Specified, Generated}
+use Rattle.scram_cli.specs.declared.forms.Form.TheVariants.{Specified, Generated, Told}
 use Rattle.scram_cli.specs.declared.flights.FlightText.{FlightText}
 use Rattle.scram_cli.specs.declared.flights.FlightText.TheVariants.{Trace, Summary}
 use Rattle.scram_cli.specs.declared.forms.Purpose.{Purpose}
@@ -42,6 +42,7 @@ use Rattle.scram_cli.specs.declared.forms.Request.TheVariants.{Run, Check, Bound
 use Rattle.scram_types.specs.declared.limits.TheConstants.{MAX_SCRIPT_BYTES, MAX_SPECIFICATION_BYTES, MAX_TRACE_BYTES}
 use Rattle.scram_cli.specs.Bounds.{bounds_text}
 use Rattle.scram_cli.specs.Lines.{accepted_line, broken_line, fly_line, holds_line, outside_line, script_line, shown_line, specification_line, trace_line}
+use Rattle.scram_cli.specs.Pages.{page_text}
 
 -- the words have no form
 abbrev pub usage_line : List ℕ
@@ -202,3 +203,4 @@ FormAnswers None = WithoutFiles (Gives (BROKEN_USAGE, usage_line))
 FormAnswers (Some (Specified specification request)) =
     AnswersFile MAX_SPECIFICATION_BYTES long_specification specification (λ (bytes : List ℕ). SpecAnswers request bytes (spec_of bytes))
 FormAnswers (Some (Generated number purpose)) = WithoutFiles (IsMissionAnswer number purpose)
+FormAnswers (Some (Told page)) = WithoutFiles (Gives (ANSWERED, page_text page))

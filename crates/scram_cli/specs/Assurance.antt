@@ -16,7 +16,7 @@ use Rattle.frame_model.specs.Flights.{reports_of, rows_of}
 use Rattle.trace_props.specs.Properties.{HoldsAll}
 use Rattle.scram_cli.specs.declared.status.TheConstants.{ANSWERED}
 use Rattle.scram_cli.specs.declared.forms.Form.{Form}
-use Rattle.scram_cli.specs.declared.forms.Form.TheVariants.{Specified, Generated}
+use Rattle.scram_cli.specs.declared.forms.Form.TheVariants.{Specified, Generated, Told}
 use Rattle.scram_cli.specs.declared.flights.FlightText.{FlightText}
 use Rattle.scram_cli.specs.declared.flights.FlightText.TheVariants.{Trace, Summary}
 use Rattle.scram_cli.specs.declared.forms.Purpose.{Purpose}
@@ -26,6 +26,7 @@ use Rattle.scram_cli.specs.declared.forms.Request.TheVariants.{Run, Check, Bound
 use Rattle.scram_cli.specs.Answers.{Answer, Gives, IsGenerated, flight_answer, flight_text}
 use Rattle.scram_cli.specs.Bounds.{bounds_text}
 use Rattle.scram_cli.specs.Lines.{accepted_line, holds_line}
+use Rattle.scram_cli.specs.Pages.{page_text}
 
 -- The specification is accepted and the script keeps to its failure assumption; the text is what is told of the
 -- one-thread flight; and the five properties of reconfigurations hold of its rows and reports.
@@ -84,6 +85,7 @@ abbrev pub AssuresForm : Option (Form (List ℕ)) → History → List ℕ → T
 AssuresForm None reads text = ⊥
 AssuresForm (Some (Specified specification request)) reads text = AssuresSpec specification request reads text
 AssuresForm (Some (Generated number purpose)) reads text = AssuresMission number purpose reads text
+AssuresForm (Some (Told page)) reads text = (reads ≡ []) × (text ≡ page_text page)
 
 -- What was read meanwhile, and the text of which `Shown` says what became, assure this.
 pub record Assured (Assures : History → List ℕ → Type 0) (before after : FilesState) (Shown : List ℕ → Type 0) : Type 0 where

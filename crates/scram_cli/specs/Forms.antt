@@ -3,7 +3,8 @@ use Rattle.std.specs.Prelude.{ℕ, List, [], ◌∷◌, Option, Some, None, code
 use Rattle.std.specs.Str.{bytes_eq}
 use Rattle.trace_text.specs.Spelling.{spelled_number}
 use Rattle.scram_cli.specs.declared.forms.Form.{Form}
-use Rattle.scram_cli.specs.declared.forms.Form.TheVariants.{Specified, Generated}
+use Rattle.scram_cli.specs.declared.forms.Form.TheVariants.{Specified, Generated, Told}
+use Rattle.scram_cli.specs.declared.pages.Page.TheVariants.{Help, Version}
 use Rattle.scram_cli.specs.declared.forms.Purpose.{Purpose}
 use Rattle.scram_cli.specs.declared.forms.Purpose.TheVariants.{Print, Fly}
 use Rattle.scram_cli.specs.declared.forms.Request.{Request}
@@ -18,6 +19,12 @@ abbrev pub form_of_generated : List ℕ → List ℕ → Option (Form (List ℕ)
 form_of_generated command word =
     if bytes_eq command (codes "gen") then mission_form Print word
     else (if bytes_eq command (codes "fly") then mission_form Fly word else None)
+
+-- the form of one word, if it has one
+abbrev pub form_of_one : List ℕ → Option (Form (List ℕ))
+form_of_one command =
+    if bytes_eq command (codes "--help") then Some (Told Help)
+    else (if bytes_eq command (codes "--version") then Some (Told Version) else None)
 
 -- the form of two words, if they have one
 abbrev pub form_of_two : List ℕ → List ℕ → Option (Form (List ℕ))
@@ -34,7 +41,7 @@ form_of_three command specification further =
 -- the form that words have, if they have one; a file stands in it by its name
 abbrev pub form_of : List (List ℕ) → Option (Form (List ℕ))
 form_of [] = None
-form_of (command ∷ []) = None
+form_of (command ∷ []) = form_of_one command
 form_of (command ∷ first ∷ []) = form_of_two command first
 form_of (command ∷ first ∷ second ∷ []) = form_of_three command first second
 form_of (command ∷ first ∷ second ∷ third ∷ words) = None
@@ -50,6 +57,7 @@ with_name name (Props trace) = Props (name trace)
 abbrev pub with_names : {A B : Type 0} → (A → B) → Form A → Form B
 with_names name (Specified specification request) = Specified (name specification) (with_name name request)
 with_names name (Generated number purpose) = Generated number purpose
+with_names name (Told page) = Told page
 
 -- the files that are named beside the specification
 abbrev pub further_files : Request (List ℕ) → List (List ℕ)
@@ -63,3 +71,4 @@ abbrev pub files_of : Option (Form (List ℕ)) → List (List ℕ)
 files_of None = []
 files_of (Some (Specified specification request)) = specification ∷ further_files request
 files_of (Some (Generated number purpose)) = []
+files_of (Some (Told page)) = []

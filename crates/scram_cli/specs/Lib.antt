@@ -6,4 +6,5 @@ pub mod Forms
 pub mod Laws
 pub mod Lines
 pub mod Loads
+pub mod Pages
 pub mod Summaries

@@ -1,14 +1,15 @@
 //! The top call.
 
-ghost use Rattle.std.specs.Prelude.{◌≡◌, ◌∷◌, [], Some, map, string_bytes};
+ghost use Rattle.std.specs.Prelude.{◌≡◌, ◌≢◌, ◌∷◌, [], Some, map, string_bytes};
 ghost use Rattle.app_model.specs.Racks.{RacksFit};
 ghost use Rattle.scram_io.specs.Outside.{Rose, Took};
 ghost use Rattle.scram_cli.specs.declared.forms.Form.TheVariants.{Specified};
 ghost use Rattle.scram_cli.specs.declared.forms.Request.TheVariants.{Props, Run};
-ghost use Rattle.scram_cli.specs.Answers.{FormAnswers, RequestAnswers};
+ghost use Rattle.scram_cli.specs.Answers.{FormAnswers, Gives, RequestAnswers};
 ghost use Rattle.scram_cli.specs.Assurance.{Assured, AssuresForm, AssuresSpec};
-ghost use Rattle.scram_cli.specs.Endings.{Completes, Ends, IsSent, IsTaken, StaysQuiet, WentOut};
+ghost use Rattle.scram_cli.specs.Endings.{Completes, Ends, IsSent, IsTaken, StaysQuiet, Tells, WentOut};
 ghost use Rattle.scram_cli.specs.Forms.{files_of, form_of, further_files, with_name, with_names};
+ghost use Rattle.scram_cli.specs.Pages.{page_text};
 ghost use Rattle.scram_cli.specs.declared.status.TheConstants.{ANSWERED, UNREAD_FILE, UNWRITTEN_OUTPUT};
 
 use crate::assurance::answers_are_assured;
@@ -19,11 +20,14 @@ use crate::generated::answer_generated;
 use crate::judgements::judge;
 use crate::lines::{make_script_line, make_specification_line, make_trace_line};
 use crate::loads::{Loaded, load_script, load_spec, load_trace};
+use crate::pages::{Page, page_text};
 use crate::refusals::{
     refuse_long_script, refuse_long_specification, refuse_long_trace, refuse_memory, refuse_read,
-    refuse_usage, tell_line,
+    refuse_usage, tell, tell_line,
 };
-use crate::status::{BROKEN_SCRIPT, BROKEN_SPECIFICATION, BROKEN_TRACE, Status, UNWRITTEN_OUTPUT};
+use crate::status::{
+    ANSWERED, BROKEN_SCRIPT, BROKEN_SPECIFICATION, BROKEN_TRACE, Status, UNWRITTEN_OUTPUT,
+};
 use app_model::Rack;
 use scram_io::{Files, Sink};
 use scram_types::Spec;
@@ -31,8 +35,8 @@ use std::alloc::{AllocGlobal, Global};
 
 /// Does what the words after the program's name ask for: `run SPEC SCRIPT` flies a mission, `check SPEC`
 /// tells whether a specification is accepted, `bounds SPEC` which bounds it has to give, `props SPEC TRACE`
-/// judges a trace, by any specification, `gen N` prints the mission of a number, and `fly N` flies it. What is
-/// printed has gone out when the call ends, or the status is 4.
+/// judges a trace, by any specification, `gen N` prints the mission of a number, and `fly N` flies it; `--help` and
+/// `--version` tell of the program. What is printed has gone out when the call ends, or the status is 4.
 ///
 /// `racks` are the boxes of the processors, and `spares` those of processors that restart. One thread
 /// needs no spares.
@@ -109,7 +113,18 @@ fn answer_form<F: Files, K: Sink>(
             request,
         } => answer_request(alloc, specification, request, files, out, racks),
         Form::Generated { number, purpose } => answer_generated(alloc, number, purpose, out, racks),
+        Form::Told { page } => tell_page(out, page),
     }
+}
+
+// Puts a page that the command tells of itself.
+fn tell_page<K: Sink>(out: &mut K, page: Page) -> Status
+    ensures tells { Tells (Gives (ANSWERED, page_text page)) (K.state out.old) (K.state out.new) result.code }
+    ensures write { result.code ≡ UNWRITTEN_OUTPUT → Rose (K.state out.old).faults (K.state out.new).faults }
+    ensures read { result.code ≢ UNREAD_FILE }
+    ensures assured { result.code ≡ ANSWERED → Took (K.state out.old) (K.state out.new) (page_text page) }
+{
+    tell(out, ANSWERED, page_text(page).as_bytes())
 }
 
 /// Loads the specification, and answers what is asked of it.

@@ -1,8 +1,9 @@
 //! The forms of the command.
 
 ghost use Rattle.std.specs.Prelude.{◌≡◌, map, string_bytes, option_map};
-ghost use Rattle.scram_cli.specs.Forms.{form_of, form_of_generated, form_of_two, form_of_three, mission_form, with_names};
+ghost use Rattle.scram_cli.specs.Forms.{form_of, form_of_generated, form_of_one, form_of_two, form_of_three, mission_form, with_names};
 
+use crate::pages::Page;
 use trace_text::numbers::read_number;
 
 /// The numbers of missions lie below this.
@@ -20,6 +21,10 @@ pub enum Form<N> {
     Generated {
         number: u32,
         purpose: Purpose,
+    },
+    /// What the command tells of itself.
+    Told {
+        page: Page,
     },
 }
 
@@ -50,6 +55,7 @@ pub fn form_of(words: &[String]) -> Option<Form<&str>>
     ensures { option_map (with_names (λ name. name.now)) result ≡ form_of (map string_bytes words.now) }
 {
     match words {
+        [command] => form_of_one(command.as_str()),
         [command, word] => form_of_two(command.as_str(), word.as_str()),
         [command, specification, further] => form_of_three(
             command.as_str(),
@@ -57,6 +63,20 @@ pub fn form_of(words: &[String]) -> Option<Form<&str>>
             further.as_str(),
         ),
         _ => None,
+    }
+}
+
+fn form_of_one<'a>(command: &str) -> Option<Form<&'a str>>
+    ensures { option_map (with_names (λ name. name.now)) result ≡ form_of_one command.now }
+{
+    if command == "--help" {
+        Some(Form::Told { page: Page::Help })
+    } else if command == "--version" {
+        Some(Form::Told {
+            page: Page::Version,
+        })
+    } else {
+        None
     }
 }
 

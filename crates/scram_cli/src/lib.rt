@@ -12,6 +12,7 @@ mod judgements;
 pub mod laws;
 mod lines;
 mod loads;
+mod pages;
 mod program;
 mod refusals;
 pub mod status;

@@ -1,0 +1,52 @@
+//! What the command tells of itself.
+
+ghost use Rattle.std.specs.Prelude.{◌≡◌};
+ghost use Rattle.scram_cli.specs.Pages.{page_text};
+
+/// A page that the command tells of itself.
+#[derive(Clone, Copy, Debug, PartialEq, Eq)]
+pub enum Page {
+    /// The forms and the statuses, a line each.
+    Help,
+    /// The program's version, and the toolchain by which it is proved.
+    Version,
+}
+
+/// The forms of the command and its statuses, as docs/FORMATS.md has them.
+pub const HELP: &str = concat!(
+    "scram run SPEC SCRIPT   flies a mission and prints its trace\n",
+    "scram check SPEC        tells whether a specification is accepted\n",
+    "scram bounds SPEC       tells which bounds a specification has to give\n",
+    "scram props SPEC TRACE  judges a finished trace\n",
+    "scram gen N             prints the mission of the number N, 0 to 999999\n",
+    "scram fly N             flies that mission and tells of it in a line\n",
+    "scram --help            prints these lines\n",
+    "scram --version         prints the version\n",
+    "\n",
+    "status 0   what was asked for is done\n",
+    "status 2   the words have no form\n",
+    "status 3   a file was not read\n",
+    "status 4   the output was not written, or not all of it\n",
+    "status 5   the specification breaks a rule of its document\n",
+    "status 6   the specification is not accepted\n",
+    "status 7   the script breaks a rule of its document\n",
+    "status 8   the script leaves the failure assumption\n",
+    "status 9   memory is wanting\n",
+    "status 10  the trace breaks a property of reconfigurations\n",
+    "status 11  the trace breaks a rule of traces\n",
+    "\n",
+    "docs/GUIDE.md tells how to write a mission, docs/FORMATS.md what each line means.\n",
+);
+
+/// The version, and the toolchain's line.
+pub const VERSION: &str = "scram 1.0.0, proved with rattle-kit-13f logic dac8208d650f15bf\n";
+
+/// The text of a page.
+pub fn page_text(page: Page) -> &'static str
+    ensures { result.now ≡ page_text page }
+{
+    match page {
+        Page::Help => HELP,
+        Page::Version => VERSION,
+    }
+}
