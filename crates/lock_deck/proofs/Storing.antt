@@ -1,11 +1,10 @@
 -- Where a store is next, its processor has looked at all; its word is the draft's.
-use Rattle.std.proofs.Common.{◌≡◌, ◌∙◌, ℕ, zero, suc, ℤ, pos, ◌+◌, ◌<◌, ap, sym, refl, arith, Bool, true, false, List, length}
-use Rattle.std.specs.Prelude.{Option, Some, None, nat_eq, nat_lt, slice_index_or, if◌then◌else◌}
+use Rattle.std.proofs.Common.{◌≡◌, ◌∙◌, ℕ, zero, suc, ℤ, pos, ◌+◌, ◌<◌, ap, sym, arith, Bool, true, false}
+use Rattle.std.specs.Prelude.{Option, Some, None, nat_lt, slice_index_or, if◌then◌else◌}
 use Rattle.std.proofs.lemmas.Bool.Decides.{nat_tests}
 use Rattle.scram_types.specs.declared.ids.ProcId.{ProcId}
 use Rattle.scram_types.specs.Lookups.{proc_id}
-use Rattle.bank_words.specs.declared.events.Event.{Event}
-use Rattle.bank_words.specs.declared.events.Event.TheVariants.{Start, Look, Store, Flip, Done, Halt, KNote, KStore, Release}
+use Rattle.bank_words.specs.declared.events.Event.TheVariants.{Start, Store, Halt}
 use Rattle.fail_stop.specs.Events.{At, Halted, Place, Places, ReleaseWord, Word, halts_at, next_from, next_halted, next_of, plan_step}
 use Rattle.fail_stop.specs.Flights.{Flight}
 use Rattle.fail_stop.proofs.Plans.{gate, is_less}

@@ -3,18 +3,18 @@
 ghost use Rattle.std.specs.Prelude.{◌≡◌, ◌<◌, IfOk, length};
 ghost use Rattle.app_model.specs.Racks.{RacksFit};
 ghost use Rattle.event_core.specs.Cores.{flown, standing, standing_words};
+ghost use Rattle.event_core.specs.Flyers.{FlyersFit};
 ghost use Rattle.event_core.specs.Rooms.{events_left};
 ghost use Rattle.event_core.specs.Stores.{IsEventWord};
 ghost use Rattle.fail_stop.specs.Ends.{IsOver};
 ghost use Rattle.fail_stop.specs.Events.{IsNext};
 ghost use Rattle.fault_script.specs.Fits.{Fits};
-ghost use Rattle.schedule_flights.specs.Flyers.{FlyersFit};
 
 use crate::choices::{Chooser, Rule};
-use crate::flyers::{Flyer, draft_word, halt_processor, make_flyers};
 use app_model::Rack;
 use bank_words::Event;
 use event_core::Core;
+use event_core::flyers::{Flyer, make_flyers, word_of};
 use scram_types::{NoMemory, Script, Spec};
 use std::alloc::Global;
 
@@ -123,31 +123,6 @@ fn make(core: &mut Core, spec: &Spec, flyers: &mut [Flyer], event: Event)
 {
     let word = word_of(core, spec, flyers, event);
     step(core, event, word);
-}
-
-// The word that comes with the next event of its actor; where a processor halts, it drops its boxes.
-fn word_of(core: &Core, spec: &Spec, flyers: &mut [Flyer], event: Event) -> u64
-    requires spec { core.now.spec ≡ spec.now }
-    requires next { IsNext (flown core.now) (standing core.now) (standing_words core.now) event }
-    requires fits { FlyersFit (λ b. kind_of (b.vtable, b.value)) (λ r. r.boxes.items) core.now.spec core.now.script flyers.old }
-    ensures word { IsEventWord (flown core.now) (standing core.now) event result }
-    ensures fits { FlyersFit (λ b. kind_of (b.vtable, b.value)) (λ r. r.boxes.items) core.now.spec core.now.script flyers.new }
-{
-    let _procs = spec.procs.items().len();
-    match event {
-        Event::Store(p, i) => draft_word(flyers, core, spec, p, i),
-        Event::KStore(i) => core.kernel_word(i),
-        Event::Halt(p) => {
-            halt_processor(flyers, core, p);
-            0
-        }
-        Event::Start(_) => 0,
-        Event::Look(_, _) => 0,
-        Event::Flip(_) => 0,
-        Event::Done(_) => 0,
-        Event::KNote(_) => 0,
-        Event::Release => 0,
-    }
 }
 
 // Makes the next event of its actor with this word.

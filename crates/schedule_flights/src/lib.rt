@@ -5,8 +5,6 @@
 
 mod choices;
 mod flights;
-pub mod flyers;
 
 pub use choices::Rule;
 pub use flights::{fly, fly_some};
-pub use flyers::Flyer;

@@ -1,4 +1,4 @@
-use Rattle.std.proofs.Common.{◌≡◌, ◌≤◌, ◌+◌, arith}
+use Rattle.std.proofs.Common.{arith}
 use Rattle.lock_deck.proofs.flights.bare_members.Goals as goal
 
 pub loop-member-preserved : goal.loop-member-preserved

@@ -1,5 +1,5 @@
-use Rattle.std.proofs.Common.{◌≡◌, ◌+◌, ◌≤◌, [], ℕ, length}
-use Rattle.std.specs.Prelude.{All, vec_capacity, vec_len}
+use Rattle.std.proofs.Common.{◌≤◌}
+use Rattle.std.specs.Prelude.{All, vec_len}
 use Rattle.lock_deck.specs.Members.{MemberFits}
 use Rattle.lock_deck.proofs.flights.make_members.Given as goal
 use Rattle.app_model.specs.Racks.{AllRacksFit}

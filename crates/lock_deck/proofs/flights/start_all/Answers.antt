@@ -1,4 +1,4 @@
-use Rattle.std.proofs.Common.{◌≡◌, ◌≤◌, ◌+◌, arith}
+use Rattle.std.proofs.Common.{arith}
 use Rattle.lock_deck.proofs.Lists.{kept_same}
 use Rattle.lock_deck.specs.Members.{MemberFits}
 use Rattle.lock_deck.proofs.flights.start_all.Goals as goal

@@ -1,4 +1,4 @@
-use Rattle.std.proofs.Common.{◌≡◌, ◌+◌, ◌≤◌, [], ℕ, length}
+use Rattle.std.proofs.Common.{◌+◌, ◌≤◌}
 use Rattle.std.specs.Prelude.{All, vec_capacity, vec_len}
 use Rattle.lock_deck.specs.Members.{MemberFits}
 use Rattle.lock_deck.proofs.flights.start_all.Given as goal

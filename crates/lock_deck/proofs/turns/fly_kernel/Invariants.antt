@@ -1,5 +1,4 @@
-use Rattle.std.proofs.Common.{◌≡◌, ◌+◌, ◌≤◌, [], length}
-use Rattle.std.specs.Prelude.{All, vec_capacity, vec_len}
+use Rattle.std.specs.Prelude.{All}
 use Rattle.lock_deck.specs.Members.{MemberFits}
 use Rattle.lock_deck.proofs.turns.fly_kernel.Given as goal
 

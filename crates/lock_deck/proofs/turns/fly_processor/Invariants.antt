@@ -1,5 +1,3 @@
-use Rattle.std.proofs.Common.{◌≡◌, ◌+◌, ◌≤◌, [], length}
-use Rattle.std.specs.Prelude.{All, vec_capacity, vec_len}
 use Rattle.lock_deck.specs.Members.{MemberFits}
 use Rattle.lock_deck.proofs.turns.fly_processor.Given as goal
 

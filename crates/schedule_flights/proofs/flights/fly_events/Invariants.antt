@@ -1,5 +1,5 @@
 use Rattle.std.proofs.Common.{◌≡◌}
-use Rattle.schedule_flights.specs.Flyers.{FlyersFit}
+use Rattle.event_core.specs.Flyers.{FlyersFit}
 use Rattle.schedule_flights.proofs.flights.fly_events.Given as goal
 
 abbrev pub invariant-loop-event : goal.invariant-loop-event

@@ -1,5 +1,5 @@
 use Rattle.std.proofs.Common.{◌∙◌, sym}
-use Rattle.schedule_flights.proofs.Replacing.{flyers_in}
+use Rattle.event_core.proofs.Replacing.{flyers_in}
 use Rattle.schedule_flights.proofs.flights.fly_on.Goals as goal
 
 pub make-requires-clause-fits : goal.make-requires-clause-fits

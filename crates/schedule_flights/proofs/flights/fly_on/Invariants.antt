@@ -1,7 +1,7 @@
 use Rattle.std.proofs.Common.{◌≡◌}
 use Rattle.event_core.specs.Cores.{flown, standing}
 use Rattle.event_core.specs.Rooms.{events_left}
-use Rattle.schedule_flights.specs.Flyers.{FlyersFit}
+use Rattle.event_core.specs.Flyers.{FlyersFit}
 use Rattle.schedule_flights.proofs.flights.fly_on.Given as goal
 
 abbrev pub invariant-loop-event : goal.invariant-loop-event

@@ -1,0 +1,114 @@
+//! Cores in the middle of a flight.
+
+ghost use Rattle.fault_script.specs.Fits.{Fits};
+
+use crate::halts::Halts;
+use crate::scripts::{number, rule_named, script_of};
+use app_model::racks_fit;
+use bank_words::Event;
+use event_core::{Core, Illegal};
+use frame_model::sights::slot_in;
+use racks::racks;
+use schedule_flights::fly_some;
+use scram_types::{ProcId, Script, Spec};
+use std::io::{self, ErrorKind};
+use std::rt::HostRuntime;
+
+/// Flies as many events of a row's script as each of its lines says, and prints what the core shows.
+pub(crate) fn look_row(rt: &HostRuntime, spec: &Spec, row: &str) -> io::Result<()> {
+    let halt = Halts::of_row(row)?.halt(0);
+    for line in row.split('\n') {
+        if let Some(rest) = line.strip_prefix("after ") {
+            let script = script_of(rt.alloc(), spec, row, halt)?;
+            println!(rt; "after {rest}")?;
+            look(rt, spec, &script, rest)?;
+        }
+    }
+    Ok(())
+}
+
+/// Flies so many events by a rule, as `EVENTS RULE WORD`, and prints what the word asks for.
+fn look(rt: &HostRuntime, spec: &Spec, script: &Script, line: &str) -> io::Result<()>
+    requires { Fits spec.now script.now }
+{
+    let (events, rest) = line.split_once(' ').unwrap_or((line, ""));
+    let (rule, word) = rest.split_once(' ').unwrap_or((rest, ""));
+    let racks = racks!(rt);
+    let spares = racks!(rt);
+    if !racks_fit(&racks) || !racks_fit(&spares) {
+        return Err(ErrorKind::InvalidInput.into());
+    }
+    match fly_some(
+        rt.alloc(),
+        spec,
+        script,
+        racks,
+        spares,
+        rule_named(rule)?,
+        number(events)?,
+    ) {
+        Ok(core) => print_word(rt, spec, core, word),
+        Err(_) => Err(ErrorKind::OutOfMemory.into()),
+    }
+}
+
+fn print_word(rt: &HostRuntime, spec: &Spec, core: Core, word: &str) -> io::Result<()> {
+    let mut core = core;
+    let events = core.history().len();
+    match word {
+        "flip" => {
+            let answer = core.step(Event::Flip(ProcId(0)), 0);
+            print_answer(rt, &core, events, answer)
+        }
+        "release" => {
+            let answer = core.step(Event::Release, 0);
+            print_answer(rt, &core, events, answer)
+        }
+        "kernel" => print_kernel(rt, &core),
+        _ => print_seen(rt, spec, &core),
+    }
+}
+
+fn print_kernel(rt: &HostRuntime, core: &Core) -> io::Result<()> {
+    let frame = core.kernel_frame();
+    println!(rt;
+        "events {}, kernel in frame {frame}, next {:?}",
+        core.history().len(),
+        core.next_kernel()
+    )
+}
+
+/// Prints what the core said of an event, how many events it had before, and how many it has.
+fn print_answer(
+    rt: &HostRuntime,
+    core: &Core,
+    before: usize,
+    answer: Result<(), Illegal>,
+) -> io::Result<()> {
+    match answer {
+        Ok(()) => println!(rt; "made"),
+        Err(illegal) => println!(rt;
+            "refused, next {:?}, events {before} and {}",
+            illegal.next,
+            core.history().len()
+        ),
+    }
+}
+
+/// Prints what the second processor finds in the image of the first one, where it has looked.
+fn print_seen(rt: &HostRuntime, spec: &Spec, core: &Core) -> io::Result<()> {
+    let Some(Event::Store(p, _)) = core.next_of(ProcId(1)) else {
+        return println!(rt; "has not looked");
+    };
+    let snap = core.snapshot(p);
+    for (a, app) in spec.apps.items().iter().enumerate() {
+        print!(rt; "p0 {}", app.name)?;
+        if a < 8 {
+            for word in slot_in(&snap.images[0], a as u8) {
+                print!(rt; " {word}")?;
+            }
+        }
+        println!(rt; "")?;
+    }
+    Ok(())
+}
