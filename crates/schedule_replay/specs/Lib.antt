@@ -4,3 +4,4 @@ pub mod Reading
 pub mod Turns
 pub mod Replaying
 pub mod Laws
+pub mod Refusals

@@ -5,6 +5,7 @@
 pub mod event_lines;
 pub mod laws;
 pub mod limits;
+pub mod refusals;
 pub mod replays;
 pub mod rule;
 pub mod schedule_reading;

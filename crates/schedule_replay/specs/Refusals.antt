@@ -1,0 +1,25 @@
+-- The lines in which a schedule is refused.
+use Rattle.std.specs.Prelude.{ℕ, List, ◌++◌, Option, Some, None, codes, decimal}
+use Rattle.bank_words.specs.declared.events.Event.{Event}
+use Rattle.event_core.specs.declared.cores.Illegal.{Illegal}
+use Rattle.scram_types.specs.Specification.{Parts}
+use Rattle.schedule_replay.specs.declared.schedule_reading.ScheduleFault.{ScheduleFault}
+use Rattle.schedule_replay.specs.Events.{event_text}
+
+-- An event as a line of a schedule tells it, or a dash.
+abbrev pub event_or_dash : Parts → Option Event → List ℕ
+event_or_dash spec (Some event) = event_text spec event
+event_or_dash spec None = codes "-"
+
+-- The text of a schedule breaks a rule in a line.
+abbrev pub fault_line : ScheduleFault → List ℕ
+fault_line fault = codes "refused: schedule rule " ++ decimal fault.rule ++ codes " at line " ++ decimal fault.line ++ codes "\n"
+
+-- The event of an index is not the next of its actor; what is next.
+abbrev pub illegal_line : Parts → ℕ → Illegal → List ℕ
+illegal_line spec index illegal =
+    codes "refused: schedule event " ++ decimal index ++ codes " " ++ event_text spec illegal.given ++ codes " next " ++ event_or_dash spec illegal.next ++ codes "\n"
+
+-- So many events were made, and the flight is not over; what would come next.
+abbrev pub short_line : Parts → ℕ → Event → List ℕ
+short_line spec events next = codes "refused: schedule ends after " ++ decimal events ++ codes " events next " ++ event_text spec next ++ codes "\n"

@@ -1,0 +1,65 @@
+//! The lines in which a schedule is refused, made without memory.
+
+ghost use Rattle.std.specs.Prelude.{◌≡◌, ◌+◌, ◌≤◌, ◌++◌, length, codes, decimal};
+ghost use Rattle.scram_types.specs.declared.limits.TheConstants.{MAX_LINE_BYTES};
+ghost use Rattle.schedule_replay.specs.Events.{event_text};
+ghost use Rattle.schedule_replay.specs.Refusals.{event_or_dash, fault_line, illegal_line, short_line};
+
+use crate::event_lines::add_event;
+use crate::schedule_reading::ScheduleFault;
+use bank_words::Event;
+use event_core::Illegal;
+use scram_types::Spec;
+use trace_text::lines::Line;
+
+/// The text of a schedule breaks a rule in a line.
+pub fn make_fault_line(fault: ScheduleFault) -> Line
+    ensures { result ≡ fault_line fault }
+{
+    let mut line = Line::new();
+    line.text(b"refused: schedule rule ");
+    line.number(u32::from(fault.rule));
+    line.text(b" at line ");
+    line.number(fault.line);
+    line.text(b"\n");
+    line
+}
+
+/// The event of this index, counted from 0, is not the next of its actor; what is next, or `-`.
+pub fn make_illegal_line(spec: &Spec, index: u32, illegal: &Illegal) -> Line
+    ensures { result ≡ illegal_line spec.now index illegal.now }
+{
+    let mut line = Line::new();
+    line.text(b"refused: schedule event ");
+    line.number(index);
+    line.text(b" ");
+    add_event(&mut line, spec, illegal.given);
+    line.text(b" next ");
+    add_event_or_dash(&mut line, spec, illegal.next);
+    line.text(b"\n");
+    line
+}
+
+/// So many events were made, and the flight is not over; what would come next.
+pub fn make_short_line(spec: &Spec, events: u32, next: Event) -> Line
+    ensures { result ≡ short_line spec.now events next }
+{
+    let mut line = Line::new();
+    line.text(b"refused: schedule ends after ");
+    line.number(events);
+    line.text(b" events next ");
+    add_event(&mut line, spec, next);
+    line.text(b"\n");
+    line
+}
+
+fn add_event_or_dash(line: &mut Line, spec: &Spec, event: Option<Event>)
+    requires { length line.old + 64 ≤ MAX_LINE_BYTES }
+    ensures text { line.new ≡ line.old ++ event_or_dash spec.now event }
+    ensures short { length line.new ≤ length line.old + 64 }
+{
+    match event {
+        Some(event) => add_event(line, spec, event),
+        None => line.text(b"-"),
+    }
+}
