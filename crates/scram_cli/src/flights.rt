@@ -17,13 +17,13 @@ use crate::refusals::{refuse_memory, tell_line};
 use crate::status::{ANSWERED, NOT_ACCEPTED, Status, UNASSUMED_SCRIPT, UNWRITTEN_OUTPUT};
 use app_model::Rack;
 use coverage_check::{AcceptError, Accepted, Mission, accept};
-use lock_deck::LockFlight;
 use scram_io::{Sink, SinkFault};
 use scram_types::{Flown, NoMemory, Script, Spec};
 use std::alloc::{AllocGlobal, Global};
 use std::sync::Wait;
 use std::thread::Threads;
 use trace_text::put_trace;
+use word_deck::WordFlight;
 
 /// Whether a specification is accepted.
 pub fn check<K: Sink>(alloc: Global, spec: Spec, out: &mut K) -> Status
@@ -140,8 +140,8 @@ fn fly_on_threads<R: AllocGlobal + Threads + Wait + Sync>(
     ensures count { IfOk result (λ flown. length flown.rows ≡ mission.now.script.frames) }
     ensures few { IfOk result (λ flown. length flown.reports ≤ length flown.rows) }
 {
-    let flight = LockFlight::open(rt.alloc(), mission, boxes.racks, boxes.spares)?;
-    Ok(flight.run(rt).finish())
+    let flight = WordFlight::open(rt.alloc(), mission, boxes.racks, boxes.spares)?;
+    Ok(flight.run(rt).flown)
 }
 
 fn put_flown<K: Sink>(
