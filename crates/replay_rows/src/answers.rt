@@ -7,8 +7,7 @@ ghost use Rattle.schedule_replay.specs.Events.{AreCodes};
 
 use crate::schedules::{bytes_of, is_in_turns, script_of};
 use app_model::{Rack, racks_fit};
-use bank_words::Event;
-use schedule_replay::event_lines::add_event;
+use schedule_replay::refusals::{make_fault_line, make_illegal_line, make_short_line};
 use schedule_replay::{
     ReplayError, ScheduleError, in_turns, read_schedule, replay, write_schedule,
 };
@@ -44,10 +43,7 @@ pub fn answer_row(
         let bytes = bytes_of(rt.alloc(), rest)?;
         match read_schedule(rt.alloc(), &bytes, spec) {
             Ok(list) => fly(rt, spec, &script, racks, spares, &list, frames)?,
-            Err(ScheduleError::Fault(fault)) => println!(rt;
-                "refused: schedule rule {} at line {}",
-                fault.rule, fault.line
-            )?,
+            Err(ScheduleError::Fault(fault)) => print_line(rt, &make_fault_line(fault))?,
             Err(ScheduleError::NoMemory) => return Err(ErrorKind::OutOfMemory.into()),
         }
     }
@@ -72,16 +68,10 @@ fn fly(
     match replay(rt.alloc(), spec, script, racks, spares, list) {
         Ok(flown) => print_flown(rt, spec, &flown, frames),
         Err(ReplayError::Illegal(index, illegal)) => {
-            print!(rt; "refused: schedule event {index} ")?;
-            print_event(rt, spec, Some(illegal.given))?;
-            print!(rt; " next ")?;
-            print_event(rt, spec, illegal.next)?;
-            println!(rt; "")
+            print_line(rt, &make_illegal_line(spec, index, &illegal))
         }
         Err(ReplayError::Short(events, next)) => {
-            print!(rt; "refused: schedule ends after {events} events next ")?;
-            print_event(rt, spec, Some(next))?;
-            println!(rt; "")
+            print_line(rt, &make_short_line(spec, events, next))
         }
         Err(ReplayError::NoMemory) => Err(ErrorKind::OutOfMemory.into()),
     }
@@ -106,12 +96,7 @@ fn check_text(rt: &HostRuntime, spec: &Spec, list: &[u32]) -> io::Result<()>
     }
 }
 
-fn print_event(rt: &HostRuntime, spec: &Spec, event: Option<Event>) -> io::Result<()> {
-    let mut line = Line::new();
-    match event {
-        Some(event) => add_event(&mut line, spec, event),
-        None => line.text(b"-"),
-    }
+fn print_line(rt: &HostRuntime, line: &Line) -> io::Result<()> {
     match str::from_utf8(line.as_bytes()) {
         Ok(text) => print!(rt; "{text}"),
         Err(_) => Err(ErrorKind::InvalidData.into()),

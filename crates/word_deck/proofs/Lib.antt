@@ -1,3 +1,6 @@
 pub mod Noting
 pub mod Steps
 pub mod Places
+pub mod Listing
+pub mod Outcomes
+pub mod Sharing

@@ -3,11 +3,16 @@
 //! the frame once all are noted. Whoever makes which turn when, what comes of a flight is the one-thread trace.
 #![tactic(auto)]
 
+mod conductors;
 pub mod crews;
+pub mod flights;
 mod frames;
 pub mod kernels;
+pub mod landings;
+pub mod scopes;
 pub mod turns;
 
 pub use crews::Crew;
+pub use flights::{Landed, WordFlight};
 pub use kernels::KernelCrew;
 pub use turns::Turn;

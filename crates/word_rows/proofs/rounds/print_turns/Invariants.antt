@@ -1,0 +1,13 @@
+use Rattle.std.proofs.Common.{◌≡◌}
+use Rattle.word_table.specs.Tables.{IsKernelSeatOf}
+use Rattle.word_rows.specs.Pairs.{PairFits}
+use Rattle.word_rows.proofs.rounds.print_turns.Given as goal
+
+abbrev pub invariant-loop-name : goal.invariant-loop-name
+invariant-loop-name g l = record {
+  next : (goal.iterator-loop-name g).can_next l.name-iterator;
+  finite : (goal.iterator-loop-name g).is_finite l.name-iterator;
+  same : l.kernel.mission.now ≡ l.mission;
+  kernel : IsKernelSeatOf l.words l.kernel.kseat;
+  fits : PairFits (λ z. (goal.App-dyn g (z.vtable, z.value)).kind_of z.value) (λ r. r.boxes.items) l.words l.pair;
+}

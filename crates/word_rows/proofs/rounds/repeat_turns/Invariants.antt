@@ -1,0 +1,11 @@
+use Rattle.std.proofs.Common.{◌≡◌}
+use Rattle.word_table.specs.Tables.{IsKernelSeatOf}
+use Rattle.word_rows.specs.Pairs.{PairFits}
+use Rattle.word_rows.proofs.rounds.repeat_turns.Given as goal
+
+abbrev pub invariant-loop-time : goal.invariant-loop-time
+invariant-loop-time g l = record {
+  same : l.kernel.mission.now ≡ l.mission;
+  kernel : IsKernelSeatOf l.words l.kernel.kseat;
+  fits : PairFits (λ z. (goal.App-dyn g (z.vtable, z.value)).kind_of z.value) (λ r. r.boxes.items) l.words l.pair;
+}

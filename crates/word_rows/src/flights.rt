@@ -1,0 +1,217 @@
+//! Flights of a row.
+
+ghost use Rattle.std.specs.Prelude.{◌≡◌};
+ghost use Rattle.app_model.specs.Racks.{RacksFit};
+ghost use Rattle.word_table.specs.Tables.{AreOpening, AreSeatsOf, IsKernelSeatOf, kernel_frame, kernel_steps, mission_in};
+ghost use Rattle.word_rows.specs.Pairs.{PairFits};
+
+use crate::crews::{Pair, pair_of};
+use crate::looks::look;
+use crate::rounds::{fly_rounds, print_turns, repeat_turns};
+use crate::spec_of;
+use app_model::racks_fit;
+use coverage_check::{Mission, accept};
+use racks::racks;
+use row_lines::{line_after, number_after, script_of};
+use scram_kernel::Kernel;
+use scram_types::Row;
+use std::io::{self, ErrorKind};
+use std::rt::HostRuntime;
+use trace_props::one_thread;
+use word_deck::{Crew, KernelCrew};
+use word_table::{KSeat, Seat, WordTable};
+
+/// Flies the script of a row, for each step of its halt, and prints what came of it.
+pub fn fly_row(rt: &HostRuntime, text: &str, row: &str) -> io::Result<()> {
+    for step in 0..number_after(row, "steps ", 1)? {
+        let mission = mission_of(rt, text, row, step)?;
+        open(rt, &mission, row)?;
+    }
+    Ok(())
+}
+
+fn mission_of(rt: &HostRuntime, text: &str, row: &str, step: u32) -> io::Result<Mission> {
+    let spec = spec_of(rt, text)?;
+    let script = script_of(rt.alloc(), &spec, row, step)?;
+    if let Ok(accepted) = accept(rt.alloc(), spec) {
+        if let Ok(mission) = Mission::new(accepted, script) {
+            return Ok(mission);
+        }
+    }
+    Err(ErrorKind::InvalidData.into())
+}
+
+// The words, the kernel's seat and the pair of processors.
+fn open(rt: &HostRuntime, mission: &Mission, row: &str) -> io::Result<()> {
+    let racks = racks!(rt);
+    let spares = racks!(rt);
+    match WordTable::open(rt.alloc(), mission) {
+        Ok((words, kseat, seats)) => {
+            let pair = pair_of(&words, seats, racks, spares)?;
+            fly(rt, mission, words, kseat, pair, row)
+        }
+        Err(_) => Err(ErrorKind::OutOfMemory.into()),
+    }
+}
+
+fn fly(
+    rt: &HostRuntime,
+    mission: &Mission,
+    words: WordTable,
+    kseat: KSeat,
+    mut pair: Pair,
+    row: &str,
+) -> io::Result<()>
+    requires mission { mission_in words ≡ mission.now }
+    requires kernel { IsKernelSeatOf words kseat }
+    requires frame { kernel_frame kseat ≡ 0 }
+    requires steps { kernel_steps kseat ≡ 0 }
+    requires fits { PairFits (λ b. kind_of (b.vtable, b.value)) (λ r. r.boxes.items) words pair }
+{
+    mission.holds();
+    match Kernel::new(rt.alloc(), mission.spec(), mission.script()) {
+        Ok(kernel) => {
+            let mut kernel = KernelCrew::kernel(mission, kseat, kernel);
+            fly_pair(rt, mission, &words, &mut pair, &mut kernel, row)?;
+            close(rt, words, kernel, pair, row)
+        }
+        Err(_) => Err(ErrorKind::OutOfMemory.into()),
+    }
+}
+
+// Makes the turns that the row's lines say.
+fn fly_pair(
+    rt: &HostRuntime,
+    mission: &Mission,
+    words: &WordTable,
+    pair: &mut Pair,
+    kernel: &mut KernelCrew,
+    row: &str,
+) -> io::Result<()>
+    requires mission { mission_in words.now ≡ mission.now }
+    requires same { kernel.old.mission.now ≡ mission.now }
+    requires kernel { IsKernelSeatOf words.now kernel.old.kseat }
+    requires fits { PairFits (λ b. kind_of (b.vtable, b.value)) (λ r. r.boxes.items) words.now pair.old }
+    ensures same { kernel.new.mission.now ≡ mission.now }
+    ensures kernel { IsKernelSeatOf words.now kernel.new.kseat }
+    ensures fits { PairFits (λ b. kind_of (b.vtable, b.value)) (λ r. r.boxes.items) words.now pair.new }
+{
+    repeat_asked(mission, words, pair, kernel, row)?;
+    print_asked(rt, mission, words, pair, kernel, row)?;
+    fly_asked(rt, mission, words, pair, kernel, row)
+}
+
+// Makes turns again and again, where the row asks for it.
+fn repeat_asked(
+    mission: &Mission,
+    words: &WordTable,
+    pair: &mut Pair,
+    kernel: &mut KernelCrew,
+    row: &str,
+) -> io::Result<()>
+    requires mission { mission_in words.now ≡ mission.now }
+    requires same { kernel.old.mission.now ≡ mission.now }
+    requires kernel { IsKernelSeatOf words.now kernel.old.kseat }
+    requires fits { PairFits (λ b. kind_of (b.vtable, b.value)) (λ r. r.boxes.items) words.now pair.old }
+    ensures same { kernel.new.mission.now ≡ mission.now }
+    ensures kernel { IsKernelSeatOf words.now kernel.new.kseat }
+    ensures fits { PairFits (λ b. kind_of (b.vtable, b.value)) (λ r. r.boxes.items) words.now pair.new }
+{
+    match line_after(row, "rounds ") {
+        Some(line) => repeat_turns(mission, words, pair, kernel, line),
+        None => Ok(()),
+    }
+}
+
+// Makes turns and prints what they answer, where the row asks for it.
+fn print_asked(
+    rt: &HostRuntime,
+    mission: &Mission,
+    words: &WordTable,
+    pair: &mut Pair,
+    kernel: &mut KernelCrew,
+    row: &str,
+) -> io::Result<()>
+    requires mission { mission_in words.now ≡ mission.now }
+    requires same { kernel.old.mission.now ≡ mission.now }
+    requires kernel { IsKernelSeatOf words.now kernel.old.kseat }
+    requires fits { PairFits (λ b. kind_of (b.vtable, b.value)) (λ r. r.boxes.items) words.now pair.old }
+    ensures same { kernel.new.mission.now ≡ mission.now }
+    ensures kernel { IsKernelSeatOf words.now kernel.new.kseat }
+    ensures fits { PairFits (λ b. kind_of (b.vtable, b.value)) (λ r. r.boxes.items) words.now pair.new }
+{
+    match line_after(row, "turns ") {
+        Some(names) => print_turns(rt, mission, words, pair, kernel, names),
+        None => Ok(()),
+    }
+}
+
+// Flies to the end, and compares the rows with those of one thread, where the row asks for it.
+fn fly_asked(
+    rt: &HostRuntime,
+    mission: &Mission,
+    words: &WordTable,
+    pair: &mut Pair,
+    kernel: &mut KernelCrew,
+    row: &str,
+) -> io::Result<()>
+    requires mission { mission_in words.now ≡ mission.now }
+    requires same { kernel.old.mission.now ≡ mission.now }
+    requires kernel { IsKernelSeatOf words.now kernel.old.kseat }
+    requires fits { PairFits (λ b. kind_of (b.vtable, b.value)) (λ r. r.boxes.items) words.now pair.old }
+    ensures same { kernel.new.mission.now ≡ mission.now }
+    ensures kernel { IsKernelSeatOf words.now kernel.new.kseat }
+    ensures fits { PairFits (λ b. kind_of (b.vtable, b.value)) (λ r. r.boxes.items) words.now pair.new }
+{
+    match line_after(row, "order ") {
+        Some(names) => {
+            let rounds = fly_rounds(mission, words, pair, kernel, names)?;
+            print!(rt; "rounds {rounds} ")?;
+            print_compared(rt, mission, kernel.rows())
+        }
+        None => Ok(()),
+    }
+}
+
+// Compares rows with those of one thread.
+fn print_compared(rt: &HostRuntime, mission: &Mission, rows: &[Row]) -> io::Result<()> {
+    let racks = racks!(rt);
+    if !racks_fit(&racks) {
+        return Err(ErrorKind::InvalidInput.into());
+    }
+    match one_thread(rt.alloc(), mission, racks) {
+        Ok(flown) => {
+            if flown.rows.items() == rows {
+                println!(rt; "rows {} of one thread", rows.len())
+            } else {
+                println!(rt; "other rows")
+            }
+        }
+        Err(_) => Err(ErrorKind::OutOfMemory.into()),
+    }
+}
+
+// The second processor looks, where the row asks for it; else the table is closed, and the marks are printed.
+fn close(
+    rt: &HostRuntime,
+    words: WordTable,
+    kernel: KernelCrew,
+    pair: Pair,
+    row: &str,
+) -> io::Result<()>
+    requires kernel { IsKernelSeatOf words kernel.kseat }
+    requires mission { mission_in words ≡ kernel.mission.now }
+    requires fits { PairFits (λ b. kind_of (b.vtable, b.value)) (λ r. r.boxes.items) words pair }
+{
+    let Pair { first, second } = pair;
+    let mut two = second.seat;
+    if line_after(row, "look").is_some() {
+        return look(rt, kernel.mission, &words, &mut two);
+    }
+    let mut seats = Vec::with_capacity(rt.alloc(), 2)?;
+    seats.push(first.seat)?;
+    seats.push(two)?;
+    let last = words.close(kernel.kseat, seats);
+    let [one, two, ..] = last.marks;
+    println!(rt; "marks {one} {two}")
+}
