@@ -5,9 +5,13 @@
 use app_model::racks_fit;
 use racks::racks;
 use scram_cli::run_program;
+use std::alloc::AllocGlobal;
 use std::env;
-use std::io::{self, ErrorKind};
+use std::io::{self, ErrorKind, Print};
 use std::process::ExitCode;
+use std::rt::Files;
+use std::sync::Wait;
+use std::thread::Threads;
 
 /// The status where memory is wanting before the command is called.
 const NO_MEMORY: u8 = 9;
@@ -23,7 +27,7 @@ fn main(rt: HostRuntime) -> ExitCode {
         Err(error) if error.kind() != ErrorKind::OutOfMemory => Vec::new(rt.alloc()),
         Err(_) => return refuse_memory(&rt),
     };
-    match answer(&rt, &words) {
+    match answer(&rt, &rt, &words) {
         Ok(code) => ExitCode::from(code),
         Err(_) => refuse_memory(&rt),
     }
@@ -38,14 +42,18 @@ fn refuse_memory(rt: &HostRuntime) -> ExitCode {
 }
 
 /// Makes the boxes, and does what the words ask for: the status.
-fn answer(rt: &HostRuntime, words: &[String]) -> io::Result<u8> {
+fn answer<R: AllocGlobal + Files + Print + Threads + Wait + Sync>(
+    rt: &HostRuntime,
+    threads: &R,
+    words: &[String],
+) -> io::Result<u8> {
     let racks = racks!(rt);
     let spares = racks!(rt);
     if !racks_fit(&racks) || !racks_fit(&spares) {
         println!(rt; "refused: racks")?;
         return Ok(UNFIT_RACKS);
     }
-    let (status, _files, _out) = run_program(rt, words, racks, spares)?;
+    let (status, _files, _out) = run_program(threads, words, racks, spares)?;
     Ok(status.code)
 }
 

@@ -14,7 +14,7 @@ ghost use Rattle.scram_cli.specs.declared.status.TheConstants.{ANSWERED, UNREAD_
 
 use crate::assurance::answers_are_assured;
 use crate::bounds::tell_bounds;
-use crate::flights::{FlightText, check, fly};
+use crate::flights::{Boxes, FlightText, check, fly};
 use crate::forms::{Form, Request, form_of};
 use crate::generated::answer_generated;
 use crate::judgements::judge;
@@ -32,15 +32,17 @@ use app_model::Rack;
 use scram_io::{Files, Sink};
 use scram_types::Spec;
 use std::alloc::{AllocGlobal, Global};
+use std::sync::Wait;
+use std::thread::Threads;
 
 /// Does what the words after the program's name ask for: `run SPEC SCRIPT` flies a mission, `check SPEC`
 /// tells whether a specification is accepted, `bounds SPEC` which bounds it has to give, `props SPEC TRACE`
 /// judges a trace, by any specification, `gen N` prints the mission of a number, and `fly N` flies it; `--help` and
 /// `--version` tell of the program. What is printed has gone out when the call ends, or the status is 4.
 ///
-/// `racks` are the boxes of the processors, and `spares` those of processors that restart. One thread
-/// needs no spares.
-pub fn scram<R: AllocGlobal, F: Files, K: Sink>(
+/// A mission is flown with a thread for each processor. `racks` are the boxes of the processors, and `spares` those of
+/// processors that restart.
+pub fn scram<R: AllocGlobal + Threads + Wait + Sync, F: Files, K: Sink>(
     rt: &R,
     words: &[String],
     files: &mut F,
@@ -59,7 +61,7 @@ pub fn scram<R: AllocGlobal, F: Files, K: Sink>(
     ensures assured { result.code ≡ ANSWERED → Assured (AssuresForm (form_of (map string_bytes words.now)))
         (F.state files.old) (F.state files.new) (WentOut (K.state out.old) (K.state out.new)) }
 {
-    let status = answer_words(rt.alloc(), words, files, out, racks);
+    let status = answer_words(rt, words, files, out, Boxes { racks, spares });
     match out.flush() {
         Ok(()) => status,
         Err(_) => Status {
@@ -69,14 +71,15 @@ pub fn scram<R: AllocGlobal, F: Files, K: Sink>(
 }
 
 // What is printed may be held back still.
-fn answer_words<F: Files, K: Sink>(
-    alloc: Global,
+fn answer_words<R: AllocGlobal + Threads + Wait + Sync, F: Files, K: Sink>(
+    rt: &R,
     words: &[String],
     files: &mut F,
     out: &mut K,
-    racks: Vec<Rack>,
+    boxes: Boxes,
 ) -> Status
-    requires { RacksFit (λ b. kind_of (b.vtable, b.value)) (λ r. r.boxes.items) racks.items }
+    requires racks { RacksFit (λ b. kind_of (b.vtable, b.value)) (λ r. r.boxes.items) boxes.racks.items }
+    requires spares { RacksFit (λ b. kind_of (b.vtable, b.value)) (λ r. r.boxes.items) boxes.spares.items }
     ensures ends { Ends (FormAnswers (form_of (map string_bytes words.now))) (files_of (form_of (map string_bytes words.now)))
         (F.state files.old) (F.state files.new) (IsTaken (K.state out.old) (K.state out.new) result.code) }
     ensures read { result.code ≡ UNREAD_FILE → Rose (F.state files.old).faults (F.state files.new).faults }
@@ -86,19 +89,20 @@ fn answer_words<F: Files, K: Sink>(
         (F.state files.old) (F.state files.new) (Took (K.state out.old) (K.state out.new)) }
 {
     match form_of(words) {
-        Some(form) => answer_form(alloc, form, files, out, racks),
+        Some(form) => answer_form(rt, form, files, out, boxes),
         None => refuse_usage(out),
     }
 }
 
-fn answer_form<F: Files, K: Sink>(
-    alloc: Global,
+fn answer_form<R: AllocGlobal + Threads + Wait + Sync, F: Files, K: Sink>(
+    rt: &R,
     form: Form<&str>,
     files: &mut F,
     out: &mut K,
-    racks: Vec<Rack>,
+    boxes: Boxes,
 ) -> Status
-    requires { RacksFit (λ b. kind_of (b.vtable, b.value)) (λ r. r.boxes.items) racks.items }
+    requires racks { RacksFit (λ b. kind_of (b.vtable, b.value)) (λ r. r.boxes.items) boxes.racks.items }
+    requires spares { RacksFit (λ b. kind_of (b.vtable, b.value)) (λ r. r.boxes.items) boxes.spares.items }
     ensures ends { Ends (FormAnswers (Some (with_names (λ name. name.now) form.entry))) (files_of (Some (with_names (λ name. name.now) form.entry)))
         (F.state files.old) (F.state files.new) (IsTaken (K.state out.old) (K.state out.new) result.code) }
     ensures read { result.code ≡ UNREAD_FILE → Rose (F.state files.old).faults (F.state files.new).faults }
@@ -111,8 +115,8 @@ fn answer_form<F: Files, K: Sink>(
         Form::Specified {
             specification,
             request,
-        } => answer_request(alloc, specification, request, files, out, racks),
-        Form::Generated { number, purpose } => answer_generated(alloc, number, purpose, out, racks),
+        } => answer_request(rt, specification, request, files, out, boxes),
+        Form::Generated { number, purpose } => answer_generated(rt, number, purpose, out, boxes),
         Form::Told { page } => tell_page(out, page),
     }
 }
@@ -128,15 +132,16 @@ fn tell_page<K: Sink>(out: &mut K, page: Page) -> Status
 }
 
 /// Loads the specification, and answers what is asked of it.
-fn answer_request<F: Files, K: Sink>(
-    alloc: Global,
+fn answer_request<R: AllocGlobal + Threads + Wait + Sync, F: Files, K: Sink>(
+    rt: &R,
     specification: &str,
     request: Request<&str>,
     files: &mut F,
     out: &mut K,
-    racks: Vec<Rack>,
+    boxes: Boxes,
 ) -> Status
-    requires { RacksFit (λ b. kind_of (b.vtable, b.value)) (λ r. r.boxes.items) racks.items }
+    requires racks { RacksFit (λ b. kind_of (b.vtable, b.value)) (λ r. r.boxes.items) boxes.racks.items }
+    requires spares { RacksFit (λ b. kind_of (b.vtable, b.value)) (λ r. r.boxes.items) boxes.spares.items }
     ensures ends { Ends (FormAnswers (Some (Specified specification.now (with_name (λ name. name.now) request.entry))))
         (specification.now ∷ further_files (with_name (λ name. name.now) request.entry))
         (F.state files.old) (F.state files.new) (IsTaken (K.state out.old) (K.state out.new) result.code) }
@@ -146,10 +151,10 @@ fn answer_request<F: Files, K: Sink>(
     ensures assured { result.code ≡ ANSWERED → Assured (AssuresSpec specification.now (with_name (λ name. name.now) request.entry))
         (F.state files.old) (F.state files.new) (Took (K.state out.old) (K.state out.new)) }
 {
-    match load_spec(alloc, specification, files) {
+    match load_spec(rt.alloc(), specification, files) {
         Loaded::Got(spec) => {
             answers_are_assured(&spec);
-            answer_read(alloc, spec, request, files, out, racks)
+            answer_read(rt, spec, request, files, out, boxes)
         }
         Loaded::Refused(fault) => tell_line(
             out,
@@ -157,21 +162,22 @@ fn answer_request<F: Files, K: Sink>(
             &make_specification_line(&fault),
         ),
         Loaded::TooLong => refuse_long_specification(out),
-        Loaded::Failed => refuse_read(alloc, out, specification),
+        Loaded::Failed => refuse_read(rt.alloc(), out, specification),
         Loaded::NoMemory => refuse_memory(out),
     }
 }
 
 /// Answers what is asked of a specification that was read.
-fn answer_read<F: Files, K: Sink>(
-    alloc: Global,
+fn answer_read<R: AllocGlobal + Threads + Wait + Sync, F: Files, K: Sink>(
+    rt: &R,
     spec: Spec,
     request: Request<&str>,
     files: &mut F,
     out: &mut K,
-    racks: Vec<Rack>,
+    boxes: Boxes,
 ) -> Status
-    requires { RacksFit (λ b. kind_of (b.vtable, b.value)) (λ r. r.boxes.items) racks.items }
+    requires racks { RacksFit (λ b. kind_of (b.vtable, b.value)) (λ r. r.boxes.items) boxes.racks.items }
+    requires spares { RacksFit (λ b. kind_of (b.vtable, b.value)) (λ r. r.boxes.items) boxes.spares.items }
     ensures ends { Ends (RequestAnswers (with_name (λ name. name.now) request.entry) spec) (further_files (with_name (λ name. name.now) request.entry))
         (F.state files.old) (F.state files.new) (IsTaken (K.state out.old) (K.state out.new) result.code) }
     ensures read { result.code ≡ UNREAD_FILE → Rose (F.state files.old).faults (F.state files.new).faults }
@@ -179,34 +185,35 @@ fn answer_read<F: Files, K: Sink>(
     ensures quiet { StaysQuiet (further_files (with_name (λ name. name.now) request.entry)) (F.state files.old) (F.state files.new) }
 {
     match request {
-        Request::Run { script } => run(alloc, spec, script, files, out, racks),
-        Request::Check => check(alloc, spec, out),
-        Request::Bounds => tell_bounds(alloc, &spec, out),
-        Request::Props { trace } => props(alloc, &spec, trace, files, out),
+        Request::Run { script } => run(rt, spec, script, files, out, boxes),
+        Request::Check => check(rt.alloc(), spec, out),
+        Request::Bounds => tell_bounds(rt.alloc(), &spec, out),
+        Request::Props { trace } => props(rt.alloc(), &spec, trace, files, out),
     }
 }
 
 /// Loads the script, and flies it.
-fn run<F: Files, K: Sink>(
-    alloc: Global,
+fn run<R: AllocGlobal + Threads + Wait + Sync, F: Files, K: Sink>(
+    rt: &R,
     spec: Spec,
     script: &str,
     files: &mut F,
     out: &mut K,
-    racks: Vec<Rack>,
+    boxes: Boxes,
 ) -> Status
-    requires { RacksFit (λ b. kind_of (b.vtable, b.value)) (λ r. r.boxes.items) racks.items }
+    requires racks { RacksFit (λ b. kind_of (b.vtable, b.value)) (λ r. r.boxes.items) boxes.racks.items }
+    requires spares { RacksFit (λ b. kind_of (b.vtable, b.value)) (λ r. r.boxes.items) boxes.spares.items }
     ensures ends { Ends (RequestAnswers (Run script.now) spec) (script.now ∷ [])
         (F.state files.old) (F.state files.new) (IsTaken (K.state out.old) (K.state out.new) result.code) }
     ensures read { result.code ≡ UNREAD_FILE → Rose (F.state files.old).faults (F.state files.new).faults }
     ensures write { result.code ≡ UNWRITTEN_OUTPUT → Rose (K.state out.old).faults (K.state out.new).faults }
     ensures quiet { StaysQuiet (script.now ∷ []) (F.state files.old) (F.state files.new) }
 {
-    match load_script(alloc, &spec, script, files) {
-        Loaded::Got(script) => fly(alloc, spec, script, FlightText::Trace, out, racks),
+    match load_script(rt.alloc(), &spec, script, files) {
+        Loaded::Got(script) => fly(rt, spec, script, FlightText::Trace, out, boxes),
         Loaded::Refused(fault) => tell_line(out, BROKEN_SCRIPT, &make_script_line(&fault)),
         Loaded::TooLong => refuse_long_script(out),
-        Loaded::Failed => refuse_read(alloc, out, script),
+        Loaded::Failed => refuse_read(rt.alloc(), out, script),
         Loaded::NoMemory => refuse_memory(out),
     }
 }

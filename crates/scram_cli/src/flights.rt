@@ -1,10 +1,11 @@
 //! What is answered of a specification, and of a script for it, once both are read.
 
-ghost use Rattle.std.specs.Prelude.{◌≡◌, ◌≢◌, ◌<◌, ◌^◌, length};
+ghost use Rattle.std.specs.Prelude.{◌≡◌, ◌≢◌, ◌<◌, ◌≤◌, ◌^◌, IfOk, length};
 ghost use Rattle.app_model.specs.Racks.{RacksFit};
 ghost use Rattle.coverage_check.specs.Acceptance.{Accepts, first_refusal};
 ghost use Rattle.fault_script.specs.Assumption.{first_outside};
 ghost use Rattle.fault_script.specs.Fits.{Fits};
+ghost use Rattle.frame_model.specs.Flights.{reports_of, rows_of};
 ghost use Rattle.scram_io.specs.Outside.{Rose};
 ghost use Rattle.scram_io.specs.Outside.{Prints};
 ghost use Rattle.scram_cli.specs.Endings.{Tells};
@@ -17,10 +18,12 @@ use crate::status::{ANSWERED, NOT_ACCEPTED, Status, UNASSUMED_SCRIPT, UNWRITTEN_
 use app_model::Rack;
 use coverage_check::{AcceptError, Accepted, Mission, accept};
 use scram_io::{Sink, SinkFault};
-use scram_types::{Flown, Script, Spec};
-use std::alloc::Global;
-use trace_props::one_thread;
+use scram_types::{Flown, NoMemory, Script, Spec};
+use std::alloc::{AllocGlobal, Global};
+use std::sync::Wait;
+use std::thread::Threads;
 use trace_text::put_trace;
+use word_deck::WordFlight;
 
 /// Whether a specification is accepted.
 pub fn check<K: Sink>(alloc: Global, spec: Spec, out: &mut K) -> Status
@@ -37,6 +40,13 @@ pub fn check<K: Sink>(alloc: Global, spec: Spec, out: &mut K) -> Status
     }
 }
 
+/// The boxes that fly a mission: a rack for each processor, and one for its restart.
+#[derive(Drop)]
+pub struct Boxes {
+    pub racks: Vec<Rack>,
+    pub spares: Vec<Rack>,
+}
+
 /// What is told of a flight.
 #[derive(Clone, Copy, Debug, PartialEq, Eq)]
 pub enum FlightText {
@@ -47,22 +57,23 @@ pub enum FlightText {
 }
 
 /// Flies a script, where its specification is accepted and it keeps to the failure assumption.
-pub fn fly<K: Sink>(
-    alloc: Global,
+pub fn fly<R: AllocGlobal + Threads + Wait + Sync, K: Sink>(
+    rt: &R,
     spec: Spec,
     script: Script,
     told: FlightText,
     out: &mut K,
-    racks: Vec<Rack>,
+    boxes: Boxes,
 ) -> Status
     requires script { Fits spec script }
-    requires racks { RacksFit (λ b. kind_of (b.vtable, b.value)) (λ r. r.boxes.items) racks.items }
+    requires racks { RacksFit (λ b. kind_of (b.vtable, b.value)) (λ r. r.boxes.items) boxes.racks.items }
+    requires spares { RacksFit (λ b. kind_of (b.vtable, b.value)) (λ r. r.boxes.items) boxes.spares.items }
     ensures tells { Tells (Gives (flight_answer told spec script (first_refusal spec))) (K.state out.old) (K.state out.new) result.code }
     ensures write { result.code ≡ UNWRITTEN_OUTPUT → Rose (K.state out.old).faults (K.state out.new).faults }
     ensures read { result.code ≢ UNREAD_FILE }
 {
-    match accept(alloc, spec) {
-        Ok(accepted) => fly_accepted(alloc, accepted, script, told, out, racks),
+    match accept(rt.alloc(), spec) {
+        Ok(accepted) => fly_accepted(rt, accepted, script, told, out, boxes),
         Err(AcceptError::NotAccepted(refused, shown)) => {
             tell_line(out, NOT_ACCEPTED, &make_shown_line(&refused, &shown))
         }
@@ -70,40 +81,42 @@ pub fn fly<K: Sink>(
     }
 }
 
-fn fly_accepted<K: Sink>(
-    alloc: Global,
+fn fly_accepted<R: AllocGlobal + Threads + Wait + Sync, K: Sink>(
+    rt: &R,
     accepted: Accepted,
     script: Script,
     told: FlightText,
     out: &mut K,
-    racks: Vec<Rack>,
+    boxes: Boxes,
 ) -> Status
     requires script { Fits accepted script }
-    requires racks { RacksFit (λ b. kind_of (b.vtable, b.value)) (λ r. r.boxes.items) racks.items }
+    requires racks { RacksFit (λ b. kind_of (b.vtable, b.value)) (λ r. r.boxes.items) boxes.racks.items }
+    requires spares { RacksFit (λ b. kind_of (b.vtable, b.value)) (λ r. r.boxes.items) boxes.spares.items }
     ensures tells { Tells (Gives (within_answer told accepted script (first_outside accepted script))) (K.state out.old) (K.state out.new) result.code }
     ensures write { result.code ≡ UNWRITTEN_OUTPUT → Rose (K.state out.old).faults (K.state out.new).faults }
     ensures read { result.code ≢ UNREAD_FILE }
 {
     match Mission::new(accepted, script) {
-        Ok(mission) => fly_mission(alloc, &mission, told, out, racks),
+        Ok(mission) => fly_mission(rt, &mission, told, out, boxes),
         Err(refused) => tell_line(out, UNASSUMED_SCRIPT, &make_outside_line(&refused.outside)),
     }
 }
 
-fn fly_mission<K: Sink>(
-    alloc: Global,
+fn fly_mission<R: AllocGlobal + Threads + Wait + Sync, K: Sink>(
+    rt: &R,
     mission: &Mission,
     told: FlightText,
     out: &mut K,
-    racks: Vec<Rack>,
+    boxes: Boxes,
 ) -> Status
-    requires racks { RacksFit (λ b. kind_of (b.vtable, b.value)) (λ r. r.boxes.items) racks.items }
+    requires racks { RacksFit (λ b. kind_of (b.vtable, b.value)) (λ r. r.boxes.items) boxes.racks.items }
+    requires spares { RacksFit (λ b. kind_of (b.vtable, b.value)) (λ r. r.boxes.items) boxes.spares.items }
     ensures tells { Tells (Gives (ANSWERED, flight_text told mission.now.spec mission.now.script)) (K.state out.old) (K.state out.new) result.code }
     ensures write { result.code ≡ UNWRITTEN_OUTPUT → Rose (K.state out.old).faults (K.state out.new).faults }
     ensures read { result.code ≢ UNREAD_FILE }
 {
     mission.holds();
-    match one_thread(alloc, mission, racks) {
+    match fly_on_threads(rt, mission, boxes) {
         Ok(flown) => match put_flown(out, mission.spec(), &flown, told) {
             Ok(()) => Status { code: ANSWERED },
             Err(_) => Status {
@@ -112,6 +125,23 @@ fn fly_mission<K: Sink>(
         },
         Err(_) => refuse_memory(out),
     }
+}
+
+// The trace of a mission, flown with a thread for each processor.
+fn fly_on_threads<R: AllocGlobal + Threads + Wait + Sync>(
+    rt: &R,
+    mission: &Mission,
+    boxes: Boxes,
+) -> Result<Flown, NoMemory>
+    requires racks { RacksFit (λ b. kind_of (b.vtable, b.value)) (λ r. r.boxes.items) boxes.racks.items }
+    requires spares { RacksFit (λ b. kind_of (b.vtable, b.value)) (λ r. r.boxes.items) boxes.spares.items }
+    ensures rows { IfOk result (λ flown. flown.rows ≡ rows_of mission.now.spec mission.now.script) }
+    ensures reports { IfOk result (λ flown. flown.reports ≡ reports_of mission.now.spec mission.now.script) }
+    ensures count { IfOk result (λ flown. length flown.rows ≡ mission.now.script.frames) }
+    ensures few { IfOk result (λ flown. length flown.reports ≤ length flown.rows) }
+{
+    let flight = WordFlight::open(rt.alloc(), mission, boxes.racks, boxes.spares)?;
+    Ok(flight.run(rt).flown)
 }
 
 fn put_flown<K: Sink>(

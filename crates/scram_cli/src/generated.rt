@@ -11,57 +11,60 @@ ghost use Rattle.scram_cli.specs.Endings.{Tells};
 ghost use Rattle.scram_cli.specs.declared.status.TheConstants.{ANSWERED, UNREAD_FILE, UNWRITTEN_OUTPUT};
 
 use crate::assurance::flights_are_assured;
-use crate::flights::{FlightText, fly};
+use crate::flights::{Boxes, FlightText, fly};
 use crate::forms::Purpose;
 use crate::refusals::{refuse_memory, tell};
 use crate::status::{ANSWERED, Status};
-use app_model::Rack;
 use mission_gen::{generate, write_mission};
 use scram_io::Sink;
 use scram_types::{Script, Spec};
-use std::alloc::Global;
+use std::alloc::{AllocGlobal, Global};
+use std::sync::Wait;
+use std::thread::Threads;
 
 /// Generates the mission of a number, and does with it what it is for.
-pub fn answer_generated<K: Sink>(
-    alloc: Global,
+pub fn answer_generated<R: AllocGlobal + Threads + Wait + Sync, K: Sink>(
+    rt: &R,
     number: u32,
     purpose: Purpose,
     out: &mut K,
-    racks: Vec<Rack>,
+    boxes: Boxes,
 ) -> Status
-    requires { RacksFit (λ b. kind_of (b.vtable, b.value)) (λ r. r.boxes.items) racks.items }
+    requires racks { RacksFit (λ b. kind_of (b.vtable, b.value)) (λ r. r.boxes.items) boxes.racks.items }
+    requires spares { RacksFit (λ b. kind_of (b.vtable, b.value)) (λ r. r.boxes.items) boxes.spares.items }
     ensures tells { Tells (IsMissionAnswer number purpose) (K.state out.old) (K.state out.new) result.code }
     ensures write { result.code ≡ UNWRITTEN_OUTPUT → Rose (K.state out.old).faults (K.state out.new).faults }
     ensures read { result.code ≢ UNREAD_FILE }
     ensures assured { result.code ≡ ANSWERED → (text : List ℕ) × AssuresMission number purpose [] text × Took (K.state out.old) (K.state out.new) text }
 {
-    match generate(alloc, number) {
+    match generate(rt.alloc(), number) {
         Ok((spec, script)) => {
             flights_are_assured(&spec);
-            answer_mission(alloc, number, purpose, spec, script, out, racks)
+            answer_mission(rt, number, purpose, spec, script, out, boxes)
         }
         Err(_) => refuse_memory(out),
     }
 }
 
-fn answer_mission<K: Sink>(
-    alloc: Global,
+fn answer_mission<R: AllocGlobal + Threads + Wait + Sync, K: Sink>(
+    rt: &R,
     number: u32,
     purpose: Purpose,
     spec: Spec,
     script: Script,
     out: &mut K,
-    racks: Vec<Rack>,
+    boxes: Boxes,
 ) -> Status
     requires script { Fits spec script }
-    requires racks { RacksFit (λ b. kind_of (b.vtable, b.value)) (λ r. r.boxes.items) racks.items }
+    requires racks { RacksFit (λ b. kind_of (b.vtable, b.value)) (λ r. r.boxes.items) boxes.racks.items }
+    requires spares { RacksFit (λ b. kind_of (b.vtable, b.value)) (λ r. r.boxes.items) boxes.spares.items }
     ensures tells { Tells (Gives (mission_answer number purpose spec script)) (K.state out.old) (K.state out.new) result.code }
     ensures write { result.code ≡ UNWRITTEN_OUTPUT → Rose (K.state out.old).faults (K.state out.new).faults }
     ensures read { result.code ≢ UNREAD_FILE }
 {
     match purpose {
-        Purpose::Print => print_mission(alloc, &spec, &script, out),
-        Purpose::Fly => fly(alloc, spec, script, FlightText::Summary(number), out, racks),
+        Purpose::Print => print_mission(rt.alloc(), &spec, &script, out),
+        Purpose::Fly => fly(rt, spec, script, FlightText::Summary(number), out, boxes),
     }
 }
 

@@ -15,6 +15,8 @@ use app_model::Rack;
 use scram_io::{RealFiles, RealSink};
 use std::alloc::AllocGlobal;
 use std::io::Print;
+use std::sync::Wait;
+use std::thread::Threads;
 use std::{io, rt};
 
 /// Does what the words after the program's name ask for, with the files of the system and standard output. Both are
@@ -26,7 +28,7 @@ use std::{io, rt};
 /// # Errors
 ///
 /// Where there is no memory for the bytes that standard output holds back; then nothing was read or printed.
-pub fn run_program<'a, R: AllocGlobal + rt::Files + Print>(
+pub fn run_program<'a, R: AllocGlobal + rt::Files + Print + Threads + Wait + Sync>(
     rt: &'a R,
     words: &[String],
     racks: Vec<Rack>,

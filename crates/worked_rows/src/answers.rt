@@ -6,16 +6,20 @@ use more_apps::PlainAutopilot;
 use racks::racks;
 use scram_cli::scram;
 use scram_io::{MemFiles, MemSink};
+use std::alloc::AllocGlobal;
 use std::io::{self, ErrorKind};
 use std::rt::HostRuntime;
+use std::sync::Wait;
+use std::thread::Threads;
 
 /// More bytes than any row puts.
 const ROOM: u32 = 200_000;
 
 /// Makes the boxes and calls the command: the status, and what was put. The processor `plain` has the autopilot that
 /// remembers nothing.
-pub fn answer(
+pub fn answer<R: AllocGlobal + Threads + Wait + Sync>(
     rt: &HostRuntime,
+    threads: &R,
     words: &[String],
     files: MemFiles,
     sink: MemSink,
@@ -23,7 +27,7 @@ pub fn answer(
 ) -> io::Result<(u8, MemSink)> {
     let racks = racks!(rt, plain, PlainAutopilot::new());
     let spares = racks!(rt);
-    call(rt, words, files, sink, racks, spares)
+    call(threads, words, files, sink, racks, spares)
 }
 
 /// The sink of a row, which fails where the row says so.
@@ -43,8 +47,8 @@ pub fn plain_processor(rt: &HostRuntime, row: &str) -> io::Result<Option<u32>> {
     Ok(procs.first().copied())
 }
 
-fn call(
-    rt: &HostRuntime,
+fn call<R: AllocGlobal + Threads + Wait + Sync>(
+    threads: &R,
     words: &[String],
     files: MemFiles,
     sink: MemSink,
@@ -56,7 +60,7 @@ fn call(
     }
     let mut files = files;
     let mut sink = sink;
-    let status = scram(rt, words, &mut files, &mut sink, racks, spares);
+    let status = scram(threads, words, &mut files, &mut sink, racks, spares);
     Ok((status.code, sink))
 }
 

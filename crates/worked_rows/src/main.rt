@@ -10,18 +10,25 @@ mod files;
 
 use crate::answers::{answer, make_sink, plain_processor, print_answer};
 use crate::files::{list_words, make_files};
+use std::alloc::AllocGlobal;
+use std::sync::Wait;
+use std::thread::Threads;
 use std::{fs, io};
 
 fn main(rt: HostRuntime) -> io::Result<()> {
     let rows = fs::read_to_string(&rt, "rows.txt")?;
     for row in rows.as_str().split("\n\n") {
-        answer_row(&rt, row)?;
+        answer_row(&rt, &rt, row)?;
     }
     Ok(())
 }
 
 /// Prints the words of a row, and what the command answers to them.
-fn answer_row(rt: &HostRuntime, row: &str) -> io::Result<()> {
+fn answer_row<R: AllocGlobal + Threads + Wait + Sync>(
+    rt: &HostRuntime,
+    threads: &R,
+    row: &str,
+) -> io::Result<()> {
     let (first, rest) = row.split_once('\n').unwrap_or((row, ""));
     let (words, frames) = first.split_once(" : ").unwrap_or((first, ""));
     println!(rt; "> {words}")?;
@@ -29,7 +36,7 @@ fn answer_row(rt: &HostRuntime, row: &str) -> io::Result<()> {
     let files = make_files(rt, &words, rest)?;
     let sink = make_sink(rt, rest)?;
     let plain = plain_processor(rt, rest)?;
-    let (status, sink) = answer(rt, &words, files, sink, plain)?;
+    let (status, sink) = answer(rt, threads, &words, files, sink, plain)?;
     print_answer(rt, sink.bytes(), frames)?;
     println!(rt; "status {status}\n")
 }

@@ -13,9 +13,9 @@ pub returns-in-Ok-clause-assured : goal.returns-in-Ok-clause-assured
 returns-in-Ok-clause-assured g c = λ answered.
     assured_sent _ _ _ _ _ _ c.flush.ensures.kept c.in-Ok.ensures.sent (c.answer_words-status.ensures.assured answered)
 
-pub returns-clause-answer : goal.returns-clause-answer
-returns-clause-answer g c = failed_ends _ _ _ _ _ _ _ _ c.flush.ensures.kept c.in-Err.ensures.failed c.answer_words-status.ensures.ends
+pub returns-in-Err-clause-answer : goal.returns-in-Err-clause-answer
+returns-in-Err-clause-answer g c = failed_ends _ _ _ _ _ _ _ _ c.flush.ensures.kept c.in-Err.ensures.failed c.answer_words-status.ensures.ends
 
-pub returns-clause-complete : goal.returns-clause-complete
-returns-clause-complete g c =
+pub returns-in-Err-clause-complete : goal.returns-in-Err-clause-complete
+returns-in-Err-clause-complete g c =
     completes _ _ _ _ _ _ _ (failed_ends _ _ _ _ _ _ _ _ c.flush.ensures.kept c.in-Err.ensures.failed c.answer_words-status.ensures.ends) c.answer_words-status.ensures.quiet
