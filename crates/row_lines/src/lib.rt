@@ -43,22 +43,28 @@ pub fn number(digits: &str) -> io::Result<u32> {
     }
 }
 
-/// The script of a row, which stands behind `= `, with this step in the place of `STEP`.
+/// A text with a number in the first place of a word, where the word stands in it.
+///
+/// # Errors
+///
+/// Where memory is wanting.
+pub fn fill(alloc: Global, text: &str, word: &str, number: u32) -> io::Result<String> {
+    let filled = match text.split_once(word) {
+        Some((before, after)) => format!(in alloc; "{before}{number}{after}")?,
+        None => format!(in alloc; "{text}")?,
+    };
+    Ok(filled)
+}
+
+/// The script of a text.
 ///
 /// # Errors
 ///
 /// Where the text is not a script for the specification, or memory is wanting.
-pub fn script_of(alloc: Global, spec: &Spec, row: &str, step: u32) -> io::Result<Script>
+pub fn script_of_text(alloc: Global, spec: &Spec, text: &str) -> io::Result<Script>
     ensures { IfOk result (λ script. Fits spec.now script) }
 {
-    let text = line_after(row, "= ").unwrap_or("");
-    let (before, after) = text.split_once("STEP").unwrap_or((text, ""));
-    let text = if after.is_empty() {
-        format!(in alloc; "{before}")?
-    } else {
-        format!(in alloc; "{before}{step}{after}")?
-    };
-    match read_script(alloc, text.as_str().as_bytes(), spec) {
+    match read_script(alloc, text.as_bytes(), spec) {
         Ok(script) => Ok(script),
         Err(_) => Err(ErrorKind::InvalidInput.into()),
     }

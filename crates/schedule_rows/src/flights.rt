@@ -3,10 +3,11 @@
 ghost use Rattle.fault_script.specs.Fits.{Fits};
 
 use crate::halts::Halts;
-use crate::scripts::{line_after, number_after, rule_named, script_of};
+use crate::scripts::{rule_named, script_of};
 use app_model::racks_fit;
 use frame_model::{reports, rows};
 use racks::racks;
+use row_lines::{line_after, number_after};
 use schedule_flights::{Rule, fly};
 use scram_types::{Flown, List, Report, Script, Spec};
 use std::io::{self, ErrorKind};

@@ -2,7 +2,7 @@
 
 ghost use Rattle.std.specs.Prelude.{◌<◌};
 
-use crate::scripts::number_after;
+use row_lines::number_after;
 use std::io::{self, ErrorKind};
 
 /// A halt: of which processor, in which frame, after how many stores.

@@ -3,12 +3,13 @@
 ghost use Rattle.fault_script.specs.Fits.{Fits};
 
 use crate::halts::Halts;
-use crate::scripts::{number, rule_named, script_of};
+use crate::scripts::{rule_named, script_of};
 use app_model::racks_fit;
 use bank_words::Event;
 use event_core::{Core, Illegal};
 use frame_model::sights::slot_in;
 use racks::racks;
+use row_lines::number;
 use schedule_flights::fly_some;
 use scram_types::{ProcId, Script, Spec};
 use std::io::{self, ErrorKind};

@@ -14,8 +14,8 @@ mod scripts;
 
 use crate::flights::fly_row;
 use crate::looks::look_row;
-use crate::scripts::line_after;
 use reconf_spec::read_spec;
+use row_lines::line_after;
 use std::fs;
 use std::io::{self, ErrorKind};
 

@@ -1,7 +1,7 @@
 //! Flights of a row.
 
-ghost use Rattle.std.specs.Prelude.{◌≡◌};
-ghost use Rattle.app_model.specs.Racks.{RacksFit};
+ghost use Rattle.std.specs.Prelude.{◌≡◌, IfOk};
+ghost use Rattle.fault_script.specs.Fits.{Fits};
 ghost use Rattle.word_table.specs.Tables.{AreOpening, AreSeatsOf, IsKernelSeatOf, kernel_frame, kernel_steps, mission_in};
 ghost use Rattle.word_rows.specs.Pairs.{PairFits};
 
@@ -12,14 +12,15 @@ use crate::spec_of;
 use app_model::racks_fit;
 use coverage_check::{Mission, accept};
 use racks::racks;
-use row_lines::{line_after, number_after, script_of};
+use row_lines::{fill, line_after, number_after, script_of_text};
 use scram_kernel::Kernel;
-use scram_types::Row;
+use scram_types::{Row, Script, Spec};
+use std::alloc::Global;
 use std::io::{self, ErrorKind};
 use std::rt::HostRuntime;
 use trace_props::one_thread;
-use word_deck::{Crew, KernelCrew};
-use word_table::{KSeat, Seat, WordTable};
+use word_deck::KernelCrew;
+use word_table::{KSeat, WordTable};
 
 /// Flies the script of a row, for each step of its halt, and prints what came of it.
 pub fn fly_row(rt: &HostRuntime, text: &str, row: &str) -> io::Result<()> {
@@ -39,6 +40,15 @@ fn mission_of(rt: &HostRuntime, text: &str, row: &str, step: u32) -> io::Result<
         }
     }
     Err(ErrorKind::InvalidData.into())
+}
+
+// The script of a row, with this step in the place of `STEP`.
+fn script_of(alloc: Global, spec: &Spec, row: &str, step: u32) -> io::Result<Script>
+    ensures { IfOk result (λ script. Fits spec.now script) }
+{
+    let text = line_after(row, "= ").unwrap_or("");
+    let text = fill(alloc, text, "STEP", step)?;
+    script_of_text(alloc, spec, text.as_str())
 }
 
 // The words, the kernel's seat and the pair of processors.
