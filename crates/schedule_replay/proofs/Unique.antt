@@ -24,7 +24,7 @@ use Rattle.fail_stop.proofs.Plans.{Mid, fork, gate, mid, plan_look}
 use Rattle.schedule_replay.specs.declared.replays.ReplayError.{ReplayError}
 use Rattle.schedule_replay.specs.declared.replays.ReplayError.TheVariants as error
 use Rattle.schedule_replay.specs.Laws.{OneAnswer}
-use Rattle.schedule_replay.specs.Replaying.{AnswersReplay, IsIllegal, IsShort, IsWhole, first_next, next_below}
+use Rattle.schedule_replay.specs.Replaying.{AnswersReplay, IsIllegal, IsShort, IsWholeSchedule, first_next, next_below}
 use Rattle.schedule_replay.proofs.Codes.{event_back}
 
 -- the numbers of an event that is next are small
@@ -161,7 +161,7 @@ module _ (m : Flight) (few : m.procs ≤ 8) (narrow : m.width ≤ 64) where
 
   -- two answers
 
-  not_both : (list : List ℕ) → IsWhole m list → (events : ℕ) (next : Event) → IsShort m list events next → ⊥
+  not_both : (list : List ℕ) → IsWholeSchedule m list → (events : ℕ) (next : Event) → IsShort m list events next → ⊥
   not_both list w events next s = let a = agree list w.at w.words s.at s.words w.replay s.replay in s.going (subst (λ (p : Places). IsOver m p) a.places w.over)
 
   one_short : (list : List ℕ) (events : ℕ) (next : Event) (events2 : ℕ) (next2 : Event) → IsShort m list events next → IsShort m list events2 next2 → (events ≡ events2) × (next ≡ next2)

@@ -30,7 +30,7 @@ abbrev pub first_next : Flight → Places → (Word → ℕ) → Option Event
 first_next m at words = first_of_two (next_below m at words m.procs) (next_kernel m at words)
 
 -- The numbers are the codes of a schedule at whose end the machine is over.
-pub record IsWhole (m : Flight) (list : List ℕ) : Type 0 where
+pub record IsWholeSchedule (m : Flight) (list : List ℕ) : Type 0 where
   pub at : Places
   pub words : Word → ℕ
   pub replay : IsReplay m list at words
@@ -59,7 +59,7 @@ pub record IsShort (m : Flight) (list : List ℕ) (events : ℕ) (next : Event) 
 -- An answer to a list: the one-thread trace where the list is a whole schedule, the first event that is out of turn, or what comes next
 -- where the list ends too early.
 abbrev pub AnswersReplay : Parts → ScriptParts → List ℕ → Result Flown ReplayError → Type 0
-AnswersReplay spec script list (Ok flown) = IsWhole (flight_of spec script) list × (flown.rows ≡ rows_of spec script) × (flown.reports ≡ reports_of spec script)
+AnswersReplay spec script list (Ok flown) = IsWholeSchedule (flight_of spec script) list × (flown.rows ≡ rows_of spec script) × (flown.reports ≡ reports_of spec script)
 AnswersReplay spec script list (Err (error.Illegal index illegal)) = IsIllegal (flight_of spec script) list index illegal
 AnswersReplay spec script list (Err (error.Short events next)) = IsShort (flight_of spec script) list events next
 AnswersReplay spec script list (Err error.NoMemory) = ⊤

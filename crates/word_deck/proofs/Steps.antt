@@ -16,6 +16,7 @@ use Rattle.fail_stop.specs.Events.{At, Halted, Place, frame_of, frame_on, halted
 use Rattle.fail_stop.specs.ScriptFlights.{draft_words, flight_of}
 use Rattle.bank_words.specs.Numbers.{encode}
 use Rattle.fail_stop.specs.Flights.{Flies, Flight, word_in}
+use Rattle.fail_stop.proofs.OpeningLists.{encoded_at}
 use Rattle.word_table.specs.Actors.{step_at}
 use Rattle.word_deck.specs.Frames.{HaltsLate}
 
@@ -75,13 +76,6 @@ halt_in_width spec script p f halt step width flies there is same =
     let low : halt.step ≤ words spec + 1 = flies.step p f halt.step (ap (option_map (λ (h : HaltAt). h.step)) there) in
     omega (arith, low, is, same)
 
--- a word of a draft
-
-pub word_at : (xs : List ℤ) (i : ℕ) → word_in (map encode xs) i ≡ encode (slice_index_or xs i (pos 0))
-word_at [] i = refl
-word_at (x ∷ xs) zero = refl
-word_at (x ∷ xs) (suc i) = word_at xs i
-
 -- the same for a seat that has moved since a place was told
 
 pub looks_on : (m : Flight) (p q n f : ℕ) (place : Place) → place ≡ At f (1 + q) → n ≡ m.procs → q < n → step_at m p place ≡ Some (Look (proc_id p) (proc_id q))
@@ -121,7 +115,7 @@ stopped f n one two a b = b ∙ ap halted_there a
 pub word_drafted : (spec : Parts) (script : ScriptParts) (p old f n i : ℕ) (place : Place) (image : List ℤ) (word : ℕ) → image ≡ draft spec script old f → p ≡ old → place ≡ At f n
     → word ≡ encode (slice_index_or image i (pos 0)) → word ≡ word_in (draft_words spec script p (frame_of place)) i
 word_drafted spec script p old f n i place image word is same here said =
-    said ∙ sym (word_at image i) ∙ ap (λ xs. word_in (map encode xs) i) is ∙ ap (λ q. word_in (draft_words spec script q f) i) (sym same) ∙ ap (λ g. word_in (draft_words spec script p g) i) (sym (ap frame_of here))
+    said ∙ sym (encoded_at image i) ∙ ap (λ xs. word_in (map encode xs) i) is ∙ ap (λ q. word_in (draft_words spec script q f) i) (sym same) ∙ ap (λ g. word_in (draft_words spec script p g) i) (sym (ap frame_of here))
 
 pub drafted_by : (spec : Parts) (script : ScriptParts) (f p old : ℕ) (snap : Snapshot) (image : List ℤ)
     → ((script : ScriptParts) (f : ℕ) → IsSpec spec → old < length spec.procs → IsSnapshot spec script f snap → image ≡ draft spec script old f)

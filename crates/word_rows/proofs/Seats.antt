@@ -3,10 +3,7 @@ use Rattle.std.proofs.Common.{◌≡◌, ◌∙◌, ℕ, ◌+◌, zero, suc, ap,
 use Rattle.std.specs.Prelude.{Option, Some, None, IfSome, option_to_list, slice_get}
 use Rattle.std.proofs.lemmas.List.{length-append}
 use Rattle.scram_types.proofs.Items.{first_part, next_part}
-
--- each item has this fact at its place
-abbrev pub EachAt : {A : Type 0} → (ℕ → A → Type 0) → List A → Type 0
-EachAt {A} Fact xs = (i : ℕ) (x : A) → slice_get xs i ≡ Some x → Fact i x
+use Rattle.word_deck.proofs.Listing.{EachAt}
 
 pub last_of_two : {A : Type 0} (Fact : ℕ → A → Type 0) (all most : List A) (o : Option A) → length all ≡ 2 → all ≡ most ++ option_to_list o → EachAt Fact all → IfSome o (Fact 1)
 last_of_two Fact all most None two is each = tt
