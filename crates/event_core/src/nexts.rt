@@ -14,6 +14,7 @@ ghost use Rattle.event_core.specs.Places.{kept_place, machine_place, machine_pla
 use crate::places::{Place, Places};
 use bank_words::{Event, words};
 use fail_stop::notes;
+use fail_stop::words::end_index;
 use fault_script::{halt_in, restart_of};
 use scram_types::{HaltAt, ProcId, Script, Spec};
 
@@ -161,7 +162,7 @@ fn end_in(stored: &[u64], p: ProcId) -> u64
     requires p { p.0 < 8 }
     ensures { result ≡ stored_in stored.now (EndWord p.0) }
 {
-    stored[33 + 136 * usize::from(p.0)]
+    stored[end_index(p)]
 }
 
 fn may_note(script: &Script, p: ProcId, frame: u32, end: u64) -> bool

@@ -10,7 +10,8 @@ ghost use Rattle.frame_model.specs.Flights.{image_in};
 ghost use Rattle.event_core.specs.Reads.{bank_taken, kernel_words_stored, word_read};
 
 use bank_words::{KernelImage, decode, kernel_decode, kernel_encode, pick};
-use scram_types::{Image, Spec};
+use fail_stop::words::{bank_index, mark_index};
+use scram_types::{Image, ProcId, Spec};
 
 /// The marks of the processors.
 pub(crate) fn marks_read(stored: &[u64]) -> [u64; 8]
@@ -34,7 +35,7 @@ fn mark_read(stored: &[u64], p: usize) -> u64
     requires p { p < 8 }
     ensures { result ≡ stored_in stored.now (MarkWord p) }
 {
-    stored[32 + 136 * p]
+    stored[mark_index(ProcId(p as u8))]
 }
 
 /// The image of a processor that a reader in a frame finds.
@@ -45,7 +46,8 @@ pub(crate) fn image_read(spec: &Spec, stored: &[u64], frame: u32, p: usize) -> I
     ensures words { (i : ℕ) → i < 64 → slice_index_or result i (pos 0) ≡ word_read spec.now stored.now frame p i }
     ensures long { length result ≡ 64 }
 {
-    let bank = 40 + 136 * p + 64 * usize::from(pick(mark_read(stored, p), frame));
+    let picked = usize::from(pick(mark_read(stored, p), frame));
+    let bank = bank_index(ProcId(p as u8), picked);
     let mut image = [0; 64];
     for i in 0..8 * spec.apps.items().len() {
         image[i] = decode(stored[bank + i]);

@@ -10,6 +10,7 @@ ghost use Rattle.event_core.specs.Stores.{IsInside, IsEventWord};
 use crate::nexts::kept_place;
 use crate::places::{Place, Places};
 use bank_words::{Event, mark_word};
+use fail_stop::words::{bank_index, end_index, kernel_index, mark_index};
 use scram_types::ProcId;
 
 /// Stores what an event stores, with the word that is handed in where it is a store.
@@ -21,22 +22,22 @@ pub(crate) fn store(stored: &mut Vec<u64>, places: &Places, event: Event, word: 
     match event {
         Event::Store(p, i) => {
             let bank = other_bank(stored, p);
-            stored[40 + 136 * usize::from(p.0) + 64 * bank + usize::from(i)] = word;
+            stored[bank_index(p, bank) + usize::from(i)] = word;
         }
         Event::Flip(p) => {
             let bank = other_bank(stored, p);
             let frame = frame_of(kept_place(&places.procs, p));
-            stored[32 + 136 * usize::from(p.0)] = 2 * (u64::from(frame) + 1) + bank as u64;
+            stored[mark_index(p)] = 2 * (u64::from(frame) + 1) + bank as u64;
         }
         Event::Done(p) => {
             let frame = frame_of(kept_place(&places.procs, p));
-            stored[33 + 136 * usize::from(p.0)] = 2 * (u64::from(frame) + 1);
+            stored[end_index(p)] = 2 * (u64::from(frame) + 1);
         }
         Event::Halt(p) => {
             let frame = frame_of(kept_place(&places.procs, p));
-            stored[33 + 136 * usize::from(p.0)] = 2 * u64::from(frame) + 1;
+            stored[end_index(p)] = 2 * u64::from(frame) + 1;
         }
-        Event::KStore(i) => stored[8 + usize::from(i)] = word,
+        Event::KStore(i) => stored[kernel_index(usize::from(i))] = word,
         Event::Release => stored[0] = u64::from(places.frame) + 2,
         Event::Start(_) => {}
         Event::Look(_, _) => {}
@@ -60,5 +61,5 @@ fn other_bank(stored: &[u64], p: ProcId) -> usize
     requires p { p.0 < 8 }
     ensures { result ≡ 1 - stored_in stored.now (MarkWord p.0) % 2 }
 {
-    1 - (stored[32 + 136 * usize::from(p.0)] % 2) as usize
+    1 - (stored[mark_index(p)] % 2) as usize
 }

@@ -9,6 +9,7 @@ pub mod notes;
 pub mod openings;
 pub mod snapshots;
 pub mod units;
+pub mod words;
 
 pub use snapshots::{Draft, Snapshot};
 pub use units::{Halted, Live};

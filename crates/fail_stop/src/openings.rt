@@ -7,14 +7,12 @@ ghost use Rattle.frame_model.specs.States.{keeper_at};
 ghost use Rattle.frame_model.specs.Storage.{kernel_image};
 ghost use Rattle.fail_stop.specs.Openings.{opening_at, opening_list, proc_opening, start_word};
 
+use crate::words::WORDS;
 use bank_words::{KernelImage, encode};
 use fault_script::Walk;
 use frame_model::{Sys, decide};
 use scram_types::{NoMemory, ProcId, Script, Spec};
 use std::alloc::Global;
-
-/// How many words there are, in one list.
-pub const WORDS: usize = 1_120;
 
 /// What the kernel says of the first frame. It takes no memory.
 pub fn first_image(spec: &Spec, script: &Script) -> KernelImage

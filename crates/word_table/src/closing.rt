@@ -15,7 +15,8 @@ use crate::seats::{KSeat, Seat};
 use crate::tables::WordTable;
 use atomic_table::Closed;
 use bank_words::decode;
-use scram_types::Image;
+use fail_stop::words::{bank_index, mark_index};
+use scram_types::{Image, ProcId};
 use std::alloc::Global;
 
 /// The marks of the processors as they were stored last, and the images that these name. What stands past the last
@@ -89,10 +90,10 @@ fn last_words(closed: &Closed<(), Global>, procs: usize, width: usize) -> LastWo
     let mut marks = [0; 8];
     let mut images = [[0; 64]; 8];
     for p in 0..procs {
-        let own = 32 + 136 * p;
-        let mark = closed.word(own);
+        let proc = ProcId(p as u8);
+        let mark = closed.word(mark_index(proc));
         marks[p] = mark;
-        images[p] = stored_image(closed, own + 8 + 64 * (mark % 2) as usize, width);
+        images[p] = stored_image(closed, bank_index(proc, (mark % 2) as usize), width);
     }
     LastWords { images, marks }
 }

@@ -12,6 +12,7 @@ use crate::actors::{Notes, Publishes, Releases};
 use crate::seats::KSeat;
 use crate::tables::WordTable;
 use fail_stop::notes::may_note;
+use fail_stop::words::{bank_index, end_index, kernel_index, mark_index};
 use scram_types::{Image, ProcId};
 
 /// What a processor has committed by the end of a frame: whether it has halted, its mark, and the image that this names.
@@ -39,15 +40,17 @@ impl WordTable {
         ensures mark { IfSome result (λ marked. marked.mark ≡ mark_after (mission_in self.now).spec (mission_in self.now).script p.0 (kernel_frame kseat.old + 1)) }
         ensures image { IfSome result (λ marked. marked.image ≡ image_after (mission_in self.now).spec (mission_in self.now).script p.0 (kernel_frame kseat.old + 1)) }
     {
-        let own = 32 + 136 * usize::from(p.0);
-        let end = self.table.shared.load::<Notes>(&mut kseat.inner, own + 1);
+        let end = self
+            .table
+            .shared
+            .load::<Notes>(&mut kseat.inner, end_index(p));
         if !self.may_note(p, kseat.frame, end) {
             return None;
         }
         kseat.step += 1;
-        let mark = self.load(&mut kseat.inner, own);
+        let mark = self.load(&mut kseat.inner, mark_index(p));
         let bank = (mark % 2) as usize;
-        let image = self.read_image(&mut kseat.inner, own + 8 + 64 * bank, 0);
+        let image = self.read_image(&mut kseat.inner, bank_index(p, bank), 0);
         Some(Marked {
             halted: end % 2 == 1,
             mark,
@@ -75,9 +78,10 @@ impl WordTable {
         ensures steps { kernel_steps kseat.new ≡ kernel_steps kseat.old + 1 }
         ensures tries { kernel_tries kseat.new ≡ kernel_tries kseat.old }
     {
+        let at = kernel_index(i as usize);
         self.table
             .shared
-            .store::<Publishes>(&mut kseat.inner, 8 + i as usize, word);
+            .store::<Publishes>(&mut kseat.inner, at, word);
         kseat.step += 1;
     }
 

@@ -12,6 +12,7 @@ use crate::actors::{Reads, View};
 use crate::tables::WordTable;
 use atomic_table::Seat;
 use bank_words::{decode, pick};
+use fail_stop::words::{kernel_index, mark_index};
 use scram_types::{Image, ProcId};
 
 impl WordTable {
@@ -60,7 +61,7 @@ impl WordTable {
         ensures bank { result ≡ image_bank_after (mission_in self.now).spec (mission_in self.now).script q.0 frame }
         ensures low { result ≤ 1 }
     {
-        let mark = self.load(seat, 32 + 136 * usize::from(q.0));
+        let mark = self.load(seat, mark_index(q));
         usize::from(pick(mark, frame))
     }
 
@@ -77,7 +78,7 @@ impl WordTable {
     {
         let mut words = [0; 20];
         for i in 0..20 {
-            words[i] = self.load(seat, 8 + i);
+            words[i] = self.load(seat, kernel_index(i));
         }
         words
     }

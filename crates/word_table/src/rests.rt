@@ -6,6 +6,7 @@ ghost use Rattle.word_table.specs.Tables.{IsSeatOf, proc_of};
 
 use crate::seats::{KSeat, Seat};
 use crate::tables::WordTable;
+use fail_stop::words::end_index;
 use scram_types::ProcId;
 use std::sync::Wait;
 
@@ -34,7 +35,7 @@ impl WordTable {
             return;
         }
         let p = ProcId(kseat.step as u8);
-        let at = 33 + 136 * kseat.step as usize;
+        let at = end_index(p);
         for _ in 0..self.turns {
             if self.may_note(p, kseat.frame, self.table.shared.peek(at)) {
                 return;

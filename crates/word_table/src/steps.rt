@@ -16,6 +16,7 @@ use crate::seats::Seat;
 use crate::tables::WordTable;
 use bank_words::{KernelImage, decode, kernel_decode};
 use fail_stop::law::kernel_images_come_back;
+use fail_stop::words::{bank_index, end_index, mark_index};
 use scram_types::{Image, ProcId};
 
 impl WordTable {
@@ -69,7 +70,7 @@ impl WordTable {
         ensures image { result ≡ image_after (mission_in self.now).spec (mission_in self.now).script q.0 (frame_of (seat_place seat.old)) }
     {
         let bank = self.bank_picked(&mut seat.inner, seat.frame, q);
-        let at = 40 + 136 * usize::from(q.0) + 64 * bank;
+        let at = bank_index(q, bank);
         let mut image = self.read_image(&mut seat.inner, at, 1);
         image[0] = decode(self.table.shared.load::<Looks>(&mut seat.inner, at));
         seat.step += 1;
@@ -88,7 +89,7 @@ impl WordTable {
         ensures tries { tries_of seat.new ≡ tries_of seat.old }
     {
         let bank = self.bank_picked(&mut seat.inner, seat.frame, seat.proc);
-        let at = 40 + 136 * usize::from(seat.proc.0) + 64 * (1 - bank) + i as usize;
+        let at = bank_index(seat.proc, 1 - bank) + i as usize;
         self.table.shared.store::<Stores>(&mut seat.inner, at, word);
         seat.step += 1;
     }
@@ -105,7 +106,7 @@ impl WordTable {
     {
         let bank = self.bank_picked(&mut seat.inner, seat.frame, seat.proc);
         let mark = 2 * (u64::from(seat.frame) + 1) + (1 - bank as u64);
-        let at = 32 + 136 * usize::from(seat.proc.0);
+        let at = mark_index(seat.proc);
         self.table.shared.store::<Stores>(&mut seat.inner, at, mark);
         seat.step += 1;
     }
@@ -119,7 +120,7 @@ impl WordTable {
         ensures place { seat_place seat.new ≡ frame_on (seat_place seat.old) }
         ensures tries { tries_of seat.new ≡ tries_of seat.old }
     {
-        let at = 33 + 136 * usize::from(seat.proc.0);
+        let at = end_index(seat.proc);
         let end = 2 * (u64::from(seat.frame) + 1);
         self.table.shared.store::<Ends>(&mut seat.inner, at, end);
         seat.frame += 1;
@@ -137,7 +138,7 @@ impl WordTable {
         ensures place { seat_place seat.new ≡ halted_there (seat_place seat.old) }
         ensures tries { tries_of seat.new ≡ tries_of seat.old }
     {
-        let at = 33 + 136 * usize::from(seat.proc.0);
+        let at = end_index(seat.proc);
         let end = 2 * u64::from(seat.frame) + 1;
         self.table.shared.store::<Halts>(&mut seat.inner, at, end);
         seat.step = 0;

@@ -1,7 +1,9 @@
-use Rattle.std.proofs.Common.{◌≡◌, ◌∙◌, ◌+◌, ◌*◌, ◌%◌, sym, subst, arith}
+use Rattle.std.proofs.Common.{◌≡◌, ◌∙◌, ◌%◌, sym, subst, rules, arith}
+use mathlib.Core.Option.{some}
+use lib.ListN.{get_elem?}
 use Rattle.std.proofs.lemmas.List.{length-set}
 use Rattle.std.specs.Mem.Slots.{slots_items}
-use Rattle.fail_stop.specs.Events.{BankWord}
+use Rattle.fail_stop.specs.Events.{BankWord, MarkWord}
 use Rattle.fail_stop.specs.Listed.{index_of}
 use Rattle.word_table.specs.Closing.{IsStoredImage}
 use Rattle.word_table.proofs.Closings.{index_is, one_last}
@@ -11,14 +13,15 @@ pub loop-p-preserved : goal.loop-p-preserved
 loop-p-preserved c =
     let at = c.loop-p in
     let mark = c.word-mark.result in
-    let place : 32 + 136 * c.loop-p.p + 8 + 64 * (c.word-mark.result % 2) ≡ index_of (BankWord c.loop-p.p (c.word-mark.result % 2) 0) = omega arith in
+    let own : c.mark_index.result ≡ index_of (MarkWord at.p) = search rules in
+    let place : c.bank_index.result ≡ index_of (BankWord at.p (mark % 2) 0) = search rules in
     record {
       marks = length-set at.marks at.p mark ∙ at.invariant.marks;
       images = length-set at.images at.p c.stored_image.result ∙ at.invariant.images;
       last =
           one_last (slots_items c.args.closed.now.words) c.args.width at.p at.marks at.images mark c.stored_image.result at.invariant.marks at.invariant.images (omega (arith, c.loop-p-test.true, c.requires.procs)) at.invariant.last
           record {
-            mark_is = sym (index_is (slots_items c.args.closed.now.words) (32 + 136 * at.p) mark c.word-mark.ensures);
+            mark_is = sym (index_is (slots_items c.args.closed.now.words) (index_of (MarkWord at.p)) mark (subst (λ k. get_elem? (slots_items c.args.closed.now.words) k ≡ some mark) own c.word-mark.ensures));
             image_is = subst (λ k. IsStoredImage (slots_items c.args.closed.now.words) c.args.width k c.stored_image.result) place c.stored_image.ensures;
           };
     }

@@ -14,7 +14,7 @@ store-requires c =
     let m = flight_in words in
     let step = step_is m (proc_of seat) seat.frame seat.step seat.halted (Halt (proc_id (proc_of seat))) c.requires.next in (
       c.requires.seat.table,
-      omega (arith, c.requires.seat.proc, words.keeps.places, c.requires.seat.holds.facts.procs_count.few, c.from.ensures),
+      omega (arith, c.requires.seat.proc, words.keeps.places, c.requires.seat.holds.facts.procs_count.few, c.end_index-at.ensures),
       halt_allows (mission_in words) words.table.shared.table_id.slots seat.inner.id seat.inner.me (sound (mission_in words) c.requires.seat.holds.facts c.requires.seat.holds.fits) seat.empty
           (proc_of seat) seat.frame step.before c.requires.seat.proc (runs_there m (proc_of seat) seat.frame seat.step seat.halted (Halt (proc_id (proc_of seat))) step seat.inner.me.0.actors seat.alone)
           _ _ step.next (search rules) (search rules),

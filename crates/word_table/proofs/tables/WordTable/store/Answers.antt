@@ -22,7 +22,7 @@ store-requires c =
     let low = store_low m p seat.frame _ c.args.i step.next in
     let bank : c.bank_picked-bank.result ≡ side m p seat.frame = c.bank_picked-bank.ensures.bank ∙ sym (sides_same (mission_in words).spec (mission_in words).script c.requires.seat.holds.fits p seat.frame) in
     let few = c.requires.seat.holds.facts.procs_count.few in
-    let own = c.from.ensures in (
+    let own = c.bank_index.ensures in (
       c.bank_picked-bank.ensures.table ∙ c.requires.seat.table,
       omega (arith, c.requires.seat.proc, words.keeps.places, few, own, low.1, c.bank_picked-bank.ensures.low, c.requires.seat.holds.facts.apps_count.few),
       store_allows (mission_in words) words.table.shared.table_id.slots c.bank_picked-bank.new.seat.id c.bank_picked-bank.new.seat.me (sound (mission_in words) c.requires.seat.holds.facts c.requires.seat.holds.fits) (ap (λ (me : Sat). me.1) same ∙ seat.empty)
