@@ -24,16 +24,23 @@ use Rattle.coverage_check.proofs.Accepting.{accepts_where_unrefused}
 use Rattle.coverage_check.proofs.Flights.{is_mission}
 use Rattle.trace_props.specs.declared.breaks.Broken.{Broken}
 use Rattle.trace_props.specs.Missions.{ReconfigurationsAreAssured}
+use Rattle.fail_stop.specs.ScriptFlights.{flight_of}
+use Rattle.schedule_replay.specs.declared.limits.TheConstants.{MAX_SCHEDULE_BYTES}
+use Rattle.schedule_replay.specs.declared.replays.ReplayError.{ReplayError}
+use Rattle.schedule_replay.specs.declared.replays.ReplayError.TheVariants as replay_error
+use Rattle.schedule_replay.specs.declared.schedule_reading.ScheduleFault.{ScheduleFault}
+use Rattle.schedule_replay.specs.Reading.{schedule_of}
+use Rattle.schedule_replay.specs.Replaying.{AnswersReplay, IsWholeSchedule}
 use Rattle.scram_cli.specs.declared.status.TheConstants.{ANSWERED, UNWRITTEN_OUTPUT}
 use Rattle.scram_cli.specs.declared.flights.FlightText.{FlightText}
 use Rattle.scram_cli.specs.declared.flights.FlightText.TheVariants.{Summary, Trace}
 use Rattle.scram_cli.specs.declared.forms.Purpose.{Purpose}
 use Rattle.scram_cli.specs.declared.forms.Purpose.TheVariants.{Fly, Print}
 use Rattle.scram_cli.specs.declared.forms.Request.{Request}
-use Rattle.scram_cli.specs.declared.forms.Request.TheVariants.{Bounds, Check, Props, Run}
+use Rattle.scram_cli.specs.declared.forms.Request.TheVariants.{Bounds, Check, Props, Replay, Run}
 use Rattle.scram_types.specs.declared.limits.TheConstants.{MAX_SCRIPT_BYTES, MAX_TRACE_BYTES}
-use Rattle.scram_cli.specs.Answers.{Gives, IsGenerated, IsMissionAnswer, Judges, RequestAnswers, TellsUnread, TraceAnswers, bounds_answer, check_answer, flight_answer, judged_answer, long_script, long_trace, mission_answer, script_answer, flight_text, within_answer}
-use Rattle.scram_cli.specs.Assurance.{AssuresMission, AssuresPurpose, AssuresRequest, AssuresScript, AssuresSpec, AssuresTrace, FlightsAreAssured, IsAssured, IsAssuring}
+use Rattle.scram_cli.specs.Answers.{Gives, IsGenerated, IsMissionAnswer, Judges, ListAnswers, ReplayAnswers, ReplayWithin, RequestAnswers, ScheduleAnswers, TellsUnread, TraceAnswers, bounds_answer, check_answer, flight_answer, judged_answer, long_schedule, long_script, long_trace, mission_answer, replay_answer, script_answer, flight_text, within_answer}
+use Rattle.scram_cli.specs.Assurance.{AssuresMission, AssuresPurpose, AssuresReplay, AssuresRequest, AssuresScript, AssuresSpec, AssuresTrace, FlightsAreAssured, IsAssured, IsAssuring}
 use Rattle.scram_cli.specs.Bounds.{bounds_text}
 use Rattle.scram_cli.specs.Endings.{IsMemoryRefusal, IsTaken, Tells}
 use Rattle.scram_cli.specs.Lines.{accepted_line, holds_line}
@@ -111,11 +118,73 @@ props_zero spec name before after reads text (inl is) =
     trace_zero spec name is.bytes is.rest reads (trace_of spec is.bytes) refl is.first is.answers.0 text is.answers.1
 props_zero spec name before after reads text (inr is) = unread_zero MAX_TRACE_BYTES 10 (long_trace).1 name before after text is.1
 
+-- a list that is flown as a schedule
+
+replayed_zero : (spec : Parts) (script : ScriptParts) (list : List ℕ) (flown : Result Flown ReplayError) (text : List ℕ) → AnswersReplay spec script list flown
+    → Gives (replay_answer spec script flown) ANSWERED text → IsWholeSchedule (flight_of spec script) list × Gives (ANSWERED, flight_text Trace spec script) ANSWERED text
+replayed_zero spec script list (Ok flown) text answers gives = (answers.0, gives)
+replayed_zero spec script list (Err (replay_error.Illegal index illegal)) text answers gives = not_zero 11 _ text gives
+replayed_zero spec script list (Err (replay_error.Short events next)) text answers gives = not_zero 11 _ text gives
+replayed_zero spec script list (Err replay_error.NoMemory) text answers gives = not_zero 8 _ text gives
+
+replay_within_zero : (spec : Parts) (script : ScriptParts) (list : List ℕ) (outside : Option Outside) (text : List ℕ) → ReplayWithin spec script list outside ANSWERED text
+    → IsWholeSchedule (flight_of spec script) list × Gives (within_answer Trace spec script outside) ANSWERED text
+replay_within_zero spec script list (Some outside) text gives = not_zero 7 _ text gives
+replay_within_zero spec script list None text is = replayed_zero spec script list is.flown text is.answers is.gives
+
+list_zero : (spec : Parts) (script : ScriptParts) (list : List ℕ) (shown : Option Shown) (text : List ℕ) → ListAnswers spec script list shown ANSWERED text
+    → IsWholeSchedule (flight_of spec script) list × Gives (flight_answer Trace spec script shown) ANSWERED text
+list_zero spec script list (Some shown) text gives = not_zero 5 _ text gives
+list_zero spec script list None text is = replay_within_zero spec script list (first_outside spec script) text is
+
+schedule_zero : (spec : Parts) → FlightsAreAssured spec → (name bytes schedule lines : List ℕ) (reads : History) (script : ScriptParts) (read : Result (List ℕ) ScheduleFault)
+    → script_of spec bytes ≡ Ok script → schedule_of spec lines ≡ read → reads ≡ (name, bytes) ∷ (schedule, lines) ∷ [] → (text : List ℕ)
+    → ScheduleAnswers spec script read ANSWERED text → AssuresReplay spec name schedule reads text
+schedule_zero spec law name bytes schedule lines reads script (Err fault) is is_list both text gives = not_zero 11 _ text gives
+schedule_zero spec law name bytes schedule lines reads script (Ok list) is is_list both text answers =
+    let flown = list_zero spec script list (first_refusal spec) text answers in
+    record {
+      bytes = bytes;
+      lines = lines;
+      read = both;
+      script = script;
+      is = is;
+      list = list;
+      is_list = is_list;
+      whole = flown.0;
+      assured = law Trace script (script_of_fits spec bytes script is) text flown.1;
+    }
+
+-- the script was read
+replay_script_zero : (spec : Parts) → FlightsAreAssured spec → (name bytes schedule : List ℕ) (script : ScriptParts) (before after : FilesState) (rest reads : History)
+    → script_of spec bytes ≡ Ok script → reads ≡ (name, bytes) ∷ rest → (text : List ℕ) → ReplayAnswers schedule spec (Ok script) before after rest ANSWERED text
+    → AssuresReplay spec name schedule reads text
+replay_script_zero spec law name bytes schedule script before after rest reads is first text (inl more) =
+    let both : reads ≡ (name, bytes) ∷ (schedule, more.bytes) ∷ [] =
+    first ∙ ap (λ (reads : History). (name, bytes) ∷ reads) (more.first ∙ ap (λ (reads : History). (schedule, more.bytes) ∷ reads) more.answers.0) in
+    schedule_zero spec law name bytes schedule more.bytes reads script (schedule_of spec more.bytes) is refl both text more.answers.1
+replay_script_zero spec law name bytes schedule script before after rest reads is first text (inr more) =
+    unread_zero MAX_SCHEDULE_BYTES 11 (long_schedule).1 schedule before after text more.1
+
+replay_read_zero : (spec : Parts) → FlightsAreAssured spec → (name bytes schedule : List ℕ) (before after : FilesState) (rest reads : History) (read : Result ScriptParts DocFault)
+    → script_of spec bytes ≡ read → reads ≡ (name, bytes) ∷ rest → (text : List ℕ) → ReplayAnswers schedule spec read before after rest ANSWERED text
+    → AssuresReplay spec name schedule reads text
+replay_read_zero spec law name bytes schedule before after rest reads (Err fault) is first text gives = not_zero 6 _ text gives.1
+replay_read_zero spec law name bytes schedule before after rest reads (Ok script) is first text answers =
+    replay_script_zero spec law name bytes schedule script before after rest reads is first text answers
+
+replay_zero : (spec : Parts) → FlightsAreAssured spec → (name schedule : List ℕ) (before after : FilesState) (reads : History) (text : List ℕ)
+    → RequestAnswers (Replay name schedule) spec before after reads ANSWERED text → AssuresReplay spec name schedule reads text
+replay_zero spec law name schedule before after reads text (inl is) =
+    replay_read_zero spec law name is.bytes schedule before after is.rest reads (script_of spec is.bytes) refl is.first text is.answers
+replay_zero spec law name schedule before after reads text (inr is) = unread_zero MAX_SCRIPT_BYTES 6 (long_script).1 name before after text is.1
+
 -- whatever is asked of a specification and answered with the status of an answer
 pub requests : (spec : Parts) → IsSpec spec → FlightsAreAssured spec → (request : Request (List ℕ)) → IsAssuring (RequestAnswers request spec) (AssuresRequest spec request)
 requests spec sound law (Run name) before after reads text is = run_zero spec law name before after reads text is
 requests spec sound law Check before after reads text is = check_zero spec (first_refusal spec) sound refl reads text is.0 is.1
 requests spec sound law Bounds before after reads text is = bounds_zero spec (state_refusal spec) reads text is.0 is.1
+requests spec sound law (Replay name schedule) before after reads text is = replay_zero spec law name schedule before after reads text is
 requests spec sound law (Props name) before after reads text is = props_zero spec name before after reads text is
 
 -- the specification was read first

@@ -8,3 +8,4 @@ mod Counted
 mod ShownModes
 mod ShownRows
 mod ShownReports
+mod FlightSizes

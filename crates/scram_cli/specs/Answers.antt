@@ -1,5 +1,5 @@
 -- What the command answers: a status and a text, by its words and by what it reads of the files that they name.
-use Rattle.std.specs.Prelude.{◌≡◌, ◌⊎◌, ℕ, List, [], ◌∷◌, ◌++◌, Option, Some, None, Result, Ok, Err, codes}
+use Rattle.std.specs.Prelude.{◌≡◌, ◌≢◌, ◌⊎◌, ℕ, List, [], ◌∷◌, ◌++◌, Option, Some, None, Result, Ok, Err, codes}
 use Rattle.scram_types.specs.declared.flights.Flown.{Flown}
 use Rattle.scram_types.specs.declared.flights.Report.{Report}
 use Rattle.scram_types.specs.declared.flights.Row.{Row}
@@ -30,7 +30,15 @@ use Rattle.trace_props.specs.Properties.{HoldsAll}
 use Rattle.trace_text.specs.declared.trace_reading.TraceFault.{TraceFault}
 use Rattle.trace_text.specs.Text.{text_of}
 use Rattle.trace_text.specs.TraceReading.{trace_of}
-use Rattle.scram_cli.specs.declared.status.TheConstants.{ANSWERED, BROKEN_PROPERTY, BROKEN_SCRIPT, BROKEN_SPECIFICATION, BROKEN_TRACE, BROKEN_USAGE, NOT_ACCEPTED, UNASSUMED_SCRIPT, UNREAD_FILE}
+use Rattle.schedule_replay.specs.declared.limits.TheConstants.{MAX_SCHEDULE_BYTES}
+use Rattle.schedule_replay.specs.declared.replays.ReplayError.{ReplayError}
+use Rattle.schedule_replay.specs.declared.replays.ReplayError.TheVariants as replay_error
+use Rattle.schedule_replay.specs.declared.rule.TheConstants as schedule_rule
+use Rattle.schedule_replay.specs.declared.schedule_reading.ScheduleFault.{ScheduleFault}
+use Rattle.schedule_replay.specs.Reading.{schedule_of}
+use Rattle.schedule_replay.specs.Refusals.{fault_line, illegal_line, short_line}
+use Rattle.schedule_replay.specs.Replaying.{AnswersReplay}
+use Rattle.scram_cli.specs.declared.status.TheConstants.{ANSWERED, BROKEN_PROPERTY, BROKEN_SCHEDULE, BROKEN_SCRIPT, BROKEN_SPECIFICATION, BROKEN_TRACE, BROKEN_USAGE, NOT_ACCEPTED, UNASSUMED_SCRIPT, UNREAD_FILE, WANTING_MEMORY}
 use Rattle.scram_cli.specs.declared.forms.Form.{Form}
 use Rattle.scram_cli.specs.declared.forms.Form.TheVariants.{Specified, Generated, Told}
 use Rattle.scram_cli.specs.declared.flights.FlightText.{FlightText}
@@ -38,7 +46,7 @@ use Rattle.scram_cli.specs.declared.flights.FlightText.TheVariants.{Trace, Summa
 use Rattle.scram_cli.specs.declared.forms.Purpose.{Purpose}
 use Rattle.scram_cli.specs.declared.forms.Purpose.TheVariants.{Print, Fly}
 use Rattle.scram_cli.specs.declared.forms.Request.{Request}
-use Rattle.scram_cli.specs.declared.forms.Request.TheVariants.{Run, Check, Bounds, Props}
+use Rattle.scram_cli.specs.declared.forms.Request.TheVariants.{Run, Check, Bounds, Replay, Props}
 use Rattle.scram_types.specs.declared.limits.TheConstants.{MAX_SCRIPT_BYTES, MAX_SPECIFICATION_BYTES, MAX_TRACE_BYTES}
 use Rattle.scram_cli.specs.Bounds.{bounds_text}
 use Rattle.scram_cli.specs.Lines.{accepted_line, broken_line, fly_line, holds_line, outside_line, script_line, shown_line, specification_line, trace_line}
@@ -152,12 +160,54 @@ long_script = (BROKEN_SCRIPT, script_line (record { rule = script_rule.TOO_LONG;
 abbrev pub long_trace : ℕ × List ℕ
 long_trace = (BROKEN_TRACE, trace_line (record { line = 0; rule = trace_rule.WRONG_END }))
 
+-- The answer to a schedule that is too long.
+abbrev pub long_schedule : ℕ × List ℕ
+long_schedule = (BROKEN_SCHEDULE, fault_line (record { line = 0; rule = schedule_rule.TOO_LONG }))
+
+-- The answer where a list was flown as a schedule, by what came of it; where it flew to the end, that is the answer of the flight on
+-- one thread.
+abbrev pub replay_answer : Parts → ScriptParts → Result Flown ReplayError → ℕ × List ℕ
+replay_answer spec script (Ok flown) = (ANSWERED, flight_text Trace spec script)
+replay_answer spec script (Err (replay_error.Illegal index illegal)) = (BROKEN_SCHEDULE, illegal_line spec index illegal)
+replay_answer spec script (Err (replay_error.Short events next)) = (BROKEN_SCHEDULE, short_line spec events next)
+replay_answer spec script (Err replay_error.NoMemory) = (WANTING_MEMORY, memory_line)
+
+-- Status and text tell what comes of a list that is flown as a schedule; there is one such answer.
+pub record IsReplayAnswer (spec : Parts) (script : ScriptParts) (list : List ℕ) (status : ℕ) (text : List ℕ) : Type 0 where
+  pub flown : Result Flown ReplayError
+  pub answers : AnswersReplay spec script list flown
+  pub had_memory : flown ≢ Err replay_error.NoMemory
+  pub gives : Gives (replay_answer spec script flown) status text
+
+-- the answer where the specification is accepted, by how the script leaves the failure assumption
+abbrev pub ReplayWithin : Parts → ScriptParts → List ℕ → Option Outside → ℕ → List ℕ → Type 0
+ReplayWithin spec script list (Some outside) = Gives (UNASSUMED_SCRIPT, outside_line outside)
+ReplayWithin spec script list None = IsReplayAnswer spec script list
+
+-- the answer of a list of codes, by why the specification is not accepted
+abbrev pub ListAnswers : Parts → ScriptParts → List ℕ → Option Shown → ℕ → List ℕ → Type 0
+ListAnswers spec script list (Some shown) = Gives (NOT_ACCEPTED, shown_line spec shown)
+ListAnswers spec script list None = ReplayWithin spec script list (first_outside spec script)
+
+-- the answer to `replay` where all files are read, by what the bytes of the schedule are
+abbrev pub ScheduleAnswers : Parts → ScriptParts → Result (List ℕ) ScheduleFault → ℕ → List ℕ → Type 0
+ScheduleAnswers spec script (Err fault) = Gives (BROKEN_SCHEDULE, fault_line fault)
+ScheduleAnswers spec script (Ok list) = ListAnswers spec script list (first_refusal spec)
+
+-- the answer to `replay`, by what the bytes of the script are; the schedule is asked for where they are one
+abbrev pub ReplayAnswers : List ℕ → Parts → Result ScriptParts DocFault → Answer
+ReplayAnswers schedule spec (Err fault) = WithoutFiles (Gives (BROKEN_SCRIPT, script_line fault))
+ReplayAnswers schedule spec (Ok script) =
+    AnswersFile MAX_SCHEDULE_BYTES long_schedule schedule (λ (bytes : List ℕ). WithoutFiles (ScheduleAnswers spec script (schedule_of spec bytes)))
+
 -- the answer to what is asked of a specification that is read
 abbrev pub RequestAnswers : Request (List ℕ) → Parts → Answer
 RequestAnswers (Run script) spec =
     AnswersFile MAX_SCRIPT_BYTES long_script script (λ (bytes : List ℕ). WithoutFiles (Gives (script_answer spec (script_of spec bytes))))
 RequestAnswers Check spec = WithoutFiles (Gives (check_answer spec (first_refusal spec)))
 RequestAnswers Bounds spec = WithoutFiles (Gives (bounds_answer spec (state_refusal spec)))
+RequestAnswers (Replay script schedule) spec =
+    AnswersFile MAX_SCRIPT_BYTES long_script script (λ (bytes : List ℕ). ReplayAnswers schedule spec (script_of spec bytes))
 RequestAnswers (Props trace) spec =
     AnswersFile MAX_TRACE_BYTES long_trace trace (λ (bytes : List ℕ). WithoutFiles (TraceAnswers spec (trace_of spec bytes)))
 

@@ -14,6 +14,9 @@ use Rattle.coverage_check.specs.Acceptance.{Accepts, first_refusal}
 use Rattle.coverage_check.specs.Missions.{IsMission, mission_of}
 use Rattle.frame_model.specs.Flights.{reports_of, rows_of}
 use Rattle.trace_props.specs.Properties.{HoldsAll}
+use Rattle.fail_stop.specs.ScriptFlights.{flight_of}
+use Rattle.schedule_replay.specs.Reading.{schedule_of}
+use Rattle.schedule_replay.specs.Replaying.{IsWholeSchedule}
 use Rattle.scram_cli.specs.declared.status.TheConstants.{ANSWERED}
 use Rattle.scram_cli.specs.declared.forms.Form.{Form}
 use Rattle.scram_cli.specs.declared.forms.Form.TheVariants.{Specified, Generated, Told}
@@ -22,7 +25,7 @@ use Rattle.scram_cli.specs.declared.flights.FlightText.TheVariants.{Trace, Summa
 use Rattle.scram_cli.specs.declared.forms.Purpose.{Purpose}
 use Rattle.scram_cli.specs.declared.forms.Purpose.TheVariants.{Print, Fly}
 use Rattle.scram_cli.specs.declared.forms.Request.{Request}
-use Rattle.scram_cli.specs.declared.forms.Request.TheVariants.{Run, Check, Bounds, Props}
+use Rattle.scram_cli.specs.declared.forms.Request.TheVariants.{Run, Check, Bounds, Replay, Props}
 use Rattle.scram_cli.specs.Answers.{Answer, Gives, IsGenerated, flight_answer, flight_text}
 use Rattle.scram_cli.specs.Bounds.{bounds_text}
 use Rattle.scram_cli.specs.Lines.{accepted_line, holds_line}
@@ -43,6 +46,19 @@ pub record AssuresScript (spec : Parts) (name : List ℕ) (reads : History) (tex
   pub is : script_of spec bytes ≡ Ok script
   pub assured : IsAssured Trace spec script text
 
+-- The files of these two names were read, and no other: the bytes of the first are a script, and the mission of it is assured; those of
+-- the second are a schedule of it at whose end the flight is over.
+pub record AssuresReplay (spec : Parts) (name schedule : List ℕ) (reads : History) (text : List ℕ) : Type 0 where
+  pub bytes : List ℕ
+  pub lines : List ℕ
+  pub read : reads ≡ (name, bytes) ∷ (schedule, lines) ∷ []
+  pub script : ScriptParts
+  pub is : script_of spec bytes ≡ Ok script
+  pub list : List ℕ
+  pub is_list : schedule_of spec lines ≡ Ok list
+  pub whole : IsWholeSchedule (flight_of spec script) list
+  pub assured : IsAssured Trace spec script text
+
 -- The file of this name alone was read, its bytes are a trace, and the five properties hold of it.
 pub record AssuresTrace (spec : Parts) (name : List ℕ) (reads : History) (text : List ℕ) : Type 0 where
   pub bytes : List ℕ
@@ -57,6 +73,7 @@ abbrev pub AssuresRequest : Parts → Request (List ℕ) → History → List �
 AssuresRequest spec (Run script) reads text = AssuresScript spec script reads text
 AssuresRequest spec Check reads text = (reads ≡ []) × Accepts spec × (text ≡ accepted_line spec)
 AssuresRequest spec Bounds reads text = (reads ≡ []) × (text ≡ bounds_text spec)
+AssuresRequest spec (Replay script schedule) reads text = AssuresReplay spec script schedule reads text
 AssuresRequest spec (Props trace) reads text = AssuresTrace spec trace reads text
 
 -- The same of the specification that the bytes are which were read first, of the file of this name.

@@ -8,7 +8,7 @@ use Rattle.scram_cli.specs.declared.pages.Page.TheVariants.{Help, Version}
 use Rattle.scram_cli.specs.declared.forms.Purpose.{Purpose}
 use Rattle.scram_cli.specs.declared.forms.Purpose.TheVariants.{Print, Fly}
 use Rattle.scram_cli.specs.declared.forms.Request.{Request}
-use Rattle.scram_cli.specs.declared.forms.Request.TheVariants.{Run, Check, Bounds, Props}
+use Rattle.scram_cli.specs.declared.forms.Request.TheVariants.{Run, Check, Bounds, Replay, Props}
 
 -- The form for the mission of a number up to 999,999, which the word has in decimal.
 abbrev pub mission_form : Purpose → List ℕ → Option (Form (List ℕ))
@@ -38,19 +38,25 @@ form_of_three command specification further =
     if bytes_eq command (codes "run") then Some (Specified specification (Run further))
     else (if bytes_eq command (codes "props") then Some (Specified specification (Props further)) else None)
 
+-- the form of four words, if they have one
+abbrev pub form_of_four : List ℕ → List ℕ → List ℕ → List ℕ → Option (Form (List ℕ))
+form_of_four command specification script schedule = if bytes_eq command (codes "replay") then Some (Specified specification (Replay script schedule)) else None
+
 -- the form that words have, if they have one; a file stands in it by its name
 abbrev pub form_of : List (List ℕ) → Option (Form (List ℕ))
 form_of [] = None
 form_of (command ∷ []) = form_of_one command
 form_of (command ∷ first ∷ []) = form_of_two command first
 form_of (command ∷ first ∷ second ∷ []) = form_of_three command first second
-form_of (command ∷ first ∷ second ∷ third ∷ words) = None
+form_of (command ∷ first ∷ second ∷ third ∷ []) = form_of_four command first second third
+form_of (command ∷ first ∷ second ∷ third ∷ fourth ∷ words) = None
 
 -- what names the files, replaced
 abbrev pub with_name : {A B : Type 0} → (A → B) → Request A → Request B
 with_name name (Run script) = Run (name script)
 with_name name Check = Check
 with_name name Bounds = Bounds
+with_name name (Replay script schedule) = Replay (name script) (name schedule)
 with_name name (Props trace) = Props (name trace)
 
 -- the same of a form
@@ -64,6 +70,7 @@ abbrev pub further_files : Request (List ℕ) → List (List ℕ)
 further_files (Run script) = script ∷ []
 further_files Check = []
 further_files Bounds = []
+further_files (Replay script schedule) = script ∷ schedule ∷ []
 further_files (Props trace) = trace ∷ []
 
 -- the files that a form names, in the order in which they are read

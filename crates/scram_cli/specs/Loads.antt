@@ -1,5 +1,5 @@
 -- What the loading of a file says of the file and of its bytes.
-use Rattle.std.specs.Prelude.{◌≡◌, ◌⊎◌, ◌<◌, ◌^◌, ℕ, List, [], ◌∷◌, length, Ok, Err, ⊤}
+use Rattle.std.specs.Prelude.{◌≡◌, ◌⊎◌, ◌<◌, ◌^◌, ℕ, List, [], ◌∷◌, Vec, length, Ok, Err, ⊤}
 use Rattle.scram_types.specs.declared.flights.Flown.{Flown}
 use Rattle.scram_types.specs.Scripts.{ScriptParts}
 use Rattle.scram_types.specs.Specification.{Parts}
@@ -11,6 +11,9 @@ use Rattle.reconf_spec.specs.declared.fault.SpecFault.{SpecFault}
 use Rattle.reconf_spec.specs.declared.fault.SpecError.TheVariants.{Fault}
 use Rattle.reconf_spec.specs.Answers.{ShowsCycle}
 use Rattle.reconf_spec.specs.Documents.{spec_of, unranked_of}
+use Rattle.schedule_replay.specs.declared.schedule_reading.ScheduleFault.{ScheduleFault}
+use Rattle.schedule_replay.specs.Events.{AreCodes}
+use Rattle.schedule_replay.specs.Reading.{schedule_of}
 use Rattle.trace_text.specs.declared.trace_reading.TraceFault.{TraceFault}
 use Rattle.trace_text.specs.TraceReading.{trace_of}
 use Rattle.scram_cli.specs.declared.loads.Loaded.{Loaded}
@@ -75,3 +78,19 @@ IsCountedWhereGot (Refused fault) = ⊤
 IsCountedWhereGot TooLong = ⊤
 IsCountedWhereGot Failed = ⊤
 IsCountedWhereGot NoMemory = ⊤
+
+-- the bytes are this schedule for a specification, or are refused with this fault
+abbrev pub ReadsAsSchedule : {A : Type 0} → Parts → Vec ℕ A → List ℕ → Type 0
+ReadsAsSchedule spec list bytes = schedule_of spec bytes ≡ Ok list.items
+
+-- The bytes are refused as a schedule with this fault.
+abbrev pub RefusesAsSchedule : Parts → ScheduleFault → List ℕ → Type 0
+RefusesAsSchedule spec fault bytes = schedule_of spec bytes ≡ Err fault
+
+-- a schedule that was read has codes of events that the specification has
+abbrev pub AreCodesWhereGot : {A : Type 0} → Parts → Loaded (Vec ℕ A) ScheduleFault → Type 0
+AreCodesWhereGot spec (Got list) = AreCodes spec list.items
+AreCodesWhereGot spec (Refused fault) = ⊤
+AreCodesWhereGot spec TooLong = ⊤
+AreCodesWhereGot spec Failed = ⊤
+AreCodesWhereGot spec NoMemory = ⊤

@@ -25,6 +25,7 @@ use crate::refusals::{
     refuse_long_script, refuse_long_specification, refuse_long_trace, refuse_memory, refuse_read,
     refuse_usage, tell, tell_line,
 };
+use crate::replays::answer_replay;
 use crate::status::{
     ANSWERED, BROKEN_SCRIPT, BROKEN_SPECIFICATION, BROKEN_TRACE, Status, UNWRITTEN_OUTPUT,
 };
@@ -37,11 +38,12 @@ use std::thread::Threads;
 
 /// Does what the words after the program's name ask for: `run SPEC SCRIPT` flies a mission, `check SPEC`
 /// tells whether a specification is accepted, `bounds SPEC` which bounds it has to give, `props SPEC TRACE`
-/// judges a trace, by any specification, `gen N` prints the mission of a number, and `fly N` flies it; `--help` and
-/// `--version` tell of the program. What is printed has gone out when the call ends, or the status is 4.
+/// judges a trace, by any specification, `replay SPEC SCRIPT SCHEDULE` flies a mission by a schedule, `gen N` prints
+/// the mission of a number, and `fly N` flies it; `--help` and `--version` tell of the program. What is printed has
+/// gone out when the call ends, or the status is 4.
 ///
-/// A mission is flown with a thread for each processor. `racks` are the boxes of the processors, and `spares` those of
-/// processors that restart.
+/// A mission is flown with a thread for each processor, and by a schedule without threads. `racks` are the boxes of the
+/// processors, and `spares` those of processors that restart.
 pub fn scram<R: AllocGlobal + Threads + Wait + Sync, F: Files, K: Sink>(
     rt: &R,
     words: &[String],
@@ -188,6 +190,9 @@ fn answer_read<R: AllocGlobal + Threads + Wait + Sync, F: Files, K: Sink>(
         Request::Run { script } => run(rt, spec, script, files, out, boxes),
         Request::Check => check(rt.alloc(), spec, out),
         Request::Bounds => tell_bounds(rt.alloc(), &spec, out),
+        Request::Replay { script, schedule } => {
+            answer_replay(rt.alloc(), spec, script, schedule, files, out, boxes)
+        }
         Request::Props { trace } => props(rt.alloc(), &spec, trace, files, out),
     }
 }

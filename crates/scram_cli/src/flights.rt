@@ -1,6 +1,6 @@
 //! What is answered of a specification, and of a script for it, once both are read.
 
-ghost use Rattle.std.specs.Prelude.{◌≡◌, ◌≢◌, ◌<◌, ◌≤◌, ◌^◌, IfOk, length};
+ghost use Rattle.std.specs.Prelude.{◌≡◌, ◌≢◌, ◌<◌, ◌^◌, IfOk, length};
 ghost use Rattle.app_model.specs.Racks.{RacksFit};
 ghost use Rattle.coverage_check.specs.Acceptance.{Accepts, first_refusal};
 ghost use Rattle.fault_script.specs.Assumption.{first_outside};
@@ -115,14 +115,8 @@ fn fly_mission<R: AllocGlobal + Threads + Wait + Sync, K: Sink>(
     ensures write { result.code ≡ UNWRITTEN_OUTPUT → Rose (K.state out.old).faults (K.state out.new).faults }
     ensures read { result.code ≢ UNREAD_FILE }
 {
-    mission.holds();
     match fly_on_threads(rt, mission, boxes) {
-        Ok(flown) => match put_flown(out, mission.spec(), &flown, told) {
-            Ok(()) => Status { code: ANSWERED },
-            Err(_) => Status {
-                code: UNWRITTEN_OUTPUT,
-            },
-        },
+        Ok(flown) => tell_flown(out, mission, &flown, told),
         Err(_) => refuse_memory(out),
     }
 }
@@ -137,11 +131,31 @@ fn fly_on_threads<R: AllocGlobal + Threads + Wait + Sync>(
     requires spares { RacksFit (λ b. kind_of (b.vtable, b.value)) (λ r. r.boxes.items) boxes.spares.items }
     ensures rows { IfOk result (λ flown. flown.rows ≡ rows_of mission.now.spec mission.now.script) }
     ensures reports { IfOk result (λ flown. flown.reports ≡ reports_of mission.now.spec mission.now.script) }
-    ensures count { IfOk result (λ flown. length flown.rows ≡ mission.now.script.frames) }
-    ensures few { IfOk result (λ flown. length flown.reports ≤ length flown.rows) }
 {
     let flight = WordFlight::open(rt.alloc(), mission, boxes.racks, boxes.spares)?;
     Ok(flight.run(rt).flown)
+}
+
+/// Puts what is told of a mission that was flown.
+pub fn tell_flown<K: Sink>(
+    out: &mut K,
+    mission: &Mission,
+    flown: &Flown,
+    told: FlightText,
+) -> Status
+    requires rows { flown.now.rows ≡ rows_of mission.now.spec mission.now.script }
+    requires reports { flown.now.reports ≡ reports_of mission.now.spec mission.now.script }
+    ensures tells { Tells (Gives (ANSWERED, flight_text told mission.now.spec mission.now.script)) (K.state out.old) (K.state out.new) result.code }
+    ensures write { result.code ≡ UNWRITTEN_OUTPUT → Rose (K.state out.old).faults (K.state out.new).faults }
+    ensures read { result.code ≢ UNREAD_FILE }
+{
+    mission.holds();
+    match put_flown(out, mission.spec(), flown, told) {
+        Ok(()) => Status { code: ANSWERED },
+        Err(_) => Status {
+            code: UNWRITTEN_OUTPUT,
+        },
+    }
 }
 
 fn put_flown<K: Sink>(

@@ -1,7 +1,7 @@
 //! The forms of the command.
 
 ghost use Rattle.std.specs.Prelude.{◌≡◌, map, string_bytes, option_map};
-ghost use Rattle.scram_cli.specs.Forms.{form_of, form_of_generated, form_of_one, form_of_two, form_of_three, mission_form, with_names};
+ghost use Rattle.scram_cli.specs.Forms.{form_of, form_of_four, form_of_generated, form_of_one, form_of_two, form_of_three, mission_form, with_names};
 
 use crate::pages::Page;
 use trace_text::numbers::read_number;
@@ -46,6 +46,8 @@ pub enum Request<N> {
     Check,
     /// Which bounds it has to give.
     Bounds,
+    /// To fly the script in a file by the schedule in another.
+    Replay { script: N, schedule: N },
     /// Whether the properties of reconfigurations hold of the trace in a file.
     Props { trace: N },
 }
@@ -61,6 +63,12 @@ pub fn form_of(words: &[String]) -> Option<Form<&str>>
             command.as_str(),
             specification.as_str(),
             further.as_str(),
+        ),
+        [command, specification, script, schedule] => form_of_four(
+            command.as_str(),
+            specification.as_str(),
+            script.as_str(),
+            schedule.as_str(),
         ),
         _ => None,
     }
@@ -138,6 +146,24 @@ fn form_of_three<'a>(
         Some(Form::Specified {
             specification,
             request: Request::Props { trace: further },
+        })
+    } else {
+        None
+    }
+}
+
+fn form_of_four<'a>(
+    command: &str,
+    specification: &'a str,
+    script: &'a str,
+    schedule: &'a str,
+) -> Option<Form<&'a str>>
+    ensures { option_map (with_names (λ name. name.now)) result ≡ form_of_four command.now specification.now script.now schedule.now }
+{
+    if command == "replay" {
+        Some(Form::Specified {
+            specification,
+            request: Request::Replay { script, schedule },
         })
     } else {
         None

@@ -15,6 +15,7 @@ mod loads;
 mod pages;
 mod program;
 mod refusals;
+mod replays;
 pub mod status;
 mod summaries;
 

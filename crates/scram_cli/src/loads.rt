@@ -1,10 +1,12 @@
 //! Reading the files that the words name.
 
 ghost use Rattle.scram_io.specs.Outside.{StaysSteady};
-ghost use Rattle.scram_cli.specs.Loads.{FitsWhereGot, IsCountedWhereGot, Loads, ReadsAsScript, ReadsAsSpec, ReadsAsTrace, RefusesAsScript, RefusesAsSpec, RefusesAsTrace};
+ghost use Rattle.scram_cli.specs.Loads.{AreCodesWhereGot, FitsWhereGot, IsCountedWhereGot, Loads, ReadsAsSchedule, ReadsAsScript, ReadsAsSpec, ReadsAsTrace, RefusesAsSchedule, RefusesAsScript, RefusesAsSpec, RefusesAsTrace};
 
 use fault_script::{ScriptError, ScriptFault, read_script};
 use reconf_spec::{SpecError, SpecFault, read_spec};
+use schedule_replay::limits::MAX_SCHEDULE_BYTES;
+use schedule_replay::{ScheduleError, ScheduleFault, read_schedule};
 use scram_io::{Files, ReadFault};
 use scram_types::limits::{MAX_SCRIPT_BYTES, MAX_SPECIFICATION_BYTES, MAX_TRACE_BYTES};
 use scram_types::{Flown, Script, Spec};
@@ -59,6 +61,29 @@ pub fn load_script<F: Files>(
             Ok(script) => Loaded::Got(script),
             Err(ScriptError::Fault(fault)) => Loaded::Refused(fault),
             Err(ScriptError::NoMemory) => Loaded::NoMemory,
+        },
+        Err(ReadFault::Failed) => Loaded::Failed,
+        Err(ReadFault::TooLong) => Loaded::TooLong,
+        Err(ReadFault::NoMemory) => Loaded::NoMemory,
+    }
+}
+
+/// Loads a schedule for a specification: the codes of its events.
+pub fn load_schedule<F: Files>(
+    alloc: Global,
+    spec: &Spec,
+    name: &str,
+    files: &mut F,
+) -> Loaded<Vec<u32>, ScheduleFault>
+    ensures loads { Loads (ReadsAsSchedule spec.now) (RefusesAsSchedule spec.now) MAX_SCHEDULE_BYTES name.now (F.state files.old) (F.state files.new) result }
+    ensures known { AreCodesWhereGot spec.now result }
+    ensures steady { StaysSteady (F.state files.old) (F.state files.new) name.now }
+{
+    match files.read(alloc, name, MAX_SCHEDULE_BYTES) {
+        Ok(bytes) => match read_schedule(alloc, &bytes, spec) {
+            Ok(list) => Loaded::Got(list),
+            Err(ScheduleError::Fault(fault)) => Loaded::Refused(fault),
+            Err(ScheduleError::NoMemory) => Loaded::NoMemory,
         },
         Err(ReadFault::Failed) => Loaded::Failed,
         Err(ReadFault::TooLong) => Loaded::TooLong,

@@ -14,14 +14,15 @@ pub enum Page {
 
 /// The forms of the command and its statuses, as docs/FORMATS.md has them.
 pub const HELP: &str = concat!(
-    "scram run SPEC SCRIPT   flies a mission and prints its trace\n",
-    "scram check SPEC        tells whether a specification is accepted\n",
-    "scram bounds SPEC       tells which bounds a specification has to give\n",
-    "scram props SPEC TRACE  judges a finished trace\n",
-    "scram gen N             prints the mission of the number N, 0 to 999999\n",
-    "scram fly N             flies that mission and tells of it in a line\n",
-    "scram --help            prints these lines\n",
-    "scram --version         prints the version\n",
+    "scram run SPEC SCRIPT              flies a mission and prints its trace\n",
+    "scram check SPEC                   tells whether a specification is accepted\n",
+    "scram bounds SPEC                  tells which bounds a specification has to give\n",
+    "scram props SPEC TRACE             judges a finished trace\n",
+    "scram replay SPEC SCRIPT SCHEDULE  flies a mission by a schedule and prints its trace\n",
+    "scram gen N                        prints the mission of the number N, 0 to 999999\n",
+    "scram fly N                        flies that mission and tells of it in a line\n",
+    "scram --help                       prints these lines\n",
+    "scram --version                    prints the version\n",
     "\n",
     "status 0   what was asked for is done\n",
     "status 2   the words have no form\n",
@@ -34,6 +35,7 @@ pub const HELP: &str = concat!(
     "status 9   memory is wanting\n",
     "status 10  the trace breaks a property of reconfigurations\n",
     "status 11  the trace breaks a rule of traces\n",
+    "status 12  the schedule breaks a rule of schedules, or does not fly the mission to its end\n",
     "\n",
     "docs/GUIDE.md tells how to write a mission, docs/FORMATS.md what each line means.\n",
 );

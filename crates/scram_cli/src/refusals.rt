@@ -2,18 +2,20 @@
 
 ghost use Rattle.std.specs.Prelude.{◌≡◌, ◌≢◌, ◌⊎◌};
 ghost use Rattle.scram_io.specs.Outside.{Rose};
-ghost use Rattle.scram_cli.specs.Answers.{Gives, long_script, long_specification, long_trace, memory_line, read_line, usage_line};
+ghost use Rattle.scram_cli.specs.Answers.{Gives, long_schedule, long_script, long_specification, long_trace, memory_line, read_line, usage_line};
 ghost use Rattle.scram_cli.specs.Endings.{IsTaken, Tells};
 ghost use Rattle.scram_cli.specs.declared.status.TheConstants.{ANSWERED, BROKEN_USAGE, UNREAD_FILE, UNWRITTEN_OUTPUT, WANTING_MEMORY};
 
 use crate::lines::{make_script_line, make_specification_line, make_trace_line};
 use crate::status::{
-    BROKEN_SCRIPT, BROKEN_SPECIFICATION, BROKEN_TRACE, BROKEN_USAGE, Status, UNREAD_FILE,
-    UNWRITTEN_OUTPUT, WANTING_MEMORY,
+    BROKEN_SCHEDULE, BROKEN_SCRIPT, BROKEN_SPECIFICATION, BROKEN_TRACE, BROKEN_USAGE, Status,
+    UNREAD_FILE, UNWRITTEN_OUTPUT, WANTING_MEMORY,
 };
 use arrayvec::ArrayVec;
 use fault_script::ScriptFault;
 use reconf_spec::SpecFault;
+use schedule_replay::ScheduleFault;
+use schedule_replay::refusals::make_fault_line;
 use scram_doc::Path;
 use scram_io::Sink;
 use std::alloc::Global;
@@ -98,6 +100,19 @@ pub fn refuse_long_script<K: Sink>(out: &mut K) -> Status
 {
     let fault = ScriptFault::new(fault_script::rule::TOO_LONG, &Path::root());
     tell_line(out, BROKEN_SCRIPT, &make_script_line(&fault))
+}
+
+/// Puts the line that a schedule has too many bytes.
+pub fn refuse_long_schedule<K: Sink>(out: &mut K) -> Status
+    ensures tells { Tells (Gives long_schedule) (K.state out.old) (K.state out.new) result.code }
+    ensures write { result.code ≡ UNWRITTEN_OUTPUT → Rose (K.state out.old).faults (K.state out.new).faults }
+    ensures refused { result.code ≢ ANSWERED }
+{
+    let fault = ScheduleFault {
+        line: 0,
+        rule: schedule_replay::rule::TOO_LONG,
+    };
+    tell_line(out, BROKEN_SCHEDULE, &make_fault_line(fault))
 }
 
 /// Puts the line that a trace has too many bytes.

@@ -38,3 +38,6 @@ pub const BROKEN_PROPERTY: u8 = 10;
 
 /// The trace's file breaks a rule of traces.
 pub const BROKEN_TRACE: u8 = 11;
+
+/// The schedule's file breaks a rule of schedules, or the schedule does not fly to the end.
+pub const BROKEN_SCHEDULE: u8 = 12;

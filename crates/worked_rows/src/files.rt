@@ -1,8 +1,8 @@
 //! The files of a row. The first is a file of the data folder, changed as each line `~ PIECE => OTHER PIECE` says. The
-//! second has the lines that stand after `= `, and is not there where no line begins with `=`. Of lines `! read N`, `! put N` and `! room N`
-//! the first two name a call that fails, from 0, and the last the bytes that the sink has room for. Lines
-//! `! first N` and `! second N` let a file have so many bytes, with spaces at its end, and `! plain N` gives processor N
-//! the autopilot that remembers nothing.
+//! second has the lines that stand after `= `, and is not there where no line begins with `=`; the third likewise after
+//! `- `. Of lines `! read N`, `! put N` and `! room N` the first two name a call that fails, from 0, and the last the
+//! bytes that the sink has room for. Lines `! first N` and `! second N` let a file have so many bytes, with spaces at its
+//! end, and `! plain N` gives processor N the autopilot that remembers nothing.
 
 use scram_io::MemFiles;
 use std::alloc::Global;
@@ -28,10 +28,11 @@ pub fn make_files(rt: &HostRuntime, words: &[String], row: &str) -> io::Result<M
                 let text = fs::read_to_string(rt, word.as_str())?;
                 Some(pad(rt.alloc(), change(rt.alloc(), text, row)?, row, "! first ")?)
             }
-            2 => match second_file(rt.alloc(), row)? {
+            2 => match listed_file(rt.alloc(), row, "=")? {
                 Some(text) => Some(pad(rt.alloc(), text, row, "! second ")?),
                 None => None,
             },
+            3 => listed_file(rt.alloc(), row, "-")?,
             _ => None,
         };
         if let Some(text) = text {
@@ -67,12 +68,14 @@ fn pad(alloc: Global, text: String, row: &str, words: &str) -> io::Result<String
     }
 }
 
-fn second_file(alloc: Global, row: &str) -> io::Result<Option<String>> {
+/// The file of the lines that begin with a mark, each without it and the space behind it. A mark alone is no line of the
+/// file, but has it be there.
+fn listed_file(alloc: Global, row: &str, mark: &str) -> io::Result<Option<String>> {
     let mut file = None;
     for line in row.split('\n') {
-        if line.starts_with("=") {
+        if let Some(rest) = line.strip_prefix(mark) {
             let text = file.unwrap_or_else(|| String::new(alloc));
-            file = Some(append_line(alloc, text, line.strip_prefix("= "))?);
+            file = Some(append_line(alloc, text, rest.strip_prefix(" "))?);
         }
     }
     Ok(file)
