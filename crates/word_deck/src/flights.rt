@@ -199,12 +199,13 @@ fn fill(
     }
 }
 
-const SPINS: u32 = 2_000;
+// The least of the numbers that were measured (docs/PERFORMANCE.md) by which no thread sleeps while each has a processor.
+const TURNS: u32 = 10_000;
 
 // How often a rest looks before it sleeps: not at all on a machine of one processor.
 fn turns_of<R: Threads>(rt: &R) -> u32 {
     match thread::available_parallelism(rt) {
-        Ok(count) if count.get() > 1 => SPINS,
+        Ok(count) if count.get() > 1 => TURNS,
         _ => 0,
     }
 }
