@@ -60,8 +60,16 @@ struct Words<const SEQCST: bool> {
 }
 
 impl<const SEQCST: bool> Words<SEQCST> {
-    const LOAD: Ordering = if SEQCST { Ordering::SeqCst } else { Ordering::Acquire };
-    const STORE: Ordering = if SEQCST { Ordering::SeqCst } else { Ordering::Release };
+    const LOAD: Ordering = if SEQCST {
+        Ordering::SeqCst
+    } else {
+        Ordering::Acquire
+    };
+    const STORE: Ordering = if SEQCST {
+        Ordering::SeqCst
+    } else {
+        Ordering::Release
+    };
 
     fn new(flight: &Flight) -> Self {
         let own = |words: usize| words.next_multiple_of(flight.line / 8);
@@ -69,8 +77,16 @@ impl<const SEQCST: bool> Words<SEQCST> {
         let processors = kernel + own(KERNEL_WORDS);
         let apart = own(2) + 2 * bank;
         let count = processors + flight.processors * apart;
-        let blocks = (0..count.div_ceil(ALL_LINE / 8)).map(|_| Block(Default::default())).collect();
-        let words = Words { blocks, kernel, processors, apart, bank };
+        let blocks = (0..count.div_ceil(ALL_LINE / 8))
+            .map(|_| Block(Default::default()))
+            .collect();
+        let words = Words {
+            blocks,
+            kernel,
+            processors,
+            apart,
+            bank,
+        };
         words.word(0).store(1, Self::STORE);
         words
     }
@@ -107,7 +123,11 @@ impl<const SEQCST: bool> Words<SEQCST> {
     #[inline(never)]
     fn look(&self, p: usize, frame: u64, sum: u64) -> u64 {
         let mark = self.load(self.mark(p));
-        let bank = if mark / 2 <= frame { mark % 2 } else { 1 - mark % 2 };
+        let bank = if mark / 2 <= frame {
+            mark % 2
+        } else {
+            1 - mark % 2
+        };
         self.sum(self.bank(p, bank), WIDTH, sum)
     }
 
@@ -132,7 +152,7 @@ impl<const SEQCST: bool> Words<SEQCST> {
         if !halts {
             self.commit(p, frame, sum);
         }
-        self.store(self.end(p), if halts { 2 * frame + 1 } else { 2 * (frame + 1) });
+        self.store(self.end(p), 2 * frame + if halts { 1 } else { 2 });
         !halts
     }
 
@@ -166,8 +186,8 @@ impl<const SEQCST: bool> Words<SEQCST> {
     fn fly_in_turn(&self, flight: &Flight) -> u64 {
         let (mut sum, mut lives) = (0, vec![true; flight.processors]);
         for frame in 0..flight.frames {
-            for p in 0..flight.processors {
-                lives[p] = lives[p] && self.fly(flight, p, frame);
+            for (p, lives) in lives.iter_mut().enumerate() {
+                *lives = *lives && self.fly(flight, p, frame);
             }
             for p in 0..flight.processors {
                 sum = self.note(p, sum);
@@ -204,7 +224,12 @@ impl<const SEQCST: bool> Words<SEQCST> {
     fn fly_on_threads(&self, flight: &Flight) -> u64 {
         let kernel = &thread::current();
         thread::scope(|scope| {
-            let start = |p| scope.spawn(move || self.fly_processor(flight, p, kernel)).thread().clone();
+            let start = |p| {
+                scope
+                    .spawn(move || self.fly_processor(flight, p, kernel))
+                    .thread()
+                    .clone()
+            };
             let processors: Vec<Thread> = (0..flight.processors).map(start).collect();
             self.fly_kernel(flight, &processors)
         })
@@ -264,16 +289,40 @@ fn cost_of(step: impl Fn()) -> f64 {
 
 fn print_costs() {
     let words: Vec<AtomicU64> = (0..WIDTH as u64).map(AtomicU64::new).collect();
-    let each = |step: &dyn Fn(&AtomicU64)| cost_of(|| black_box(&words).iter().for_each(step)) / WIDTH as f64;
+    let each = |step: &dyn Fn(&AtomicU64)| {
+        cost_of(|| black_box(&words).iter().for_each(step)) / WIDTH as f64
+    };
     let (condvar, own) = (Condvar::new(), thread::current());
     for (what, cost) in [
-        ("a load that acquires", each(&|word| _ = black_box(word.load(Ordering::Acquire)))),
-        ("a load that is sequentially consistent", each(&|word| _ = black_box(word.load(Ordering::SeqCst)))),
-        ("a store that releases", each(&|word| word.store(1, Ordering::Release))),
-        ("a store that is sequentially consistent", each(&|word| word.store(1, Ordering::SeqCst))),
-        ("a turn of a wait", cost_of(|| _ = black_box(spin(1_000, || words[0].load(Ordering::SeqCst) > 1))) / 1_000.0),
-        ("a wake of a thread that does not park", cost_of(|| own.unpark())),
-        ("a wake by a call of the system where nobody waits", cost_of(|| condvar.notify_one())),
+        (
+            "a load that acquires",
+            each(&|word| _ = black_box(word.load(Ordering::Acquire))),
+        ),
+        (
+            "a load that is sequentially consistent",
+            each(&|word| _ = black_box(word.load(Ordering::SeqCst))),
+        ),
+        (
+            "a store that releases",
+            each(&|word| word.store(1, Ordering::Release)),
+        ),
+        (
+            "a store that is sequentially consistent",
+            each(&|word| word.store(1, Ordering::SeqCst)),
+        ),
+        (
+            "a turn of a wait",
+            cost_of(|| _ = black_box(spin(1_000, || words[0].load(Ordering::SeqCst) > 1)))
+                / 1_000.0,
+        ),
+        (
+            "a wake of a thread that does not park",
+            cost_of(|| own.unpark()),
+        ),
+        (
+            "a wake by a call of the system where nobody waits",
+            cost_of(|| condvar.notify_one()),
+        ),
     ] {
         println!("{cost:.2} ns {what}");
     }
@@ -281,12 +330,20 @@ fn print_costs() {
 
 fn fly<const SEQCST: bool>(flight: &Flight, on_threads: bool) -> u64 {
     let words = Words::<SEQCST>::new(flight);
-    if on_threads { words.fly_on_threads(flight) } else { words.fly_in_turn(flight) }
+    if on_threads {
+        words.fly_on_threads(flight)
+    } else {
+        words.fly_in_turn(flight)
+    }
 }
 
 fn named(words: &[String], name: &str, otherwise: u64) -> Option<u64> {
-    let mut found = words.iter().filter_map(|word| word.strip_prefix(name)?.strip_prefix('='));
-    found.next().map_or(Some(otherwise), |number| number.parse().ok())
+    let mut found = words
+        .iter()
+        .filter_map(|word| word.strip_prefix(name)?.strip_prefix('='));
+    found
+        .next()
+        .map_or(Some(otherwise), |number| number.parse().ok())
 }
 
 fn flight_of(words: &[String]) -> Option<Flight> {
@@ -309,13 +366,23 @@ fn main() -> ExitCode {
         print_costs();
         return ExitCode::SUCCESS;
     }
-    let choices = || Some((flight_of(&words)?, named(&words, "seqcst", 0)? == 1, named(&words, "threads", 1)? == 1));
+    let choices = || {
+        Some((
+            flight_of(&words)?,
+            named(&words, "seqcst", 0)? == 1,
+            named(&words, "threads", 1)? == 1,
+        ))
+    };
     let Some((flight, seqcst, on_threads)) = choices() else {
         eprintln!("plain_flight FRAMES PROCESSORS [NAME=NUMBER]..");
         return ExitCode::from(2);
     };
     let begin = Instant::now();
-    let sum = if seqcst { fly::<true>(&flight, on_threads) } else { fly::<false>(&flight, on_threads) };
+    let sum = if seqcst {
+        fly::<true>(&flight, on_threads)
+    } else {
+        fly::<false>(&flight, on_threads)
+    };
     println!("{:.6} {sum:016x}", begin.elapsed().as_secs_f64());
     ExitCode::SUCCESS
 }
