@@ -1,6 +1,6 @@
 -- The modes and the acts of a flight's rows name what exists.
-use Rattle.std.proofs.Common.{◌≡◌, ◌∙◌, ℕ, zero, suc, ◌<◌, ◌≤◌, ◌-◌, Bool, true, false, cond, List, [], ◌∷◌, length, arith, refl, sym, ap, subst}
-use Rattle.std.specs.Prelude.{◌==◌, ⊤, IfSome, nat_lt, Option, Some, None, IsSome, option_and_then, slice_get}
+use Rattle.std.proofs.Common.{◌≡◌, ◌∙◌, ℕ, suc, ◌<◌, ◌≤◌, ◌-◌, Bool, true, false, cond, List, [], ◌∷◌, length, arith, refl, sym, subst}
+use Rattle.std.specs.Prelude.{◌==◌, ⊤, nat_lt, Option, Some, None, IsSome, option_and_then, slice_get}
 use Rattle.std.specs.Option.{option_map_or}
 use Rattle.std.proofs.lemmas.Bool.{ltb-true}
 use Rattle.std.proofs.lemmas.Option.{slice_get_within}
@@ -18,7 +18,7 @@ use Rattle.scram_types.specs.declared.specification.ModeSpec.{ModeSpec}
 use Rattle.scram_types.specs.declared.specification.Place.{Place}
 use Rattle.scram_types.specs.declared.specification.Policy.{Policy}
 use Rattle.scram_types.specs.declared.specification.Policy.TheVariants.{Retarget, Settle}
-use Rattle.scram_types.specs.Specification.{Each, IsChoice, IsIn, IsModeSpec, IsPhase, IsPlace, IsSpec, Parts, mode_in, place_in}
+use Rattle.scram_types.specs.Specification.{Each, IsChoice, IsIn, IsModeSpec, IsPlace, IsSpec, Parts, mode_in, place_in}
 use Rattle.scram_types.specs.Lookups.{mode_of, mode_of_app, place_of}
 use Rattle.scram_types.proofs.Options.{same_some}
 use Rattle.choice_table.specs.Choices.{choose, is_runnable, rule_fits, target_among}
@@ -31,7 +31,7 @@ use Rattle.frame_model.specs.Decisions.{decision, leave_for, moving_decision, st
 use Rattle.frame_model.specs.Phases.{halting_frames}
 use Rattle.frame_model.specs.States.{act_of_order, act_on}
 use Rattle.frame_model.specs.Tasks.{halting_order, initialising_order, off_task, preparing_order, task_at, task_for, task_in}
-use Rattle.trace_text.specs.Flights.{IsActShown, IsModeShown, IsMove, IsRun, IsStep}
+use Rattle.trace_text.specs.Flights.{IsActShown, IsModeShown, IsMove}
 
 -- what is chosen exists
 

@@ -1,7 +1,6 @@
 -- The reconfigurations that rows show lie within the flight, and what is printed of a flight is read.
-use Rattle.std.proofs.Common.{◌≡◌, ◌∙◌, ℕ, zero, suc, ◌<◌, ◌≤◌, ◌+◌, Bool, true, false, cond, List, [], ◌∷◌, ◌++◌, length, arith, refl, sym, ap, subst, length-append}
-use Rattle.std.specs.Prelude.{IfSome, Option, Some, None, option_map, slice_get}
-use Rattle.scram_types.specs.declared.flights.Report.{Report}
+use Rattle.std.proofs.Common.{◌≡◌, ℕ, zero, suc, ◌<◌, ◌≤◌, ◌+◌, Bool, true, false, cond, List, [], ◌∷◌, ◌++◌, length, arith, refl, subst}
+use Rattle.std.specs.Prelude.{IfSome, Option, Some, None, option_map}
 use Rattle.scram_types.specs.declared.flights.Row.{Row}
 use Rattle.scram_types.specs.declared.ids.ConfId.{ConfId}
 use Rattle.scram_types.specs.declared.limits.TheConstants.{MAX_FRAMES}
@@ -10,7 +9,6 @@ use Rattle.scram_types.specs.Lookups.{conf_id}
 use Rattle.scram_types.specs.Scripts.{ScriptParts}
 use Rattle.scram_types.specs.Searches.{least_from}
 use Rattle.scram_types.specs.Specification.{Each, IsIn, IsSpec, Parts}
-use Rattle.scram_types.proofs.Options.{same_some}
 use Rattle.scram_types.proofs.Searches.{length_listed}
 use Rattle.fault_script.proofs.SmallSpec.{each_none, each_one}
 use Rattle.fault_script.specs.Fits.{Fits}

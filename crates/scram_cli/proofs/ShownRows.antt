@@ -1,10 +1,8 @@
 -- The rows of a flight lie in the ranges of the specification, of the kinds and of the aircraft.
-use Rattle.std.proofs.Common.{◌≡◌, ◌∙◌, ℕ, zero, suc, ◌<◌, ◌≤◌, ◌+◌, ◌-◌, Bool, true, false, cond, List, [], ◌∷◌, length, arith, refl, sym, ap, subst}
-use Rattle.std.specs.Prelude.{◌&&◌, ℤ, pos, negsuc, ◌≤ℤ◌, int_le, ⊤, nat_lt, Option, Some, None, replicate, slice_get, slice_index, slice_index_or}
-use Rattle.std.specs.Option.{option_map_or}
+use Rattle.std.proofs.Common.{◌≡◌, ◌∙◌, ℕ, zero, suc, ◌<◌, ◌≤◌, ◌-◌, Bool, true, false, cond, List, [], ◌∷◌, length, arith, refl, sym, subst}
+use Rattle.std.specs.Prelude.{◌&&◌, ℤ, pos, negsuc, ◌≤ℤ◌, int_le, Option, Some, None, replicate, slice_get, slice_index, slice_index_or}
 use Rattle.std.proofs.lemmas.Int.{ints}
 use Rattle.std.proofs.lemmas.Option.{slice_get_within}
-use lib.Signed.{mag}
 use Rattle.scram_types.specs.declared.flights.Env.{Env}
 use Rattle.scram_types.specs.declared.flights.Row.{Row}
 use Rattle.scram_types.specs.declared.flights.World.{World}
@@ -12,16 +10,13 @@ use Rattle.scram_types.specs.declared.ids.ProcId.{ProcId}
 use Rattle.scram_types.specs.declared.limits.TheConstants.{MAX_FRAMES}
 use Rattle.scram_types.specs.declared.orders.Act as act_kinds
 use Rattle.scram_types.specs.declared.orders.Act.TheVariants as act_names
-use Rattle.scram_types.specs.declared.orders.KMode.{KMode}
 use Rattle.scram_types.specs.declared.orders.Order.{Order}
 use Rattle.scram_types.specs.declared.orders.Order.TheVariants as order
-use Rattle.scram_types.specs.declared.specification.AppSpec.{AppSpec}
-use Rattle.scram_types.specs.declared.specification.Factor.{Factor}
 use Rattle.scram_types.specs.Eights.{eight}
 use Rattle.scram_types.specs.Lookups.{kind_of_app, place_of}
 use Rattle.scram_types.specs.Numbers.{minus, word}
 use Rattle.scram_types.specs.Scripts.{ScriptParts}
-use Rattle.scram_types.specs.Searches.{all_below, listed_below}
+use Rattle.scram_types.specs.Searches.{all_below}
 use Rattle.scram_types.specs.Specification.{Each, IsSpec, Parts}
 use Rattle.scram_types.specs.declared.specification.Place.{Place}
 use Rattle.scram_types.proofs.Booleans.{and_left, and_right}
@@ -30,7 +25,7 @@ use Rattle.scram_types.proofs.Integers.{int_of}
 use Rattle.scram_types.proofs.Options.{same_some}
 use Rattle.scram_types.proofs.Searches.{all_each, get_listed, length_listed}
 use Rattle.app_model.specs.declared.seen.Seen.{Seen}
-use Rattle.app_model.specs.Areas.{AreaLies, Between, StartLiesAfterInit, status_of}
+use Rattle.app_model.specs.Areas.{AreaLies, Between, status_of}
 use Rattle.app_model.specs.Bounds.{after_init, during, sane}
 use Rattle.app_model.specs.Kinds.{kind_variable}
 use Rattle.app_model.specs.Law.{law}
@@ -40,11 +35,10 @@ use Rattle.app_model.proofs.AreaLaws.{law_lies_during, start_lies_after_init}
 use Rattle.app_model.proofs.Lengths.{law_eight}
 use Rattle.app_model.proofs.Tables.{tables_narrow}
 use Rattle.app_model.proofs.Within.{each_kind}
-use Rattle.airframe.specs.Motion.{IsFlyable, step_of, world_after}
+use Rattle.airframe.specs.Motion.{IsFlyable}
 use Rattle.airframe.proofs.Flyable.{flyable}
 use Rattle.fault_script.specs.Environments.{env_at}
 use Rattle.fault_script.specs.Fits.{Fits}
-use Rattle.fault_script.specs.Laws.{Shows}
 use Rattle.fault_script.specs.Times.{commits, factor_at, factors_at}
 use Rattle.fault_script.proofs.Showing.{environments_show}
 use Rattle.coverage_check.proofs.Keeping.{value_in}
@@ -52,8 +46,8 @@ use Rattle.frame_model.specs.declared.phases.Phase.{Phase}
 use Rattle.frame_model.specs.declared.tasks.Task.{Task}
 use Rattle.frame_model.specs.Flights.{row_at, rows_of, state_after}
 use Rattle.frame_model.specs.Phases.{is_settled, phase_at}
-use Rattle.frame_model.specs.States.{State, act_after, acts_in, area_after, area_at, area_on, areas_in, law_of, mode_decided, row_of, seen_by, start_area_at, start_area_of, start_state, world_in, zeros}
-use Rattle.frame_model.specs.Tasks.{off_task, task_at, task_in}
+use Rattle.frame_model.specs.States.{State, act_after, area_after, area_at, area_on, areas_in, law_of, mode_decided, row_of, seen_by, start_area_at, start_area_of, start_state, zeros}
+use Rattle.frame_model.specs.Tasks.{task_in}
 use Rattle.trace_props.proofs.Ranging.{kind_known}
 use Rattle.trace_text.specs.Flights.{IsAreaShown, IsEnvShown, IsModeShown, IsRowShown, IsShown, IsWorldShown}
 use Rattle.scram_cli.proofs.ShownModes.{IsTold, Nothing, Told, act_idle, act_shown, decision_shown, task_told}

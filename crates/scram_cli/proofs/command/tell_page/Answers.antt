@@ -1,4 +1,4 @@
-use Rattle.std.proofs.Common.{◌≡◌, ◌∙◌, List, ℕ, rules, subst}
+use Rattle.std.proofs.Common.{◌≡◌, List, ℕ, rules, subst}
 use Rattle.scram_cli.specs.Endings.{IsTaken}
 use Rattle.scram_cli.specs.Pages.{page_text}
 use Rattle.scram_cli.specs.declared.status.TheConstants.{ANSWERED}
