@@ -12,7 +12,7 @@ ghost use Rattle.trace_props.specs.Properties.{HoldsAll};
 use crate::desks::{Desk, FlightOf};
 use crate::members::Member;
 use crate::steps::make_any;
-use crate::turns::{fly_kernel, fly_processor, retrace_history};
+use crate::turns::{fly_kernel, fly_processor};
 use app_model::Rack;
 use coverage_check::Mission;
 use crossbeam_utils::CachePadded;
@@ -93,19 +93,6 @@ impl<'a> LockFlight<'a> {
             asked,
         };
         fly::<Brand, R>(rt, self.mission, self.core, roster)
-    }
-
-    /// Makes the events of a history on the caller's thread, as far as each is next where it comes. It takes no memory.
-    pub fn retrace(self, history: &[u32]) -> Core<'a>
-        requires fits { All (λ member. MemberFits (λ b. kind_of (b.vtable, b.value)) (λ r. r.boxes.items) self.mission.now member.value) self.members.items }
-        ensures spec { result.spec ≡ self.entry.mission.now.spec }
-        ensures script { result.script ≡ self.entry.mission.now.script }
-    {
-        let mission = self.mission;
-        let mut core = self.core;
-        let mut members = bare_members(self.members, self.back);
-        retrace_history(mission, &mut core, &mut members, history);
-        core
     }
 }
 
@@ -347,20 +334,6 @@ fn keep_member(back: &mut Vec<Member>, member: Option<Member>)
         Some(member) => back.push_reserved(member),
         None => {}
     }
-}
-
-// These processors, to be flown by the caller.
-fn bare_members(members: Vec<CachePadded<Member>>, back: Vec<Member>) -> Vec<Member>
-    requires none { back.items ≡ [] }
-    requires room { vec_len members ≤ vec_capacity back }
-    ensures fits { (mission : MissionParts) → All (λ member. MemberFits (λ b. kind_of (b.vtable, b.value)) (λ r. r.boxes.items) mission member.value) members.items → All (MemberFits (λ b. kind_of (b.vtable, b.value)) (λ r. r.boxes.items) mission) result.items }
-{
-    let mut members = members;
-    let mut back = back;
-    while let Some(member) = take_member(&mut members) {
-        keep_member(&mut back, Some(member));
-    }
-    back
 }
 
 // Which processors the caller flies: those for whom no threads are asked.

@@ -8,7 +8,6 @@ ghost use Rattle.lock_deck.specs.Desks.{IfSaw, IsDraftOf, IsSnapshotOf, is_start
 ghost use Rattle.lock_deck.specs.Members.{MemberFits};
 
 use crate::made::Made;
-use crate::steps::make_step;
 use app_model::Rack;
 use coverage_check::Mission;
 use event_core::Core;
@@ -41,20 +40,6 @@ impl Member {
             spare: Some(spare),
             drafted: None,
         }
-    }
-
-    /// A turn of this processor on a core of the mission: its next step, if there is one, and what follows of it. It
-    /// takes no memory.
-    pub fn turn(&mut self, mission: &Mission, core: &mut Core) -> Made
-        requires own { mission_of core.old.spec core.old.script ≡ mission.now }
-        requires fits { MemberFits (λ b. kind_of (b.vtable, b.value)) (λ r. r.boxes.items) mission.now self.old }
-        ensures own { mission_of core.new.spec core.new.script ≡ mission.now }
-        ensures fits { MemberFits (λ b. kind_of (b.vtable, b.value)) (λ r. r.boxes.items) mission.now self.new }
-        ensures proc { self.new.proc ≡ self.old.proc }
-    {
-        let made = make_step(core, self.proc, self.drafted.as_ref());
-        self.follow(mission, &made);
-        made
     }
 
     /// Does what follows of a turn at the lock: it drafts what it saw, halts with its halt, and lives again with a start

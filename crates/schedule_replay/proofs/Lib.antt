@@ -6,5 +6,6 @@ mod TurnsLead
 mod TurnsWhole
 mod Adding
 mod TurnsKnown
+mod EventsKnown
 mod Pending
 mod Unique

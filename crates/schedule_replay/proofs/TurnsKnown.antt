@@ -54,10 +54,10 @@ module _ (spec : Parts) (script : ScriptParts) where
   abbrev Have : List Event → Type 0
   Have events = Each (HasEvent spec) events
 
-  none : Have []
+  pub none : Have []
   none i x there = absurd (let e = there in cc)
 
-  with_one : (e : Event) (events : List Event) → HasEvent spec e → Have events → Have (e ∷ events)
+  pub with_one : (e : Event) (events : List Event) → HasEvent spec e → Have events → Have (e ∷ events)
   with_one e events has more zero x there = let same : e ≡ x = same_some e x there in rw (← same) has
   with_one e events has more (suc i) x there = more i x there
 

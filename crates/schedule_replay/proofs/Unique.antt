@@ -1,12 +1,10 @@
 -- A list of codes leads to one state, and has one answer.
-use Rattle.std.proofs.Common.{ℕ, zero, suc, ◌≡◌, ◌≢◌, ◌<◌, ◌≤◌, ◌+◌, ◌-◌, ◌*◌, ◌∙◌, Bool, true, false, List, [], ◌∷◌, Option, Some, None, Result, Ok, Err, length, map, take, arith, refl, sym, ap, subst, inl, inr}
-use Rattle.std.specs.Prelude.{nat_eq, nat_le, nat_lt, slice_get, if◌then◌else◌}
+use Rattle.std.proofs.Common.{ℕ, zero, suc, ◌≡◌, ◌≢◌, ◌<◌, ◌≤◌, ◌-◌, ◌*◌, ◌∙◌, List, [], ◌∷◌, Option, Some, Result, Ok, Err, length, map, take, arith, refl, sym, ap, subst, inl, inr}
+use Rattle.std.specs.Prelude.{slice_get}
 use Rattle.std.proofs.lemmas.Bool.{cases_order}
-use Rattle.scram_types.specs.Lookups.{proc_id}
 use Rattle.scram_types.specs.Scripts.{ScriptParts}
 use Rattle.scram_types.specs.Specification.{Parts}
 use Rattle.scram_types.specs.declared.flights.Flown.{Flown}
-use Rattle.scram_types.specs.declared.ids.ProcId.{ProcId}
 use Rattle.scram_types.proofs.Options.{same_some}
 use Rattle.bank_words.specs.Events.{IsEvent, event_code, event_of}
 use Rattle.bank_words.specs.declared.events.Event.{Event}
@@ -16,48 +14,25 @@ use Rattle.event_core.specs.Replays.{IsReplay}
 use Rattle.event_core.proofs.Bounds.{inside}
 use Rattle.event_core.proofs.Replays.{kernel_same, next_moved, next_same}
 use Rattle.fail_stop.specs.Ends.{IsOver}
-use Rattle.fail_stop.specs.Events.{IsNext, IsStored, Places, ReleaseWord, Word, halts_at, next_from, next_of_actor, plan_step}
+use Rattle.fail_stop.specs.Events.{IsNext, IsStored, Places, Word, next_of_actor}
 use Rattle.fail_stop.specs.Flights.{Flight}
 use Rattle.fail_stop.specs.Schedules.{IsSchedule, Machine, happened, opening}
 use Rattle.fail_stop.specs.ScriptFlights.{flight_of}
-use Rattle.fail_stop.proofs.Plans.{Mid, fork, gate, mid, plan_look}
 use Rattle.schedule_replay.specs.declared.replays.ReplayError.{ReplayError}
 use Rattle.schedule_replay.specs.declared.replays.ReplayError.TheVariants as error
 use Rattle.schedule_replay.specs.Laws.{OneAnswer}
 use Rattle.schedule_replay.specs.Replaying.{AnswersReplay, IsIllegal, IsShort, IsWholeSchedule, first_next, next_below}
 use Rattle.schedule_replay.proofs.Codes.{event_back}
+use Rattle.schedule_replay.proofs.EventsKnown.{looks_low}
 
 -- the numbers of an event that is next are small
 
-looked_at : (m : Flight) (p n : ℕ) (q : ProcId) → plan_step m p n ≡ Some (Look (proc_id p) q) → q.0 ≡ n - 1
-looked_at m p n q h = elim (fork (nat_eq n 0) (Some (Start (proc_id p))) _ (Look (proc_id p) q) h) [
-  | inl start ↦ absurd (let e = start.1 in cc)
-  | inr more ↦ (elim (fork (nat_le n m.procs) (Some (Look (proc_id p) (proc_id (n - 1)))) _ (Look (proc_id p) q) more.1) [
-    | inl look ↦ (let e = look.1 in let same : proc_id (n - 1) ≡ q = cc in sym (ap (λ (r : ProcId). r.0) same))
-    | inr later ↦ absurd (no_store (nat_lt n (m.procs + 1 + m.width)) (nat_eq n (m.procs + 1 + m.width)) (nat_eq n (m.procs + 2 + m.width)) _ later.1)
-  ])
-] where
-  no_store : (a b c : Bool) (i : ℕ) → (if a then Some (Store (proc_id p) i) else (if b then Some (Flip (proc_id p)) else (if c then Some (Done (proc_id p)) else None))) ≡ Some (Look (proc_id p) q) → ⊥
-  no_store true b c i e = cc
-  no_store false true c i e = cc
-  no_store false false true i e = cc
-  no_store false false false i e = cc
-
 module _ (m : Flight) (few : m.procs ≤ 8) (narrow : m.width ≤ 64) where
-  looks_low : (at : Places) (words : Word → ℕ) (p q : ProcId) → IsNext m at words (Look p q) → q.0 < 8
-  looks_low at words p q i =
-      let next = (gate (nat_lt p.0 m.procs) (next_from m p.0 (words ReleaseWord) (at.proc p.0)) (Look p q) i).1 in
-      let b : Mid m p.0 (at.proc p.0) (Look p q) = mid m p.0 (words ReleaseWord) (at.proc p.0) (Look p q) next (λ e. cc) in
-      let c = plan_look m p.0 b.n q.0 (halts_at m b.n (m.halt p.0 b.f)) b.next in
-      let uncut : plan_step m p.0 b.n ≡ Some (Look p q) = ap (λ (t : Bool). if t then Some (Halt (proc_id p.0)) else plan_step m p.0 b.n) (sym c.0) ∙ b.next in
-      let e = looked_at m p.0 b.n q uncut in
-      omega (arith, e, c.1, b.begun, few)
-
   small : (at : Places) (words : Word → ℕ) (e : Event) → IsNext m at words e → IsEvent e
   small at words (Start p) i = let low = inside m at words few narrow (Start p) i in omega (arith, low)
   small at words (Look p q) i = let low = inside m at words few narrow (Look p q) i in
-      let other = looks_low at words p q i in
-      (omega (arith, low), omega (arith, other))
+      let other = looks_low m at words p q i in
+      (omega (arith, low), omega (arith, other, few))
   small at words (Store p x) i = let low = inside m at words few narrow (Store p x) i in
       let a = low.0 in
       let b = low.1 in

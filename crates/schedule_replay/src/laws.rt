@@ -1,7 +1,12 @@
 //! What holds of schedules: each function's contract is a law.
 
+ghost use Rattle.std.specs.Prelude.{◌≡◌};
+ghost use Rattle.schedule_replay.specs.Events.{AreCodes};
 ghost use Rattle.schedule_replay.specs.Laws.{OneAnswer};
 ghost use Rattle.schedule_replay.specs.Turns.{TurnsLeadToTheEnd};
+
+use event_core::Core;
+use scram_types::Spec;
 
 /// The schedule in turns of a script that fits is a schedule, and at its end the flight is over.
 pub fn turns_lead_to_the_end()
@@ -13,3 +18,13 @@ pub fn turns_lead_to_the_end()
 pub fn a_list_has_one_answer()
     ensures { OneAnswer }
 {}
+
+/// The history of a core has codes of events that its specification has, so that it can be written.
+pub fn history_has_codes(core: &Core, spec: &Spec)
+    requires { core.now.spec ≡ spec.now }
+    ensures { AreCodes spec.now core.now.history }
+{
+    // Whoever uses a field of a specification knows that it keeps its invariant.
+    let _ = &spec.procs;
+    let _ = core.history();
+}

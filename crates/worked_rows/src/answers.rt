@@ -2,6 +2,7 @@
 
 use crate::files::numbers;
 use app_model::{Rack, racks_fit};
+use counted_boxes::{Counters, counted_racks, counted_spares};
 use more_apps::PlainAutopilot;
 use racks::racks;
 use scram_cli::scram;
@@ -27,6 +28,20 @@ pub fn answer<R: AllocGlobal + Threads + Wait + Sync>(
 ) -> io::Result<(u8, MemSink)> {
     let racks = racks!(rt, plain, PlainAutopilot::new());
     let spares = racks!(rt);
+    call(threads, words, files, sink, racks, spares)
+}
+
+/// The same with boxes that count their calls.
+pub fn answer_counted<R: AllocGlobal + Threads + Wait + Sync>(
+    rt: &HostRuntime,
+    threads: &R,
+    words: &[String],
+    files: MemFiles,
+    sink: MemSink,
+    counters: &Counters,
+) -> io::Result<(u8, MemSink)> {
+    let racks = counted_racks!(rt, counters);
+    let spares = counted_spares!(rt, counters);
     call(threads, words, files, sink, racks, spares)
 }
 

@@ -2,7 +2,8 @@
 //! second has the lines that stand after `= `, and is not there where no line begins with `=`; the third likewise after
 //! `- `. Of lines `! read N`, `! put N` and `! room N` the first two name a call that fails, from 0, and the last the
 //! bytes that the sink has room for. Lines `! first N` and `! second N` let a file have so many bytes, with spaces at its
-//! end, and `! plain N` gives processor N the autopilot that remembers nothing.
+//! end, `! plain N` gives processor N the autopilot that remembers nothing, and `! counted` gives each processor boxes that
+//! count their calls, of which those of the first two processors wait for one another; then the counts are printed.
 
 use scram_io::MemFiles;
 use std::alloc::Global;
@@ -40,6 +41,11 @@ pub fn make_files(rt: &HostRuntime, words: &[String], row: &str) -> io::Result<M
         }
     }
     Ok(MemFiles::new(entries, numbers(rt.alloc(), row, "! read ")?))
+}
+
+/// Whether a row wants boxes that count their calls.
+pub fn is_counted(row: &str) -> bool {
+    row.split('\n').any(|line| line == "! counted")
 }
 
 /// The numbers that stand in a row's lines after these words.

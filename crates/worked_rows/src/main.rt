@@ -8,8 +8,10 @@
 mod answers;
 mod files;
 
-use crate::answers::{answer, make_sink, plain_processor, print_answer};
-use crate::files::{list_words, make_files};
+use crate::answers::{answer, answer_counted, make_sink, plain_processor, print_answer};
+use crate::files::{is_counted, list_words, make_files};
+use counted_boxes::Counters;
+use scram_io::{MemFiles, MemSink};
 use std::alloc::AllocGlobal;
 use std::sync::Wait;
 use std::thread::Threads;
@@ -35,8 +37,27 @@ fn answer_row<R: AllocGlobal + Threads + Wait + Sync>(
     let words = list_words(rt.alloc(), words)?;
     let files = make_files(rt, &words, rest)?;
     let sink = make_sink(rt, rest)?;
+    if is_counted(rest) {
+        return answer_counted_row(rt, threads, &words, files, sink, frames);
+    }
     let plain = plain_processor(rt, rest)?;
     let (status, sink) = answer(rt, threads, &words, files, sink, plain)?;
     print_answer(rt, sink.bytes(), frames)?;
+    println!(rt; "status {status}\n")
+}
+
+/// Prints what the command answers with boxes that count their calls, and the counts.
+fn answer_counted_row<R: AllocGlobal + Threads + Wait + Sync>(
+    rt: &HostRuntime,
+    threads: &R,
+    words: &[String],
+    files: MemFiles,
+    sink: MemSink,
+    frames: &str,
+) -> io::Result<()> {
+    let counters = Counters::new(rt.alloc())?;
+    let (status, sink) = answer_counted(rt, threads, words, files, sink, &counters)?;
+    print_answer(rt, sink.bytes(), frames)?;
+    counters.print(rt)?;
     println!(rt; "status {status}\n")
 }

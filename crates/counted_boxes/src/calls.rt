@@ -1,0 +1,103 @@
+//! How often boxes were called.
+
+use std::alloc::{AllocError, Global};
+use std::io;
+use std::rt::HostRuntime;
+use std::sync::atomic::{AtomicU64, Ordering};
+
+/// How often the boxes of a rack were called, by their kinds, and how often they waited in vain.
+#[derive(Drop)]
+pub struct Calls {
+    pub kinds: [AtomicU64; 5],
+    pub in_vain: AtomicU64,
+}
+
+impl Calls {
+    fn new() -> Calls {
+        Calls {
+            kinds: [
+                AtomicU64::new(0),
+                AtomicU64::new(0),
+                AtomicU64::new(0),
+                AtomicU64::new(0),
+                AtomicU64::new(0),
+            ],
+            in_vain: AtomicU64::new(0),
+        }
+    }
+
+    /// How often the boxes of one kind were called.
+    fn of_kind(&self, kind: usize) -> u64 {
+        match self.kinds.get(kind) {
+            Some(calls) => calls.load(Ordering::SeqCst),
+            None => 0,
+        }
+    }
+
+    /// Whether any box was called.
+    pub fn any(&self) -> bool {
+        let mut any = false;
+        for kind in 0..5 {
+            if self.of_kind(kind) > 0 {
+                any = true;
+            }
+        }
+        any
+    }
+
+    fn print(&self, rt: &HostRuntime, whose: &str) -> io::Result<()> {
+        print!(rt; "{whose}:")?;
+        for kind in 0..5 {
+            print!(rt; " {}", self.of_kind(kind))?;
+        }
+        let in_vain = self.in_vain.load(Ordering::SeqCst);
+        println!(rt; ", waited in vain {in_vain} times")
+    }
+}
+
+/// The calls of the boxes of the first processor, of the second, of all others, and of all spare racks. They live as long
+/// as the program, since boxes do that are sent to threads.
+#[derive(Drop)]
+pub struct Counters {
+    first: &'static Calls,
+    second: &'static Calls,
+    others: &'static Calls,
+    pub spares: &'static Calls,
+}
+
+impl Counters {
+    pub fn new(alloc: Global) -> Result<Counters, AllocError> {
+        Ok(Counters {
+            first: Box::leak(Box::new(alloc, Calls::new())?),
+            second: Box::leak(Box::new(alloc, Calls::new())?),
+            others: Box::leak(Box::new(alloc, Calls::new())?),
+            spares: Box::leak(Box::new(alloc, Calls::new())?),
+        })
+    }
+
+    /// Where the boxes of a processor count.
+    pub fn own(&self, proc: u32) -> &'static Calls {
+        match proc {
+            0 => self.first,
+            1 => self.second,
+            _ => self.others,
+        }
+    }
+
+    /// For whose calls they wait.
+    pub fn awaited(&self, proc: u32) -> Option<&'static Calls> {
+        match proc {
+            0 => Some(self.second),
+            1 => Some(self.first),
+            _ => None,
+        }
+    }
+
+    /// Prints all counts.
+    pub fn print(&self, rt: &HostRuntime) -> io::Result<()> {
+        self.first.print(rt, "first")?;
+        self.second.print(rt, "second")?;
+        self.others.print(rt, "others")?;
+        self.spares.print(rt, "spares")
+    }
+}

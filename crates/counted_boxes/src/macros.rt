@@ -1,0 +1,51 @@
+//! The macros that make racks of boxes that count. They are macros, since no function may make boxes and hand them out;
+//! each `?` in them gives back the error of memory that is wanting from the function around them.
+
+/// A rack of five boxes that count in `$own`, and wait for a call that is counted in `$awaited`, if that is there.
+#[macro_export]
+macro_rules! counted_rack {
+    ($rt:expr, $own:expr, $awaited:expr) => {{
+        let mut boxes: Vec<Box<dyn $crate::App + Send>> = Vec::new($rt.alloc());
+        boxes.push($crate::counted_box!($rt, Autopilot, $own, $awaited))?;
+        boxes.push($crate::counted_box!($rt, FlightControl, $own, $awaited))?;
+        boxes.push($crate::counted_box!($rt, PowerMonitor, $own, $awaited))?;
+        boxes.push($crate::counted_box!($rt, Navigator, $own, $awaited))?;
+        boxes.push($crate::counted_box!($rt, Datalink, $own, $awaited))?;
+        $crate::Rack { boxes }
+    }};
+}
+
+/// A box of a kind that counts.
+#[macro_export]
+macro_rules! counted_box {
+    ($rt:expr, $kind:ident, $own:expr, $awaited:expr) => {
+        Box::new(
+            $rt.alloc(),
+            $crate::Counted::new($crate::$kind::new(), $own, $awaited),
+        )?
+    };
+}
+
+/// Eight racks of boxes that count in these `Counters`, in which those of the first two processors wait for one another.
+#[macro_export]
+macro_rules! counted_racks {
+    ($rt:expr, $counters:expr) => {{
+        let mut racks = Vec::new($rt.alloc());
+        for proc in 0..8 {
+            racks.push($crate::counted_rack!($rt, $counters.own(proc), $counters.awaited(proc)))?;
+        }
+        racks
+    }};
+}
+
+/// Eight racks for restarts, of boxes that count in these `Counters` and wait for none.
+#[macro_export]
+macro_rules! counted_spares {
+    ($rt:expr, $counters:expr) => {{
+        let mut spares = Vec::new($rt.alloc());
+        for _ in 0..8 {
+            spares.push($crate::counted_rack!($rt, $counters.spares, None))?;
+        }
+        spares
+    }};
+}

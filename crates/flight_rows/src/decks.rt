@@ -1,0 +1,117 @@
+//! Flights over both decks, and on one thread.
+
+ghost use Rattle.std.specs.Prelude.{◌≡◌, IfOk};
+ghost use Rattle.app_model.specs.Racks.{RacksFit};
+ghost use Rattle.event_core.specs.Cores.{flown, standing};
+ghost use Rattle.fail_stop.specs.Ends.{IsOver};
+
+use app_model::{Rack, racks_fit};
+use coverage_check::Mission;
+use event_core::Core;
+use lock_deck::LockFlight;
+use racks::racks;
+use scram_types::Flown;
+use std::alloc::AllocGlobal;
+use std::io::{self, ErrorKind};
+use std::sync::Wait;
+use std::thread::Threads;
+use trace_props::one_thread;
+use word_deck::WordFlight;
+
+/// What the processors of a flight share: words, or a core under a lock; or one thread flies them all.
+#[derive(Clone, Copy, Debug)]
+pub enum Deck {
+    Words,
+    Lock,
+    One,
+}
+
+/// Flies a mission with the boxes of the command, with a thread for each processor or for those that are asked for.
+pub fn fly_over<R: AllocGlobal + Threads + Wait + Sync>(
+    rt: &R,
+    mission: &Mission,
+    deck: Deck,
+    asked: Option<[bool; 8]>,
+) -> io::Result<Flown> {
+    let racks = racks!(rt);
+    let spares = racks!(rt);
+    fly_with(rt, mission, deck, asked, racks, spares)
+}
+
+/// The same with these boxes, and these for restarts.
+pub fn fly_with<R: AllocGlobal + Threads + Wait + Sync>(
+    rt: &R,
+    mission: &Mission,
+    deck: Deck,
+    asked: Option<[bool; 8]>,
+    racks: Vec<Rack>,
+    spares: Vec<Rack>,
+) -> io::Result<Flown> {
+    if !racks_fit(&racks) || !racks_fit(&spares) {
+        return Err(ErrorKind::InvalidInput.into());
+    }
+    match deck {
+        Deck::Words => fly_over_words(rt, mission, asked, racks, spares),
+        Deck::Lock => Ok(fly_over_lock(rt, mission, asked, racks, spares)?.finish()),
+        Deck::One => fly_on_one_thread(rt, mission, racks),
+    }
+}
+
+fn fly_over_words<R: AllocGlobal + Threads + Wait + Sync>(
+    rt: &R,
+    mission: &Mission,
+    asked: Option<[bool; 8]>,
+    racks: Vec<Rack>,
+    spares: Vec<Rack>,
+) -> io::Result<Flown>
+    requires racks { RacksFit (λ b. kind_of (b.vtable, b.value)) (λ r. r.boxes.items) racks.items }
+    requires spares { RacksFit (λ b. kind_of (b.vtable, b.value)) (λ r. r.boxes.items) spares.items }
+{
+    let Ok(flight) = WordFlight::open(rt.alloc(), mission, racks, spares) else {
+        return Err(ErrorKind::OutOfMemory.into());
+    };
+    match asked {
+        Some(asked) => Ok(flight.run_on(rt, asked).flown),
+        None => Ok(flight.run(rt).flown),
+    }
+}
+
+/// Flies a mission over a lock: the core at its end.
+pub fn fly_over_lock<'a, R: AllocGlobal + Threads + Wait + Sync>(
+    rt: &R,
+    mission: &'a Mission,
+    asked: Option<[bool; 8]>,
+    racks: Vec<Rack>,
+    spares: Vec<Rack>,
+) -> io::Result<Core<'a>>
+    requires racks { RacksFit (λ b. kind_of (b.vtable, b.value)) (λ r. r.boxes.items) racks.items }
+    requires spares { RacksFit (λ b. kind_of (b.vtable, b.value)) (λ r. r.boxes.items) spares.items }
+    ensures spec { IfOk result (λ core. core.spec ≡ mission.now.spec) }
+    ensures over { IfOk result (λ core. IsOver (flown core) (standing core)) }
+{
+    let Ok(flight) = LockFlight::open(rt.alloc(), mission, racks, spares) else {
+        return Err(ErrorKind::OutOfMemory.into());
+    };
+    match asked {
+        Some(asked) => Ok(flight.run_on(rt, asked)),
+        None => Ok(flight.run(rt)),
+    }
+}
+
+fn fly_on_one_thread<R: AllocGlobal>(
+    rt: &R,
+    mission: &Mission,
+    racks: Vec<Rack>,
+) -> io::Result<Flown>
+    requires { RacksFit (λ b. kind_of (b.vtable, b.value)) (λ r. r.boxes.items) racks.items }
+{
+    match one_thread(rt.alloc(), mission, racks) {
+        Ok(flown) => Ok(flown),
+        Err(_) => Err(ErrorKind::OutOfMemory.into()),
+    }
+}
+
+/// Whether two flights gave equal rows and reports.
+pub fn is_same(one: &Flown, other: &Flown) -> bool {
+    one.rows.items() == other.rows.items() && one.reports.items() == other.reports.items()
+}

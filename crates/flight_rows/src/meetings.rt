@@ -1,0 +1,46 @@
+//! Flights in which boxes of two processors wait for one another, so that they end in time only where each has a thread.
+
+use crate::decks::{Deck, fly_over, fly_with, is_same};
+use counted_boxes::{Counters, counted_racks, counted_spares};
+use coverage_check::Mission;
+use scram_types::Flown;
+use std::alloc::AllocGlobal;
+use std::io;
+use std::rt::HostRuntime;
+use std::sync::Wait;
+use std::thread::Threads;
+
+/// Flies a mission over words and over a lock with boxes that count their calls, and prints the counts.
+pub fn meet<R: AllocGlobal + Threads + Wait + Sync>(
+    rt: &HostRuntime,
+    threads: &R,
+    mission: &Mission,
+) -> io::Result<()> {
+    let wanted = fly_over(threads, mission, Deck::One, None)?;
+    meet_over(rt, threads, mission, Deck::Words, &wanted)?;
+    meet_over(rt, threads, mission, Deck::Lock, &wanted)
+}
+
+fn meet_over<R: AllocGlobal + Threads + Wait + Sync>(
+    rt: &HostRuntime,
+    threads: &R,
+    mission: &Mission,
+    deck: Deck,
+    wanted: &Flown,
+) -> io::Result<()> {
+    let counters = Counters::new(threads.alloc())?;
+    let flown = fly_counted(threads, mission, deck, &counters)?;
+    println!(rt; "{deck:?}, as on one thread: {}", is_same(&flown, wanted))?;
+    counters.print(rt)
+}
+
+fn fly_counted<R: AllocGlobal + Threads + Wait + Sync>(
+    rt: &R,
+    mission: &Mission,
+    deck: Deck,
+    counters: &Counters,
+) -> io::Result<Flown> {
+    let racks = counted_racks!(rt, counters);
+    let spares = counted_spares!(rt, counters);
+    fly_with(rt, mission, deck, None, racks, spares)
+}
