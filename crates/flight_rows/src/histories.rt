@@ -69,7 +69,14 @@ fn replay_codes<R: AllocGlobal>(rt: &R, mission: &Mission, codes: &[u32]) -> io:
     if !racks_fit(&racks) || !racks_fit(&spares) {
         return Err(ErrorKind::InvalidInput.into());
     }
-    match replay(rt.alloc(), mission.spec(), mission.script(), racks, spares, codes) {
+    match replay(
+        rt.alloc(),
+        mission.spec(),
+        mission.script(),
+        racks,
+        spares,
+        codes,
+    ) {
         Ok(flown) => Ok(flown),
         Err(_) => Err(ErrorKind::InvalidData.into()),
     }

@@ -3,14 +3,13 @@
 
 ghost use Rattle.std.specs.Prelude.{◌≡◌, ◌<◌, ◌&&◌, false, length, IfSome, None, is_some};
 ghost use Rattle.app_model.specs.Racks.{RackFits};
-ghost use Rattle.coverage_check.specs.Missions.{MissionParts, mission_of};
+ghost use Rattle.coverage_check.specs.Missions.{MissionParts};
 ghost use Rattle.lock_deck.specs.Desks.{IfSaw, IsDraftOf, IsSnapshotOf, is_start};
 ghost use Rattle.lock_deck.specs.Members.{MemberFits};
 
 use crate::made::Made;
 use app_model::Rack;
 use coverage_check::Mission;
-use event_core::Core;
 use fail_stop::{Draft, Halted, Live, Snapshot};
 use scram_types::ProcId;
 

@@ -1,17 +1,13 @@
 //! Turns at the lock, and who makes them.
 
 ghost use Rattle.std.specs.Prelude.{◌≡◌, All, Some};
-ghost use Rattle.coverage_check.specs.Missions.{mission_of};
 ghost use Rattle.lock_deck.specs.Members.{MemberFits};
 
 use crate::desks::{Desk, FlightOf};
 use crate::made::Made;
 use crate::members::Member;
-use crate::steps::make_kernel;
-use bank_words::{Event, event_of};
+use bank_words::Event;
 use coverage_check::Mission;
-use event_core::Core;
-use scram_types::ProcId;
 use std::sync::{Condvar, Mutex, MutexGuard, Wait};
 
 /// Flies a processor until the flight is over.
