@@ -1,6 +1,7 @@
 //! Flights over a lock, flown again by their histories.
 
 ghost use Rattle.std.specs.Prelude.{◌≡◌};
+ghost use Rattle.app_model.specs.Racks.{RacksFit};
 ghost use Rattle.schedule_replay.specs.Events.{AreCodes};
 
 use crate::decks::fly_over_lock;
@@ -69,14 +70,23 @@ fn replay_codes<R: AllocGlobal>(rt: &R, mission: &Mission, codes: &[u32]) -> io:
     if !racks_fit(&racks) || !racks_fit(&spares) {
         return Err(ErrorKind::InvalidInput.into());
     }
-    match replay(
-        rt.alloc(),
-        mission.spec(),
-        mission.script(),
-        racks,
-        spares,
-        codes,
-    ) {
+    replay_with(rt.alloc(), mission, codes, racks, spares)
+}
+
+fn replay_with(
+    alloc: Global,
+    mission: &Mission,
+    codes: &[u32],
+    racks: Vec<Rack>,
+    spares: Vec<Rack>,
+) -> io::Result<Flown>
+    requires codes { AreCodes mission.now.spec codes.now }
+    requires racks { RacksFit (λ b. kind_of (b.vtable, b.value)) (λ r. r.boxes.items) racks.items }
+    requires spares { RacksFit (λ b. kind_of (b.vtable, b.value)) (λ r. r.boxes.items) spares.items }
+{
+    mission.holds();
+    let (spec, script) = (mission.spec(), mission.script());
+    match replay(alloc, spec, script, racks, spares, codes) {
         Ok(flown) => Ok(flown),
         Err(_) => Err(ErrorKind::InvalidData.into()),
     }
