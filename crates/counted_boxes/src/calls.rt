@@ -26,9 +26,9 @@ impl Calls {
         }
     }
 
-    /// How often the boxes of one kind were called.
-    fn of_kind(&self, kind: usize) -> u64 {
-        match self.kinds.get(kind) {
+    /// How often the boxes of one kind, below 5, were called; 0 for another number.
+    pub fn of_kind(&self, kind: u8) -> u64 {
+        match self.kinds.get(usize::from(kind)) {
             Some(calls) => calls.load(Ordering::SeqCst),
             None => 0,
         }

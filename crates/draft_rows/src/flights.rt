@@ -3,8 +3,10 @@
 ghost use Rattle.std.specs.Prelude.{◌<◌};
 ghost use Rattle.app_model.specs.Racks.{RackFits, RacksFit};
 
+use app_model::kinds::autopilot::KIND;
 use app_model::{Rack, rack_fits, racks_fit};
 use bank_words::KernelImage;
+use counted_boxes::Counters;
 use fail_stop::{Live, Snapshot};
 use frame_model::sights::slot_in;
 use frame_model::{Input, Sys, decide, frame};
@@ -12,15 +14,6 @@ use mission_gen::uav;
 use scram_types::{Area, Env, Image, ProcId, Row, Spec};
 use std::io::{self, ErrorKind};
 use std::rt::HostRuntime;
-use std::sync::Arc;
-use std::sync::atomic::{AtomicU64, Ordering};
-
-/// How often the boxes in the autopilots' places were called.
-#[derive(Drop)]
-pub struct Calls {
-    pub first: Arc<AtomicU64>,
-    pub second: Arc<AtomicU64>,
-}
 
 /// Flies `uav`: two racks are those of its processors, the eight others those of the one thread.
 pub fn start(
@@ -28,7 +21,7 @@ pub fn start(
     racks: Vec<Rack>,
     rack: Rack,
     other: Rack,
-    calls: &Calls,
+    counters: &Counters,
 ) -> io::Result<()> {
     if !rack_fits(&rack) || !rack_fits(&other) || !racks_fit(&racks) {
         return Err(ErrorKind::InvalidInput.into());
@@ -36,7 +29,7 @@ pub fn start(
     let one = Live::new(ProcId(0), rack);
     let two = Live::new(ProcId(1), other);
     match uav(rt.alloc()) {
-        Ok(spec) => fly(rt, &spec, one, two, racks, calls),
+        Ok(spec) => fly(rt, &spec, one, two, racks, counters),
         Err(_) => Err(ErrorKind::OutOfMemory.into()),
     }
 }
@@ -48,7 +41,7 @@ fn fly(
     mut one: Live,
     mut two: Live,
     mut racks: Vec<Rack>,
-    calls: &Calls,
+    counters: &Counters,
 ) -> io::Result<()>
     requires one_there { one.proc.0 < 8 }
     requires two_there { two.proc.0 < 8 }
@@ -60,8 +53,8 @@ fn fly(
     print_return(rt, two, racks.pop())?;
     println!(rt;
         "autopilots called {} and {} times",
-        calls.first.load(Ordering::SeqCst),
-        calls.second.load(Ordering::SeqCst)
+        counters.own(0).of_kind(KIND),
+        counters.own(1).of_kind(KIND)
     )
 }
 

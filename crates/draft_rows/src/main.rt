@@ -5,21 +5,17 @@
 //! autopilots' places were called.
 #![tactic(auto)]
 
-mod counted;
 mod flights;
 
-use crate::counted::Counted;
-use crate::flights::{Calls, start};
-use racks::{rack, racks};
+use crate::flights::start;
+use counted_boxes::{Counted, Counters};
+use racks::{Autopilot, rack, racks};
 use std::io;
-use std::sync::Arc;
-use std::sync::atomic::AtomicU64;
 
 fn main(rt: HostRuntime) -> io::Result<()> {
-    let first = Arc::new(rt.alloc(), AtomicU64::new(0))?;
-    let second = Arc::new(rt.alloc(), AtomicU64::new(0))?;
-    let rack = rack!(rt, Counted::new(first.clone()?));
-    let other = rack!(rt, Counted::new(second.clone()?));
+    let counters = Counters::new(rt.alloc())?;
+    let rack = rack!(rt, Counted::new(Autopilot::new(), counters.own(0), None));
+    let other = rack!(rt, Counted::new(Autopilot::new(), counters.own(1), None));
     let racks = racks!(rt);
-    start(&rt, racks, rack, other, &Calls { first, second })
+    start(&rt, racks, rack, other, &counters)
 }
