@@ -12,10 +12,14 @@ pub record IsRead (spec_bytes script_bytes : List ℕ) (spec : Parts) (script : 
   pub spec_reads : spec_of spec_bytes ≡ Ok spec
   pub script_reads : script_of spec script_bytes ≡ Ok script
 
--- The canonical texts of what the bytes are went out, after all that was taken before.
+-- The canonical texts went out, after all that was taken before.
+pub record IsSent (spec : Parts) (script : ScriptParts) (old new : SinkState) : Type 0 where
+  pub sent : new.sent ≡ taken old ++ mission_text spec script
+  pub held : new.held ≡ []
+
+-- The canonical texts of what the bytes are went out.
 pub record IsPrinted (spec_bytes script_bytes : List ℕ) (old new : SinkState) : Type 0 where
   pub spec : Parts
   pub script : ScriptParts
   pub reads : IsRead spec_bytes script_bytes spec script
-  pub sent : new.sent ≡ taken old ++ mission_text spec script
-  pub held : new.held ≡ []
+  pub sends : IsSent spec script old new

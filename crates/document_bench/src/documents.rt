@@ -2,7 +2,7 @@
 
 ghost use Rattle.std.specs.Prelude.{◌≡◌, ◌∷◌, [], IfOk, OnOk};
 ghost use Rattle.scram_io.specs.Outside.{Grew};
-ghost use Rattle.document_bench.specs.Documents.{IsPrinted, IsRead};
+ghost use Rattle.document_bench.specs.Documents.{IsPrinted, IsRead, IsSent};
 
 use fault_script::{ScriptError, read_script};
 use mission_gen::write_mission;
@@ -74,11 +74,25 @@ pub fn print<'a, K: Sink>(
 ) -> Result<(), Refusal<'a>>
     ensures { OnOk result (IsPrinted spec.now script.now (K.state out.old) (K.state out.new)) }
 {
-    let (spec, script) = read(alloc, spec, script)?;
-    for _ in 1..times {
-        write_mission(alloc, &spec, &script)?;
+    match read(alloc, spec, script) {
+        Ok((spec, script)) => print_mission(alloc, &spec, &script, times, out),
+        Err(refusal) => Err(refusal),
     }
-    let text = write_mission(alloc, &spec, &script)?;
+}
+
+fn print_mission<'a, K: Sink>(
+    alloc: Global,
+    spec: &Spec,
+    script: &Script,
+    times: u32,
+    out: &mut K,
+) -> Result<(), Refusal<'a>>
+    ensures { OnOk result (IsSent spec.now script.now (K.state out.old) (K.state out.new)) }
+{
+    for _ in 1..times {
+        write_mission(alloc, spec, script)?;
+    }
+    let text = write_mission(alloc, spec, script)?;
     out.put(&text)?;
     out.flush()?;
     Ok(())

@@ -1,9 +1,12 @@
 //! The documents of a mission.
 
+ghost use Rattle.fault_script.specs.Fits.{Fits};
+
 use crate::split_word;
 use coverage_check::{Mission, accept};
 use reconf_spec::read_spec;
 use row_lines::{fill, script_of_text};
+use scram_types::{Script, Spec};
 use std::alloc::Global;
 use std::fs;
 use std::io::{self, ErrorKind};
@@ -39,10 +42,22 @@ impl Documents {
 }
 
 fn parse_mission(alloc: Global, spec: &str, script: &str) -> io::Result<Mission> {
-    let Ok(spec) = read_spec(alloc, spec.as_bytes()) else {
-        return Err(ErrorKind::InvalidData.into());
-    };
-    let script = script_of_text(alloc, &spec, script)?;
+    match read_spec(alloc, spec.as_bytes()) {
+        Ok(spec) => parse_script(alloc, spec, script),
+        Err(_) => Err(ErrorKind::InvalidData.into()),
+    }
+}
+
+fn parse_script(alloc: Global, spec: Spec, script: &str) -> io::Result<Mission> {
+    match script_of_text(alloc, &spec, script) {
+        Ok(script) => accept_mission(alloc, spec, script),
+        Err(error) => Err(error),
+    }
+}
+
+fn accept_mission(alloc: Global, spec: Spec, script: Script) -> io::Result<Mission>
+    requires { Fits spec script }
+{
     let Ok(accepted) = accept(alloc, spec) else {
         return Err(ErrorKind::InvalidData.into());
     };

@@ -1,9 +1,11 @@
 //! Flights on threads beside that on one thread.
 
 use crate::decks::{Deck, fly_over, is_same};
-use crate::documents::Documents;
+use crate::documents::{Documents, read_documents, read_mission};
 use crate::histories::{fly_again, fly_and_write};
+use crate::split_word;
 use coverage_check::Mission;
+use row_lines::number;
 use scram_types::Flown;
 use std::alloc::AllocGlobal;
 use std::io;
@@ -39,8 +41,17 @@ impl Counts {
     }
 }
 
-/// Flies a mission on one thread and on threads, over words and over a lock, and prints what came of it.
+/// Flies the mission of two files on one thread and on threads, over words and over a lock, and prints what came of it.
 pub fn fly<R: AllocGlobal + Threads + Wait + Sync>(
+    rt: &HostRuntime,
+    threads: &R,
+    words: &str,
+) -> io::Result<()> {
+    let mission = read_mission(rt, words)?;
+    fly_mission(rt, threads, &mission)
+}
+
+fn fly_mission<R: AllocGlobal + Threads + Wait + Sync>(
     rt: &HostRuntime,
     threads: &R,
     mission: &Mission,
@@ -92,8 +103,20 @@ fn count_flights<R: AllocGlobal + Threads + Wait + Sync>(
     Ok(counts)
 }
 
-/// Flies a mission for each step below this count, and prints how often what came of it was that of one thread and step 0.
+/// Flies the mission of two files for each step below a count, and prints how often what came of it was that of one thread
+/// and step 0.
 pub fn fly_steps<R: AllocGlobal + Threads + Wait + Sync>(
+    rt: &HostRuntime,
+    threads: &R,
+    words: &str,
+) -> io::Result<()> {
+    let (count, names) = split_word(words);
+    let count = number(count)?;
+    let documents = read_documents(rt, names)?;
+    fly_each_step(rt, threads, count, &documents)
+}
+
+fn fly_each_step<R: AllocGlobal + Threads + Wait + Sync>(
     rt: &HostRuntime,
     threads: &R,
     count: u32,

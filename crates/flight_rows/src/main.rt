@@ -17,11 +17,9 @@ mod histories;
 mod meetings;
 mod repeats;
 
-use crate::documents::{read_documents, read_mission};
 use crate::flights::{fly, fly_steps};
 use crate::meetings::meet;
-use crate::repeats::{deck_named, repeat};
-use row_lines::number;
+use crate::repeats::repeat;
 use std::alloc::AllocGlobal;
 use std::fs;
 use std::io::{self, ErrorKind};
@@ -45,18 +43,10 @@ fn answer<R: AllocGlobal + Threads + Wait + Sync>(
 ) -> io::Result<()> {
     let (form, words) = split_word(row);
     match form {
-        "fly" => fly(rt, threads, &read_mission(rt, words)?),
-        "meet" => meet(rt, threads, &read_mission(rt, words)?),
-        "steps" => {
-            let (count, names) = split_word(words);
-            fly_steps(rt, threads, number(count)?, &read_documents(rt, names)?)
-        }
-        "repeat" => {
-            let (deck, rest) = split_word(words);
-            let (times, names) = split_word(rest);
-            let mission = read_mission(rt, names)?;
-            repeat(rt, threads, deck_named(deck)?, number(times)?, &mission)
-        }
+        "fly" => fly(rt, threads, words),
+        "meet" => meet(rt, threads, words),
+        "steps" => fly_steps(rt, threads, words),
+        "repeat" => repeat(rt, threads, words),
         _ => Err(ErrorKind::InvalidInput.into()),
     }
 }

@@ -1,6 +1,7 @@
 //! Flights in which boxes of two processors wait for one another, so that they end in time only where each has a thread.
 
 use crate::decks::{Deck, fly_over, fly_with, is_same};
+use crate::documents::read_mission;
 use counted_boxes::{Counters, counted_racks, counted_spares};
 use coverage_check::Mission;
 use scram_types::Flown;
@@ -10,8 +11,17 @@ use std::rt::HostRuntime;
 use std::sync::Wait;
 use std::thread::Threads;
 
-/// Flies a mission over words and over a lock with boxes that count their calls, and prints the counts.
+/// Flies the mission of two files over words and over a lock with boxes that count their calls, and prints the counts.
 pub fn meet<R: AllocGlobal + Threads + Wait + Sync>(
+    rt: &HostRuntime,
+    threads: &R,
+    words: &str,
+) -> io::Result<()> {
+    let mission = read_mission(rt, words)?;
+    meet_in(rt, threads, &mission)
+}
+
+fn meet_in<R: AllocGlobal + Threads + Wait + Sync>(
     rt: &HostRuntime,
     threads: &R,
     mission: &Mission,

@@ -1,16 +1,32 @@
 //! Flights to be timed.
 
 use crate::decks::{Deck, fly_over};
+use crate::documents::read_mission;
+use crate::split_word;
 use coverage_check::Mission;
+use row_lines::number;
 use std::alloc::AllocGlobal;
 use std::io::{self, ErrorKind};
 use std::rt::HostRuntime;
 use std::sync::Wait;
 use std::thread::Threads;
 
-/// Flies a mission again and again, and prints how many rows the last flight gave, and how many flights gave a row of each
-/// frame.
+/// Flies the mission of two files over a deck again and again, and prints how many rows the last flight gave, and how many
+/// flights gave a row of each frame.
 pub fn repeat<R: AllocGlobal + Threads + Wait + Sync>(
+    rt: &HostRuntime,
+    threads: &R,
+    words: &str,
+) -> io::Result<()> {
+    let (deck, rest) = split_word(words);
+    let (times, names) = split_word(rest);
+    let deck = deck_named(deck)?;
+    let times = number(times)?;
+    let mission = read_mission(rt, names)?;
+    repeat_mission(rt, threads, deck, times, &mission)
+}
+
+fn repeat_mission<R: AllocGlobal + Threads + Wait + Sync>(
     rt: &HostRuntime,
     threads: &R,
     deck: Deck,
@@ -30,7 +46,7 @@ pub fn repeat<R: AllocGlobal + Threads + Wait + Sync>(
 }
 
 /// The deck of a name.
-pub fn deck_named(name: &str) -> io::Result<Deck> {
+fn deck_named(name: &str) -> io::Result<Deck> {
     match name {
         "words" => Ok(Deck::Words),
         "lock" => Ok(Deck::Lock),

@@ -35,19 +35,43 @@ fn answer_row<R: AllocGlobal + Threads + Wait + Sync>(
     let (words, frames) = first.split_once(" : ").unwrap_or((first, ""));
     println!(rt; "> {words}")?;
     let words = list_words(rt.alloc(), words)?;
-    let files = make_files(rt, &words, rest)?;
-    let sink = make_sink(rt, rest)?;
-    if is_counted(rest) {
-        return answer_counted_row(rt, threads, &words, files, sink, frames);
+    answer_words(rt, threads, &words, rest, frames)
+}
+
+fn answer_words<R: AllocGlobal + Threads + Wait + Sync>(
+    rt: &HostRuntime,
+    threads: &R,
+    words: &[String],
+    row: &str,
+    frames: &str,
+) -> io::Result<()> {
+    let plain = plain_processor(rt, row)?;
+    let files = make_files(rt, words, row)?;
+    let sink = make_sink(rt, row)?;
+    if is_counted(row) {
+        print_counted(rt, threads, words, files, sink, frames)
+    } else {
+        print_plain(rt, threads, words, files, sink, plain, frames)
     }
-    let plain = plain_processor(rt, rest)?;
-    let (status, sink) = answer(rt, threads, &words, files, sink, plain)?;
+}
+
+/// Prints what the command answers.
+fn print_plain<R: AllocGlobal + Threads + Wait + Sync>(
+    rt: &HostRuntime,
+    threads: &R,
+    words: &[String],
+    files: MemFiles,
+    sink: MemSink,
+    plain: Option<u32>,
+    frames: &str,
+) -> io::Result<()> {
+    let (status, sink) = answer(rt, threads, words, files, sink, plain)?;
     print_answer(rt, sink.bytes(), frames)?;
     println!(rt; "status {status}\n")
 }
 
 /// Prints what the command answers with boxes that count their calls, and the counts.
-fn answer_counted_row<R: AllocGlobal + Threads + Wait + Sync>(
+fn print_counted<R: AllocGlobal + Threads + Wait + Sync>(
     rt: &HostRuntime,
     threads: &R,
     words: &[String],
