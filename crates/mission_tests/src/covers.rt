@@ -1,17 +1,21 @@
 //! Covers of configurations.
 
 use crate::flights::given;
-use crate::judgements::parse_spec;
 use cube_cover::cover;
-use scram_types::ConfId;
+use row_lines::spec_of_text;
+use scram_types::{ConfId, Spec};
 use std::io;
 use std::rt::HostRuntime;
 
 /// Prints what each configuration's choices come to over all environments in scope.
 pub fn print_covers(rt: &HostRuntime, spec: &str) -> io::Result<()> {
-    let spec = parse_spec(rt.alloc(), spec)?;
+    let spec = spec_of_text(rt.alloc(), spec)?;
+    print_covers_in(rt, &spec)
+}
+
+fn print_covers_in(rt: &HostRuntime, spec: &Spec) -> io::Result<()> {
     for (i, conf) in spec.confs.items().iter().enumerate() {
-        let cover = given(cover(rt.alloc(), &spec, ConfId(i as u8)))?;
+        let cover = given(cover(rt.alloc(), spec, ConfId(i as u8)))?;
         println!(rt; "{}: {cover:?}", conf.name)?;
     }
     Ok(())

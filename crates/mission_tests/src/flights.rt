@@ -1,29 +1,45 @@
 //! Missions that are accepted and flown, frame by frame and as a whole.
 
-ghost use Rattle.std.specs.Prelude.{IfOk};
 ghost use Rattle.app_model.specs.Racks.{RacksFit};
 ghost use Rattle.fault_script.specs.Fits.{Fits};
 
-use crate::judgements::{are_few, parse_spec, parse_trace, print_judgement};
+use crate::judgements::{are_few, parse_trace, print_judgement};
 use app_model::{Rack, racks_fit};
 use coverage_check::{Mission, accept, targets};
-use fault_script::read_script;
 use frame_model::{reports, rows};
 use racks::racks;
+use row_lines::{script_of_text, spec_of_text};
 use scram_types::{ConfId, Flown, NoMemory, Report, Row, Script, Spec};
-use std::alloc::Global;
 use std::io::{self, ErrorKind};
 use std::rt::HostRuntime;
 use trace_props::one_thread;
 
 /// Flies a mission by `rows` and by `one_thread`, and prints whether both give what a trace says.
 pub fn fly(rt: &HostRuntime, spec: &str, script: &str, trace: &str) -> io::Result<()> {
-    let spec = parse_spec(rt.alloc(), spec)?;
-    let script = parse_script(rt.alloc(), script, &spec)?;
-    let wanted = parse_trace(rt.alloc(), trace, &spec)?;
-    print_targets(rt, &spec)?;
-    fly_rows(rt, &spec, &script, &wanted)?;
-    fly_mission(rt, spec, script, &wanted)
+    let spec = spec_of_text(rt.alloc(), spec)?;
+    match script_of_text(rt.alloc(), &spec, script) {
+        Ok(script) => fly_script(rt, spec, script, trace),
+        Err(error) => Err(error),
+    }
+}
+
+fn fly_script(rt: &HostRuntime, spec: Spec, script: Script, trace: &str) -> io::Result<()>
+    requires { Fits spec script }
+{
+    match fly_frames(rt, &spec, &script, trace) {
+        Ok(wanted) => fly_mission(rt, spec, script, &wanted),
+        Err(error) => Err(error),
+    }
+}
+
+/// Flies frame by frame: what the trace says.
+fn fly_frames(rt: &HostRuntime, spec: &Spec, script: &Script, trace: &str) -> io::Result<Flown>
+    requires { Fits spec.now script.now }
+{
+    let wanted = parse_trace(rt.alloc(), trace, spec)?;
+    print_targets(rt, spec)?;
+    fly_rows(rt, spec, script, &wanted)?;
+    Ok(wanted)
 }
 
 /// What a call gave, where there was memory for it.
@@ -31,15 +47,6 @@ pub fn given<T>(answer: Result<T, NoMemory>) -> io::Result<T> {
     match answer {
         Ok(value) => Ok(value),
         Err(_) => Err(ErrorKind::OutOfMemory.into()),
-    }
-}
-
-fn parse_script(alloc: Global, text: &str, spec: &Spec) -> io::Result<Script>
-    ensures { IfOk result (λ script. Fits spec.now script) }
-{
-    match read_script(alloc, text.as_bytes(), spec) {
-        Ok(script) => Ok(script),
-        Err(_) => Err(ErrorKind::InvalidData.into()),
     }
 }
 

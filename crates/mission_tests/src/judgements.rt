@@ -2,7 +2,7 @@
 
 ghost use Rattle.std.specs.Prelude.{◌<◌, ◌^◌, IsTrue, length};
 
-use reconf_spec::read_spec;
+use row_lines::spec_of_text;
 use scram_types::limits::MAX_FRAMES;
 use scram_types::{Flown, Report, Row, Spec};
 use std::alloc::Global;
@@ -10,14 +10,6 @@ use std::io::{self, ErrorKind};
 use std::rt::HostRuntime;
 use trace_props::{Broken, props};
 use trace_text::read_trace;
-
-/// The specification of a document that is one.
-pub fn parse_spec(alloc: Global, text: &str) -> io::Result<Spec> {
-    match read_spec(alloc, text.as_bytes()) {
-        Ok(spec) => Ok(spec),
-        Err(_) => Err(ErrorKind::InvalidData.into()),
-    }
-}
 
 /// The rows and reports of a text that is a trace.
 pub fn parse_trace(alloc: Global, text: &str, spec: &Spec) -> io::Result<Flown> {
@@ -29,9 +21,13 @@ pub fn parse_trace(alloc: Global, text: &str, spec: &Spec) -> io::Result<Flown> 
 
 /// Reads a trace, judges it, and prints which property it breaks first.
 pub fn judge(rt: &HostRuntime, spec: &str, trace: &str) -> io::Result<()> {
-    let spec = parse_spec(rt.alloc(), spec)?;
-    let flown = parse_trace(rt.alloc(), trace, &spec)?;
-    print_judgement(rt, &spec, flown.rows.items(), flown.reports.items())
+    let spec = spec_of_text(rt.alloc(), spec)?;
+    judge_trace(rt, &spec, trace)
+}
+
+fn judge_trace(rt: &HostRuntime, spec: &Spec, trace: &str) -> io::Result<()> {
+    let flown = parse_trace(rt.alloc(), trace, spec)?;
+    print_judgement(rt, spec, flown.rows.items(), flown.reports.items())
 }
 
 /// Judges rows and reports, and prints which property they break first.

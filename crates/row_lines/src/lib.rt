@@ -4,7 +4,9 @@
 ghost use Rattle.std.specs.Prelude.{IfOk};
 ghost use Rattle.fault_script.specs.Fits.{Fits};
 
+use coverage_check::{Mission, accept};
 use fault_script::read_script;
+use reconf_spec::read_spec;
 use scram_types::{Script, Spec};
 use std::alloc::Global;
 use std::io::{self, ErrorKind};
@@ -66,6 +68,43 @@ pub fn script_of_text(alloc: Global, spec: &Spec, text: &str) -> io::Result<Scri
 {
     match read_script(alloc, text.as_bytes(), spec) {
         Ok(script) => Ok(script),
+        Err(_) => Err(ErrorKind::InvalidInput.into()),
+    }
+}
+
+/// The specification of a text.
+///
+/// # Errors
+///
+/// Where the text is no specification, or memory is wanting.
+pub fn spec_of_text(alloc: Global, text: &str) -> io::Result<Spec> {
+    match read_spec(alloc, text.as_bytes()) {
+        Ok(spec) => Ok(spec),
+        Err(_) => Err(ErrorKind::InvalidInput.into()),
+    }
+}
+
+/// The mission of the texts of a specification and of a script.
+///
+/// # Errors
+///
+/// Where they are none, or memory is wanting.
+pub fn mission_of_texts(alloc: Global, spec: &str, script: &str) -> io::Result<Mission> {
+    let spec = spec_of_text(alloc, spec)?;
+    match script_of_text(alloc, &spec, script) {
+        Ok(script) => accepted_mission(alloc, spec, script),
+        Err(error) => Err(error),
+    }
+}
+
+fn accepted_mission(alloc: Global, spec: Spec, script: Script) -> io::Result<Mission>
+    requires { Fits spec script }
+{
+    let Ok(accepted) = accept(alloc, spec) else {
+        return Err(ErrorKind::InvalidInput.into());
+    };
+    match Mission::new(accepted, script) {
+        Ok(mission) => Ok(mission),
         Err(_) => Err(ErrorKind::InvalidInput.into()),
     }
 }

@@ -2,7 +2,7 @@
 
 ghost use Rattle.fault_script.specs.Fits.{Fits};
 
-use crate::halts::Halts;
+use crate::halts::{Halt, Halts};
 use crate::scripts::{rule_named, script_of};
 use app_model::racks_fit;
 use frame_model::{reports, rows};
@@ -41,11 +41,22 @@ pub(crate) fn fly_row(rt: &HostRuntime, spec: &Spec, row: &str) -> io::Result<()
     };
     let halts = Halts::of_row(row)?;
     for number in 0..halts.count() {
-        let script = script_of(rt.alloc(), spec, row, halts.halt(number))?;
-        let single = fly_on_one_thread(rt, spec, &script)?;
-        fly_script(rt, spec, &script, row, &single, &mut compared)?;
+        fly_halt(rt, spec, row, halts.halt(number), &mut compared)?;
     }
     print_compared(rt, row, &compared)
+}
+
+/// Flies the script of a row with this halt.
+fn fly_halt(
+    rt: &HostRuntime,
+    spec: &Spec,
+    row: &str,
+    halt: Halt,
+    compared: &mut Compared,
+) -> io::Result<()> {
+    let script = script_of(rt.alloc(), spec, row, halt)?;
+    let single = fly_on_one_thread(rt, spec, &script)?;
+    fly_script(rt, spec, &script, row, &single, compared)
 }
 
 fn fly_script(

@@ -20,8 +20,8 @@ pub(crate) fn look_row(rt: &HostRuntime, spec: &Spec, row: &str) -> io::Result<(
     let halt = Halts::of_row(row)?.halt(0);
     for line in row.split('\n') {
         if let Some(rest) = line.strip_prefix("after ") {
-            let script = script_of(rt.alloc(), spec, row, halt)?;
             println!(rt; "after {rest}")?;
+            let script = script_of(rt.alloc(), spec, row, halt)?;
             look(rt, spec, &script, rest)?;
         }
     }
@@ -34,20 +34,13 @@ fn look(rt: &HostRuntime, spec: &Spec, script: &Script, line: &str) -> io::Resul
 {
     let (events, rest) = line.split_once(' ').unwrap_or((line, ""));
     let (rule, word) = rest.split_once(' ').unwrap_or((rest, ""));
+    let (rule, events) = (rule_named(rule)?, number(events)?);
     let racks = racks!(rt);
     let spares = racks!(rt);
     if !racks_fit(&racks) || !racks_fit(&spares) {
         return Err(ErrorKind::InvalidInput.into());
     }
-    match fly_some(
-        rt.alloc(),
-        spec,
-        script,
-        racks,
-        spares,
-        rule_named(rule)?,
-        number(events)?,
-    ) {
+    match fly_some(rt.alloc(), spec, script, racks, spares, rule, events) {
         Ok(core) => print_word(rt, spec, core, word),
         Err(_) => Err(ErrorKind::OutOfMemory.into()),
     }

@@ -14,10 +14,9 @@ mod scripts;
 
 use crate::flights::fly_row;
 use crate::looks::look_row;
-use reconf_spec::read_spec;
-use row_lines::line_after;
-use std::fs;
-use std::io::{self, ErrorKind};
+use row_lines::{line_after, spec_of_text};
+use scram_types::Spec;
+use std::{fs, io};
 
 fn main(rt: HostRuntime) -> io::Result<()> {
     let rows = fs::read_to_string(&rt, "rows.txt")?;
@@ -31,12 +30,16 @@ fn print_row(rt: &HostRuntime, row: &str) -> io::Result<()> {
     let (title, lines) = row.split_once('\n').unwrap_or((row, ""));
     let text = fs::read_to_string(rt, line_after(lines, "on ").unwrap_or("uav.json"))?;
     println!(rt; "> {title}")?;
-    match read_spec(rt.alloc(), text.as_str().as_bytes()) {
-        Ok(spec) => {
-            fly_row(rt, &spec, lines)?;
-            look_row(rt, &spec, lines)?;
-        }
-        Err(_) => return Err(ErrorKind::InvalidData.into()),
-    }
+    answer(rt, text.as_str(), lines)?;
     println!(rt; "")
+}
+
+fn answer(rt: &HostRuntime, text: &str, lines: &str) -> io::Result<()> {
+    let spec = spec_of_text(rt.alloc(), text)?;
+    answer_row(rt, &spec, lines)
+}
+
+fn answer_row(rt: &HostRuntime, spec: &Spec, lines: &str) -> io::Result<()> {
+    fly_row(rt, spec, lines)?;
+    look_row(rt, spec, lines)
 }

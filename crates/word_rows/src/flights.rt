@@ -1,26 +1,24 @@
 //! Flights of a row.
 
-ghost use Rattle.std.specs.Prelude.{◌≡◌, IfOk};
-ghost use Rattle.fault_script.specs.Fits.{Fits};
+ghost use Rattle.std.specs.Prelude.{◌≡◌, ◌∷◌, [], IfOk};
 ghost use Rattle.word_table.specs.Tables.{AreOpening, AreSeatsOf, IsKernelSeatOf, kernel_frame, kernel_steps, mission_in};
 ghost use Rattle.word_rows.specs.Pairs.{PairFits};
 
 use crate::crews::{Pair, pair_of};
 use crate::looks::look;
 use crate::rounds::{fly_rounds, print_turns, repeat_turns};
-use crate::spec_of;
 use app_model::racks_fit;
-use coverage_check::{Mission, accept};
+use coverage_check::Mission;
 use racks::racks;
-use row_lines::{fill, line_after, number_after, script_of_text};
+use row_lines::{fill, line_after, mission_of_texts, number_after};
 use scram_kernel::Kernel;
-use scram_types::{Row, Script, Spec};
+use scram_types::Row;
 use std::alloc::Global;
 use std::io::{self, ErrorKind};
 use std::rt::HostRuntime;
 use trace_props::one_thread;
 use word_deck::KernelCrew;
-use word_table::{KSeat, WordTable};
+use word_table::{KSeat, Seat, WordTable};
 
 /// Flies the script of a row, for each step of its halt, and prints what came of it.
 pub fn fly_row(rt: &HostRuntime, text: &str, row: &str) -> io::Result<()> {
@@ -31,24 +29,11 @@ pub fn fly_row(rt: &HostRuntime, text: &str, row: &str) -> io::Result<()> {
     Ok(())
 }
 
+// The mission of a row, with this step in the place of `STEP`.
 fn mission_of(rt: &HostRuntime, text: &str, row: &str, step: u32) -> io::Result<Mission> {
-    let spec = spec_of(rt, text)?;
-    let script = script_of(rt.alloc(), &spec, row, step)?;
-    if let Ok(accepted) = accept(rt.alloc(), spec) {
-        if let Ok(mission) = Mission::new(accepted, script) {
-            return Ok(mission);
-        }
-    }
-    Err(ErrorKind::InvalidData.into())
-}
-
-// The script of a row, with this step in the place of `STEP`.
-fn script_of(alloc: Global, spec: &Spec, row: &str, step: u32) -> io::Result<Script>
-    ensures { IfOk result (λ script. Fits spec.now script) }
-{
-    let text = line_after(row, "= ").unwrap_or("");
-    let text = fill(alloc, text, "STEP", step)?;
-    script_of_text(alloc, spec, text.as_str())
+    let script = line_after(row, "= ").unwrap_or("");
+    let script = fill(rt.alloc(), script, "STEP", step)?;
+    mission_of_texts(rt.alloc(), text, script.as_str())
 }
 
 // The words, the kernel's seat and the pair of processors.
@@ -218,10 +203,17 @@ fn close(
     if line_after(row, "look").is_some() {
         return look(rt, kernel.mission, &words, &mut two);
     }
-    let mut seats = Vec::with_capacity(rt.alloc(), 2)?;
-    seats.push(first.seat)?;
-    seats.push(two)?;
+    let seats = list_seats(rt.alloc(), first.seat, two)?;
     let last = words.close(kernel.kseat, seats);
     let [one, two, ..] = last.marks;
     println!(rt; "marks {one} {two}")
+}
+
+fn list_seats(alloc: Global, first: Seat, second: Seat) -> io::Result<Vec<Seat>>
+    ensures { IfOk result (λ seats. seats.items ≡ first ∷ second ∷ []) }
+{
+    let mut seats = Vec::with_capacity(alloc, 2)?;
+    seats.push(first)?;
+    seats.push(second)?;
+    Ok(seats)
 }

@@ -13,10 +13,7 @@ mod looks;
 mod rounds;
 
 use crate::flights::fly_row;
-use reconf_spec::read_spec;
-use scram_types::Spec;
-use std::fs;
-use std::io::{self, ErrorKind};
+use std::{fs, io};
 
 fn main(rt: HostRuntime) -> io::Result<()> {
     let text = fs::read_to_string(&rt, "uav.json")?;
@@ -28,12 +25,4 @@ fn main(rt: HostRuntime) -> io::Result<()> {
         println!(rt; "")?;
     }
     Ok(())
-}
-
-/// The specification of a text. A flight takes it, so it is read for each.
-fn spec_of(rt: &HostRuntime, text: &str) -> io::Result<Spec> {
-    match read_spec(rt.alloc(), text.as_bytes()) {
-        Ok(spec) => Ok(spec),
-        Err(_) => Err(ErrorKind::InvalidData.into()),
-    }
 }
