@@ -12,8 +12,8 @@ pub record IsRead (spec_bytes script_bytes : List ℕ) (spec : Parts) (script : 
   pub spec_reads : spec_of spec_bytes ≡ Ok spec
   pub script_reads : script_of spec script_bytes ≡ Ok script
 
--- The canonical texts went out, after all that was taken before.
-pub record IsSent (spec : Parts) (script : ScriptParts) (old new : SinkState) : Type 0 where
+-- The canonical texts of both went out, after all that was taken before.
+pub record AreSent (spec : Parts) (script : ScriptParts) (old new : SinkState) : Type 0 where
   pub sent : new.sent ≡ taken old ++ mission_text spec script
   pub held : new.held ≡ []
 
@@ -22,4 +22,4 @@ pub record IsPrinted (spec_bytes script_bytes : List ℕ) (old new : SinkState) 
   pub spec : Parts
   pub script : ScriptParts
   pub reads : IsRead spec_bytes script_bytes spec script
-  pub sends : IsSent spec script old new
+  pub sends : AreSent spec script old new

@@ -2,7 +2,7 @@
 
 ghost use Rattle.std.specs.Prelude.{◌≡◌, ◌∷◌, [], IfOk, OnOk};
 ghost use Rattle.scram_io.specs.Outside.{Grew};
-ghost use Rattle.document_bench.specs.Documents.{IsPrinted, IsRead, IsSent};
+ghost use Rattle.document_bench.specs.Documents.{IsPrinted, IsRead, AreSent};
 
 use fault_script::{ScriptError, read_script};
 use mission_gen::write_mission;
@@ -87,7 +87,7 @@ fn print_mission<'a, K: Sink>(
     times: u32,
     out: &mut K,
 ) -> Result<(), Refusal<'a>>
-    ensures { OnOk result (IsSent spec.now script.now (K.state out.old) (K.state out.new)) }
+    ensures { OnOk result (AreSent spec.now script.now (K.state out.old) (K.state out.new)) }
 {
     for _ in 1..times {
         write_mission(alloc, spec, script)?;
