@@ -145,29 +145,3 @@ pub fn step(world: World, elevator: i64, aileron: i64) -> World
         aileron,
     })
 }
-
-#[cfg(test)]
-mod tests {
-    use super::step;
-    use scram_types::World;
-
-    fn make_world(alt: i64, climb: i64, heading: i64, bank: i64) -> World {
-        World {
-            alt,
-            climb,
-            heading,
-            bank,
-        }
-    }
-
-    #[test]
-    fn steps_lead_where_they_were_worked_out_to_lead(rt: HostRuntime) {
-        let level = make_world(5_000, 0, 900, 0);
-        let high = make_world(39_995, 290, 3_590, 200);
-        let rising = make_world(5_000, 5, 900, 0);
-        assert_eq!(rt; step(level, 0, 0), level);
-        assert_eq!(rt; step(high, 300, 300), make_world(40_000, 292, 15, 250));
-        assert_eq!(rt; step(level, 22, 0), rising);
-        assert_eq!(rt; step(rising, 24, 0), make_world(5_000, 9, 900, 0));
-    }
-}

@@ -10,4 +10,4 @@ pub mod macros;
 pub use crate::boxes::Counted;
 pub use crate::calls::{Calls, Counters};
 pub use app_model::{App, Rack};
-pub use racks::{Autopilot, Datalink, FlightControl, Navigator, PowerMonitor};
+pub use racks::{Autopilot, Datalink, FlightControl, Navigator, PowerMonitor, boxed, rack_of};

@@ -5,25 +5,20 @@
 #[macro_export]
 macro_rules! counted_rack {
     ($rt:expr, $own:expr, $awaited:expr) => {{
-        let mut boxes: Vec<Box<dyn $crate::App + Send>> = Vec::new($rt.alloc());
-        boxes.push($crate::counted_box!($rt, Autopilot, $own, $awaited))?;
-        boxes.push($crate::counted_box!($rt, FlightControl, $own, $awaited))?;
-        boxes.push($crate::counted_box!($rt, PowerMonitor, $own, $awaited))?;
-        boxes.push($crate::counted_box!($rt, Navigator, $own, $awaited))?;
-        boxes.push($crate::counted_box!($rt, Datalink, $own, $awaited))?;
-        $crate::Rack { boxes }
-    }};
-}
-
-/// A box of a kind that counts.
-#[macro_export]
-macro_rules! counted_box {
-    ($rt:expr, $kind:ident, $own:expr, $awaited:expr) => {
-        Box::new(
+        let own = $own;
+        let awaited = $awaited;
+        let (first, second, third, fourth, fifth) = $crate::boxed(
             $rt.alloc(),
-            $crate::Counted::new($crate::$kind::new(), $own, $awaited),
-        )?
-    };
+            (
+                $crate::Counted::new($crate::Autopilot::new(), own, awaited),
+                $crate::Counted::new($crate::FlightControl::new(), own, awaited),
+                $crate::Counted::new($crate::PowerMonitor::new(), own, awaited),
+                $crate::Counted::new($crate::Navigator::new(), own, awaited),
+                $crate::Counted::new($crate::Datalink::new(), own, awaited),
+            ),
+        )?;
+        $crate::rack_of($rt.alloc(), first, second, third, fourth, fifth)?
+    }};
 }
 
 /// Eight racks of boxes that count in these `Counters`, in which those of the first two processors wait for one another.

@@ -4,6 +4,8 @@
 #[cfg(test)]
 mod applications;
 #[cfg(test)]
+mod boxes;
+#[cfg(test)]
 mod events;
 #[cfg(test)]
 mod images;
@@ -11,5 +13,7 @@ mod images;
 mod marks;
 #[cfg(test)]
 mod numbers;
+#[cfg(test)]
+mod outside;
 #[cfg(test)]
 mod ranks;

@@ -5,8 +5,6 @@
 pub mod data_link;
 pub mod navigator;
 pub mod plain_autopilot;
-#[cfg(test)]
-mod tests;
 
 pub use data_link::Datalink;
 pub use navigator::Navigator;

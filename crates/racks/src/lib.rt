@@ -3,11 +3,11 @@
 #![tactic(auto)]
 
 pub mod macros;
-#[cfg(test)]
-mod tests;
+pub mod making;
 
 pub use app_model::{App, Rack};
 pub use autopilot::Autopilot;
 pub use flight_control::FlightControl;
+pub use making::{boxed, rack_of};
 pub use more_apps::{Datalink, Navigator};
 pub use power_monitor::PowerMonitor;

@@ -5,13 +5,17 @@
 #[macro_export]
 macro_rules! rack {
     ($rt:expr, $first:expr) => {{
-        let mut boxes: Vec<Box<dyn $crate::App + Send>> = Vec::new($rt.alloc());
-        boxes.push(Box::new($rt.alloc(), $first)?)?;
-        boxes.push(Box::new($rt.alloc(), $crate::FlightControl::new())?)?;
-        boxes.push(Box::new($rt.alloc(), $crate::PowerMonitor::new())?)?;
-        boxes.push(Box::new($rt.alloc(), $crate::Navigator::new())?)?;
-        boxes.push(Box::new($rt.alloc(), $crate::Datalink::new())?)?;
-        $crate::Rack { boxes }
+        let (first, second, third, fourth, fifth) = $crate::boxed(
+            $rt.alloc(),
+            (
+                $first,
+                $crate::FlightControl::new(),
+                $crate::PowerMonitor::new(),
+                $crate::Navigator::new(),
+                $crate::Datalink::new(),
+            ),
+        )?;
+        $crate::rack_of($rt.alloc(), first, second, third, fourth, fifth)?
     }};
 }
 

@@ -2,8 +2,29 @@
 use Rattle.std.specs.Prelude.{◌≡◌, [], codes, Ok, option_map}
 use Rattle.serde_json.specs.View.{view}
 use Rattle.scram_doc.specs.Members.{needed}
+use Rattle.serde_json.specs.Data.{Data}
 use Rattle.reconf_spec.specs.declared.members.Members.{Members}
+use Rattle.reconf_spec.specs.declared.members.NamingMembers.{NamingMembers}
+use Rattle.reconf_spec.specs.declared.members.MembersBehindNames.{MembersBehindNames}
 use Rattle.reconf_spec.specs.Versions.{IsPolicy}
+
+-- Each value is that of its member.
+pub record AreNamingMembers (d : Data) (m : NamingMembers) : Type 0 where
+  pub scram : needed (codes "scram") [] d ≡ Ok (view m.scram.now)
+  pub procs : needed (codes "processors") [] d ≡ Ok (view m.procs.now)
+  pub apps : needed (codes "apps") [] d ≡ Ok (view m.apps.now)
+  pub confs : needed (codes "configurations") [] d ≡ Ok (view m.confs.now)
+  pub factors : needed (codes "factors") [] d ≡ Ok (view m.factors.now)
+
+-- Each value is that of its member.
+pub record AreMembersBehindNames (d : Data) (m : MembersBehindNames) : Type 0 where
+  pub rules : needed (codes "rules") [] d ≡ Ok (view m.rules.now)
+  pub bounds : needed (codes "bounds") [] d ≡ Ok (view m.bounds.now)
+  pub start : needed (codes "start") [] d ≡ Ok (view m.start.now)
+  pub goal : needed (codes "goal") [] d ≡ Ok (view m.goal.now)
+  pub invariants : needed (codes "invariants") [] d ≡ Ok (view m.invariants.now)
+  pub preconditions : needed (codes "preconditions") [] d ≡ Ok (view m.preconditions.now)
+  pub assumption : needed (codes "assumption") [] d ≡ Ok (view m.assumption.now)
 
 -- Each value is that of its member.
 pub record AreMembers (m : Members) : Type 0 where

@@ -25,6 +25,15 @@ first_members =
     codes "scram" ∷ codes "processors" ∷ codes "apps" ∷ codes "configurations" ∷ codes "factors" ∷ codes "rules" ∷ codes "bounds"
     ∷ codes "start" ∷ codes "goal" ∷ codes "invariants" ∷ codes "preconditions" ∷ codes "assumption" ∷ []
 
+-- the members of version 1 up to those that name things, in the order in which they are tested
+abbrev pub naming_members : List (List ℕ)
+naming_members = codes "scram" ∷ codes "processors" ∷ codes "apps" ∷ codes "configurations" ∷ codes "factors" ∷ []
+
+-- the members of version 1 behind those that name things, in the order in which they are tested
+abbrev pub members_behind_names : List (List ℕ)
+members_behind_names =
+    codes "rules" ∷ codes "bounds" ∷ codes "start" ∷ codes "goal" ∷ codes "invariants" ∷ codes "preconditions" ∷ codes "assumption" ∷ []
+
 -- the members of version 2, in the order in which they are tested
 abbrev pub second_members : List (List ℕ)
 second_members =
@@ -44,6 +53,10 @@ IsPolicy d (Some policy) = (is_second d ≡ true) × (needed (codes "policy") []
 abbrev pub each_then : List (List ℕ) → Data → Result ⊤ DocFault → Result ⊤ DocFault
 each_then [] d rest = rest
 each_then (name ∷ names) d rest = chain (needed name [] d) (λ (_ : Data). each_then names d rest)
+
+-- each of these members is there
+abbrev pub each_needed : List (List ℕ) → Data → Result ⊤ DocFault
+each_needed names d = each_then names d (Ok tt)
 
 -- the policy is there in version 2
 abbrev pub policy_tested : Data → Result ⊤ DocFault

@@ -25,7 +25,10 @@ pub(crate) fn read_kind_mode(kind: KindId, v: &Value, at: &Path) -> Result<Mode,
     ensures value { ok_map (λ mode. mode.0) result ≡ read_kind_mode kind.0 at.now (view v.now) }
     ensures of_kind { IfOk result (λ mode. IsListed (number_in (mode_names kind.0)) mode.0) }
 {
-    mode_named(kind, text(v, at)?).ok_or_else(|| DocFault::new(rule::UNKNOWN_MODE, at))
+    match mode_named(kind, text(v, at)?) {
+        Some(mode) => Ok(mode),
+        None => Err(DocFault::new(rule::UNKNOWN_MODE, at)),
+    }
 }
 
 fn is_listed(modes: &[ModeSpec], mode: Mode) -> bool
@@ -106,7 +109,10 @@ fn read_kind(v: &Value, at: &Path) -> Result<KindId, DocFault>
     ensures value { ok_map (λ kind. kind.0) result ≡ read_kind at.now (view v.now) }
     ensures built { IfOk result (λ kind. kind.0 < 5) }
 {
-    kind_named(text(v, at)?).ok_or_else(|| DocFault::new(rule::UNKNOWN_KIND, at))
+    match kind_named(text(v, at)?) {
+        Some(kind) => Ok(kind),
+        None => Err(DocFault::new(rule::UNKNOWN_KIND, at)),
+    }
 }
 
 /// Tests that the value is a list of 0 to 8 texts.

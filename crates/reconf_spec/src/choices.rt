@@ -1,17 +1,18 @@
 //! Rules of the choice table.
 
-ghost use Rattle.std.specs.Prelude.{◌≡◌, ◌≤◌, ◌<◌, ◌^◌, false, [], codes, length, slice_get, IfOk};
+ghost use Rattle.std.specs.Prelude.{◌≡◌, ◌≤◌, ◌<◌, ◌^◌, false, [], codes, length, slice_get, IfOk, IfSome};
 ghost use Rattle.serde_json.specs.View.{view};
+ghost use Rattle.scram_types.specs.Lookups.{number_named};
 ghost use Rattle.scram_types.specs.Specification.{IsIn, IsInIfNamed};
 ghost use Rattle.scram_doc.specs.Chain.{ok_map};
 ghost use Rattle.scram_doc.specs.Faults.{Answers};
 ghost use Rattle.scram_doc.specs.Lists.{AllAfter};
+ghost use Rattle.scram_doc.specs.Numbering.{itself};
 ghost use Rattle.reconf_spec.specs.Choices.{read_conf_id, read_source, wants_factor, read_new_factor, read_value_of, read_want, read_up, read_up_list, read_choice, read_choices};
 ghost use Rattle.reconf_spec.specs.Members.{member_in};
 ghost use Rattle.reconf_spec.specs.Facts.{IsNewWant, FitsChoice, FewValues, HasValue};
 ghost use Rattle.reconf_spec.specs.Found.{AreMembers};
 
-use crate::factors::NumberedFactor;
 use crate::members::Members;
 use crate::names::{ByName, read_named};
 use crate::rule;
@@ -21,7 +22,7 @@ use scram_doc::{
 };
 use scram_types::bits::has_bit;
 use scram_types::limits::{MAX_FACTORS, MAX_PROCESSORS, MAX_RULES};
-use scram_types::{Choice, Conf, ConfId, FactorId, List, Proc, Want};
+use scram_types::{Choice, Conf, ConfId, Factor, FactorId, List, Proc, Want};
 use serde_json::Value;
 use std::alloc::Global;
 
@@ -62,7 +63,7 @@ fn wants_factor(wants: &[Want], factor: FactorId) -> bool
 }
 
 fn read_new_factor(
-    factors: &Numbered<NumberedFactor, ByName>,
+    factors: &Numbered<Factor, ByName>,
     done: &[Want],
     v: &Value,
     at: &Path,
@@ -80,8 +81,17 @@ fn read_new_factor(
     }
 }
 
+#[tactic(auto, using(crate::proofs::Found::number_below))]
+fn number_of_value(factor: &Factor, text: &str) -> Option<u8>
+    requires few { length factor.now.values ≤ 255 }
+    ensures value { result ≡ number_named itself factor.now.values text.now }
+    ensures below { IfSome result (λ value. value < length factor.now.values) }
+{
+    factor.value_named(text.as_bytes())
+}
+
 fn read_value_of(
-    factors: &Numbered<NumberedFactor, ByName>,
+    factors: &Numbered<Factor, ByName>,
     factor: FactorId,
     v: &Value,
     at: &Path,
@@ -90,8 +100,11 @@ fn read_value_of(
     ensures value { result ≡ read_value_of (slice_get factors.now factor.0) at.now (view v.now) }
     ensures there { IfOk result (λ value. HasValue (slice_get factors.now factor.0) value) }
 {
-    match factors.items().get(usize::from(factor.0)) {
-        Some(found) => read_named(&found.values, rule::UNKNOWN_FACTOR_OR_VALUE, v, at),
+    let Some(found) = factors.items().get(usize::from(factor.0)) else {
+        return Err(DocFault::new(rule::UNKNOWN_FACTOR_OR_VALUE, at));
+    };
+    match number_of_value(found, text(v, at)?) {
+        Some(value) => Ok(value),
         None => Err(DocFault::new(rule::UNKNOWN_FACTOR_OR_VALUE, at)),
     }
 }

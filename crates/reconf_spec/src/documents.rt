@@ -11,7 +11,6 @@ ghost use Rattle.reconf_spec.specs.Found.{AreMembers};
 
 use crate::bounds::read_bounds;
 use crate::choices::{read_choices, read_conf_id};
-use crate::factors::plain_factors;
 use crate::intervals::{read_invariants, read_preconditions};
 use crate::members::Members;
 use crate::rule;
@@ -20,9 +19,7 @@ use scram_doc::{DocError, DocFault, Path, int_in, need, no_more, object, text, w
 use scram_types::limits::{
     MAX_ALTITUDE, MAX_ASSUMED_CHANGES, MAX_ASSUMED_HALTS, MAX_HEADING, MAX_WINDOW,
 };
-use scram_types::{
-    Bound, Choice, ConfId, Goal, Invariant, List, NoMemory, Policy, Precondition, Spec,
-};
+use scram_types::{Bound, Choice, ConfId, Goal, Invariant, List, Policy, Precondition, Spec};
 use serde_json::Value;
 use std::alloc::Global;
 
@@ -153,17 +150,16 @@ fn read_behind_names(
 }
 
 /// The specification of these names and of what stands behind them.
-fn join(alloc: Global, vocabulary: Vocabulary, rest: Rest) -> Result<Spec, NoMemory>
+fn join(vocabulary: Vocabulary, rest: Rest) -> Spec
     requires fits { FitsRest vocabulary.procs vocabulary.apps vocabulary.confs vocabulary.factors rest }
-    ensures value { IfOk result (λ spec. spec ≡ with_rest vocabulary rest) }
-    ensures writable { IfOk result IsWritable }
+    ensures value { result ≡ with_rest vocabulary rest }
+    ensures writable { IsWritable result }
 {
-    let factors = plain_factors(alloc, vocabulary.factors)?;
-    Ok(Spec {
+    Spec {
         procs: List::of(vocabulary.procs.into_items()),
         apps: List::of(vocabulary.apps.into_items()),
         confs: List::of(vocabulary.confs.into_items()),
-        factors,
+        factors: List::of(vocabulary.factors.into_items()),
         rules: rest.rules,
         bounds: rest.bounds,
         start: rest.start,
@@ -174,7 +170,7 @@ fn join(alloc: Global, vocabulary: Vocabulary, rest: Rest) -> Result<Spec, NoMem
         halts: rest.assumed.halts,
         changes: rest.assumed.changes,
         window: rest.assumed.window,
-    })
+    }
 }
 
 /// The specification, once the names are known.
@@ -188,8 +184,5 @@ pub(crate) fn read_rest(
     ensures writable { IfOk result IsWritable }
 {
     let rest = read_behind_names(alloc, &vocabulary, members)?;
-    match join(alloc, vocabulary, rest) {
-        Ok(spec) => Ok(spec),
-        Err(_) => Err(DocError::NoMemory),
-    }
+    Ok(join(vocabulary, rest))
 }

@@ -3,7 +3,7 @@
 ghost use Rattle.std.specs.Prelude.{◌≡◌, ◌≤◌, codes, length, IfOk};
 ghost use Rattle.serde_json.specs.View.{view};
 ghost use Rattle.scram_doc.specs.Faults.{Answers};
-ghost use Rattle.reconf_spec.specs.Factors.{name_of_factor, read_value_name, read_factor, read_factors};
+ghost use Rattle.reconf_spec.specs.Factors.{read_value_name, read_factor, read_factors};
 ghost use Rattle.reconf_spec.specs.Members.{member_in};
 ghost use Rattle.scram_doc.specs.Lists.{AllAfter};
 ghost use Rattle.reconf_spec.specs.Facts.{IsNewName, IsNewFactor};
@@ -11,14 +11,11 @@ ghost use Rattle.reconf_spec.specs.Found.{AreMembers};
 
 use crate::members::Members;
 use crate::names::{ByName, read_new_name};
-use scram_doc::{
-    DocError, NamedElements, Naming, Numbered, Path, need, no_more, object, read_named_list,
-};
+use scram_doc::{DocError, NamedElements, Numbered, Path, need, no_more, object, read_named_list};
 use scram_types::limits::{MAX_FACTORS, MAX_VALUES, MIN_VALUES};
-use scram_types::{Factor, List, Name, NoMemory};
+use scram_types::{Factor, List, Name};
 use serde_json::Value;
 use std::alloc::Global;
-use std::marker::Model;
 
 struct Values;
 
@@ -42,54 +39,9 @@ impl NamedElements<Name, ByName> for Values {
     }
 }
 
-/// A factor, with the numbers of its values.
-#[derive(Drop)]
-pub(crate) struct NumberedFactor {
-    name: Name,
-    pub(crate) values: Numbered<Name, ByName>,
-}
-
-impl Model for NumberedFactor {
-    ghost use Rattle.scram_types.specs.declared.specification.Factor.{Factor};
-
-    ghost Value = { Factor };
-
-    ghost view = { λ f. record { name = f.name; values = f.values } };
-}
-
-impl Naming<NumberedFactor> for ByName {
-    ghost spelling = { name_of_factor };
-
-    fn name(factor: &NumberedFactor) -> &str {
-        factor.name.as_str()
-    }
-}
-
-/// The factors as a specification has them.
-pub(crate) fn plain_factors(
-    alloc: Global,
-    factors: Numbered<NumberedFactor, ByName>,
-) -> Result<List<Factor>, NoMemory>
-    ensures { IfOk result (λ l. l ≡ factors) }
-{
-    let (numbered, _) = factors.into_parts();
-    let mut plain = Vec::new(alloc);
-    for factor in numbered {
-        let NumberedFactor { name, values } = factor;
-        let factor = Factor {
-            name,
-            values: List::of(values.into_items()),
-        };
-        if plain.push(factor).is_err() {
-            return Err(NoMemory);
-        }
-    }
-    Ok(List::of(plain))
-}
-
 struct Factors;
 
-impl NamedElements<NumberedFactor, ByName> for Factors {
+impl NamedElements<Factor, ByName> for Factors {
     ghost room = { 24 };
 
     ghost reading = { λ _. read_factor };
@@ -101,10 +53,10 @@ impl NamedElements<NumberedFactor, ByName> for Factors {
     fn read(
         &self,
         alloc: Global,
-        done: &Numbered<NumberedFactor, ByName>,
+        done: &Numbered<Factor, ByName>,
         v: &Value,
         at: &Path,
-    ) -> Result<NumberedFactor, DocError> {
+    ) -> Result<Factor, DocError> {
         object(v, at)?;
         let name = need(v, "name", at)?;
         let values = need(v, "values", at)?;
@@ -112,7 +64,10 @@ impl NamedElements<NumberedFactor, ByName> for Factors {
         let name = read_new_name(done, name, &at.member("name"))?;
         let at = at.member("values");
         let values = read_named_list(alloc, &Values, values, MIN_VALUES, MAX_VALUES, &at)?;
-        Ok(NumberedFactor { name, values })
+        Ok(Factor {
+            name,
+            values: List::of(values.into_items()),
+        })
     }
 }
 
@@ -120,7 +75,7 @@ impl NamedElements<NumberedFactor, ByName> for Factors {
 pub(crate) fn read_factors(
     alloc: Global,
     members: &Members<'_>,
-) -> Result<Numbered<NumberedFactor, ByName>, DocError>
+) -> Result<Numbered<Factor, ByName>, DocError>
     requires members { AreMembers members.now }
     ensures value { Answers (member_in (codes "factors") read_factors (view members.now.document.now)) (λ l. l) result }
     ensures few { IfOk result (λ l. length l ≤ 6) }

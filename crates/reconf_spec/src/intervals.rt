@@ -36,11 +36,11 @@ fn read_variable(apps: &[AppSpec], app: AppId, v: &Value, at: &Path) -> Result<u
     ensures value { result ≡ read_variable (slice_get apps.now app.0) at.now (view v.now) }
     ensures is { IfOk result (λ variable. IsVariable (slice_get apps.now app.0) variable) }
 {
-    match apps.get(usize::from(app.0)) {
-        Some(found) => variable_named(found.kind, text(v, at)?).ok_or_else(|| DocFault::new(
-            rule::UNKNOWN_VARIABLE,
-            at,
-        )),
+    let Some(found) = apps.get(usize::from(app.0)) else {
+        return Err(DocFault::new(rule::UNKNOWN_VARIABLE, at));
+    };
+    match variable_named(found.kind, text(v, at)?) {
+        Some(variable) => Ok(variable),
         None => Err(DocFault::new(rule::UNKNOWN_VARIABLE, at)),
     }
 }

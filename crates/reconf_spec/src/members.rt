@@ -4,8 +4,8 @@ ghost use Rattle.std.specs.Prelude.{◌≡◌, [], Ok, Some, codes, length, opti
 ghost use Rattle.serde_json.specs.View.{view};
 ghost use Rattle.scram_doc.specs.Chain.{chain, ok_map};
 ghost use Rattle.scram_doc.specs.Members.{needed, no_more_than};
-ghost use Rattle.reconf_spec.specs.Found.{AreMembers};
-ghost use Rattle.reconf_spec.specs.Versions.{IsPolicy, is_two_in, members_of, members_tested, policy_tested};
+ghost use Rattle.reconf_spec.specs.Found.{AreMembers, AreMembersBehindNames, AreNamingMembers};
+ghost use Rattle.reconf_spec.specs.Versions.{IsPolicy, each_needed, is_two_in, members_behind_names, members_of, members_tested, naming_members, policy_tested};
 
 use scram_doc::{DocFault, Path, need, no_more, object};
 use serde_json::Value;
@@ -53,19 +53,52 @@ fn find_policy<'a>(document: &'a Value, scram: &Value) -> Result<Option<&'a Valu
     }
 }
 
-/// The members of an object that has those of its version and no other.
-pub(crate) fn find_members(document: &Value) -> Result<Members<'_>, DocFault>
-    ensures tested { ok_map (λ _. tt) result ≡ members_tested (view document.now) }
-    ensures document { IfOk result (λ members. members.document.now ≡ document.now) }
-    ensures members { IfOk result (λ members. AreMembers members) }
+/// The version, and the members that name things.
+#[derive(Clone, Copy)]
+struct NamingMembers<'a> {
+    scram: &'a Value,
+    procs: &'a Value,
+    apps: &'a Value,
+    confs: &'a Value,
+    factors: &'a Value,
+}
+
+fn find_naming(document: &Value) -> Result<NamingMembers<'_>, DocFault>
+    ensures tested { ok_map (λ _. tt) result ≡ each_needed naming_members (view document.now) }
+    ensures members { IfOk result (AreNamingMembers (view document.now)) }
 {
     let root = Path::root();
-    object(document, &root)?;
     let scram = need(document, "scram", &root)?;
     let procs = need(document, "processors", &root)?;
     let apps = need(document, "apps", &root)?;
     let confs = need(document, "configurations", &root)?;
     let factors = need(document, "factors", &root)?;
+    Ok(NamingMembers {
+        scram,
+        procs,
+        apps,
+        confs,
+        factors,
+    })
+}
+
+/// The members that stand behind the names in both versions.
+#[derive(Clone, Copy)]
+struct MembersBehindNames<'a> {
+    rules: &'a Value,
+    bounds: &'a Value,
+    start: &'a Value,
+    goal: &'a Value,
+    invariants: &'a Value,
+    preconditions: &'a Value,
+    assumption: &'a Value,
+}
+
+fn find_behind_names(document: &Value) -> Result<MembersBehindNames<'_>, DocFault>
+    ensures tested { ok_map (λ _. tt) result ≡ each_needed members_behind_names (view document.now) }
+    ensures members { IfOk result (AreMembersBehindNames (view document.now)) }
+{
+    let root = Path::root();
     let rules = need(document, "rules", &root)?;
     let bounds = need(document, "bounds", &root)?;
     let start = need(document, "start", &root)?;
@@ -73,14 +106,7 @@ pub(crate) fn find_members(document: &Value) -> Result<Members<'_>, DocFault>
     let invariants = need(document, "invariants", &root)?;
     let preconditions = need(document, "preconditions", &root)?;
     let assumption = need(document, "assumption", &root)?;
-    let policy = find_policy(document, scram)?;
-    Ok(Members {
-        document,
-        scram,
-        procs,
-        apps,
-        confs,
-        factors,
+    Ok(MembersBehindNames {
         rules,
         bounds,
         start,
@@ -88,6 +114,33 @@ pub(crate) fn find_members(document: &Value) -> Result<Members<'_>, DocFault>
         invariants,
         preconditions,
         assumption,
+    })
+}
+
+/// The members of an object that has those of its version and no other.
+pub(crate) fn find_members(document: &Value) -> Result<Members<'_>, DocFault>
+    ensures tested { ok_map (λ _. tt) result ≡ members_tested (view document.now) }
+    ensures document { IfOk result (λ members. members.document.now ≡ document.now) }
+    ensures members { IfOk result (λ members. AreMembers members) }
+{
+    object(document, &Path::root())?;
+    let naming = find_naming(document)?;
+    let behind = find_behind_names(document)?;
+    let policy = find_policy(document, naming.scram)?;
+    Ok(Members {
+        document,
+        scram: naming.scram,
+        procs: naming.procs,
+        apps: naming.apps,
+        confs: naming.confs,
+        factors: naming.factors,
+        rules: behind.rules,
+        bounds: behind.bounds,
+        start: behind.start,
+        goal: behind.goal,
+        invariants: behind.invariants,
+        preconditions: behind.preconditions,
+        assumption: behind.assumption,
         policy,
     })
 }

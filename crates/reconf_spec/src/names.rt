@@ -9,10 +9,11 @@ ghost use Rattle.reconf_spec.specs.Facts.{IsFresh};
 ghost use Rattle.reconf_spec.specs.Processors.{name_of_proc};
 ghost use Rattle.reconf_spec.specs.Applications.{name_of_app};
 ghost use Rattle.reconf_spec.specs.Configurations.{name_of_conf};
+ghost use Rattle.reconf_spec.specs.Factors.{name_of_factor};
 
 use crate::rule;
 use scram_doc::{DocFault, Naming, Numbered, Path, text};
-use scram_types::{AppSpec, Conf, Name, Proc};
+use scram_types::{AppSpec, Conf, Factor, Name, Proc};
 use serde_json::Value;
 
 /// The things of a specification are named by their names, and a name by itself.
@@ -39,6 +40,14 @@ impl Naming<Conf> for ByName {
 
     fn name(conf: &Conf) -> &str {
         conf.name.as_str()
+    }
+}
+
+impl Naming<Factor> for ByName {
+    ghost spelling = { name_of_factor };
+
+    fn name(factor: &Factor) -> &str {
+        factor.name.as_str()
     }
 }
 

@@ -1,9 +1,8 @@
 //! What the rest of a document names.
 
-use crate::factors::NumberedFactor;
 use crate::names::ByName;
 use scram_doc::Numbered;
-use scram_types::{AppSpec, Conf, Proc};
+use scram_types::{AppSpec, Conf, Factor, Proc};
 use std::marker::Model;
 
 /// Processors, applications, configurations and factors as they were read.
@@ -12,7 +11,7 @@ pub(crate) struct Vocabulary {
     pub(crate) procs: Numbered<Proc, ByName>,
     pub(crate) apps: Numbered<AppSpec, ByName>,
     pub(crate) confs: Numbered<Conf, ByName>,
-    pub(crate) factors: Numbered<NumberedFactor, ByName>,
+    pub(crate) factors: Numbered<Factor, ByName>,
 }
 
 impl Model for Vocabulary {

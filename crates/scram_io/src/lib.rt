@@ -13,9 +13,7 @@ pub mod real_files;
 pub mod real_sink;
 pub(crate) mod recorded;
 pub mod sink;
-pub(crate) mod streams;
-#[cfg(test)]
-mod tests;
+pub mod streams;
 
 pub use files::{Files, ReadFault};
 pub use mem_files::MemFiles;

@@ -15,11 +15,7 @@ const PIECE: usize = 4096;
 ///
 /// It asks for at most `limit + 1` bytes in all, takes at least one in each turn, and ends where a
 /// read gives none. It fails where one read fails.
-pub(crate) fn read_whole<I: Read>(
-    alloc: Global,
-    input: &mut I,
-    limit: usize,
-) -> Result<Vec<u8>, ReadFault>
+pub fn read_whole<I: Read>(alloc: Global, input: &mut I, limit: usize) -> Result<Vec<u8>, ReadFault>
     ensures whole { IfOk result (λ bytes. IfSome (I.remaining input.old) (λ all. bytes.items ≡ all)) }
     ensures limited { IfOk result (λ bytes. length bytes.items ≤ limit) }
     ensures too_long { IsErrOf result ReadFault.TooLong → IfSome (I.remaining input.old) (λ all. limit < length all) }
@@ -41,7 +37,7 @@ pub(crate) fn read_whole<I: Read>(
 }
 
 /// Writes all the bytes to a stream, which need not pass them on. A write that takes nothing fails.
-pub(crate) fn write_whole<O: Write>(output: &mut O, bytes: &[u8]) -> Result<(), SinkFault>
+pub fn write_whole<O: Write>(output: &mut O, bytes: &[u8]) -> Result<(), SinkFault>
     ensures whole { OnOk result (Appends (O.contents output.old) (O.contents output.new) bytes.now) }
     ensures prefix { OnErr result (AppendsPrefix (O.contents output.old) (O.contents output.new) bytes.now) }
 {

@@ -1,6 +1,7 @@
-//! Calls that need memory, and streams that stop in the middle.
-use super::streams::{read_whole, write_whole};
-use super::{Files, MemFiles, MemSink, ReadFault, RealFiles, RealSink, Sink, SinkFault};
+//! Files and sinks in memory and of the system, and streams that stop in the middle.
+
+use scram_io::streams::{read_whole, write_whole};
+use scram_io::{Files, MemFiles, MemSink, ReadFault, RealFiles, RealSink, Sink, SinkFault};
 use std::alloc::Global;
 use std::io;
 use std::io::{ErrorKind, Read, Write};

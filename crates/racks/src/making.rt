@@ -1,0 +1,38 @@
+//! Boxes, and a rack of five of them. No function may make boxes of applications and hand them out as such; these are
+//! handed the values, and then the boxes, so that a body in which `rack!` stands has two early returns and not ten.
+
+use app_model::{App, Rack};
+use std::alloc::{AllocError, Global};
+
+/// A box for each of five applications, or `Err` where there is no memory for one.
+pub fn boxed<A: App, B: App, C: App, D: App, E: App>(
+    alloc: Global,
+    apps: (A, B, C, D, E),
+) -> Result<(Box<A>, Box<B>, Box<C>, Box<D>, Box<E>), AllocError> {
+    let (first, second, third, fourth, fifth) = apps;
+    Ok((
+        Box::new(alloc, first)?,
+        Box::new(alloc, second)?,
+        Box::new(alloc, third)?,
+        Box::new(alloc, fourth)?,
+        Box::new(alloc, fifth)?,
+    ))
+}
+
+/// The rack of these boxes in this order, or `Err` where there is no memory for it.
+pub fn rack_of(
+    alloc: Global,
+    first: Box<dyn App + Send>,
+    second: Box<dyn App + Send>,
+    third: Box<dyn App + Send>,
+    fourth: Box<dyn App + Send>,
+    fifth: Box<dyn App + Send>,
+) -> Result<Rack, AllocError> {
+    let mut boxes = Vec::with_capacity(alloc, 5)?;
+    boxes.push(first)?;
+    boxes.push(second)?;
+    boxes.push(third)?;
+    boxes.push(fourth)?;
+    boxes.push(fifth)?;
+    Ok(Rack { boxes })
+}
