@@ -188,12 +188,23 @@ fn answer_read<R: AllocGlobal + Threads + Wait + Sync, F: Files, K: Sink>(
 {
     match request {
         Request::Run { script } => run(rt, spec, script, files, out, boxes),
-        Request::Check => check(rt.alloc(), spec, out),
-        Request::Bounds => tell_bounds(rt.alloc(), &spec, out),
+        Request::Check => {
+            drop(boxes);
+            check(rt.alloc(), spec, out)
+        }
+        Request::Bounds => {
+            let status = tell_bounds(rt.alloc(), &spec, out);
+            drop((spec, boxes));
+            status
+        }
         Request::Replay { script, schedule } => {
             answer_replay(rt.alloc(), spec, script, schedule, files, out, boxes)
         }
-        Request::Props { trace } => props(rt.alloc(), &spec, trace, files, out),
+        Request::Props { trace } => {
+            let status = props(rt.alloc(), &spec, trace, files, out);
+            drop((spec, boxes));
+            status
+        }
     }
 }
 
@@ -216,10 +227,22 @@ fn run<R: AllocGlobal + Threads + Wait + Sync, F: Files, K: Sink>(
 {
     match load_script(rt.alloc(), &spec, script, files) {
         Loaded::Got(script) => fly(rt, spec, script, FlightText::Trace, out, boxes),
-        Loaded::Refused(fault) => tell_line(out, BROKEN_SCRIPT, &make_script_line(&fault)),
-        Loaded::TooLong => refuse_long_script(out),
-        Loaded::Failed => refuse_read(rt.alloc(), out, script),
-        Loaded::NoMemory => refuse_memory(out),
+        Loaded::Refused(fault) => {
+            drop((spec, boxes));
+            tell_line(out, BROKEN_SCRIPT, &make_script_line(&fault))
+        }
+        Loaded::TooLong => {
+            drop((spec, boxes));
+            refuse_long_script(out)
+        }
+        Loaded::Failed => {
+            drop((spec, boxes));
+            refuse_read(rt.alloc(), out, script)
+        }
+        Loaded::NoMemory => {
+            drop((spec, boxes));
+            refuse_memory(out)
+        }
     }
 }
 

@@ -32,11 +32,20 @@ pub fn check<K: Sink>(alloc: Global, spec: Spec, out: &mut K) -> Status
     ensures read { result.code ≢ UNREAD_FILE }
 {
     match accept(alloc, spec) {
-        Ok(accepted) => tell_line(out, ANSWERED, &make_accepted_line(accepted.spec())),
-        Err(AcceptError::NotAccepted(spec, shown)) => {
-            tell_line(out, NOT_ACCEPTED, &make_shown_line(&spec, &shown))
+        Ok(accepted) => {
+            let line = make_accepted_line(accepted.spec());
+            drop(accepted);
+            tell_line(out, ANSWERED, &line)
         }
-        Err(AcceptError::NoMemory(_)) => refuse_memory(out),
+        Err(AcceptError::NotAccepted(spec, shown)) => {
+            let shown = make_shown_line(&spec, &shown);
+            drop(spec);
+            tell_line(out, NOT_ACCEPTED, &shown)
+        }
+        Err(AcceptError::NoMemory(spec)) => {
+            drop(spec);
+            refuse_memory(out)
+        }
     }
 }
 
@@ -75,9 +84,14 @@ pub fn fly<R: AllocGlobal + Threads + Wait + Sync, K: Sink>(
     match accept(rt.alloc(), spec) {
         Ok(accepted) => fly_accepted(rt, accepted, script, told, out, boxes),
         Err(AcceptError::NotAccepted(refused, shown)) => {
-            tell_line(out, NOT_ACCEPTED, &make_shown_line(&refused, &shown))
+            let line = make_shown_line(&refused, &shown);
+            drop((refused, script, boxes));
+            tell_line(out, NOT_ACCEPTED, &line)
         }
-        Err(AcceptError::NoMemory(_)) => refuse_memory(out),
+        Err(AcceptError::NoMemory(spec)) => {
+            drop((spec, script, boxes));
+            refuse_memory(out)
+        }
     }
 }
 
@@ -97,8 +111,16 @@ fn fly_accepted<R: AllocGlobal + Threads + Wait + Sync, K: Sink>(
     ensures read { result.code ≢ UNREAD_FILE }
 {
     match Mission::new(accepted, script) {
-        Ok(mission) => fly_mission(rt, &mission, told, out, boxes),
-        Err(refused) => tell_line(out, UNASSUMED_SCRIPT, &make_outside_line(&refused.outside)),
+        Ok(mission) => {
+            let status = fly_mission(rt, &mission, told, out, boxes);
+            drop(mission);
+            status
+        }
+        Err(refused) => {
+            let line = make_outside_line(&refused.outside);
+            drop((refused, boxes));
+            tell_line(out, UNASSUMED_SCRIPT, &line)
+        }
     }
 }
 

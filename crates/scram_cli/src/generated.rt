@@ -63,7 +63,11 @@ fn answer_mission<R: AllocGlobal + Threads + Wait + Sync, K: Sink>(
     ensures read { result.code ≢ UNREAD_FILE }
 {
     match purpose {
-        Purpose::Print => print_mission(rt.alloc(), &spec, &script, out),
+        Purpose::Print => {
+            let status = print_mission(rt.alloc(), &spec, &script, out);
+            drop((spec, script, boxes));
+            status
+        }
         Purpose::Fly => fly(rt, spec, script, FlightText::Summary(number), out, boxes),
     }
 }

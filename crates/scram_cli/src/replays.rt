@@ -46,10 +46,22 @@ pub fn answer_replay<F: Files, K: Sink>(
 {
     match load_script(alloc, &spec, script, files) {
         Loaded::Got(script) => replay_script(alloc, spec, script, schedule, files, out, boxes),
-        Loaded::Refused(fault) => tell_line(out, BROKEN_SCRIPT, &make_script_line(&fault)),
-        Loaded::TooLong => refuse_long_script(out),
-        Loaded::Failed => refuse_read(alloc, out, script),
-        Loaded::NoMemory => refuse_memory(out),
+        Loaded::Refused(fault) => {
+            drop((spec, boxes));
+            tell_line(out, BROKEN_SCRIPT, &make_script_line(&fault))
+        }
+        Loaded::TooLong => {
+            drop((spec, boxes));
+            refuse_long_script(out)
+        }
+        Loaded::Failed => {
+            drop((spec, boxes));
+            refuse_read(alloc, out, script)
+        }
+        Loaded::NoMemory => {
+            drop((spec, boxes));
+            refuse_memory(out)
+        }
     }
 }
 
@@ -74,10 +86,22 @@ fn replay_script<F: Files, K: Sink>(
 {
     match load_schedule(alloc, &spec, schedule, files) {
         Loaded::Got(list) => replay_list(alloc, spec, script, &list, out, boxes),
-        Loaded::Refused(fault) => tell_line(out, BROKEN_SCHEDULE, &make_fault_line(fault)),
-        Loaded::TooLong => refuse_long_schedule(out),
-        Loaded::Failed => refuse_read(alloc, out, schedule),
-        Loaded::NoMemory => refuse_memory(out),
+        Loaded::Refused(fault) => {
+            drop((spec, script, boxes));
+            tell_line(out, BROKEN_SCHEDULE, &make_fault_line(fault))
+        }
+        Loaded::TooLong => {
+            drop((spec, script, boxes));
+            refuse_long_schedule(out)
+        }
+        Loaded::Failed => {
+            drop((spec, script, boxes));
+            refuse_read(alloc, out, schedule)
+        }
+        Loaded::NoMemory => {
+            drop((spec, script, boxes));
+            refuse_memory(out)
+        }
     }
 }
 
@@ -101,9 +125,14 @@ fn replay_list<K: Sink>(
     match accept(alloc, spec) {
         Ok(accepted) => replay_accepted(alloc, accepted, script, list, out, boxes),
         Err(AcceptError::NotAccepted(refused, shown)) => {
-            tell_line(out, NOT_ACCEPTED, &make_shown_line(&refused, &shown))
+            let line = make_shown_line(&refused, &shown);
+            drop((refused, script, boxes));
+            tell_line(out, NOT_ACCEPTED, &line)
         }
-        Err(AcceptError::NoMemory(_)) => refuse_memory(out),
+        Err(AcceptError::NoMemory(spec)) => {
+            drop((spec, script, boxes));
+            refuse_memory(out)
+        }
     }
 }
 
@@ -124,8 +153,16 @@ fn replay_accepted<K: Sink>(
     ensures read { result.code ≢ UNREAD_FILE }
 {
     match Mission::new(accepted, script) {
-        Ok(mission) => replay_mission(alloc, &mission, list, out, boxes),
-        Err(refused) => tell_line(out, UNASSUMED_SCRIPT, &make_outside_line(&refused.outside)),
+        Ok(mission) => {
+            let status = replay_mission(alloc, &mission, list, out, boxes);
+            drop(mission);
+            status
+        }
+        Err(refused) => {
+            let line = make_outside_line(&refused.outside);
+            drop((refused, boxes));
+            tell_line(out, UNASSUMED_SCRIPT, &line)
+        }
     }
 }
 
