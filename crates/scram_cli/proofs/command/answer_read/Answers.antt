@@ -9,4 +9,4 @@ pub returns-in-Check-clause-quiet : goal.returns-in-Check-clause-quiet
 returns-in-Check-clause-quiet g c = rw (c.in-Check.is) (quiet_none [] (g.F.Files.state c.args.files.now) (g.met.F.Files.steady_below c.args.files.now))
 
 pub returns-in-Bounds-clause-ends : goal.returns-in-Bounds-clause-ends
-returns-in-Bounds-clause-ends g c = rw (c.in-Bounds.is) (told_ends _ _ _ _ _ _ c.tell_bounds.ensures.tells)
+returns-in-Bounds-clause-ends g c = rw (c.in-Bounds.is) (told_ends _ _ _ _ _ _ c.tell_bounds-status.ensures.tells)
