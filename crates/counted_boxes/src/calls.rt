@@ -8,7 +8,9 @@ use std::sync::atomic::{AtomicU64, Ordering};
 /// How often the boxes of a rack were called, by their kinds, and how often they waited in vain.
 #[derive(Drop)]
 pub struct Calls {
+    /// The calls of the boxes of kind `k`, at place `k`.
     pub kinds: [AtomicU64; 5],
+    /// How many calls waited for one that did not come.
     pub in_vain: AtomicU64,
 }
 
@@ -62,10 +64,16 @@ pub struct Counters {
     first: &'static Calls,
     second: &'static Calls,
     others: &'static Calls,
+    /// Where the boxes of all spare racks count.
     pub spares: &'static Calls,
 }
 
 impl Counters {
+    /// Counters at 0.
+    ///
+    /// # Errors
+    ///
+    /// Where there is no memory for them.
     pub fn new(alloc: Global) -> Result<Counters, AllocError> {
         Ok(Counters {
             first: Box::leak(Box::new(alloc, Calls::new())?),

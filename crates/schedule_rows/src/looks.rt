@@ -41,25 +41,24 @@ fn look(rt: &HostRuntime, spec: &Spec, script: &Script, line: &str) -> io::Resul
         return Err(ErrorKind::InvalidInput.into());
     }
     match fly_some(rt.alloc(), spec, script, racks, spares, rule, events) {
-        Ok(core) => print_word(rt, spec, core, word),
+        Ok(mut core) => print_word(rt, spec, &mut core, word),
         Err(_) => Err(ErrorKind::OutOfMemory.into()),
     }
 }
 
-fn print_word(rt: &HostRuntime, spec: &Spec, core: Core, word: &str) -> io::Result<()> {
-    let mut core = core;
+fn print_word(rt: &HostRuntime, spec: &Spec, core: &mut Core, word: &str) -> io::Result<()> {
     let events = core.history().len();
     match word {
         "flip" => {
             let answer = core.step(Event::Flip(ProcId(0)), 0);
-            print_answer(rt, &core, events, answer)
+            print_answer(rt, core, events, answer)
         }
         "release" => {
             let answer = core.step(Event::Release, 0);
-            print_answer(rt, &core, events, answer)
+            print_answer(rt, core, events, answer)
         }
-        "kernel" => print_kernel(rt, &core),
-        _ => print_seen(rt, spec, &core),
+        "kernel" => print_kernel(rt, core),
+        _ => print_seen(rt, spec, core),
     }
 }
 
