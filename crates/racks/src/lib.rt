@@ -1,5 +1,5 @@
-//! Racks that hold the boxes of all five kinds, made where the macro stands. It promises nothing of them: `racks_fit`
-//! tests them where they are made.
+//! Racks that hold the boxes of all five kinds, made where the macro stands. A rack has the boxes that it is made of, in
+//! their order; nothing is promised of their kinds: `racks_fit` tests them where they are made.
 #![tactic(auto)]
 
 pub mod macros;

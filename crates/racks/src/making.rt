@@ -1,6 +1,8 @@
 //! Boxes, and a rack of five of them. No function may make boxes of applications and hand them out as such; these are
 //! handed the values, and then the boxes, so that a body in which `rack!` stands has two early returns and not ten.
 
+ghost use Rattle.std.specs.Prelude.{◌≡◌, ◌∷◌, [], IfOk};
+
 use app_model::{App, Rack};
 use std::alloc::{AllocError, Global};
 
@@ -8,7 +10,13 @@ use std::alloc::{AllocError, Global};
 pub fn boxed<A: App, B: App, C: App, D: App, E: App>(
     alloc: Global,
     apps: (A, B, C, D, E),
-) -> Result<(Box<A>, Box<B>, Box<C>, Box<D>, Box<E>), AllocError> {
+) -> Result<(Box<A>, Box<B>, Box<C>, Box<D>, Box<E>), AllocError>
+    ensures first { IfOk result (λ boxes. boxes.0.value ≡ apps.0) }
+    ensures second { IfOk result (λ boxes. boxes.1.value ≡ apps.1) }
+    ensures third { IfOk result (λ boxes. boxes.2.value ≡ apps.2) }
+    ensures fourth { IfOk result (λ boxes. boxes.3.value ≡ apps.3) }
+    ensures fifth { IfOk result (λ boxes. boxes.4.value ≡ apps.4) }
+{
     let (first, second, third, fourth, fifth) = apps;
     Ok((
         Box::new(alloc, first)?,
@@ -27,7 +35,9 @@ pub fn rack_of(
     third: Box<dyn App + Send>,
     fourth: Box<dyn App + Send>,
     fifth: Box<dyn App + Send>,
-) -> Result<Rack, AllocError> {
+) -> Result<Rack, AllocError>
+    ensures { IfOk result (λ rack. rack.boxes.items ≡ first ∷ second ∷ third ∷ fourth ∷ fifth ∷ []) }
+{
     let mut boxes = Vec::with_capacity(alloc, 5)?;
     boxes.push(first)?;
     boxes.push(second)?;

@@ -208,7 +208,7 @@ fn answer_read<R: AllocGlobal + Threads + Wait + Sync, F: Files, K: Sink>(
     }
 }
 
-/// Loads the script, and flies it.
+/// Loads the script, and flies it. What is not handed on is given back before a refusal is told.
 fn run<R: AllocGlobal + Threads + Wait + Sync, F: Files, K: Sink>(
     rt: &R,
     spec: Spec,

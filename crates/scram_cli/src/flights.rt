@@ -38,9 +38,9 @@ pub fn check<K: Sink>(alloc: Global, spec: Spec, out: &mut K) -> Status
             tell_line(out, ANSWERED, &line)
         }
         Err(AcceptError::NotAccepted(spec, shown)) => {
-            let shown = make_shown_line(&spec, &shown);
+            let shown_line = make_shown_line(&spec, &shown);
             drop(spec);
-            tell_line(out, NOT_ACCEPTED, &shown)
+            tell_line(out, NOT_ACCEPTED, &shown_line)
         }
         Err(AcceptError::NoMemory(spec)) => {
             drop(spec);
@@ -65,7 +65,8 @@ pub enum FlightText {
     Summary(u32),
 }
 
-/// Flies a script, where its specification is accepted and it keeps to the failure assumption.
+/// Flies a script, where its specification is accepted and it keeps to the failure assumption. What is not handed on is
+/// given back before a refusal is told.
 pub fn fly<R: AllocGlobal + Threads + Wait + Sync, K: Sink>(
     rt: &R,
     spec: Spec,

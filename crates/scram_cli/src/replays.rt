@@ -1,4 +1,4 @@
-//! Scripts that are flown by a schedule. No thread is used.
+//! Scripts that are flown by a schedule. No thread is used. What is not handed on is given back before a refusal is told.
 
 ghost use Rattle.std.specs.Prelude.{◌≡◌, ◌≢◌, ◌∷◌, [], Ok};
 ghost use Rattle.app_model.specs.Racks.{RacksFit};
