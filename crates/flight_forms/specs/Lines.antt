@@ -1,0 +1,31 @@
+-- The lines in which a script and a flight are answered.
+use Rattle.std.specs.Prelude.{ℕ, ◌+◌, List, ◌++◌, codes, decimal}
+use Rattle.scram_types.specs.Lookups.{conf_name}
+use Rattle.scram_types.specs.Specification.{Parts}
+use Rattle.scram_types.specs.declared.flights.Report.{Report}
+use Rattle.scram_types.specs.declared.flights.Row.{Row}
+use Rattle.scram_doc.specs.declared.fault.DocFault.{DocFault}
+use Rattle.fault_script.specs.declared.assumption.Outside.{Outside}
+use Rattle.fault_script.specs.declared.assumption.OutsideKind.{OutsideKind}
+use Rattle.fault_script.specs.declared.assumption.OutsideKind.TheVariants.{Halts, Changes}
+use Rattle.flight_forms.specs.Summaries.{last_run, longest_duration}
+use Rattle.form_base.specs.Lines.{counts_text, rule_text}
+
+-- a script document breaks a rule
+abbrev pub script_line : DocFault → List ℕ
+script_line fault = codes "refused: script" ++ rule_text fault.rule fault.path ++ codes "\n"
+
+-- in which way a script leaves the failure assumption
+abbrev pub outside_kind_text : OutsideKind → List ℕ
+outside_kind_text Halts = codes "halts"
+outside_kind_text Changes = codes "changes"
+
+-- where a script leaves the failure assumption
+abbrev pub outside_line : Outside → List ℕ
+outside_line outside = codes "refused: outside at frame " ++ decimal outside.frame ++ codes ": " ++ outside_kind_text outside.kind ++ codes "\n"
+
+-- the flight of a mission's number: its frames and its reconfigurations, how many frames the longest
+-- finished one took, and the configuration that was run last
+abbrev pub fly_line : ℕ → Parts → List Row → List Report → List ℕ
+fly_line number spec rows reports =
+    codes "fly " ++ decimal number ++ counts_text rows reports ++ codes " longest " ++ decimal (longest_duration reports) ++ codes " final " ++ conf_name spec (last_run spec rows).0 ++ codes "\n"

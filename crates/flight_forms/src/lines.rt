@@ -1,0 +1,68 @@
+//! The lines in which a script and a flight are answered, made without memory.
+
+ghost use Rattle.std.specs.Prelude.{◌≡◌, ◌+◌, ◌≤◌, ◌++◌, ◌<◌, ◌^◌, length};
+ghost use Rattle.scram_types.specs.declared.limits.TheConstants.{MAX_LINE_BYTES};
+ghost use Rattle.flight_forms.specs.Lines.{fly_line, outside_kind_text, outside_line, script_line};
+
+use crate::summaries::{last_run, longest_duration};
+use fault_script::{Outside, OutsideKind, ScriptFault};
+use form_base::lines::{add_counts, add_rule};
+use scram_types::{Flown, Spec};
+use trace_text::lines::Line;
+
+/// A script document breaks a rule.
+pub fn make_script_line(fault: &ScriptFault) -> Line
+    ensures { result ≡ script_line fault.now }
+{
+    let mut line = Line::new();
+    line.text(b"refused: script");
+    add_rule(&mut line, fault.rule, &fault.path);
+    line.text(b"\n");
+    line
+}
+
+/// A script leaves the failure assumption: the frame, and in which way.
+pub fn make_outside_line(outside: &Outside) -> Line
+    ensures { result ≡ outside_line outside.now }
+{
+    let mut line = Line::new();
+    line.text(b"refused: outside at frame ");
+    line.number(outside.frame);
+    line.text(b": ");
+    add_outside_kind(&mut line, outside.kind);
+    line.text(b"\n");
+    line
+}
+
+/// The mission of a number was flown: the numbers of its frames and of its reconfigurations, how many frames
+/// the longest finished one took, and the configuration that was run last.
+pub fn make_fly_line(number: u32, spec: &Spec, flown: &Flown) -> Line
+    requires rows { length flown.now.rows < 2 ^ 32 }
+    requires reports { length flown.now.reports < 2 ^ 32 }
+    ensures { result ≡ fly_line number spec.now flown.now.rows flown.now.reports }
+{
+    let mut line = Line::new();
+    line.text(b"fly ");
+    line.number(number);
+    add_counts(&mut line, flown);
+    line.text(b" longest ");
+    line.number(longest_duration(flown.reports.items()));
+    line.text(b" final ");
+    line.text(
+        spec.conf_name(last_run(spec, flown.rows.items()))
+            .as_bytes(),
+    );
+    line.text(b"\n");
+    line
+}
+
+fn add_outside_kind(line: &mut Line, kind: OutsideKind)
+    requires { length line.old + 7 ≤ MAX_LINE_BYTES }
+    ensures text { line.new ≡ line.old ++ outside_kind_text kind }
+    ensures short { length line.new ≤ length line.old + 7 }
+{
+    match kind {
+        OutsideKind::Halts => line.text(b"halts"),
+        OutsideKind::Changes => line.text(b"changes"),
+    }
+}

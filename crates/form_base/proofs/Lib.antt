@@ -1,0 +1,5 @@
+pub mod Assuring
+pub mod Endings
+pub mod Pluses
+pub mod Reading
+pub mod SpecReading

@@ -1,0 +1,160 @@
+-- From the files that were loaded to what is answered of them.
+use Rattle.std.proofs.Common.{◌≡◌, ℕ, ◌≤◌, List, [], ◌∷◌, ◌++◌, refl, sym, ◌∙◌, ap, inl, inr, arith}
+use Rattle.std.specs.Prelude.{◌≢◌, Bool, Option, Some, None, IfNone, IfSome, IsSome, IsTrue, ◌⊎◌, ◌<◌, Result, Ok, Err, ⊤}
+use Rattle.scram_io.specs.Outside.{FileMap, FilesState, FoundLonger, Grew, History, Rose, StaysSteady, Unrisen, file_at, greatest_count}
+use Rattle.scram_io.proofs.Histories.{grew_more, grew_none}
+use Rattle.form_base.specs.declared.refusals.Refusal.{Refusal}
+use Rattle.form_base.specs.declared.status.TheConstants.{OUT_OF_MEMORY, UNREAD_FILE}
+use Rattle.form_base.specs.Answers.{Answer, AnswersDocument, AnswersFile, WithoutFiles}
+use Rattle.form_base.specs.Endings.{AreInTurn, AreThere, Decides, Finds, IsMemoryRefusal, Reads, Settles, StaysQuiet}
+use Rattle.form_base.specs.Loads.{HasRead, IsOutOfMemory, IsUnloaded, Loads}
+use Rattle.form_base.specs.Refusals.{memory_line, read_line, told}
+
+-- where no file is read, or one, or one more, no count of steady files rises
+
+quiet_none_by : (told : Option FileMap) (names : List (List ℕ)) (files : FilesState) → (IsTrue files.steady → files.faults < greatest_count)
+    → IfSome told (λ map. IsTrue files.steady → AreThere map names → Unrisen files.faults files.faults)
+quiet_none_by None names files below = tt
+quiet_none_by (Some map) names files below = λ steady there. record { same = refl; below = below steady }
+
+quiet_none : (names : List (List ℕ)) (files : FilesState) → (IsTrue files.steady → files.faults < greatest_count) → StaysQuiet names files files
+quiet_none names files below = quiet_none_by files.told names files below
+
+quiet_last_by : (told : Option FileMap) (name : List ℕ) (names : List (List ℕ)) (still again : Bool) (before now : ℕ)
+    → (IsTrue still → IfSome told (λ map. IsSome (file_at name map) → Unrisen before now × IsTrue again))
+    → IfSome told (λ map. IsTrue still → AreThere map (name ∷ names) → Unrisen before now)
+quiet_last_by None name names still again before now first = tt
+quiet_last_by (Some map) name names still again before now first = λ steady there. (first steady there.0).0
+
+-- one file was read, and nothing else
+quiet_last : (name : List ℕ) (names : List (List ℕ)) (before after : FilesState) → StaysSteady before after name → StaysQuiet (name ∷ names) before after
+quiet_last name names before after steady = quiet_last_by before.told name names before.steady after.steady before.faults after.faults steady
+
+quiet_since_by : (told : Option FileMap) (name : List ℕ) (names : List (List ℕ)) (still again : Bool) (before between now : ℕ)
+    → (IsTrue still → IfSome told (λ map. IsSome (file_at name map) → Unrisen before between × IsTrue again))
+    → IfSome told (λ map. IsTrue again → AreThere map names → Unrisen between now)
+    → IfSome told (λ map. IsTrue still → AreThere map (name ∷ names) → Unrisen before now)
+quiet_since_by None name names still again before between now first second = tt
+quiet_since_by (Some map) name names still again before between now first second = λ steady there.
+    let one : Unrisen before between × IsTrue again = first steady there.0 in
+    let two : Unrisen between now = second one.1 there.1 in
+    record { same = two.same ∙ one.0.same; below = one.0.below }
+
+-- one file was read, and then these were
+quiet_since : (name : List ℕ) (names : List (List ℕ)) (before mid after : FilesState) (reads : History) → Grew before mid reads
+    → StaysSteady before mid name → StaysQuiet names mid after → StaysQuiet (name ∷ names) before after
+quiet_since name names before mid after reads grew steady quiet =
+    quiet_since_by before.told name names before.steady mid.steady before.faults mid.faults after.faults steady (rw (grew.told) at quiet)
+
+-- no file is left to read
+
+settled_answer : (A : ℕ → List ℕ → Type 0) (status : ℕ) (text : List ℕ) (files : FilesState) → A status text ⊎ IsMemoryRefusal status text
+    → WithoutFiles A files files [] status text ⊎ (IsMemoryRefusal status text × AreInTurn [] [])
+settled_answer A status text files (inl is) = inl (refl, is)
+settled_answer A status text files (inr is) = inr (is, ([], refl))
+
+-- a decision that reads no file
+pub settled : {T : Type 0} (A : ℕ → List ℕ → Type 0) (Rest : T → ℕ → List ℕ → Type 0) (files : FilesState) (result : Result T Refusal)
+    → (IsTrue files.steady → files.faults < greatest_count) → Settles A Rest result → Reads (WithoutFiles A) Rest [] files files result
+settled {T} A Rest files (Ok value) below answers = record {
+  reads = [];
+  grew = grew_none files;
+  quiet = quiet_none [] files below;
+  turn = ([], refl);
+  answers = λ status text is. (refl, answers status text is);
+}
+settled {T} A Rest files (Err refusal) below is = record {
+  reads = [];
+  grew = grew_none files;
+  quiet = quiet_none [] files below;
+  answer = settled_answer A (told refusal).0 (told refusal).1 files is.0;
+  unread = λ same. absurd (is.1 same);
+}
+
+-- one more file was read first
+
+rose_since : (before between now : ℕ) → before ≤ between → Rose between now → Rose before now
+rose_since before between now count rose = omega (arith, count, rose)
+
+first_answer : {T : Type 0} (Says : T → List ℕ → Type 0) (Breaks : ℕ × List ℕ → List ℕ → Type 0) (limit : ℕ) (long : ℕ × List ℕ) (name : List ℕ) (names : List (List ℕ)) (Then : T → Answer)
+    (value : T) (before mid after : FilesState) (has : HasRead limit name (Says value) before mid) (reads : History) (status : ℕ) (text : List ℕ) → Then value mid after reads status text
+    → AnswersFile limit long name (AnswersDocument Says Breaks Then) before after ((name, has.bytes) ∷ reads) status text
+first_answer {T} Says Breaks limit long name names Then value before mid after has reads status text is =
+    inl (record { bytes = has.bytes; rest = reads; first = refl; fits = has.fits; between = mid; grew = has.grew; answers = inl (value, has.fact, is) })
+
+turn_first : (name bytes : List ℕ) (names : List (List ℕ)) (reads : History) → AreInTurn names reads → AreInTurn (name ∷ names) ((name, bytes) ∷ reads)
+turn_first name bytes names reads turn = (turn.0, ap (λ (more : List (List ℕ)). name ∷ more) turn.1)
+
+first_decided : {T : Type 0} (Says : T → List ℕ → Type 0) (Breaks : ℕ × List ℕ → List ℕ → Type 0) (limit : ℕ) (long : ℕ × List ℕ) (name : List ℕ) (names : List (List ℕ)) (Then : T → Answer)
+    (value : T) (before mid after : FilesState) (has : HasRead limit name (Says value) before mid) (reads : History) (status : ℕ) (text : List ℕ)
+    → Then value mid after reads status text ⊎ (IsMemoryRefusal status text × AreInTurn names reads)
+    → AnswersFile limit long name (AnswersDocument Says Breaks Then) before after ((name, has.bytes) ∷ reads) status text
+      ⊎ (IsMemoryRefusal status text × AreInTurn (name ∷ names) ((name, has.bytes) ∷ reads))
+first_decided {T} Says Breaks limit long name names Then value before mid after has reads status text (inl is) =
+    inl (first_answer Says Breaks limit long name names Then value before mid after has reads status text is)
+first_decided {T} Says Breaks limit long name names Then value before mid after has reads status text (inr is) = inr (is.0, turn_first name has.bytes names reads is.1)
+
+-- a document was read, and then what is answered of it
+pub document_reads : {T U : Type 0} (Says : T → List ℕ → Type 0) (Breaks : ℕ × List ℕ → List ℕ → Type 0) (limit : ℕ) (long : ℕ × List ℕ) (name : List ℕ) (names : List (List ℕ)) (Then : T → Answer)
+    (Rest : U → ℕ → List ℕ → Type 0) (value : T) (before mid after : FilesState) (result : Result U Refusal)
+    → HasRead limit name (Says value) before mid → StaysSteady before mid name → Reads (Then value) Rest names mid after result
+    → Reads (AnswersFile limit long name (AnswersDocument Says Breaks Then)) Rest (name ∷ names) before after result
+document_reads {T} {U} Says Breaks limit long name names Then Rest value before mid after (Ok rest) has steady finds = record {
+  reads = (name, has.bytes) ∷ finds.reads;
+  grew = grew_more before mid after ((name, has.bytes) ∷ []) finds.reads has.grew finds.grew;
+  quiet = quiet_since name names before mid after ((name, has.bytes) ∷ []) has.grew steady finds.quiet;
+  turn = turn_first name has.bytes names finds.reads finds.turn;
+  answers = λ status text is. first_answer Says Breaks limit long name names Then value before mid after has finds.reads status text (finds.answers status text is);
+}
+document_reads {T} {U} Says Breaks limit long name names Then Rest value before mid after (Err refusal) has steady decides = record {
+  reads = (name, has.bytes) ∷ decides.reads;
+  grew = grew_more before mid after ((name, has.bytes) ∷ []) decides.reads has.grew decides.grew;
+  quiet = quiet_since name names before mid after ((name, has.bytes) ∷ []) has.grew steady decides.quiet;
+  answer = first_decided Says Breaks limit long name names Then value before mid after has decides.reads (told refusal).0 (told refusal).1 decides.answer;
+  unread = λ same. rose_since before.faults mid.faults after.faults has.grew.count (decides.unread same);
+}
+
+-- the first file was not loaded
+
+record Unloaded {T : Type 0} (Says : T → List ℕ → Type 0) (Breaks : ℕ × List ℕ → List ℕ → Type 0) (limit : ℕ) (long : ℕ × List ℕ) (name : List ℕ) (names : List (List ℕ)) (Then : T → Answer)
+    (before after : FilesState) (status : ℕ) (text : List ℕ) : Type 0 where
+  reads : History
+  grew : Grew before after reads
+  answer : AnswersFile limit long name (AnswersDocument Says Breaks Then) before after reads status text ⊎ (IsMemoryRefusal status text × AreInTurn (name ∷ names) reads)
+
+memory_refusal : (refusal : ℕ × List ℕ) → IsOutOfMemory refusal → IsMemoryRefusal refusal.0 refusal.1
+memory_refusal refusal is = (ap (λ (told : ℕ × List ℕ). told.0) is, ap (λ (told : ℕ × List ℕ). told.1) is)
+
+memory_unloaded : {T : Type 0} (Says : T → List ℕ → Type 0) (Breaks : ℕ × List ℕ → List ℕ → Type 0) (limit : ℕ) (long : ℕ × List ℕ) (name : List ℕ) (names : List (List ℕ)) (Then : T → Answer)
+    (before after : FilesState) (refusal : ℕ × List ℕ) → IsOutOfMemory refusal → Grew before after [] ⊎ HasRead limit name (λ (bytes : List ℕ). ⊤) before after
+    → Unloaded Says Breaks limit long name names Then before after refusal.0 refusal.1
+memory_unloaded {T} Says Breaks limit long name names Then before after refusal is (inl grew) =
+    record { reads = []; grew = grew; answer = inr (memory_refusal refusal is, (name ∷ names, refl)) }
+memory_unloaded {T} Says Breaks limit long name names Then before after refusal is (inr has) =
+    record { reads = (name, has.bytes) ∷ []; grew = has.grew; answer = inr (memory_refusal refusal is, (names, refl)) }
+
+unloaded : {T : Type 0} (Says : T → List ℕ → Type 0) (Breaks : ℕ × List ℕ → List ℕ → Type 0) (limit : ℕ) (long : ℕ × List ℕ) (name : List ℕ) (names : List (List ℕ)) (Then : T → Answer)
+    (before after : FilesState) (refusal : ℕ × List ℕ) → IsUnloaded Breaks limit long name before after refusal
+    → Unloaded Says Breaks limit long name names Then before after refusal.0 refusal.1
+unloaded {T} Says Breaks limit long name names Then before after refusal (inl has) = record {
+  reads = (name, has.bytes) ∷ [];
+  grew = has.grew;
+  answer = inl (inl (record { bytes = has.bytes; rest = []; first = refl; fits = has.fits; between = after; grew = has.grew; answers = inr (refl, has.fact) }));
+}
+unloaded {T} Says Breaks limit long name names Then before after refusal (inr (inl is)) = record {
+  reads = (name, is.0.bytes) ∷ [];
+  grew = is.0.grew;
+  answer = inl (inr (inl (record { bytes = is.0.bytes; read = refl; longer = is.0.longer; counted = is.0.counted; gives = sym is.1 })));
+}
+unloaded {T} Says Breaks limit long name names Then before after refusal (inr (inr (inl is))) =
+    record { reads = []; grew = is.0; answer = inl (inr (inr (refl, is.1, sym is.2))) }
+unloaded {T} Says Breaks limit long name names Then before after refusal (inr (inr (inr is))) =
+    memory_unloaded Says Breaks limit long name names Then before after refusal is.1 is.0
+
+pub refused_reads : {T : Type 0} (Says : T → List ℕ → Type 0) (Breaks : ℕ × List ℕ → List ℕ → Type 0) (limit : ℕ) (long : ℕ × List ℕ) (name : List ℕ) (names : List (List ℕ)) (Then : T → Answer)
+    (before after : FilesState) (refusal : Refusal) → IsUnloaded Breaks limit long name before after (told refusal) → StaysSteady before after name
+    → ((told refusal).0 ≡ UNREAD_FILE → Rose before.faults after.faults)
+    → Decides (AnswersFile limit long name (AnswersDocument Says Breaks Then)) (name ∷ names) before after (told refusal).0 (told refusal).1
+refused_reads {T} Says Breaks limit long name names Then before after refusal is steady unread =
+    let found = unloaded Says Breaks limit long name names Then before after (told refusal) is in
+    record { reads = found.reads; grew = found.grew; quiet = quiet_last name names before after steady; answer = found.answer; unread = unread }

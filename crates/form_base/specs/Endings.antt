@@ -1,0 +1,111 @@
+-- How a form ends: what it read, and what became of its text.
+use Rattle.std.specs.Prelude.{◌≡◌, ◌≢◌, ◌⊎◌, ℕ, ◌≤◌, List, [], ◌∷◌, ◌++◌, length, map, IsTrue, Some, IsSome, IfSome, Result, Ok, Err, ⊤}
+use Rattle.scram_io.specs.Outside.{Agrees, FileMap, FilesState, Grew, History, Rose, SinkState, TakesSurely, Took, TookPrefix, Unrisen, file_at, taken}
+use Rattle.form_base.specs.declared.refusals.Refusal.{Refusal}
+use Rattle.form_base.specs.declared.status.TheConstants.{OUT_OF_MEMORY, UNREAD_FILE, UNWRITTEN_OUTPUT}
+use Rattle.form_base.specs.Answers.{Answer}
+use Rattle.form_base.specs.Refusals.{memory_line, told}
+
+-- The allocator had no memory.
+abbrev pub IsMemoryRefusal : ℕ → List ℕ → Type 0
+IsMemoryRefusal status text = (status ≡ OUT_OF_MEMORY) × (text ≡ memory_line)
+
+-- The reads are of the first of these files, each once, in their order.
+abbrev pub AreInTurn : List (List ℕ) → History → Type 0
+AreInTurn names reads = (rest : List (List ℕ)) × (names ≡ map (λ (read : List ℕ × List ℕ). read.0) reads ++ rest)
+
+-- All these files are there.
+abbrev pub AreThere : FileMap → List (List ℕ) → Type 0
+AreThere map [] = ⊤
+AreThere map (name ∷ names) = IsSome (file_at name map) × AreThere map names
+
+-- Where the map is told, the files are steady and these are there, the count of their faults did not rise.
+abbrev pub StaysQuiet : List (List ℕ) → FilesState → FilesState → Type 0
+StaysQuiet names before after = IfSome before.told (λ map. IsTrue before.steady → AreThere map names → Unrisen before.faults after.faults)
+
+-- Of the files that are named in this order, status and text are the answer to what was read of them, or the allocator
+-- had no memory. A file is told as unread only where the count of faults rose.
+pub record Decides (Answers : Answer) (names : List (List ℕ)) (before after : FilesState) (status : ℕ) (text : List ℕ) : Type 0 where
+  pub reads : History
+  pub grew : Grew before after reads
+  pub quiet : StaysQuiet names before after
+  pub answer : Answers before after reads status text ⊎ (IsMemoryRefusal status text × AreInTurn names reads)
+  pub unread : status ≡ UNREAD_FILE → Rose before.faults after.faults
+
+-- Of the files that are named in this order, all that the answer needs was read, and what is answered of that is the answer.
+pub record Finds (Answers : Answer) (Rest : ℕ → List ℕ → Type 0) (names : List (List ℕ)) (before after : FilesState) : Type 0 where
+  pub reads : History
+  pub grew : Grew before after reads
+  pub quiet : StaysQuiet names before after
+  pub turn : AreInTurn names reads
+  pub answers : (status : ℕ) (text : List ℕ) → Rest status text → Answers before after reads status text
+
+-- What comes of reading the files of an answer: a value, of which the rest of the answer is made, or a refusal, which is the answer.
+abbrev pub Reads : {T : Type 0} → Answer → (T → ℕ → List ℕ → Type 0) → List (List ℕ) → FilesState → FilesState → Result T Refusal → Type 0
+Reads Answers Rest names before after (Ok value) = Finds Answers (Rest value) names before after
+Reads Answers Rest names before after (Err refusal) = Decides Answers names before after (told refusal).0 (told refusal).1
+
+-- What comes of a decision that reads no file: a value, of which the rest of the answer is made, or a refusal, which is the answer or
+-- says that the allocator had no memory.
+abbrev pub Settles : {T : Type 0} → (ℕ → List ℕ → Type 0) → (T → ℕ → List ℕ → Type 0) → Result T Refusal → Type 0
+Settles Answers Rest (Ok value) = (status : ℕ) (text : List ℕ) → Rest value status text → Answers status text
+Settles Answers Rest (Err refusal) =
+    (Answers (told refusal).0 (told refusal).1 ⊎ IsMemoryRefusal (told refusal).0 (told refusal).1) × ((told refusal).0 ≢ UNREAD_FILE)
+
+-- The text was taken by the sink and the code is its status, or the sink failed, a prefix was taken, and the code is 4.
+pub record IsTaken (old new : SinkState) (code status : ℕ) (text : List ℕ) : Type 0 where
+  pub shown : ((code ≡ status) × Took old new text) ⊎ ((code ≡ UNWRITTEN_OUTPUT) × TookPrefix old new text × Rose old.faults new.faults)
+  pub surely : TakesSurely old new text
+  pub count : old.faults ≤ new.faults
+
+-- The text went out after all that was taken before, and nothing is held back.
+pub record WentOut (old new : SinkState) (text : List ℕ) : Type 0 where
+  pub sent : new.sent ≡ taken old ++ text
+  pub held : new.held ≡ []
+
+-- What went out is a prefix of what was taken before and the text, and the count of the sink's faults rose.
+pub record StoppedIn (old new : SinkState) (text : List ℕ) : Type 0 where
+  pub rest : List ℕ
+  pub parts : taken old ++ text ≡ new.sent ++ rest
+  pub rose : Rose old.faults new.faults
+
+-- Where the sink surely takes as many bytes as the text has, its count did not rise.
+abbrev pub IsQuietFor : List ℕ → SinkState → SinkState → Type 0
+IsQuietFor text old new = IfSome old.surely (λ room. length text ≤ room → Unrisen old.faults new.faults)
+
+-- The text went out and the code is its status, or what went out stops in it and the code is 4.
+pub record IsSent (old new : SinkState) (code status : ℕ) (text : List ℕ) : Type 0 where
+  pub shown : ((code ≡ status) × WentOut old new text) ⊎ ((code ≡ UNWRITTEN_OUTPUT) × StoppedIn old new text)
+  pub surely : IsQuietFor text old new
+
+-- An answer that needs no file, or the memory line, was taken by the sink; its status tells neither of a file nor of the sink.
+pub record Tells (Answers : ℕ → List ℕ → Type 0) (old new : SinkState) (code : ℕ) : Type 0 where
+  pub status : ℕ
+  pub text : List ℕ
+  pub answer : Answers status text ⊎ IsMemoryRefusal status text
+  pub read : status ≢ UNREAD_FILE
+  pub written : status ≢ UNWRITTEN_OUTPUT
+  pub taken : IsTaken old new code status text
+
+-- How a form ends, of the files that it names in this order: a status and a text are decided by what was read of them,
+-- and `Shown` says what became of the text.
+pub record Ends (Answers : Answer) (names : List (List ℕ)) (before after : FilesState) (Shown : ℕ → List ℕ → Type 0) : Type 0 where
+  pub status : ℕ
+  pub text : List ℕ
+  pub decides : Decides Answers names before after status text
+  pub written : status ≢ UNWRITTEN_OUTPUT
+  pub shown : Shown status text
+
+-- The sink tells that it surely takes as many bytes as the memory line and as any answer to what the map has, where no
+-- fault comes, have.
+pub record HasRoom (Answers : Answer) (map : FileMap) (files : FilesState) (sink : SinkState) : Type 0 where
+  pub room : ℕ
+  pub told : sink.surely ≡ Some room
+  pub answers : (after : FilesState) (reads : History) → Unrisen files.faults after.faults → Agrees map reads
+      → (status : ℕ) (text : List ℕ) → Answers files after reads status text → length text ≤ room
+  pub memory : length memory_line ≤ room
+
+-- Where the map is told, the files are steady, the named ones are there and the sink has room, neither count rose.
+abbrev pub Completes : Answer → List (List ℕ) → FilesState → FilesState → SinkState → SinkState → Type 0
+Completes Answers names before after old new = IfSome before.told (λ map. IsTrue before.steady → AreThere map names
+    → HasRoom Answers map before old → Unrisen before.faults after.faults × Unrisen old.faults new.faults)

@@ -1,0 +1,43 @@
+-- What is answered of a specification's file.
+use Rattle.std.specs.Prelude.{◌≡◌, ℕ, List, [], Result, Ok, Err}
+use Rattle.scram_types.specs.declared.ids.AppId.{AppId}
+use Rattle.scram_types.specs.declared.limits.TheConstants.{MAX_SPECIFICATION_BYTES}
+use Rattle.scram_types.specs.declared.specification.AppSpec.{AppSpec}
+use Rattle.scram_types.specs.Specification.{IsSpec, Parts}
+use Rattle.scram_doc.specs.declared.fault.DocFault.{DocFault}
+use Rattle.spec_apps.specs.declared.fault.SpecFault.{SpecFault}
+use Rattle.spec_members.specs.declared.rule.TheConstants as rule
+use Rattle.spec_apps.specs.Answers.{CycleAmong, NamedAmong}
+use Rattle.reconf_spec.specs.Documents.{spec_of, unranked_of}
+use Rattle.form_base.specs.declared.status.TheConstants.{BROKEN_SPECIFICATION}
+use Rattle.form_base.specs.Answers.{Answer, AnswersDocument, AnswersFile}
+use Rattle.form_base.specs.Lines.{specification_line}
+
+-- The bytes are this specification, which keeps the invariant of specifications.
+pub record SaysSpecification (spec : Parts) (bytes : List ℕ) : Type 0 where
+  pub is : spec_of bytes ≡ Ok spec
+  pub sound : IsSpec spec
+
+-- A fault of a specification that shows these names of a cycle of needs.
+abbrev pub showing : List (List ℕ) → DocFault → SpecFault
+showing cycle fault = record { rule = fault.rule; path = fault.path; cycle = record { items = [] }; names = record { items = cycle } }
+
+-- The names are those of a cycle of the needs as they were read, where these have one.
+abbrev pub NamesCycle : Result (List AppSpec) DocFault → List (List ℕ) → Type 0
+NamesCycle unranked names = (cycle : List AppId) × CycleAmong unranked cycle × NamedAmong unranked cycle names
+
+-- The bytes are refused as a specification: with the fault, and the names of some cycle of needs where there are several.
+pub record BreaksSpecification (refusal : ℕ × List ℕ) (bytes : List ℕ) : Type 0 where
+  pub fault : DocFault
+  pub is : spec_of bytes ≡ Err fault
+  pub cycle : List (List ℕ)
+  pub shows : NamesCycle (unranked_of bytes) cycle
+  pub line : refusal ≡ (BROKEN_SPECIFICATION, specification_line (showing cycle fault))
+
+-- What is answered of a specification with too many bytes.
+abbrev pub long_specification : ℕ × List ℕ
+long_specification = (BROKEN_SPECIFICATION, specification_line (showing [] (record { rule = rule.TOO_LONG; path = [] })))
+
+-- The file of this name is asked for, and this is answered of the specification that it holds.
+abbrev pub AnswersSpecification : List ℕ → (Parts → Answer) → Answer
+AnswersSpecification name Then = AnswersFile MAX_SPECIFICATION_BYTES long_specification name (AnswersDocument SaysSpecification BreaksSpecification Then)

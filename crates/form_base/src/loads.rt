@@ -1,0 +1,55 @@
+//! Files that words name, loaded as what they say.
+
+ghost use Rattle.std.specs.Prelude.{◌≡◌, ◌≢◌, IfErr, ℕ, List};
+ghost use Rattle.scram_io.specs.Outside.{Rose, StaysSteady};
+ghost use Rattle.form_base.specs.Loads.{Loads, ReadsAs};
+ghost use Rattle.form_base.specs.Refusals.{told};
+ghost use Rattle.form_base.specs.declared.status.TheConstants.{UNREAD_FILE};
+
+use crate::refusals::Refusal;
+use scram_io::{Files, ReadFault};
+use std::alloc::Global;
+
+/// A kind of document: how long it may be, and what its bytes say.
+pub trait Document<T> {
+    ghost limit: { Self → ℕ };
+
+    ghost long: { Self → ℕ × List ℕ };
+
+    ghost Says: { Self → T → List ℕ → Type 0 };
+
+    ghost Breaks: { Self → ℕ × List ℕ → List ℕ → Type 0 };
+
+    /// The greatest number of bytes.
+    fn limit(&self) -> usize
+        ensures { result ≡ limit self.now };
+
+    /// What the bytes say, or the first rule that they break.
+    fn read(&self, alloc: Global, bytes: &[u8]) -> Result<T, Refusal>
+        ensures reads { ReadsAs (Says self.now) (Breaks self.now) bytes.now result }
+        ensures other { IfErr result (λ refusal. (told refusal).0 ≢ UNREAD_FILE) };
+
+    /// The refusal of a file with more bytes than the limit.
+    fn too_long(&self) -> Refusal
+        ensures is { told result ≡ long self.now }
+        ensures other { (told result).0 ≢ UNREAD_FILE };
+}
+
+/// Loads the file of this name as a document.
+pub fn load<T, D: Document<T>, F: Files>(
+    alloc: Global,
+    document: &D,
+    name: &str,
+    files: &mut F,
+) -> Result<T, Refusal>
+    ensures loads { Loads (D.Says document.now) (D.Breaks document.now) (D.limit document.now) (D.long document.now) name.now (F.state files.old) (F.state files.new) result }
+    ensures steady { StaysSteady (F.state files.old) (F.state files.new) name.now }
+    ensures unread { IfErr result (λ refusal. (told refusal).0 ≡ UNREAD_FILE → Rose (F.state files.old).faults (F.state files.new).faults) }
+{
+    match files.read(alloc, name, document.limit()) {
+        Ok(bytes) => document.read(alloc, &bytes),
+        Err(ReadFault::Failed) => Err(Refusal::unread(alloc, name)),
+        Err(ReadFault::TooLong) => Err(document.too_long()),
+        Err(ReadFault::NoMemory) => Err(Refusal::out_of_memory()),
+    }
+}

@@ -1,0 +1,112 @@
+//! Refusals: why nothing else is answered.
+
+ghost use Rattle.std.specs.Prelude.{◌≡◌};
+ghost use Rattle.form_base.specs.Refusals.{IsUnread, code_of, line_text, memory_line, told};
+ghost use Rattle.form_base.specs.declared.status.TheConstants.{OUT_OF_MEMORY};
+
+use crate::status;
+use std::alloc::Global;
+use trace_text::lines::Line;
+
+/// What is refused.
+#[derive(Clone, Copy, Debug, PartialEq, Eq)]
+pub enum Refused {
+    /// The words have no form of the command.
+    Usage,
+    /// A file was not read.
+    File,
+    /// A file breaks a rule of specifications.
+    Specification,
+    /// A specification is not accepted.
+    Acceptance,
+    /// A file breaks a rule of scripts.
+    Script,
+    /// A script leaves the failure assumption.
+    Assumption,
+    /// The allocator had no memory.
+    Memory,
+    /// A file breaks a rule of traces.
+    Trace,
+    /// A file breaks a rule of schedules, or the schedule does not fly to the end.
+    Schedule,
+}
+
+impl Refused {
+    /// The status by which the command tells it.
+    pub fn code(self) -> u8
+        ensures { result ≡ code_of self }
+    {
+        match self {
+            Refused::Usage => status::BROKEN_USAGE,
+            Refused::File => status::UNREAD_FILE,
+            Refused::Specification => status::BROKEN_SPECIFICATION,
+            Refused::Acceptance => status::NOT_ACCEPTED,
+            Refused::Script => status::BROKEN_SCRIPT,
+            Refused::Assumption => status::UNASSUMED_SCRIPT,
+            Refused::Memory => status::OUT_OF_MEMORY,
+            Refused::Trace => status::BROKEN_TRACE,
+            Refused::Schedule => status::BROKEN_SCHEDULE,
+        }
+    }
+}
+
+/// The line of a refusal.
+#[derive(Drop)]
+pub enum RefusalLine {
+    /// A line that is made without memory.
+    Short(Line),
+    /// A line with the name of a file, which may have any length.
+    Naming(String),
+}
+
+/// Why nothing else is answered.
+#[derive(Drop)]
+pub struct Refusal {
+    pub refused: Refused,
+    pub line: RefusalLine,
+}
+
+impl Refusal {
+    /// The refusal by a line that is made without memory.
+    pub fn new(refused: Refused, line: Line) -> Refusal
+        ensures { told result ≡ (code_of refused, line) }
+    {
+        Refusal {
+            refused,
+            line: RefusalLine::Short(line),
+        }
+    }
+
+    /// The refusal where the allocator has no memory.
+    pub fn out_of_memory() -> Refusal
+        ensures { told result ≡ (OUT_OF_MEMORY, memory_line) }
+    {
+        let mut line = Line::new();
+        line.text(b"refused: memory\n");
+        Refusal::new(Refused::Memory, line)
+    }
+
+    /// The refusal of a file that was not read, which has the file's name; where there is no memory for that line, the
+    /// refusal that says so.
+    pub fn unread(alloc: Global, name: &str) -> Refusal
+        ensures { IsUnread name.now (told result) }
+    {
+        match format!(in alloc; "refused: read {name}\n") {
+            Ok(line) => Refusal {
+                refused: Refused::File,
+                line: RefusalLine::Naming(line),
+            },
+            Err(_) => Refusal::out_of_memory(),
+        }
+    }
+
+    /// The bytes of the line.
+    pub fn line(&self) -> &[u8]
+        ensures { result.now ≡ line_text self.now.line }
+    {
+        match &self.line {
+            RefusalLine::Short(line) => line.as_bytes(),
+            RefusalLine::Naming(line) => line.as_str().as_bytes(),
+        }
+    }
+}

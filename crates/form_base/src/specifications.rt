@@ -1,0 +1,63 @@
+//! Specifications, as files hold them.
+
+ghost use Rattle.std.specs.Prelude.{◌≡◌};
+ghost use Rattle.scram_types.specs.declared.limits.TheConstants.{MAX_SPECIFICATION_BYTES};
+ghost use Rattle.form_base.specs.Lines.{specification_line};
+ghost use Rattle.form_base.specs.Refusals.{told};
+ghost use Rattle.form_base.specs.declared.status.TheConstants.{BROKEN_SPECIFICATION};
+ghost use Rattle.form_base.specs.Specifications.{BreaksSpecification, SaysSpecification, long_specification};
+
+use crate::lines::make_specification_line;
+use crate::loads::Document;
+use crate::refusals::{Refusal, Refused};
+use arrayvec::ArrayVec;
+use reconf_spec::{SpecError, SpecFault, read_spec, rule};
+use scram_doc::Path;
+use scram_types::Spec;
+use scram_types::limits::MAX_SPECIFICATION_BYTES;
+use std::alloc::Global;
+
+/// The document of a specification.
+#[derive(Clone, Copy)]
+pub struct Specification;
+
+fn refuse(fault: &SpecFault) -> Refusal
+    ensures { told result ≡ (BROKEN_SPECIFICATION, specification_line fault.now) }
+{
+    Refusal::new(Refused::Specification, make_specification_line(fault))
+}
+
+impl Document<Spec> for Specification {
+    ghost limit = { λ _. MAX_SPECIFICATION_BYTES };
+
+    ghost long = { λ _. long_specification };
+
+    ghost Says = { λ _. SaysSpecification };
+
+    ghost Breaks = { λ _. BreaksSpecification };
+
+    fn limit(&self) -> usize {
+        MAX_SPECIFICATION_BYTES
+    }
+
+    fn read(&self, alloc: Global, bytes: &[u8]) -> Result<Spec, Refusal> {
+        match read_spec(alloc, bytes) {
+            Ok(spec) => {
+                // Whoever uses a field of a specification knows that it keeps its invariant.
+                let _ = &spec.procs;
+                Ok(spec)
+            }
+            Err(SpecError::Fault(fault)) => Err(refuse(&fault)),
+            Err(SpecError::NoMemory) => Err(Refusal::out_of_memory()),
+        }
+    }
+
+    fn too_long(&self) -> Refusal {
+        refuse(&SpecFault {
+            rule: rule::TOO_LONG,
+            path: Path::root(),
+            cycle: ArrayVec::new(),
+            names: ArrayVec::new(),
+        })
+    }
+}

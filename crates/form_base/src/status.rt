@@ -1,0 +1,43 @@
+//! How the command ends.
+
+/// How the command ended, by one of the statuses below.
+#[derive(Clone, Copy, Debug, PartialEq, Eq)]
+pub struct Status {
+    pub code: u8,
+}
+
+/// What was asked for is done, and told.
+pub const ANSWERED: u8 = 0;
+
+/// The words have no form of the command.
+pub const BROKEN_USAGE: u8 = 2;
+
+/// A file was not read.
+pub const UNREAD_FILE: u8 = 3;
+
+/// The output was not written, or not all of it.
+pub const UNWRITTEN_OUTPUT: u8 = 4;
+
+/// The specification's file breaks a rule of specifications.
+pub const BROKEN_SPECIFICATION: u8 = 5;
+
+/// The specification is not accepted.
+pub const NOT_ACCEPTED: u8 = 6;
+
+/// The script's file breaks a rule of scripts.
+pub const BROKEN_SCRIPT: u8 = 7;
+
+/// The script leaves the failure assumption.
+pub const UNASSUMED_SCRIPT: u8 = 8;
+
+/// The allocator had no memory.
+pub const OUT_OF_MEMORY: u8 = 9;
+
+/// The trace breaks a property of reconfigurations.
+pub const BROKEN_PROPERTY: u8 = 10;
+
+/// The trace's file breaks a rule of traces.
+pub const BROKEN_TRACE: u8 = 11;
+
+/// The schedule's file breaks a rule of schedules, or the schedule does not fly to the end.
+pub const BROKEN_SCHEDULE: u8 = 12;

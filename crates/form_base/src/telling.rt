@@ -1,0 +1,36 @@
+//! What is told: a text goes out with its status.
+
+ghost use Rattle.form_base.specs.Endings.{IsTaken};
+ghost use Rattle.std.specs.Prelude.{◌≡◌};
+ghost use Rattle.form_base.specs.Refusals.{told};
+ghost use Rattle.form_base.specs.Telling.{status_of};
+
+use crate::refusals::Refusal;
+use crate::status::{Status, UNWRITTEN_OUTPUT};
+use scram_io::{Sink, SinkFault};
+
+/// The status after a text of the status `code` was put.
+pub fn status_of(put: Result<(), SinkFault>, code: u8) -> Status
+    ensures { result.code ≡ status_of put code }
+{
+    match put {
+        Ok(()) => Status { code },
+        Err(SinkFault) => Status {
+            code: UNWRITTEN_OUTPUT,
+        },
+    }
+}
+
+/// Puts a text in one piece, and it is all that is put. The status is `code`, or 4 where the sink fails.
+pub fn tell<K: Sink>(out: &mut K, code: u8, text: &[u8]) -> Status
+    ensures { IsTaken (K.state out.old) (K.state out.new) result.code code text.now }
+{
+    status_of(out.put(text), code)
+}
+
+/// Puts the line of a refusal. The status is the refusal's, or 4 where the sink fails.
+pub fn tell_refusal<K: Sink>(out: &mut K, refusal: &Refusal) -> Status
+    ensures { IsTaken (K.state out.old) (K.state out.new) result.code (told refusal.now).0 (told refusal.now).1 }
+{
+    tell(out, refusal.refused.code(), refusal.line())
+}

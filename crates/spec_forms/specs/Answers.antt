@@ -1,0 +1,41 @@
+-- What is answered of a specification.
+use Rattle.std.specs.Prelude.{◌≡◌, ℕ, List, [], Option, Some, None}
+use Rattle.scram_types.specs.Specification.{Parts}
+use Rattle.scram_io.specs.Outside.{History}
+use Rattle.coverage_check.specs.declared.shown.Shown.{Shown}
+use Rattle.coverage_check.specs.Acceptance.{Accepts, first_refusal}
+use Rattle.coverage_check.specs.Form.{state_refusal}
+use Rattle.form_base.specs.declared.status.TheConstants.{ANSWERED, NOT_ACCEPTED}
+use Rattle.form_base.specs.Answers.{Answer, Gives, WithoutFiles}
+use Rattle.form_base.specs.Assurance.{OfSpecification}
+use Rattle.form_base.specs.Lines.{shown_line}
+use Rattle.form_base.specs.Specifications.{AnswersSpecification}
+use Rattle.spec_forms.specs.Bounds.{bounds_text}
+use Rattle.spec_forms.specs.Lines.{accepted_line}
+
+-- The answer to `check`, by why the specification is not accepted.
+abbrev pub check_answer : Parts → Option Shown → ℕ × List ℕ
+check_answer spec (Some shown) = (NOT_ACCEPTED, shown_line spec shown)
+check_answer spec None = (ANSWERED, accepted_line spec)
+
+-- The answer to `bounds`, which asks nothing but that environments be few.
+abbrev pub bounds_answer : Parts → Option Shown → ℕ × List ℕ
+bounds_answer spec (Some shown) = (NOT_ACCEPTED, shown_line spec shown)
+bounds_answer spec None = (ANSWERED, bounds_text spec)
+
+-- The answer to `check` and the name of a specification's file.
+abbrev pub CheckAnswers : List ℕ → Answer
+CheckAnswers specification = AnswersSpecification specification (λ (spec : Parts). WithoutFiles (Gives (check_answer spec (first_refusal spec))))
+
+-- The answer to `bounds` and the name of a specification's file.
+abbrev pub BoundsAnswers : List ℕ → Answer
+BoundsAnswers specification = AnswersSpecification specification (λ (spec : Parts). WithoutFiles (Gives (bounds_answer spec (state_refusal spec))))
+
+-- Where `check` ends with status 0, no other file was read, the specification is accepted, and its line is told.
+abbrev pub AssuresCheck : List ℕ → History → List ℕ → Type 0
+AssuresCheck specification =
+    OfSpecification specification (λ (spec : Parts) (reads : History) (text : List ℕ). (reads ≡ []) × Accepts spec × (text ≡ accepted_line spec))
+
+-- Where `bounds` ends with status 0, no other file was read, and the text has the bounds of the specification.
+abbrev pub AssuresBounds : List ℕ → History → List ℕ → Type 0
+AssuresBounds specification = OfSpecification specification (λ (spec : Parts) (reads : History) (text : List ℕ). (reads ≡ []) × (text ≡ bounds_text spec))

@@ -1,0 +1,67 @@
+//! The form `check`: whether a specification is accepted.
+
+ghost use Rattle.std.specs.Prelude.{◌∷◌, [], List, ℕ};
+ghost use Rattle.coverage_check.specs.Acceptance.{first_refusal};
+ghost use Rattle.form_base.specs.Answers.{Gives};
+ghost use Rattle.form_base.specs.Endings.{Ends, IsTaken, Reads, Settles};
+ghost use Rattle.form_base.specs.declared.status.TheConstants.{ANSWERED};
+ghost use Rattle.spec_forms.specs.Answers.{CheckAnswers, check_answer};
+
+use crate::lines::make_accepted_line;
+use coverage_check::{AcceptError, accept};
+use form_base::lines::make_shown_line;
+use form_base::loads::load;
+use form_base::refusals::{Refusal, Refused};
+use form_base::specifications::Specification;
+use form_base::status::{ANSWERED, Status};
+use form_base::telling::{tell, tell_refusal};
+use scram_io::{Files, Sink};
+use scram_types::Spec;
+use std::alloc::Global;
+use trace_text::lines::Line;
+
+/// Tells whether the specification in a file is accepted.
+pub fn check<F: Files, K: Sink>(
+    alloc: Global,
+    specification: &str,
+    files: &mut F,
+    out: &mut K,
+) -> Status
+    ensures { Ends (CheckAnswers specification.now) (specification.now ∷ []) (F.state files.old) (F.state files.new) (IsTaken (K.state out.old) (K.state out.new) result.code) }
+{
+    match read_line(alloc, specification, files) {
+        Ok(line) => tell(out, ANSWERED, line.as_bytes()),
+        Err(refusal) => tell_refusal(out, &refusal),
+    }
+}
+
+/// Reads the specification; the line tells that it is accepted.
+fn read_line<F: Files>(alloc: Global, specification: &str, files: &mut F) -> Result<Line, Refusal>
+    ensures { Reads (CheckAnswers specification.now) (λ (line : List ℕ). Gives (ANSWERED, line)) (specification.now ∷ []) (F.state files.old) (F.state files.new) result }
+{
+    match load(alloc, &Specification, specification, files) {
+        Ok(spec) => accepted_line_of(alloc, spec),
+        Err(refusal) => Err(refusal),
+    }
+}
+
+fn accepted_line_of(alloc: Global, spec: Spec) -> Result<Line, Refusal>
+    ensures { Settles (Gives (check_answer spec (first_refusal spec))) (λ (line : List ℕ). Gives (ANSWERED, line)) result }
+{
+    match accept(alloc, spec) {
+        Ok(accepted) => {
+            let line = make_accepted_line(accepted.spec());
+            drop(accepted);
+            Ok(line)
+        }
+        Err(AcceptError::NotAccepted(spec, shown)) => {
+            let line = make_shown_line(&spec, &shown);
+            drop(spec);
+            Err(Refusal::new(Refused::Acceptance, line))
+        }
+        Err(AcceptError::NoMemory(spec)) => {
+            drop(spec);
+            Err(Refusal::out_of_memory())
+        }
+    }
+}

@@ -1,0 +1,166 @@
+//! The form `bounds`: the bounds that a specification has to give.
+
+ghost use Rattle.std.specs.Prelude.{◌≡◌, ◌<◌, ◌≤◌, ◌∷◌, [], IfOk, length};
+ghost use Rattle.scram_types.specs.Bits.{has_bit};
+ghost use Rattle.coverage_check.specs.Form.{state_refusal};
+ghost use Rattle.coverage_check.specs.Timing.{asked_bounds, is_bound_asked};
+ghost use Rattle.scram_io.specs.Outside.{Prints};
+ghost use Rattle.form_base.specs.Answers.{Gives};
+ghost use Rattle.form_base.specs.Endings.{Ends, IsTaken, Reads, Settles};
+ghost use Rattle.form_base.specs.declared.status.TheConstants.{ANSWERED};
+ghost use Rattle.spec_forms.specs.Answers.{BoundsAnswers, bounds_answer};
+ghost use Rattle.spec_forms.specs.Asked.{AreAsked, TellsBounds};
+ghost use Rattle.spec_forms.specs.Bounds.{HasAskedBounds, bound_text_of, bounds_text, bounds_text_from};
+
+use crate::lines::make_bound_line;
+use coverage_check::{asked_bounds, refuse_states};
+use form_base::lines::make_shown_line;
+use form_base::loads::load;
+use form_base::refusals::{Refusal, Refused};
+use form_base::specifications::Specification;
+use form_base::status::{ANSWERED, Status};
+use form_base::telling::{status_of, tell_refusal};
+use scram_io::{Files, Sink, SinkFault};
+use scram_types::{ConfId, NoMemory, Spec};
+use std::alloc::Global;
+
+/// A specification, and for each configuration those to which a bound from it is asked for, as bits.
+#[derive(Drop)]
+struct Asked {
+    spec: Spec,
+    sets: [u16; 12],
+}
+
+/// Tells the bounds that the specification in a file has to give, where it has few enough environments in scope.
+pub fn bounds<F: Files, K: Sink>(
+    alloc: Global,
+    specification: &str,
+    files: &mut F,
+    out: &mut K,
+) -> Status
+    ensures { Ends (BoundsAnswers specification.now) (specification.now ∷ []) (F.state files.old) (F.state files.new) (IsTaken (K.state out.old) (K.state out.new) result.code) }
+{
+    match read_asked(alloc, specification, files) {
+        Ok(asked) => {
+            let status = status_of(put_bounds(out, &asked.spec, &asked.sets), ANSWERED);
+            drop(asked);
+            status
+        }
+        Err(refusal) => tell_refusal(out, &refusal),
+    }
+}
+
+/// Reads the specification, and finds the bounds that it has to give.
+fn read_asked<F: Files>(alloc: Global, specification: &str, files: &mut F) -> Result<Asked, Refusal>
+    ensures reads { Reads (BoundsAnswers specification.now) TellsBounds (specification.now ∷ []) (F.state files.old) (F.state files.new) result }
+    ensures asked { IfOk result AreAsked }
+{
+    match load(alloc, &Specification, specification, files) {
+        Ok(spec) => find_bounds(alloc, spec),
+        Err(refusal) => Err(refusal),
+    }
+}
+
+fn find_bounds(alloc: Global, spec: Spec) -> Result<Asked, Refusal>
+    ensures settles { Settles (Gives (bounds_answer spec (state_refusal spec))) TellsBounds result }
+    ensures asked { IfOk result AreAsked }
+{
+    if let Some(shown) = refuse_states(&spec) {
+        let line = make_shown_line(&spec, &shown);
+        drop(spec);
+        return Err(Refusal::new(Refused::Acceptance, line));
+    }
+    match find_asked(alloc, &spec) {
+        Ok(sets) => Ok(Asked { spec, sets }),
+        Err(NoMemory) => {
+            drop(spec);
+            Err(Refusal::out_of_memory())
+        }
+    }
+}
+
+// The configurations to which a bound from each configuration is asked for, as bits.
+fn find_asked(alloc: Global, spec: &Spec) -> Result<[u16; 12], NoMemory>
+    ensures { IfOk result (λ sets. HasAskedBounds spec.now sets) }
+{
+    let mut sets = [0; 12];
+    for i in 0..count_confs(spec) {
+        sets[usize::from(i)] = asked_bounds(alloc, spec, ConfId(i))?;
+    }
+    Ok(sets)
+}
+
+fn count_confs(spec: &Spec) -> u8
+    ensures value { result ≡ length spec.now.confs }
+    ensures few { result ≤ 12 }
+{
+    spec.confs.items().len() as u8
+}
+
+fn put_bounds<K: Sink>(out: &mut K, spec: &Spec, sets: &[u16; 12]) -> Result<(), SinkFault>
+    requires { HasAskedBounds spec.now sets.now }
+    ensures { Prints result (K.state out.old) (K.state out.new) (bounds_text spec.now) }
+{
+    for i in 0..count_confs(spec) {
+        match put_bounds_from(out, spec, sets[usize::from(i)], ConfId(i)) {
+            Ok(()) => {}
+            Err(fault) => return Err(fault),
+        }
+    }
+    Ok(())
+}
+
+fn put_bounds_from<K: Sink>(
+    out: &mut K,
+    spec: &Spec,
+    set: u16,
+    from: ConfId,
+) -> Result<(), SinkFault>
+    requires { set ≡ asked_bounds spec.now from }
+    ensures { Prints result (K.state out.old) (K.state out.new) (bounds_text_from spec.now from.0) }
+{
+    for j in 0..count_confs(spec) {
+        match put_bound(out, spec, set, from, ConfId(j)) {
+            Ok(()) => {}
+            Err(fault) => return Err(fault),
+        }
+    }
+    Ok(())
+}
+
+// Puts the line of a pair, where a bound is asked for it.
+fn put_bound<K: Sink>(
+    out: &mut K,
+    spec: &Spec,
+    set: u16,
+    from: ConfId,
+    to: ConfId,
+) -> Result<(), SinkFault>
+    requires set { set ≡ asked_bounds spec.now from }
+    requires to { to.0 < length spec.now.confs }
+    requires few { to.0 < 12 }
+    ensures { Prints result (K.state out.old) (K.state out.new) (bound_text_of spec.now from.0 to.0) }
+{
+    if is_asked(spec, set, from, to) {
+        out.put(make_bound_line(spec, from, to).as_bytes())
+    } else {
+        Ok(())
+    }
+}
+
+// Whether a bound is asked for; `set` has those from `from` that are.
+fn is_asked(spec: &Spec, set: u16, from: ConfId, to: ConfId) -> bool
+    requires set { set ≡ asked_bounds spec.now from }
+    requires to { to.0 < length spec.now.confs }
+    requires few { to.0 < 12 }
+    ensures { result ≡ is_bound_asked spec.now from to.0 }
+{
+    is_in_set(set, to.0)
+}
+
+fn is_in_set(set: u16, j: u8) -> bool
+    requires { j < 16 }
+    ensures { result ≡ has_bit set j }
+{
+    set >> j & 1 == 1
+}

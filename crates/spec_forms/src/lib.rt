@@ -1,0 +1,10 @@
+//! The forms in which something is asked of a specification: `check` and `bounds`. What each prints is the answer to the
+//! bytes of the file that its words name.
+#![tactic(auto)]
+
+mod acceptance;
+mod bound_pairs;
+mod lines;
+
+pub use bound_pairs::bounds;
+pub use acceptance::check;

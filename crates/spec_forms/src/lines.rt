@@ -1,0 +1,43 @@
+//! The lines in which a specification is answered, made without memory.
+
+ghost use Rattle.std.specs.Prelude.{◌≡◌};
+ghost use Rattle.spec_forms.specs.Lines.{accepted_line, bound_line};
+
+use choice_table::states;
+use coverage_check::timing::least;
+use scram_types::{ConfId, Spec};
+use trace_text::lines::Line;
+use trace_text::report_lines::add_bound;
+
+/// A specification is accepted: the numbers of its configurations, of its environments in scope and of the
+/// bounds that it gives.
+pub fn make_accepted_line(spec: &Spec) -> Line
+    ensures { result ≡ accepted_line spec.now }
+{
+    let mut line = Line::new();
+    line.text(b"accepted: configurations ");
+    line.number(spec.confs.items().len() as u32);
+    line.text(b" states ");
+    line.number(states(spec));
+    line.text(b" bounds ");
+    line.number(spec.bounds.items().len() as u32);
+    line.text(b"\n");
+    line
+}
+
+/// The least bound, in frames, that serves a pair of configurations, and the one that is given for it.
+pub fn make_bound_line(spec: &Spec, from: ConfId, to: ConfId) -> Line
+    ensures { result ≡ bound_line spec.now from to }
+{
+    let mut line = Line::new();
+    line.text(b"bound ");
+    line.text(spec.conf_name(from).as_bytes());
+    line.text(b" ");
+    line.text(spec.conf_name(to).as_bytes());
+    line.text(b" least ");
+    line.number(least(spec, from, to));
+    line.text(b" given ");
+    add_bound(&mut line, spec.bound(from, to));
+    line.text(b"\n");
+    line
+}

@@ -1,0 +1,64 @@
+-- What is answered of a trace.
+use Rattle.std.specs.Prelude.{◌≡◌, ◌<◌, ◌^◌, ℕ, List, [], Option, Some, None, Ok, Err, length}
+use Rattle.scram_types.specs.declared.flights.Flown.{Flown}
+use Rattle.scram_types.specs.declared.limits.TheConstants.{MAX_TRACE_BYTES}
+use Rattle.scram_types.specs.Specification.{Parts}
+use Rattle.scram_io.specs.Outside.{History}
+use Rattle.trace_props.specs.declared.breaks.Broken.{Broken}
+use Rattle.trace_props.specs.Breaks.{IsFirstBreak}
+use Rattle.trace_props.specs.Properties.{HoldsAll}
+use Rattle.trace_text.specs.declared.rule.TheConstants.{WRONG_END}
+use Rattle.trace_text.specs.declared.trace_reading.TraceFault.{TraceFault}
+use Rattle.trace_text.specs.TraceReading.{trace_of}
+use Rattle.form_base.specs.declared.status.TheConstants.{ANSWERED, BROKEN_PROPERTY, BROKEN_TRACE}
+use Rattle.form_base.specs.Answers.{Answer, AnswersDocument, AnswersFile, Gives, WithoutFiles}
+use Rattle.form_base.specs.Assurance.{OfDocument, OfSpecification}
+use Rattle.form_base.specs.Specifications.{AnswersSpecification}
+use Rattle.trace_forms.specs.Lines.{broken_line, holds_line, trace_line}
+
+-- The bytes are this trace of a specification's missions; its rows and its reports can be counted with 32 bits.
+pub record SaysTrace (spec : Parts) (flown : Flown) (bytes : List ℕ) : Type 0 where
+  pub is : trace_of spec bytes ≡ Ok flown
+  pub rows : length flown.rows < 2 ^ 32
+  pub reports : length flown.reports < 2 ^ 32
+
+-- The bytes are refused as a trace of a specification's missions.
+pub record BreaksTrace (spec : Parts) (refusal : ℕ × List ℕ) (bytes : List ℕ) : Type 0 where
+  pub fault : TraceFault
+  pub is : trace_of spec bytes ≡ Err fault
+  pub line : refusal ≡ (BROKEN_TRACE, trace_line fault)
+
+-- What is answered of a trace with too many bytes.
+abbrev pub long_trace : ℕ × List ℕ
+long_trace = (BROKEN_TRACE, trace_line (record { line = 0; rule = WRONG_END }))
+
+-- The file of this name is asked for, and this is answered of the trace that it holds.
+abbrev pub AnswersTrace : Parts → List ℕ → (Flown → Answer) → Answer
+AnswersTrace spec name Then = AnswersFile MAX_TRACE_BYTES long_trace name (AnswersDocument (SaysTrace spec) (BreaksTrace spec) Then)
+
+-- The first break of a property by a trace, or none where all of them hold of it.
+abbrev pub Judges : Parts → Flown → Option Broken → Type 0
+Judges spec flown None = HoldsAll spec flown.rows flown.reports
+Judges spec flown (Some broken) = IsFirstBreak spec flown.rows flown.reports broken.property broken.frame
+
+-- The answer to `props`, by the first break.
+abbrev pub judged_answer : Flown → Option Broken → ℕ × List ℕ
+judged_answer flown (Some broken) = (BROKEN_PROPERTY, broken_line broken)
+judged_answer flown None = (ANSWERED, holds_line flown)
+
+-- Status and text tell how a trace is judged.
+pub record IsJudgement (spec : Parts) (flown : Flown) (status : ℕ) (text : List ℕ) : Type 0 where
+  pub judged : Option Broken
+  pub judges : Judges spec flown judged
+  pub gives : Gives (judged_answer flown judged) status text
+
+-- The answer to `props` and the names of a specification's file and of a trace's; the specification need not be accepted.
+abbrev pub PropsAnswers : List ℕ → List ℕ → Answer
+PropsAnswers specification trace =
+    AnswersSpecification specification (λ (spec : Parts). AnswersTrace spec trace (λ (flown : Flown). WithoutFiles (IsJudgement spec flown)))
+
+-- Where `props` ends with status 0, the properties hold of the trace, and no further file was read.
+abbrev pub AssuresProps : List ℕ → List ℕ → History → List ℕ → Type 0
+AssuresProps specification trace =
+    OfSpecification specification (λ (spec : Parts). OfDocument (SaysTrace spec) trace (λ (flown : Flown) (reads : History) (text : List ℕ).
+    (reads ≡ []) × HoldsAll spec flown.rows flown.reports × (text ≡ holds_line flown)))

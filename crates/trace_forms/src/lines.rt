@@ -1,0 +1,49 @@
+//! The lines in which a trace is answered, made without memory.
+
+ghost use Rattle.std.specs.Prelude.{◌≡◌, ◌<◌, ◌^◌, length};
+ghost use Rattle.trace_forms.specs.Lines.{broken_line, holds_line, trace_line};
+
+use form_base::lines::add_counts;
+use scram_types::Flown;
+use trace_props::Broken;
+use trace_text::TraceFault;
+use trace_text::lines::Line;
+
+/// A trace breaks a rule in a line.
+pub fn make_trace_line(fault: TraceFault) -> Line
+    ensures { result ≡ trace_line fault }
+{
+    let mut line = Line::new();
+    line.text(b"refused: trace rule ");
+    line.number(u32::from(fault.rule));
+    line.text(b" at line ");
+    line.number(fault.line);
+    line.text(b"\n");
+    line
+}
+
+/// The five properties hold of a trace: the numbers of its frames and of its reconfigurations.
+pub fn make_holds_line(flown: &Flown) -> Line
+    requires rows { length flown.now.rows < 2 ^ 32 }
+    requires reports { length flown.now.reports < 2 ^ 32 }
+    ensures { result ≡ holds_line flown.now }
+{
+    let mut line = Line::new();
+    line.text(b"holds:");
+    add_counts(&mut line, flown);
+    line.text(b"\n");
+    line
+}
+
+/// A trace breaks a property: which one first, and in which frame.
+pub fn make_broken_line(broken: Broken) -> Line
+    ensures { result ≡ broken_line broken }
+{
+    let mut line = Line::new();
+    line.text(b"broken: SP");
+    line.number(u32::from(broken.property.number()));
+    line.text(b" at frame ");
+    line.number(broken.frame);
+    line.text(b"\n");
+    line
+}
