@@ -20,7 +20,7 @@ pub struct View {
     pub actors: [Actor; 0],
 }
 
-/// The rule of the table: the law of events on words and places, and each actor stands in one view, where that says.
+/// The rule of the table: the law of events on words and places, and each actor has one view and stands where that says.
 pub struct WordRule;
 
 impl TableRule<(), View, Mission> for WordRule {
