@@ -1,5 +1,5 @@
 -- What a step tells of a seat whose mission and actors are known.
-use Rattle.std.proofs.Common.{◌≡◌, ◌∙◌, ℕ, suc, ◌<◌, ◌≤◌, Bool, true, false, refl, ap, subst, arith, List, [], ◌∷◌, map}
+use Rattle.std.proofs.Common.{◌≡◌, ◌∙◌, ℕ, suc, ◌<◌, Bool, true, false, refl, ap, subst, arith, List, [], ◌∷◌, map}
 use Rattle.std.specs.Prelude.{Option, Some, IfSome, nat_lt}
 use Rattle.std.proofs.lemmas.Bool.Decides.{nat_tests}
 use Rattle.coverage_check.specs.Missions.{MissionParts}
@@ -8,7 +8,7 @@ use Rattle.fail_stop.specs.Flights.{Flight}
 use Rattle.word_table.specs.declared.actors.Actor.{Actor}
 use Rattle.word_table.specs.declared.actors.Actor.TheVariants.{Kernel, Runs}
 use Rattle.word_table.specs.declared.actors.View.{View}
-use Rattle.word_table.specs.Actors.{Waits, actor_at, awaited, begun, frame_awaited, mission_flight, one_more, tried, with_actor, with_actors}
+use Rattle.word_table.specs.Actors.{Waits, actor_at, awaited, begun, frame_awaited, mission_flight, one_more, with_actor, with_actors}
 use Rattle.word_table.specs.Plays.{AwaitsEnd, AwaitsRelease, GoesOrTries, GoesWhereItWaits, Has, IsFound, Sat, ShowsWord, TellsNote, TellsStart, can_note, each_actor, may_start}
 
 pub third : {A B C : Type 0} → A × B × C → C
@@ -28,10 +28,6 @@ shown_to mission v actors i n planned alone shows =
 by_true : (b : Bool) (go : Actor → Actor) (v : View) (after : Sat) → b ≡ true → GoesOrTries b go v after → Has after (each_actor go v)
 by_true true go v after is told = told
 by_true false go v after is told = cc
-
-by_false : (b : Bool) (go : Actor → Actor) (v : View) (after : Sat) → b ≡ false → GoesOrTries b go v after → Has after (tried v)
-by_false true go v after is told = cc
-by_false false go v after is told = told
 
 awaited_at : (m : Flight) (p : ℕ) (x : Place) → awaited m (actor_at p x) ≡ frame_awaited m p x
 awaited_at m p (At f n) = refl
@@ -66,11 +62,6 @@ module _ (mission : MissionParts) (v : View) (after : Sat) (n p : ℕ) (x : Plac
     where
       both : (s : Sat) {w : View} → s.0 ≡ w → s.1 ≡ [] → s ≡ (w, [])
       both (a, b) is empty = rw (is, empty) refl
-
-  pub start_tried : n ≤ frame_awaited m p x → Has after (tried v)
-  start_tried low =
-      let late : nat_lt (frame_awaited m p x) n ≡ false = grind (arith, nat_tests, low) in
-      by_false (nat_lt (frame_awaited m p x) n) (begun m) v after late start_told
 
 pub note_told : (mission : MissionParts) (v : View) (after : Sat) (i n k p : ℕ) → v.mission ≡ Some mission → v.actors ≡ Kernel k p ∷ [] → AwaitsEnd (mission_flight mission) i (Kernel k p ∷ [])
     → IfSome v.mission (λ mission. TellsNote (mission_flight mission) i n v after) → GoesOrTries (may_note (mission_flight mission) p k n) one_more v after
