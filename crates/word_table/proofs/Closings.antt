@@ -20,11 +20,6 @@ zeros_at zero i = refl
 zeros_at (suc n) zero = refl
 zeros_at (suc n) (suc i) = zeros_at n i
 
-pub replicated : {A : Type 0} (n i : ℕ) (x d : A) → i < n → slice_index_or (replicate n x) i d ≡ x
-replicated zero i x d low = absurd (omega (arith, low))
-replicated (suc n) zero x d low = refl
-replicated (suc n) (suc i) x d low = replicated n i x d (omega (arith, low))
-
 pub none_stored : (list : List ℕ) (at : ℕ) → IsStoredImage list 0 at (replicate 64 (pos 0))
 none_stored list at = record { long = refl; words = λ i low. absurd (omega (arith, low)); past = λ i least. zeros_at 64 i }
 

@@ -21,7 +21,7 @@ use Rattle.word_table.specs.declared.actors.Actor.{Actor}
 use Rattle.word_table.specs.declared.actors.View.{View}
 use Rattle.word_table.specs.Actors.{mission_flight, who, with_actor, with_actors}
 use Rattle.word_table.specs.Plays.{all_actors, first_actor, first_of, other_actors, others_of, spent}
-use Rattle.word_table.specs.Rule.{AreApart, Hosts, IsActorOf, IsIn, IsNotIn, IsViewOf, Ruled, first_view, opening_actors}
+use Rattle.word_table.specs.Rule.{AreApart, Hosts, IsActorOf, IsAmong, IsNotIn, IsViewOf, Ruled, first_view, opening_actors}
 use Rattle.word_table.proofs.Seating.{IsSound, set_there, view_after, view_same}
 
 opt_eq : Option ℕ → Option ℕ → Bool
@@ -74,7 +74,7 @@ at_end (x ∷ xs) a b (suc j) e = end_more xs a b j (at_end xs a b j e)
 long_views : (l : List View) (i : ℕ) (v : View) → length (slice_set l i v) ≡ length l
 long_views l i v = grind (arith, common_steps)
 
-differs_of : (q o : Option ℕ) (l : List Actor) → IsNotIn q l → IsIn o l → o ≢ q
+differs_of : (q o : Option ℕ) (l : List Actor) → IsNotIn q l → IsAmong o l → o ≢ q
 differs_of q o [] apart none = absurd none
 differs_of q o (a ∷ rest) apart (inl is) = λ e. apart.0 (is ∙ e)
 differs_of q o (a ∷ rest) apart (inr more) = differs_of q o rest apart.1 more
@@ -104,7 +104,7 @@ module _ (m : Flight) (mission : MissionParts) (id : ℕ) (v : View) (a : Actor)
     abbrev split_views : List View
     split_views = slice_set s.views id (with_actors v rest) ++ with_actor v a ∷ []
 
-    split_left : (o : Option ℕ) → r.home o ≡ id → IsIn o rest → IsViewOf split_views o (r.home o)
+    split_left : (o : Option ℕ) → r.home o ≡ id → IsAmong o rest → IsViewOf split_views o (r.home o)
     split_left o same among = record {
       view = with_actors v rest;
       there = ap (λ k. get_elem? split_views k) same ∙ at_longer (slice_set s.views id (with_actors v rest)) (with_actor v a ∷ []) id (with_actors v rest) (set_there s.views id v (with_actors v rest) here);
@@ -120,13 +120,13 @@ module _ (m : Flight) (mission : MissionParts) (id : ℕ) (v : View) (a : Actor)
       among = inl same;
     }
 
-    split_here : (o : Option ℕ) → r.home o ≡ id → IsIn o (a ∷ rest) → IsViewOf split_views o (moved_home r.home (who a) n o)
+    split_here : (o : Option ℕ) → r.home o ≡ id → IsAmong o (a ∷ rest) → IsViewOf split_views o (moved_home r.home (who a) n o)
     split_here o same (inl own) = split_new o own
     split_here o same (inr more) = subst (IsViewOf split_views o) (sym (home_else r.home (who a) n o (differs_of (who a) o rest differ.0 more))) (split_left o same more)
 
     split_viewed : (o : Option ℕ) → IsViewOf s.views o (r.home o) → Dec (r.home o ≡ id) → IsViewOf split_views o (moved_home r.home (who a) n o)
     split_viewed o had (yes d) =
-        split_here o d (subst (λ (l : List Actor). IsIn o l) alone (subst (λ (u : View). IsIn o u.actors) (view_same s.views (r.home o) id had.view v d had.there here) had.among))
+        split_here o d (subst (λ (l : List Actor). IsAmong o l) alone (subst (λ (u : View). IsAmong o u.actors) (view_same s.views (r.home o) id had.view v d had.there here) had.among))
     split_viewed o had (no d) =
         let other : o ≢ who a = λ e. d (ap r.home e ∙ hosted.0) in
         subst (IsViewOf split_views o) (sym (home_else r.home (who a) n o other)) record {
@@ -200,12 +200,12 @@ apart_append at home id other [] k n hl hk a b = b
 apart_append at home id other (x ∷ l) k n hl hk a b =
     (not_append (who x) l k a.0 (not_in_of at home (who x) other k (λ e. n (e ∙ hl.0)) hk), apart_append at home id other l k n hl.2 hk a.1 b)
 
-in_front : (o : Option ℕ) (l k : List Actor) → IsIn o l → IsIn o (l ++ k)
+in_front : (o : Option ℕ) (l k : List Actor) → IsAmong o l → IsAmong o (l ++ k)
 in_front o [] k none = absurd none
 in_front o (a ∷ l) k (inl is) = inl is
 in_front o (a ∷ l) k (inr more) = inr (in_front o l k more)
 
-in_back : (o : Option ℕ) (l k : List Actor) → IsIn o k → IsIn o (l ++ k)
+in_back : (o : Option ℕ) (l k : List Actor) → IsAmong o k → IsAmong o (l ++ k)
 in_back o [] k among = among
 in_back o (a ∷ l) k among = inr (in_back o l k among)
 
@@ -246,7 +246,7 @@ module _ (m : Flight) (mission : MissionParts) (id : ℕ) (v : View) (other : �
     there =
         ap (λ k. get_elem? join_views k) (join_to r.home id other o d)
         ∙ set_else (slice_set s.views id (all_actors v w)) other id spent (λ e. n (sym e)) ∙ set_there s.views id v (all_actors v w) here;
-    among = in_back o v.actors w.actors (subst (λ (u : View). IsIn o u.actors) (view_same s.views (r.home o) other had.view w d had.there there) had.among);
+    among = in_back o v.actors w.actors (subst (λ (u : View). IsAmong o u.actors) (view_same s.views (r.home o) other had.view w d had.there there) had.among);
   }
   join_viewed o had (no d) =
       let first : IsViewOf (slice_set s.views id (all_actors v w)) o (r.home o) = view_after s.views id v (all_actors v w) here (λ q. in_front q v.actors w.actors) o (r.home o) had in
@@ -289,19 +289,19 @@ opening_hosted : (p n : ℕ) → Hosts opening_places (λ q. 0) 0 (opening_actor
 opening_hosted p zero = (refl, (refl, refl), tt)
 opening_hosted p (suc n) = (refl, refl, opening_hosted (suc p) n)
 
-kernel_in : (p n : ℕ) → IsIn None (opening_actors p n)
+kernel_in : (p n : ℕ) → IsAmong None (opening_actors p n)
 kernel_in p zero = inl refl
 kernel_in p (suc n) = inr (kernel_in (suc p) n)
 
-processor_in : (q p n : ℕ) → p ≤ q → q < p + n → IsIn (Some q) (opening_actors p n)
+processor_in : (q p n : ℕ) → p ≤ q → q < p + n → IsAmong (Some q) (opening_actors p n)
 processor_in q p zero low high = absurd (omega (arith, low, high))
 processor_in q p (suc n) low high = by_place (ℕ_discrete p q) (λ d. processor_in q (suc p) n (omega (arith, low, d)) (omega (arith, high)))
   where
-    by_place : Dec (p ≡ q) → (p ≢ q → IsIn (Some q) (opening_actors (suc p) n)) → IsIn (Some q) (opening_actors p (suc n))
+    by_place : Dec (p ≡ q) → (p ≢ q → IsAmong (Some q) (opening_actors (suc p) n)) → IsAmong (Some q) (opening_actors p (suc n))
     by_place (yes d) later = inl (ap (λ (z : ℕ). Some z) d)
     by_place (no d) later = inr (later d)
 
-opening_in : (m : Flight) (o : Option ℕ) → IsActorOf m o → IsIn o (opening_actors 0 m.procs)
+opening_in : (m : Flight) (o : Option ℕ) → IsActorOf m o → IsAmong o (opening_actors 0 m.procs)
 opening_in m None is = kernel_in 0 m.procs
 opening_in m (Some p) low = processor_in p 0 m.procs (omega arith) (omega (arith, low))
 

@@ -22,7 +22,7 @@ use Rattle.word_table.specs.declared.actors.Actor.TheVariants.{Runs, Stopped, Ke
 use Rattle.word_table.specs.declared.actors.View.{View}
 use Rattle.word_table.specs.Actors.{StandsAt, actor_at, mission_flight, who, with_actor, with_actors}
 use Rattle.word_table.specs.Plays.{AllStand, IsFound, ShowsWord, each_actor}
-use Rattle.word_table.specs.Rule.{AreApart, Hosts, IsIn, IsViewOf, Ruled}
+use Rattle.word_table.specs.Rule.{AreApart, Hosts, IsAmong, IsViewOf, Ruled}
 
 -- What the law asks of a flight.
 pub record IsSound (m : Flight) : Type 0 where
@@ -90,21 +90,21 @@ pub set_there : (views : List View) (id : ℕ) (v w : View) → get_elem? views 
 set_there views id v w here = set_here views id w (within views id v here)
 
 -- an actor has its view after a view has become one of the same actors
-pub view_after : (views : List View) (id : ℕ) (v w : View) → get_elem? views id ≡ some v → ((o : Option ℕ) → IsIn o v.actors → IsIn o w.actors) → (o : Option ℕ) (j : ℕ) → IsViewOf views o j → IsViewOf (slice_set views id w) o j
+pub view_after : (views : List View) (id : ℕ) (v w : View) → get_elem? views id ≡ some v → ((o : Option ℕ) → IsAmong o v.actors → IsAmong o w.actors) → (o : Option ℕ) (j : ℕ) → IsViewOf views o j → IsViewOf (slice_set views id w) o j
 view_after views id v w here stays o j is = by_place (ℕ_discrete j id)
   where
     by_place : Dec (j ≡ id) → IsViewOf (slice_set views id w) o j
     by_place (yes d) = record {
       view = w;
       there = ap (λ k. get_elem? (slice_set views id w) k) d ∙ set_there views id v w here;
-      among = stays o (subst (λ (u : View). IsIn o u.actors) (view_same views j id is.view v d is.there here) is.among);
+      among = stays o (subst (λ (u : View). IsAmong o u.actors) (view_same views j id is.view v d is.there here) is.among);
     }
     by_place (no d) = record { view = is.view; there = set_else views id j w d ∙ is.there; among = is.among }
 
-pub one_moved : (v : View) (a b : Actor) → v.actors ≡ a ∷ [] → who a ≡ who b → (o : Option ℕ) → IsIn o v.actors → IsIn o (b ∷ [])
-one_moved v a b alone same o is = by_actor (subst (λ (l : List Actor). IsIn o l) alone is)
+pub one_moved : (v : View) (a b : Actor) → v.actors ≡ a ∷ [] → who a ≡ who b → (o : Option ℕ) → IsAmong o v.actors → IsAmong o (b ∷ [])
+one_moved v a b alone same o is = by_actor (subst (λ (l : List Actor). IsAmong o l) alone is)
   where
-    by_actor : IsIn o (a ∷ []) → IsIn o (b ∷ [])
+    by_actor : IsAmong o (a ∷ []) → IsAmong o (b ∷ [])
     by_actor (inl here) = inl (sym same ∙ here)
     by_actor (inr none) = inr none
 
@@ -219,7 +219,7 @@ module _ (m : Flight) (mission : MissionParts) (s : State (Unit {0}) View) (id :
       each = λ j u g. load_each j u (at_set s.views id j w u g);
       planned = λ j u g. load_plan j u (at_set s.views id j w u g);
       apart = λ j u g. one_apart s id w (rw same (r.apart id v here)) r.apart j u (at_set s.views id j w u g);
-      has_view = λ o is. view_after s.views id v w here (λ q among. subst (λ (l : List Actor). IsIn q l) (sym same) among) o (r.home o) (r.has_view o is);
+      has_view = λ o is. view_after s.views id v w here (λ q among. subst (λ (l : List Actor). IsAmong q l) (sym same) among) o (r.home o) (r.has_view o is);
     }
 
 pub all_stand : (at : Places) (home : Option ℕ → ℕ) (j : ℕ) (l : List Actor) → Hosts at home j l → AllStand at l

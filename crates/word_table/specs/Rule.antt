@@ -29,9 +29,9 @@ AreApart [] = Unit {0}
 AreApart (a ∷ rest) = IsNotIn (who a) rest × AreApart rest
 
 -- An actor is one of these.
-abbrev pub IsIn : Option ℕ → List Actor → Type 0
-IsIn o [] = ⊥
-IsIn o (a ∷ rest) = (who a ≡ o) ⊎ IsIn o rest
+abbrev pub IsAmong : Option ℕ → List Actor → Type 0
+IsAmong o [] = ⊥
+IsAmong o (a ∷ rest) = (who a ≡ o) ⊎ IsAmong o rest
 
 -- An actor is one of a flight's: one of its processors, or the kernel.
 abbrev pub IsActorOf : Flight → Option ℕ → Type 0
@@ -42,7 +42,7 @@ IsActorOf m None = Unit {0}
 pub record IsViewOf (views : List View) (o : Option ℕ) (j : ℕ) : Type 0 where
   pub view : View
   pub there : get_elem? views j ≡ some view
-  pub among : IsIn o view.actors
+  pub among : IsAmong o view.actors
 
 -- The rule, by the flight of a mission: the law of events holds of words and places, each actor of the flight has one
 -- view, which is its home, and stands where that says, and each view with an actor knows the mission.

@@ -2,12 +2,12 @@ use Rattle.std.proofs.Common.{◌≡◌, ◌∙◌, ◌%◌, pos, refl, sym, sub
 use Rattle.std.specs.Prelude.{replicate}
 use mathlib.Core.Option.{some}
 use lib.ListN.{get_elem?}
-use Rattle.std.proofs.lemmas.List.{length-set}
+use Rattle.std.proofs.lemmas.List.{get_or-replicate, length-set}
 use Rattle.std.specs.Mem.Slots.{slots_items}
 use Rattle.fail_stop.specs.Events.{BankWord, MarkWord}
 use Rattle.fail_stop.specs.Listed.{index_of}
 use Rattle.word_table.specs.Closing.{IsStoredImage}
-use Rattle.word_table.proofs.Closings.{index_is, nobodys_left, one_last, replicated}
+use Rattle.word_table.proofs.Closings.{index_is, nobodys_left, one_last}
 use Rattle.word_table.proofs.closing.last_words.Goals as goal
 
 pub loop-p-init : goal.loop-p-init
@@ -15,7 +15,7 @@ loop-p-init c = record {
   marks = refl;
   images = refl;
   last = λ q low. absurd (omega (arith, low));
-  past = λ q least most. (replicated 8 q 0 0 most, replicated 8 q (replicate 64 (pos 0)) [] most);
+  past = λ q least most. (get_or-replicate 8 q 0 0 most, get_or-replicate 8 q (replicate 64 (pos 0)) [] most);
 }
 
 pub loop-p-preserved : goal.loop-p-preserved
