@@ -15,6 +15,3 @@ module _ (next : ℕ → Option Event) (place end : ℕ) where
 
   pub found_here : (e : Event) → place < end → next place ≡ Some e → first_in next place (end - place) ≡ Some (place, e)
   found_here e low is = opened low ∙ ap (λ o. found_at place o (first_in next (suc place) (end - suc place))) is
-
-  pub none_left : end ≤ place → first_in next place (end - place) ≡ None
-  none_left past = let many : end - place ≡ 0 = omega (arith, past) in ap (first_in next place) many

@@ -12,7 +12,7 @@ use Rattle.fail_stop.specs.Schedules.{IsSchedule, Machine, happened, opening}
 use Rattle.fail_stop.specs.ScriptFlights.{flight_of}
 use Rattle.event_core.specs.Cores.{CoreParts, flown, standing, standing_words}
 use Rattle.event_core.specs.Replays.{IsReplay}
-use Rattle.event_core.proofs.Replays.{kernel_same, next_same, replay_more}
+use Rattle.event_core.proofs.Replays.{kernel_same, next_same, replay_on}
 use Rattle.schedule_flights.specs.Choices.{begin_of, chooser_after, chosen, first_chooser, first_from, is_backwards, next_in_order}
 use Rattle.schedule_flights.specs.Ruled.{AreChosen, IsByRule}
 use Rattle.schedule_flights.specs.declared.choices.Chooser.{Chooser}
@@ -37,7 +37,7 @@ chosen_more : (m : Flight) (chooser : Chooser) (s : Machine) (es : List Event) (
 chosen_more m chooser s [] last t place e is next =
     let at_t : chosen m t.at t.words chooser ≡ Some (place, e) = subst (λ (c : Chooser). chosen m t.at t.words c ≡ Some (place, e)) is.0 next in
     let at_s : chosen m s.at s.words chooser ≡ Some (place, e) = subst (λ (u : Machine). chosen m u.at u.words chooser ≡ Some (place, e)) is.1 at_t in
-    (place, at_s, ap (λ (c : Chooser). chooser_after c place) is.0, ap (λ (u : Machine). happened m u e) is.1)
+    (place, at_s, (ap (λ (c : Chooser). chooser_after c place) is.0, ap (λ (u : Machine). happened m u e) is.1))
 chosen_more m chooser s (x ∷ es) last t place e is next = (is.0, is.1, chosen_more m (chooser_after chooser is.0) (happened m s x) es last t place e is.2 next)
 
 -- words that agree have the same choice
@@ -59,10 +59,14 @@ ruled_more m rule chooser codes at at2 words words2 e place ruled is next happen
     subst (λ (a : Places). chosen m a b.replay.state.words chooser ≡ Some (place, e)) b.replay.places_are here in
     let by_last : chosen m b.replay.state.at b.replay.state.words b.chooser ≡ Some (place, e) =
     subst (λ (c : Chooser). chosen m b.replay.state.at b.replay.state.words c ≡ Some (place, e)) (sym ruled.1) there in
+    let more = replay_on m codes at at2 words words2 e b.replay next (record { proc = happens.proc; frame = happens.frame; step = happens.step }) happens.words_are in
+    let longer = chosen_more m (first_chooser rule) (opening m) b.replay.events b.chooser b.replay.state place e b.chosen_are by_last in
+    let of_events : AreChosen m (first_chooser rule) (opening m) more.0.events (chooser_after b.chooser place) (happened m b.replay.state e) =
+    subst (λ (es : List Event). AreChosen m (first_chooser rule) (opening m) es (chooser_after b.chooser place) (happened m b.replay.state e)) (sym more.1) longer in
     (record {
-      replay = replay_more m codes at at2 words words2 e b.replay next (record { proc = happens.proc; frame = happens.frame; step = happens.step }) happens.words_are;
+      replay = more.0;
       chooser = chooser_after b.chooser place;
-      chosen_are = chosen_more m (first_chooser rule) (opening m) b.replay.events b.chooser b.replay.state place e b.chosen_are by_last;
+      chosen_are = subst (λ (t : Machine). AreChosen m (first_chooser rule) (opening m) more.0.events (chooser_after b.chooser place) t) (sym more.2) of_events;
     }, ap (λ (c : Chooser). chooser_after c place) ruled.1)
 
 -- who was chosen, by the event alone

@@ -1,5 +1,5 @@
 -- Who is asked first for the next event, and who makes it.
-use Rattle.std.specs.Prelude.{ℕ, zero, suc, ◌+◌, ◌-◌, ◌%◌, ◌×◌, Bool, true, false, Option, Some, None, nat_eq, nat_lt, if◌then◌else◌}
+use Rattle.std.specs.Prelude.{ℕ, zero, suc, ◌+◌, ◌-◌, ◌%◌, Bool, true, false, Option, Some, None, nat_eq, nat_lt, if◌then◌else◌}
 use Rattle.rand_pcg.specs.Lcg.{Lcg, increment_of, started}
 use Rattle.rand_pcg.specs.Pcg.{multiplier_64, pcg32}
 use Rattle.bank_words.specs.declared.events.Event.{Event}

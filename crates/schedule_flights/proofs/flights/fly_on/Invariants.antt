@@ -9,7 +9,7 @@ abbrev pub invariant-loop-event : goal.invariant-loop-event
 invariant-loop-event g l = record {
   spec : l.core.spec ≡ l.fn.core.spec;
   script : l.core.script ≡ l.fn.core.script;
-  ruled : IsRuledTo (flown l.core) l.rule l.chooser l.core.history (standing l.core) (standing_words l.core);
+  ruled : IsRuledTo (flown l.core) l.fn.rule l.chooser l.core.history (standing l.core) (standing_words l.core);
   fits : FlyersFit (λ z. (goal.App-dyn g (z.vtable, z.value)).kind_of z.value) (λ r. r.boxes.items) l.core.spec l.core.script l.flyers;
 }
 
