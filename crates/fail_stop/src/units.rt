@@ -35,6 +35,7 @@ impl Live {
     pub fn new(proc: ProcId, rack: Rack) -> Live
         requires { RackFits (λ b. kind_of (b.vtable, b.value)) rack.boxes.items }
         ensures proc { result.proc ≡ proc }
+        ensures rack { result.rack ≡ rack }
         ensures fits { RackFits (λ b. kind_of (b.vtable, b.value)) result.rack.boxes.items }
     {
         Live { proc, rack }
@@ -106,6 +107,7 @@ impl Halted {
     pub fn restart(self, rack: Rack) -> Live
         requires { RackFits (λ b. kind_of (b.vtable, b.value)) rack.boxes.items }
         ensures proc { result.proc ≡ self.proc }
+        ensures rack { result.rack ≡ rack }
         ensures fits { RackFits (λ b. kind_of (b.vtable, b.value)) result.rack.boxes.items }
     {
         Live::new(self.proc, rack)
