@@ -1,6 +1,6 @@
 //! Racks: the boxes of one processor, one for each kind.
 
-ghost use Rattle.std.specs.Prelude.{◌≡◌, ◌↔◌, ◌<◌, IsTrue, map};
+ghost use Rattle.std.specs.Prelude.{◌≡◌, ◌↔◌, ◌<◌, All, IfOk, IsTrue, [], map, vec_len};
 ghost use Rattle.app_model.specs.Law.{law};
 ghost use Rattle.app_model.specs.Racks.{RacksFit, RackFits, AllRacksFit, OthersStay};
 
@@ -8,11 +8,34 @@ use crate::all_laws::law_area;
 use crate::app::App;
 use crate::seen::Seen;
 use scram_types::{Area, KindId, Order, ProcId};
+use std::alloc::{AllocError, Global};
 
 /// The applications of one processor: the box of kind `k` stands at place `k`.
 #[derive(Drop)]
 pub struct Rack {
     pub boxes: Vec<Box<dyn App + Send>>,
+}
+
+/// A rack without boxes. It takes no memory.
+pub fn empty_rack(alloc: Global) -> Rack
+    ensures { result.boxes.items ≡ [] }
+{
+    Rack {
+        boxes: Vec::new(alloc),
+    }
+}
+
+/// Eight racks without boxes, or `Err` where there is no memory for them. They serve wherever nothing is asked of boxes:
+/// what flies with them computes each law itself.
+pub fn empty_racks(alloc: Global) -> Result<Vec<Rack>, AllocError>
+    ensures count { IfOk result (λ racks. vec_len racks ≡ 8) }
+    ensures empty { IfOk result (λ racks. All (λ r. r.boxes.items ≡ []) racks.items) }
+{
+    let mut racks = Vec::new(alloc);
+    for _made in 0..8u8 {
+        racks.push(empty_rack(alloc))?;
+    }
+    Ok(racks)
 }
 
 /// The kind of a box.
