@@ -1,17 +1,15 @@
-//! What the power monitor's run leaves.
-#![tactic(auto, unfolding(app_model::specs::PowerMonitor::alternator_gives, app_model::specs::PowerMonitor::supply_after, app_model::specs::PowerMonitor::demand_after, app_model::specs::PowerMonitor::charge_after, app_model::specs::PowerMonitor::shed_after, app_model::specs::PowerMonitor::power_monitor_ran))]
+//! The power monitor's law.
+#![tactic(auto, unfolding(crate::specs::PowerMonitor::alternator_gives, crate::specs::PowerMonitor::supply_after, crate::specs::PowerMonitor::demand_after, crate::specs::PowerMonitor::charge_after, crate::specs::PowerMonitor::shed_after, crate::specs::PowerMonitor::power_monitor_ran))]
 
 ghost use Rattle.std.specs.Prelude.{◌≡◌, ◌≤ℤ◌, ◌+ℤ◌, ◌-ℤ◌, pos};
 ghost use Rattle.scram_types.specs.Numbers.{IsWord};
 ghost use Rattle.app_model.specs.PowerMonitor.{supply_after, demand_after, charge_after, shed_after, power_monitor_ran, alternator_gives};
-ghost use Rattle.app_model.specs.Law.{law};
 
-use app_model::Seen;
-use app_model::kinds::power_monitor::{CHARGE, KIND, NORMAL, SAVER};
-use app_model::orders::area_after;
-use app_model::reads::{next_ticks, read_own};
+use crate::kinds::power_monitor::{CHARGE, KIND, NORMAL, SAVER};
+use crate::reads::{next_ticks, read_own};
+use crate::seen::Seen;
+use scram_types::Area;
 use scram_types::ranges::{clamped_in, make_range};
-use scram_types::{Area, Order};
 
 fn alternator_gives(value: u8) -> i64
     ensures value { result ≡ alternator_gives value }
@@ -66,7 +64,8 @@ fn next_shed(seen: &Seen) -> i64
     if next_charge(seen) < 2_000 { 1 } else { 0 }
 }
 
-fn run(seen: &Seen) -> Area
+/// What a run leaves. It takes no memory.
+pub fn run(seen: &Seen) -> Area
     ensures { result ≡ power_monitor_ran seen.now }
 {
     [
@@ -79,14 +78,4 @@ fn run(seen: &Seen) -> Area
         next_ticks(KIND, seen),
         0,
     ]
-}
-
-/// The power monitor's area after a frame with this order, by its law. It takes no memory.
-pub fn power_monitor_area(order: Order, seen: &Seen) -> Area
-    ensures { result ≡ law 2 order seen.now }
-{
-    match area_after(KIND, order, seen) {
-        Some(area) => area,
-        None => run(seen),
-    }
 }

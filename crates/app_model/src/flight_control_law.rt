@@ -1,20 +1,18 @@
-//! What the flight control's run leaves.
-#![tactic(auto, unfolding(app_model::specs::FlightControl::closer, app_model::specs::FlightControl::command, app_model::specs::FlightControl::elevator_after, app_model::specs::FlightControl::aileron_after, app_model::specs::FlightControl::flight_control_ran))]
+//! The flight control's law.
+#![tactic(auto, unfolding(crate::specs::FlightControl::closer, crate::specs::FlightControl::command, crate::specs::FlightControl::elevator_after, crate::specs::FlightControl::aileron_after, crate::specs::FlightControl::flight_control_ran))]
 
 ghost use Rattle.std.specs.Prelude.{◌≡◌, ◌<◌};
 ghost use Rattle.scram_types.specs.Numbers.{IsWord};
 ghost use Rattle.app_model.specs.FlightControl.{command, closer, elevator_after, aileron_after, flight_control_ran};
-ghost use Rattle.app_model.specs.Law.{law};
 
-use app_model::Seen;
-use app_model::kinds::autopilot;
-use app_model::kinds::every_kind::STATUS;
-use app_model::kinds::flight_control::{AILERON, AUGMENTED, ELEVATOR, KIND};
-use app_model::orders::area_after;
-use app_model::reads::{next_ticks, read_lead, read_own};
+use crate::kinds::autopilot;
+use crate::kinds::every_kind::STATUS;
+use crate::kinds::flight_control::{AILERON, AUGMENTED, ELEVATOR, KIND};
+use crate::reads::{next_ticks, read_lead, read_own};
+use crate::seen::Seen;
+use scram_types::Area;
 use scram_types::numbers::{gap, sum};
 use scram_types::ranges::{clamped_in, make_range};
-use scram_types::{Area, Order};
 
 fn commanded(seen: &Seen, variable: usize) -> i64
     requires { variable < 8 }
@@ -64,7 +62,8 @@ fn next_aileron(seen: &Seen) -> i64
     }
 }
 
-fn run(seen: &Seen) -> Area
+/// What a run leaves. It takes no memory.
+pub fn run(seen: &Seen) -> Area
     ensures { result ≡ flight_control_ran seen.now }
 {
     [
@@ -77,14 +76,4 @@ fn run(seen: &Seen) -> Area
         next_ticks(KIND, seen),
         0,
     ]
-}
-
-/// The flight control's area after a frame with this order, by its law. It takes no memory.
-pub fn flight_control_area(order: Order, seen: &Seen) -> Area
-    ensures { result ≡ law 1 order seen.now }
-{
-    match area_after(KIND, order, seen) {
-        Some(area) => area,
-        None => run(seen),
-    }
 }
