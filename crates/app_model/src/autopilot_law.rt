@@ -1,23 +1,20 @@
-//! The autopilot's law. It stands here since two kinds of box answer it: one that remembers its last
-//! call and one that does not.
+//! The autopilot's law.
 #![tactic(auto, unfolding(crate::specs::Autopilot::target_alt, crate::specs::Autopilot::target_heading, crate::specs::Autopilot::altitude_error, crate::specs::Autopilot::integral_after, crate::specs::Autopilot::pitch_after, crate::specs::Autopilot::roll_after, crate::specs::Autopilot::autopilot_ran, scram_types::specs::Numbers::part))]
 
 ghost use Rattle.std.specs.Prelude.{◌≡◌, ◌+ℤ◌};
 ghost use Rattle.scram_types.specs.Numbers.{IsWord, part};
 ghost use Rattle.app_model.specs.Autopilot.{target_alt, target_heading, altitude_error, integral_after, pitch_after, roll_after, autopilot_ran};
-ghost use Rattle.app_model.specs.Law.{law};
 
 use crate::headings::short_turn;
 use crate::kinds::autopilot::{INTEGRAL, KIND, NAVIGATE, PITCH, TARGET_ALT, TARGET_HEADING};
-use crate::orders::area_after;
 use crate::ranges::mode_range;
 use crate::reads::{
     next_ticks, read_altitude, read_goal_altitude, read_goal_heading, read_heading, read_own,
 };
 use crate::seen::Seen;
+use scram_types::Area;
 use scram_types::numbers::{gap, sum};
 use scram_types::ranges::{clamped_in, make_range};
-use scram_types::{Area, Order};
 
 fn wanted_altitude(seen: &Seen) -> i64
     ensures value { result ≡ target_alt seen.now }
@@ -97,7 +94,8 @@ fn next_roll(seen: &Seen) -> i64
     }
 }
 
-fn run(seen: &Seen) -> Area
+/// What a run leaves. It takes no memory.
+pub fn run(seen: &Seen) -> Area
     ensures { result ≡ autopilot_ran seen.now }
 {
     [
@@ -110,14 +108,4 @@ fn run(seen: &Seen) -> Area
         next_ticks(KIND, seen),
         0,
     ]
-}
-
-/// The autopilot's area after a frame with this order, by its law. It takes no memory.
-pub fn autopilot_area(order: Order, seen: &Seen) -> Area
-    ensures { result ≡ law 0 order seen.now }
-{
-    match area_after(KIND, order, seen) {
-        Some(area) => area,
-        None => run(seen),
-    }
 }

@@ -3,17 +3,22 @@
 //! answers lies in the ranges of its status.
 #![tactic(auto)]
 
+pub mod all_laws;
 pub mod app;
-pub mod autopilot_law;
+mod autopilot_law;
 pub mod bounds;
 pub mod calls;
 mod comparisons;
+mod data_link_law;
+mod flight_control_law;
 pub mod headings;
 pub mod kinds;
 pub mod laws;
 pub mod memory;
 pub mod names;
+mod navigator_law;
 pub mod orders;
+mod power_monitor_law;
 pub mod racks;
 pub mod ranges;
 pub mod reads;
@@ -21,6 +26,7 @@ pub mod seen;
 pub mod starts;
 pub mod table;
 
+pub use all_laws::law_area;
 pub use app::App;
 pub use bounds::{after_halt, after_init, during, sane};
 pub use names::{kind_name, kind_named, mode_name, mode_named, variable_name, variable_named};

@@ -1,17 +1,41 @@
 //! Racks: the boxes of one processor, one for each kind.
 
-ghost use Rattle.std.specs.Prelude.{◌≡◌, ◌↔◌, ◌<◌, IsTrue};
+ghost use Rattle.std.specs.Prelude.{◌≡◌, ◌↔◌, ◌<◌, All, IfOk, IsTrue, [], map, vec_len};
 ghost use Rattle.app_model.specs.Law.{law};
-ghost use Rattle.app_model.specs.Racks.{RacksFit, OthersStay, RackFits, AllRacksFit};
+ghost use Rattle.app_model.specs.Racks.{RacksFit, RackFits, AllRacksFit, OthersStay};
 
+use crate::all_laws::law_area;
 use crate::app::App;
 use crate::seen::Seen;
 use scram_types::{Area, KindId, Order, ProcId};
+use std::alloc::{AllocError, Global};
 
 /// The applications of one processor: the box of kind `k` stands at place `k`.
 #[derive(Drop)]
 pub struct Rack {
     pub boxes: Vec<Box<dyn App + Send>>,
+}
+
+/// A rack without boxes. It takes no memory.
+pub fn empty_rack(alloc: Global) -> Rack
+    ensures { result.boxes.items ≡ [] }
+{
+    Rack {
+        boxes: Vec::new(alloc),
+    }
+}
+
+/// Eight racks without boxes, or `Err` where there is no memory for them. They serve wherever nothing is asked of boxes:
+/// what flies with them computes each law itself.
+pub fn empty_racks(alloc: Global) -> Result<Vec<Rack>, AllocError>
+    ensures count { IfOk result (λ racks. vec_len racks ≡ 8) }
+    ensures empty { IfOk result (λ racks. All (λ r. r.boxes.items ≡ []) racks.items) }
+{
+    let mut racks = Vec::new(alloc);
+    for _made in 0..8u8 {
+        racks.push(empty_rack(alloc))?;
+    }
+    Ok(racks)
 }
 
 /// The kind of a box.
@@ -60,30 +84,40 @@ pub fn box_frame(app: &mut Box<dyn App + Send>, order: Order, seen: &Seen) -> Ar
     app.frame(order, seen)
 }
 
-fn place_frame(rack: &mut Rack, place: usize, order: Order, seen: &Seen) -> Area
-    requires fits { RackFits kind_of rack.old.boxes.items }
-    requires place { place < 5 }
-    ensures answer { result ≡ law place order seen.now }
-    ensures fits { RackFits kind_of rack.new.boxes.items }
-    ensures others { OthersStay rack.old.boxes.items rack.new.boxes.items place }
+// The answer of a box that is of the kind, and the law of the kind where it is not.
+fn box_or_law(app: &mut Box<dyn App + Send>, kind: KindId, order: Order, seen: &Seen) -> Area
+    ensures answer { result ≡ law kind.0 order seen.now }
+    ensures same { kind_of app.new ≡ kind_of app.old }
 {
-    box_frame(&mut rack.boxes[place], order, seen)
+    if box_kind(app).0 == kind.0 {
+        box_frame(app, order, seen)
+    } else {
+        law_area(kind, order, seen)
+    }
 }
 
-/// What the box of kind `kind` of a rack that fits answers in a frame: the law of the kind. The rack
-/// still fits, and its other boxes are as they were.
+/// The area of an application of the kind after a frame with this order: what the box at the kind's place answers
+/// where there is one of that kind, and the law computed anew where there is none. So it is the law of the kind,
+/// whatever boxes the rack has. The kinds of the boxes stay, and the boxes at other places are as they were.
+// No clause rests on the precondition: a function that has boxes behind a `&mut` and asks nothing counts as one that
+// may make them, and so does each function that calls it and asks nothing.
 pub fn rack_frame(rack: &mut Rack, kind: KindId, order: Order, seen: &Seen) -> Area
-    requires fits { RackFits kind_of rack.old.boxes.items }
-    requires kind { kind.0 < 5 }
+    requires kind { kind.0 < 8 }
     ensures answer { result ≡ law kind.0 order seen.now }
-    ensures fits { RackFits kind_of rack.new.boxes.items }
+    ensures kinds { map kind_of rack.new.boxes.items ≡ map kind_of rack.old.boxes.items }
     ensures others { OthersStay rack.old.boxes.items rack.new.boxes.items kind.0 }
 {
-    place_frame(rack, usize::from(kind.0), order, seen)
+    let place = usize::from(kind.0);
+    if place < rack.boxes.len() {
+        box_or_law(&mut rack.boxes[place], kind, order, seen)
+    } else {
+        law_area(kind, order, seen)
+    }
 }
 
-/// What the box of kind `kind` on processor `proc` answers in a frame: the law of the kind. The racks
-/// still fit, and the other racks are as they were.
+/// The area of an application of the kind after a frame with this order, by the rack of processor `proc` as
+/// `rack_frame` has it, or by the law computed anew where there is no such rack. The kinds of the boxes stay, and the
+/// racks of other processors are as they were.
 pub fn racks_frame(
     racks: &mut [Rack],
     proc: ProcId,
@@ -91,12 +125,15 @@ pub fn racks_frame(
     order: Order,
     seen: &Seen,
 ) -> Area
-    requires fits { RacksFit kind_of (λ r. r.boxes.items) racks.old }
-    requires proc { proc.0 < 8 }
-    requires kind { kind.0 < 5 }
+    requires kind { kind.0 < 8 }
     ensures answer { result ≡ law kind.0 order seen.now }
-    ensures fits { RacksFit kind_of (λ r. r.boxes.items) racks.new }
+    ensures kinds { map (λ r. map kind_of r.boxes.items) racks.new ≡ map (λ r. map kind_of r.boxes.items) racks.old }
     ensures others { OthersStay racks.old racks.new proc.0 }
 {
-    rack_frame(&mut racks[usize::from(proc.0)], kind, order, seen)
+    let place = usize::from(proc.0);
+    if place < racks.len() {
+        rack_frame(&mut racks[place], kind, order, seen)
+    } else {
+        law_area(kind, order, seen)
+    }
 }

@@ -1,9 +1,8 @@
 //! The autopilot as a box that remembers its last call.
 
-use app_model::Seen;
-use app_model::autopilot_law::autopilot_area;
 use app_model::kinds::autopilot::KIND;
 use app_model::memory::{KindLaw, Remembering};
+use app_model::{Seen, law_area};
 use scram_types::{Area, KindId, Order};
 
 /// The law of kind 0.
@@ -18,7 +17,7 @@ impl KindLaw for AutopilotLaw {
     }
 
     fn area_after(order: Order, seen: &Seen) -> Area {
-        autopilot_area(order, seen)
+        law_area(KindId(KIND), order, seen)
     }
 }
 

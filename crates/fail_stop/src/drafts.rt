@@ -2,7 +2,6 @@
 
 ghost use Rattle.std.specs.Prelude.{◌≡◌, ◌<◌};
 ghost use Rattle.scram_types.specs.Eights.{eight};
-ghost use Rattle.app_model.specs.Racks.{RackFits};
 ghost use Rattle.frame_model.specs.Flights.{image_of, is_proc};
 ghost use Rattle.frame_model.specs.States.{area_at, keeper_at};
 ghost use Rattle.fail_stop.specs.Drafts.{AreEight, area_kept, areas_shown, slot_made};
@@ -59,9 +58,7 @@ pub(crate) fn make_slots(
     setting: &Setting,
     image: &Image,
 ) -> [Area; 8]
-    requires fits { RackFits (λ b. kind_of (b.vtable, b.value)) rack.old.boxes.items }
     ensures slots { let s = setting.now in result ≡ eight (slot_made spec.now s.tasks s.seen s.areas image.now proc.0) }
-    ensures fits { RackFits (λ b. kind_of (b.vtable, b.value)) rack.new.boxes.items }
 {
     [
         make_slot(spec, proc, rack, setting, image, 0),
@@ -84,9 +81,7 @@ fn make_slot(
     a: u8,
 ) -> Area
     requires a { a < 8 }
-    requires fits { RackFits (λ b. kind_of (b.vtable, b.value)) rack.old.boxes.items }
     ensures slot { let s = setting.now in result ≡ slot_made spec.now s.tasks s.seen s.areas image.now proc.0 a }
-    ensures fits { RackFits (λ b. kind_of (b.vtable, b.value)) rack.new.boxes.items }
 {
     let task = setting.tasks[usize::from(a)];
     if is_proc(proc, task.proc) {

@@ -1,10 +1,8 @@
-//! Processors, while they live and once they have halted. That the boxes of a live one fit is told by clauses, since no
-//! type can keep a fact of a box; the fields are public so that clauses can name them.
+//! Processors, while they live and once they have halted. The fields are public so that clauses can name them.
 
 ghost use Rattle.std.specs.Prelude.{◌≡◌, ◌<◌, length, ℕ};
 ghost use Rattle.scram_types.specs.Scripts.{ScriptParts};
 ghost use Rattle.scram_types.specs.Specification.{IsSpec};
-ghost use Rattle.app_model.specs.Racks.{RackFits};
 ghost use Rattle.frame_model.specs.Flights.{draft};
 ghost use Rattle.fail_stop.specs.Drafts.{IsSnapshot, draft_made};
 
@@ -32,10 +30,12 @@ pub struct Halted {
 
 impl Live {
     /// The processor of this number, with these boxes. It takes no memory.
+    // No clause rests on the precondition: a function that gives boxes back and asks nothing counts as one that may make
+    // them, and so does each function that calls it and asks nothing.
     pub fn new(proc: ProcId, rack: Rack) -> Live
-        requires { RackFits (λ b. kind_of (b.vtable, b.value)) rack.boxes.items }
+        requires proc { proc.0 < 8 }
         ensures proc { result.proc ≡ proc }
-        ensures fits { RackFits (λ b. kind_of (b.vtable, b.value)) result.rack.boxes.items }
+        ensures rack { result.rack ≡ rack }
     {
         Live { proc, rack }
     }
@@ -47,17 +47,15 @@ impl Live {
         self.proc
     }
 
-    /// The image of this processor after the snapshot's frame: the area of each application that it hosts there is made
-    /// by one call of the box of its kind, and the other words are as they were. Where the snapshot is that of a frame
-    /// of a script, it is what the one-thread trace drafts in that frame. It takes no memory.
+    /// The image of this processor after the snapshot's frame: the area of each application that it hosts there is what
+    /// one call of its rack answers, and the other words are as they were. Where the snapshot is that of a frame of a
+    /// script, it is what the one-thread trace drafts in that frame. It takes no memory.
     pub fn draft(&mut self, spec: &Spec, snap: &Snapshot) -> Draft
         requires proc { self.old.proc.0 < 8 }
-        requires fits { RackFits (λ b. kind_of (b.vtable, b.value)) self.old.rack.boxes.items }
         ensures frame { result.frame ≡ snap.now.kernel.frame }
         ensures image { result.image ≡ draft_made spec.now snap.now self.old.proc.0 }
         ensures trace { (script : ScriptParts) (f : ℕ) → IsSpec spec.now → self.old.proc.0 < length spec.now.procs → IsSnapshot spec.now script f snap.now → result.image ≡ draft spec.now script self.old.proc.0 f }
         ensures proc { self.new.proc ≡ self.old.proc }
-        ensures fits { RackFits (λ b. kind_of (b.vtable, b.value)) self.new.rack.boxes.items }
     {
         let kernel = snap.kernel;
         let areas = areas_shown(snap);
@@ -104,9 +102,9 @@ impl Halted {
 
     /// The same processor lives again, with other boxes. It takes no memory.
     pub fn restart(self, rack: Rack) -> Live
-        requires { RackFits (λ b. kind_of (b.vtable, b.value)) rack.boxes.items }
+        requires proc { self.proc.0 < 8 }
         ensures proc { result.proc ≡ self.proc }
-        ensures fits { RackFits (λ b. kind_of (b.vtable, b.value)) result.rack.boxes.items }
+        ensures rack { result.rack ≡ rack }
     {
         Live::new(self.proc, rack)
     }

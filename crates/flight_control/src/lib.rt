@@ -1,7 +1,6 @@
 //! The flight control as a boxed application. Whatever it remembers, it answers the law of its kind.
 #![tactic(auto)]
 
-pub mod run;
 pub mod unit;
 
 pub use unit::FlightControl;

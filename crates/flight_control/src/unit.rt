@@ -1,9 +1,8 @@
 //! The flight control as a box that remembers its last call.
 
-use crate::run::flight_control_area;
-use app_model::Seen;
 use app_model::kinds::flight_control::KIND;
 use app_model::memory::{KindLaw, Remembering};
+use app_model::{Seen, law_area};
 use scram_types::{Area, KindId, Order};
 
 /// The law of kind 1.
@@ -18,7 +17,7 @@ impl KindLaw for FlightControlLaw {
     }
 
     fn area_after(order: Order, seen: &Seen) -> Area {
-        flight_control_area(order, seen)
+        law_area(KindId(KIND), order, seen)
     }
 }
 

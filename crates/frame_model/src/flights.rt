@@ -1,7 +1,6 @@
 //! The one-thread trace.
 
 ghost use Rattle.std.specs.Prelude.{◌≡◌, ◌<◌, ◌+◌, IfOk, length};
-ghost use Rattle.app_model.specs.Racks.{RacksFit};
 ghost use Rattle.fault_script.specs.Fits.{Fits};
 ghost use Rattle.frame_model.specs.Flights.{row_at, rows_of};
 ghost use Rattle.frame_model.specs.Standing.{StandsBefore};
@@ -21,7 +20,6 @@ pub fn rows(
     mut racks: Vec<Rack>,
 ) -> Result<Vec<Row>, NoMemory>
     requires script { Fits spec.now script.now }
-    requires racks { RacksFit (λ b. kind_of (b.vtable, b.value)) (λ r. r.boxes.items) racks.items }
     ensures rows { IfOk result (λ rows. rows.items ≡ rows_of spec.now script.now) }
     ensures count { IfOk result (λ rows. length rows.items ≡ script.now.frames) }
 {
@@ -36,7 +34,6 @@ fn fly_all(
     racks: &mut [Rack],
 ) -> Result<Vec<Row>, NoMemory>
     requires script { Fits spec.now script.now }
-    requires racks { RacksFit (λ b. kind_of (b.vtable, b.value)) (λ r. r.boxes.items) racks.old }
     ensures rows { IfOk result (λ rows. rows.items ≡ rows_of spec.now script.now) }
     ensures count { IfOk result (λ rows. length rows.items ≡ script.now.frames) }
 {
@@ -52,12 +49,10 @@ fn fly_all(
 // Flies the next frame of the script.
 fn fly(spec: &Spec, script: &Script, sys: &mut Sys, walk: &mut Walk, racks: &mut [Rack]) -> Row
     requires script { Fits spec.now script.now }
-    requires racks { RacksFit (λ b. kind_of (b.vtable, b.value)) (λ r. r.boxes.items) racks.old }
     requires frame { sys.old.frame < script.now.frames }
     requires before { StandsBefore spec.now script.now sys.old.frame sys.old walk.old }
     ensures row { result ≡ row_at spec.now script.now sys.old.frame }
     ensures after { StandsBefore spec.now script.now (sys.old.frame + 1) sys.new walk.new }
-    ensures racks { RacksFit (λ b. kind_of (b.vtable, b.value)) (λ r. r.boxes.items) racks.new }
 {
     let input = walk.input(spec, script);
     *walk = walk.next(spec, script);

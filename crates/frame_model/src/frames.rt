@@ -4,7 +4,6 @@ ghost use Rattle.std.specs.Prelude.{◌≡◌, ◌<◌, ℕ};
 ghost use Rattle.scram_types.specs.declared.limits.TheConstants.{MAX_FRAMES};
 ghost use Rattle.scram_types.specs.Numbers.{word};
 ghost use Rattle.scram_types.specs.Specification.{Parts};
-ghost use Rattle.app_model.specs.Racks.{RacksFit};
 ghost use Rattle.frame_model.specs.Frames.{committing, frame_env, row_given, state_of, sys_after, up_after};
 ghost use Rattle.frame_model.specs.Phases.{is_running, is_settled, phase_at};
 ghost use Rattle.frame_model.specs.States.{has_arrived, world_in};
@@ -27,10 +26,8 @@ use scram_types::{Area, Env, KMode, Row, Spec, World};
 /// after the frame. It takes no memory.
 pub fn frame(spec: &Spec, sys: &mut Sys, input: &Input, racks: &mut [Rack]) -> Row
     requires frame { sys.old.frame < MAX_FRAMES }
-    requires fits { RacksFit (λ b. kind_of (b.vtable, b.value)) (λ r. r.boxes.items) racks.old }
     ensures row { result ≡ row_given spec.now sys.old input.now }
     ensures after { sys.new ≡ sys_after spec.now sys.old input.now }
-    ensures fits { RacksFit (λ b. kind_of (b.vtable, b.value)) (λ r. r.boxes.items) racks.new }
 {
     let env = frame_env(sys, input);
     let mode = decide(spec, sys, &env);

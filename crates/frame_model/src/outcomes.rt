@@ -3,7 +3,6 @@
 ghost use Rattle.std.specs.Prelude.{◌≡◌, ◌<◌, slice_set};
 ghost use Rattle.scram_types.specs.Bits.{has_bit};
 ghost use Rattle.scram_types.specs.Eights.{eight};
-ghost use Rattle.app_model.specs.Racks.{RacksFit};
 ghost use Rattle.frame_model.specs.Phases.{offsets_in};
 ghost use Rattle.frame_model.specs.States.{act_of_order, lead_of};
 ghost use Rattle.frame_model.specs.Outcomes.{act_made, area_made, keeper_made};
@@ -43,11 +42,9 @@ struct Outcome {
 
 pub(crate) fn perform_all(spec: &Spec, sys: &Sys, setting: &Setting, racks: &mut [Rack]) -> Outcomes
     requires offsets { setting.now.stage.offsets ≡ offsets_in spec.now setting.now.stage.phase }
-    requires fits { RacksFit (λ b. kind_of (b.vtable, b.value)) (λ r. r.boxes.items) racks.old }
     ensures acts { let s = setting.now in result.acts ≡ eight (act_made spec.now s.stage.phase s.committing) }
     ensures areas { let s = setting.now in result.areas ≡ eight (area_made spec.now sys.now s.stage.phase s.committing s.seen) }
     ensures keepers { let s = setting.now in result.keepers ≡ eight (keeper_made spec.now sys.now s.stage.phase s.committing) }
-    ensures fits { RacksFit (λ b. kind_of (b.vtable, b.value)) (λ r. r.boxes.items) racks.new }
 {
     let mut outcomes = Outcomes {
         acts: [Act::Off; 8],
@@ -77,11 +74,9 @@ fn put(outcomes: &mut Outcomes, a: u8, outcome: Outcome)
 fn perform(spec: &Spec, sys: &Sys, setting: &Setting, a: u8, racks: &mut [Rack]) -> Outcome
     requires a { a < 8 }
     requires offsets { setting.now.stage.offsets ≡ offsets_in spec.now setting.now.stage.phase }
-    requires fits { RacksFit (λ b. kind_of (b.vtable, b.value)) (λ r. r.boxes.items) racks.old }
     ensures act { let s = setting.now in result.act ≡ act_made spec.now s.stage.phase s.committing a }
     ensures area { let s = setting.now in result.area ≡ area_made spec.now sys.now s.stage.phase s.committing s.seen a }
     ensures keeper { let s = setting.now in result.keeper ≡ keeper_made spec.now sys.now s.stage.phase s.committing a }
-    ensures fits { RacksFit (λ b. kind_of (b.vtable, b.value)) (λ r. r.boxes.items) racks.new }
 {
     let task = task_in(spec, &setting.stage, AppId(a));
     let own = sys.areas[usize::from(a)];

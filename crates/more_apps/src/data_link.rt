@@ -1,147 +1,11 @@
 //! The data link.
-#![tactic(auto, unfolding(app_model::specs::DataLink::fresh_of, app_model::specs::DataLink::fresh, app_model::specs::DataLink::rate_after, app_model::specs::DataLink::waiting, app_model::specs::DataLink::going, app_model::specs::DataLink::queued_after, app_model::specs::DataLink::sent_after, app_model::specs::DataLink::left_over, app_model::specs::DataLink::dropped_after, app_model::specs::DataLink::data_link_ran))]
 
-ghost use Rattle.std.specs.Prelude.{◌≡◌, ◌≤ℤ◌, ◌<◌, ◌-ℤ◌, pos};
-ghost use Rattle.scram_types.specs.Numbers.{IsWord, minus};
-ghost use Rattle.app_model.specs.DataLink.{fresh_of, fresh, rate_after, waiting, going, queued_after, sent_after, left_over, dropped_after, data_link_ran};
 ghost use Rattle.more_apps.specs.Counts.{KeepsCount};
-ghost use Rattle.app_model.specs.Law.{law};
 
-use app_model::Seen;
-use app_model::kinds::data_link::{DROPPED, FAST, KIND, QUEUED, SENT};
-use app_model::kinds::every_kind::STATUS;
-use app_model::kinds::{autopilot, flight_control, navigator, power_monitor};
+use app_model::kinds::data_link::KIND;
 use app_model::memory::{KindLaw, Remembering};
-use app_model::orders::area_after;
-use app_model::reads::{next_ticks, read_lead, read_own};
+use app_model::{Seen, law_area};
 use scram_types::{Area, KindId, Order};
-
-fn message_of(kind: u8, seen: &Seen) -> i64
-    requires { kind < 8 }
-    ensures value { result ≡ fresh_of kind seen.now }
-    ensures low { pos 0 ≤ℤ result }
-    ensures high { result ≤ℤ pos 1 }
-{
-    if read_lead(kind, seen, STATUS) == 1 {
-        1
-    } else {
-        0
-    }
-}
-
-fn all_fresh(seen: &Seen) -> i64
-    ensures value { result ≡ fresh seen.now }
-    ensures low { pos 0 ≤ℤ result }
-    ensures high { result ≤ℤ pos 4 }
-{
-    message_of(autopilot::KIND, seen)
-        + message_of(flight_control::KIND, seen)
-        + message_of(power_monitor::KIND, seen)
-        + message_of(navigator::KIND, seen)
-}
-
-fn next_rate(seen: &Seen) -> i64
-    ensures value { result ≡ rate_after seen.now }
-    ensures low { pos 1 ≤ℤ result }
-    ensures high { result ≤ℤ pos 4 }
-{
-    if seen.mode.0 == FAST { 4 } else { 1 }
-}
-
-fn all_waiting(seen: &Seen) -> i64
-    ensures value { result ≡ waiting seen.now }
-    ensures low { minus 4294967296 ≤ℤ result }
-    ensures high { result ≤ℤ pos 4294967300 }
-{
-    read_own(KIND, seen, QUEUED) + all_fresh(seen)
-}
-
-fn all_going(seen: &Seen) -> i64
-    ensures value { result ≡ going seen.now }
-    ensures word { IsWord result }
-{
-    next_rate(seen).min(all_waiting(seen))
-}
-
-fn without(waiting: i64, going: i64) -> i64
-    requires waiting_low { minus 4294967296 ≤ℤ waiting }
-    requires waiting_high { waiting ≤ℤ pos 4294967300 }
-    requires going { IsWord going }
-    ensures value { result ≡ waiting -ℤ going }
-    ensures low { minus 8589934592 ≤ℤ result }
-    ensures high { result ≤ℤ pos 8589934600 }
-{
-    waiting - going
-}
-
-#[tactic(auto, unfolding(app_model::specs::DataLink::queued_after))]
-fn next_queued(seen: &Seen) -> i64
-    ensures value { result ≡ queued_after seen.now }
-    ensures low { minus 8589934592 ≤ℤ result }
-    ensures high { result ≤ℤ pos 64 }
-{
-    without(all_waiting(seen), all_going(seen)).min(64)
-}
-
-#[tactic(auto, unfolding(app_model::specs::DataLink::sent_after))]
-fn next_sent(seen: &Seen) -> i64
-    ensures { result ≡ sent_after seen.now }
-{
-    (read_own(KIND, seen, SENT) + all_going(seen)).min(1_000_000)
-}
-
-fn without_both(waiting: i64, going: i64, queued: i64) -> i64
-    requires waiting_low { minus 4294967296 ≤ℤ waiting }
-    requires waiting_high { waiting ≤ℤ pos 4294967300 }
-    requires going { IsWord going }
-    requires queued_low { minus 8589934592 ≤ℤ queued }
-    requires queued_high { queued ≤ℤ pos 64 }
-    ensures value { result ≡ (waiting -ℤ going) -ℤ queued }
-    ensures low { minus 17179869184 ≤ℤ result }
-    ensures high { result ≤ℤ pos 34359738368 }
-{
-    waiting - going - queued
-}
-
-fn all_left_over(seen: &Seen) -> i64
-    ensures value { result ≡ left_over seen.now }
-    ensures low { minus 17179869184 ≤ℤ result }
-    ensures high { result ≤ℤ pos 34359738368 }
-{
-    without_both(all_waiting(seen), all_going(seen), next_queued(seen))
-}
-
-#[tactic(auto, unfolding(app_model::specs::DataLink::dropped_after))]
-fn next_dropped(seen: &Seen) -> i64
-    ensures { result ≡ dropped_after seen.now }
-{
-    (read_own(KIND, seen, DROPPED) + all_left_over(seen)).min(1_000_000)
-}
-
-fn run(seen: &Seen) -> Area
-    ensures { result ≡ data_link_ran seen.now }
-{
-    [
-        1,
-        next_queued(seen),
-        next_sent(seen),
-        next_rate(seen),
-        next_dropped(seen),
-        0,
-        next_ticks(KIND, seen),
-        0,
-    ]
-}
-
-/// The data link's area after a frame with this order, by its law. It takes no memory.
-pub fn data_link_area(order: Order, seen: &Seen) -> Area
-    ensures { result ≡ law 4 order seen.now }
-{
-    match area_after(KIND, order, seen) {
-        Some(area) => area,
-        None => run(seen),
-    }
-}
 
 /// No message is lost uncounted: where a run ends below the greatest counts, what was sent, queued and
 /// dropped has grown by the fresh messages, one for each kind whose status is 1.
@@ -161,7 +25,7 @@ impl KindLaw for DatalinkLaw {
     }
 
     fn area_after(order: Order, seen: &Seen) -> Area {
-        data_link_area(order, seen)
+        law_area(KindId(KIND), order, seen)
     }
 }
 

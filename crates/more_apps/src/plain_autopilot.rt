@@ -1,8 +1,7 @@
 //! An autopilot that remembers nothing.
 
-use app_model::autopilot_law::autopilot_area;
 use app_model::kinds::autopilot::KIND;
-use app_model::{App, Seen};
+use app_model::{App, Seen, law_area};
 use scram_types::{Area, KindId, Order};
 
 /// An autopilot without a memory of its last call. What it answers is the law of kind 0.
@@ -24,6 +23,6 @@ impl App for PlainAutopilot {
     }
 
     fn frame(&mut self, order: Order, seen: &Seen) -> Area {
-        autopilot_area(order, seen)
+        law_area(KindId(KIND), order, seen)
     }
 }

@@ -1,9 +1,8 @@
 //! The power monitor as a box that remembers its last call.
 
-use crate::run::power_monitor_area;
-use app_model::Seen;
 use app_model::kinds::power_monitor::KIND;
 use app_model::memory::{KindLaw, Remembering};
+use app_model::{Seen, law_area};
 use scram_types::{Area, KindId, Order};
 
 /// The law of kind 2.
@@ -18,7 +17,7 @@ impl KindLaw for PowerMonitorLaw {
     }
 
     fn area_after(order: Order, seen: &Seen) -> Area {
-        power_monitor_area(order, seen)
+        law_area(KindId(KIND), order, seen)
     }
 }
 

@@ -1,7 +1,6 @@
 //! The trace of a mission, flown on one thread.
 
 ghost use Rattle.std.specs.Prelude.{◌≡◌, ◌≤◌, IfOk, length};
-ghost use Rattle.app_model.specs.Racks.{RacksFit};
 ghost use Rattle.frame_model.specs.Flights.{reports_of, rows_of};
 ghost use Rattle.trace_props.specs.Properties.{HoldsAll};
 
@@ -16,7 +15,6 @@ use std::alloc::Global;
 /// reconfigurations that are read off them. SP1 to SP5 hold of both. The only refusal is want of memory.
 #[tactic(auto, using(crate::proofs::Sizes::few_reports))]
 pub fn one_thread(alloc: Global, mission: &Mission, racks: Vec<Rack>) -> Result<Flown, NoMemory>
-    requires racks { RacksFit (λ b. kind_of (b.vtable, b.value)) (λ r. r.boxes.items) racks.items }
     ensures rows { IfOk result (λ flown. flown.rows ≡ rows_of mission.now.spec mission.now.script) }
     ensures reports { IfOk result (λ flown. flown.reports ≡ reports_of mission.now.spec mission.now.script) }
     ensures assured { IfOk result (λ flown. HoldsAll mission.now.spec flown.rows flown.reports) }

@@ -7,7 +7,6 @@ pub loop-frame-init : goal.loop-frame-init
 loop-frame-init g c = record {
   rows = c.in_ok-rows.ensures.items;
   before = stands_first c.args.spec.now c.args.script.now c.start-sys.result c.first-walk.result c.start-sys.ensures c.first-walk.ensures;
-  fits = c.requires.racks;
 }
 
 pub loop-frame-preserved : goal.loop-frame-preserved
@@ -17,5 +16,4 @@ loop-frame-preserved g c =
       rows = rows_more (row_at c.args.spec.now c.args.script.now) c.loop-frame._frame c.loop-frame.sys.frame c.loop-frame.rows.items c.push.new.self.items c.fly.result
           c.loop-frame.invariant.rows c.in_ok-push.ensures.items c.fly.ensures.row at;
       before = rw (sym at) c.fly.ensures.after;
-      fits = c.fly.ensures.racks;
     }

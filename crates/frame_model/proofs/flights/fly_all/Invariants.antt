@@ -1,6 +1,5 @@
 use Rattle.std.proofs.Common.{◌≡◌}
 use Rattle.scram_types.specs.Searches.{listed_below}
-use Rattle.app_model.specs.Racks.{RacksFit}
 use Rattle.frame_model.specs.Flights.{row_at}
 use Rattle.frame_model.specs.Standing.{StandsBefore}
 use Rattle.frame_model.proofs.flights.fly_all.Given as goal
@@ -9,5 +8,4 @@ abbrev pub invariant-loop-frame : goal.invariant-loop-frame
 invariant-loop-frame g l = record {
   rows : l.rows.items ≡ listed_below (row_at l.spec l.script) l._frame;
   before : StandsBefore l.spec l.script l._frame l.sys l.walk;
-  fits : RacksFit (λ z. (goal.App-dyn g (z.vtable, z.value)).kind_of z.value) (λ r. r.boxes.items) l.racks;
 }

@@ -8,7 +8,6 @@ loop-a-preserved g c = record {
   acts = rw (c.put.ensures.acts) (filled_more (act_made c.args.spec.now c.args.setting.now.stage.phase c.args.setting.now.committing) c.loop-a.outcomes.acts c.loop-a.a c.perform-outcome.result.act c.loop-a.invariant.acts (omega arith) c.perform-outcome.ensures.act);
   areas = rw (c.put.ensures.areas) (filled_more (area_made c.args.spec.now c.args.sys.now c.args.setting.now.stage.phase c.args.setting.now.committing c.args.setting.now.seen) c.loop-a.outcomes.areas c.loop-a.a c.perform-outcome.result.area c.loop-a.invariant.areas (omega arith) c.perform-outcome.ensures.area);
   keepers = rw (c.put.ensures.keepers) (filled_more (keeper_made c.args.spec.now c.args.sys.now c.args.setting.now.stage.phase c.args.setting.now.committing) c.loop-a.outcomes.keepers c.loop-a.a c.perform-outcome.result.keeper c.loop-a.invariant.keepers (omega arith) c.perform-outcome.ensures.keeper);
-  fits = c.perform-outcome.ensures.fits;
 }
 
 pub returns-clause-acts : goal.returns-clause-acts

@@ -5,8 +5,8 @@ use Rattle.frame_model.specs.Readings.{reports}
 use Rattle.trace_props.proofs.Sizes.{few_reports}
 use Rattle.trace_props.proofs.flights.one_thread.Goals as goal
 
-pub rows-requires-clause-script : goal.rows-requires-clause-script
-rows-requires-clause-script g c = rw (c.spec.ensures, c.script.ensures) c.holds.ensures.mission.fits
+pub rows-requires : goal.rows-requires
+rows-requires g c = record { script = rw (c.spec.ensures, c.script.ensures) c.holds.ensures.mission.fits }
 
 pub reports-requires : goal.reports-requires
 reports-requires g c =
