@@ -1,9 +1,12 @@
 //! The form `props`: how a finished trace is judged.
 
-ghost use Rattle.std.specs.Prelude.{◌≡◌, ◌∷◌, [], ◌<◌, ◌^◌, IfOk, length};
-ghost use Rattle.form_base.specs.Endings.{Ends, IsTaken, Reads, Tells};
+ghost use Rattle.std.specs.Prelude.{◌≡◌, ◌⊎◌, ◌∷◌, [], ◌<◌, ◌^◌, ℕ, List, IfOk, length};
+ghost use Rattle.scram_types.specs.declared.flights.Flown.{Flown};
+ghost use Rattle.form_base.specs.Answers.{WithoutFiles};
+ghost use Rattle.form_base.specs.Endings.{Ends, IsTaken, Reads};
+ghost use Rattle.form_base.specs.declared.status.TheConstants.{ANSWERED, BROKEN_PROPERTY};
 ghost use Rattle.trace_forms.specs.Answers.{AnswersTrace, IsJudgement, PropsAnswers};
-ghost use Rattle.trace_forms.specs.Judged.{AreCounted, Judged};
+ghost use Rattle.trace_forms.specs.Verdicts.{HasVerdict, TellsJudgement};
 
 use crate::documents::Trace;
 use crate::lines::{make_broken_line, make_holds_line};
@@ -16,10 +19,92 @@ use scram_io::{Files, Sink};
 use scram_types::{Flown, Spec};
 use std::alloc::Global;
 use trace_props::props;
+use trace_text::lines::Line;
 
 /// The files that the words `props SPEC TRACE` name.
 #[derive(Clone, Copy)]
 pub struct TraceFiles<'a> {
     pub specification: &'a str,
     pub trace: &'a str,
+}
+
+/// How a trace is judged: status and line.
+#[derive(Drop)]
+struct Judgement {
+    code: u8,
+    line: Line,
+}
+
+/// Tells whether the properties of reconfigurations hold of the trace in a file, or which one it breaks first.
+pub fn props_form<F: Files, K: Sink>(
+    alloc: Global,
+    named: TraceFiles<'_>,
+    files: &mut F,
+    out: &mut K,
+) -> Status
+    ensures { Ends (PropsAnswers named.specification.now named.trace.now) (named.specification.now ∷ named.trace.now ∷ [])
+        (F.state files.old) (F.state files.new) (IsTaken (K.state out.old) (K.state out.new) result.code) }
+{
+    match read_judgement(alloc, named, files) {
+        Ok(judgement) => tell(out, judgement.code, judgement.line.as_bytes()),
+        Err(refusal) => tell_refusal(out, &refusal),
+    }
+}
+
+/// Reads the specification and the trace, and judges the trace.
+fn read_judgement<F: Files>(
+    alloc: Global,
+    named: TraceFiles<'_>,
+    files: &mut F,
+) -> Result<Judgement, Refusal>
+    ensures reads { Reads (PropsAnswers named.specification.now named.trace.now) TellsJudgement (named.specification.now ∷ named.trace.now ∷ [])
+        (F.state files.old) (F.state files.new) result }
+    ensures verdict { IfOk result HasVerdict }
+{
+    match load(alloc, &Specification, named.specification, files) {
+        Ok(spec) => {
+            let judgement = judge_file(alloc, &spec, named.trace, files);
+            drop(spec);
+            judgement
+        }
+        Err(refusal) => Err(refusal),
+    }
+}
+
+fn judge_file<F: Files>(
+    alloc: Global,
+    spec: &Spec,
+    trace: &str,
+    files: &mut F,
+) -> Result<Judgement, Refusal>
+    ensures reads { Reads (AnswersTrace spec.now trace.now (λ (flown : Flown). WithoutFiles (IsJudgement spec.now flown))) TellsJudgement (trace.now ∷ [])
+        (F.state files.old) (F.state files.new) result }
+    ensures verdict { IfOk result HasVerdict }
+{
+    match load(alloc, &Trace { spec }, trace, files) {
+        Ok(flown) => {
+            let judgement = judge(spec, &flown);
+            drop(flown);
+            Ok(judgement)
+        }
+        Err(refusal) => Err(refusal),
+    }
+}
+
+fn judge(spec: &Spec, flown: &Flown) -> Judgement
+    requires rows { length flown.now.rows < 2 ^ 32 }
+    requires reports { length flown.now.reports < 2 ^ 32 }
+    ensures is { IsJudgement spec.now flown.now result.code result.line }
+    ensures verdict { HasVerdict result }
+{
+    match props(spec, flown.rows.items(), flown.reports.items()) {
+        Ok(()) => Judgement {
+            code: ANSWERED,
+            line: make_holds_line(flown),
+        },
+        Err(broken) => Judgement {
+            code: BROKEN_PROPERTY,
+            line: make_broken_line(broken),
+        },
+    }
 }

@@ -1,0 +1,84 @@
+-- What is answered by a flight.
+use Rattle.std.specs.Prelude.{◌≡◌, ◌≢◌, ℕ, List, [], ◌∷◌, Result, Ok, Err}
+use Rattle.scram_types.specs.declared.flights.Flown.{Flown}
+use Rattle.scram_types.specs.Scripts.{ScriptParts}
+use Rattle.scram_types.specs.Specification.{IsSpec, Parts}
+use Rattle.fault_script.specs.Fits.{Fits}
+use Rattle.reconf_spec.specs.Documents.{spec_of}
+use Rattle.mission_gen.specs.Changes.{generated_script}
+use Rattle.mission_gen.specs.Specifications.{generated_text, mission_text}
+use Rattle.coverage_check.specs.Missions.{MissionParts}
+use Rattle.schedule_replay.specs.declared.replays.ReplayError.{ReplayError}
+use Rattle.schedule_replay.specs.declared.replays.ReplayError.TheVariants as replay_error
+use Rattle.schedule_replay.specs.Refusals.{illegal_line, short_line}
+use Rattle.schedule_replay.specs.Replaying.{AnswersReplay}
+use Rattle.form_base.specs.declared.status.TheConstants.{ANSWERED, BROKEN_SCHEDULE, OUT_OF_MEMORY}
+use Rattle.form_base.specs.Answers.{Answer, Gives, WithoutFiles}
+use Rattle.form_base.specs.Refusals.{memory_line}
+use Rattle.form_base.specs.Specifications.{AnswersSpecification}
+use Rattle.flight_forms.specs.declared.flights.FlightText.TheVariants.{Trace, Summary}
+use Rattle.flight_forms.specs.Documents.{AnswersSchedule, AnswersScript}
+use Rattle.flight_forms.specs.Missions.{UnlessRefused, mission_refusal}
+use Rattle.flight_forms.specs.Texts.{flight_text}
+
+-- The answer to a mission: the text of its one-thread trace.
+abbrev pub TellsTrace : MissionParts → ℕ → List ℕ → Type 0
+TellsTrace mission = Gives (ANSWERED, flight_text Trace mission.spec mission.script)
+
+-- The answer to `run` where both files are read.
+abbrev pub ScriptAnswers : Parts → ScriptParts → Answer
+ScriptAnswers spec script = WithoutFiles (UnlessRefused (mission_refusal spec script) (Gives (ANSWERED, flight_text Trace spec script)))
+
+-- The answer to `run` and the names of a specification's file and of a script's.
+abbrev pub RunAnswers : List ℕ → List ℕ → Answer
+RunAnswers specification script = AnswersSpecification specification (λ (spec : Parts). AnswersScript spec script (ScriptAnswers spec))
+
+-- The answer where a list was flown as a schedule, by what came of it; where it flew to the end, that is the answer of the
+-- flight on one thread.
+abbrev pub replay_answer : Parts → ScriptParts → Result Flown ReplayError → ℕ × List ℕ
+replay_answer spec script (Ok flown) = (ANSWERED, flight_text Trace spec script)
+replay_answer spec script (Err (replay_error.Illegal index given next)) = (BROKEN_SCHEDULE, illegal_line spec index given next)
+replay_answer spec script (Err (replay_error.Short events next)) = (BROKEN_SCHEDULE, short_line spec events next)
+replay_answer spec script (Err replay_error.NoMemory) = (OUT_OF_MEMORY, memory_line)
+
+-- Status and text tell what comes of a list that is flown as a schedule; there is one such answer.
+pub record IsReplayAnswer (spec : Parts) (script : ScriptParts) (list : List ℕ) (status : ℕ) (text : List ℕ) : Type 0 where
+  pub flown : Result Flown ReplayError
+  pub answers : AnswersReplay spec script list flown
+  pub had_memory : flown ≢ Err replay_error.NoMemory
+  pub gives : Gives (replay_answer spec script flown) status text
+
+-- The answer to `replay` where all files are read.
+abbrev pub ListAnswers : Parts → ScriptParts → List ℕ → Answer
+ListAnswers spec script list = WithoutFiles (UnlessRefused (mission_refusal spec script) (IsReplayAnswer spec script list))
+
+-- The answer to `replay` where a specification and a script are read.
+abbrev pub ScheduleAnswers : List ℕ → Parts → ScriptParts → Answer
+ScheduleAnswers schedule spec script = AnswersSchedule spec schedule (ListAnswers spec script)
+
+-- The answer to `replay` and the names of the files of a specification, a script and a schedule.
+abbrev pub ReplayAnswers : List ℕ → List ℕ → List ℕ → Answer
+ReplayAnswers specification script schedule =
+    AnswersSpecification specification (λ (spec : Parts). AnswersScript spec script (ScheduleAnswers schedule spec))
+
+-- The specification of generated missions: the value of its text, for which the script of this number fits.
+pub record IsGenerated (number : ℕ) (spec : Parts) : Type 0 where
+  pub reads : spec_of generated_text ≡ Ok spec
+  pub sound : IsSpec spec
+  pub fits : Fits spec (generated_script number)
+
+-- The answer to `gen` and a number.
+pub record GenAnswers (number : ℕ) (status : ℕ) (text : List ℕ) : Type 0 where
+  pub spec : Parts
+  pub generated : IsGenerated number spec
+  pub gives : Gives (ANSWERED, mission_text spec (generated_script number)) status text
+
+-- The answer to the mission of a number, flown: one line.
+abbrev pub SummaryAnswers : ℕ → Parts → ScriptParts → ℕ → List ℕ → Type 0
+SummaryAnswers number spec script = UnlessRefused (mission_refusal spec script) (Gives (ANSWERED, flight_text (Summary number) spec script))
+
+-- The answer to `fly` and a number.
+pub record FlyAnswers (number : ℕ) (status : ℕ) (text : List ℕ) : Type 0 where
+  pub spec : Parts
+  pub generated : IsGenerated number spec
+  pub answers : SummaryAnswers number spec (generated_script number) status text

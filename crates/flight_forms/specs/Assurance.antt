@@ -1,0 +1,61 @@
+-- What is assured of flights by status 0.
+use Rattle.std.specs.Prelude.{◌≡◌, ℕ, List, []}
+use Rattle.scram_types.specs.Scripts.{ScriptParts}
+use Rattle.scram_types.specs.Specification.{Parts}
+use Rattle.scram_io.specs.Outside.{History}
+use Rattle.mission_gen.specs.Changes.{generated_script}
+use Rattle.mission_gen.specs.Specifications.{mission_text}
+use Rattle.coverage_check.specs.Missions.{IsMission, mission_of}
+use Rattle.frame_model.specs.Flights.{reports_of, rows_of}
+use Rattle.trace_props.specs.Properties.{HoldsAll}
+use Rattle.fail_stop.specs.ScriptFlights.{flight_of}
+use Rattle.schedule_replay.specs.Replaying.{IsWholeSchedule}
+use Rattle.form_base.specs.Assurance.{IsAssuring, OfDocument, OfSpecification}
+use Rattle.form_base.specs.Answers.{WithoutFiles}
+use Rattle.flight_forms.specs.declared.flights.FlightText.{FlightText}
+use Rattle.flight_forms.specs.declared.flights.FlightText.TheVariants.{Trace, Summary}
+use Rattle.flight_forms.specs.Answers.{FlyAnswers, GenAnswers, IsGenerated, ReplayAnswers, RunAnswers}
+use Rattle.flight_forms.specs.Documents.{SaysSchedule, SaysScript}
+use Rattle.flight_forms.specs.Texts.{flight_text}
+
+-- The specification is accepted and the script keeps to its failure assumption; the text is what is told of the
+-- one-thread flight; and the properties of reconfigurations hold of its rows and reports.
+pub record IsAssured (told : FlightText) (spec : Parts) (script : ScriptParts) (text : List ℕ) : Type 0 where
+  pub mission : IsMission (mission_of spec script)
+  pub whole : text ≡ flight_text told spec script
+  pub holds : HoldsAll spec (rows_of spec script) (reports_of spec script)
+
+-- Where `run` ends with status 0, the mission of the two files is assured, and no other was read.
+abbrev pub AssuresRun : List ℕ → List ℕ → History → List ℕ → Type 0
+AssuresRun specification script =
+    OfSpecification specification (λ (spec : Parts). OfDocument (SaysScript spec) script (λ (script : ScriptParts) (reads : History) (text : List ℕ).
+    (reads ≡ []) × IsAssured Trace spec script text))
+
+-- Where `replay` ends with status 0, the mission of the first two files is assured, the third holds a schedule at whose end its
+-- flight is over, and no other was read.
+abbrev pub AssuresReplay : List ℕ → List ℕ → List ℕ → History → List ℕ → Type 0
+AssuresReplay specification script schedule =
+    OfSpecification specification (λ (spec : Parts). OfDocument (SaysScript spec) script (λ (script : ScriptParts).
+    OfDocument (SaysSchedule spec) schedule (λ (list : List ℕ) (reads : History) (text : List ℕ).
+    (reads ≡ []) × IsWholeSchedule (flight_of spec script) list × IsAssured Trace spec script text)))
+
+-- Where `gen` ends with status 0, the text is that of the mission of the number; no file was read.
+pub record AssuresGen (number : ℕ) (reads : History) (text : List ℕ) : Type 0 where
+  pub none : reads ≡ []
+  pub spec : Parts
+  pub generated : IsGenerated number spec
+  pub is : text ≡ mission_text spec (generated_script number)
+
+-- Where `fly` ends with status 0, the mission of the number is assured; no file was read.
+pub record AssuresFly (number : ℕ) (reads : History) (text : List ℕ) : Type 0 where
+  pub none : reads ≡ []
+  pub spec : Parts
+  pub generated : IsGenerated number spec
+  pub assured : IsAssured (Summary number) spec (generated_script number) text
+
+-- What is flown and answered with status 0 is assured.
+pub record FlightsAreAssured : Type 0 where
+  pub run : (specification script : List ℕ) → IsAssuring (RunAnswers specification script) (AssuresRun specification script)
+  pub replay : (specification script schedule : List ℕ) → IsAssuring (ReplayAnswers specification script schedule) (AssuresReplay specification script schedule)
+  pub gen : (number : ℕ) → IsAssuring (WithoutFiles (GenAnswers number)) (AssuresGen number)
+  pub fly : (number : ℕ) → IsAssuring (WithoutFiles (FlyAnswers number)) (AssuresFly number)

@@ -1,0 +1,56 @@
+-- What is answered of the files of scripts and of schedules.
+use Rattle.std.specs.Prelude.{◌≡◌, ℕ, List, [], Ok, Err}
+use Rattle.scram_types.specs.declared.limits.TheConstants.{MAX_SCRIPT_BYTES}
+use Rattle.scram_types.specs.Scripts.{ScriptParts}
+use Rattle.scram_types.specs.Specification.{Parts}
+use Rattle.scram_doc.specs.declared.fault.DocFault.{DocFault}
+use Rattle.fault_script.specs.declared.rule.TheConstants as script_rule
+use Rattle.fault_script.specs.Fits.{Fits}
+use Rattle.fault_script.specs.Reading.{script_of}
+use Rattle.schedule_replay.specs.declared.limits.TheConstants.{MAX_SCHEDULE_BYTES}
+use Rattle.schedule_replay.specs.declared.rule.TheConstants as schedule_rule
+use Rattle.schedule_replay.specs.declared.schedule_reading.ScheduleFault.{ScheduleFault}
+use Rattle.schedule_replay.specs.Events.{AreCodes}
+use Rattle.schedule_replay.specs.Reading.{schedule_of}
+use Rattle.schedule_replay.specs.Refusals.{fault_line}
+use Rattle.form_base.specs.declared.status.TheConstants.{BROKEN_SCHEDULE, BROKEN_SCRIPT}
+use Rattle.form_base.specs.Answers.{Answer, AnswersDocument, AnswersFile}
+use Rattle.flight_forms.specs.Lines.{script_line}
+
+-- The bytes are this script, which fits the specification.
+pub record SaysScript (spec : Parts) (script : ScriptParts) (bytes : List ℕ) : Type 0 where
+  pub is : script_of spec bytes ≡ Ok script
+  pub fits : Fits spec script
+
+-- The bytes are refused as a script for a specification.
+pub record BreaksScript (spec : Parts) (refusal : ℕ × List ℕ) (bytes : List ℕ) : Type 0 where
+  pub fault : DocFault
+  pub is : script_of spec bytes ≡ Err fault
+  pub line : refusal ≡ (BROKEN_SCRIPT, script_line fault)
+
+-- What is answered of a script with too many bytes.
+abbrev pub long_script : ℕ × List ℕ
+long_script = (BROKEN_SCRIPT, script_line (record { rule = script_rule.TOO_LONG; path = [] }))
+
+-- The file of this name is asked for, and this is answered of the script that it holds.
+abbrev pub AnswersScript : Parts → List ℕ → (ScriptParts → Answer) → Answer
+AnswersScript spec name Then = AnswersFile MAX_SCRIPT_BYTES long_script name (AnswersDocument (SaysScript spec) (BreaksScript spec) Then)
+
+-- The bytes are this schedule, a list of codes of events that the specification has.
+pub record SaysSchedule (spec : Parts) (list : List ℕ) (bytes : List ℕ) : Type 0 where
+  pub is : schedule_of spec bytes ≡ Ok list
+  pub known : AreCodes spec list
+
+-- The bytes are refused as a schedule for a specification.
+pub record BreaksSchedule (spec : Parts) (refusal : ℕ × List ℕ) (bytes : List ℕ) : Type 0 where
+  pub fault : ScheduleFault
+  pub is : schedule_of spec bytes ≡ Err fault
+  pub line : refusal ≡ (BROKEN_SCHEDULE, fault_line fault)
+
+-- What is answered of a schedule with too many bytes.
+abbrev pub long_schedule : ℕ × List ℕ
+long_schedule = (BROKEN_SCHEDULE, fault_line (record { line = 0; rule = schedule_rule.TOO_LONG }))
+
+-- The file of this name is asked for, and this is answered of the schedule that it holds.
+abbrev pub AnswersSchedule : Parts → List ℕ → (List ℕ → Answer) → Answer
+AnswersSchedule spec name Then = AnswersFile MAX_SCHEDULE_BYTES long_schedule name (AnswersDocument (SaysSchedule spec) (BreaksSchedule spec) Then)

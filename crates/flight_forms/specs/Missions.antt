@@ -1,0 +1,46 @@
+-- Whether a specification and a script make a mission.
+use Rattle.std.specs.Prelude.{◌≡◌, ◌≢◌, ◌⊎◌, ℕ, List, Option, Some, None, Result, Ok, Err}
+use Rattle.scram_types.specs.Scripts.{ScriptParts}
+use Rattle.scram_types.specs.Specification.{Parts}
+use Rattle.fault_script.specs.declared.assumption.Outside.{Outside}
+use Rattle.fault_script.specs.Assumption.{first_outside}
+use Rattle.coverage_check.specs.declared.shown.Shown.{Shown}
+use Rattle.coverage_check.specs.Acceptance.{first_refusal}
+use Rattle.coverage_check.specs.Missions.{MissionParts, mission_of}
+use Rattle.form_base.specs.declared.refusals.Refusal.{Refusal}
+use Rattle.form_base.specs.declared.status.TheConstants.{ANSWERED, NOT_ACCEPTED, UNASSUMED_SCRIPT, UNREAD_FILE}
+use Rattle.form_base.specs.Answers.{Gives}
+use Rattle.form_base.specs.Lines.{shown_line}
+use Rattle.form_base.specs.Loads.{IsOutOfMemory}
+use Rattle.form_base.specs.Refusals.{told}
+use Rattle.flight_forms.specs.Lines.{outside_line}
+
+-- How a script is refused, by where it leaves the failure assumption.
+abbrev pub script_refusal : Option Outside → Option (ℕ × List ℕ)
+script_refusal None = None
+script_refusal (Some outside) = Some (UNASSUMED_SCRIPT, outside_line outside)
+
+-- How a specification and a script for it are refused, by why the specification is not accepted.
+abbrev pub refusal_by : Parts → ScriptParts → Option Shown → Option (ℕ × List ℕ)
+refusal_by spec script (Some shown) = Some (NOT_ACCEPTED, shown_line spec shown)
+refusal_by spec script None = script_refusal (first_outside spec script)
+
+-- How a specification and a script for it are refused, where they make no mission.
+abbrev pub mission_refusal : Parts → ScriptParts → Option (ℕ × List ℕ)
+mission_refusal spec script = refusal_by spec script (first_refusal spec)
+
+-- The refusal is told, or where there is none, this is answered.
+abbrev pub UnlessRefused : Option (ℕ × List ℕ) → (ℕ → List ℕ → Type 0) → ℕ → List ℕ → Type 0
+UnlessRefused (Some refusal) Answers = Gives refusal
+UnlessRefused None Answers = Answers
+
+-- What comes of making a mission: the mission, or how the specification and the script are refused, or the allocator had no memory.
+abbrev pub MakesMission : Parts → ScriptParts → Result MissionParts Refusal → Type 0
+MakesMission spec script (Ok mission) = (mission ≡ mission_of spec script) × (mission_refusal spec script ≡ None)
+MakesMission spec script (Err refusal) =
+    ((mission_refusal spec script ≡ Some (told refusal)) ⊎ IsOutOfMemory (told refusal)) × ((told refusal).0 ≢ UNREAD_FILE)
+
+-- The same of an accepted specification.
+abbrev pub JoinsMission : Parts → ScriptParts → Result MissionParts Refusal → Type 0
+JoinsMission spec script (Ok mission) = (mission ≡ mission_of spec script) × (script_refusal (first_outside spec script) ≡ None)
+JoinsMission spec script (Err refusal) = (script_refusal (first_outside spec script) ≡ Some (told refusal)) × ((told refusal).0 ≢ UNREAD_FILE)

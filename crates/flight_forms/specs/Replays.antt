@@ -1,0 +1,27 @@
+-- A mission with a schedule by which it is flown.
+use Rattle.std.specs.Prelude.{◌≡◌, ◌≢◌, ◌⊎◌, ℕ, List, Some, None, Result, Ok, Err}
+use Rattle.scram_types.specs.Scripts.{ScriptParts}
+use Rattle.scram_types.specs.Specification.{Parts}
+use Rattle.coverage_check.specs.Missions.{mission_of}
+use Rattle.schedule_replay.specs.Events.{AreCodes}
+use Rattle.form_base.specs.declared.refusals.Refusal.{Refusal}
+use Rattle.form_base.specs.declared.status.TheConstants.{UNREAD_FILE}
+use Rattle.form_base.specs.Loads.{IsOutOfMemory}
+use Rattle.form_base.specs.Refusals.{told}
+use Rattle.flight_forms.specs.declared.replays.Replay.{Replay}
+use Rattle.flight_forms.specs.Answers.{IsReplayAnswer}
+use Rattle.flight_forms.specs.Missions.{mission_refusal}
+
+-- The list has codes of events that the specification has.
+abbrev pub HasCodes : Replay → Type 0
+HasCodes replay = AreCodes replay.mission.spec replay.list
+
+-- Status and text tell what comes of the list, flown as a schedule.
+abbrev pub TellsReplay : Replay → ℕ → List ℕ → Type 0
+TellsReplay replay = IsReplayAnswer replay.mission.spec replay.mission.script replay.list
+
+-- What comes of making a mission that is flown by a list.
+abbrev pub MakesReplay : Parts → ScriptParts → List ℕ → Result Replay Refusal → Type 0
+MakesReplay spec script list (Ok replay) = (replay.mission ≡ mission_of spec script) × (replay.list ≡ list) × (mission_refusal spec script ≡ None)
+MakesReplay spec script list (Err refusal) =
+    ((mission_refusal spec script ≡ Some (told refusal)) ⊎ IsOutOfMemory (told refusal)) × ((told refusal).0 ≢ UNREAD_FILE)

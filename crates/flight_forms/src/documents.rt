@@ -1,0 +1,104 @@
+//! Scripts and schedules, as files hold them.
+
+ghost use Rattle.std.specs.Prelude.{◌≡◌};
+ghost use Rattle.scram_types.specs.declared.limits.TheConstants.{MAX_SCRIPT_BYTES};
+ghost use Rattle.schedule_replay.specs.Refusals.{fault_line};
+ghost use Rattle.schedule_replay.specs.declared.limits.TheConstants.{MAX_SCHEDULE_BYTES};
+ghost use Rattle.form_base.specs.Refusals.{told};
+ghost use Rattle.form_base.specs.declared.status.TheConstants.{BROKEN_SCHEDULE, BROKEN_SCRIPT};
+ghost use Rattle.flight_forms.specs.Documents.{BreaksSchedule, BreaksScript, SaysSchedule, SaysScript, long_schedule, long_script};
+ghost use Rattle.flight_forms.specs.Lines.{script_line};
+
+use crate::lines::make_script_line;
+use fault_script::{ScriptError, ScriptFault, read_script};
+use form_base::loads::Document;
+use form_base::refusals::{Refusal, Refused};
+use schedule_replay::limits::MAX_SCHEDULE_BYTES;
+use schedule_replay::refusals::make_fault_line;
+use schedule_replay::{ScheduleError, ScheduleFault, read_schedule};
+use scram_doc::Path;
+use scram_types::limits::MAX_SCRIPT_BYTES;
+use scram_types::{List, Script, Spec};
+use std::alloc::Global;
+
+/// The document of a script for a specification.
+#[derive(Clone, Copy)]
+pub struct ScriptDocument<'a> {
+    pub spec: &'a Spec,
+}
+
+fn refuse_script(fault: &ScriptFault) -> Refusal
+    ensures { told result ≡ (BROKEN_SCRIPT, script_line fault.now) }
+{
+    Refusal::new(Refused::Script, make_script_line(fault))
+}
+
+impl Document<Script> for ScriptDocument<'_> {
+    ghost limit = { λ _. MAX_SCRIPT_BYTES };
+
+    ghost long = { λ _. long_script };
+
+    ghost Says = { λ document. SaysScript document.spec.now };
+
+    ghost Breaks = { λ document. BreaksScript document.spec.now };
+
+    fn limit(&self) -> usize {
+        MAX_SCRIPT_BYTES
+    }
+
+    fn read(&self, alloc: Global, bytes: &[u8]) -> Result<Script, Refusal> {
+        match read_script(alloc, bytes, self.spec) {
+            Ok(script) => Ok(script),
+            Err(ScriptError::Fault(fault)) => Err(refuse_script(&fault)),
+            Err(ScriptError::NoMemory) => Err(Refusal::out_of_memory()),
+        }
+    }
+
+    fn too_long(&self) -> Refusal {
+        refuse_script(&ScriptFault::new(
+            fault_script::rule::TOO_LONG,
+            &Path::root(),
+        ))
+    }
+}
+
+/// The document of a schedule for a specification: the codes of its events.
+#[derive(Clone, Copy)]
+pub struct ScheduleDocument<'a> {
+    pub spec: &'a Spec,
+}
+
+fn refuse_schedule(fault: ScheduleFault) -> Refusal
+    ensures { told result ≡ (BROKEN_SCHEDULE, fault_line fault) }
+{
+    Refusal::new(Refused::Schedule, make_fault_line(fault))
+}
+
+impl Document<List<u32>> for ScheduleDocument<'_> {
+    ghost limit = { λ _. MAX_SCHEDULE_BYTES };
+
+    ghost long = { λ _. long_schedule };
+
+    ghost Says = { λ document. SaysSchedule document.spec.now };
+
+    ghost Breaks = { λ document. BreaksSchedule document.spec.now };
+
+    fn limit(&self) -> usize {
+        MAX_SCHEDULE_BYTES
+    }
+
+    fn read(&self, alloc: Global, bytes: &[u8]) -> Result<List<u32>, Refusal> {
+        match read_schedule(alloc, bytes, self.spec) {
+            Ok(list) => Ok(List::of(list)),
+            Err(ScheduleError::Fault(fault)) => Err(refuse_schedule(fault)),
+            Err(ScheduleError::NoMemory) => Err(Refusal::out_of_memory()),
+        }
+    }
+
+    fn too_long(&self) -> Refusal {
+        refuse_schedule(ScheduleFault {
+            line: 0,
+            rule: schedule_replay::rule::TOO_LONG,
+        })
+    }
+}

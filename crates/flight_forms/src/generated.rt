@@ -1,0 +1,83 @@
+//! The forms `gen` and `fly`: missions from a number, printed or flown.
+
+ghost use Rattle.std.specs.Prelude.{◌≡◌};
+ghost use Rattle.form_base.specs.Endings.{Tells};
+ghost use Rattle.flight_forms.specs.Answers.{FlyAnswers, GenAnswers, SummaryAnswers};
+ghost use Rattle.fault_script.specs.Fits.{Fits};
+
+use crate::flights::{Boxes, FlightText, fly};
+use crate::missions::make_mission;
+use form_base::refusals::Refusal;
+use form_base::status::{ANSWERED, Status};
+use form_base::telling::{tell, tell_refusal};
+use mission_gen::{generate, write_mission};
+use scram_io::Sink;
+use scram_types::{NoMemory, Script, Spec};
+use std::alloc::{AllocGlobal, Global};
+use std::sync::Wait;
+use std::thread::Threads;
+
+/// Prints the mission of a number, 0 to 999,999: its specification and its script, a line each.
+pub fn print_generated<K: Sink>(alloc: Global, number: u32, out: &mut K) -> Status
+    ensures { Tells (GenAnswers number) (K.state out.old) (K.state out.new) result.code }
+{
+    match generate(alloc, number) {
+        Ok((spec, script)) => {
+            // Whoever uses a field of a specification knows that it keeps its invariant.
+            let _ = &spec.procs;
+            let text = write_mission(alloc, &spec, &script);
+            drop((spec, script));
+            match text {
+                Ok(text) => tell(out, ANSWERED, &text),
+                Err(NoMemory) => tell_refusal(out, &Refusal::out_of_memory()),
+            }
+        }
+        Err(NoMemory) => tell_refusal(out, &Refusal::out_of_memory()),
+    }
+}
+
+/// Flies the mission of a number, 0 to 999,999, and tells of it in a line.
+pub fn fly_generated<R: AllocGlobal + Threads + Wait + Sync, K: Sink>(
+    rt: &R,
+    number: u32,
+    out: &mut K,
+    boxes: Boxes,
+) -> Status
+    ensures { Tells (FlyAnswers number) (K.state out.old) (K.state out.new) result.code }
+{
+    match generate(rt.alloc(), number) {
+        Ok((spec, script)) => {
+            // Whoever uses a field of a specification knows that it keeps its invariant.
+            let _ = &spec.procs;
+            fly_parts(rt, number, (spec, script), out, boxes)
+        }
+        Err(NoMemory) => {
+            drop(boxes);
+            tell_refusal(out, &Refusal::out_of_memory())
+        }
+    }
+}
+
+fn fly_parts<R: AllocGlobal + Threads + Wait + Sync, K: Sink>(
+    rt: &R,
+    number: u32,
+    parts: (Spec, Script),
+    out: &mut K,
+    boxes: Boxes,
+) -> Status
+    requires { Fits parts.0 parts.1 }
+    ensures { Tells (SummaryAnswers number parts.0 parts.1) (K.state out.old) (K.state out.new) result.code }
+{
+    let (spec, script) = parts;
+    match make_mission(rt.alloc(), spec, script) {
+        Ok(mission) => {
+            let status = fly(rt, &mission, FlightText::Summary(number), out, boxes);
+            drop(mission);
+            status
+        }
+        Err(refusal) => {
+            drop(boxes);
+            tell_refusal(out, &refusal)
+        }
+    }
+}

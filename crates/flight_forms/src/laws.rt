@@ -1,0 +1,12 @@
+//! What holds of every flight: each function's contract is a law.
+
+ghost use Rattle.flight_forms.specs.Assurance.{FlightsAreAssured};
+
+use trace_props::missions::reconfigurations_are_assured;
+
+/// What is flown and answered with status 0 is assured.
+pub fn flights_are_assured()
+    ensures { FlightsAreAssured }
+{
+    reconfigurations_are_assured();
+}

@@ -1,0 +1,92 @@
+//! Missions, as two files hold them.
+
+ghost use Rattle.std.specs.Prelude.{◌∷◌, []};
+ghost use Rattle.fault_script.specs.Fits.{Fits};
+ghost use Rattle.form_base.specs.Endings.{Reads};
+ghost use Rattle.flight_forms.specs.Answers.{RunAnswers, ScriptAnswers, TellsTrace};
+ghost use Rattle.flight_forms.specs.Documents.{AnswersScript};
+ghost use Rattle.flight_forms.specs.Missions.{JoinsMission, MakesMission};
+
+use crate::documents::ScriptDocument;
+use crate::lines::make_outside_line;
+use coverage_check::{AcceptError, Accepted, Mission, accept};
+use form_base::lines::make_shown_line;
+use form_base::loads::load;
+use form_base::refusals::{Refusal, Refused};
+use form_base::specifications::Specification;
+use scram_io::Files;
+use scram_types::{Script, Spec};
+use std::alloc::Global;
+
+/// The files of a mission.
+#[derive(Clone, Copy)]
+pub struct MissionFiles<'a> {
+    pub specification: &'a str,
+    pub script: &'a str,
+}
+
+/// Reads the specification and the script, which make a mission.
+pub fn read_mission<F: Files>(
+    alloc: Global,
+    named: MissionFiles<'_>,
+    files: &mut F,
+) -> Result<Mission, Refusal>
+    ensures { Reads (RunAnswers named.specification.now named.script.now) TellsTrace (named.specification.now ∷ named.script.now ∷ [])
+        (F.state files.old) (F.state files.new) result }
+{
+    match load(alloc, &Specification, named.specification, files) {
+        Ok(spec) => read_script(alloc, spec, named.script, files),
+        Err(refusal) => Err(refusal),
+    }
+}
+
+fn read_script<F: Files>(
+    alloc: Global,
+    spec: Spec,
+    script: &str,
+    files: &mut F,
+) -> Result<Mission, Refusal>
+    ensures { Reads (AnswersScript spec script.now (ScriptAnswers spec)) TellsTrace (script.now ∷ []) (F.state files.old) (F.state files.new) result }
+{
+    match load(alloc, &ScriptDocument { spec: &spec }, script, files) {
+        Ok(script) => make_mission(alloc, spec, script),
+        Err(refusal) => {
+            drop(spec);
+            Err(refusal)
+        }
+    }
+}
+
+/// The mission of a specification and a script that fits it, where the one is accepted and the other keeps to its failure
+/// assumption.
+pub fn make_mission(alloc: Global, spec: Spec, script: Script) -> Result<Mission, Refusal>
+    requires { Fits spec script }
+    ensures { MakesMission spec script result }
+{
+    match accept(alloc, spec) {
+        Ok(accepted) => join(accepted, script),
+        Err(AcceptError::NotAccepted(spec, shown)) => {
+            let line = make_shown_line(&spec, &shown);
+            drop((spec, script));
+            Err(Refusal::new(Refused::Acceptance, line))
+        }
+        Err(AcceptError::NoMemory(spec)) => {
+            drop((spec, script));
+            Err(Refusal::out_of_memory())
+        }
+    }
+}
+
+fn join(accepted: Accepted, script: Script) -> Result<Mission, Refusal>
+    requires { Fits accepted script }
+    ensures { JoinsMission accepted script result }
+{
+    match Mission::new(accepted, script) {
+        Ok(mission) => Ok(mission),
+        Err(refused) => {
+            let line = make_outside_line(&refused.outside);
+            drop(refused);
+            Err(Refusal::new(Refused::Assumption, line))
+        }
+    }
+}

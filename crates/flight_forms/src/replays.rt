@@ -1,0 +1,164 @@
+//! The form `replay`: a mission flown by a schedule. No thread is used.
+
+ghost use Rattle.std.specs.Prelude.{◌∷◌, [], IfOk};
+ghost use Rattle.fault_script.specs.Fits.{Fits};
+ghost use Rattle.schedule_replay.specs.Events.{AreCodes};
+ghost use Rattle.form_base.specs.Endings.{Ends, IsTaken, Reads, Tells};
+ghost use Rattle.flight_forms.specs.Answers.{IsReplayAnswer, ListAnswers, ReplayAnswers, ScheduleAnswers};
+ghost use Rattle.flight_forms.specs.Documents.{AnswersSchedule, AnswersScript};
+ghost use Rattle.flight_forms.specs.Replays.{HasCodes, MakesReplay, TellsReplay};
+
+use crate::documents::{ScheduleDocument, ScriptDocument};
+use crate::flights::{Boxes, FlightText, tell_flown};
+use crate::missions::make_mission;
+use coverage_check::Mission;
+use form_base::loads::load;
+use form_base::refusals::{Refusal, Refused};
+use form_base::specifications::Specification;
+use form_base::status::Status;
+use form_base::telling::tell_refusal;
+use schedule_replay::refusals::{make_illegal_line, make_short_line};
+use schedule_replay::{ReplayError, replay};
+use scram_io::{Files, Sink};
+use scram_types::{List, Script, Spec};
+use std::alloc::Global;
+
+/// The files of a mission and of a schedule by which it is flown.
+#[derive(Clone, Copy)]
+pub struct ReplayFiles<'a> {
+    pub specification: &'a str,
+    pub script: &'a str,
+    pub schedule: &'a str,
+}
+
+/// A mission, and the codes of the events by which it is flown.
+#[derive(Drop)]
+struct Replay {
+    mission: Mission,
+    list: List<u32>,
+}
+
+/// Flies the mission of two files by the schedule in a third, and prints its trace.
+pub fn replay_form<F: Files, K: Sink>(
+    alloc: Global,
+    named: ReplayFiles<'_>,
+    files: &mut F,
+    out: &mut K,
+    boxes: Boxes,
+) -> Status
+    ensures { Ends (ReplayAnswers named.specification.now named.script.now named.schedule.now)
+        (named.specification.now ∷ named.script.now ∷ named.schedule.now ∷ [])
+        (F.state files.old) (F.state files.new) (IsTaken (K.state out.old) (K.state out.new) result.code) }
+{
+    match read_replay(alloc, named, files) {
+        Ok(replayed) => {
+            let status = fly_replay(alloc, &replayed, out, boxes);
+            drop(replayed);
+            status
+        }
+        Err(refusal) => {
+            drop(boxes);
+            tell_refusal(out, &refusal)
+        }
+    }
+}
+
+fn read_replay<F: Files>(
+    alloc: Global,
+    named: ReplayFiles<'_>,
+    files: &mut F,
+) -> Result<Replay, Refusal>
+    ensures reads { Reads (ReplayAnswers named.specification.now named.script.now named.schedule.now) TellsReplay
+        (named.specification.now ∷ named.script.now ∷ named.schedule.now ∷ []) (F.state files.old) (F.state files.new) result }
+    ensures codes { IfOk result HasCodes }
+{
+    match load(alloc, &Specification, named.specification, files) {
+        Ok(spec) => read_scheduled(alloc, spec, named, files),
+        Err(refusal) => Err(refusal),
+    }
+}
+
+fn read_scheduled<F: Files>(
+    alloc: Global,
+    spec: Spec,
+    named: ReplayFiles<'_>,
+    files: &mut F,
+) -> Result<Replay, Refusal>
+    ensures reads { Reads (AnswersScript spec named.script.now (ScheduleAnswers named.schedule.now spec)) TellsReplay (named.script.now ∷ named.schedule.now ∷ [])
+        (F.state files.old) (F.state files.new) result }
+    ensures codes { IfOk result HasCodes }
+{
+    match load(alloc, &ScriptDocument { spec: &spec }, named.script, files) {
+        Ok(script) => read_list(alloc, (spec, script), named.schedule, files),
+        Err(refusal) => {
+            drop(spec);
+            Err(refusal)
+        }
+    }
+}
+
+fn read_list<F: Files>(
+    alloc: Global,
+    parts: (Spec, Script),
+    schedule: &str,
+    files: &mut F,
+) -> Result<Replay, Refusal>
+    requires { Fits parts.0 parts.1 }
+    ensures reads { Reads (AnswersSchedule parts.0 schedule.now (ListAnswers parts.0 parts.1)) TellsReplay (schedule.now ∷ []) (F.state files.old) (F.state files.new) result }
+    ensures codes { IfOk result HasCodes }
+{
+    let (spec, script) = parts;
+    match load(alloc, &ScheduleDocument { spec: &spec }, schedule, files) {
+        Ok(list) => make_replay(alloc, spec, script, list),
+        Err(refusal) => {
+            drop((spec, script));
+            Err(refusal)
+        }
+    }
+}
+
+fn make_replay(
+    alloc: Global,
+    spec: Spec,
+    script: Script,
+    list: List<u32>,
+) -> Result<Replay, Refusal>
+    requires script { Fits spec script }
+    requires codes { AreCodes spec list }
+    ensures makes { MakesReplay spec script list result }
+    ensures codes { IfOk result HasCodes }
+{
+    match make_mission(alloc, spec, script) {
+        Ok(mission) => Ok(Replay { mission, list }),
+        Err(refusal) => {
+            drop(list);
+            Err(refusal)
+        }
+    }
+}
+
+fn fly_replay<K: Sink>(alloc: Global, replayed: &Replay, out: &mut K, boxes: Boxes) -> Status
+    requires { HasCodes replayed.now }
+    ensures { Tells (TellsReplay replayed.now) (K.state out.old) (K.state out.new) result.code }
+{
+    let mission = &replayed.mission;
+    mission.holds();
+    let spec = mission.spec();
+    let list = replayed.list.items();
+    match replay(alloc, spec, mission.script(), boxes.racks, boxes.spares, list) {
+        Ok(flown) => {
+            let status = tell_flown(out, mission, &flown, FlightText::Trace);
+            drop(flown);
+            status
+        }
+        Err(ReplayError::Illegal { index, given, next }) => {
+            let line = make_illegal_line(spec, index, given, next);
+            tell_refusal(out, &Refusal::new(Refused::Schedule, line))
+        }
+        Err(ReplayError::Short { events, next }) => {
+            let line = make_short_line(spec, events, next);
+            tell_refusal(out, &Refusal::new(Refused::Schedule, line))
+        }
+        Err(ReplayError::NoMemory) => tell_refusal(out, &Refusal::out_of_memory()),
+    }
+}

@@ -1,0 +1,40 @@
+//! What the line of a flight tells of its rows and reports.
+
+ghost use Rattle.std.specs.Prelude.{◌≡◌};
+ghost use Rattle.flight_forms.specs.Summaries.{duration, last_run, longest_duration};
+
+use frame_model::running;
+use scram_types::{ConfId, Report, Row, Spec};
+
+/// How many frames the longest finished reconfiguration took, 0 without one.
+pub fn longest_duration(reports: &[Report]) -> u32
+    ensures { result ≡ longest_duration reports.now }
+{
+    let mut most = 0;
+    for report in reports {
+        most = duration(report).max(most);
+    }
+    most
+}
+
+fn duration(report: &Report) -> u32
+    ensures { result ≡ duration report.now }
+{
+    match report.to {
+        Some(_) => report.end.saturating_sub(report.begin),
+        None => 0,
+    }
+}
+
+/// The last configuration that a row runs, or the start configuration where none runs one.
+pub fn last_run(spec: &Spec, rows: &[Row]) -> ConfId
+    ensures { result ≡ last_run spec.now rows.now }
+{
+    let mut last = spec.start;
+    for row in rows {
+        if let Some(c) = running(spec, &row.acts) {
+            last = c;
+        }
+    }
+    last
+}

@@ -1,0 +1,2 @@
+pub mod Assuring
+pub mod Counted
