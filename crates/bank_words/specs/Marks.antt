@@ -1,7 +1,7 @@
 -- The mark of a processor: how many frames there are up to the last one that it committed, and the bank that holds it.
 use Rattle.std.specs.Prelude.{ℕ, ◌+◌, ◌-◌, ◌*◌, ◌/◌, ◌%◌, nat_le, if◌then◌else◌}
 
--- The mark of so many frames up to the last committed one, which this bank holds.
+-- The mark of `count` frames up to the last committed one, which bank 0 or 1 holds.
 abbrev pub mark_word : ℕ → ℕ → ℕ
 mark_word count bank = 2 * count + bank
 

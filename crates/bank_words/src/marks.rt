@@ -1,12 +1,15 @@
 //! Marks: up to which frame a processor has committed, and in which bank.
 
-ghost use Rattle.std.specs.Prelude.{◌≡◌, ◌≤◌};
+ghost use Rattle.std.specs.Prelude.{◌≡◌, ◌≤◌, ◌/◌, ◌%◌};
 ghost use Rattle.bank_words.specs.Marks.{mark_word, pick};
 
-/// The mark of `count` frames up to the last committed one, which bank `bank` holds: twice the count
-/// plus the bank. It takes no memory.
+/// The mark of `count` frames up to the last committed one, which bank `bank`, 0 or 1, holds: twice the count
+/// plus the bank. Both come back from it. It takes no memory.
 pub fn mark_word(count: u32, bank: u8) -> u64
-    ensures { result ≡ mark_word count bank }
+    requires { bank ≤ 1 }
+    ensures mark { result ≡ mark_word count bank }
+    ensures count { result / 2 ≡ count }
+    ensures bank { result % 2 ≡ bank }
 {
     2 * u64::from(count) + u64::from(bank)
 }

@@ -57,15 +57,16 @@ impl Calls {
     }
 }
 
-/// The calls of the boxes of the first processor, of the second, of all others, and of all spare racks. They live as long
-/// as the program, since boxes do that are sent to threads.
+/// The calls of the boxes of the first processor, of the second, and of all others, and those of their spare racks. They
+/// live as long as the program, since boxes do that are sent to threads.
 #[derive(Drop)]
 pub struct Counters {
     first: &'static Calls,
     second: &'static Calls,
     others: &'static Calls,
-    /// Where the boxes of all spare racks count.
-    pub spares: &'static Calls,
+    first_spare: &'static Calls,
+    second_spare: &'static Calls,
+    other_spares: &'static Calls,
 }
 
 impl Counters {
@@ -79,7 +80,9 @@ impl Counters {
             first: Box::leak(Box::new(alloc, Calls::new())?),
             second: Box::leak(Box::new(alloc, Calls::new())?),
             others: Box::leak(Box::new(alloc, Calls::new())?),
-            spares: Box::leak(Box::new(alloc, Calls::new())?),
+            first_spare: Box::leak(Box::new(alloc, Calls::new())?),
+            second_spare: Box::leak(Box::new(alloc, Calls::new())?),
+            other_spares: Box::leak(Box::new(alloc, Calls::new())?),
         })
     }
 
@@ -89,6 +92,15 @@ impl Counters {
             0 => self.first,
             1 => self.second,
             _ => self.others,
+        }
+    }
+
+    /// Where the boxes of a processor's spare rack count.
+    pub fn spare(&self, proc: u32) -> &'static Calls {
+        match proc {
+            0 => self.first_spare,
+            1 => self.second_spare,
+            _ => self.other_spares,
         }
     }
 
@@ -106,6 +118,8 @@ impl Counters {
         self.first.print(rt, "first")?;
         self.second.print(rt, "second")?;
         self.others.print(rt, "others")?;
-        self.spares.print(rt, "spares")
+        self.first_spare.print(rt, "spare of the first")?;
+        self.second_spare.print(rt, "spare of the second")?;
+        self.other_spares.print(rt, "spares of the others")
     }
 }

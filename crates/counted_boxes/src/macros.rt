@@ -33,13 +33,13 @@ macro_rules! counted_racks {
     }};
 }
 
-/// Eight racks for restarts, of boxes that count in these `Counters` and wait for none.
+/// Eight racks for restarts, of boxes that count in these `Counters`, each for its own processor, and wait for none.
 #[macro_export]
 macro_rules! counted_spares {
     ($rt:expr, $counters:expr) => {{
         let mut spares = Vec::new($rt.alloc());
-        for _ in 0..8 {
-            spares.push($crate::counted_rack!($rt, $counters.spares, None))?;
+        for proc in 0..8 {
+            spares.push($crate::counted_rack!($rt, $counters.spare(proc), None))?;
         }
         spares
     }};

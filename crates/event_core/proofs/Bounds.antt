@@ -43,7 +43,7 @@ goes_on : (m : Flight) (k j p : ℕ) (place : KeptPlace) → Flies m → m.procs
 goes_on m k j p (kept.At f n) y few narrow low is =
     let last = last_low m (m.halt p f) (λ s e. y.step p f s e) in
     (omega (arith, is.high, low), omega (arith, is.within, last, few, narrow))
-goes_on m k j p (kept.Halted h) y few narrow low is = tt
+goes_on m k j p (kept.Halted h) y few narrow low is = omega (arith, is.high, low)
 
 module _ (m : Flight) (places : KeptPlaces) (words : Word → ℕ) (few : m.procs ≤ 8) (narrow : m.width ≤ 64) (y : Flies m) (k : Kept m (machine_places places) words) (low : places.frame < 20000) where
   proc_goes : (p : ℕ) (e : Event) → next_of m (machine_places places) words p ≡ Some e → CanGoOn (kept_place places.procs p)

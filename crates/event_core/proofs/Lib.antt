@@ -13,4 +13,5 @@ pub mod Overs
 pub mod Snapshots
 pub mod Actors
 pub mod Histories
+mod Counting
 pub mod Replacing

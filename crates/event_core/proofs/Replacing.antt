@@ -1,6 +1,6 @@
 -- Flyers with one more of them, or with another one in a place.
 use Rattle.std.proofs.Common.{◌≡◌, ◌∙◌, ℕ, ◌+◌, ◌<◌, ap, subst, sym, arith, List, [], ◌∷◌, ◌++◌, length}
-use Rattle.std.specs.Prelude.{All, None, Option, Some, slice_index_or, slice_set}
+use Rattle.std.specs.Prelude.{All, None, Option, Some, map, slice_index_or, slice_set}
 use Rattle.std.specs.Option.{option_to_list}
 use native.Mathlib.Decide.{ℕ_discrete}
 use Rattle.std.proofs.lemmas.List.{length-append, get_or-set_other, get_or-set_same, get_or_append_left, length-set}
@@ -29,6 +29,11 @@ module _ {A : Type 0} (number : A → ℕ) (items : List A) where
         let long : length (items ++ item ∷ []) ≡ length items + 1 = length-append items (item ∷ []) in
         let inside : k < length items = omega (arith, long, low, e) in
         ap number (get_or_append_left items (item ∷ []) d k inside) ∙ all k d inside
+
+-- one moves from the front of what is left to the end of what was made
+pub taken_more : {A B : Type 0} (of : A → B) (made : List A) (a : A) (left rest : List B) {b : B} → of a ≡ b → left ≡ b ∷ rest → map of (made ++ a ∷ []) ++ rest ≡ map of made ++ left
+taken_more of [] a left rest is front = ap (λ b. b ∷ rest) is ∙ sym front
+taken_more of (x ∷ made) a left rest is front = ap (λ l. of x ∷ l) (taken_more of made a left rest is front)
 
 -- what is left where one is taken from the front
 pub rest_of : {R : Type 0} (P : R → Type 0) (all rest : List R) (taken : Option R) → all ≡ option_to_list taken ++ rest → All P all → All P rest

@@ -87,11 +87,13 @@ places_same a b procs frame step =
 pub next_there : (m : Flight) (codes : List ℕ) (at : Places) (words : Word → ℕ) (e : Event) → (r : IsReplay m codes at words) → IsNext m at words e → IsNext m r.state.at r.state.words e
 next_there m codes at words e r next = subst (λ (a : Places). IsNext m a r.state.words e) r.places_are (next_moved m at words r.state.words r.words_are e next)
 
-pub replay_more : (m : Flight) (codes : List ℕ) (at at2 : Places) (words words2 : Word → ℕ) (e : Event) → IsReplay m codes at words → IsNext m at words e → Moves m at e at2
-    → ((w : Word) → IsStored m w → words2 w ≡ written (writes m at words e) words w) → IsReplay m (codes ++ event_code e ∷ []) at2 words2
-replay_more m codes at at2 words words2 e r next moves written_are =
+-- with one event more at its end
+pub replay_on : (m : Flight) (codes : List ℕ) (at at2 : Places) (words words2 : Word → ℕ) (e : Event) → (r : IsReplay m codes at words) → IsNext m at words e → Moves m at e at2
+    → ((w : Word) → IsStored m w → words2 w ≡ written (writes m at words e) words w)
+    → (more : IsReplay m (codes ++ event_code e ∷ []) at2 words2) × (more.events ≡ r.events ++ e ∷ []) × (more.state ≡ happened m r.state e)
+replay_on m codes at at2 words words2 e r next moves written_are =
     let there = next_there m codes at words e r next in
-    record {
+    (record {
       events = r.events ++ e ∷ [];
       state = happened m r.state e;
       codes_are = ap (λ l. l ++ event_code e ∷ []) r.codes_are ∙ sym (map_more r.events e);
@@ -101,4 +103,8 @@ replay_more m codes at at2 words words2 e r next moves written_are =
           ∙ ap (λ o. written o words w) (writes_same m at words r.state.words r.words_are e next)
           ∙ written_same m at words r.state.words r.words_are (writes m at r.state.words e) w s
           ∙ ap (λ (a : Places). written (writes m a r.state.words e) r.state.words w) r.places_are;
-    }
+    }, refl, refl)
+
+pub replay_more : (m : Flight) (codes : List ℕ) (at at2 : Places) (words words2 : Word → ℕ) (e : Event) → IsReplay m codes at words → IsNext m at words e → Moves m at e at2
+    → ((w : Word) → IsStored m w → words2 w ≡ written (writes m at words e) words w) → IsReplay m (codes ++ event_code e ∷ []) at2 words2
+replay_more m codes at at2 words words2 e r next moves written_are = (replay_on m codes at at2 words words2 e r next moves written_are).0

@@ -26,7 +26,7 @@ kept_opening = record { procs = replicate 8 (kept.At 0 0); frame = 0; step = 0 }
 -- The numbers of a place can grow by one.
 abbrev pub CanGoOn : KeptPlace → Type 0
 CanGoOn (kept.At f n) = (f + 1 < 2 ^ 32) × (n + 1 < 2 ^ 32)
-CanGoOn (kept.Halted h) = Unit {0}
+CanGoOn (kept.Halted h) = h + 1 < 2 ^ 32
 
 -- Whoever stands here has made all looks of its frame, and neither its flip nor its halt.
 abbrev pub HasLooked : Flight → Place → Type 0

@@ -48,7 +48,7 @@ impl<'a> std::marker::Model for Core<'a> {
 }
 
 impl<'a> Core<'a> {
-    ghost use Rattle.std.specs.Prelude.{◌≡◌, ◌≢◌, ◌<◌, ◌++◌, [], ◌∷◌, IfErr, IfOk, IsTrue, ◌↔◌, ◌≤◌, ◌+◌, ◌⊎◌, ◌^◌, length};
+    ghost use Rattle.std.specs.Prelude.{◌≡◌, ◌≢◌, ◌<◌, ◌/◌, ◌++◌, [], ◌∷◌, IfErr, IfOk, IsTrue, ◌↔◌, ◌≤◌, ◌+◌, ◌⊎◌, ◌^◌, length};
     ghost use Rattle.bank_words.specs.Events.{event_code};
     ghost use Rattle.event_core.specs.Replays.{IsReplay};
     ghost use Rattle.fail_stop.specs.Events.{Happens, IsNext, frame_of, next_kernel, next_of, next_of_actor};
@@ -58,6 +58,7 @@ impl<'a> Core<'a> {
     ghost use Rattle.fail_stop.specs.ScriptFlights.{kernel_words};
     ghost use Rattle.frame_model.specs.Flights.{reports_of, rows_of};
     ghost use Rattle.scram_kernel.specs.Kernels.{rows_below};
+    ghost use Rattle.event_core.specs.Counts.{notes_in};
     ghost use Rattle.event_core.specs.Cores.{frames_ended, flown, standing, standing_words};
     ghost use Rattle.fault_script.specs.Fits.{Fits};
     ghost use Rattle.event_core.specs.Places.{HasLooked};
@@ -133,7 +134,8 @@ impl<'a> Core<'a> {
     /// The rows of the frames that have ended: those in which the kernel has noted every processor, which are the first
     /// rows of the one-thread trace. It takes no memory.
     pub fn rows(&self) -> &[Row]
-        ensures { result.now ≡ rows_below self.now.spec self.now.script (frames_ended self.now.spec self.now.places) }
+        ensures rows { result.now ≡ rows_below self.now.spec self.now.script (frames_ended self.now.spec self.now.places) }
+        ensures noted { (replay : IsReplay (flown self.now) self.now.history (standing self.now) (standing_words self.now)) → length result.now ≡ notes_in replay.events / length self.now.spec.procs }
     {
         self.kernel.rows()
     }

@@ -1,7 +1,7 @@
 //! Processors with what they need in a flight. That the boxes fit is told by clauses, since no type can keep a fact of a
 //! box; the fields are public so that clauses can name them.
 
-ghost use Rattle.std.specs.Prelude.{◌≡◌, ◌<◌, ◌+◌, IfOk, IfSome, length, ℕ};
+ghost use Rattle.std.specs.Prelude.{◌≡◌, ◌<◌, ◌+◌, ◌∷◌, IfOk, IfSome, None, Some, length, map, ℕ};
 ghost use Rattle.std.specs.Vec.Iter.{into_iter_items, into_iter_len};
 ghost use Rattle.app_model.specs.Racks.{AllRacksFit, RackFits, RacksFit};
 ghost use Rattle.event_core.specs.Cores.{flown, standing, standing_words};
@@ -38,6 +38,9 @@ impl Flyer {
         requires rack { RackFits (λ b. kind_of (b.vtable, b.value)) rack.boxes.items }
         requires spare { RackFits (λ b. kind_of (b.vtable, b.value)) spare.boxes.items }
         ensures proc { result.live.proc ≡ proc }
+        ensures rack { result.live.rack ≡ rack }
+        ensures spare { result.spare ≡ Some spare }
+        ensures drafted { result.drafted ≡ None }
         ensures fits { (spec : Parts) (script : ScriptParts) → FlyerFits (λ b. kind_of (b.vtable, b.value)) (λ r. r.boxes.items) spec script result }
     {
         Flyer {
@@ -52,6 +55,8 @@ impl Flyer {
     pub(crate) fn halt(&mut self, frame: u32)
         requires spare { IfSome self.old.spare (λ rack. RackFits (λ b. kind_of (b.vtable, b.value)) rack.boxes.items) }
         ensures proc { self.new.live.proc ≡ self.old.live.proc }
+        ensures rack { IfSome self.old.spare (λ rack. self.new.live.rack ≡ rack) }
+        ensures spare { self.new.spare ≡ None }
         ensures fits { (spec : Parts) (script : ScriptParts) → FlyerFits (λ b. kind_of (b.vtable, b.value)) (λ r. r.boxes.items) spec script self.old → FlyerFits (λ b. kind_of (b.vtable, b.value)) (λ r. r.boxes.items) spec script self.new }
     {
         if let Some(rack) = self.spare.take() {
@@ -166,7 +171,9 @@ pub fn make_flyers(
 ) -> Result<Vec<Flyer>, NoMemory>
     requires racks { RacksFit (λ b. kind_of (b.vtable, b.value)) (λ r. r.boxes.items) racks.items }
     requires spares { RacksFit (λ b. kind_of (b.vtable, b.value)) (λ r. r.boxes.items) spares.items }
-    ensures { (spec : Parts) (script : ScriptParts) → IfOk result (λ flyers. FlyersFit (λ b. kind_of (b.vtable, b.value)) (λ r. r.boxes.items) spec script flyers.items) }
+    ensures fits { (spec : Parts) (script : ScriptParts) → IfOk result (λ flyers. FlyersFit (λ b. kind_of (b.vtable, b.value)) (λ r. r.boxes.items) spec script flyers.items) }
+    ensures racks { IfOk result (λ flyers. map (λ flyer. flyer.live.rack) flyers.items ≡ racks.items) }
+    ensures spares { IfOk result (λ flyers. map (λ flyer. flyer.spare) flyers.items ≡ map Some spares.items) }
 {
     let mut racks = racks.into_iter();
     let mut spares = spares.into_iter();
@@ -185,6 +192,7 @@ fn next_rack(racks: &mut IntoIter<Rack>) -> Rack
     requires fit { AllRacksFit (λ b. kind_of (b.vtable, b.value)) (λ r. r.boxes.items) (into_iter_items racks.old) }
     ensures rack { RackFits (λ b. kind_of (b.vtable, b.value)) result.boxes.items }
     ensures rest { AllRacksFit (λ b. kind_of (b.vtable, b.value)) (λ r. r.boxes.items) (into_iter_items racks.new) }
+    ensures first { into_iter_items racks.old ≡ result ∷ into_iter_items racks.new }
     ensures fewer { into_iter_len racks.new + 1 ≡ into_iter_len racks.old }
 {
     match racks.next() {

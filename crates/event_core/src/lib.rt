@@ -6,6 +6,7 @@
 pub mod cores;
 pub mod flyers;
 mod frames;
+pub mod laws;
 mod moves;
 mod nexts;
 pub mod places;

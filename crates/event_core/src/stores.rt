@@ -1,11 +1,11 @@
 //! What an event stores.
 
-ghost use Rattle.std.specs.Prelude.{◌≡◌, ◌<◌, ◌-◌, ◌%◌, length};
+ghost use Rattle.std.specs.Prelude.{◌≡◌, suc, ◌<◌, ◌≤◌, ◌-◌, ◌%◌, length};
 ghost use Rattle.fail_stop.specs.Events.{BankWord, MarkWord, frame_of, writes};
 ghost use Rattle.fail_stop.specs.Flights.{Flight};
 ghost use Rattle.fail_stop.specs.Listed.{list_after, places_of_words, stored_in};
-ghost use Rattle.event_core.specs.Places.{kept_place, machine_place, machine_places};
-ghost use Rattle.event_core.specs.Stores.{IsInside, IsEventWord};
+ghost use Rattle.event_core.specs.Places.{CanGoOn, kept_place, machine_place, machine_places};
+ghost use Rattle.event_core.specs.Stores.{CanMove, IsInside, IsEventWord};
 
 use crate::nexts::kept_place;
 use crate::places::{Place, Places};
@@ -17,21 +17,22 @@ use scram_types::ProcId;
 pub(crate) fn store(stored: &mut Vec<u64>, places: &Places, event: Event, word: u64)
     requires stored { length stored.old.items ≡ places_of_words }
     requires event { IsInside event }
+    requires room { CanMove places.now event }
     ensures { (m : Flight) → IsEventWord m (machine_places places.now) event word → stored.new.items ≡ list_after stored.old.items (writes m (machine_places places.now) (stored_in stored.old.items) event) }
 {
     match event {
         Event::Store(p, i) => {
             let bank = other_bank(stored, p);
-            stored[bank_index(p, bank) + usize::from(i)] = word;
+            stored[bank_index(p, usize::from(bank)) + usize::from(i)] = word;
         }
         Event::Flip(p) => {
             let bank = other_bank(stored, p);
-            let frame = frame_of(kept_place(&places.procs, p));
-            stored[mark_index(p)] = 2 * (u64::from(frame) + 1) + bank as u64;
+            let count = frames_through(kept_place(&places.procs, p));
+            stored[mark_index(p)] = mark_word(count, bank);
         }
         Event::Done(p) => {
-            let frame = frame_of(kept_place(&places.procs, p));
-            stored[end_index(p)] = 2 * (u64::from(frame) + 1);
+            let count = frames_through(kept_place(&places.procs, p));
+            stored[end_index(p)] = 2 * u64::from(count);
         }
         Event::Halt(p) => {
             let frame = frame_of(kept_place(&places.procs, p));
@@ -55,11 +56,23 @@ pub(crate) fn frame_of(place: Place) -> u32
     }
 }
 
+// How many frames there are up to that of a place.
+fn frames_through(place: Place) -> u32
+    requires { CanGoOn place }
+    ensures { result ≡ suc (frame_of (machine_place place)) }
+{
+    match place {
+        Place::At(frame, _) => frame + 1,
+        Place::Halted(frame) => frame + 1,
+    }
+}
+
 // The bank that the mark of a processor does not name.
-fn other_bank(stored: &[u64], p: ProcId) -> usize
+fn other_bank(stored: &[u64], p: ProcId) -> u8
     requires stored { length stored.now ≡ places_of_words }
     requires p { p.0 < 8 }
-    ensures { result ≡ 1 - stored_in stored.now (MarkWord p.0) % 2 }
+    ensures bank { result ≡ 1 - stored_in stored.now (MarkWord p.0) % 2 }
+    ensures side { result ≤ 1 }
 {
-    1 - (stored[mark_index(p)] % 2) as usize
+    1 - (stored[mark_index(p)] % 2) as u8
 }

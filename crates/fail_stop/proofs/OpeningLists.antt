@@ -6,7 +6,7 @@ use Rattle.scram_types.specs.declared.ids.ProcId.{ProcId}
 use Rattle.scram_types.specs.Eights.{eight}
 use Rattle.scram_types.specs.Scripts.{ScriptParts}
 use Rattle.scram_types.specs.Searches.{listed_below}
-use Rattle.scram_types.specs.Specification.{Parts}
+use Rattle.scram_types.specs.Specification.{IsSpec, Parts}
 use Rattle.scram_types.proofs.Eights.{eight_at}
 use Rattle.scram_types.proofs.Searches.{get_listed, length_listed}
 use Rattle.bank_words.specs.Numbers.{encode}
@@ -16,6 +16,7 @@ use Rattle.frame_model.proofs.Slots.{slot_is}
 use Rattle.fail_stop.specs.Events.{BankWord, EndWord, IsStored, KernelWord, MarkWord, ReleaseWord, Word}
 use Rattle.fail_stop.specs.Flights.{word_in}
 use Rattle.fail_stop.specs.Kept.{opening_words}
+use Rattle.fail_stop.specs.Laws.{IsOpening}
 use Rattle.fail_stop.specs.Listed.{index_of, places_of_words, stored_in}
 use Rattle.fail_stop.specs.ScriptFlights.{flight_of, image_words_after, kernel_words}
 use Rattle.fail_stop.specs.Openings.{opening_at, opening_list, proc_opening, start_word}
@@ -123,3 +124,20 @@ opening_listed spec script list w is few narrow s = ap (λ l. stored_in l w) is 
 pub opening_long : (frames : ℕ) (first : List ℕ) (areas : List (List ℤ)) (keepers : List (Option ProcId)) → length (opening_list frames first areas keepers) ≡ places_of_words
 unfolding opening_list
 opening_long frames first areas keepers = length_listed (opening_at frames first areas keepers) places_of_words
+
+pub list_opens : (spec : Parts) (script : ScriptParts) → IsSpec spec
+    → IsOpening spec script (opening_list script.frames (kernel_words spec script 0) (eight (start_area_of spec)) (eight (start_keeper_of spec)))
+list_opens spec script facts =
+    let narrow = facts.apps_count.few in
+    let at : (w : Word) → IsStored (flight_of spec script) w → stored_in (opening_list script.frames (kernel_words spec script 0) (eight (start_area_of spec)) (eight (start_keeper_of spec))) w ≡ opening_words (flight_of spec script) w =
+    λ w s. opening_listed spec script _ w refl facts.procs_count.few (omega (arith, narrow)) s in
+    record {
+      long = opening_long script.frames (kernel_words spec script 0) (eight (start_area_of spec)) (eight (start_keeper_of spec));
+      released = λ some. let flown : nat_eq script.frames 0 ≡ false = grind (arith, nat_tests, some) in at ReleaseWord tt ∙ rw flown refl;
+      unreleased = λ none. at ReleaseWord tt ∙ rw none refl;
+      kernel = λ i low. at (KernelWord i) low;
+      mark = λ p low. at (MarkWord p) low;
+      end = λ p low. at (EndWord p) low;
+      image = λ p i low small. at (BankWord p 0 i) (low, omega arith, small);
+      empty = λ p i low small. at (BankWord p 1 i) (low, omega arith, small);
+    }

@@ -1,6 +1,6 @@
 -- What stands in each state of each schedule, fact by fact.
 use Rattle.std.specs.Prelude.{◌≡◌, ◌⊎◌, ℕ, suc, ◌+◌, ◌-◌, ◌*◌, ◌%◌, ◌<◌, ◌≤◌, Some, if◌then◌else◌}
-use Rattle.bank_words.specs.Marks.{pick}
+use Rattle.bank_words.specs.Marks.{mark_word, pick}
 use Rattle.fail_stop.specs.Flights.{Flight, word_in, last_commit, commit_count, image_before, bank_before}
 use Rattle.fail_stop.specs.Events.{Place, At, Halted, Places, Word, ReleaseWord, KernelWord, MarkWord, BankWord}
 use Rattle.fail_stop.specs.Kept.{is_flipped, stores_made}
@@ -25,7 +25,7 @@ NoRestart m p h k = (r : ℕ) → m.restart p ≡ Some r → h < r → k < r
 -- The invariant fact by fact, with the kernel in its frame: marks and banks by the commits of their processor, where
 -- processors and the kernel stand, what a note tells, the kernel's words, and what a reader sees.
 pub record IsConsistent (m : Flight) (at : Places) (words : Word → ℕ) : Type 0 where
-  pub mark : (p : ℕ) → p < m.procs → words (MarkWord p) ≡ 2 * last_commit m p (marked m (at.proc p)) + commit_count m p (marked m (at.proc p)) % 2
+  pub mark : (p : ℕ) → p < m.procs → words (MarkWord p) ≡ mark_word (last_commit m p (marked m (at.proc p))) (commit_count m p (marked m (at.proc p)) % 2)
   pub marked_bank : (p i : ℕ) → p < m.procs → i < m.width → words (BankWord p (commit_count m p (marked m (at.proc p)) % 2) i) ≡ word_in (image_before m p (last_commit m p (marked m (at.proc p)))) i
   pub drafted : (p f n i : ℕ) → p < m.procs → i < m.width → at.proc p ≡ At f n → n ≤ m.procs + 1 + m.width → i < stores_made m n → words (BankWord p (other m at p) i) ≡ word_in (m.draft p f) i
   pub not_drafted : (p f n i : ℕ) → p < m.procs → i < m.width → at.proc p ≡ At f n → n ≤ m.procs + 1 + m.width → stores_made m n ≤ i → words (BankWord p (other m at p) i) ≡ bank_before m p f (other m at p) i

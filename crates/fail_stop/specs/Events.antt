@@ -2,6 +2,7 @@
 use Rattle.std.specs.Prelude.{◌≡◌, ℕ, zero, suc, ◌+◌, ◌-◌, ◌*◌, ◌/◌, ◌%◌, ◌<◌, Bool, true, false, not, ◌&&◌, ◌||◌, Option, Some, None, if◌then◌else◌, nat_lt, nat_le, nat_eq}
 use Rattle.bank_words.specs.declared.events.Event.{Event}
 use Rattle.bank_words.specs.declared.events.Event.TheVariants.{Start, Look, Store, Flip, Done, Halt, KNote, KStore, Release}
+use Rattle.bank_words.specs.Marks.{mark_word}
 use Rattle.scram_types.specs.Lookups.{proc_id}
 use Rattle.fail_stop.specs.Flights.{Flight, word_in, back_by}
 
@@ -174,7 +175,7 @@ frame_of (Halted h) = h
 -- The word that an event writes, and what it writes there.
 abbrev pub writes : Flight → Places → (Word → ℕ) → Event → Option (Word × ℕ)
 writes m at words (Store p i) = Some (BankWord p.0 (1 - words (MarkWord p.0) % 2) i, word_in (m.draft p.0 (frame_of (at.proc p.0))) i)
-writes m at words (Flip p) = Some (MarkWord p.0, 2 * suc (frame_of (at.proc p.0)) + (1 - words (MarkWord p.0) % 2))
+writes m at words (Flip p) = Some (MarkWord p.0, mark_word (suc (frame_of (at.proc p.0))) (1 - words (MarkWord p.0) % 2))
 writes m at words (Done p) = Some (EndWord p.0, 2 * suc (frame_of (at.proc p.0)))
 writes m at words (Halt p) = Some (EndWord p.0, 2 * frame_of (at.proc p.0) + 1)
 writes m at words (KStore i) = Some (KernelWord i, word_in (m.kernel_image (suc at.frame)) i)

@@ -1,5 +1,6 @@
 -- What the law of the event machine needs of a mission: numbers, who is up, halts and restarts, images.
 use Rattle.std.specs.Prelude.{◌≡◌, ℕ, zero, suc, ◌+◌, ◌-◌, ◌*◌, ◌<◌, ◌≤◌, min, Bool, true, false, ◌&&◌, List, get_or, Option, Some, None, if◌then◌else◌, nat_lt, nat_le, nat_eq}
+use Rattle.bank_words.specs.Marks.{mark_word}
 
 -- A flight by functions: the numbers of frames, processors and words of an image, who is up, the step of a halt and the
 -- frame of a restart, start images, drafts and the kernel's words.
@@ -62,7 +63,7 @@ side m p (suc f) = if is_committed m p f then 1 - side m p f else side m p f
 
 -- The mark of processor p as frame f begins.
 abbrev pub mark_before : Flight → ℕ → ℕ → ℕ
-mark_before m p f = 2 * last_commit m p f + side m p f
+mark_before m p f = mark_word (last_commit m p f) (side m p f)
 
 -- The end word that a frame leaves, by the halt in it.
 abbrev pub end_word_after : ℕ → Option ℕ → ℕ

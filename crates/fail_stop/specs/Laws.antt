@@ -7,16 +7,17 @@ use Rattle.bank_words.specs.Images.{kernel_decode}
 use Rattle.bank_words.specs.Marks.{pick}
 use Rattle.fault_script.specs.Fits.{Fits}
 use Rattle.fault_script.specs.Times.{commits, words as width_of}
-use Rattle.frame_model.specs.Flights.{draft}
+use Rattle.frame_model.specs.Flights.{draft, state_after}
 use Rattle.frame_model.specs.Storage.{image_bank_after, kernel_image, mark_after}
 use Rattle.fail_stop.specs.Consistency.{IsConsistent, Reads}
 use Rattle.fail_stop.specs.declared.snapshots.Snapshot.{Snapshot}
 use Rattle.fail_stop.specs.Drafts.{IsSnapshot, draft_made}
 use Rattle.fail_stop.specs.Ends.{IsOver, IsStoredLast}
-use Rattle.fail_stop.specs.Events.{BankWord, Happens, IsNext, KernelWord, MarkWord, Places, Word, writes}
+use Rattle.fail_stop.specs.Events.{BankWord, EndWord, Happens, IsNext, KernelWord, MarkWord, Places, ReleaseWord, Word, writes}
 use Rattle.fail_stop.specs.Flights.{Flies, bank_before, image_before, is_committed, mark_before, side, word_in}
 use Rattle.fail_stop.specs.Kept.{Kept, opening_places, opening_words}
 use Rattle.fail_stop.specs.Listed.{Moves, list_after, places_of_words, stored_in}
+use Rattle.fail_stop.specs.Openings.{opening_list}
 use Rattle.fail_stop.specs.Schedules.{IsSchedule, Machine, opening}
 use Rattle.fail_stop.specs.ScriptFlights.{flight_of, image_words_after, kernel_words}
 
@@ -36,6 +37,24 @@ FlightsAreOfTraces = (spec : Parts) (script : ScriptParts) → Fits spec script 
 abbrev pub OpeningKeeps : Type 0
 OpeningKeeps = (spec : Parts) (script : ScriptParts) → Fits spec script
     → Kept (flight_of spec script) opening_places (opening_words (flight_of spec script))
+
+-- What stands in a list of words before the first event: the release is 1, or 0 where no frame is flown; the kernel's words
+-- are those of frame 0; marks and end words are 0; bank 0 of each processor holds its image before frame 0, bank 1 zeros.
+pub record IsOpening (spec : Parts) (script : ScriptParts) (list : List ℕ) : Type 0 where
+  pub long : length list ≡ places_of_words
+  pub released : 0 < script.frames → stored_in list ReleaseWord ≡ 1
+  pub unreleased : script.frames ≡ 0 → stored_in list ReleaseWord ≡ 0
+  pub kernel : (i : ℕ) → i < 20 → stored_in list (KernelWord i) ≡ word_in (kernel_words spec script 0) i
+  pub mark : (p : ℕ) → p < length spec.procs → stored_in list (MarkWord p) ≡ 0
+  pub end : (p : ℕ) → p < length spec.procs → stored_in list (EndWord p) ≡ 0
+  pub image : (p i : ℕ) → p < length spec.procs → i < width_of spec
+      → stored_in list (BankWord p 0 i) ≡ word_in (image_words_after spec script p 0) i
+  pub empty : (p i : ℕ) → p < length spec.procs → i < width_of spec → stored_in list (BankWord p 1 i) ≡ 0
+
+-- The list in which the words are laid out at the opening has the opening words.
+abbrev pub OpeningListsAreOfScripts : Type 0
+OpeningListsAreOfScripts = (spec : Parts) (script : ScriptParts) → IsSpec spec
+    → IsOpening spec script (opening_list script.frames (kernel_words spec script 0) (state_after spec script 0).areas (state_after spec script 0).keepers)
 
 -- An event that is next of its actor keeps the invariant.
 abbrev pub EventsKeep : Type 0

@@ -1,7 +1,7 @@
 //! The law of events: what holds of places and words in each state of each schedule of a script that fits its
 //! specification, whoever halts and restarts. Each function states a part of it by its contract and does nothing.
 
-ghost use Rattle.fail_stop.specs.Laws.{BanksHoldTheLastStores, DraftsAreOfTraces, EventsKeep, EventsKeepLists, FlightsAreOfTraces, KernelImagesComeBack, KeptIsConsistent, MachineGoesOn, NotesFix, OpeningKeeps, ReadersFind, SchedulesKeep};
+ghost use Rattle.fail_stop.specs.Laws.{BanksHoldTheLastStores, DraftsAreOfTraces, EventsKeep, EventsKeepLists, FlightsAreOfTraces, KernelImagesComeBack, KeptIsConsistent, MachineGoesOn, NotesFix, OpeningKeeps, OpeningListsAreOfScripts, ReadersFind, SchedulesKeep};
 
 /// The flight of a script commits the frames and has the images of the one-thread trace.
 pub fn flights_are_of_traces()
@@ -11,6 +11,12 @@ pub fn flights_are_of_traces()
 /// The opening has the invariant.
 pub fn opening_keeps()
     ensures { OpeningKeeps }
+{}
+
+/// The list of words of which a flight opens has the opening word of each place: of the release, of the kernel, and of
+/// each processor its mark, its end word and both banks.
+pub fn opening_lists_are_of_scripts()
+    ensures { OpeningListsAreOfScripts }
 {}
 
 /// An event that is next of its actor keeps the invariant, whatever the others did meanwhile.

@@ -39,3 +39,12 @@ is_start Moved = false
 is_start (Saw snap) = false
 is_start Done = false
 is_start (Halted frame) = false
+
+-- It was a halt.
+abbrev pub is_halt : Made → Bool
+is_halt Nothing = false
+is_halt Started = false
+is_halt Moved = false
+is_halt (Saw snap) = false
+is_halt Done = false
+is_halt (Halted frame) = true

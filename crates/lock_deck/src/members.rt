@@ -1,10 +1,10 @@
 //! Processors with what they need in a flight. That the boxes fit is told by clauses, since no type can keep a fact of a
 //! box; the fields are public so that clauses can name them.
 
-ghost use Rattle.std.specs.Prelude.{◌≡◌, ◌<◌, ◌&&◌, false, length, IfSome, None, is_some};
+ghost use Rattle.std.specs.Prelude.{◌≡◌, ◌<◌, ◌&&◌, false, length, true, IfSome, None, Some, is_some};
 ghost use Rattle.app_model.specs.Racks.{RackFits};
 ghost use Rattle.coverage_check.specs.Missions.{MissionParts};
-ghost use Rattle.lock_deck.specs.Desks.{IfSaw, IsDraftOf, IsSnapshotOf, is_start};
+ghost use Rattle.lock_deck.specs.Desks.{IfSaw, IsDraftOf, IsSnapshotOf, is_halt, is_start};
 ghost use Rattle.lock_deck.specs.Members.{MemberFits};
 
 use crate::made::Made;
@@ -30,6 +30,10 @@ impl Member {
         requires rack { RackFits (λ b. kind_of (b.vtable, b.value)) rack.boxes.items }
         requires spare { RackFits (λ b. kind_of (b.vtable, b.value)) spare.boxes.items }
         ensures proc { result.proc ≡ proc }
+        ensures live { result.live ≡ Some (record { proc = proc; rack = rack }) }
+        ensures halted { result.halted ≡ None }
+        ensures spare { result.spare ≡ Some spare }
+        ensures drafted { result.drafted ≡ None }
         ensures fits { MemberFits (λ b. kind_of (b.vtable, b.value)) (λ r. r.boxes.items) mission.now result }
     {
         Member {
@@ -48,6 +52,8 @@ impl Member {
         requires fits { MemberFits (λ b. kind_of (b.vtable, b.value)) (λ r. r.boxes.items) mission.now self.old }
         ensures fits { MemberFits (λ b. kind_of (b.vtable, b.value)) (λ r. r.boxes.items) mission.now self.new }
         ensures proc { self.new.proc ≡ self.old.proc }
+        ensures halts { is_halt made.now ≡ true → self.new.live ≡ None }
+        ensures restarts { (is_start made.now && is_some self.old.halted) ≡ true → IfSome self.old.spare (λ rack. self.new.live ≡ Some (record { proc = self.old.proc; rack = rack })) }
         ensures spare { (is_start made.now && is_some self.old.halted) ≡ false → self.new.spare ≡ self.old.spare }
     {
         match made {
@@ -84,7 +90,9 @@ impl Member {
     }
 
     fn restart(&mut self)
-        requires { IfSome self.old.spare (λ rack. RackFits (λ b. kind_of (b.vtable, b.value)) rack.boxes.items) }
+        requires spare { IfSome self.old.spare (λ rack. RackFits (λ b. kind_of (b.vtable, b.value)) rack.boxes.items) }
+        requires halted { IfSome self.old.halted (λ halted. halted.proc ≡ self.old.proc) }
+        ensures lives { is_some self.old.halted ≡ true → IfSome self.old.spare (λ rack. self.new.live ≡ Some (record { proc = self.old.proc; rack = rack })) }
         ensures fits { (mission : MissionParts) → MemberFits (λ b. kind_of (b.vtable, b.value)) (λ r. r.boxes.items) mission self.old → MemberFits (λ b. kind_of (b.vtable, b.value)) (λ r. r.boxes.items) mission self.new }
         ensures proc { self.new.proc ≡ self.old.proc }
         ensures spare { is_some self.old.halted ≡ false → self.new.spare ≡ self.old.spare }

@@ -19,10 +19,10 @@ pub fn print_answer(
 ) -> io::Result<()> {
     match answer {
         Ok(flown) => print_flown(rt, spec, flown, row),
-        Err(ReplayError::Illegal(index, illegal)) => {
-            print_line(rt, &make_illegal_line(spec, *index, illegal))
+        Err(ReplayError::Illegal { index, given, next }) => {
+            print_line(rt, &make_illegal_line(spec, *index, *given, *next))
         }
-        Err(ReplayError::Short(events, next)) => {
+        Err(ReplayError::Short { events, next }) => {
             print_line(rt, &make_short_line(spec, *events, *next))
         }
         Err(ReplayError::NoMemory) => Err(ErrorKind::OutOfMemory.into()),

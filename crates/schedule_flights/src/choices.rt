@@ -1,10 +1,10 @@
 //! Who makes the next event.
 
-ghost use Rattle.std.specs.Prelude.{◌≡◌, ℕ, ◌+◌, ◌≤◌, ◌<◌, IfSome, None, nat_eq, if◌then◌else◌, length};
+ghost use Rattle.std.specs.Prelude.{◌≡◌, ℕ, ◌+◌, ◌-◌, ◌≤◌, ◌<◌, IfSome, None, nat_eq, if◌then◌else◌, length, option_map};
 ghost use Rattle.event_core.specs.Cores.{flown, standing, standing_words};
 ghost use Rattle.fail_stop.specs.Ends.{IsOver};
 ghost use Rattle.fail_stop.specs.Events.{IsNext};
-ghost use Rattle.schedule_flights.specs.Choices.{next_in_order};
+ghost use Rattle.schedule_flights.specs.Choices.{begin_of, chooser_after, chosen, first_chooser, first_from, first_in, generator_after, is_backwards, next_in_order, place_after, seed_of};
 
 use bank_words::Event;
 use event_core::Core;
@@ -37,28 +37,27 @@ pub(crate) struct Chooser {
 
 impl Chooser {
     /// Before the first choice.
-    pub(crate) fn new(rule: Rule) -> Chooser {
-        let seed = match rule {
-            Rule::Seeded(seed) => seed,
-            _ => 0,
-        };
+    pub(crate) fn new(rule: Rule) -> Chooser
+        ensures { result ≡ first_chooser rule }
+    {
         Chooser {
             rule,
             last: None,
-            generator: Pcg32::new(seed, 1),
+            generator: Pcg32::new(seed_of(rule), 1),
         }
     }
 
-    // The place among the actors, or the one past them, at which to look first.
+    // The place among the actors at which to look first.
     fn begin(&mut self, procs: usize) -> usize
         requires { procs ≤ 8 }
-        ensures { result ≤ procs + 1 }
+        ensures begin { result ≡ begin_of procs self.old }
+        ensures low { result ≤ procs }
+        ensures rule { self.new.rule ≡ self.old.rule }
+        ensures last { self.new.last ≡ self.old.last }
+        ensures generator { self.new.generator ≡ generator_after self.old.rule self.old.generator }
     {
         match self.rule {
-            Rule::InTurns => match self.last {
-                Some(place) => place % (procs + 1) + 1,
-                None => 0,
-            },
+            Rule::InTurns => place_after(procs, self.last),
             Rule::LeastFirst => 0,
             Rule::GreatestFirst => 0,
             Rule::KernelFirst => procs,
@@ -70,18 +69,57 @@ impl Chooser {
     pub(crate) fn choose(&mut self, core: &Core, procs: usize) -> Option<Event>
         requires procs { procs ≡ length core.now.spec.procs }
         requires few { procs ≤ 8 }
+        ensures event { result ≡ option_map (λ found. found.1) (chosen (flown core.now) (standing core.now) (standing_words core.now) self.old) }
+        ensures after { IfSome (chosen (flown core.now) (standing core.now) (standing_words core.now) self.old) (λ found. self.new ≡ chooser_after self.old found.0) }
         ensures next { IfSome result (IsNext (flown core.now) (standing core.now) (standing_words core.now)) }
         ensures over { result ≡ None → IsOver (flown core.now) (standing core.now) }
     {
         let backwards = is_backwards(self.rule);
         let begin = self.begin(procs);
-        let (place, event) = first_from(core, procs, backwards, begin)?;
-        self.last = Some(place);
-        Some(event)
+        match first_from(core, procs, backwards, begin) {
+            Some((place, event)) => {
+                self.last = Some(place);
+                Some(event)
+            }
+            None => None,
+        }
     }
 }
 
-fn is_backwards(rule: Rule) -> bool {
+// The seed of a rule, 0 where it has none.
+fn seed_of(rule: Rule) -> u64
+    ensures { result ≡ seed_of rule }
+{
+    match rule {
+        Rule::Seeded(seed) => seed,
+        Rule::InTurns => 0,
+        Rule::LeastFirst => 0,
+        Rule::GreatestFirst => 0,
+        Rule::KernelFirst => 0,
+    }
+}
+
+// The place after that of who made the last event; the first one behind the kernel, and before any event.
+fn place_after(procs: usize, last: Option<usize>) -> usize
+    requires { procs ≤ 8 }
+    ensures place { result ≡ place_after procs last }
+    ensures low { result ≤ procs }
+{
+    match last {
+        Some(place) => {
+            if place < procs {
+                place + 1
+            } else {
+                0
+            }
+        }
+        None => 0,
+    }
+}
+
+fn is_backwards(rule: Rule) -> bool
+    ensures { result ≡ is_backwards rule }
+{
     match rule {
         Rule::GreatestFirst => true,
         Rule::InTurns => false,
@@ -112,7 +150,8 @@ fn next_in_order(core: &Core, procs: usize, backwards: bool, place: usize) -> Op
 fn first_from(core: &Core, procs: usize, backwards: bool, begin: usize) -> Option<(usize, Event)>
     requires procs { procs ≡ length core.now.spec.procs }
     requires few { procs ≤ 8 }
-    requires begin { begin ≤ procs + 1 }
+    requires begin { begin ≤ procs }
+    ensures same { result ≡ first_from (next_in_order (flown core.now) (standing core.now) (standing_words core.now) backwards) procs begin }
     ensures next { IfSome result (λ found. IsNext (flown core.now) (standing core.now) (standing_words core.now) found.1) }
     ensures over { result ≡ None → IsOver (flown core.now) (standing core.now) }
 {
@@ -134,6 +173,7 @@ fn first_in(
     requires procs { procs ≡ length core.now.spec.procs }
     requires few { procs ≤ 8 }
     requires end { end ≤ procs + 1 }
+    ensures same { result ≡ first_in (next_in_order (flown core.now) (standing core.now) (standing_words core.now) backwards) begin (end - begin) }
     ensures next { IfSome result (λ found. IsNext (flown core.now) (standing core.now) (standing_words core.now) found.1) }
     ensures none { result ≡ None → (place : ℕ) → begin ≤ place → place < end → next_in_order (flown core.now) (standing core.now) (standing_words core.now) backwards place ≡ None }
 {

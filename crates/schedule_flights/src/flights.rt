@@ -1,14 +1,16 @@
 //! Flights to their end.
 
-ghost use Rattle.std.specs.Prelude.{◌≡◌, ◌<◌, IfOk, length};
+ghost use Rattle.std.specs.Prelude.{◌≡◌, ◌<◌, ◌≤◌, ◌⊎◌, ◌++◌, [], ◌∷◌, IfOk, length};
+ghost use Rattle.bank_words.specs.Events.{event_code};
 ghost use Rattle.app_model.specs.Racks.{RacksFit};
 ghost use Rattle.event_core.specs.Cores.{flown, standing, standing_words};
 ghost use Rattle.event_core.specs.Flyers.{FlyersFit};
 ghost use Rattle.event_core.specs.Rooms.{events_left};
 ghost use Rattle.event_core.specs.Stores.{IsEventWord};
 ghost use Rattle.fail_stop.specs.Ends.{IsOver};
-ghost use Rattle.fail_stop.specs.Events.{IsNext};
+ghost use Rattle.fail_stop.specs.Events.{Happens, IsNext};
 ghost use Rattle.fault_script.specs.Fits.{Fits};
+ghost use Rattle.schedule_flights.specs.Ruled.{IsByRule};
 
 use crate::choices::{Chooser, Rule};
 use app_model::Rack;
@@ -37,6 +39,7 @@ pub fn fly<'a>(
     requires spares { RacksFit (λ b. kind_of (b.vtable, b.value)) (λ r. r.boxes.items) spares.items }
     ensures spec { IfOk result (λ core. core.spec ≡ spec.now) }
     ensures script { IfOk result (λ core. core.script ≡ script.now) }
+    ensures rule { IfOk result (λ core. IsByRule (flown core) rule core.history (standing core) (standing_words core)) }
     ensures over { IfOk result (λ core. IsOver (flown core) (standing core)) }
 {
     let core = Core::open(alloc, spec, script)?;
@@ -44,7 +47,7 @@ pub fn fly<'a>(
     Ok(fly_on(core, spec, &mut flyers, rule))
 }
 
-/// Flies so many events of a specification and a script by a rule, or fewer where the flight is over before.
+/// Flies so many events of a specification and a script by a rule, and fewer only where the flight is over before.
 ///
 /// # Errors
 ///
@@ -63,6 +66,8 @@ pub fn fly_some<'a>(
     requires spares { RacksFit (λ b. kind_of (b.vtable, b.value)) (λ r. r.boxes.items) spares.items }
     ensures spec { IfOk result (λ core. core.spec ≡ spec.now) }
     ensures script { IfOk result (λ core. core.script ≡ script.now) }
+    ensures rule { IfOk result (λ core. IsByRule (flown core) rule core.history (standing core) (standing_words core)) }
+    ensures count { IfOk result (λ core. (length core.history ≡ events) ⊎ (IsOver (flown core) (standing core) × (length core.history < events))) }
 {
     let core = Core::open(alloc, spec, script)?;
     let mut flyers = make_flyers(alloc, racks, spares)?;
@@ -72,12 +77,15 @@ pub fn fly_some<'a>(
 // Flies to the end.
 fn fly_on<'a>(core: Core<'a>, spec: &Spec, flyers: &mut [Flyer], rule: Rule) -> Core<'a>
     requires spec { core.spec ≡ spec.now }
+    requires opened { core.history ≡ [] }
     requires fits { FlyersFit (λ b. kind_of (b.vtable, b.value)) (λ r. r.boxes.items) core.spec core.script flyers.old }
     ensures spec { result.spec ≡ core.entry.spec }
     ensures script { result.script ≡ core.entry.script }
+    ensures rule { IsByRule (flown result) rule result.history (standing result) (standing_words result) }
     ensures over { IsOver (flown result) (standing result) }
 {
     let mut core = core;
+    let _opened = core.history();
     let mut chooser = Chooser::new(rule);
     let procs = spec.procs.items().len();
     while let Some(event) = chooser.choose(&core, procs) {
@@ -95,11 +103,15 @@ fn fly_events<'a>(
     events: u32,
 ) -> Core<'a>
     requires spec { core.spec ≡ spec.now }
+    requires opened { core.history ≡ [] }
     requires fits { FlyersFit (λ b. kind_of (b.vtable, b.value)) (λ r. r.boxes.items) core.spec core.script flyers.old }
     ensures spec { result.spec ≡ core.entry.spec }
     ensures script { result.script ≡ core.entry.script }
+    ensures rule { IsByRule (flown result) rule result.history (standing result) (standing_words result) }
+    ensures count { (length result.history ≡ events) ⊎ (IsOver (flown result) (standing result) × (length result.history < events)) }
 {
     let mut core = core;
+    let _opened = core.history();
     let mut chooser = Chooser::new(rule);
     let procs = spec.procs.items().len();
     for _event in 0..events {
@@ -118,6 +130,8 @@ fn make(core: &mut Core, spec: &Spec, flyers: &mut [Flyer], event: Event)
     requires fits { FlyersFit (λ b. kind_of (b.vtable, b.value)) (λ r. r.boxes.items) core.old.spec core.old.script flyers.old }
     ensures spec { core.new.spec ≡ core.old.spec }
     ensures script { core.new.script ≡ core.old.script }
+    ensures happens { Happens (flown core.old) (standing core.old) (standing_words core.old) event (standing core.new) (standing_words core.new) }
+    ensures history { core.new.history ≡ core.old.history ++ event_code event ∷ [] }
     ensures fewer { events_left (flown core.new) (standing core.new) < events_left (flown core.old) (standing core.old) }
     ensures fits { FlyersFit (λ b. kind_of (b.vtable, b.value)) (λ r. r.boxes.items) core.old.spec core.old.script flyers.new }
 {
@@ -131,6 +145,8 @@ fn step(core: &mut Core, event: Event, word: u64)
     requires word { IsEventWord (flown core.old) (standing core.old) event word }
     ensures spec { core.new.spec ≡ core.old.spec }
     ensures script { core.new.script ≡ core.old.script }
+    ensures happens { Happens (flown core.old) (standing core.old) (standing_words core.old) event (standing core.new) (standing_words core.new) }
+    ensures history { core.new.history ≡ core.old.history ++ event_code event ∷ [] }
     ensures fewer { events_left (flown core.new) (standing core.new) < events_left (flown core.old) (standing core.old) }
 {
     match core.step(event, word) {

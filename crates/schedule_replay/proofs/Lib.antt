@@ -9,3 +9,4 @@ mod TurnsKnown
 mod EventsKnown
 mod Pending
 mod Unique
+mod LeastRule

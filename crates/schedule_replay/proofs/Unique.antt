@@ -9,7 +9,6 @@ use Rattle.scram_types.proofs.Options.{same_some}
 use Rattle.bank_words.specs.Events.{IsEvent, event_code, event_of}
 use Rattle.bank_words.specs.declared.events.Event.{Event}
 use Rattle.bank_words.specs.declared.events.Event.TheVariants.{Start, Look, Store, Flip, Done, Halt, KNote, KStore, Release}
-use Rattle.event_core.specs.declared.cores.Illegal.{Illegal}
 use Rattle.event_core.specs.Replays.{IsReplay}
 use Rattle.event_core.proofs.Bounds.{inside}
 use Rattle.event_core.proofs.Replays.{kernel_same, next_moved, next_same}
@@ -84,8 +83,8 @@ module _ (m : Flight) (few : m.procs ≤ 8) (narrow : m.width ≤ 64) where
       }
 
   -- no event of a schedule is out of turn
-  in_turn : (list : List ℕ) (at : Places) (words : Word → ℕ) (index : ℕ) (illegal : Illegal) → IsReplay m list at words → IsIllegal m list index illegal → ⊥
-  in_turn list at words index illegal r j =
+  in_turn : (list : List ℕ) (at : Places) (words : Word → ℕ) (index : ℕ) (given : Event) (told : Option Event) → IsReplay m list at words → IsIllegal m list index given told → ⊥
+  in_turn list at words index given told r j =
       let n = next_in (opening m) r.events r.state index j.code r.schedule (subst (λ (l : List ℕ). slice_get l index ≡ Some j.code) r.codes_are j.there) in
       let codes : map event_code n.before ≡ map event_code j.before.events = n.codes_are ∙ ap (take index) (sym r.codes_are) ∙ j.before.codes_are in
       let same = one_state (opening m) n.before j.before.events n.there j.before.state n.schedule j.before.schedule codes in
@@ -93,8 +92,8 @@ module _ (m : Flight) (few : m.procs ≤ 8) (narrow : m.width ≤ 64) where
       let placed : IsNext m j.at j.before.state.words n.event = subst (λ (a : Places). IsNext m a j.before.state.words n.event) (sym j.before.places_are) next in
       let here : IsNext m j.at j.words n.event = next_moved m j.at j.before.state.words j.words (λ w s. sym (j.before.words_are w s)) n.event placed in
       let coded : event_of j.code ≡ Some n.event = ap event_of (sym n.has_code) ∙ event_back n.event (small n.there.at n.there.words n.event n.next) in
-      let event : n.event ≡ illegal.given = same_some n.event illegal.given (sym coded ∙ j.given) in
-      j.not_next (j.next ∙ subst (λ (e : Event). next_of_actor m j.at j.words e ≡ Some e) event here)
+      let event : n.event ≡ given = same_some n.event given (sym coded ∙ j.given_is) in
+      j.not_next (j.next_is ∙ subst (λ (e : Event). next_of_actor m j.at j.words e ≡ Some e) event here)
 
   -- two replays of one list
   record Agrees (at : Places) (words : Word → ℕ) (at2 : Places) (words2 : Word → ℕ) : Type 0 where
@@ -144,15 +143,15 @@ module _ (m : Flight) (few : m.procs ≤ 8) (narrow : m.width ≤ 64) where
       let a = agree list s.at s.words t.at t.words s.replay t.replay in
       (s.count ∙ sym t.count, same_some next next2 (sym s.next_is ∙ moved_first s.at s.words t.at t.words a ∙ t.next_is))
 
-  cut : (list : List ℕ) (i j : ℕ) (illegal : Illegal) → i < j → IsIllegal m list i illegal → IsIllegal m (take j list) i illegal
-  cut list i j illegal less x = record {
+  cut : (list : List ℕ) (i j : ℕ) (given : Event) (next : Option Event) → i < j → IsIllegal m list i given next → IsIllegal m (take j list) i given next
+  cut list i j given next less x = record {
     at = x.at;
     words = x.words;
     before = subst (λ (l : List ℕ). IsReplay m l x.at x.words) (sym (taken_again list i j less)) x.before;
     code = x.code;
     there = got_again list i j less ∙ x.there;
-    given = x.given;
-    next = x.next;
+    given_is = x.given_is;
+    next_is = x.next_is;
     not_next = x.not_next;
   }
     where
@@ -168,26 +167,23 @@ module _ (m : Flight) (few : m.procs ≤ 8) (narrow : m.width ≤ 64) where
       got_again (x ∷ list) zero (suc j) less = refl
       got_again (x ∷ list) (suc i) (suc j) less = got_again list i j (omega arith)
 
-  earlier : (list : List ℕ) (i j : ℕ) (x y : Illegal) → i < j → IsIllegal m list i x → IsIllegal m list j y → ⊥
-  earlier list i j x y less one other = in_turn (take j list) other.at other.words i x other.before (cut list i j x less one)
+  module _ (list : List ℕ) (x y : Event) (next next2 : Option Event) where
+    earlier : (i j : ℕ) → i < j → IsIllegal m list i x next → IsIllegal m list j y next2 → ⊥
+    earlier i j less one other = in_turn (take j list) other.at other.words i x next other.before (cut list i j x next less one)
 
-  same_illegal : (x y : Illegal) → x.given ≡ y.given → x.next ≡ y.next → x ≡ y
-  same_illegal x y given next =
-      ap (λ (e : Event). record { given = e; next = x.next }) given ∙ ap (λ (o : Option Event). record { given = y.given; next = o }) next
+    here_same : (i : ℕ) → IsIllegal m list i x next → IsIllegal m list i y next2 → (x ≡ y) × (next ≡ next2)
+    here_same i one other =
+        let code = same_some one.code other.code (sym one.there ∙ other.there) in
+        let given : x ≡ y = same_some x y (sym one.given_is ∙ ap event_of code ∙ other.given_is) in
+        let a = agree (take i list) one.at one.words other.at other.words one.before other.before in
+        (given, one.next_is ∙ moved_actor one.at one.words other.at other.words x a ∙ ap (next_of_actor m other.at other.words) given ∙ sym other.next_is)
 
-  here_same : (list : List ℕ) (i : ℕ) (x y : Illegal) → IsIllegal m list i x → IsIllegal m list i y → x ≡ y
-  here_same list i x y one other =
-      let code = same_some one.code other.code (sym one.there ∙ other.there) in
-      let given : x.given ≡ y.given = same_some x.given y.given (sym one.given ∙ ap event_of code ∙ other.given) in
-      let a = agree (take i list) one.at one.words other.at other.words one.before other.before in
-      same_illegal x y given (one.next ∙ moved_actor one.at one.words other.at other.words x.given a ∙ ap (next_of_actor m other.at other.words) given ∙ sym other.next)
-
-  one_illegal : (list : List ℕ) (i j : ℕ) (x y : Illegal) → IsIllegal m list i x → IsIllegal m list j y → (i ≡ j) × (x ≡ y)
-  one_illegal list i j x y one other = elim (cases_order i j) [
-    | inl same ↦ (same, here_same list i x y one (subst (λ (k : ℕ). IsIllegal m list k y) (sym same) other))
+  one_illegal : (list : List ℕ) (i j : ℕ) (x y : Event) (next next2 : Option Event) → IsIllegal m list i x next → IsIllegal m list j y next2 → (i ≡ j) × (x ≡ y) × (next ≡ next2)
+  one_illegal list i j x y next next2 one other = elim (cases_order i j) [
+    | inl same ↦ let here = here_same list x y next next2 i one (subst (λ (k : ℕ). IsIllegal m list k y next2) (sym same) other) in (same, here.0, here.1)
     | inr apart ↦ absurd (elim apart [
-      | inl less ↦ earlier list i j x y less one other
-      | inr more ↦ earlier list j i y x more other one
+      | inl less ↦ earlier list x y next next2 i j less one other
+      | inr more ↦ earlier list y x next2 next j i more other one
     ])
   ]
 
@@ -198,17 +194,17 @@ module _ (spec : Parts) (script : ScriptParts) (list : List ℕ) (few : length s
   by_both : (one other : Result Flown ReplayError) → one ≢ Err error.NoMemory → other ≢ Err error.NoMemory
       → AnswersReplay spec script list one → AnswersReplay spec script list other → one ≡ other
   by_both (Ok one) (Ok other) a b x y = ap (λ (f : Flown). Ok f) (same_flown one other (x.1 ∙ sym y.1) (x.2 ∙ sym y.2))
-  by_both (Ok one) (Err (error.Illegal index illegal)) a b x y = absurd (in_turn (flight_of spec script) few narrow list x.0.at x.0.words index illegal x.0.replay y)
+  by_both (Ok one) (Err (error.Illegal index given next)) a b x y = absurd (in_turn (flight_of spec script) few narrow list x.0.at x.0.words index given next x.0.replay y)
   by_both (Ok one) (Err (error.Short events next)) a b x y = absurd (not_both (flight_of spec script) few narrow list x.0 events next y)
   by_both (Ok one) (Err error.NoMemory) a b x y = absurd (b refl)
-  by_both (Err (error.Illegal index illegal)) (Ok other) a b x y = absurd (in_turn (flight_of spec script) few narrow list y.0.at y.0.words index illegal y.0.replay x)
-  by_both (Err (error.Illegal i one)) (Err (error.Illegal j other)) a b x y =
-      let same = one_illegal (flight_of spec script) few narrow list i j one other x y in
-      ap (λ (k : ℕ). Err (error.Illegal k one)) same.0 ∙ ap (λ (z : Illegal). Err (error.Illegal j z)) same.1
-  by_both (Err (error.Illegal index illegal)) (Err (error.Short events next)) a b x y = absurd (in_turn (flight_of spec script) few narrow list y.at y.words index illegal y.replay x)
-  by_both (Err (error.Illegal index illegal)) (Err error.NoMemory) a b x y = absurd (b refl)
+  by_both (Err (error.Illegal index given next)) (Ok other) a b x y = absurd (in_turn (flight_of spec script) few narrow list y.0.at y.0.words index given next y.0.replay x)
+  by_both (Err (error.Illegal i one next)) (Err (error.Illegal j other next2)) a b x y =
+      let same = one_illegal (flight_of spec script) few narrow list i j one other next next2 x y in
+      ap (λ (k : ℕ). Err (error.Illegal k one next)) same.0 ∙ ap (λ (e : Event). Err (error.Illegal j e next)) same.1 ∙ ap (λ (o : Option Event). Err (error.Illegal j other o)) same.2
+  by_both (Err (error.Illegal index given told)) (Err (error.Short events next)) a b x y = absurd (in_turn (flight_of spec script) few narrow list y.at y.words index given told y.replay x)
+  by_both (Err (error.Illegal index given next)) (Err error.NoMemory) a b x y = absurd (b refl)
   by_both (Err (error.Short events next)) (Ok other) a b x y = absurd (not_both (flight_of spec script) few narrow list y.0 events next x)
-  by_both (Err (error.Short events next)) (Err (error.Illegal index illegal)) a b x y = absurd (in_turn (flight_of spec script) few narrow list x.at x.words index illegal x.replay y)
+  by_both (Err (error.Short events next)) (Err (error.Illegal index given told)) a b x y = absurd (in_turn (flight_of spec script) few narrow list x.at x.words index given told x.replay y)
   by_both (Err (error.Short events next)) (Err (error.Short events2 next2)) a b x y =
       let same = one_short (flight_of spec script) few narrow list events next events2 next2 x y in
       ap (λ (k : ℕ). Err (error.Short k next)) same.0 ∙ ap (λ (e : Event). Err (error.Short events2 e)) same.1

@@ -1,7 +1,6 @@
 -- The lines in which a schedule is refused.
 use Rattle.std.specs.Prelude.{ℕ, List, ◌++◌, Option, Some, None, codes, decimal}
 use Rattle.bank_words.specs.declared.events.Event.{Event}
-use Rattle.event_core.specs.declared.cores.Illegal.{Illegal}
 use Rattle.scram_types.specs.Specification.{Parts}
 use Rattle.schedule_replay.specs.declared.schedule_reading.ScheduleFault.{ScheduleFault}
 use Rattle.schedule_replay.specs.Events.{event_text}
@@ -16,9 +15,9 @@ abbrev pub fault_line : ScheduleFault → List ℕ
 fault_line fault = codes "refused: schedule rule " ++ decimal fault.rule ++ codes " at line " ++ decimal fault.line ++ codes "\n"
 
 -- The event of an index is not the next of its actor; what is next.
-abbrev pub illegal_line : Parts → ℕ → Illegal → List ℕ
-illegal_line spec index illegal =
-    codes "refused: schedule event " ++ decimal index ++ codes " " ++ event_text spec illegal.given ++ codes " next " ++ event_or_dash spec illegal.next ++ codes "\n"
+abbrev pub illegal_line : Parts → ℕ → Event → Option Event → List ℕ
+illegal_line spec index given next =
+    codes "refused: schedule event " ++ decimal index ++ codes " " ++ event_text spec given ++ codes " next " ++ event_or_dash spec next ++ codes "\n"
 
 -- So many events were made, and the flight is not over; what would come next.
 abbrev pub short_line : Parts → ℕ → Event → List ℕ

@@ -2,7 +2,6 @@
 use Rattle.std.specs.Prelude.{◌≡◌, ◌≢◌, ℕ, zero, suc, List, length, take, slice_get, Option, Some, None, Result, Ok, Err, ⊤}
 use Rattle.bank_words.specs.Events.{event_of}
 use Rattle.bank_words.specs.declared.events.Event.{Event}
-use Rattle.event_core.specs.declared.cores.Illegal.{Illegal}
 use Rattle.event_core.specs.Replays.{IsReplay}
 use Rattle.fail_stop.specs.Ends.{IsOver}
 use Rattle.fail_stop.specs.Events.{Places, Word, next_kernel, next_of, next_of_actor}
@@ -37,15 +36,15 @@ pub record IsWholeSchedule (m : Flight) (list : List ℕ) : Type 0 where
   pub over : IsOver m at
 
 -- The numbers before this place are the codes of a schedule, and behind it the event at this place is not the next of its actor.
-pub record IsIllegal (m : Flight) (list : List ℕ) (index : ℕ) (illegal : Illegal) : Type 0 where
+pub record IsIllegal (m : Flight) (list : List ℕ) (index : ℕ) (given : Event) (next : Option Event) : Type 0 where
   pub at : Places
   pub words : Word → ℕ
   pub before : IsReplay m (take index list) at words
   pub code : ℕ
   pub there : slice_get list index ≡ Some code
-  pub given : event_of code ≡ Some illegal.given
-  pub next : illegal.next ≡ next_of_actor m at words illegal.given
-  pub not_next : illegal.next ≢ Some illegal.given
+  pub given_is : event_of code ≡ Some given
+  pub next_is : next ≡ next_of_actor m at words given
+  pub not_next : next ≢ Some given
 
 -- The numbers are the codes of a schedule at whose end the machine is not over.
 pub record IsShort (m : Flight) (list : List ℕ) (events : ℕ) (next : Event) : Type 0 where
@@ -60,6 +59,6 @@ pub record IsShort (m : Flight) (list : List ℕ) (events : ℕ) (next : Event) 
 -- where the list ends too early.
 abbrev pub AnswersReplay : Parts → ScriptParts → List ℕ → Result Flown ReplayError → Type 0
 AnswersReplay spec script list (Ok flown) = IsWholeSchedule (flight_of spec script) list × (flown.rows ≡ rows_of spec script) × (flown.reports ≡ reports_of spec script)
-AnswersReplay spec script list (Err (error.Illegal index illegal)) = IsIllegal (flight_of spec script) list index illegal
+AnswersReplay spec script list (Err (error.Illegal index given next)) = IsIllegal (flight_of spec script) list index given next
 AnswersReplay spec script list (Err (error.Short events next)) = IsShort (flight_of spec script) list events next
 AnswersReplay spec script list (Err error.NoMemory) = ⊤

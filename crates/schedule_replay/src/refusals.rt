@@ -8,7 +8,6 @@ ghost use Rattle.schedule_replay.specs.Refusals.{event_or_dash, fault_line, ille
 use crate::event_lines::add_event;
 use crate::schedule_reading::ScheduleFault;
 use bank_words::Event;
-use event_core::Illegal;
 use scram_types::Spec;
 use trace_text::lines::Line;
 
@@ -26,16 +25,16 @@ pub fn make_fault_line(fault: ScheduleFault) -> Line
 }
 
 /// The event of this index, counted from 0, is not the next of its actor; what is next, or `-`.
-pub fn make_illegal_line(spec: &Spec, index: u32, illegal: &Illegal) -> Line
-    ensures { result ≡ illegal_line spec.now index illegal.now }
+pub fn make_illegal_line(spec: &Spec, index: u32, given: Event, next: Option<Event>) -> Line
+    ensures { result ≡ illegal_line spec.now index given next }
 {
     let mut line = Line::new();
     line.text(b"refused: schedule event ");
     line.number(index);
     line.text(b" ");
-    add_event(&mut line, spec, illegal.given);
+    add_event(&mut line, spec, given);
     line.text(b" next ");
-    add_event_or_dash(&mut line, spec, illegal.next);
+    add_event_or_dash(&mut line, spec, next);
     line.text(b"\n");
     line
 }

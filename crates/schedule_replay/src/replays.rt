@@ -19,18 +19,23 @@ use crate::turns::proc_count;
 use app_model::Rack;
 use bank_words::{Event, event_of};
 use event_core::flyers::{Flyer, make_flyers, word_of};
-use event_core::{Core, Illegal};
+use event_core::Core;
 use scram_types::{Flown, NoMemory, ProcId, Script, Spec};
 use std::alloc::Global;
 
 /// Why a list was not flown as a schedule to the end.
 #[derive(Clone, Copy, Debug)]
 pub enum ReplayError {
-    /// The event at this place, counted from 0, is the first that is not the next of its actor.
-    Illegal(u32, Illegal),
+    /// The event at this place, counted from 0, is the first that is not the next of its actor; what is next of that actor,
+    /// if anything is.
+    Illegal {
+        index: u32,
+        given: Event,
+        next: Option<Event>,
+    },
     /// All events of the list, of this number, were made, and the flight is not over. The event is the next of the least
     /// processor that has one, else of the kernel.
-    Short(u32, Event),
+    Short { events: u32, next: Event },
     /// No memory was to be had.
     NoMemory,
 }
@@ -114,7 +119,11 @@ fn make(core: &mut Core, spec: &Spec, flyers: &mut Vec<Flyer>, code: u32) -> Res
     let word = word_where_next(core, spec, flyers, event);
     match core.step(event, word) {
         Ok(()) => Ok(()),
-        Err(illegal) => Err(ReplayError::Illegal(index, illegal)),
+        Err(illegal) => Err(ReplayError::Illegal {
+            index,
+            given: illegal.given,
+            next: illegal.next,
+        }),
     }
 }
 
@@ -158,7 +167,10 @@ fn land(core: Core, spec: &Spec, events: &[u32]) -> Result<Flown, ReplayError>
     ensures { AnswersReplay core.entry.spec core.entry.script events.now result }
 {
     match pending(&core, spec) {
-        Some(next) => Err(ReplayError::Short(events_made(&core), next)),
+        Some(next) => Err(ReplayError::Short {
+            events: events_made(&core),
+            next,
+        }),
         None => Ok(core.finish()),
     }
 }

@@ -123,7 +123,7 @@ props_zero spec name before after reads text (inr is) = unread_zero MAX_TRACE_BY
 replayed_zero : (spec : Parts) (script : ScriptParts) (list : List ℕ) (flown : Result Flown ReplayError) (text : List ℕ) → AnswersReplay spec script list flown
     → Gives (replay_answer spec script flown) ANSWERED text → IsWholeSchedule (flight_of spec script) list × Gives (ANSWERED, flight_text Trace spec script) ANSWERED text
 replayed_zero spec script list (Ok flown) text answers gives = (answers.0, gives)
-replayed_zero spec script list (Err (replay_error.Illegal index illegal)) text answers gives = not_zero 11 _ text gives
+replayed_zero spec script list (Err (replay_error.Illegal index given next)) text answers gives = not_zero 11 _ text gives
 replayed_zero spec script list (Err (replay_error.Short events next)) text answers gives = not_zero 11 _ text gives
 replayed_zero spec script list (Err replay_error.NoMemory) text answers gives = not_zero 8 _ text gives
 

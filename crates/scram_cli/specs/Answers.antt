@@ -168,7 +168,7 @@ long_schedule = (BROKEN_SCHEDULE, fault_line (record { line = 0; rule = schedule
 -- one thread.
 abbrev pub replay_answer : Parts → ScriptParts → Result Flown ReplayError → ℕ × List ℕ
 replay_answer spec script (Ok flown) = (ANSWERED, flight_text Trace spec script)
-replay_answer spec script (Err (replay_error.Illegal index illegal)) = (BROKEN_SCHEDULE, illegal_line spec index illegal)
+replay_answer spec script (Err (replay_error.Illegal index given next)) = (BROKEN_SCHEDULE, illegal_line spec index given next)
 replay_answer spec script (Err (replay_error.Short events next)) = (BROKEN_SCHEDULE, short_line spec events next)
 replay_answer spec script (Err replay_error.NoMemory) = (WANTING_MEMORY, memory_line)
 

@@ -185,11 +185,11 @@ fn replay_mission<K: Sink>(
     let script = mission.script();
     match replay(alloc, spec, script, boxes.racks, boxes.spares, list) {
         Ok(flown) => tell_flown(out, mission, &flown, FlightText::Trace),
-        Err(ReplayError::Illegal(index, illegal)) => {
-            let line = make_illegal_line(spec, index, &illegal);
+        Err(ReplayError::Illegal { index, given, next }) => {
+            let line = make_illegal_line(spec, index, given, next);
             tell_line(out, BROKEN_SCHEDULE, &line)
         }
-        Err(ReplayError::Short(events, next)) => {
+        Err(ReplayError::Short { events, next }) => {
             tell_line(out, BROKEN_SCHEDULE, &make_short_line(spec, events, next))
         }
         Err(ReplayError::NoMemory) => refuse_memory(out),

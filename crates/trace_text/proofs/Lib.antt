@@ -12,7 +12,7 @@ mod RowOnly
 mod AppOnly
 mod ReportOnly
 mod TraceOnly
-mod FirstBroken
+pub mod FirstBroken
 mod LeastRules
 pub mod WordBytes
 pub mod NamesBack

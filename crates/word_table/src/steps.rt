@@ -14,7 +14,7 @@ ghost use Rattle.word_table.specs.Tables.{IsSeatOf, flight_in, mission_in, seat_
 use crate::actors::{Ends, Halts, Looks, Starts, Stores};
 use crate::seats::Seat;
 use crate::tables::WordTable;
-use bank_words::{KernelImage, decode, kernel_decode};
+use bank_words::{KernelImage, decode, kernel_decode, mark_word};
 use fail_stop::law::kernel_images_come_back;
 use fail_stop::words::{bank_index, end_index, mark_index};
 use scram_types::{Image, ProcId};
@@ -105,7 +105,7 @@ impl WordTable {
         ensures tries { tries_of seat.new ≡ tries_of seat.old }
     {
         let bank = self.bank_picked(&mut seat.inner, seat.frame, seat.proc);
-        let mark = 2 * (u64::from(seat.frame) + 1) + (1 - bank as u64);
+        let mark = mark_word(seat.frame + 1, 1 - bank as u8);
         let at = mark_index(seat.proc);
         self.table.shared.store::<Stores>(&mut seat.inner, at, mark);
         seat.step += 1;

@@ -22,7 +22,7 @@ returns-in-Err-clause-refused g c = λ list before there.
       before = subst (λ (codes : List ℕ). IsReplay (flown core) codes (standing core) (standing_words core)) (sym (ap (λ (n : ℕ). take n list) count ∙ before)) c.events_made-index.ensures.schedule;
       code = c.args.code;
       there = ap (λ (n : ℕ). slice_get list n) count ∙ there;
-      given = c.event_at-event.ensures ∙ ap (λ (e : Event). Some e) (sym refused.1);
-      next = refused.2 ∙ ap (λ (e : Event). next_of_actor (flown core) (standing core) (standing_words core) e) (sym refused.1);
+      given_is = c.event_at-event.ensures ∙ ap (λ (e : Event). Some e) (sym refused.1);
+      next_is = refused.2 ∙ ap (λ (e : Event). next_of_actor (flown core) (standing core) (standing_words core) e) (sym refused.1);
       not_next = λ same. refused.0 (sym refused.2 ∙ same ∙ ap (λ (e : Event). Some e) refused.1);
     }

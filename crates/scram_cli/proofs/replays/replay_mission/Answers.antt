@@ -28,7 +28,7 @@ pub returns-in-Err-Illegal-clause-tells : goal.returns-in-Err-Illegal-clause-tel
 returns-in-Err-Illegal-clause-tells g c =
     let spec = c.args.mission.now.spec in
     let script = c.args.mission.now.script in
-    let flown = Err (Illegal c.in-Err-Illegal.index c.in-Err-Illegal.illegal) in
+    let flown = Err (Illegal c.in-Err-Illegal.index c.in-Err-Illegal.given c.in-Err-Illegal.next) in
     let answers : AnswersReplay spec script c.args.list.now flown = refused c.args.list.now _ _ _ _ _ _ c.spec-spec.ensures c.script-script.ensures c.in-Err-Illegal.field-0-is c.in-Err-Illegal.ensures in
     tells_other (Gives (replay_answer spec script flown)) (IsReplayAnswer spec script c.args.list.now) _ _ _
     (λ status text gives. record { flown = flown; answers = answers; had_memory = λ e. cc; gives = gives })

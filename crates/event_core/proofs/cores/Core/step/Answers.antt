@@ -11,6 +11,11 @@ use Rattle.event_core.proofs.Ending.{Ends, core_on, core_still, ends, goes_on}
 use Rattle.event_core.proofs.Steps.{fewer_by, happens, happens_by, has_room, kept_of, less, low, moves_on, step_keeps}
 use Rattle.event_core.proofs.cores.Core.step.Goals as goal
 
+pub store-requires-clause-room : goal.store-requires-clause-room
+store-requires-clause-room c =
+    let next : IsNext (flight_of c.self.inside.spec.now c.self.inside.script.now) (machine_places c.self.inside.places) (stored_in c.self.inside.stored.items) c.args.event = search rules in
+    moves_on _ _ _ _ _ _ _ c.self.invariant.machine c.args.event next
+
 pub places_after-self-inside-requires-clause-room : goal.places_after-self-inside-requires-clause-room
 places_after-self-inside-requires-clause-room c =
     let next : IsNext (flight_of c.self.inside.spec.now c.self.inside.script.now) (machine_places c.self.inside.places) (stored_in c.self.inside.stored.items) c.args.event = search rules in

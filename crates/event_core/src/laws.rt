@@ -1,0 +1,9 @@
+//! What holds of histories: each function states a law by its contract and does nothing.
+
+ghost use Rattle.event_core.specs.Counts.{HistoriesTellFrames};
+
+/// The history tells how many frames have ended: the kernel stands in the frame of as many releases, and a frame has ended for
+/// each note of all processors.
+pub fn histories_tell_frames()
+    ensures { HistoriesTellFrames }
+{}
