@@ -1,6 +1,6 @@
 //! Flights to their end.
 
-ghost use Rattle.std.specs.Prelude.{◌≡◌, ◌<◌, ◌≤◌, ◌⊎◌, ◌++◌, [], ◌∷◌, IfOk, length};
+ghost use Rattle.std.specs.Prelude.{◌≡◌, ◌<◌, ◌≤◌, ◌⊎◌, ◌++◌, [], ◌∷◌, IfOk, length, vec_len};
 ghost use Rattle.bank_words.specs.Events.{event_code};
 ghost use Rattle.event_core.specs.Cores.{flown, standing, standing_words};
 ghost use Rattle.event_core.specs.Flyers.{FlyersFit};
@@ -34,6 +34,8 @@ pub fn fly<'a>(
     rule: Rule,
 ) -> Result<Core<'a>, NoMemory>
     requires script { Fits spec.now script.now }
+    requires racks { vec_len racks ≡ 8 }
+    requires spares { vec_len spares ≡ 8 }
     ensures spec { IfOk result (λ core. core.spec ≡ spec.now) }
     ensures script { IfOk result (λ core. core.script ≡ script.now) }
     ensures rule { IfOk result (λ core. IsByRule (flown core) rule core.history (standing core) (standing_words core)) }
@@ -59,6 +61,8 @@ pub fn fly_some<'a>(
     events: u32,
 ) -> Result<Core<'a>, NoMemory>
     requires script { Fits spec.now script.now }
+    requires racks { vec_len racks ≡ 8 }
+    requires spares { vec_len spares ≡ 8 }
     ensures spec { IfOk result (λ core. core.spec ≡ spec.now) }
     ensures script { IfOk result (λ core. core.script ≡ script.now) }
     ensures rule { IfOk result (λ core. IsByRule (flown core) rule core.history (standing core) (standing_words core)) }

@@ -1,6 +1,6 @@
 //! A schedule flown on one thread.
 
-ghost use Rattle.std.specs.Prelude.{◌≡◌, ◌++◌, ◌∷◌, [], ℕ, List, Err, IfErr, IfOk, IfSome, None, Some, length, slice_get, take};
+ghost use Rattle.std.specs.Prelude.{◌≡◌, ◌++◌, ◌∷◌, [], ℕ, List, Err, IfErr, IfOk, IfSome, None, Some, length, slice_get, take, vec_len};
 ghost use Rattle.bank_words.specs.Events.{event_of};
 ghost use Rattle.event_core.specs.Cores.{flown, standing, standing_words};
 ghost use Rattle.event_core.specs.Flyers.{FlyersFit};
@@ -64,6 +64,8 @@ pub fn replay(
     events: &[u32],
 ) -> Result<Flown, ReplayError>
     requires script { Fits spec.now script.now }
+    requires racks { vec_len racks ≡ 8 }
+    requires spares { vec_len spares ≡ 8 }
     requires codes { AreCodes spec.now events.now }
     ensures { AnswersReplay spec.now script.now events.now result }
 {
