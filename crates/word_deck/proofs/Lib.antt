@@ -4,3 +4,4 @@ pub mod Places
 pub mod Listing
 pub mod Outcomes
 pub mod Sharing
+pub mod Units

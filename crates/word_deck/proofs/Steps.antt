@@ -1,5 +1,5 @@
 -- The next step of a processor within a frame.
-use Rattle.std.proofs.Common.{◌≡◌, ◌∙◌, ℕ, zero, suc, ℤ, pos, List, [], ◌∷◌, length, ◌+◌, ◌<◌, ◌≤◌, ap, sym, refl, arith, true, false}
+use Rattle.std.proofs.Common.{◌≡◌, ◌∙◌, ℕ, zero, suc, ℤ, pos, List, length, ◌+◌, ◌<◌, ◌≤◌, ap, sym, refl, arith, true, false}
 use Rattle.std.specs.Prelude.{option_map, Option, Some, None, map, slice_index_or}
 use Rattle.std.proofs.lemmas.Bool.Decides.{nat_tests}
 use Rattle.scram_types.specs.declared.scripts.HaltAt.{HaltAt}

@@ -2,12 +2,11 @@
 use Rattle.std.specs.Prelude.{◌≡◌, ℕ, suc, ◌<◌, Bool, true, false, not, List, Option, Some, None, IfSome, is_some, if◌then◌else◌, nat_eq, nat_lt}
 use Rattle.app_model.specs.declared.racks.Rack.{Rack}
 use Rattle.app_model.specs.Racks.{RackFits}
-use Rattle.fail_stop.specs.declared.units.Halted.{Halted as HaltedUnit}
 use Rattle.fail_stop.specs.declared.units.Live.{Live}
 use Rattle.fail_stop.specs.Events.{At, Halted, Place, frame_of}
 use Rattle.fail_stop.specs.Flights.{Flight}
 use Rattle.word_table.specs.declared.tables.WordTable.{WordTable}
-use Rattle.word_table.specs.Actors.{frame_awaited, is_halted, steps_of}
+use Rattle.word_table.specs.Actors.{frame_awaited, steps_of}
 use Rattle.word_table.specs.Tables.{IsSeatOf, flight_in, seat_place, proc_of}
 use Rattle.word_deck.specs.declared.crews.Crew.{Crew}
 use Rattle.word_deck.specs.declared.turns.Turn.{Turn}
@@ -45,31 +44,25 @@ tries_after NotYet tries = suc tries
 tries_after Worked tries = tries
 tries_after Finished tries = tries
 
--- A crew's unit is that of processor p, and the boxes of its racks fit. How a box's kind is read, and a rack's boxes, are
--- arguments.
-pub record UnitFits {X : Type 0} {Y : X → Type 0} {B : Type 0} (kind : B → ℕ) (boxes : Rack X Y → List B) (p : ℕ) (crew : Crew X Y) : Type 0 where
-  pub live_fits : IfSome crew.live (λ (live : Live X Y). (live.proc.0 ≡ p) × RackFits kind (boxes live.rack))
-  pub halted_fits : IfSome crew.halted (λ (halted : HaltedUnit). halted.proc.0 ≡ p)
+-- The boxes of a crew's racks fit. How a box's kind is read, and a rack's boxes, are arguments.
+pub record UnitFits {X : Type 0} {Y : X → Type 0} {B : Type 0} (kind : B → ℕ) (boxes : Rack X Y → List B) (crew : Crew X Y) : Type 0 where
+  pub live_fits : IfSome crew.live (λ (live : Live X Y). RackFits kind (boxes live.rack))
   pub spare_fits : IfSome crew.spare (λ (rack : Rack X Y). RackFits kind (boxes rack))
 
 -- Of processor p, which stands in frame f or has halted there, there is the rack for a restart that is still to come.
 abbrev pub HasSpare : {R : Type 0} → Flight → ℕ → ℕ → Option R → Type 0
 HasSpare m p f spare = (r : ℕ) → m.restart p ≡ Some r → f < r → is_some spare ≡ true
 
--- A crew is one of this table between two turns: its unit has halted exactly where its seat has, and else lives.
+-- A crew is one of this table between two turns.
 pub record CrewFits {X : Type 0} {Y : X → Type 0} {B : Type 0} (kind : B → ℕ) (boxes : Rack X Y → List B) (words : WordTable) (crew : Crew X Y) : Type 0 where
   pub seated : IsSeatOf words crew.seat
   pub begin : steps_of (seat_place crew.seat) ≡ 0
-  pub lives : is_some crew.live ≡ not (is_halted (seat_place crew.seat))
-  pub has_halted : is_some crew.halted ≡ is_halted (seat_place crew.seat)
-  pub unit : UnitFits kind boxes (proc_of crew.seat) crew
+  pub unit : UnitFits kind boxes crew
   pub spare_left : HasSpare (flight_in words) (proc_of crew.seat) (frame_of (seat_place crew.seat)) crew.spare
 
--- A crew is one of this table after n steps of a frame: its unit lives.
+-- A crew is one of this table after n steps of a frame.
 pub record CrewFlies {X : Type 0} {Y : X → Type 0} {B : Type 0} (kind : B → ℕ) (boxes : Rack X Y → List B) (words : WordTable) (n : ℕ) (crew : Crew X Y) : Type 0 where
   pub seated : IsSeatOf words crew.seat
   pub after : IsAfter n (seat_place crew.seat)
-  pub lives : is_some crew.live ≡ true
-  pub has_halted : is_some crew.halted ≡ false
-  pub unit : UnitFits kind boxes (proc_of crew.seat) crew
+  pub unit : UnitFits kind boxes crew
   pub spare_left : HasSpare (flight_in words) (proc_of crew.seat) (frame_of (seat_place crew.seat)) crew.spare

@@ -1,4 +1,5 @@
 pub mod Frames
+pub mod Keeping
 pub mod Crews
 pub mod Kernels
 pub mod Berths

@@ -1,18 +1,10 @@
-//! Processors with what they need in a flight. That their boxes fit is told by clauses, since no type can keep a fact of
-//! a box; the fields are public so that clauses can name them.
+//! Processors with what they need in a flight. The type keeps that the unit is that of the seat, and lives exactly where
+//! that has not halted. That the boxes fit is told by clauses, since no type can keep a fact of a box; the fields are
+//! public so that clauses can name them.
 
-ghost use Rattle.std.specs.Prelude.{◌≡◌, ◌↔◌, ◌+◌, ◌<◌, IfSome, MatchOption, false, if◌then◌else◌, is_some, length, not, true};
+ghost use Rattle.std.specs.Prelude.{◌≡◌, IfSome, ℕ, false, is_some, not, true};
 ghost use Rattle.app_model.specs.Racks.{RackFits};
-ghost use Rattle.frame_model.specs.Flights.{draft};
-ghost use Rattle.frame_model.specs.Storage.{kernel_image};
-ghost use Rattle.fail_stop.specs.Drafts.{IsSnapshot};
-ghost use Rattle.fail_stop.specs.Ends.{IsDone};
-ghost use Rattle.fail_stop.specs.Events.{At, frame_of};
-ghost use Rattle.word_table.specs.Actors.{Waits, frame_awaited, mission_flight};
-ghost use Rattle.word_table.specs.Tables.{IsSeatOf, flight_in, mission_in, seat_place, proc_of, tries_of};
-ghost use Rattle.word_deck.specs.Crews.{CrewFits, CrewFlies, UnitFits, after_frame, is_done, place_after, tries_after};
-ghost use Rattle.word_table.specs.declared.tables.WordTable as word_tables;
-ghost use Rattle.word_deck.specs.declared.turns.Turn.TheVariants.{Finished, Worked};
+ghost use Rattle.word_deck.specs.Keeping.{CrewKeeps};
 
 use crate::frames::{commit, halt_after, look_at_all};
 use crate::turns::Turn;
@@ -32,9 +24,22 @@ pub struct Crew {
     pub live: Option<Live>,
     pub halted: Option<Halted>,
     pub spare: Option<Rack>,
+    ghost keeps: { CrewKeeps seat live halted },
 }
 
 impl Crew {
+    ghost use Rattle.std.specs.Prelude.{◌↔◌, ◌+◌, ◌<◌, MatchOption, if◌then◌else◌, length};
+    ghost use Rattle.frame_model.specs.Flights.{draft};
+    ghost use Rattle.frame_model.specs.Storage.{kernel_image};
+    ghost use Rattle.fail_stop.specs.Drafts.{IsSnapshot};
+    ghost use Rattle.fail_stop.specs.Ends.{IsDone};
+    ghost use Rattle.fail_stop.specs.Events.{At, frame_of};
+    ghost use Rattle.word_table.specs.Actors.{Waits, frame_awaited, is_halted, mission_flight};
+    ghost use Rattle.word_table.specs.Tables.{IsSeatOf, flight_in, mission_in, seat_place, proc_of, tries_of};
+    ghost use Rattle.word_deck.specs.Crews.{CrewFits, CrewFlies, UnitFits, after_frame, is_done, place_after, tries_after};
+    ghost use Rattle.word_table.specs.declared.tables.WordTable as word_tables;
+    ghost use Rattle.word_deck.specs.declared.turns.Turn.TheVariants.{Finished, Worked};
+
     /// A processor at its opening place, with its unit and the rack for its restart. It takes no memory.
     pub fn processor(seat: Seat, live: Live, spare: Rack) -> Crew
         requires opening { seat_place seat ≡ At 0 0 }
@@ -115,26 +120,8 @@ impl Crew {
         ensures image { IfSome result (λ image. image ≡ kernel_image (mission_in words.now).spec (mission_in words.now).script (frame_awaited (flight_in words.now) (proc_of self.old.seat) (seat_place self.old.seat))) }
     {
         let image = words.started(&mut self.seat)?;
-        self.restart();
+        restart_unit(&mut self.live, &mut self.halted, &mut self.spare);
         Some(image)
-    }
-
-    // A unit that has halted lives again in the spare rack, which is left alone otherwise.
-    fn restart(&mut self)
-        requires one { is_some self.old.live ≡ not (is_some self.old.halted) }
-        requires spare { is_some self.old.halted ≡ true → is_some self.old.spare ≡ true }
-        requires fits { UnitFits (λ b. kind_of (b.vtable, b.value)) (λ r. r.boxes.items) (proc_of self.old.seat) self.old }
-        ensures seat { self.new.seat ≡ self.old.seat }
-        ensures lives { is_some self.new.live ≡ true }
-        ensures halted { is_some self.new.halted ≡ false }
-        ensures spare { is_some self.old.halted ≡ false → self.new.spare ≡ self.old.spare }
-        ensures fits { UnitFits (λ b. kind_of (b.vtable, b.value)) (λ r. r.boxes.items) (proc_of self.old.seat) self.new }
-    {
-        if let Some(halted) = self.halted.take() {
-            if let Some(spare) = self.spare.take() {
-                self.live = Some(halted.restart(spare));
-            }
-        }
     }
 
     // Flies the frame that has been started: looks, draft, and the steps up to the halt or the end.
@@ -157,16 +144,14 @@ impl Crew {
     // What the unit, which lives, drafts in the frame of this snapshot.
     #[tactic(auto, using(crate::proofs::Steps::drafted_by))]
     fn draft(&mut self, mission: &Mission, snap: &Snapshot) -> Image
-        requires lives { is_some self.old.live ≡ true }
+        requires lives { is_halted (seat_place self.old.seat) ≡ false }
         requires known { proc_of self.old.seat < length mission.now.spec.procs }
-        requires fits { UnitFits (λ b. kind_of (b.vtable, b.value)) (λ r. r.boxes.items) (proc_of self.old.seat) self.old }
+        requires fits { UnitFits (λ b. kind_of (b.vtable, b.value)) (λ r. r.boxes.items) self.old }
         requires snap { IsSnapshot mission.now.spec mission.now.script (frame_of (seat_place self.old.seat)) snap.now }
         ensures image { result ≡ draft mission.now.spec mission.now.script (proc_of self.old.seat) (frame_of (seat_place self.old.seat)) }
         ensures seat { self.new.seat ≡ self.old.seat }
-        ensures lives { is_some self.new.live ≡ true }
-        ensures halted { self.new.halted ≡ self.old.halted }
         ensures spare { self.new.spare ≡ self.old.spare }
-        ensures fits { UnitFits (λ b. kind_of (b.vtable, b.value)) (λ r. r.boxes.items) (proc_of self.old.seat) self.new }
+        ensures fits { UnitFits (λ b. kind_of (b.vtable, b.value)) (λ r. r.boxes.items) self.new }
     {
         mission.holds();
         match &mut self.live {
@@ -192,24 +177,41 @@ impl Crew {
         match halt_in(mission.script(), self.seat.proc(), frame) {
             Some(halt) => {
                 halt_after(words, &mut self.seat, image, width, u32::from(halt.step));
-                self.halt(frame);
+                halt_unit(&mut self.live, &mut self.halted, frame);
             }
             None => commit(words, &mut self.seat, image, width),
         }
     }
+}
 
-    // The unit, which lives, halts in this frame.
-    fn halt(&mut self, frame: u32)
-        requires lives { is_some self.old.live ≡ true }
-        requires fits { UnitFits (λ b. kind_of (b.vtable, b.value)) (λ r. r.boxes.items) (proc_of self.old.seat) self.old }
-        ensures seat { self.new.seat ≡ self.old.seat }
-        ensures lives { is_some self.new.live ≡ false }
-        ensures halted { is_some self.new.halted ≡ true }
-        ensures spare { self.new.spare ≡ self.old.spare }
-        ensures fits { UnitFits (λ b. kind_of (b.vtable, b.value)) (λ r. r.boxes.items) (proc_of self.old.seat) self.new }
-    {
-        if let Some(live) = self.live.take() {
-            self.halted = Some(live.halt(frame));
+// A unit that has halted lives again in the spare rack, which is left alone otherwise.
+fn restart_unit(live: &mut Option<Live>, halted: &mut Option<Halted>, spare: &mut Option<Rack>)
+    requires one { is_some live.old ≡ not (is_some halted.old) }
+    requires spare { is_some halted.old ≡ true → is_some spare.old ≡ true }
+    requires live_fits { IfSome live.old (λ live. RackFits (λ b. kind_of (b.vtable, b.value)) live.rack.boxes.items) }
+    requires spare_fits { IfSome spare.old (λ rack. RackFits (λ b. kind_of (b.vtable, b.value)) rack.boxes.items) }
+    ensures lives { is_some live.new ≡ true }
+    ensures halted { is_some halted.new ≡ false }
+    ensures spare { is_some halted.old ≡ false → spare.new ≡ spare.old }
+    ensures number { (p : ℕ) → IfSome live.old (λ live. live.proc.0 ≡ p) → IfSome halted.old (λ halted. halted.proc.0 ≡ p) → IfSome live.new (λ live. live.proc.0 ≡ p) }
+    ensures live_fits { IfSome live.new (λ live. RackFits (λ b. kind_of (b.vtable, b.value)) live.rack.boxes.items) }
+    ensures spare_fits { IfSome spare.new (λ rack. RackFits (λ b. kind_of (b.vtable, b.value)) rack.boxes.items) }
+{
+    if let Some(unit) = halted.take() {
+        if let Some(rack) = spare.take() {
+            *live = Some(unit.restart(rack));
         }
+    }
+}
+
+// The unit, which lives, halts in this frame.
+fn halt_unit(live: &mut Option<Live>, halted: &mut Option<Halted>, frame: u32)
+    requires lives { is_some live.old ≡ true }
+    ensures lives { is_some live.new ≡ false }
+    ensures halted { is_some halted.new ≡ true }
+    ensures number { (p : ℕ) → IfSome live.old (λ live. live.proc.0 ≡ p) → IfSome halted.new (λ halted. halted.proc.0 ≡ p) }
+{
+    if let Some(unit) = live.take() {
+        *halted = Some(unit.halt(frame));
     }
 }

@@ -96,6 +96,7 @@ impl<'a> WordFlight<'a> {
         ensures count { length result.flown.rows ≡ self.entry.mission.now.script.frames }
         ensures few { length result.flown.reports ≤ length result.flown.rows }
         ensures mission { result.words.mission ≡ self.entry.mission }
+        ensures table { result.words.table.table ≡ self.entry.words.table }
         ensures kernel { IsKernelSeatOf result.words.table result.kseat }
         ensures kernel_done { IsKernelDone (length self.entry.mission.now.spec.procs) self.entry.mission.now.script.frames result.kseat }
         ensures seats { AreSeatsOf result.words.table result.seats.items }
@@ -113,6 +114,7 @@ impl<'a> WordFlight<'a> {
         ensures count { length result.flown.rows ≡ self.entry.mission.now.script.frames }
         ensures few { length result.flown.reports ≤ length result.flown.rows }
         ensures mission { result.words.mission ≡ self.entry.mission }
+        ensures table { result.words.table.table ≡ self.entry.words.table }
         ensures kernel { IsKernelSeatOf result.words.table result.kseat }
         ensures kernel_done { IsKernelDone (length self.entry.mission.now.spec.procs) self.entry.mission.now.script.frames result.kseat }
         ensures seats { AreSeatsOf result.words.table result.seats.items }

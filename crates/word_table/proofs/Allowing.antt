@@ -18,7 +18,7 @@ use Rattle.word_table.specs.declared.actors.Actor.{Actor}
 use Rattle.word_table.specs.declared.actors.Actor.TheVariants.{Runs, Stopped, Kernel}
 use Rattle.word_table.specs.declared.actors.View.{View}
 use Rattle.word_table.specs.Actors.{Waits, actor_at, awaited, begun, halted_actor, mission_flight, next_frame, one_more, restart_or, tried}
-use Rattle.word_table.specs.Plays.{GoesOrTries, Has, Sat, can_note, each_actor, finishes_frame, halts, looks, may_start, notes, reads, starts, stores}
+use Rattle.word_table.specs.Plays.{AwaitsEnd, AwaitsRelease, GoesWhereItWaits, Has, Sat, TellsNote, TellsStart, can_note, each_actor, finishes_frame, halts, looks, may_start, notes, reads, starts, stores}
 use Rattle.word_table.specs.Rule.{Ruled}
 use Rattle.word_table.proofs.Seating.{IsSound, kernel_by, kernel_stands, loaded, set_same, shown, stands, stepped_by}
 
@@ -106,11 +106,11 @@ module _ (mission : MissionParts) (slots id : ℕ) (me : Sat) (y : IsSound (miss
   -- the load of the release makes the start, from a halted place too, or is a try
   module _ (p f : ℕ) (x : Place) (l : p < m.procs) (alone : me.0.actors ≡ actor_at p x ∷ []) (planned : me.0.mission ≡ Some mission)
       (next : (release : ℕ) → nat_lt f release ≡ true → next_from m p release x ≡ Some (Start (proc_id p))) (to : moved m (Start (proc_id p)) p x ≡ At f 1)
-      (wait : awaited m (actor_at p x) ≡ f) (go : begun m (actor_at p x) ≡ Runs p f 1) where
+      (wait : awaited m (actor_at p x) ≡ f) (go : begun m (actor_at p x) ≡ Runs p f 1) (awaits : AwaitsRelease m 0 (actor_at p x ∷ [])) where
     start_told : (w : View) (n : ℕ) (b : Bool) → nat_lt f n ≡ b → MatchBool b (Has (w, me.1) (each_actor (begun m) me.0)) (Has (w, me.1) (tried me.0)) → starts (step slots 0 0 0 none) me n (w, me.1)
     start_told w n b is told =
-        subst (λ (o : Option MissionParts). IfSome o (λ mission. GoesOrTries (may_start (mission_flight mission) me.0.actors n) (begun (mission_flight mission)) me.0 (w, me.1))) (sym planned)
-        (subst (λ (actors : List Actor). GoesOrTries (may_start m actors n) (begun m) me.0 (w, me.1)) (sym alone) (rw (wait, is) told))
+        subst (λ (o : Option MissionParts). IfSome o (λ mission. TellsStart (mission_flight mission) 0 n me.0 (w, me.1))) (sym planned)
+        (subst (λ (actors : List Actor). GoesWhereItWaits (AwaitsRelease m 0 actors) (may_start m actors n) (begun m) me.0 (w, me.1)) (sym alone) ((λ waits. rw (wait, is) told), λ none. absurd (none awaits)))
 
     start_by : (s : State (Unit {0}) View) (r : Ruled m mission s) → get_elem? s.views id ≡ some me.0 → (b : Bool) → nat_lt f (slice_index s.words 0) ≡ b
         → (w : View) × (a : Act (Unit {0})) × Valid s.homes me.1 a × Ruled m mission (stepped s 0 (slice_index s.words 0) id me.1 w a) × starts (step slots 0 0 0 none) me (slice_index s.words 0) (w, carried_after me.1 a)
@@ -134,27 +134,27 @@ module _ (mission : MissionParts) (slots id : ℕ) (me : Sat) (y : IsSound (miss
       → Allows (Ruled m mission) slots id me 0 (λ n. n) (starts (step slots 0 0 0 none) me)
   back_allows p h None l alone planned is waits = absurd (omega arith)
   back_allows p h (Some g) l alone planned is waits =
-      start_any p g (Halted h) l alone planned (λ release b. rw (is, lt-ltb h g waits, b) refl) (rw is refl) (rw is refl) (rw is refl)
+      start_any p g (Halted h) l alone planned (λ release b. rw (is, lt-ltb h g waits, b) refl) (rw is refl) (rw is refl) (rw is refl) (refl, rw is waits)
 
   pub start_allows : (p : ℕ) (x : Place) → p < m.procs → me.0.actors ≡ actor_at p x ∷ [] → me.0.mission ≡ Some mission → Waits m p x
       → Allows (Ruled m mission) slots id me 0 (λ n. n) (starts (step slots 0 0 0 none) me)
   start_allows p (At f zero) l alone planned waits =
-      start_any p f (At f 0) l alone planned (λ release b. rw (lt-ltb f m.frames waits.1, b) refl) refl refl refl
+      start_any p f (At f 0) l alone planned (λ release b. rw (lt-ltb f m.frames waits.1, b) refl) refl refl refl (refl, waits)
   start_allows p (At f (suc n)) l alone planned waits = absurd (let none = waits.0 in omega (arith, none))
   start_allows p (Halted h) l alone planned waits = back_allows p h (m.restart p) l alone planned refl waits
 
   -- the load of an end word makes the note, or is a try
   module _ (k p : ℕ) (l : p < m.procs) (flown : k < m.frames) (alone : me.0.actors ≡ Kernel k p ∷ []) (planned : me.0.mission ≡ Some mission) where
-    note_told : (w : View) (n : ℕ) (b : Bool) → may_note m p k n ≡ b → MatchBool b (Has (w, me.1) (each_actor one_more me.0)) (Has (w, me.1) (tried me.0))
-        → IfSome me.0.mission (λ mission. GoesOrTries (can_note (mission_flight mission) me.0.actors n) one_more me.0 (w, me.1))
-    note_told w n b is told =
-        subst (λ (o : Option MissionParts). IfSome o (λ mission. GoesOrTries (can_note (mission_flight mission) me.0.actors n) one_more me.0 (w, me.1))) (sym planned)
-        (subst (λ (actors : List Actor). GoesOrTries (can_note m actors n) one_more me.0 (w, me.1)) (sym alone) (rw is told))
+    note_told : (i : ℕ) → i ≡ index_of (EndWord p) → (w : View) (n : ℕ) (b : Bool) → may_note m p k n ≡ b → MatchBool b (Has (w, me.1) (each_actor one_more me.0)) (Has (w, me.1) (tried me.0))
+        → IfSome me.0.mission (λ mission. TellsNote (mission_flight mission) i n me.0 (w, me.1))
+    note_told i place w n b is told =
+        subst (λ (o : Option MissionParts). IfSome o (λ mission. TellsNote (mission_flight mission) i n me.0 (w, me.1))) (sym planned)
+        (subst (λ (actors : List Actor). GoesWhereItWaits (AwaitsEnd m i actors) (can_note m actors n) one_more me.0 (w, me.1)) (sym alone) ((λ waits. rw is told), λ none. absurd (none (flown, l, place))))
 
     note_by : (i : ℕ) (s : State (Unit {0}) View) (r : Ruled m mission s) → i ≡ index_of (EndWord p) → get_elem? s.views id ≡ some me.0 → (b : Bool) → may_note m p k (slice_index s.words i) ≡ b
         → (w : View) × (a : Act (Unit {0})) × Valid s.homes me.1 a × Ruled m mission (stepped s i (slice_index s.words i) id me.1 w a) × notes (step slots i 0 0 none) me (slice_index s.words i) (w, carried_after me.1 a)
     note_by i s r place here false b =
-        (tried me.0, keeps, tt, loaded m mission s id me.0 y r here (tried me.0) i refl refl, (note_told (tried me.0) (slice_index s.words i) false b (refl, empty), shown mission s id me.0 i r here planned))
+        (tried me.0, keeps, tt, loaded m mission s id me.0 y r here (tried me.0) i refl refl, (note_told i place (tried me.0) (slice_index s.words i) false b (refl, empty), shown mission s id me.0 i r here planned))
     note_by i s r place here true b =
         let there : (r.at.frame ≡ k) × (r.at.step ≡ p) = kernel_stands m mission s id me.0 y r here k p alone in
         let may : may_note m p k (stored_in s.words (EndWord p)) ≡ true = rw place at b in
@@ -163,7 +163,7 @@ module _ (mission : MissionParts) (slots id : ℕ) (me : Sat) (y : IsSound (miss
           keeps,
           tt,
           kernel_by m mission s id me.0 y r here k p alone (KNote (proc_id p)) (λ x. refl) k (suc p) there.0 (ap (λ (z : ℕ). suc z) there.1) i (slice_index s.words i) go (set_same s.words i) one_more refl,
-          (note_told (each_actor one_more me.0) (slice_index s.words i) true b (refl, empty), shown mission s id me.0 i r here planned),
+          (note_told i place (each_actor one_more me.0) (slice_index s.words i) true b (refl, empty), shown mission s id me.0 i r here planned),
         )
 
     pub note_allows : (i : ℕ) → i ≡ index_of (EndWord p) → Allows (Ruled m mission) slots id me i (λ n. n) (notes (step slots i 0 0 none) me)

@@ -1,5 +1,5 @@
 -- The last words, as they are read one after another.
-use Rattle.std.proofs.Common.{◌≡◌, ◌∙◌, ℕ, zero, suc, ℤ, pos, ◌+◌, ◌<◌, refl, sym, ap, arith, List, [], ◌∷◌, ◌++◌, length}
+use Rattle.std.proofs.Common.{◌≡◌, ◌∙◌, ℕ, zero, suc, ℤ, pos, ◌+◌, ◌<◌, ◌≤◌, refl, sym, ap, arith, List, [], ◌∷◌, ◌++◌, length}
 use Rattle.std.specs.Prelude.{Some, replicate, slice_get, slice_index, slice_index_or, slice_set}
 use Rattle.std.proofs.lemmas.Grind.{get_or-set_at}
 use Rattle.std.proofs.lemmas.List.{get_or-set_other, length-set}
@@ -8,7 +8,7 @@ use native.Mathlib.Decide.{ℕ_discrete}
 use lib.ListN.{get_elem?}
 use Rattle.bank_words.specs.Numbers.{decode}
 use Rattle.word_table.specs.declared.seats.Seat.{Seat}
-use Rattle.word_table.specs.Closing.{AreLast, IsStoredImage}
+use Rattle.word_table.specs.Closing.{AreLast, AreNobodys, IsStoredImage}
 
 pub index_is : (l : List ℕ) (i w : ℕ) → get_elem? l i ≡ some w → slice_index l i ≡ w
 index_is [] i w there = absurd (some-ne-none w (sym there))
@@ -47,6 +47,16 @@ one_last list width p marks images mark image long longer low before last q most
         let at_mark : slice_index (slice_set marks p mark) q ≡ slice_index marks q = get_or-set_other marks p q mark 0 d in
         let at_image : slice_index_or (slice_set images p image) q [] ≡ slice_index_or images q [] = get_or-set_other images p q image [] d in
         rw (at_mark, at_image) (before q (omega (arith, most, d)))
+
+-- what stands past the processors that have been read stays as it is
+pub nobodys_left : (p : ℕ) (marks : List ℕ) (images : List (List ℤ)) (mark : ℕ) (image : List ℤ) → ((q : ℕ) → p ≤ q → q < 8 → AreNobodys (slice_index marks q) (slice_index_or images q []))
+    → (q : ℕ) → p + 1 ≤ q → q < 8 → AreNobodys (slice_index (slice_set marks p mark) q) (slice_index_or (slice_set images p image) q [])
+nobodys_left p marks images mark image before q least most =
+    let other : ¬ (q ≡ p) = λ same. omega (arith, same, least) in
+    let was = before q (omega (arith, least)) most in (
+      get_or-set_other marks p q mark 0 other ∙ was.0,
+      get_or-set_other images p q image [] other ∙ was.1,
+    )
 
 -- a seat that an iterator gives is one of those that it was made of
 at_front : (l rest : List Seat) (x : Seat) → slice_get (l ++ x ∷ rest) (length l) ≡ Some x

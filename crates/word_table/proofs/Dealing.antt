@@ -1,14 +1,15 @@
 -- The opening, splits and joins keep the rule on words and views.
-use Rattle.std.proofs.Common.{◌≡◌, ◌≢◌, ◌⊎◌, ℕ, zero, suc, ◌<◌, Bool, true, false, refl, sym, ap, subst, ◌∙◌, inl, inr, arith, List, [], ◌∷◌, ◌++◌, length}
+use Rattle.std.proofs.Common.{◌≡◌, ◌≢◌, ◌⊎◌, ℕ, zero, suc, ◌+◌, ◌<◌, ◌≤◌, Bool, true, false, refl, sym, ap, subst, ◌∙◌, inl, inr, arith, List, [], ◌∷◌, ◌++◌, length}
 use Rattle.std.specs.Prelude.{Option, Some, None, nat_eq, if◌then◌else◌, slice_set}
 use Rattle.std.proofs.lemmas.Bool.{eq-eqb}
 use Rattle.std.proofs.lemmas.Bool.Decides.{nat_tests}
 use Rattle.std.proofs.lemmas.Grind.{common_steps}
 use mathlib.Core.Option.{some, some-injective, some-ne-none}
+use native.Mathlib.Decide.{ℕ_discrete}
 use lib.ListN.{get_elem?}
 use Rattle.atomic_table.specs.Table.{State, Splits, Joins}
 use Rattle.atomic_table.specs.Table as table
-use Rattle.atomic_table.proofs.Lists.{at_set}
+use Rattle.atomic_table.proofs.Lists.{at_last, at_longer, at_set, set_else}
 use Rattle.coverage_check.specs.Missions.{MissionParts}
 use Rattle.fail_stop.specs.Events.{IsStored, Places, Word}
 use Rattle.fail_stop.specs.Flights.{Flight}
@@ -20,8 +21,8 @@ use Rattle.word_table.specs.declared.actors.Actor.{Actor}
 use Rattle.word_table.specs.declared.actors.View.{View}
 use Rattle.word_table.specs.Actors.{mission_flight, who, with_actor, with_actors}
 use Rattle.word_table.specs.Plays.{all_actors, first_actor, first_of, other_actors, others_of, spent}
-use Rattle.word_table.specs.Rule.{AreApart, Hosts, IsNotIn, Ruled, first_view, opening_actors}
-use Rattle.word_table.proofs.Seating.{IsSound}
+use Rattle.word_table.specs.Rule.{AreApart, Hosts, IsActorOf, IsAmong, IsNotIn, IsViewOf, Ruled, first_view, opening_actors}
+use Rattle.word_table.proofs.Seating.{IsSound, set_there, view_after, view_same}
 
 opt_eq : Option ℕ → Option ℕ → Bool
 opt_eq None None = true
@@ -73,6 +74,11 @@ at_end (x ∷ xs) a b (suc j) e = end_more xs a b j (at_end xs a b j e)
 long_views : (l : List View) (i : ℕ) (v : View) → length (slice_set l i v) ≡ length l
 long_views l i v = grind (arith, common_steps)
 
+differs_of : (q o : Option ℕ) (l : List Actor) → IsNotIn q l → IsAmong o l → o ≢ q
+differs_of q o [] apart none = absurd none
+differs_of q o (a ∷ rest) apart (inl is) = λ e. apart.0 (is ∙ e)
+differs_of q o (a ∷ rest) apart (inr more) = differs_of q o rest apart.1 more
+
 -- a split gives up one actor
 module _ (m : Flight) (mission : MissionParts) (id : ℕ) (v : View) (a : Actor) (rest : List Actor) (alone : v.actors ≡ a ∷ rest) (s : State (Unit {0}) View) (r : Ruled m mission s) (here : get_elem? s.views id ≡ some v) where
   hosted : Hosts r.at r.home id (a ∷ rest)
@@ -94,6 +100,40 @@ module _ (m : Flight) (mission : MissionParts) (id : ℕ) (v : View) (a : Actor)
     split_each j u (inr t) =
         let e : j ≡ n = t.0 ∙ long_views s.views id (with_actors v rest) ∙ is in
         rw (← t.1, e) (home_there r.home (who a) n, hosted.1, tt)
+
+    abbrev split_views : List View
+    split_views = slice_set s.views id (with_actors v rest) ++ with_actor v a ∷ []
+
+    split_left : (o : Option ℕ) → r.home o ≡ id → IsAmong o rest → IsViewOf split_views o (r.home o)
+    split_left o same among = record {
+      view = with_actors v rest;
+      there = ap (λ k. get_elem? split_views k) same ∙ at_longer (slice_set s.views id (with_actors v rest)) (with_actor v a ∷ []) id (with_actors v rest) (set_there s.views id v (with_actors v rest) here);
+      among = among;
+    }
+
+    split_new : (o : Option ℕ) → who a ≡ o → IsViewOf split_views o (moved_home r.home (who a) n o)
+    split_new o same = record {
+      view = with_actor v a;
+      there =
+          ap (λ k. get_elem? split_views k) (ap (moved_home r.home (who a) n) (sym same) ∙ home_there r.home (who a) n)
+          ∙ at_last (slice_set s.views id (with_actors v rest)) (with_actor v a) n (long_views s.views id (with_actors v rest) ∙ is);
+      among = inl same;
+    }
+
+    split_here : (o : Option ℕ) → r.home o ≡ id → IsAmong o (a ∷ rest) → IsViewOf split_views o (moved_home r.home (who a) n o)
+    split_here o same (inl own) = split_new o own
+    split_here o same (inr more) = subst (IsViewOf split_views o) (sym (home_else r.home (who a) n o (differs_of (who a) o rest differ.0 more))) (split_left o same more)
+
+    split_viewed : (o : Option ℕ) → IsViewOf s.views o (r.home o) → Dec (r.home o ≡ id) → IsViewOf split_views o (moved_home r.home (who a) n o)
+    split_viewed o had (yes d) =
+        split_here o d (subst (λ (l : List Actor). IsAmong o l) alone (subst (λ (u : View). IsAmong o u.actors) (view_same s.views (r.home o) id had.view v d had.there here) had.among))
+    split_viewed o had (no d) =
+        let other : o ≢ who a = λ e. d (ap r.home e ∙ hosted.0) in
+        subst (IsViewOf split_views o) (sym (home_else r.home (who a) n o other)) record {
+          view = had.view;
+          there = at_longer (slice_set s.views id (with_actors v rest)) (with_actor v a ∷ []) (r.home o) had.view (set_else s.views id (r.home o) (with_actors v rest) d ∙ had.there);
+          among = had.among;
+        }
 
   split_plan_set : (j : ℕ) (u : View) → ((j ≡ id) × (with_actors v rest ≡ u)) ⊎ ((j ≢ id) × (get_elem? s.views j ≡ some u)) → u.actors ≢ [] → u.mission ≡ Some mission
   split_plan_set j u (inl t) g = rw (← t.1) planned_here
@@ -120,6 +160,7 @@ module _ (m : Flight) (mission : MissionParts) (id : ℕ) (v : View) (a : Actor)
     each = λ j u g. split_each (length s.views) refl j u (at_end (slice_set s.views id (with_actors v rest)) (with_actor v a) u j g);
     planned = λ j u g. split_plan j u (at_end (slice_set s.views id (with_actors v rest)) (with_actor v a) u j g);
     apart = λ j u g. split_apart j u (at_end (slice_set s.views id (with_actors v rest)) (with_actor v a) u j g);
+    has_view = λ o is. split_viewed (length s.views) refl o (r.has_view o is) (ℕ_discrete (r.home o) id);
   }
 
 pub split_allows : (m : Flight) (mission : MissionParts) (id : ℕ) (v : View) (a : Actor) (rest : List Actor) → v.actors ≡ a ∷ rest → Splits {S = Unit {0}} (Ruled m mission) id v (other_actors v) (first_actor v)
@@ -159,6 +200,15 @@ apart_append at home id other [] k n hl hk a b = b
 apart_append at home id other (x ∷ l) k n hl hk a b =
     (not_append (who x) l k a.0 (not_in_of at home (who x) other k (λ e. n (e ∙ hl.0)) hk), apart_append at home id other l k n hl.2 hk a.1 b)
 
+in_front : (o : Option ℕ) (l k : List Actor) → IsAmong o l → IsAmong o (l ++ k)
+in_front o [] k none = absurd none
+in_front o (a ∷ l) k (inl is) = inl is
+in_front o (a ∷ l) k (inr more) = inr (in_front o l k more)
+
+in_back : (o : Option ℕ) (l k : List Actor) → IsAmong o k → IsAmong o (l ++ k)
+in_back o [] k among = among
+in_back o (a ∷ l) k among = inr (in_back o l k among)
+
 module _ (m : Flight) (mission : MissionParts) (id : ℕ) (v : View) (other : ℕ) (w : View) (some_actor : v.actors ≢ []) (s : State (Unit {0}) View) (r : Ruled m mission s) (here : get_elem? s.views id ≡ some v) (n : other ≢ id) (there : get_elem? s.views other ≡ some w) where
   hosts_both : Hosts r.at (joined_home r.home id other) id (v.actors ++ w.actors)
   hosts_both = hosts_append r.at (joined_home r.home id other) id v.actors w.actors (hosts_else r.at r.home id other id v.actors (λ e. n (sym e)) (r.each id v here)) (hosts_to r.at r.home id other w.actors (r.each other w there))
@@ -187,6 +237,25 @@ module _ (m : Flight) (mission : MissionParts) (id : ℕ) (v : View) (other : �
   join_apart j u (inl t) = rw (← t.1) tt
   join_apart j u (inr t) = join_apart_inner j u (at_set s.views id j (all_actors v w) u t.1)
 
+  abbrev join_views : List View
+  join_views = slice_set (slice_set s.views id (all_actors v w)) other spent
+
+  join_viewed : (o : Option ℕ) → IsViewOf s.views o (r.home o) → Dec (r.home o ≡ other) → IsViewOf join_views o (joined_home r.home id other o)
+  join_viewed o had (yes d) = record {
+    view = all_actors v w;
+    there =
+        ap (λ k. get_elem? join_views k) (join_to r.home id other o d)
+        ∙ set_else (slice_set s.views id (all_actors v w)) other id spent (λ e. n (sym e)) ∙ set_there s.views id v (all_actors v w) here;
+    among = in_back o v.actors w.actors (subst (λ (u : View). IsAmong o u.actors) (view_same s.views (r.home o) other had.view w d had.there there) had.among);
+  }
+  join_viewed o had (no d) =
+      let first : IsViewOf (slice_set s.views id (all_actors v w)) o (r.home o) = view_after s.views id v (all_actors v w) here (λ q. in_front q v.actors w.actors) o (r.home o) had in
+      subst (IsViewOf join_views o) (sym (join_else r.home id other o d)) record {
+        view = first.view;
+        there = set_else (slice_set s.views id (all_actors v w)) other (r.home o) spent d ∙ first.there;
+        among = first.among;
+      }
+
   join_rule : Ruled m mission record { words = s.words; homes = s.homes; views = slice_set (slice_set s.views id (all_actors v w)) other spent }
   join_rule = record {
     at = r.at;
@@ -196,6 +265,7 @@ module _ (m : Flight) (mission : MissionParts) (id : ℕ) (v : View) (other : �
     each = λ j u g. join_each j u (at_set (slice_set s.views id (all_actors v w)) other j spent u g);
     planned = λ j u g. join_plan j u (at_set (slice_set s.views id (all_actors v w)) other j spent u g);
     apart = λ j u g. join_apart j u (at_set (slice_set s.views id (all_actors v w)) other j spent u g);
+    has_view = λ o is. join_viewed o (r.has_view o is) (ℕ_discrete (r.home o) other);
   }
 
 was_there : (l : List View) (id other : ℕ) (b w : View) → other ≢ id → ((other ≡ id) × (b ≡ w)) ⊎ ((other ≢ id) × (get_elem? l other ≡ some w)) → get_elem? l other ≡ some w
@@ -219,6 +289,22 @@ opening_hosted : (p n : ℕ) → Hosts opening_places (λ q. 0) 0 (opening_actor
 opening_hosted p zero = (refl, (refl, refl), tt)
 opening_hosted p (suc n) = (refl, refl, opening_hosted (suc p) n)
 
+kernel_in : (p n : ℕ) → IsAmong None (opening_actors p n)
+kernel_in p zero = inl refl
+kernel_in p (suc n) = inr (kernel_in (suc p) n)
+
+processor_in : (q p n : ℕ) → p ≤ q → q < p + n → IsAmong (Some q) (opening_actors p n)
+processor_in q p zero low high = absurd (omega (arith, low, high))
+processor_in q p (suc n) low high = by_place (ℕ_discrete p q) (λ d. processor_in q (suc p) n (omega (arith, low, d)) (omega (arith, high)))
+  where
+    by_place : Dec (p ≡ q) → (p ≢ q → IsAmong (Some q) (opening_actors (suc p) n)) → IsAmong (Some q) (opening_actors p (suc n))
+    by_place (yes d) later = inl (ap (λ (z : ℕ). Some z) d)
+    by_place (no d) later = inr (later d)
+
+opening_in : (m : Flight) (o : Option ℕ) → IsActorOf m o → IsAmong o (opening_actors 0 m.procs)
+opening_in m None is = kernel_in 0 m.procs
+opening_in m (Some p) low = processor_in p 0 m.procs (omega arith) (omega (arith, low))
+
 one_view : (v u : View) (j : ℕ) → get_elem? (v ∷ []) j ≡ some u → (j ≡ 0) × (v ≡ u)
 one_view v u zero e = (refl, some-injective v u e)
 one_view v u (suc j) e = absurd (some-ne-none u (sym e))
@@ -241,4 +327,5 @@ module _ (mission : MissionParts) (list : List ℕ) (y : IsSound (mission_flight
         subst (λ (w : View). Hosts opening_places (λ q. 0) j w.actors) o.1 (subst (λ (z : ℕ). Hosts opening_places (λ q. 0) z (first_view mission).actors) (sym o.0) (opening_hosted 0 m.procs));
     planned = λ j u g n. let o = one_view (first_view mission) u j g in rw (← o.1) refl;
     apart = λ j u g. let o = one_view (first_view mission) u j g in subst (λ (w : View). AreApart w.actors) o.1 (opening_apart 0 m.procs);
+    has_view = λ o is. record { view = first_view mission; there = refl; among = opening_in m o is };
   }

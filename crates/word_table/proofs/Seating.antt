@@ -1,15 +1,16 @@
 -- A step of a seat keeps the rule on words and views.
-use Rattle.std.proofs.Common.{◌≡◌, ◌≢◌, ◌⊎◌, ℕ, zero, suc, ◌≤◌, false, refl, sym, ap, subst, ◌∙◌, inl, inr, arith, List, [], ◌∷◌, map, length}
+use Rattle.std.proofs.Common.{◌≡◌, ◌≢◌, ◌⊎◌, ℕ, zero, suc, ◌<◌, ◌≤◌, false, refl, sym, ap, subst, ◌∙◌, inl, inr, arith, List, [], ◌∷◌, map, length}
 use Rattle.std.specs.Prelude.{Option, Some, None, IfSome, nat_eq, slice_index, slice_set}
 use Rattle.std.proofs.lemmas.Grind.{common_steps}
-use mathlib.Core.Option.{some}
+use mathlib.Core.Option.{some, some-injective, some-ne-none}
+use native.Mathlib.Decide.{ℕ_discrete}
 use lib.ListN.{get_elem?}
 use Rattle.scram_types.specs.Specification.{IsSpec}
 use Rattle.bank_words.specs.declared.events.Event.{Event}
 use Rattle.coverage_check.specs.Missions.{MissionParts}
 use Rattle.fault_script.specs.Fits.{Fits}
 use Rattle.atomic_table.specs.Table.{State, keeps, stepped}
-use Rattle.atomic_table.proofs.Lists.{at_set}
+use Rattle.atomic_table.proofs.Lists.{at_set, set_else, set_here}
 use Rattle.fail_stop.specs.Events.{Place, At, Halted, Places, IsNext, writes, is_actor, moved, places_after, frame_after, step_after}
 use Rattle.fail_stop.specs.Flights.{Flies, Flight}
 use Rattle.fail_stop.specs.Listed.{HoldsWords, Moves, list_after, places_of_words, stored_in}
@@ -21,7 +22,7 @@ use Rattle.word_table.specs.declared.actors.Actor.TheVariants.{Runs, Stopped, Ke
 use Rattle.word_table.specs.declared.actors.View.{View}
 use Rattle.word_table.specs.Actors.{StandsAt, actor_at, mission_flight, who, with_actor, with_actors}
 use Rattle.word_table.specs.Plays.{AllStand, IsFound, ShowsWord, each_actor}
-use Rattle.word_table.specs.Rule.{AreApart, Hosts, Ruled}
+use Rattle.word_table.specs.Rule.{AreApart, Hosts, IsAmong, IsViewOf, Ruled}
 
 -- What the law asks of a flight.
 pub record IsSound (m : Flight) : Type 0 where
@@ -77,6 +78,36 @@ one_apart : (s : State (Unit {0}) View) (id : ℕ) (w : View) → AreApart w.act
 one_apart s id w a r j u (inl b) = rw (← b.1) a
 one_apart s id w a r j u (inr b) = r j u b.1
 
+within : (l : List View) (i : ℕ) (v : View) → get_elem? l i ≡ some v → i < length l
+within [] i v there = absurd (some-ne-none v (sym there))
+within (x ∷ l) zero v there = omega arith
+within (x ∷ l) (suc i) v there = let low = within l i v there in omega (arith, low)
+
+pub view_same : (views : List View) (i j : ℕ) (v w : View) → i ≡ j → get_elem? views i ≡ some v → get_elem? views j ≡ some w → v ≡ w
+view_same views i j v w same there here = some-injective v w (sym there ∙ ap (λ k. get_elem? views k) same ∙ here)
+
+pub set_there : (views : List View) (id : ℕ) (v w : View) → get_elem? views id ≡ some v → get_elem? (slice_set views id w) id ≡ some w
+set_there views id v w here = set_here views id w (within views id v here)
+
+-- an actor has its view after a view has become one of the same actors
+pub view_after : (views : List View) (id : ℕ) (v w : View) → get_elem? views id ≡ some v → ((o : Option ℕ) → IsAmong o v.actors → IsAmong o w.actors) → (o : Option ℕ) (j : ℕ) → IsViewOf views o j → IsViewOf (slice_set views id w) o j
+view_after views id v w here stays o j is = by_place (ℕ_discrete j id)
+  where
+    by_place : Dec (j ≡ id) → IsViewOf (slice_set views id w) o j
+    by_place (yes d) = record {
+      view = w;
+      there = ap (λ k. get_elem? (slice_set views id w) k) d ∙ set_there views id v w here;
+      among = stays o (subst (λ (u : View). IsAmong o u.actors) (view_same views j id is.view v d is.there here) is.among);
+    }
+    by_place (no d) = record { view = is.view; there = set_else views id j w d ∙ is.there; among = is.among }
+
+pub one_moved : (v : View) (a b : Actor) → v.actors ≡ a ∷ [] → who a ≡ who b → (o : Option ℕ) → IsAmong o v.actors → IsAmong o (b ∷ [])
+one_moved v a b alone same o is = by_actor (subst (λ (l : List Actor). IsAmong o l) alone is)
+  where
+    by_actor : IsAmong o (a ∷ []) → IsAmong o (b ∷ [])
+    by_actor (inl here) = inl (sym same ∙ here)
+    by_actor (inr none) = inr none
+
 pub alone_moved : (v : View) (a : Actor) (go : Actor → Actor) → v.actors ≡ a ∷ [] → with_actor v (go a) ≡ each_actor go v
 alone_moved v a go alone = ap (λ (l : List Actor). with_actors v (map go l)) (sym alone)
 
@@ -117,6 +148,7 @@ module _ (m : Flight) (mission : MissionParts) (s : State (Unit {0}) View) (id :
         each = λ j w g. each_after j w (at_set s.views id j (with_actor v (actor_at p (moved m e p x))) w g);
         planned = λ j w g. plan_after j w (at_set s.views id j (with_actor v (actor_at p (moved m e p x))) w g);
         apart = λ j w g. one_apart s id (with_actor v (actor_at p (moved m e p x))) (tt, tt) r.apart j w (at_set s.views id j (with_actor v (actor_at p (moved m e p x))) w g);
+        has_view = λ o is. view_after s.views id v (with_actor v (actor_at p (moved m e p x))) here (one_moved v (actor_at p x) (actor_at p (moved m e p x)) alone (who_at p x ∙ sym (who_at p (moved m e p x)))) o (r.home o) (r.has_view o is);
       }
 
       pub stepped_by : (go : Actor → Actor) → go (actor_at p x) ≡ actor_at p (moved m e p x) → Ruled m mission (stepped s i n id [] (each_actor go v) keeps)
@@ -162,6 +194,7 @@ module _ (m : Flight) (mission : MissionParts) (s : State (Unit {0}) View) (id :
         each = λ q w g. kernel_each q w (at_set s.views id q (with_actor v (Kernel k2 j2)) w g);
         planned = λ q w g. kernel_plan q w (at_set s.views id q (with_actor v (Kernel k2 j2)) w g);
         apart = λ q w g. one_apart s id (with_actor v (Kernel k2 j2)) (tt, tt) r.apart q w (at_set s.views id q (with_actor v (Kernel k2 j2)) w g);
+        has_view = λ o is. view_after s.views id v (with_actor v (Kernel k2 j2)) here (one_moved v (Kernel k j) (Kernel k2 j2) alone refl) o (r.home o) (r.has_view o is);
       }
 
       pub kernel_by : (go : Actor → Actor) → go (Kernel k j) ≡ Kernel k2 j2 → Ruled m mission (stepped s i n id [] (each_actor go v) keeps)
@@ -186,6 +219,7 @@ module _ (m : Flight) (mission : MissionParts) (s : State (Unit {0}) View) (id :
       each = λ j u g. load_each j u (at_set s.views id j w u g);
       planned = λ j u g. load_plan j u (at_set s.views id j w u g);
       apart = λ j u g. one_apart s id w (rw same (r.apart id v here)) r.apart j u (at_set s.views id j w u g);
+      has_view = λ o is. view_after s.views id v w here (λ q among. subst (λ (l : List Actor). IsAmong q l) (sym same) among) o (r.home o) (r.has_view o is);
     }
 
 pub all_stand : (at : Places) (home : Option ℕ → ℕ) (j : ℕ) (l : List Actor) → Hosts at home j l → AllStand at l

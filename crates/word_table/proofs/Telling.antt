@@ -1,5 +1,5 @@
 -- What a step tells of a seat whose mission and actors are known.
-use Rattle.std.proofs.Common.{◌≡◌, ◌∙◌, ℕ, suc, ◌<◌, ◌≤◌, Bool, true, false, refl, ap, subst, arith, List, [], ◌∷◌, map}
+use Rattle.std.proofs.Common.{◌≡◌, ◌∙◌, ℕ, suc, ◌<◌, Bool, true, false, refl, ap, subst, arith, List, [], ◌∷◌, map}
 use Rattle.std.specs.Prelude.{Option, Some, IfSome, nat_lt}
 use Rattle.std.proofs.lemmas.Bool.Decides.{nat_tests}
 use Rattle.coverage_check.specs.Missions.{MissionParts}
@@ -8,8 +8,8 @@ use Rattle.fail_stop.specs.Flights.{Flight}
 use Rattle.word_table.specs.declared.actors.Actor.{Actor}
 use Rattle.word_table.specs.declared.actors.Actor.TheVariants.{Kernel, Runs}
 use Rattle.word_table.specs.declared.actors.View.{View}
-use Rattle.word_table.specs.Actors.{actor_at, awaited, begun, frame_awaited, mission_flight, one_more, tried, with_actor, with_actors}
-use Rattle.word_table.specs.Plays.{GoesOrTries, Has, IsFound, Sat, ShowsWord, can_note, each_actor, may_start}
+use Rattle.word_table.specs.Actors.{Waits, actor_at, awaited, begun, frame_awaited, mission_flight, one_more, with_actor, with_actors}
+use Rattle.word_table.specs.Plays.{AwaitsEnd, AwaitsRelease, GoesOrTries, GoesWhereItWaits, Has, IsFound, Sat, ShowsWord, TellsNote, TellsStart, can_note, each_actor, may_start}
 
 pub third : {A B C : Type 0} → A × B × C → C
 third t = t.2
@@ -29,10 +29,6 @@ by_true : (b : Bool) (go : Actor → Actor) (v : View) (after : Sat) → b ≡ t
 by_true true go v after is told = told
 by_true false go v after is told = cc
 
-by_false : (b : Bool) (go : Actor → Actor) (v : View) (after : Sat) → b ≡ false → GoesOrTries b go v after → Has after (tried v)
-by_false true go v after is told = cc
-by_false false go v after is told = told
-
 awaited_at : (m : Flight) (p : ℕ) (x : Place) → awaited m (actor_at p x) ≡ frame_awaited m p x
 awaited_at m p (At f n) = refl
 awaited_at m p (Halted h) = refl
@@ -41,17 +37,21 @@ begun_at : (m : Flight) (p : ℕ) (x : Place) → begun m (actor_at p x) ≡ Run
 begun_at m p (At f n) = refl
 begun_at m p (Halted h) = refl
 
-module _ (mission : MissionParts) (v : View) (after : Sat) (n p : ℕ) (x : Place) (planned : v.mission ≡ Some mission) (alone : v.actors ≡ actor_at p x ∷ [])
-    (told : IfSome v.mission (λ mission. GoesOrTries (may_start (mission_flight mission) v.actors n) (begun (mission_flight mission)) v after)) where
+awaits_at : (m : Flight) (p : ℕ) (x : Place) → Waits m p x → AwaitsRelease m 0 (actor_at p x ∷ [])
+awaits_at m p (At f n) waits = (refl, waits)
+awaits_at m p (Halted h) waits = (refl, waits)
+
+module _ (mission : MissionParts) (v : View) (after : Sat) (n p : ℕ) (x : Place) (planned : v.mission ≡ Some mission) (alone : v.actors ≡ actor_at p x ∷ []) (waits : Waits (mission_flight mission) p x)
+    (told : IfSome v.mission (λ mission. TellsStart (mission_flight mission) 0 n v after)) where
   abbrev m : Flight
   m = mission_flight mission
 
   start_told : GoesOrTries (nat_lt (frame_awaited m p x) n) (begun m) v after
   start_told =
-      let by_mission : GoesOrTries (may_start m v.actors n) (begun m) v after =
-      subst (λ (o : Option MissionParts). IfSome o (λ mission. GoesOrTries (may_start (mission_flight mission) v.actors n) (begun (mission_flight mission)) v after)) planned told in
-      let by_actors : GoesOrTries (nat_lt (awaited m (actor_at p x)) n) (begun m) v after = subst (λ (l : List Actor). GoesOrTries (may_start m l n) (begun m) v after) alone by_mission in
-      subst (λ f. GoesOrTries (nat_lt f n) (begun m) v after) (awaited_at m p x) by_actors
+      let by_mission : TellsStart m 0 n v after = subst (λ (o : Option MissionParts). IfSome o (λ mission. TellsStart (mission_flight mission) 0 n v after)) planned told in
+      let by_actors : GoesWhereItWaits (AwaitsRelease m 0 (actor_at p x ∷ [])) (nat_lt (awaited m (actor_at p x)) n) (begun m) v after =
+      subst (λ (l : List Actor). GoesWhereItWaits (AwaitsRelease m 0 l) (may_start m l n) (begun m) v after) alone by_mission in
+      subst (λ f. GoesOrTries (nat_lt f n) (begun m) v after) (awaited_at m p x) (by_actors.0 (awaits_at m p x waits))
 
   pub start_made : frame_awaited m p x < n → after ≡ (with_actor v (Runs p (frame_awaited m p x) 1), [])
   start_made low =
@@ -63,16 +63,16 @@ module _ (mission : MissionParts) (v : View) (after : Sat) (n p : ℕ) (x : Plac
       both : (s : Sat) {w : View} → s.0 ≡ w → s.1 ≡ [] → s ≡ (w, [])
       both (a, b) is empty = rw (is, empty) refl
 
-  pub start_tried : n ≤ frame_awaited m p x → Has after (tried v)
-  start_tried low =
-      let late : nat_lt (frame_awaited m p x) n ≡ false = grind (arith, nat_tests, low) in
-      by_false (nat_lt (frame_awaited m p x) n) (begun m) v after late start_told
+pub note_told : (mission : MissionParts) (v : View) (after : Sat) (i n k p : ℕ) → v.mission ≡ Some mission → v.actors ≡ Kernel k p ∷ [] → AwaitsEnd (mission_flight mission) i (Kernel k p ∷ [])
+    → IfSome v.mission (λ mission. TellsNote (mission_flight mission) i n v after) → GoesOrTries (may_note (mission_flight mission) p k n) one_more v after
+note_told mission v after i n k p planned alone awaits told =
+    let by_mission : TellsNote (mission_flight mission) i n v after = subst (λ (o : Option MissionParts). IfSome o (λ mission. TellsNote (mission_flight mission) i n v after)) planned told in
+    let by_actors : GoesWhereItWaits (AwaitsEnd (mission_flight mission) i (Kernel k p ∷ [])) (may_note (mission_flight mission) p k n) one_more v after =
+    subst (λ (l : List Actor). GoesWhereItWaits (AwaitsEnd (mission_flight mission) i l) (can_note (mission_flight mission) l n) one_more v after) alone by_mission in
+    by_actors.0 awaits
 
-pub note_made : (mission : MissionParts) (v : View) (after : Sat) (n k p : ℕ) → v.mission ≡ Some mission → v.actors ≡ Kernel k p ∷ [] → may_note (mission_flight mission) p k n ≡ true
-    → IfSome v.mission (λ mission. GoesOrTries (can_note (mission_flight mission) v.actors n) one_more v after) → after.0.actors ≡ Kernel k (suc p) ∷ []
-note_made mission v after n k p planned alone may told =
-    let by_mission : GoesOrTries (can_note (mission_flight mission) v.actors n) one_more v after =
-    subst (λ (o : Option MissionParts). IfSome o (λ mission. GoesOrTries (can_note (mission_flight mission) v.actors n) one_more v after)) planned told in
-    let by_actors : GoesOrTries (may_note (mission_flight mission) p k n) one_more v after = subst (λ (l : List Actor). GoesOrTries (can_note (mission_flight mission) l n) one_more v after) alone by_mission in
-    let has = by_true (may_note (mission_flight mission) p k n) one_more v after may by_actors in
+pub note_made : (mission : MissionParts) (v : View) (after : Sat) (i n k p : ℕ) → v.mission ≡ Some mission → v.actors ≡ Kernel k p ∷ [] → AwaitsEnd (mission_flight mission) i (Kernel k p ∷ [])
+    → may_note (mission_flight mission) p k n ≡ true → IfSome v.mission (λ mission. TellsNote (mission_flight mission) i n v after) → after.0.actors ≡ Kernel k (suc p) ∷ []
+note_made mission v after i n k p planned alone awaits may told =
+    let has = by_true (may_note (mission_flight mission) p k n) one_more v after may (note_told mission v after i n k p planned alone awaits told) in
     ap (λ (w : View). w.actors) has.0 ∙ rw alone refl

@@ -1,5 +1,5 @@
 -- What the last words hold.
-use Rattle.std.specs.Prelude.{◌≡◌, ◌+◌, ◌%◌, ◌<◌, ◌≤◌, ℕ, ℤ, pos, List, length, slice_index, slice_index_or}
+use Rattle.std.specs.Prelude.{◌≡◌, ◌+◌, ◌%◌, ◌<◌, ◌≤◌, ℕ, ℤ, pos, List, length, replicate, slice_index, slice_index_or}
 use Rattle.bank_words.specs.Numbers.{decode}
 use Rattle.fail_stop.specs.Events.{BankWord, MarkWord}
 use Rattle.fail_stop.specs.Listed.{index_of, stored_in}
@@ -14,3 +14,7 @@ pub record IsStoredImage (list : List ℕ) (width at : ℕ) (image : List ℤ) :
 pub record AreLast (list : List ℕ) (width p mark : ℕ) (image : List ℤ) : Type 0 where
   pub mark_is : mark ≡ stored_in list (MarkWord p)
   pub image_is : IsStoredImage list width (index_of (BankWord p (mark % 2) 0)) image
+
+-- No processor has left this mark and this image: they are zero.
+abbrev pub AreNobodys : ℕ → List ℤ → Type 0
+AreNobodys mark image = (mark ≡ 0) × (image ≡ replicate 64 (pos 0))

@@ -1,15 +1,15 @@
 -- What a step tells, of the step, the seat before, the number found and the seat after.
-use Rattle.std.specs.Prelude.{◌≡◌, ℕ, Bool, false, List, [], ◌∷◌, ◌++◌, map, slice_index, None, IfSome, nat_lt}
+use Rattle.std.specs.Prelude.{◌≡◌, ◌<◌, ℕ, Bool, false, List, [], ◌∷◌, ◌++◌, map, slice_index, None, IfSome, nat_lt}
 use Rattle.std.specs.Bool.{MatchBool}
 use Rattle.atomic_table.specs.Table.{Me, Step}
-use Rattle.fail_stop.specs.Events.{Places, may_note}
+use Rattle.fail_stop.specs.Events.{At, EndWord, Halted, Places, ReleaseWord, may_note}
 use Rattle.fail_stop.specs.Flights.{Flight}
 use Rattle.fail_stop.specs.Kept.{Kept}
-use Rattle.fail_stop.specs.Listed.{stored_in}
+use Rattle.fail_stop.specs.Listed.{index_of, stored_in}
 use Rattle.word_table.specs.declared.actors.Actor.{Actor}
 use Rattle.word_table.specs.declared.actors.Actor.TheVariants.{Runs, Stopped, Kernel}
 use Rattle.word_table.specs.declared.actors.View.{View}
-use Rattle.word_table.specs.Actors.{StandsAt, awaited, begun, halted_actor, mission_flight, next_frame, one_more, tried, with_actors}
+use Rattle.word_table.specs.Actors.{StandsAt, Waits, awaited, begun, halted_actor, mission_flight, next_frame, one_more, tried, with_actors}
 
 -- A seat as the table has it: its view, and the slots that it holds, which are none.
 abbrev pub Sat : Type 0
@@ -44,6 +44,20 @@ ShowsWord v i n = IfSome v.mission (λ mission. IsFound (mission_flight mission)
 abbrev pub each_actor : (Actor → Actor) → View → View
 each_actor go v = with_actors v (map go v.actors)
 
+-- The first actor is a processor that waits for a release, and the word at place i is that.
+abbrev pub AwaitsRelease : Flight → ℕ → List Actor → Type 0
+AwaitsRelease m i [] = ⊥
+AwaitsRelease m i (Runs p f n ∷ rest) = (i ≡ index_of ReleaseWord) × Waits m p (At f n)
+AwaitsRelease m i (Stopped p h ∷ rest) = (i ≡ index_of ReleaseWord) × Waits m p (Halted h)
+AwaitsRelease m i (Kernel k j ∷ rest) = ⊥
+
+-- The first actor is the kernel, and the word at place i is the end word of the processor that it notes next.
+abbrev pub AwaitsEnd : Flight → ℕ → List Actor → Type 0
+AwaitsEnd m i [] = ⊥
+AwaitsEnd m i (Runs p f n ∷ rest) = ⊥
+AwaitsEnd m i (Stopped p h ∷ rest) = ⊥
+AwaitsEnd m i (Kernel k j ∷ rest) = (k < m.frames) × (j < m.procs) × (i ≡ index_of (EndWord j))
+
 -- Whether the first actor may start, by the release.
 abbrev pub may_start : Flight → List Actor → ℕ → Bool
 may_start m [] release = false
@@ -60,6 +74,18 @@ can_note m (Kernel k j ∷ rest) end = may_note m j k end
 abbrev pub GoesOrTries : Bool → (Actor → Actor) → View → Sat → Type 0
 GoesOrTries ready go v after = MatchBool ready (Has after (each_actor go v)) (Has after (tried v))
 
+-- Where its actor waits for the word, the seat moves by `go` or has tried once more; elsewhere it stays.
+abbrev pub GoesWhereItWaits : Type 0 → Bool → (Actor → Actor) → View → Sat → Type 0
+GoesWhereItWaits waits ready go v after = (waits → GoesOrTries ready go v after) × (¬ waits → Has after v)
+
+-- What a load of word i tells that may be a start.
+abbrev pub TellsStart : Flight → ℕ → ℕ → View → Sat → Type 0
+TellsStart m i n v after = GoesWhereItWaits (AwaitsRelease m i v.actors) (may_start m v.actors n) (begun m) v after
+
+-- What a load of word i tells that may be a note.
+abbrev pub TellsNote : Flight → ℕ → ℕ → View → Sat → Type 0
+TellsNote m i n v after = GoesWhereItWaits (AwaitsEnd m i v.actors) (can_note m v.actors n) one_more v after
+
 -- A load that is no event shows a word, and the seat stays.
 abbrev pub reads : Stepped → Sat → ℕ → Sat → Type 0
 reads s me n after = Has after me.0 × ShowsWord me.0 s.word n
@@ -68,13 +94,14 @@ reads s me n after = Has after me.0 × ShowsWord me.0 s.word n
 abbrev pub looks : Stepped → Sat → ℕ → Sat → Type 0
 looks s me n after = Has after (each_actor one_more me.0) × ShowsWord me.0 s.word n
 
--- A load of the release makes the start, or is a try.
+-- A load of the release for which a processor waits makes the start, or is a try; any other load leaves the seat.
 abbrev pub starts : Stepped → Sat → ℕ → Sat → Type 0
-starts s me n after = IfSome me.0.mission (λ mission. GoesOrTries (may_start (mission_flight mission) me.0.actors n) (begun (mission_flight mission)) me.0 after)
+starts s me n after = IfSome me.0.mission (λ mission. TellsStart (mission_flight mission) s.word n me.0 after)
 
--- A load of an end word makes the note, or is a try; it shows that word.
+-- A load of the end word for which the kernel waits makes the note, or is a try; any other load leaves the seat. It shows
+-- the word.
 abbrev pub notes : Stepped → Sat → ℕ → Sat → Type 0
-notes s me n after = IfSome me.0.mission (λ mission. GoesOrTries (can_note (mission_flight mission) me.0.actors n) one_more me.0 after) × ShowsWord me.0 s.word n
+notes s me n after = IfSome me.0.mission (λ mission. TellsNote (mission_flight mission) s.word n me.0 after) × ShowsWord me.0 s.word n
 
 -- A store into a bank, of a mark, or of one of the kernel's words.
 abbrev pub stores : Stepped → Sat → ℕ → Sat → Type 0

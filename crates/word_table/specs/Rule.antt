@@ -1,5 +1,5 @@
 -- The rule of the table, on words and views.
-use Rattle.std.specs.Prelude.{◌≡◌, ◌≢◌, ℕ, zero, suc, List, [], ◌∷◌, length, Option, Some}
+use Rattle.std.specs.Prelude.{◌≡◌, ◌≢◌, ◌⊎◌, ◌<◌, ℕ, zero, suc, List, [], ◌∷◌, length, Option, Some, None}
 use mathlib.Core.Option.{some}
 use lib.ListN.{get_elem?}
 use Rattle.atomic_table.specs.Table.{State}
@@ -28,8 +28,24 @@ abbrev pub AreApart : List Actor → Type 0
 AreApart [] = Unit {0}
 AreApart (a ∷ rest) = IsNotIn (who a) rest × AreApart rest
 
--- The rule, by the flight of a mission: the law of events holds of words and places, each actor stands where its view
--- says and in no other view, and each view with an actor knows the mission.
+-- An actor is one of these.
+abbrev pub IsAmong : Option ℕ → List Actor → Type 0
+IsAmong o [] = ⊥
+IsAmong o (a ∷ rest) = (who a ≡ o) ⊎ IsAmong o rest
+
+-- An actor is one of a flight's: one of its processors, or the kernel.
+abbrev pub IsActorOf : Flight → Option ℕ → Type 0
+IsActorOf m (Some p) = p < m.procs
+IsActorOf m None = Unit {0}
+
+-- There is a view j, and it has the actor.
+pub record IsViewOf (views : List View) (o : Option ℕ) (j : ℕ) : Type 0 where
+  pub view : View
+  pub there : get_elem? views j ≡ some view
+  pub among : IsAmong o view.actors
+
+-- The rule, by the flight of a mission: the law of events holds of words and places, each actor of the flight has one
+-- view, which is its home, and stands where that says, and each view with an actor knows the mission.
 pub record Ruled (m : Flight) (mission : MissionParts) (s : State (Unit {0}) View) : Type 0 where
   pub at : Places
   pub home : Option ℕ → ℕ
@@ -38,6 +54,7 @@ pub record Ruled (m : Flight) (mission : MissionParts) (s : State (Unit {0}) Vie
   pub each : (j : ℕ) (v : View) → get_elem? s.views j ≡ some v → Hosts at home j v.actors
   pub planned : (j : ℕ) (v : View) → get_elem? s.views j ≡ some v → v.actors ≢ [] → v.mission ≡ Some mission
   pub apart : (j : ℕ) (v : View) → get_elem? s.views j ≡ some v → AreApart v.actors
+  pub has_view : (o : Option ℕ) → IsActorOf m o → IsViewOf s.views o (home o)
 
 -- The rule of a mission's table.
 abbrev pub IsRuled : MissionParts → State (Unit {0}) View → Type 0

@@ -20,7 +20,7 @@ pub struct View {
     pub actors: [Actor; 0],
 }
 
-/// The rule of the table: the law of events on words and places, and each actor stands in one view, where that says.
+/// The rule of the table: the law of events on words and places, and each actor has one view and stands where that says.
 pub struct WordRule;
 
 impl TableRule<(), View, Mission> for WordRule {
@@ -49,7 +49,7 @@ impl Play<(), View> for Looks {
     ghost then = { looks };
 }
 
-/// A load of the release, with which a frame is started where it is released.
+/// A load with which a frame is started where it is the release for which a processor waits, and shows the frame.
 pub struct Starts;
 
 impl Play<(), View> for Starts {
@@ -85,7 +85,7 @@ impl Play<(), View> for Halts {
     ghost then = { halts };
 }
 
-/// A load of an end word, with which a processor is noted where the word allows it.
+/// A load with which a processor is noted where it is the end word for which the kernel waits, and allows the note.
 pub struct Notes;
 
 impl Play<(), View> for Notes {

@@ -21,7 +21,7 @@ pub struct Words<'a> {
 }
 
 impl<'a> Words<'a> {
-    ghost use Rattle.std.specs.Prelude.{◌+◌, ◌<◌, ℕ, [], IfOk, IfSome, MatchOption, Some, length, slice_get, slice_index, slice_index_or};
+    ghost use Rattle.std.specs.Prelude.{◌+◌, ◌<◌, ◌≤◌, ℕ, [], IfOk, IfSome, MatchOption, Some, length, slice_get, slice_index, slice_index_or};
     ghost use Rattle.scram_types.specs.Lookups.{proc_id};
     ghost use Rattle.bank_words.specs.declared.events.Event.TheVariants.{Done, Flip, Halt, Look, Store};
     ghost use Rattle.frame_model.specs.Flights.{image_after};
@@ -30,6 +30,7 @@ impl<'a> Words<'a> {
     ghost use Rattle.fail_stop.specs.Flights.{word_in};
     ghost use Rattle.fail_stop.specs.ScriptFlights.{draft_words, kernel_words};
     ghost use Rattle.word_table.specs.Actors.{Waits, frame_awaited, step_at};
+    ghost use Rattle.word_table.specs.Closing.{AreNobodys};
     ghost use Rattle.word_table.specs.Tables.{AreOpening, AreSeatsOf, IsKernelSeatOf, IsSeatOf, flight_in, mission_in, frames_marked, has_halted_by, kernel_frame, kernel_steps, kernel_tries, seat_place, proc_of, tries_of};
     ghost use Rattle.word_table.specs.declared.seats.Seat as seat_types;
 
@@ -197,12 +198,14 @@ impl<'a> Words<'a> {
     }
 
     /// Ends the table: all its seats are given back, and the marks and the marked images are those of the frames that
-    /// each processor has committed where it stands. It takes no memory and waits for nobody.
+    /// each processor has committed where it stands. Past the last processor both are zero. It takes no memory and waits
+    /// for nobody.
     pub fn close(self, kseat: KSeat, seats: Vec<Seat>) -> LastWords
         requires kernel { IsKernelSeatOf self.table kseat }
         requires seats { AreSeatsOf self.table seats.items }
         ensures marks { (p : ℕ) (seat : seat_types.Seat) → slice_get seats.items p ≡ Some seat → slice_index result.marks p ≡ mark_after (mission_in self.entry.table).spec (mission_in self.entry.table).script p (frames_marked (mission_in self.entry.table) (seat_place seat)) }
         ensures images { (p : ℕ) (seat : seat_types.Seat) → slice_get seats.items p ≡ Some seat → slice_index_or result.images p [] ≡ image_after (mission_in self.entry.table).spec (mission_in self.entry.table).script p (frames_marked (mission_in self.entry.table) (seat_place seat)) }
+        ensures past { (p : ℕ) → length (mission_in self.entry.table).spec.procs ≤ p → p < 8 → AreNobodys (slice_index result.marks p) (slice_index_or result.images p []) }
     {
         self.table.close(kseat, seats)
     }

@@ -1,13 +1,22 @@
-use Rattle.std.proofs.Common.{◌≡◌, ◌∙◌, ◌%◌, sym, subst, rules, arith}
+use Rattle.std.proofs.Common.{◌≡◌, ◌∙◌, ◌%◌, pos, refl, sym, subst, rules, arith, []}
+use Rattle.std.specs.Prelude.{replicate}
 use mathlib.Core.Option.{some}
 use lib.ListN.{get_elem?}
-use Rattle.std.proofs.lemmas.List.{length-set}
+use Rattle.std.proofs.lemmas.List.{get_or-replicate, length-set}
 use Rattle.std.specs.Mem.Slots.{slots_items}
 use Rattle.fail_stop.specs.Events.{BankWord, MarkWord}
 use Rattle.fail_stop.specs.Listed.{index_of}
 use Rattle.word_table.specs.Closing.{IsStoredImage}
-use Rattle.word_table.proofs.Closings.{index_is, one_last}
+use Rattle.word_table.proofs.Closings.{index_is, nobodys_left, one_last}
 use Rattle.word_table.proofs.closing.last_words.Goals as goal
+
+pub loop-p-init : goal.loop-p-init
+loop-p-init c = record {
+  marks = refl;
+  images = refl;
+  last = λ q low. absurd (omega (arith, low));
+  past = λ q least most. (get_or-replicate 8 q 0 0 most, get_or-replicate 8 q (replicate 64 (pos 0)) [] most);
+}
 
 pub loop-p-preserved : goal.loop-p-preserved
 loop-p-preserved c =
@@ -24,4 +33,5 @@ loop-p-preserved c =
             mark_is = sym (index_is (slots_items c.args.closed.now.words) (index_of (MarkWord at.p)) mark (subst (λ k. get_elem? (slots_items c.args.closed.now.words) k ≡ some mark) own c.word-mark.ensures));
             image_is = subst (λ k. IsStoredImage (slots_items c.args.closed.now.words) c.args.width k c.stored_image.result) place c.stored_image.ensures;
           };
+      past = nobodys_left at.p at.marks at.images mark c.stored_image.result at.invariant.past;
     }

@@ -41,7 +41,7 @@ returns-clause-mark c =
     let alone = kseat.alone ∙ ap (λ j. Kernel kseat.frame j ∷ []) c.requires.next in
     let ready : c.may_note.result ≡ true = search rules in
     let may : may_note (flight_in words) c.args.p.0 kseat.frame c.load-end.result ≡ true = sym c.may_note.ensures ∙ ready in
-    let noted = note_made (mission_in words) kseat.inner.me.0 c.load-end.new.seat.me c.load-end.result kseat.frame c.args.p.0 c.requires.seat.mission alone may (first (third c.load-end.ensures)) in
+    let noted = note_made (mission_in words) kseat.inner.me.0 c.load-end.new.seat.me c.end_index.result c.load-end.result kseat.frame c.args.p.0 c.requires.seat.mission alone (c.requires.frame, c.requires.p, c.end_index.ensures) may (first (third c.load-end.ensures)) in
     let found : IsFound (flight_in words) (Kernel kseat.frame (suc c.args.p.0) ∷ []) c.mark_index.result c.load-mark.result =
     subst (λ (l : List Actor). IsFound (flight_in words) l c.mark_index.result c.load-mark.result) noted c.load-mark.ensures.found in
     let next : suc kseat.frame ≡ kseat.frame + 1 = omega arith in
@@ -55,7 +55,7 @@ returns-clause-image c =
     let alone = kseat.alone ∙ ap (λ j. Kernel kseat.frame j ∷ []) c.requires.next in
     let ready : c.may_note.result ≡ true = search rules in
     let may : may_note (flight_in words) c.args.p.0 kseat.frame c.load-end.result ≡ true = sym c.may_note.ensures ∙ ready in
-    let noted = note_made (mission_in words) kseat.inner.me.0 c.load-end.new.seat.me c.load-end.result kseat.frame c.args.p.0 c.requires.seat.mission alone may (first (third c.load-end.ensures)) in
+    let noted = note_made (mission_in words) kseat.inner.me.0 c.load-end.new.seat.me c.end_index.result c.load-end.result kseat.frame c.args.p.0 c.requires.seat.mission alone (c.requires.frame, c.requires.p, c.end_index.ensures) may (first (third c.load-end.ensures)) in
     let found : IsFound (flight_in words) (Kernel kseat.frame (suc c.args.p.0) ∷ []) c.mark_index.result c.load-mark.result =
     subst (λ (l : List Actor). IsFound (flight_in words) l c.mark_index.result c.load-mark.result) noted c.load-mark.ensures.found in
     let mark = noted_mark (mission_in words) c.requires.seat.holds.fits kseat.frame c.args.p.0 c.requires.p c.mark_index.result c.load-mark.result c.mark_index.ensures found in

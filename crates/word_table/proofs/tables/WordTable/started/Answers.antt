@@ -30,7 +30,7 @@ returns-clause-seat c =
     let p = proc_of seat in
     let x = seat_place seat in
     let ready : frame_awaited (flight_in words) (proc_of seat) (seat_place seat) < c.load-release.result = omega (arith, c.if-release-from.false, c.from.ensures, c.frame_awaited-frame.ensures) in
-    let made = start_made (mission_in words) seat.inner.me.0 c.load-release.new.seat.me c.load-release.result p x c.requires.seat.mission seat.alone (third c.load-release.ensures) ready in
+    let made = start_made (mission_in words) seat.inner.me.0 c.load-release.new.seat.me c.load-release.result p x c.requires.seat.mission seat.alone c.requires.waits (third c.load-release.ensures) ready in
     let low = awaited_low (mission_in words) c.requires.seat.holds.fits p x c.requires.waits in
     record {
       holds = c.requires.seat.holds;
@@ -48,7 +48,7 @@ returns-clause-image c =
     let p = proc_of seat in
     let x = seat_place seat in
     let ready : frame_awaited (flight_in words) (proc_of seat) (seat_place seat) < c.load-release.result = omega (arith, c.if-release-from.false, c.from.ensures, c.frame_awaited-frame.ensures) in
-    let made = start_made (mission_in words) seat.inner.me.0 c.load-release.new.seat.me c.load-release.result p x c.requires.seat.mission seat.alone (third c.load-release.ensures) ready in
+    let made = start_made (mission_in words) seat.inner.me.0 c.load-release.new.seat.me c.load-release.result p x c.requires.seat.mission seat.alone c.requires.waits (third c.load-release.ensures) ready in
     let low = awaited_low (mission_in words) c.requires.seat.holds.fits p x c.requires.waits in
     let few = c.requires.seat.holds.fits.frames in
     let read = words_read (mission_in words) c.requires.seat.holds.fits p (frame_awaited m p x) 1 c.read_kernel.result c.requires.seat.proc (omega arith) c.read_kernel.ensures.long
@@ -63,5 +63,5 @@ returns-clause-tries c =
     let p = proc_of seat in
     let x = seat_place seat in
     let ready : frame_awaited (flight_in words) (proc_of seat) (seat_place seat) < c.load-release.result = omega (arith, c.if-release-from.false, c.from.ensures, c.frame_awaited-frame.ensures) in
-    let made = start_made (mission_in words) seat.inner.me.0 c.load-release.new.seat.me c.load-release.result p x c.requires.seat.mission seat.alone (third c.load-release.ensures) ready in
+    let made = start_made (mission_in words) seat.inner.me.0 c.load-release.new.seat.me c.load-release.result p x c.requires.seat.mission seat.alone c.requires.waits (third c.load-release.ensures) ready in
     ap (λ (me : Sat). me.0.tries) c.read_kernel.ensures.same ∙ ap (λ (me : Sat). me.0.tries) made
