@@ -1,5 +1,5 @@
 -- Files and a sink in memory: what they hold, and what a call makes of it.
-use Rattle.std.specs.Prelude.{ℕ, ◌+◌, ◌-◌, nat_eq, nat_lt, nat_le, Bool, not, ◌&&◌, ◌||◌, List, [], ◌++◌, length, Option, Some, None, Result, Ok, Err, if◌then◌else◌, is_none}
+use Rattle.std.specs.Prelude.{ℕ, ◌+◌, ◌-◌, nat_eq, nat_lt, nat_le, Bool, not, ◌&&◌, ◌||◌, List, [], ◌∷◌, ◌++◌, length, Option, Some, None, Result, Ok, Err, if◌then◌else◌, is_none}
 use Rattle.std.specs.List.{list_any}
 use Rattle.scram_io.specs.Outside.{FileMap, FilesState, History, SinkState, file_at, counted, greatest_count}
 use Rattle.scram_io.specs.declared.files.ReadFault.{ReadFault}
@@ -42,6 +42,15 @@ read_of held name limit = if is_listed held.failing held.reads then Err Failed e
 -- the next read fails: its number is listed, or no file has the name
 abbrev pub read_fails : FilesHeld → List ℕ → Bool
 read_fails held name = is_listed held.failing held.reads || is_none (file_at name held.map)
+
+-- the file of this name, as it is found, with its bytes
+abbrev pub found_as : List ℕ → Option (List ℕ) → History
+found_as name None = []
+found_as name (Some bytes) = (name, bytes) ∷ []
+
+-- what the next read finds, also where it is longer than the limit
+abbrev pub found_by : FilesHeld → List ℕ → History
+found_by held name = if is_listed held.failing held.reads then [] else found_as name (file_at name held.map)
 
 -- the files after a read of this name that adds this to the history
 abbrev pub after_read : FilesHeld → List ℕ → History → FilesHeld

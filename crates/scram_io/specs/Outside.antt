@@ -1,5 +1,5 @@
 -- Words on what lies outside: files and a sink as clauses see them, what was read of the one and what the other took.
-use Rattle.std.specs.Prelude.{◌≡◌, ℕ, ◌+◌, ◌-◌, ◌^◌, ◌<◌, ◌≤◌, min, Bool, IsTrue, List, [], ◌∷◌, ◌++◌, length, Option, Some, None, Result, Ok, Err, Vec, IfSome, IsSome, OnOk, OnErr, MatchResult, if◌then◌else◌}
+use Rattle.std.specs.Prelude.{◌≡◌, ℕ, ◌+◌, ◌-◌, ◌^◌, ◌<◌, ◌≤◌, min, Bool, IsTrue, List, [], ◌∷◌, ◌++◌, length, Option, Some, None, Result, IfNone, IfSome, IsSome, OnOk, OnErr, MatchResult, if◌then◌else◌}
 use Rattle.std.specs.List.{AllByRecursion}
 use Rattle.std.specs.Str.{bytes_eq}
 
@@ -24,7 +24,7 @@ pub record Unrisen (before now : ℕ) : Type 0 where
 abbrev pub FileMap : Type 0
 FileMap = List (List ℕ × List ℕ)
 
--- reads that were answered with bytes, in order: the names and what was read
+-- reads that found a file, in order: the names and what was read
 abbrev pub History : Type 0
 History = List (List ℕ × List ℕ)
 
@@ -33,18 +33,13 @@ abbrev pub file_at : List ℕ → FileMap → Option (List ℕ)
 file_at name [] = None
 file_at name (entry ∷ rest) = if bytes_eq entry.0 name then Some entry.1 else file_at name rest
 
--- Files: each read that was answered so far, in order, with its bytes; the map of their names, where it is told
+-- Files: each read that found one so far, in order, with its bytes; the map of their names, where it is told
 -- beforehand; whether a read of a name in it surely does not fail; the count of faults.
 pub record FilesState : Type 0 where
   pub history : History
   pub told : Option FileMap
   pub steady : Bool
   pub faults : ℕ
-
--- what a read of this name adds to the history
-abbrev pub read_by : {A E : Type 0} → List ℕ → Result (Vec ℕ A) E → History
-read_by name (Ok bytes) = (name, bytes.items) ∷ []
-read_by name (Err fault) = []
 
 -- each of these reads has the bytes that the map has for its name
 abbrev pub Agrees : FileMap → History → Type 0
@@ -57,9 +52,13 @@ pub record Grew (old new : FilesState) (reads : History) : Type 0 where
   pub agrees : IfSome old.told (λ map. Agrees map reads)
   pub count : old.faults ≤ new.faults
 
--- where the map is told, it has a file of this name, with more bytes than the limit
-abbrev pub IsLonger : FilesState → List ℕ → ℕ → Type 0
-IsLonger old name limit = IfSome old.told (λ map. (bytes : List ℕ) × (file_at name map ≡ Some bytes) × (limit < length bytes))
+-- The file of this name has more bytes than the limit, and that many were read of it: where the map is told, all of
+-- them, and where it is not, the count of faults rose.
+pub record FoundLonger (old new : FilesState) (name : List ℕ) (limit : ℕ) : Type 0 where
+  pub bytes : List ℕ
+  pub grew : Grew old new ((name, bytes) ∷ [])
+  pub longer : limit < length bytes
+  pub counted : IfNone old.told (Rose old.faults new.faults)
 
 -- where the files are steady and the map is told, a read of a name in it raises no count and leaves them steady
 abbrev pub StaysSteady : FilesState → FilesState → List ℕ → Type 0

@@ -1,9 +1,9 @@
 //! The reading side of the outside.
-ghost use Rattle.std.specs.Prelude.{◌≡◌, ◌≢◌, ◌<◌, ◌≤◌, IsTrue, IfOk, IsErrOf, length};
-ghost use Rattle.scram_io.specs.declared.files.ReadFault.TheVariants.{Failed, NoMemory};
+ghost use Rattle.std.specs.Prelude.{◌≡◌, ◌≢◌, ◌∷◌, ◌<◌, ◌≤◌, [], IsTrue, IfOk, IsErrOf, length};
+ghost use Rattle.scram_io.specs.declared.files.ReadFault.TheVariants.{Failed, NoMemory, TooLong};
 ghost use Rattle.std.specs.IoError.{error_kind};
 ghost use Rattle.std.specs.declared.io.ErrorKind.TheVariants.{OutOfMemory};
-ghost use Rattle.scram_io.specs.Outside.{FilesState, Grew, IsLonger, Rose, StaysSteady, greatest_count, read_by};
+ghost use Rattle.scram_io.specs.Outside.{FilesState, FoundLonger, Grew, Rose, StaysSteady, greatest_count};
 
 use std::alloc::{AllocError, Global};
 use std::io;
@@ -49,16 +49,18 @@ impl From<AllocError> for ReadFault {
 pub trait Files {
     ghost state: { Self → FilesState };
 
-    /// Reads the file `name`, of at most `limit` bytes. The history grows by each read that is answered with
-    /// bytes, and by no other.
+    /// Reads the file `name`, of at most `limit` bytes. The history grows by each read that found the file, and by no
+    /// other.
     ///
     /// `TooLong` comes exactly where the read did not fail, there was memory, and the file has more
-    /// bytes than `limit`: an `Ok` has no more.
+    /// bytes than `limit`: an `Ok` has no more. Then more than `limit` bytes were read, and files that tell no map count
+    /// it as a fault.
     fn read(&mut self, alloc: Global, name: &str, limit: usize) -> Result<Vec<u8>, ReadFault>
-        ensures grew { Grew (state self.old) (state self.new) (read_by name.now result) }
+        ensures grew { IfOk result (λ bytes. Grew (state self.old) (state self.new) ((name.now, bytes.items) ∷ [])) }
         ensures limited { IfOk result (λ bytes. length bytes.items ≤ limit) }
-        ensures failed { IsErrOf result ReadFault.Failed → Rose (state self.old).faults (state self.new).faults }
-        ensures too_long { IsErrOf result ReadFault.TooLong → IsLonger (state self.old) name.now limit }
+        ensures failed { IsErrOf result ReadFault.Failed → Grew (state self.old) (state self.new) [] × Rose (state self.old).faults (state self.new).faults }
+        ensures too_long { IsErrOf result ReadFault.TooLong → FoundLonger (state self.old) (state self.new) name.now limit }
+        ensures no_memory { IsErrOf result ReadFault.NoMemory → Grew (state self.old) (state self.new) [] }
         ensures steady { StaysSteady (state self.old) (state self.new) name.now };
 
     ghost steady_below: { (files : Self) → IsTrue (state files).steady → (state files).faults < greatest_count };

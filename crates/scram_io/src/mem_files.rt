@@ -1,9 +1,9 @@
 //! Files in memory.
-ghost use Rattle.std.specs.Prelude.{◌≡◌, ◌<◌, ◌≤◌, ◌↔◌, IfOk, IsErrOf, length};
+ghost use Rattle.std.specs.Prelude.{◌≡◌, ◌≤◌, ◌↔◌, [], IfOk, IsErrOf, None, if◌then◌else◌};
 ghost use Rattle.std.specs.Option.{option_map};
 ghost use Rattle.std.proofs.Common.{rules};
-ghost use Rattle.scram_io.specs.Outside.{Grew, file_at, read_by};
-ghost use Rattle.scram_io.specs.Memory.{FilesHeld, after_read, files_state, read_of, unread_files};
+ghost use Rattle.scram_io.specs.Outside.{file_at};
+ghost use Rattle.scram_io.specs.Memory.{FilesHeld, after_read, files_state, found_by, read_of, unread_files};
 ghost use Rattle.scram_io.specs.Entries.{entries_of};
 
 use super::files::{Files, ReadFault};
@@ -55,33 +55,36 @@ impl Files for MemFiles {
     /// count of faults exactly then. Else it is `TooLong` exactly where the file has more bytes than
     /// `limit`.
     fn read(&mut self, alloc: Global, name: &str, limit: usize) -> Result<Vec<u8>, ReadFault>
-        ensures grew { Grew (files_state self.old) (files_state self.new) (read_by name.now result) }
-        ensures after { self.new ≡ after_read self.old name.now (read_by name.now result) }
+        ensures after { ¬ IsErrOf result ReadFault.NoMemory → self.new ≡ after_read self.old name.now (found_by self.old name.now) }
         ensures whole { IfOk result (λ bytes. read_of self.old name.now limit ≡ Ok bytes.items) }
         ensures failed { IsErrOf result ReadFault.Failed ↔ (read_of self.old name.now limit ≡ Err ReadFault.Failed) }
         ensures too_long { IsErrOf result ReadFault.TooLong ↔ (read_of self.old name.now limit ≡ Err ReadFault.TooLong) }
+        ensures no_memory { IsErrOf result ReadFault.NoMemory → self.new ≡ after_read self.old name.now [] }
+        ensures count { self.old.faults ≤ self.new.faults }
     {
         let listed = is_listed_call(&self.failing, self.reads);
         self.reads = self.reads.saturating_add(1);
-        let found = if listed {
-            None
-        } else {
-            find_file(&self.files, name)
+        let Some(bytes) = find_unless(listed, &self.files, name) else {
+            self.faults = self.faults.saturating_add(1);
+            return Err(ReadFault::Failed);
         };
-        match found {
-            Some(bytes) => {
-                let copy = copy_within(alloc, bytes, limit)?;
-                self.history.note(name.as_bytes(), &copy);
-                Ok(copy)
-            }
-            None => {
-                self.faults = self.faults.saturating_add(1);
-                Err(ReadFault::Failed)
-            }
+        if bytes.len() > limit {
+            self.history.note(name.as_bytes(), bytes);
+            return Err(ReadFault::TooLong);
         }
+        let copy = bytes.to_vec(alloc)?;
+        self.history.note(name.as_bytes(), &copy);
+        Ok(copy)
     }
 
     ghost steady_below = { λ held. Prim.search rules };
+}
+
+/// The bytes of the first entry of this name, where the read is not to fail.
+fn find_unless<'a>(listed: bool, files: &'a [(String, Vec<u8>)], name: &str) -> Option<&'a [u8]>
+    ensures { option_map (λ bytes. bytes.now) result ≡ (if listed then None else file_at name.now (entries_of files.now)) }
+{
+    if listed { None } else { find_file(files, name) }
 }
 
 /// The bytes of the first entry of this name.
@@ -94,19 +97,4 @@ fn find_file<'a>(files: &'a [(String, Vec<u8>)], name: &str) -> Option<&'a [u8]>
         }
     }
     None
-}
-
-/// A copy of the bytes, where they are no more than the limit.
-fn copy_within(alloc: Global, bytes: &[u8], limit: usize) -> Result<Vec<u8>, ReadFault>
-    ensures ok { IfOk result (λ copy. (copy.items ≡ bytes.now) × (length bytes.now ≤ limit)) }
-    ensures too_long { IsErrOf result ReadFault.TooLong → limit < length bytes.now }
-    ensures no_memory { IsErrOf result ReadFault.NoMemory → length bytes.now ≤ limit }
-    ensures not_failed { ¬ IsErrOf result ReadFault.Failed }
-{
-    if bytes.len() > limit {
-        return Err(ReadFault::TooLong);
-    }
-    let mut copy = Vec::new(alloc);
-    copy.extend_from_slice(bytes)?;
-    Ok(copy)
 }

@@ -1,32 +1,8 @@
-//! What was read and what was written, as ghost data: it takes no byte, and no call here does anything when it runs.
+//! What was read, as ghost data: it takes no byte, and no call here does anything when it runs.
 ghost use Rattle.std.specs.Prelude.{◌≡◌, ◌++◌, [], ◌∷◌, List, ℕ};
 ghost use Rattle.std.specs.Borrow.{ftrue};
 
 use std::marker::Model;
-
-/// Bytes, in the order in which they were noted.
-#[derive(Drop)]
-pub struct NotedBytes {
-    pub ghost bytes: { List ℕ },
-}
-
-impl Model for NotedBytes {
-    ghost also_owns = { λ _. ftrue };
-}
-
-impl NotedBytes {
-    /// No bytes yet.
-    pub fn new() -> NotedBytes
-        ensures { result.bytes ≡ [] }
-    {
-        NotedBytes {}
-    }
-
-    /// Notes these bytes behind those that were noted before.
-    pub fn note(&mut self, _bytes: &[u8])
-        ensures { self.new.bytes ≡ self.old.bytes ++ _bytes.now }
-    {}
-}
 
 /// Names with bytes, in the order in which they were noted.
 #[derive(Drop)]

@@ -1,11 +1,11 @@
 //! What opens streams by name.
-ghost use Rattle.std.specs.Prelude.{◌≡◌, ◌++◌, ◌<◌, ◌≤◌, ℕ, List, Option, None, Some, IfOk, IfSome, IsErrOf, length};
-ghost use Rattle.scram_io.specs.Outside.{read_by};
-ghost use Rattle.scram_io.specs.declared.files.ReadFault.TheVariants.{TooLong};
+ghost use Rattle.std.specs.Prelude.{◌≡◌, ◌++◌, ◌∷◌, ◌≤◌, [], ℕ, List, Option, None, Some, IfOk, IfSome, IsErrOf, length};
+ghost use Rattle.scram_io.specs.Streams.{NotedLonger};
+ghost use Rattle.scram_io.specs.declared.files.ReadFault.TheVariants.{Failed, NoMemory, TooLong};
 
 use super::files::ReadFault;
 use super::notes::NotedReads;
-use super::streams::read_whole;
+use super::streams::read_past;
 use std::alloc::Global;
 use std::fs::File;
 use std::io::Read;
@@ -38,7 +38,7 @@ impl<'a, R: rt::Files> Opens for System<'a, R> {
     }
 }
 
-/// Opens the stream of this name, reads it to its end, and notes the name with the bytes.
+/// Opens the stream of this name, reads it to its end or past the limit, and notes the name with the bytes.
 pub(crate) fn read_noted<O: Opens>(
     opener: &O,
     reads: &mut NotedReads,
@@ -46,20 +46,18 @@ pub(crate) fn read_noted<O: Opens>(
     name: &str,
     limit: usize,
 ) -> Result<Vec<u8>, ReadFault>
-    ensures grew { reads.new.reads ≡ reads.old.reads ++ read_by name.now result }
+    ensures grew { IfOk result (λ bytes. reads.new.reads ≡ reads.old.reads ++ (name.now, bytes.items) ∷ []) }
     ensures limited { IfOk result (λ bytes. length bytes.items ≤ limit) }
     ensures whole { IfOk result (λ bytes. IfSome (O.bytes opener.now name.now) (λ all. bytes.items ≡ all)) }
-    ensures too_long { IsErrOf result ReadFault.TooLong → IfSome (O.bytes opener.now name.now) (λ all. limit < length all) }
+    ensures failed { IsErrOf result ReadFault.Failed → reads.new.reads ≡ reads.old.reads }
+    ensures too_long { IsErrOf result ReadFault.TooLong → NotedLonger reads.old.reads reads.new.reads name.now limit (O.bytes opener.now name.now) }
+    ensures no_memory { IsErrOf result ReadFault.NoMemory → reads.new.reads ≡ reads.old.reads }
 {
-    let mut stream = match opener.open(name) {
-        Ok(stream) => stream,
-        Err(error) => return Err(ReadFault::from(error)),
-    };
-    match read_whole(alloc, &mut stream, limit) {
-        Ok(bytes) => {
-            reads.note(name.as_bytes(), &bytes);
-            Ok(bytes)
-        }
-        Err(fault) => Err(fault),
+    let mut stream = opener.open(name)?;
+    let bytes = read_past(alloc, &mut stream, limit)?;
+    reads.note(name.as_bytes(), &bytes);
+    if bytes.len() > limit {
+        return Err(ReadFault::TooLong);
     }
+    Ok(bytes)
 }

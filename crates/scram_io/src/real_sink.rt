@@ -7,6 +7,7 @@ ghost use Rattle.scram_io.specs.Real.{SinkSeen, real_sink};
 use super::recorded::Recorded;
 use super::sink::{Sink, SinkFault};
 use super::streams::write_whole;
+use scram_types::NoMemory;
 use std::alloc::Global;
 use std::io;
 use std::io::{BufWriter, Print, Printer, Write};
@@ -32,11 +33,13 @@ impl<'a, R: Print> Model for RealSink<'a, R> {
 impl<'a, R: Print> RealSink<'a, R> {
     /// The standard output of this runtime, with nothing put and no fault yet. Fails where there is no memory for
     /// the bytes to be held back.
-    pub fn new(alloc: Global, rt: &'a R) -> io::Result<RealSink<'a, R>>
+    pub fn new(alloc: Global, rt: &'a R) -> Result<RealSink<'a, R>, NoMemory>
         ensures { IfOk result (λ sink. sink ≡ record { sent = []; held = []; faults = 0 }) }
     {
-        let out = BufWriter::with_capacity(alloc, HELD, Recorded::new(io::writer(rt)))?;
-        Ok(RealSink { out, faults: 0 })
+        match BufWriter::with_capacity(alloc, HELD, Recorded::new(io::writer(rt))) {
+            Ok(out) => Ok(RealSink { out, faults: 0 }),
+            Err(_) => Err(NoMemory),
+        }
     }
 }
 

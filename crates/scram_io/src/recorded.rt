@@ -1,18 +1,43 @@
 //! A writer, with the bytes that its writes took.
-ghost use Rattle.std.specs.Prelude.{◌≡◌, [], Some};
+ghost use Rattle.std.specs.Borrow.{ftrue};
+ghost use Rattle.std.specs.Prelude.{◌≡◌, ◌++◌, [], List, Some, ℕ};
 ghost use Rattle.std.specs.Io.{WritesAtMost};
 ghost use Rattle.std.specs.Io.KnownBytes.{Keeps, WriteAppends};
 
-use super::notes::NotedBytes;
 use std::io;
 use std::io::Write;
+use std::marker::Model;
+
+/// Bytes, in the order in which they were noted: ghost data, which takes no byte. Only a `Recorded` notes any.
+#[derive(Drop)]
+pub struct NotedBytes {
+    pub ghost bytes: { List ℕ },
+}
+
+impl Model for NotedBytes {
+    ghost also_owns = { λ _. ftrue };
+}
+
+impl NotedBytes {
+    /// No bytes yet.
+    fn new() -> NotedBytes
+        ensures { result.bytes ≡ [] }
+    {
+        NotedBytes {}
+    }
+
+    /// Notes these bytes behind those that were noted before.
+    fn note(&mut self, _bytes: &[u8])
+        ensures { self.new.bytes ≡ self.old.bytes ++ _bytes.now }
+    {}
+}
 
 /// A writer, with a note of all the bytes that its writes took. Its `contents` are known by that, and where those of
 /// `inner` are known too, they are shown to grow alike.
 #[derive(Drop)]
 pub struct Recorded<W> {
-    pub inner: W,
-    pub taken: NotedBytes,
+    inner: W,
+    taken: NotedBytes,
 }
 
 impl<W> Recorded<W> {

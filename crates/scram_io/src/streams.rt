@@ -1,32 +1,28 @@
 //! Whole reads of a stream and whole writes to one, whatever the stream is.
-ghost use Rattle.std.specs.Prelude.{◌≡◌, ◌+◌, ◌<◌, ◌≤◌, IfOk, IfSome, IsErrOf, OnErr, OnOk, length};
-ghost use Rattle.std.specs.Io.KnownBytes.{Appends};
+ghost use Rattle.std.specs.Prelude.{◌≡◌, ◌+◌, ◌≤◌, IfOk, IfSome, OnErr, OnOk, length};
+ghost use Rattle.std.specs.Io.KnownBytes.{Appends, Consumes};
 ghost use Rattle.scram_io.specs.Streams.{AppendsPrefix, ConsumesAtMost};
 
-use super::files::ReadFault;
 use super::sink::SinkFault;
 use std::alloc::Global;
+use std::io;
 use std::io::{Read, Write};
 
 /// The most bytes that one turn of a read asks for.
 const PIECE: usize = 4096;
 
-/// Reads a stream to its end, where it has at most `limit` bytes.
+/// Reads a stream to its end, or until it has given more than `limit` bytes.
 ///
 /// It asks for at most `limit + 1` bytes in all, takes at least one in each turn, and ends where a
 /// read gives none. It fails where one read fails.
-pub fn read_whole<I: Read>(alloc: Global, input: &mut I, limit: usize) -> Result<Vec<u8>, ReadFault>
-    ensures whole { IfOk result (λ bytes. IfSome (I.remaining input.old) (λ all. bytes.items ≡ all)) }
-    ensures limited { IfOk result (λ bytes. length bytes.items ≤ limit) }
-    ensures too_long { IsErrOf result ReadFault.TooLong → IfSome (I.remaining input.old) (λ all. limit < length all) }
+pub fn read_past<I: Read>(alloc: Global, input: &mut I, limit: usize) -> io::Result<Vec<u8>>
+    ensures whole { IfOk result (λ bytes. length bytes.items ≤ limit → IfSome (I.remaining input.old) (λ all. bytes.items ≡ all)) }
+    ensures lost { IfOk result (λ bytes. Consumes (I.remaining input.old) (I.remaining input.new) bytes.items) }
     ensures asked { ConsumesAtMost (I.remaining input.old) (I.remaining input.new) (limit + 1) }
 {
     let mut bytes = Vec::new(alloc);
     let mut piece = [0u8; PIECE];
-    'turns: loop {
-        if bytes.len() > limit {
-            return Err(ReadFault::TooLong);
-        }
+    'turns: while bytes.len() <= limit {
         let want = PIECE.min((limit - bytes.len()).saturating_add(1));
         let count = input.read(&mut piece[..want])?;
         if count == 0 {
@@ -34,6 +30,7 @@ pub fn read_whole<I: Read>(alloc: Global, input: &mut I, limit: usize) -> Result
         }
         bytes.extend_from_slice(&piece[..count])?;
     }
+    Ok(bytes)
 }
 
 /// Writes all the bytes to a stream, which need not pass them on. A write that takes nothing fails.

@@ -2,7 +2,7 @@
 use Rattle.std.proofs.Common.{◌≡◌, ◌++◌, length, take, vec_len, length-append, arith, rules}
 use Rattle.std.proofs.lemmas.List.{length-take}
 use Rattle.scram_io.proofs.KnownBytes.{consumes_more}
-use Rattle.scram_io.proofs.streams.read_whole.Goals as goal
+use Rattle.scram_io.proofs.streams.read_past.Goals as goal
 
 pub returns-in_err-extend_from_slice-clause-asked : goal.returns-in_err-extend_from_slice-clause-asked
 returns-in_err-extend_from_slice-clause-asked g c =

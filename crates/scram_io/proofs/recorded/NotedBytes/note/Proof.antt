@@ -17,11 +17,11 @@ use denote.Slice.{ShrSlice, slice_val, shr_slice_vals, shr_slice_Tells}
 use denote.Signature.{plain, types_at}
 use denote.Steps.{nothing, opens, closes}
 use denote.Triple.Walked.{says, Stays, walk_of, stay_ref, stay_none_slice, Goes-ref, Goes-none_slice, ends_at}
-use Rattle.scram_io.specs.declared.notes.NotedBytes.{NotedBytes}
-use Rattle.scram_io.specs.contracts.notes.NotedBytes as T
-use Rattle.scram_io.specs.contracts.notes.NotedBytes.note as f
-use Rattle.scram_io.proofs.notes.NotedBytes.note.Statement.{statement}
-use Rattle.scram_io.proofs.notes.NotedBytes.note.Code as code
+use Rattle.scram_io.specs.declared.recorded.NotedBytes.{NotedBytes}
+use Rattle.scram_io.specs.contracts.recorded.NotedBytes as T
+use Rattle.scram_io.specs.contracts.recorded.NotedBytes.note as f
+use Rattle.scram_io.proofs.recorded.NotedBytes.note.Statement.{statement}
+use Rattle.scram_io.proofs.recorded.NotedBytes.note.Code as code
 
 abbrev stayed : Stays f.ended.signature.params f.ended.kept
 stayed = (stay_ref (0 ∷ []) tt (plain (λ _. T.the_row)), (stay_none_slice (1 ∷ []) tt (plain (λ _. u8)) yes, tt))

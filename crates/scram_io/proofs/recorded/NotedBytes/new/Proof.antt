@@ -11,11 +11,11 @@ use denote.Shadow.{pure_i}
 use denote.Steps.{nothing}
 use denote.Triple.Entry.{on_entry}
 use denote.Triple.Walked.{Stays, says, ends_at}
-use Rattle.scram_io.specs.declared.notes.NotedBytes.{NotedBytes}
-use Rattle.scram_io.specs.contracts.notes.NotedBytes as T
-use Rattle.scram_io.specs.contracts.notes.NotedBytes.new as f
-use Rattle.scram_io.proofs.notes.NotedBytes.new.Statement.{statement}
-use Rattle.scram_io.proofs.notes.NotedBytes.new.Code as code
+use Rattle.scram_io.specs.declared.recorded.NotedBytes.{NotedBytes}
+use Rattle.scram_io.specs.contracts.recorded.NotedBytes as T
+use Rattle.scram_io.specs.contracts.recorded.NotedBytes.new as f
+use Rattle.scram_io.proofs.recorded.NotedBytes.new.Statement.{statement}
+use Rattle.scram_io.proofs.recorded.NotedBytes.new.Code as code
 
 abbrev v : Val
 v = vstruct vnil

@@ -1,7 +1,7 @@
 -- The bytes read so far are what the stream lost, and at most one more than the limit.
 use Rattle.std.proofs.Common.{◌+◌, ◌-◌, ◌≤◌, length}
 use Rattle.std.specs.Io.KnownBytes.{Consumes}
-use Rattle.scram_io.proofs.streams.read_whole.Given as goal
+use Rattle.scram_io.proofs.streams.read_past.Given as goal
 
 abbrev pub invariant-turns : goal.invariant-turns
 invariant-turns g l = record {
