@@ -92,18 +92,21 @@ pub replay_on : (m : Flight) (codes : List ℕ) (at at2 : Places) (words words2 
     → ((w : Word) → IsStored m w → words2 w ≡ written (writes m at words e) words w)
     → (more : IsReplay m (codes ++ event_code e ∷ []) at2 words2) × (more.events ≡ r.events ++ e ∷ []) × (more.state ≡ happened m r.state e)
 replay_on m codes at at2 words words2 e r next moves written_are =
-    let there = next_there m codes at words e r next in
-    (record {
-      events = r.events ++ e ∷ [];
-      state = happened m r.state e;
-      codes_are = ap (λ l. l ++ event_code e ∷ []) r.codes_are ∙ sym (map_more r.events e);
-      schedule = more m (opening m) r.events r.state e r.schedule there;
-      places_are = places_same at2 (places_after m at e) moves.proc moves.frame moves.step ∙ ap (λ (a : Places). places_after m a e) r.places_are;
-      words_are = λ w s. written_are w s
-          ∙ ap (λ o. written o words w) (writes_same m at words r.state.words r.words_are e next)
-          ∙ written_same m at words r.state.words r.words_are (writes m at r.state.words e) w s
-          ∙ ap (λ (a : Places). written (writes m a r.state.words e) r.state.words w) r.places_are;
-    }, refl, refl)
+    let there = next_there m codes at words e r next in (
+      record {
+        events = r.events ++ e ∷ [];
+        state = happened m r.state e;
+        codes_are = ap (λ l. l ++ event_code e ∷ []) r.codes_are ∙ sym (map_more r.events e);
+        schedule = more m (opening m) r.events r.state e r.schedule there;
+        places_are = places_same at2 (places_after m at e) moves.proc moves.frame moves.step ∙ ap (λ (a : Places). places_after m a e) r.places_are;
+        words_are = λ w s. written_are w s
+            ∙ ap (λ o. written o words w) (writes_same m at words r.state.words r.words_are e next)
+            ∙ written_same m at words r.state.words r.words_are (writes m at r.state.words e) w s
+            ∙ ap (λ (a : Places). written (writes m a r.state.words e) r.state.words w) r.places_are;
+      },
+      refl,
+      refl,
+    )
 
 pub replay_more : (m : Flight) (codes : List ℕ) (at at2 : Places) (words words2 : Word → ℕ) (e : Event) → IsReplay m codes at words → IsNext m at words e → Moves m at e at2
     → ((w : Word) → IsStored m w → words2 w ≡ written (writes m at words e) words w) → IsReplay m (codes ++ event_code e ∷ []) at2 words2

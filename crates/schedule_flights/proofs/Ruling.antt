@@ -62,12 +62,14 @@ ruled_more m rule chooser codes at at2 words words2 e place ruled is next happen
     let more = replay_on m codes at at2 words words2 e b.replay next (record { proc = happens.proc; frame = happens.frame; step = happens.step }) happens.words_are in
     let longer = chosen_more m (first_chooser rule) (opening m) b.replay.events b.chooser b.replay.state place e b.chosen_are by_last in
     let of_events : AreChosen m (first_chooser rule) (opening m) more.0.events (chooser_after b.chooser place) (happened m b.replay.state e) =
-    subst (λ (es : List Event). AreChosen m (first_chooser rule) (opening m) es (chooser_after b.chooser place) (happened m b.replay.state e)) (sym more.1) longer in
-    (record {
-      replay = more.0;
-      chooser = chooser_after b.chooser place;
-      chosen_are = subst (λ (t : Machine). AreChosen m (first_chooser rule) (opening m) more.0.events (chooser_after b.chooser place) t) (sym more.2) of_events;
-    }, ap (λ (c : Chooser). chooser_after c place) ruled.1)
+    subst (λ (es : List Event). AreChosen m (first_chooser rule) (opening m) es (chooser_after b.chooser place) (happened m b.replay.state e)) (sym more.1) longer in (
+      record {
+        replay = more.0;
+        chooser = chooser_after b.chooser place;
+        chosen_are = subst (λ (t : Machine). AreChosen m (first_chooser rule) (opening m) more.0.events (chooser_after b.chooser place) t) (sym more.2) of_events;
+      },
+      ap (λ (c : Chooser). chooser_after c place) ruled.1,
+    )
 
 -- who was chosen, by the event alone
 place_of : (o : Option (ℕ × Event)) (e : Event) (chooser later : Chooser) → Some e ≡ option_map (λ found. found.1) o → IfSome o (λ found. later ≡ chooser_after chooser found.0)

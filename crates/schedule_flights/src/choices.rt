@@ -106,13 +106,7 @@ fn place_after(procs: usize, last: Option<usize>) -> usize
     ensures low { result ≤ procs }
 {
     match last {
-        Some(place) => {
-            if place < procs {
-                place + 1
-            } else {
-                0
-            }
-        }
+        Some(place) => { if place < procs { place + 1 } else { 0 } }
         None => 0,
     }
 }

@@ -17,8 +17,8 @@ ghost use Rattle.schedule_replay.specs.Replaying.{AnswersReplay, first_next, nex
 use crate::turns::proc_count;
 use app_model::Rack;
 use bank_words::{Event, event_of};
-use event_core::flyers::{Flyer, make_flyers, word_of};
 use event_core::Core;
+use event_core::flyers::{Flyer, make_flyers, word_of};
 use scram_types::{Flown, NoMemory, ProcId, Script, Spec};
 use std::alloc::Global;
 
@@ -34,7 +34,10 @@ pub enum ReplayError {
     },
     /// All events of the list, of this number, were made, and the flight is not over. The event is the next of the least
     /// processor that has one, else of the kernel.
-    Short { events: u32, next: Event },
+    Short {
+        events: u32,
+        next: Event,
+    },
     /// No memory was to be had.
     NoMemory,
 }
