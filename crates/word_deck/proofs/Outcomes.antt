@@ -10,15 +10,13 @@ use Rattle.frame_model.specs.Flights.{reports_of, rows_of}
 use Rattle.trace_props.specs.Missions.{ReconfigurationsAreAssured}
 use Rattle.trace_props.specs.Properties.{HoldsAll}
 use Rattle.trace_props.proofs.Sizes.{few_reports}
-use Rattle.app_model.specs.declared.racks.Rack.{Rack}
 use Rattle.word_table.specs.declared.seats.KSeat.{KSeat}
 use Rattle.word_table.specs.declared.seats.Seat.{Seat}
 use Rattle.word_table.specs.declared.tables.WordTable.{WordTable}
 use Rattle.word_table.specs.Actors.{IsInFlight, mission_flight}
 use Rattle.word_table.specs.Keeping.{IsFlown}
 use Rattle.word_table.specs.Tables.{AreOpening, AreSeatsOf, IsKernelSeatOf, IsSeatOf, mission_in, seat_place, proc_of}
-use Rattle.word_deck.specs.declared.landings.Berth.{Berth}
-use Rattle.word_deck.specs.Flights.{AreBerths, AreLanded, AreOpen, IsAtTable}
+use Rattle.word_deck.specs.Flights.{AreLanded, AreOpen, IsAtTable}
 
 -- the trace
 
@@ -51,12 +49,8 @@ kernel_kept old new kseat mission same at of facts is =
       mission = at.1 ∙ ap (λ (k : MissionParts). Some k) key;
     }
 
-module _ {X : Type 0} {Y : X → Type 0} {B : Type 0} (kind : B → ℕ) (boxes : Rack X Y → List B) where
-  pub berths_kept : (old new : WordTable) (berths : List (Berth X Y)) → new.table ≡ old.table → AreBerths kind boxes old berths → AreBerths kind boxes new berths
-  berths_kept old new berths same are = λ p berth there.
-      let is = are p berth there in
-      let fits = is.0 in
-      (record { seated = seat_kept old new berth.seat same fits.seated; opening = fits.opening; number = fits.number; live_fits = fits.live_fits; spare_fits = fits.spare_fits }, is.1)
+pub open_kept : (old new : WordTable) (seats : List Seat) → new.table ≡ old.table → AreOpen old seats → AreOpen new seats
+open_kept old new seats same are = λ p seat there. let is = are p seat there in (seat_kept old new seat same is.0, is.1, is.2)
 
 -- the seats
 

@@ -28,7 +28,7 @@ pub fn pair_of(
 ) -> io::Result<Pair>
     requires seats { AreSeatsOf words.now seats.items }
     requires opening { AreOpening seats.items }
-    ensures { IfOk result (λ pair. PairFits (λ b. kind_of (b.vtable, b.value)) (λ r. r.boxes.items) words.now pair) }
+    ensures { IfOk result (λ pair. PairFits words.now pair) }
 {
     if seats.len() != 2 {
         return Err(ErrorKind::InvalidInput.into());
@@ -48,7 +48,7 @@ fn crew_of(
     requires seat { IfSome seat (IsSeatOf words.now) }
     requires opening { IfSome seat (λ seat. seat_place seat ≡ At 0 0) }
     ensures seat { IfOk result (λ crew. Some crew.seat ≡ seat) }
-    ensures fits { IfOk result (λ crew. CrewFits (λ b. kind_of (b.vtable, b.value)) (λ r. r.boxes.items) words.now crew) }
+    ensures fits { IfOk result (λ crew. CrewFits words.now crew) }
 {
     if let (Some(seat), Some(rack), Some(spare)) = (seat, rack, spare) {
         if rack_fits(&rack) && rack_fits(&spare) {

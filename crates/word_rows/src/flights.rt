@@ -61,7 +61,7 @@ fn fly(
     requires kernel { IsKernelSeatOf words kseat }
     requires frame { kernel_frame kseat ≡ 0 }
     requires steps { kernel_steps kseat ≡ 0 }
-    requires fits { PairFits (λ b. kind_of (b.vtable, b.value)) (λ r. r.boxes.items) words pair }
+    requires fits { PairFits words pair }
 {
     mission.holds();
     match Kernel::new(rt.alloc(), mission.spec(), mission.script()) {
@@ -86,10 +86,10 @@ fn fly_pair(
     requires mission { mission_in words.now ≡ mission.now }
     requires same { kernel.old.mission.now ≡ mission.now }
     requires kernel { IsKernelSeatOf words.now kernel.old.kseat }
-    requires fits { PairFits (λ b. kind_of (b.vtable, b.value)) (λ r. r.boxes.items) words.now pair.old }
+    requires fits { PairFits words.now pair.old }
     ensures same { kernel.new.mission.now ≡ mission.now }
     ensures kernel { IsKernelSeatOf words.now kernel.new.kseat }
-    ensures fits { PairFits (λ b. kind_of (b.vtable, b.value)) (λ r. r.boxes.items) words.now pair.new }
+    ensures fits { PairFits words.now pair.new }
 {
     repeat_asked(mission, words, pair, kernel, row)?;
     print_asked(rt, mission, words, pair, kernel, row)?;
@@ -107,10 +107,10 @@ fn repeat_asked(
     requires mission { mission_in words.now ≡ mission.now }
     requires same { kernel.old.mission.now ≡ mission.now }
     requires kernel { IsKernelSeatOf words.now kernel.old.kseat }
-    requires fits { PairFits (λ b. kind_of (b.vtable, b.value)) (λ r. r.boxes.items) words.now pair.old }
+    requires fits { PairFits words.now pair.old }
     ensures same { kernel.new.mission.now ≡ mission.now }
     ensures kernel { IsKernelSeatOf words.now kernel.new.kseat }
-    ensures fits { PairFits (λ b. kind_of (b.vtable, b.value)) (λ r. r.boxes.items) words.now pair.new }
+    ensures fits { PairFits words.now pair.new }
 {
     match line_after(row, "rounds ") {
         Some(line) => repeat_turns(mission, words, pair, kernel, line),
@@ -130,10 +130,10 @@ fn print_asked(
     requires mission { mission_in words.now ≡ mission.now }
     requires same { kernel.old.mission.now ≡ mission.now }
     requires kernel { IsKernelSeatOf words.now kernel.old.kseat }
-    requires fits { PairFits (λ b. kind_of (b.vtable, b.value)) (λ r. r.boxes.items) words.now pair.old }
+    requires fits { PairFits words.now pair.old }
     ensures same { kernel.new.mission.now ≡ mission.now }
     ensures kernel { IsKernelSeatOf words.now kernel.new.kseat }
-    ensures fits { PairFits (λ b. kind_of (b.vtable, b.value)) (λ r. r.boxes.items) words.now pair.new }
+    ensures fits { PairFits words.now pair.new }
 {
     match line_after(row, "turns ") {
         Some(names) => print_turns(rt, mission, words, pair, kernel, names),
@@ -153,10 +153,10 @@ fn fly_asked(
     requires mission { mission_in words.now ≡ mission.now }
     requires same { kernel.old.mission.now ≡ mission.now }
     requires kernel { IsKernelSeatOf words.now kernel.old.kseat }
-    requires fits { PairFits (λ b. kind_of (b.vtable, b.value)) (λ r. r.boxes.items) words.now pair.old }
+    requires fits { PairFits words.now pair.old }
     ensures same { kernel.new.mission.now ≡ mission.now }
     ensures kernel { IsKernelSeatOf words.now kernel.new.kseat }
-    ensures fits { PairFits (λ b. kind_of (b.vtable, b.value)) (λ r. r.boxes.items) words.now pair.new }
+    ensures fits { PairFits words.now pair.new }
 {
     match line_after(row, "order ") {
         Some(names) => {
@@ -196,7 +196,7 @@ fn close(
 ) -> io::Result<()>
     requires kernel { IsKernelSeatOf words kernel.kseat }
     requires mission { mission_in words ≡ kernel.mission.now }
-    requires fits { PairFits (λ b. kind_of (b.vtable, b.value)) (λ r. r.boxes.items) words pair }
+    requires fits { PairFits words pair }
 {
     let Pair { first, second } = pair;
     let mut two = second.seat;
