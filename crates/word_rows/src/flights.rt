@@ -7,9 +7,8 @@ ghost use Rattle.word_rows.specs.Pairs.{PairFits};
 use crate::crews::{Pair, pair_of};
 use crate::looks::look;
 use crate::rounds::{fly_rounds, print_turns, repeat_turns};
-use app_model::racks_fit;
+use app_model::racks::empty_racks;
 use coverage_check::Mission;
-use racks::racks;
 use row_lines::{fill, line_after, mission_of_texts, number_after};
 use scram_kernel::Kernel;
 use scram_types::Row;
@@ -38,8 +37,8 @@ fn mission_of(rt: &HostRuntime, text: &str, row: &str, step: u32) -> io::Result<
 
 // The words, the kernel's seat and the pair of processors.
 fn open(rt: &HostRuntime, mission: &Mission, row: &str) -> io::Result<()> {
-    let racks = racks!(rt);
-    let spares = racks!(rt);
+    let racks = empty_racks(rt.alloc())?;
+    let spares = empty_racks(rt.alloc())?;
     match WordTable::open(rt.alloc(), mission) {
         Ok((words, kseat, seats)) => {
             let pair = pair_of(&words, seats, racks, spares)?;
@@ -170,10 +169,7 @@ fn fly_asked(
 
 // Compares rows with those of one thread.
 fn print_compared(rt: &HostRuntime, mission: &Mission, rows: &[Row]) -> io::Result<()> {
-    let racks = racks!(rt);
-    if !racks_fit(&racks) {
-        return Err(ErrorKind::InvalidInput.into());
-    }
+    let racks = empty_racks(rt.alloc())?;
     match one_thread(rt.alloc(), mission, racks) {
         Ok(flown) => {
             if flown.rows.items() == rows {
