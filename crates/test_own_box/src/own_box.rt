@@ -42,7 +42,11 @@ fn run(seen: &Seen) -> Area
     let roll = commanded(seen, autopilot::ROLL);
     let (elevator, aileron) = if seen.mode.0 == AUGMENTED {
         (
-            clamped(reached(read_own(KIND, seen, ELEVATOR), pitch, 40), -100, 100),
+            clamped(
+                reached(read_own(KIND, seen, ELEVATOR), pitch, 40),
+                -100,
+                100,
+            ),
             clamped(reached(read_own(KIND, seen, AILERON), roll, 60), -150, 150),
         )
     } else {
