@@ -108,7 +108,7 @@ impl Crew {
     }
 
     // Starts the frame that the processor waits for, where it is released, and lives again with that where it had halted.
-    #[tactic(auto, using(crate::proofs::Places::spare_there, crate::proofs::Places::spare_begun))]
+    #[tactic(auto, using(crate::proofs::Places::spare_there, crate::proofs::Places::spare_begun, crate::proofs::Units::few_halted))]
     fn begin(&mut self, words: &WordTable) -> Option<KernelImage>
         requires fits { CrewFits words.now self.old }
         requires waits { Waits (flight_in words.now) (proc_of self.old.seat) (seat_place self.old.seat) }

@@ -144,6 +144,7 @@ pub(crate) fn start<'s, E, R: Wait + Threads + Sync>(
 }
 
 // Flies a processor with the kit from its shelf; one whose kit has been taken from there is not flown.
+#[tactic(auto, using(crate::proofs::Units::few))]
 fn fly_seat<R: Wait>(
     rt: &R,
     mission: &Mission,
@@ -171,6 +172,7 @@ fn fly_seat<R: Wait>(
 
 /// The processor that has this seat, with the kit from its shelf. No proof says that it lies there: where it does not, the
 /// processor flies with racks without boxes.
+#[tactic(auto, using(crate::proofs::Units::few))]
 pub(crate) fn crew_from<R: Wait>(rt: &R, words: &WordTable, shelf: &Shelf, seat: Seat) -> Crew
     requires seat { IsSeatOf words.now seat }
     requires opening { seat_place seat ≡ At 0 0 }
