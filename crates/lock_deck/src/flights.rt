@@ -25,15 +25,15 @@ use std::thread;
 use std::thread::{Scope, Threads};
 use trace_props::missions::reconfigurations_are_assured;
 
-/// A flight of a mission before its first step, with all memory that it needs.
+/// A flight of a mission before its first step, with all memory that it needs. That its processors are those of the
+/// mission is told by clauses; two fields are public so that clauses can name them.
 #[derive(Drop)]
 pub struct LockFlight<'a> {
-    mission: &'a Mission,
-    members: Vec<CachePadded<Member>>,
+    pub mission: &'a Mission,
+    pub members: Vec<CachePadded<Member>>,
     core: Core<'a>,
     back: Vec<Member>,
     ghost own: { mission_of core.spec core.script ≡ mission.now },
-    ghost fits: { All (λ member. MemberFits mission.now member.value) members.items },
     ghost none_back: { back.items ≡ [] },
     ghost room: { vec_len members ≤ vec_capacity back },
 }
@@ -50,6 +50,7 @@ impl<'a> LockFlight<'a> {
         requires racks { vec_len racks ≡ 8 }
         requires spares { vec_len spares ≡ 8 }
         ensures mission { IfOk result (λ flight. flight.mission.now ≡ mission.now) }
+        ensures fits { IfOk result (λ flight. All (λ member. MemberFits flight.mission.now member.value) flight.members.items) }
     {
         mission.holds();
         let core = Core::open(alloc, mission.spec(), mission.script())?;
@@ -66,6 +67,7 @@ impl<'a> LockFlight<'a> {
     /// Flies the mission with a thread for each processor and the kernel on the caller's, until the flight is over. A
     /// processor whose thread cannot be started is flown by the caller in turns. It takes no memory, and may wait.
     pub fn run<R: Threads + Wait + Sync>(self, rt: &R) -> Core<'a>
+        requires fits { All (λ member. MemberFits self.mission.now member.value) self.members.items }
         ensures spec { result.spec ≡ self.entry.mission.now.spec }
         ensures script { result.script ≡ self.entry.mission.now.script }
         ensures over { IsOver (flown result) (standing result) }
@@ -76,6 +78,7 @@ impl<'a> LockFlight<'a> {
 
     /// As `run`, with threads for the processors that are asked for alone; the others are flown by the caller in turns.
     pub fn run_on<R: Threads + Wait + Sync>(self, rt: &R, asked: [bool; 8]) -> Core<'a>
+        requires fits { All (λ member. MemberFits self.mission.now member.value) self.members.items }
         ensures spec { result.spec ≡ self.entry.mission.now.spec }
         ensures script { result.script ≡ self.entry.mission.now.script }
         ensures over { IsOver (flown result) (standing result) }

@@ -4,7 +4,7 @@ ghost use Rattle.std.specs.Prelude.{◌≡◌, ◌≤◌, IfOk, length, vec_capa
 ghost use Rattle.frame_model.specs.Flights.{reports_of, rows_of};
 ghost use Rattle.trace_props.specs.Properties.{HoldsAll};
 ghost use Rattle.word_table.specs.Tables.{AreSeatsOf, IsKernelSeatOf, mission_in};
-ghost use Rattle.word_deck.specs.Flights.{AreLanded, AreOpen, IsAtTable};
+ghost use Rattle.word_deck.specs.Flights.{AreAtTable, AreLanded, IsAtTable};
 ghost use Rattle.word_deck.specs.Kernels.{IsKernelDone};
 
 use crate::kernels::KernelCrew;
@@ -34,7 +34,7 @@ pub struct WordFlight<'a> {
     ghost of: { mission_in words ≡ mission.now },
     ghost same: { kernel.mission.now ≡ mission.now },
     ghost seated: { IsAtTable words kernel.kseat },
-    ghost waiting: { AreOpen words hangar.waiting.items },
+    ghost waiting: { AreAtTable words hangar.waiting.items },
     ghost all: { vec_len hangar.waiting ≡ length mission.now.spec.procs },
     ghost none_own: { vec_len hangar.own ≡ 0 },
     ghost none_landed: { vec_len hangar.landed ≡ 0 },
@@ -55,6 +55,7 @@ pub struct Landed<'a> {
 impl<'a> WordFlight<'a> {
     /// A flight of a mission with these boxes, and these for restarts: rack `p` is that of processor `p`. All memory of
     /// the flight is taken here; the only refusal is want of it.
+    #[tactic(auto, using(crate::proofs::Outcomes::at_table))]
     pub fn open(
         alloc: Global,
         mission: &'a Mission,
@@ -124,6 +125,7 @@ impl<'a> WordFlight<'a> {
             hangar,
             shelves,
         } = self;
+        mission.holds();
         words.set_turns(turns_of(rt));
         let deck = Deck {
             words,
@@ -137,7 +139,6 @@ impl<'a> WordFlight<'a> {
             asked: _,
         } = deck;
         let (kseat, kernel) = kernel.into_parts();
-        mission.holds();
         reconfigurations_are_assured();
         Landed {
             flown: kernel.finish(),
