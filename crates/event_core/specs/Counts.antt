@@ -35,11 +35,12 @@ with_release (Halt p) n = n
 with_release (KNote p) n = n
 with_release (KStore i) n = n
 
--- How many of these events are notes, and how many are releases.
+-- How many of these events are notes.
 abbrev pub notes_in : List Event → ℕ
 notes_in [] = 0
 notes_in (event ∷ events) = with_note event (notes_in events)
 
+-- How many of these events are releases.
 abbrev pub releases_in : List Event → ℕ
 releases_in [] = 0
 releases_in (event ∷ events) = with_release event (releases_in events)

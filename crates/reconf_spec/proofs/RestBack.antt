@@ -29,19 +29,16 @@ use Rattle.scram_types.specs.Numbers.{minus}
 use Rattle.scram_types.specs.Specification.{Each, IsBound, IsChoice, IsFactor, IsGoal, IsInIfNamed, IsInterval, IsInvariant, IsPrecondition, IsSpec, IsWant, NamesDiffer, Parts, bound_in}
 use Rattle.app_model.specs.Names.{variable_names, number_in}
 use Rattle.app_model.proofs.Spelling.{all_names_agree}
-use Rattle.reconf_spec.specs.Applications.{name_of_app}
-use Rattle.reconf_spec.specs.Bounds.{read_bound, read_bounds}
-use Rattle.reconf_spec.specs.Choices.{read_choice, read_choices, wants_factor, source_named, read_up, read_up_list, read_want}
+use Rattle.spec_members.specs.Names.{name_of_app, name_of_conf, name_of_factor, name_of_proc}
+use Rattle.spec_table.specs.Bounds.{read_bound, read_bounds}
+use Rattle.spec_table.specs.Choices.{read_choice, read_choices, wants_factor, source_named, read_up, read_up_list, read_want}
 use Rattle.scram_types.specs.Bits.{has_bit}
-use Rattle.reconf_spec.specs.Configurations.{name_of_conf}
 use Rattle.reconf_spec.specs.Documents.{read_goal}
 use Rattle.scram_doc.specs.Lists.{AllAfter, folded_from}
-use Rattle.reconf_spec.specs.Facts.{IsVariable}
-use Rattle.reconf_spec.specs.Factors.{name_of_factor}
+use Rattle.spec_table.specs.Facts.{IsVariable}
 use Rattle.scram_doc.specs.Numbering.{itself}
-use Rattle.reconf_spec.specs.Intervals.{read_interval, read_invariant, read_invariants, read_precondition, read_preconditions}
-use Rattle.reconf_spec.specs.Processors.{name_of_proc}
-use Rattle.reconf_spec.specs.Texts.{bound_data, choice_data, goal_data, invariant_data, name_of_item, precondition_data, source_name, up_data, name_of_kind_variable, name_of_variable, want_data}
+use Rattle.spec_table.specs.Intervals.{read_interval, read_invariant, read_invariants, read_precondition, read_preconditions}
+use Rattle.spec_text.specs.Texts.{bound_data, choice_data, goal_data, invariant_data, name_of_item, precondition_data, source_name, up_data, name_of_kind_variable, name_of_variable, want_data}
 use Rattle.scram_doc.specs.Canonical.{integer_data, list_data}
 use Rattle.reconf_spec.specs.Writable.{IsWritableInterval, lists_pair, lists_want}
 use Rattle.reconf_spec.proofs.Lookups.{number_back}

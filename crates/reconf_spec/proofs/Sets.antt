@@ -12,11 +12,11 @@ use Rattle.scram_doc.specs.Paths.{item_path}
 use Rattle.scram_types.specs.declared.specification.Proc.{Proc}
 use Rattle.scram_types.specs.Specification.{NamesDiffer}
 use Rattle.scram_types.specs.Bits.{has_bit}
-use Rattle.reconf_spec.specs.Choices.{read_up}
+use Rattle.spec_table.specs.Choices.{read_up}
 use Rattle.scram_doc.specs.Lists.{folded_from}
 use Rattle.scram_types.specs.Lookups.{number_from}
-use Rattle.reconf_spec.specs.Processors.{name_of_proc}
-use Rattle.reconf_spec.specs.Texts.{up_data}
+use Rattle.spec_members.specs.Names.{name_of_proc}
+use Rattle.spec_text.specs.Texts.{up_data}
 use Rattle.scram_types.proofs.FoundByName.{found_named}
 use Rattle.scram_types.proofs.Items.{next_part}
 

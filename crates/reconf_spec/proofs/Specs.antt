@@ -11,17 +11,17 @@ use Rattle.scram_types.specs.declared.specification.Invariant.{Invariant}
 use Rattle.scram_types.specs.declared.specification.Precondition.{Precondition}
 use Rattle.scram_types.specs.Specification.{Parts, IsSpec, IsProc, IsConf, IsFactor, IsChoice, IsBound, IsGoal, IsInvariant, IsPrecondition, IsIn}
 use Rattle.app_model.proofs.Spelling.{variable_number_below}
-use Rattle.reconf_spec.specs.Processors.{name_of_proc}
-use Rattle.reconf_spec.specs.Configurations.{name_of_conf}
-use Rattle.reconf_spec.specs.Factors.{name_of_factor}
+use Rattle.spec_members.specs.Names.{name_of_proc, name_of_conf, name_of_factor}
 use Rattle.scram_doc.specs.Numbering.{itself}
 use Rattle.scram_doc.specs.Lists.{AllAfter}
-use Rattle.reconf_spec.specs.Facts.{IsNewProc, IsNewConf, IsNewFactor, IsNewWant, FitsChoice, IsNewBound, FitsInvariant, FitsPrecondition, IsVariable}
-use Rattle.reconf_spec.specs.Documents.{Names, with_rest}
+use Rattle.spec_members.specs.Facts.{IsNewProc, IsNewFactor}
+use Rattle.spec_table.specs.Facts.{IsNewConf, IsNewWant, FitsChoice, IsNewBound, FitsInvariant, FitsPrecondition, IsVariable}
+use Rattle.spec_table.specs.Vocabulary.{Names, AreNames}
+use Rattle.reconf_spec.specs.Documents.{with_rest}
 use Rattle.reconf_spec.specs.Writable.{IsWritable}
-use Rattle.reconf_spec.specs.Kept.{AreNames, FitsAssumption, FitsRest}
+use Rattle.reconf_spec.specs.Kept.{FitsAssumption, FitsRest}
 use Rattle.reconf_spec.specs.declared.documents.Rest.{Rest}
-use Rattle.reconf_spec.proofs.Distinct.{each_of, new_differ}
+use Rattle.spec_members.proofs.Distinct.{each_of, new_differ}
 
 variable_below : (found : Option AppSpec) (variable : ℕ) → IsVariable found variable → variable ≤ 7
 variable_below found variable is =

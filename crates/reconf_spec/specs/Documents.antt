@@ -25,16 +25,17 @@ use Rattle.scram_doc.specs.Members.{object_at, needed, no_more_than}
 use Rattle.scram_doc.specs.Values.{text_at, int_at, whole_at}
 use Rattle.reconf_spec.specs.declared.documents.Assumption.{Assumption}
 use Rattle.reconf_spec.specs.declared.documents.Rest.{Rest}
-use Rattle.reconf_spec.specs.declared.rule.TheConstants.{UNKNOWN_VERSION, TOO_LONG, UNKNOWN_POLICY}
-use Rattle.reconf_spec.specs.Members.{member_in}
-use Rattle.reconf_spec.specs.Versions.{is_second, members_tested}
-use Rattle.reconf_spec.specs.Processors.{read_procs}
-use Rattle.reconf_spec.specs.Needs.{apps_in, read_unranked}
-use Rattle.reconf_spec.specs.Configurations.{read_confs}
-use Rattle.reconf_spec.specs.Factors.{read_factors}
-use Rattle.reconf_spec.specs.Choices.{read_conf_id, read_choices}
-use Rattle.reconf_spec.specs.Bounds.{read_bounds}
-use Rattle.reconf_spec.specs.Intervals.{read_invariants, read_preconditions}
+use Rattle.spec_members.specs.declared.rule.TheConstants.{UNKNOWN_VERSION, TOO_LONG, UNKNOWN_POLICY}
+use Rattle.spec_members.specs.Members.{member_in}
+use Rattle.spec_members.specs.Versions.{is_second, members_tested}
+use Rattle.spec_members.specs.Processors.{read_procs}
+use Rattle.spec_apps.specs.Needs.{apps_in, read_unranked}
+use Rattle.spec_table.specs.Configurations.{read_confs}
+use Rattle.spec_members.specs.Factors.{read_factors}
+use Rattle.spec_table.specs.Choices.{read_conf_id, read_choices}
+use Rattle.spec_table.specs.Bounds.{read_bounds}
+use Rattle.spec_table.specs.Intervals.{read_invariants, read_preconditions}
+use Rattle.spec_table.specs.Vocabulary.{Names}
 
 -- what the mission flies to
 abbrev pub read_goal : List ℕ → Data → Result Goal DocFault
@@ -79,13 +80,6 @@ check_version at d =
 -- the policy of version 2; a document of version 1 has none, and retargets
 abbrev pub policy_in : Data → Result Policy DocFault
 policy_in d = if is_second d then member_in (codes "policy") read_policy d else Ok Retarget
-
--- what the rest of a document names
-pub record Names : Type 0 where
-  pub procs : List Proc
-  pub apps : List AppSpec
-  pub confs : List Conf
-  pub factors : List Factor
 
 -- the configurations and factors, once the processors and applications are known
 abbrev pub names_with : List Proc → List AppSpec → Data → Result Names DocFault

@@ -7,20 +7,20 @@ ghost use Rattle.reconf_spec.specs.Kept.{FitsAssumption, FitsRest};
 ghost use Rattle.reconf_spec.specs.Writable.{IsWritable};
 ghost use Rattle.scram_doc.specs.Faults.{Answers};
 ghost use Rattle.reconf_spec.specs.Documents.{read_goal, read_assumption, read_policy, policy_in, check_version, rest_in, with_rest};
-ghost use Rattle.reconf_spec.specs.Found.{AreMembers};
+ghost use Rattle.spec_members.specs.Found.{AreMembers};
 
-use crate::bounds::read_bounds;
-use crate::choices::{read_choices, read_conf_id};
-use crate::intervals::{read_invariants, read_preconditions};
-use crate::members::Members;
-use crate::rule;
-use crate::vocabulary::Vocabulary;
 use scram_doc::{DocError, DocFault, Path, int_in, need, no_more, object, text, whole_in};
 use scram_types::limits::{
     MAX_ALTITUDE, MAX_ASSUMED_CHANGES, MAX_ASSUMED_HALTS, MAX_HEADING, MAX_WINDOW,
 };
 use scram_types::{Bound, Choice, ConfId, Goal, Invariant, List, Policy, Precondition, Spec};
 use serde_json::Value;
+use spec_members::members::Members;
+use spec_members::rule;
+use spec_table::bounds::read_bounds;
+use spec_table::choices::{read_choices, read_conf_id};
+use spec_table::intervals::{read_invariants, read_preconditions};
+use spec_table::vocabulary::Vocabulary;
 use std::alloc::Global;
 
 fn read_goal(v: &Value, at: &Path) -> Result<Goal, DocFault>

@@ -5,26 +5,26 @@ ghost use Rattle.serde_json.specs.View.{view};
 ghost use Rattle.scram_types.specs.Specification.{HasLength};
 ghost use Rattle.scram_doc.specs.Faults.{Answers};
 ghost use Rattle.scram_doc.specs.Lists.{AllAfter};
-ghost use Rattle.reconf_spec.specs.Facts.{IsNewProc};
-ghost use Rattle.reconf_spec.specs.Kept.{AreApps};
+ghost use Rattle.spec_members.specs.Facts.{IsNewProc};
+ghost use Rattle.spec_members.specs.Kept.{AreApps};
 ghost use Rattle.reconf_spec.specs.Documents.{names_in, names_with, spec_in, spec_of, unranked_in, unranked_names_in, unranked_of};
 ghost use Rattle.reconf_spec.specs.Writable.{IsWritable};
-ghost use Rattle.reconf_spec.specs.Answers.{AnswersSpec, ShowsCycle, CycleAmong};
-ghost use Rattle.reconf_spec.specs.Found.{AreMembers};
+ghost use Rattle.spec_apps.specs.Answers.{AnswersSpec, ShowsCycle, CycleAmong};
+ghost use Rattle.spec_members.specs.Found.{AreMembers};
 
-use crate::configurations::read_confs;
 use crate::documents::{check_version, read_rest};
-use crate::factors::read_factors;
-use crate::members::{Members, find_members};
-use crate::names::ByName;
-use crate::needs::read_apps;
-use crate::processors::read_procs;
-use crate::vocabulary::Vocabulary;
-use crate::{SpecError, rule};
 use scram_doc::{DocError, DocFault, Numbered, Path, parse};
 use scram_types::limits::MAX_SPECIFICATION_BYTES;
 use scram_types::{AppSpec, Proc, Spec};
 use serde_json::Value;
+use spec_apps::{SpecError, read_apps};
+use spec_members::factors::read_factors;
+use spec_members::members::{Members, find_members};
+use spec_members::names::ByName;
+use spec_members::processors::read_procs;
+use spec_members::rule;
+use spec_table::configurations::read_confs;
+use spec_table::vocabulary::Vocabulary;
 use std::alloc::Global;
 
 /// The configurations and factors, beside the processors and applications.

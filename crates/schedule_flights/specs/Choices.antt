@@ -23,32 +23,33 @@ next_in_order m at words backwards place =
     if nat_eq place m.procs then next_kernel m at words
     else next_of m at words (if backwards then m.procs - 1 - place else place)
 
--- The first place from this one on, among so many, whose actor has a next event, and the event.
+-- A place is found where its actor has a next event; else it is what is found behind it.
 abbrev pub found_at : ℕ → Option Event → Option (ℕ × Event) → Option (ℕ × Event)
 found_at place None rest = rest
 found_at place (Some event) rest = Some (place, event)
 
+-- The first place from this one on, among so many, whose actor has a next event, and the event.
 abbrev pub first_in : (ℕ → Option Event) → ℕ → ℕ → Option (ℕ × Event)
 first_in next place zero = None
 first_in next place (suc many) = found_at place (next place) (first_in next (suc place) many)
 
 -- The first of two that is found.
-abbrev pub first_of : Option (ℕ × Event) → Option (ℕ × Event) → Option (ℕ × Event)
-first_of None other = other
-first_of (Some found) other = Some found
+abbrev pub either_found : Option (ℕ × Event) → Option (ℕ × Event) → Option (ℕ × Event)
+either_found None other = other
+either_found (Some found) other = Some found
 
 -- Each actor is asked once: from a place to the last one, the kernel, and then those before that place.
 abbrev pub first_from : (ℕ → Option Event) → ℕ → ℕ → Option (ℕ × Event)
-first_from next procs begin = first_of (first_in next begin (procs + 1 - begin)) (first_in next 0 begin)
+first_from next procs begin = either_found (first_in next begin (procs + 1 - begin)) (first_in next 0 begin)
 
 -- The place after that of who made the last event; the first one behind the kernel, and before any event.
-abbrev pub place_after : ℕ → Option ℕ → ℕ
-place_after procs None = 0
-place_after procs (Some place) = if nat_lt place procs then suc place else 0
+abbrev pub place_behind : ℕ → Option ℕ → ℕ
+place_behind procs None = 0
+place_behind procs (Some place) = if nat_lt place procs then suc place else 0
 
 -- The place that a rule asks first, by who made the last event and the number that the generator gives.
 abbrev pub begin_by : Rule → ℕ → Option ℕ → ℕ → ℕ
-begin_by InTurns procs last word = place_after procs last
+begin_by InTurns procs last word = place_behind procs last
 begin_by LeastFirst procs last word = 0
 begin_by GreatestFirst procs last word = 0
 begin_by KernelFirst procs last word = procs

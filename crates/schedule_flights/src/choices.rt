@@ -4,7 +4,7 @@ ghost use Rattle.std.specs.Prelude.{◌≡◌, ℕ, ◌+◌, ◌-◌, ◌≤◌,
 ghost use Rattle.event_core.specs.Cores.{flown, standing, standing_words};
 ghost use Rattle.fail_stop.specs.Ends.{IsOver};
 ghost use Rattle.fail_stop.specs.Events.{IsNext};
-ghost use Rattle.schedule_flights.specs.Choices.{begin_of, chooser_after, chosen, first_chooser, first_from, first_in, generator_after, is_backwards, next_in_order, place_after, seed_of};
+ghost use Rattle.schedule_flights.specs.Choices.{begin_of, chooser_after, chosen, first_chooser, first_from, first_in, generator_after, is_backwards, next_in_order, place_behind, seed_of};
 
 use bank_words::Event;
 use event_core::Core;
@@ -57,7 +57,7 @@ impl Chooser {
         ensures generator { self.new.generator ≡ generator_after self.old.rule self.old.generator }
     {
         match self.rule {
-            Rule::InTurns => place_after(procs, self.last),
+            Rule::InTurns => place_behind(procs, self.last),
             Rule::LeastFirst => 0,
             Rule::GreatestFirst => 0,
             Rule::KernelFirst => procs,
@@ -100,9 +100,9 @@ fn seed_of(rule: Rule) -> u64
 }
 
 // The place after that of who made the last event; the first one behind the kernel, and before any event.
-fn place_after(procs: usize, last: Option<usize>) -> usize
+fn place_behind(procs: usize, last: Option<usize>) -> usize
     requires { procs ≤ 8 }
-    ensures place { result ≡ place_after procs last }
+    ensures place { result ≡ place_behind procs last }
     ensures low { result ≤ procs }
 {
     match last {

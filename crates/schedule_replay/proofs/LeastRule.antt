@@ -10,6 +10,7 @@ use Rattle.scram_types.specs.declared.ids.ProcId.{ProcId}
 use Rattle.bank_words.specs.declared.events.Event.{Event}
 use Rattle.bank_words.specs.declared.events.Event.TheVariants as event
 use Rattle.fault_script.specs.Times.{words as width_of}
+use Rattle.trace_text.specs.LineRules.{keeps}
 use Rattle.trace_text.specs.Pieces.{is_filled, word_at, words_in, words_of}
 use Rattle.trace_text.specs.Rules.{unless}
 use Rattle.trace_text.specs.Spelling.{spelled_number}
@@ -17,7 +18,7 @@ use Rattle.trace_text.proofs.FirstBroken.{least_from, tells_least, told_by}
 use Rattle.schedule_replay.specs.declared.rule.TheConstants.{BROKEN_LINE, NO_FORM, UNKNOWN_EVENT, UNKNOWN_WORD}
 use Rattle.schedule_replay.specs.declared.verbs.Verb.{Verb}
 use Rattle.schedule_replay.specs.declared.verbs.Verb.TheVariants.{Start, Look, Store, Flip, Done, Halt, Note, KernelStore, Release}
-use Rattle.schedule_replay.specs.LineRules.{LeastRuleIsTold, has_words, keeps, line_form, names_event}
+use Rattle.schedule_replay.specs.LineRules.{LeastEventRuleIsTold, event_form, has_words, names_event}
 use Rattle.schedule_replay.specs.Reading.{event_read, event_told, is_legible, line_event, proc_in, verb_of, words_counted, words_for}
 use Rattle.schedule_replay.specs.Verbs.{word_count}
 
@@ -96,7 +97,7 @@ legible_case : (legible : Bool) (read : Result Event ℕ) (more : List Bool) →
 legible_case true read more is = is
 legible_case false read more is = refl
 
-pub least_rule : LeastRuleIsTold
+pub least_rule : LeastEventRuleIsTold
 least_rule spec line =
-    tells_least 1 (is_legible line ∷ is_some (verb_of line) ∷ is_some (line_form line) ∷ keeps (line_form line) (names_event spec (words_of line)) ∷ []) (event_read spec line)
-    (legible_case (is_legible line) (line_event spec line) (is_some (verb_of line) ∷ is_some (line_form line) ∷ keeps (line_form line) (names_event spec (words_of line)) ∷ []) (verb_case spec line (verb_of line)))
+    tells_least 1 (is_legible line ∷ is_some (verb_of line) ∷ is_some (event_form line) ∷ keeps (event_form line) (names_event spec (words_of line)) ∷ []) (event_read spec line)
+    (legible_case (is_legible line) (line_event spec line) (is_some (verb_of line) ∷ is_some (event_form line) ∷ keeps (event_form line) (names_event spec (words_of line)) ∷ []) (verb_case spec line (verb_of line)))

@@ -4,7 +4,7 @@ use Rattle.std.specs.List.{list_all}
 use Rattle.scram_types.specs.Specification.{Parts}
 use Rattle.scram_types.specs.Lookups.{proc_named}
 use Rattle.fault_script.specs.Times.{words as width_of}
-use Rattle.trace_text.specs.LineRules.{TellsLeast}
+use Rattle.trace_text.specs.LineRules.{TellsLeast, keeps}
 use Rattle.trace_text.specs.Pieces.{is_filled, word_at, words_of}
 use Rattle.trace_text.specs.Spelling.{spelled_number}
 use Rattle.schedule_replay.specs.declared.rule.TheConstants.{BROKEN_LINE, NO_FORM, UNKNOWN_EVENT, UNKNOWN_WORD}
@@ -18,42 +18,30 @@ abbrev pub has_words : List (List ℕ) → Verb → Bool
 has_words words verb = list_all is_filled words && (length words == word_count verb)
 
 -- the kind of event whose form the words of a line have, if there is one
-abbrev pub line_form : List ℕ → Option Verb
-line_form line = option_and_then (λ (verb : Verb). if has_words (words_of line) verb then Some verb else None) (verb_of line)
-
--- whether a word names a processor
-abbrev pub is_proc_name : Parts → List ℕ → Bool
-is_proc_name spec word = is_some (proc_named spec word)
-
--- whether a word spells a number below a limit
-abbrev pub is_number_below : ℕ → List ℕ → Bool
-is_number_below limit word = is_some (spelled_number limit word)
+abbrev pub event_form : List ℕ → Option Verb
+event_form line = option_and_then (λ (verb : Verb). if has_words (words_of line) verb then Some verb else None) (verb_of line)
 
 -- Rule 4: each processor is known, and a number is that of a word of an image, or of one of the kernel's words.
 abbrev pub names_event : Parts → List (List ℕ) → Verb → Bool
-names_event spec words Start = is_proc_name spec (word_at words 1)
-names_event spec words Look = is_proc_name spec (word_at words 1) && is_proc_name spec (word_at words 2)
-names_event spec words Store = is_proc_name spec (word_at words 1) && is_number_below (width_of spec) (word_at words 2)
-names_event spec words Flip = is_proc_name spec (word_at words 1)
-names_event spec words Done = is_proc_name spec (word_at words 1)
-names_event spec words Halt = is_proc_name spec (word_at words 1)
-names_event spec words Note = is_proc_name spec (word_at words 1)
-names_event spec words KernelStore = is_number_below 20 (word_at words 1)
+names_event spec words Start = is_some (proc_named spec (word_at words 1))
+names_event spec words Look = is_some (proc_named spec (word_at words 1)) && is_some (proc_named spec (word_at words 2))
+names_event spec words Store = is_some (proc_named spec (word_at words 1)) && is_some (spelled_number (width_of spec) (word_at words 2))
+names_event spec words Flip = is_some (proc_named spec (word_at words 1))
+names_event spec words Done = is_some (proc_named spec (word_at words 1))
+names_event spec words Halt = is_some (proc_named spec (word_at words 1))
+names_event spec words Note = is_some (proc_named spec (word_at words 1))
+names_event spec words KernelStore = is_some (spelled_number 20 (word_at words 1))
 names_event spec words Release = true
 
--- whether a line that has a form keeps what is asked by it; of a line without a form nothing is asked
-abbrev pub keeps : Option Verb → (Verb → Bool) → Bool
-keeps None ask = true
-keeps (Some verb) ask = ask verb
-
--- Whether a line, which stands here without its line feed, breaks the rule of this number.
-abbrev pub breaks_rule : Parts → List ℕ → ℕ → Bool
-breaks_rule spec line rule =
+-- Whether a line, which stands here without its line feed, breaks the rule of this number. Rule 4 asks nothing of a line that has
+-- no form.
+abbrev pub breaks_event_rule : Parts → List ℕ → ℕ → Bool
+breaks_event_rule spec line rule =
     if rule == BROKEN_LINE then not (is_legible line)
     else (if rule == UNKNOWN_WORD then not (is_some (verb_of line))
-    else (if rule == NO_FORM then not (is_some (line_form line))
-    else (if rule == UNKNOWN_EVENT then not (keeps (line_form line) (names_event spec (words_of line))) else false)))
+    else (if rule == NO_FORM then not (is_some (event_form line))
+    else (if rule == UNKNOWN_EVENT then not (keeps (event_form line) (names_event spec (words_of line))) else false)))
 
 -- A line that breaks no rule is read, and of any other the least rule is told that it breaks.
-abbrev pub LeastRuleIsTold : Type 0
-LeastRuleIsTold = (spec : Parts) (line : List ℕ) → TellsLeast (breaks_rule spec line) (event_read spec line)
+abbrev pub LeastEventRuleIsTold : Type 0
+LeastEventRuleIsTold = (spec : Parts) (line : List ℕ) → TellsLeast (breaks_event_rule spec line) (event_read spec line)

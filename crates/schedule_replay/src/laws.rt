@@ -3,7 +3,7 @@
 ghost use Rattle.std.specs.Prelude.{◌≡◌};
 ghost use Rattle.schedule_replay.specs.Events.{AreCodes};
 ghost use Rattle.schedule_replay.specs.Laws.{OneAnswer};
-ghost use Rattle.schedule_replay.specs.LineRules.{LeastRuleIsTold};
+ghost use Rattle.schedule_replay.specs.LineRules.{LeastEventRuleIsTold};
 ghost use Rattle.schedule_replay.specs.Turns.{TurnsLeadToTheEnd};
 
 use event_core::Core;
@@ -17,7 +17,7 @@ pub fn turns_lead_to_the_end()
 /// A line that breaks no rule is read, and of any other line the least rule is told that it breaks. What each rule asks is
 /// said on its own, by no order of tests.
 pub fn least_rule_is_told()
-    ensures { LeastRuleIsTold }
+    ensures { LeastEventRuleIsTold }
 {}
 
 /// Besides want of memory, a list of numbers has one answer: that of a whole schedule, of the first event that is out of

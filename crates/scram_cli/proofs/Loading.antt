@@ -10,7 +10,7 @@ use Rattle.coverage_check.specs.Acceptance.{first_refusal}
 use Rattle.fault_script.specs.Reading.{script_of}
 use Rattle.reconf_spec.specs.Documents.{spec_of}
 use Rattle.trace_text.specs.TraceReading.{trace_of}
-use Rattle.reconf_spec.specs.declared.fault.SpecFault.{SpecFault}
+use Rattle.spec_apps.specs.declared.fault.SpecFault.{SpecFault}
 use Rattle.trace_text.specs.declared.trace_reading.TraceFault.{TraceFault}
 use Rattle.schedule_replay.specs.declared.limits.TheConstants.{MAX_SCHEDULE_BYTES}
 use Rattle.schedule_replay.specs.declared.schedule_reading.ScheduleFault.{ScheduleFault}

@@ -9,11 +9,11 @@ use Rattle.scram_types.specs.Scripts.{ScriptParts}
 use Rattle.scram_types.specs.Specification.{Parts}
 use Rattle.scram_doc.specs.declared.fault.DocFault.{DocFault}
 use Rattle.scram_io.specs.Outside.{FilesState, History, IsLonger, Rose}
-use Rattle.reconf_spec.specs.declared.fault.SpecFault.{SpecFault}
-use Rattle.reconf_spec.specs.declared.rule.TheConstants as specification_rule
+use Rattle.spec_apps.specs.declared.fault.SpecFault.{SpecFault}
+use Rattle.spec_members.specs.declared.rule.TheConstants as specification_rule
 use Rattle.fault_script.specs.declared.rule.TheConstants as script_rule
 use Rattle.trace_text.specs.declared.rule.TheConstants as trace_rule
-use Rattle.reconf_spec.specs.Answers.{CycleAmong, NamedAmong}
+use Rattle.spec_apps.specs.Answers.{CycleAmong, NamedAmong}
 use Rattle.reconf_spec.specs.Documents.{spec_of, unranked_of}
 use Rattle.fault_script.specs.declared.assumption.Outside.{Outside}
 use Rattle.fault_script.specs.Assumption.{first_outside}

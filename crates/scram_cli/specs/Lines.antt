@@ -12,7 +12,7 @@ use Rattle.scram_types.specs.declared.specification.Proc.{Proc}
 use Rattle.choice_table.specs.Numbering.{states}
 use Rattle.scram_doc.specs.Paths.{shown as path_text}
 use Rattle.scram_doc.specs.declared.fault.DocFault.{DocFault}
-use Rattle.reconf_spec.specs.declared.fault.SpecFault.{SpecFault}
+use Rattle.spec_apps.specs.declared.fault.SpecFault.{SpecFault}
 use Rattle.fault_script.specs.declared.assumption.Outside.{Outside}
 use Rattle.fault_script.specs.declared.assumption.OutsideKind.{OutsideKind}
 use Rattle.fault_script.specs.declared.assumption.OutsideKind.TheVariants.{Halts, Changes}

@@ -7,9 +7,9 @@ use Rattle.scram_doc.specs.declared.fault.DocFault.{DocFault}
 use Rattle.scram_io.specs.Outside.{FilesState, Grew, IsLonger, Rose}
 use Rattle.fault_script.specs.Fits.{Fits}
 use Rattle.fault_script.specs.Reading.{script_of}
-use Rattle.reconf_spec.specs.declared.fault.SpecFault.{SpecFault}
-use Rattle.reconf_spec.specs.declared.fault.SpecError.TheVariants.{Fault}
-use Rattle.reconf_spec.specs.Answers.{ShowsCycle}
+use Rattle.spec_apps.specs.declared.fault.SpecFault.{SpecFault}
+use Rattle.spec_apps.specs.declared.fault.SpecError.TheVariants.{Fault}
+use Rattle.spec_apps.specs.Answers.{ShowsCycle}
 use Rattle.reconf_spec.specs.Documents.{spec_of, unranked_of}
 use Rattle.schedule_replay.specs.declared.schedule_reading.ScheduleFault.{ScheduleFault}
 use Rattle.schedule_replay.specs.Events.{AreCodes}

@@ -198,7 +198,7 @@ is_open Reports = true
 is_open Over = false
 
 -- whether a line that has a form keeps what is asked by it; of a line without a form, and after the end line, nothing is asked
-abbrev pub keeps : Option Form → (Form → Bool) → Bool
+abbrev pub keeps : {A : Type 0} → Option A → (A → Bool) → Bool
 keeps None ask = true
 keeps (Some form) ask = ask form
 

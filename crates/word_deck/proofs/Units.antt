@@ -3,6 +3,7 @@ use Rattle.std.proofs.Common.{◌≡◌, ◌∙◌, ℕ, ◌<◌, ap, arith, ref
 use Rattle.std.specs.Prelude.{Option, Some, None, IfSome, is_some}
 use Rattle.fail_stop.specs.declared.units.Halted.{Halted as HaltedUnit}
 use Rattle.fail_stop.specs.declared.units.Live.{Live}
+use Rattle.fail_stop.specs.Events.{Halted, frame_of}
 use Rattle.word_table.specs.declared.seats.Seat.{Seat}
 use Rattle.word_table.specs.Actors.{is_halted}
 use Rattle.word_table.specs.declared.tables.WordTable.{WordTable}
@@ -43,13 +44,15 @@ module _ {X : Type 0} {Y : X → Type 0} (was seat : Seat) (live live2 : Option 
     has_halted = none ∙ sym flies;
     live_is = of_some (λ (unit : Live X Y). unit.proc.0 ≡ proc_of seat) live2 (number (proc_of seat) of_live of_halted);
     halted_is = λ unit is. absurd (is_none halted2 unit none is);
+    halted_in = λ unit is. absurd (is_none halted2 unit none is);
   }
 
-  pub keeps_halted : is_halted (seat_place seat) ≡ true → is_some live2 ≡ false → is_some halted2 ≡ true
+  pub keeps_halted : (f : ℕ) → seat_place seat ≡ Halted f → is_some live2 ≡ false → is_some halted2 ≡ true → IfSome halted2 (λ (unit : HaltedUnit). unit.frame ≡ f)
       → ((p : ℕ) → IfSome live (λ (unit : Live X Y). unit.proc.0 ≡ p) → IfSome halted2 (λ (unit : HaltedUnit). unit.proc.0 ≡ p)) → CrewKeeps seat live2 halted2
-  keeps_halted stopped none some number = record {
-    lives = none ∙ sym (ap not stopped);
-    has_halted = some ∙ sym stopped;
+  keeps_halted f place none some frame number = record {
+    lives = none ∙ sym (ap (λ x. not (is_halted x)) place);
+    has_halted = some ∙ sym (ap is_halted place);
     live_is = λ unit is. absurd (is_none live2 unit none is);
     halted_is = of_some (λ (unit : HaltedUnit). unit.proc.0 ≡ proc_of seat) halted2 (number (proc_of seat) of_live);
+    halted_in = λ unit is. of_some (λ (unit : HaltedUnit). unit.frame ≡ f) halted2 frame unit is ∙ sym (ap frame_of place);
   }

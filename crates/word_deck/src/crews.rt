@@ -204,6 +204,7 @@ fn halt_unit(live: &mut Option<Live>, halted: &mut Option<Halted>, frame: u32)
     ensures lives { is_some live.new ≡ false }
     ensures halted { is_some halted.new ≡ true }
     ensures number { (p : ℕ) → IfSome live.old (λ live. live.proc.0 ≡ p) → IfSome halted.new (λ halted. halted.proc.0 ≡ p) }
+    ensures frame { IfSome halted.new (λ halted. halted.frame ≡ frame) }
 {
     if let Some(unit) = live.take() {
         *halted = Some(unit.halt(frame));

@@ -17,7 +17,7 @@ use std::io::{self, ErrorKind};
 use std::rt::HostRuntime;
 use trace_props::one_thread;
 use word_deck::KernelCrew;
-use word_table::{KSeat, Seat, WordTable};
+use word_table::{KSeat, Seat, WordTable, Words};
 
 /// Flies the script of a row, for each step of its halt, and prints what came of it.
 pub fn fly_row(rt: &HostRuntime, text: &str, row: &str) -> io::Result<()> {
@@ -39,9 +39,9 @@ fn mission_of(rt: &HostRuntime, text: &str, row: &str, step: u32) -> io::Result<
 fn open(rt: &HostRuntime, mission: &Mission, row: &str) -> io::Result<()> {
     let racks = empty_racks(rt.alloc())?;
     let spares = empty_racks(rt.alloc())?;
-    match WordTable::open(rt.alloc(), mission) {
+    match Words::open(rt.alloc(), mission) {
         Ok((words, kseat, seats)) => {
-            let pair = pair_of(&words, seats, racks, spares)?;
+            let pair = pair_of(&words.table, seats, racks, spares)?;
             fly(rt, mission, words, kseat, pair, row)
         }
         Err(_) => Err(ErrorKind::OutOfMemory.into()),
@@ -51,22 +51,22 @@ fn open(rt: &HostRuntime, mission: &Mission, row: &str) -> io::Result<()> {
 fn fly(
     rt: &HostRuntime,
     mission: &Mission,
-    words: WordTable,
+    words: Words,
     kseat: KSeat,
     mut pair: Pair,
     row: &str,
 ) -> io::Result<()>
-    requires mission { mission_in words ≡ mission.now }
-    requires kernel { IsKernelSeatOf words kseat }
+    requires mission { mission_in words.table ≡ mission.now }
+    requires kernel { IsKernelSeatOf words.table kseat }
     requires frame { kernel_frame kseat ≡ 0 }
     requires steps { kernel_steps kseat ≡ 0 }
-    requires fits { PairFits words pair }
+    requires fits { PairFits words.table pair }
 {
     mission.holds();
     match Kernel::new(rt.alloc(), mission.spec(), mission.script()) {
         Ok(kernel) => {
             let mut kernel = KernelCrew::kernel(mission, kseat, kernel);
-            fly_pair(rt, mission, &words, &mut pair, &mut kernel, row)?;
+            fly_pair(rt, mission, &words.table, &mut pair, &mut kernel, row)?;
             close(rt, words, kernel, pair, row)
         }
         Err(_) => Err(ErrorKind::OutOfMemory.into()),
@@ -185,19 +185,18 @@ fn print_compared(rt: &HostRuntime, mission: &Mission, rows: &[Row]) -> io::Resu
 // The second processor looks, where the row asks for it; else the table is closed, and the marks are printed.
 fn close(
     rt: &HostRuntime,
-    words: WordTable,
+    words: Words,
     kernel: KernelCrew,
     pair: Pair,
     row: &str,
 ) -> io::Result<()>
-    requires kernel { IsKernelSeatOf words kernel.kseat }
-    requires mission { mission_in words ≡ kernel.mission.now }
-    requires fits { PairFits words pair }
+    requires kernel { IsKernelSeatOf words.table kernel.kseat }
+    requires fits { PairFits words.table pair }
 {
     let Pair { first, second } = pair;
     let mut two = second.seat;
     if line_after(row, "look").is_some() {
-        return look(rt, kernel.mission, &words, &mut two);
+        return look(rt, &words, &mut two);
     }
     let seats = list_seats(rt.alloc(), first.seat, two)?;
     let last = words.close(kernel.kseat, seats);

@@ -4,27 +4,21 @@ ghost use Rattle.std.specs.Prelude.{◌≡◌, ◌<◌, length};
 ghost use Rattle.word_table.specs.Actors.{steps_of};
 ghost use Rattle.word_table.specs.Tables.{IsSeatOf, mission_in, seat_place};
 
-use coverage_check::Mission;
 use frame_model::sights::slot_in;
 use scram_types::{Image, ProcId, Spec};
 use std::io;
 use std::rt::HostRuntime;
-use word_table::{Seat, WordTable};
+use word_table::{Seat, Words};
 
 /// The seat's processor starts its next frame, where that is released, and looks at the first processor. Prints the areas
 /// of the applications that it finds there.
 #[tactic(auto, using(crate::proofs::Looking::waits_at, word_deck::proofs::Steps::looks))]
-pub fn look(
-    rt: &HostRuntime,
-    mission: &Mission,
-    words: &WordTable,
-    seat: &mut Seat,
-) -> io::Result<()>
-    requires mission { mission_in words.now ≡ mission.now }
-    requires seat { IsSeatOf words.now seat.old }
+pub fn look(rt: &HostRuntime, words: &Words, seat: &mut Seat) -> io::Result<()>
+    requires seat { IsSeatOf words.now.table seat.old }
     requires begin { steps_of (seat_place seat.old) ≡ 0 }
-    requires some { 0 < length mission.now.spec.procs }
+    requires some { 0 < length (mission_in words.now.table).spec.procs }
 {
+    let mission = words.mission();
     let frames = mission.script().frames;
     if seat.halted() || seat.frame() >= frames {
         return println!(rt; "does not wait");

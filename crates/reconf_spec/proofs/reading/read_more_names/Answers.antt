@@ -1,8 +1,9 @@
 use Rattle.std.proofs.Common.{rules, ◌≡◌, ◌≤◌, length}
 use Rattle.std.specs.Prelude.{Ok}
 use Rattle.scram_doc.specs.Lists.{AllAfter}
-use Rattle.reconf_spec.specs.Facts.{IsNewConf, IsNewFactor}
-use Rattle.reconf_spec.proofs.Distinct.{kept}
+use Rattle.spec_table.specs.Facts.{IsNewConf}
+use Rattle.spec_members.specs.Facts.{IsNewFactor}
+use Rattle.spec_members.proofs.Distinct.{kept}
 use Rattle.reconf_spec.proofs.reading.read_more_names.Goals as goal
 
 pub invariant_of-result : goal.invariant_of-result

@@ -1,8 +1,8 @@
 use Rattle.std.proofs.Common.{rules, ◌≡◌}
 use Rattle.std.specs.Prelude.{Ok}
 use Rattle.scram_doc.specs.Lists.{AllAfter}
-use Rattle.reconf_spec.specs.Facts.{IsNewProc}
-use Rattle.reconf_spec.proofs.Distinct.{kept}
+use Rattle.spec_members.specs.Facts.{IsNewProc}
+use Rattle.spec_members.proofs.Distinct.{kept}
 use Rattle.reconf_spec.proofs.reading.read_names.Goals as goal
 
 pub read_more_names-requires-clause-procs_fit : goal.read_more_names-requires-clause-procs_fit

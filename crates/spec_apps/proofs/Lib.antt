@@ -1,0 +1,4 @@
+pub mod Cycles
+pub mod Handing
+pub mod Joined
+pub mod LongestChains

@@ -1,0 +1,74 @@
+-- How the applications are read, before the names of their needs are looked up.
+use Rattle.std.specs.Prelude.{ℕ, List, [], codes, is_some, Result, Ok, ⊤, if◌then◌else◌}
+use Rattle.serde_json.specs.Data.{Data, Items}
+use Rattle.scram_types.specs.declared.specification.ModeSpec.{ModeSpec}
+use Rattle.scram_types.specs.declared.specification.AppSpec.{AppSpec}
+use Rattle.scram_types.specs.Specification.{mode_in}
+use Rattle.app_model.specs.Names.{kind_names, number_in}
+use Rattle.scram_doc.specs.declared.fault.DocFault.{DocFault}
+use Rattle.scram_doc.specs.Chain.{chain}
+use Rattle.scram_doc.specs.Faults.{broken, or_broken}
+use Rattle.scram_doc.specs.Paths.{member_path}
+use Rattle.scram_doc.specs.Members.{object_at, needed, no_more_than}
+use Rattle.scram_doc.specs.Values.{list_at, text_at, whole_at}
+use Rattle.spec_members.specs.declared.rule.TheConstants.{UNKNOWN_KIND, MODE_TWICE}
+use Rattle.scram_doc.specs.Lists.{elements_at, folded_from}
+use Rattle.spec_members.specs.Names.{read_new_name, name_of_app}
+use Rattle.spec_members.specs.Modes.{read_kind_mode}
+
+-- a mode of a kind that is not listed yet
+abbrev pub read_new_mode : ℕ → List ModeSpec → List ℕ → Data → Result ℕ DocFault
+read_new_mode kind done at d =
+    chain (read_kind_mode kind at d) (λ (mode : ℕ). if is_some (mode_in done mode) then broken MODE_TWICE at else Ok mode)
+
+-- how many frames a phase takes
+abbrev pub read_phase : List ℕ → Data → Result ℕ DocFault
+read_phase at d = whole_at 1 17 at d
+
+-- a mode that an application lists, after those before it
+abbrev pub read_mode : ℕ → List ℕ → List ModeSpec → Data → Result ModeSpec DocFault
+read_mode kind at done d =
+    chain (object_at at d) (λ (_ : ⊤).
+    chain (needed (codes "mode") at d) (λ (mode : Data).
+    chain (needed (codes "load") at d) (λ (load : Data).
+    chain (needed (codes "halt") at d) (λ (halt : Data).
+    chain (needed (codes "prepare") at d) (λ (prepare : Data).
+    chain (needed (codes "init") at d) (λ (init : Data).
+    chain (no_more_than 5 at d) (λ (_ : ⊤).
+    chain (read_new_mode kind done (member_path at (codes "mode")) mode) (λ (mode : ℕ).
+    chain (whole_at 0 1000001 (member_path at (codes "load")) load) (λ (load : ℕ).
+    chain (read_phase (member_path at (codes "halt")) halt) (λ (halt : ℕ).
+    chain (read_phase (member_path at (codes "prepare")) prepare) (λ (prepare : ℕ).
+    chain (read_phase (member_path at (codes "init")) init) (λ (init : ℕ).
+    Ok (record { mode = record { 0 = mode }; load = load; halt = halt; prepare = prepare; init = init })))))))))))))
+
+-- the modes that an application lists: 1 to 3
+abbrev pub read_modes : ℕ → List ℕ → Data → Result (List ModeSpec) DocFault
+read_modes kind at d = elements_at (read_mode kind) 1 3 at d
+
+-- a kind of application, by its name
+abbrev pub read_kind : List ℕ → Data → Result ℕ DocFault
+read_kind at d = chain (text_at at d) (λ (text : List ℕ). or_broken UNKNOWN_KIND at (number_in kind_names text))
+
+-- A list of 0 to 8 texts; what they name is looked up later.
+abbrev pub check_text : List ℕ → ⊤ → Data → Result ⊤ DocFault
+check_text at made d = chain (text_at at d) (λ (_ : List ℕ). Ok tt)
+
+-- The value at a path is a list of 0 to 8 texts.
+abbrev pub check_text_list : List ℕ → Data → Result ⊤ DocFault
+check_text_list at d = chain (list_at 0 8 at d) (λ (ds : Items). folded_from check_text at 0 tt ds)
+
+-- an application, without its needs and its rank
+abbrev pub read_app : List ℕ → List AppSpec → Data → Result AppSpec DocFault
+read_app at done d =
+    chain (object_at at d) (λ (_ : ⊤).
+    chain (needed (codes "name") at d) (λ (name : Data).
+    chain (needed (codes "kind") at d) (λ (kind : Data).
+    chain (needed (codes "needs") at d) (λ (needs : Data).
+    chain (needed (codes "modes") at d) (λ (modes : Data).
+    chain (no_more_than 4 at d) (λ (_ : ⊤).
+    chain (read_new_name name_of_app done (member_path at (codes "name")) name) (λ (name : List ℕ).
+    chain (read_kind (member_path at (codes "kind")) kind) (λ (kind : ℕ).
+    chain (check_text_list (member_path at (codes "needs")) needs) (λ (_ : ⊤).
+    chain (read_modes kind (member_path at (codes "modes")) modes) (λ (modes : List ModeSpec).
+    Ok (record { name = name; kind = record { 0 = kind }; needs = []; modes = modes; rank = 0 })))))))))))

@@ -1,0 +1,5 @@
+pub mod Answers
+pub mod Applications
+pub mod Facts
+pub mod Needs
+pub mod Unranked

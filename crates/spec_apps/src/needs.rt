@@ -1,0 +1,199 @@
+//! What applications need.
+
+ghost use Rattle.std.specs.Prelude.{◌≡◌, ◌≤◌, ◌<◌, ℕ, [], length, All, Ok, Some, codes, option_map, slice_get, IfErr, IfOk, OnOk, true};
+ghost use Rattle.serde_json.specs.View.{view};
+ghost use Rattle.scram_types.specs.declared.ids.AppId.{AppId};
+ghost use Rattle.scram_types.specs.Specification.{Each};
+ghost use Rattle.scram_doc.specs.Faults.{Answers};
+ghost use Rattle.spec_members.specs.Members.{member_in};
+ghost use Rattle.spec_members.specs.Names.{name_of_app};
+ghost use Rattle.spec_apps.specs.Needs.{apps_in, are_ranked, read_need, read_needs, with_needs, with_ranks, ranked_at, read_unranked};
+ghost use Rattle.dep_order.specs.Timetables.{is_named};
+ghost use Rattle.spec_apps.specs.Facts.{IsNewNeed, AreNeeds};
+ghost use Rattle.dep_order.specs.Ranks.{IsCycle, IsRanking, RanksFall};
+ghost use Rattle.spec_apps.specs.Answers.{AreNamed, AnswersSpec, ShowsCycle, CycleAmong};
+ghost use Rattle.spec_members.specs.Kept.{AreApps};
+ghost use Rattle.spec_apps.specs.Unranked.{AreUnranked};
+ghost use Rattle.spec_members.specs.Found.{AreMembers};
+
+use crate::applications::Apps;
+use crate::{SpecError, SpecFault};
+use arrayvec::ArrayVec;
+use dep_order::{Cycle, rank};
+use scram_doc::{
+    DocError, DocFault, Elements, Numbered, Path, list, need, read_items, read_list,
+    read_named_items,
+};
+use scram_types::limits::MAX_APPLICATIONS;
+use scram_types::{AppId, AppSpec, List, Name};
+use serde_json::Value;
+use spec_members::members::Members;
+use spec_members::names::{ByName, read_named};
+use spec_members::rule;
+use std::alloc::Global;
+
+fn is_needed(needs: &[AppId], app: AppId) -> bool
+    ensures { result ≡ is_named needs.now app.0 }
+{
+    needs.iter().any(|needed| needed.0 == app.0)
+}
+
+/// Needs, among these applications.
+#[derive(Clone, Copy)]
+struct Needs<'a> {
+    apps: &'a Numbered<AppSpec, ByName>,
+
+    ghost few: { length apps.now ≤ 8 },
+}
+
+impl Elements<AppId> for Needs<'_> {
+    ghost room = { 40 };
+
+    ghost reading = { λ needs. read_need needs.apps.now };
+
+    ghost Fits = { λ needs. IsNewNeed needs.apps.now };
+
+    fn read(
+        &self,
+        _alloc: Global,
+        done: &[AppId],
+        v: &Value,
+        at: &Path,
+    ) -> Result<AppId, DocError> {
+        let app = AppId(read_named(self.apps, rule::UNKNOWN_APPLICATION, v, at)?);
+        if is_needed(done, app) {
+            Err(DocError::from(DocFault::new(rule::TWICE_IN_LIST, at)))
+        } else {
+            Ok(app)
+        }
+    }
+}
+
+impl Elements<List<AppId>> for Needs<'_> {
+    ghost room = { 24 };
+
+    ghost reading = { λ needs. read_needs needs.apps.now };
+
+    ghost Fits = { λ needs _. AreNeeds needs.apps.now };
+
+    fn read(
+        &self,
+        alloc: Global,
+        _done: &[List<AppId>],
+        v: &Value,
+        at: &Path,
+    ) -> Result<List<AppId>, DocError> {
+        let needs = need(v, "needs", at)?;
+        let at = at.member("needs");
+        let needs: Vec<AppId> = read_list(alloc, self, needs, 0, MAX_APPLICATIONS, &at)?;
+        Ok(List::of(needs))
+    }
+}
+
+/// Gives each application its needs.
+fn set_needs(apps: &mut [AppSpec], needs: Vec<List<AppId>>)
+    requires { length needs.items ≤ length apps.old }
+    ensures { apps.new ≡ with_needs apps.old needs.items }
+{
+    let mut needs = needs;
+    while let Some(named) = needs.pop() {
+        apps[needs.len()].needs = named;
+    }
+}
+
+/// Gives each application its rank.
+fn set_ranks(apps: &mut [AppSpec], ranks: ArrayVec<u8, 8>)
+    requires { length ranks.items ≤ length apps.old }
+    ensures { apps.new ≡ with_ranks apps.old ranks.items }
+{
+    let mut ranks = ranks;
+    while let Some(rank) = ranks.pop() {
+        apps[ranks.len()].rank = rank;
+    }
+}
+
+/// The applications with their needs, not ranked yet.
+fn read_unranked(alloc: Global, v: &Value, at: &Path) -> Result<Numbered<AppSpec, ByName>, DocError>
+    requires room { length at.now ≤ 18 }
+    ensures value { Answers (read_unranked at.now (view v.now)) (λ apps. apps) result }
+    ensures fits { IfOk result (λ apps. AreUnranked apps) }
+{
+    let items = list(v, 1, MAX_APPLICATIONS, at)?;
+    let apps: Numbered<AppSpec, ByName> = read_named_items(alloc, &Apps, items, at)?;
+    let known = Needs { apps: &apps };
+    let needs: Vec<List<AppId>> = read_items(alloc, &known, items, at)?;
+    let (mut apps, numbers) = apps.into_parts();
+    set_needs(&mut apps, needs);
+    Ok(Numbered::of(apps, numbers))
+}
+
+fn name_of(apps: &[AppSpec], app: AppId) -> Name
+    requires { app.0 < length apps.now }
+    ensures { option_map name_of_app (slice_get apps.now app.0) ≡ Some result }
+{
+    apps[usize::from(app.0)].name.copy()
+}
+
+/// The names of applications, in the order in which these are listed.
+fn names_of(apps: &[AppSpec], listed: &[AppId]) -> ArrayVec<Name, 8>
+    requires there { Each (λ (app : AppId). app.0 < length apps.now) listed.now }
+    requires few { length listed.now ≤ 8 }
+    ensures { AreNamed apps.now listed.now result.items }
+{
+    let mut names = ArrayVec::new();
+    for app in listed {
+        names.push(name_of(apps, *app));
+    }
+    names
+}
+
+/// The applications with their ranks, or the cycle that keeps them from having any.
+fn finish_apps(
+    apps: Numbered<AppSpec, ByName>,
+    ranked: Result<ArrayVec<u8, 8>, Cycle>,
+    at: &Path,
+) -> Result<Numbered<AppSpec, ByName>, SpecError>
+    requires fits { AreUnranked apps }
+    requires ranks { IfOk ranked (λ ranks. IsRanking apps ranks.items) }
+    requires falls { IfOk ranked (λ ranks. RanksFall apps ranks.items) }
+    requires small { IfOk ranked (λ ranks. All (λ (rank : ℕ). rank < 8) ranks.items) }
+    requires cycle { IfErr ranked (λ cycle. IsCycle apps cycle.0.items) }
+    ensures value { AnswersSpec (ranked_at at.now apps) result }
+    ensures cycle { IfErr result (λ error. ShowsCycle (Ok apps) error) }
+    ensures no_cycle { OnOk result (are_ranked apps ≡ true) }
+    ensures fits { IfOk result (λ l. AreApps l) }
+{
+    match ranked {
+        Ok(ranks) => {
+            let (mut apps, numbers) = apps.into_parts();
+            set_ranks(&mut apps, ranks);
+            Ok(Numbered::of(apps, numbers))
+        }
+        Err(cycle) => {
+            let names = names_of(apps.items(), &cycle.0);
+            Err(SpecError::Fault(SpecFault {
+                rule: rule::CYCLE_OF_NEEDS,
+                path: at.copy(),
+                cycle: cycle.0,
+                names,
+            }))
+        }
+    }
+}
+
+/// The applications of a document, 1 to 8 of them, ranked by what they need.
+pub fn read_apps(
+    alloc: Global,
+    members: &Members<'_>,
+) -> Result<Numbered<AppSpec, ByName>, SpecError>
+    requires members { AreMembers members.now }
+    ensures value { AnswersSpec (apps_in (view members.now.document.now)) result }
+    ensures cycle { IfErr result (λ error. ShowsCycle (member_in (codes "apps") read_unranked (view members.now.document.now)) error) }
+    ensures no_cycle { OnOk result (CycleAmong (member_in (codes "apps") read_unranked (view members.now.document.now)) []) }
+    ensures fits { IfOk result (λ l. AreApps l) }
+{
+    let at = Path::root().member("apps");
+    let apps = read_unranked(alloc, members.apps, &at)?;
+    let ranked = rank(apps.items());
+    finish_apps(apps, ranked, &at)
+}

@@ -1,0 +1,146 @@
+//! The members of a document, each of which is looked up once.
+
+ghost use Rattle.std.specs.Prelude.{◌≡◌, [], Ok, Some, codes, length, option_map, IfOk};
+ghost use Rattle.serde_json.specs.View.{view};
+ghost use Rattle.scram_doc.specs.Chain.{chain, ok_map};
+ghost use Rattle.scram_doc.specs.Members.{needed, no_more_than};
+ghost use Rattle.spec_members.specs.Found.{AreMembers, AreMembersBehindNames, AreNamingMembers};
+ghost use Rattle.spec_members.specs.Versions.{IsPolicy, each_needed, is_two_in, members_behind_names, members_of, members_tested, naming_members, policy_tested};
+
+use scram_doc::{DocFault, Path, need, no_more, object};
+use serde_json::Value;
+
+/// The values of a document's members. A document of version 1 has no policy.
+#[derive(Clone, Copy)]
+pub struct Members<'a> {
+    pub document: &'a Value,
+    pub scram: &'a Value,
+    pub procs: &'a Value,
+    pub apps: &'a Value,
+    pub confs: &'a Value,
+    pub factors: &'a Value,
+    pub rules: &'a Value,
+    pub bounds: &'a Value,
+    pub start: &'a Value,
+    pub goal: &'a Value,
+    pub invariants: &'a Value,
+    pub preconditions: &'a Value,
+    pub assumption: &'a Value,
+    pub policy: Option<&'a Value>,
+}
+
+/// The value of a member `scram` is the version 2.
+fn is_second_version(scram: &Value) -> bool
+    ensures { result ≡ is_two_in (Some (view scram.now)) }
+{
+    scram.as_u64() == Some(2)
+}
+
+/// The policy of a document of version 2, where the document has no member beside those of its version.
+fn find_policy<'a>(document: &'a Value, scram: &Value) -> Result<Option<&'a Value>, DocFault>
+    requires scram { needed (codes "scram") [] (view document.now) ≡ Ok (view scram.now) }
+    ensures tested { ok_map (λ _. tt) result ≡ chain (policy_tested (view document.now)) (λ _. no_more_than (length (members_of (view document.now))) [] (view document.now)) }
+    ensures policy { IfOk result (λ policy. IsPolicy (view document.now) (option_map (λ d. view d.now) policy)) }
+{
+    let root = Path::root();
+    if is_second_version(scram) {
+        let policy = need(document, "policy", &root)?;
+        no_more(document, 13, &root)?;
+        Ok(Some(policy))
+    } else {
+        no_more(document, 12, &root)?;
+        Ok(None)
+    }
+}
+
+/// The version, and the members that name things.
+#[derive(Clone, Copy)]
+struct NamingMembers<'a> {
+    scram: &'a Value,
+    procs: &'a Value,
+    apps: &'a Value,
+    confs: &'a Value,
+    factors: &'a Value,
+}
+
+fn find_naming(document: &Value) -> Result<NamingMembers<'_>, DocFault>
+    ensures tested { ok_map (λ _. tt) result ≡ each_needed naming_members (view document.now) }
+    ensures members { IfOk result (AreNamingMembers (view document.now)) }
+{
+    let root = Path::root();
+    let scram = need(document, "scram", &root)?;
+    let procs = need(document, "processors", &root)?;
+    let apps = need(document, "apps", &root)?;
+    let confs = need(document, "configurations", &root)?;
+    let factors = need(document, "factors", &root)?;
+    Ok(NamingMembers {
+        scram,
+        procs,
+        apps,
+        confs,
+        factors,
+    })
+}
+
+/// The members that stand behind the names in both versions.
+#[derive(Clone, Copy)]
+struct MembersBehindNames<'a> {
+    rules: &'a Value,
+    bounds: &'a Value,
+    start: &'a Value,
+    goal: &'a Value,
+    invariants: &'a Value,
+    preconditions: &'a Value,
+    assumption: &'a Value,
+}
+
+fn find_behind_names(document: &Value) -> Result<MembersBehindNames<'_>, DocFault>
+    ensures tested { ok_map (λ _. tt) result ≡ each_needed members_behind_names (view document.now) }
+    ensures members { IfOk result (AreMembersBehindNames (view document.now)) }
+{
+    let root = Path::root();
+    let rules = need(document, "rules", &root)?;
+    let bounds = need(document, "bounds", &root)?;
+    let start = need(document, "start", &root)?;
+    let goal = need(document, "goal", &root)?;
+    let invariants = need(document, "invariants", &root)?;
+    let preconditions = need(document, "preconditions", &root)?;
+    let assumption = need(document, "assumption", &root)?;
+    Ok(MembersBehindNames {
+        rules,
+        bounds,
+        start,
+        goal,
+        invariants,
+        preconditions,
+        assumption,
+    })
+}
+
+/// The members of an object that has those of its version and no other.
+pub fn find_members(document: &Value) -> Result<Members<'_>, DocFault>
+    ensures tested { ok_map (λ _. tt) result ≡ members_tested (view document.now) }
+    ensures document { IfOk result (λ members. members.document.now ≡ document.now) }
+    ensures members { IfOk result (λ members. AreMembers members) }
+{
+    object(document, &Path::root())?;
+    let naming = find_naming(document)?;
+    let behind = find_behind_names(document)?;
+    let policy = find_policy(document, naming.scram)?;
+    Ok(Members {
+        document,
+        scram: naming.scram,
+        procs: naming.procs,
+        apps: naming.apps,
+        confs: naming.confs,
+        factors: naming.factors,
+        rules: behind.rules,
+        bounds: behind.bounds,
+        start: behind.start,
+        goal: behind.goal,
+        invariants: behind.invariants,
+        preconditions: behind.preconditions,
+        assumption: behind.assumption,
+        policy,
+    })
+}

@@ -1,0 +1,60 @@
+//! Processors.
+
+ghost use Rattle.std.specs.Prelude.{◌≡◌, ◌≤◌, codes, length, IfOk};
+ghost use Rattle.serde_json.specs.View.{view};
+ghost use Rattle.scram_doc.specs.Faults.{Answers};
+ghost use Rattle.spec_members.specs.Processors.{read_proc, read_procs};
+ghost use Rattle.spec_members.specs.Members.{member_in};
+ghost use Rattle.scram_doc.specs.Lists.{AllAfter};
+ghost use Rattle.spec_members.specs.Facts.{IsNewProc};
+ghost use Rattle.spec_members.specs.Found.{AreMembers};
+
+use crate::members::Members;
+use crate::names::{ByName, read_new_name};
+use scram_doc::{
+    DocError, NamedElements, Numbered, Path, need, no_more, object, read_named_list, whole_in,
+};
+use scram_types::Proc;
+use scram_types::limits::{MAX_LOAD, MAX_PROCESSORS};
+use serde_json::Value;
+use std::alloc::Global;
+
+struct Procs;
+
+impl NamedElements<Proc, ByName> for Procs {
+    ghost room = { 40 };
+
+    ghost reading = { λ _. read_proc };
+
+    ghost Fits = { λ _. IsNewProc };
+
+    ghost is_new = { λ e done x fits. fits.name.new };
+
+    fn read(
+        &self,
+        _alloc: Global,
+        done: &Numbered<Proc, ByName>,
+        v: &Value,
+        at: &Path,
+    ) -> Result<Proc, DocError> {
+        object(v, at)?;
+        let name = need(v, "name", at)?;
+        let capacity = need(v, "capacity", at)?;
+        no_more(v, 2, at)?;
+        let name = read_new_name(done, name, &at.member("name"))?;
+        let capacity = whole_in(capacity, 0, MAX_LOAD + 1, &at.member("capacity"))?;
+        Ok(Proc { name, capacity })
+    }
+}
+
+/// The processors of a document, 1 to 8 of them.
+pub fn read_procs(alloc: Global, members: &Members<'_>) -> Result<Numbered<Proc, ByName>, DocError>
+    requires members { AreMembers members.now }
+    ensures value { Answers (member_in (codes "processors") read_procs (view members.now.document.now)) (λ l. l) result }
+    ensures least { IfOk result (λ l. 1 ≤ length l) }
+    ensures few { IfOk result (λ l. length l ≤ 8) }
+    ensures fits { IfOk result (λ l. AllAfter IsNewProc l) }
+{
+    let at = Path::root().member("processors");
+    read_named_list(alloc, &Procs, members.procs, 1, MAX_PROCESSORS, &at)
+}

@@ -1,0 +1,39 @@
+-- How the bounds on reconfigurations are read.
+use Rattle.std.specs.Prelude.{ℕ, List, codes, is_some, Result, Ok, ⊤, if◌then◌else◌}
+use Rattle.serde_json.specs.Data.{Data}
+use Rattle.scram_types.specs.declared.ids.ConfId.{ConfId}
+use Rattle.scram_types.specs.declared.specification.Conf.{Conf}
+use Rattle.scram_types.specs.declared.specification.Bound.{Bound}
+use Rattle.scram_types.specs.Specification.{bound_in}
+use Rattle.scram_doc.specs.declared.fault.DocFault.{DocFault}
+use Rattle.scram_doc.specs.Chain.{chain}
+use Rattle.scram_doc.specs.Faults.{broken}
+use Rattle.scram_doc.specs.Paths.{member_path}
+use Rattle.scram_doc.specs.Members.{object_at, needed, no_more_than}
+use Rattle.scram_doc.specs.Values.{whole_at}
+use Rattle.spec_members.specs.declared.rule.TheConstants.{TWICE_IN_LIST}
+use Rattle.scram_doc.specs.Lists.{elements_at}
+use Rattle.spec_table.specs.Choices.{read_conf_id}
+
+-- the target of a pair that has no bound yet
+abbrev pub read_new_target : List Conf → List Bound → ConfId → List ℕ → Data → Result ConfId DocFault
+read_new_target confs done from at d =
+    chain (read_conf_id confs at d) (λ (to : ConfId).
+    if is_some (bound_in done from.0 to.0) then broken TWICE_IN_LIST at else Ok to)
+
+-- a bound for a pair that has none yet
+abbrev pub read_bound : List Conf → List ℕ → List Bound → Data → Result Bound DocFault
+read_bound confs at done d =
+    chain (object_at at d) (λ (_ : ⊤).
+    chain (needed (codes "from") at d) (λ (from : Data).
+    chain (needed (codes "to") at d) (λ (to : Data).
+    chain (needed (codes "frames") at d) (λ (frames : Data).
+    chain (no_more_than 3 at d) (λ (_ : ⊤).
+    chain (read_conf_id confs (member_path at (codes "from")) from) (λ (from : ConfId).
+    chain (read_new_target confs done from (member_path at (codes "to")) to) (λ (to : ConfId).
+    chain (whole_at 1 1001 (member_path at (codes "frames")) frames) (λ (frames : ℕ).
+    Ok (record { from = from; to = to; frames = frames })))))))))
+
+-- the bounds of a document: 0 to 144
+abbrev pub read_bounds : List Conf → List ℕ → Data → Result (List Bound) DocFault
+read_bounds confs at d = elements_at (read_bound confs) 0 144 at d

@@ -1,0 +1,68 @@
+-- How the configurations are read.
+use Rattle.std.specs.Prelude.{ℕ, List, codes, Option, Some, None, is_some, replicate, set, slice_get, option_and_then, Result, Ok, ⊤, Bool, if◌then◌else◌}
+use Rattle.serde_json.specs.Data.{Data, Items}
+use Rattle.scram_types.specs.declared.specification.Proc.{Proc}
+use Rattle.scram_types.specs.declared.specification.AppSpec.{AppSpec}
+use Rattle.scram_types.specs.declared.specification.Place.{Place}
+use Rattle.scram_types.specs.declared.specification.Conf.{Conf}
+use Rattle.scram_types.specs.Specification.{mode_in}
+use Rattle.scram_doc.specs.declared.fault.DocFault.{DocFault}
+use Rattle.scram_doc.specs.Chain.{chain}
+use Rattle.scram_doc.specs.Faults.{broken}
+use Rattle.scram_doc.specs.Paths.{member_path}
+use Rattle.scram_doc.specs.Members.{object_at, needed, no_more_than}
+use Rattle.scram_doc.specs.Values.{list_at}
+use Rattle.spec_members.specs.declared.rule.TheConstants.{UNKNOWN_PROCESSOR, UNKNOWN_APPLICATION, TWICE_IN_LIST, MODE_NOT_LISTED}
+use Rattle.scram_doc.specs.Lists.{elements_at, folded_from}
+use Rattle.spec_members.specs.Names.{read_new_name, read_named, name_of_proc, name_of_app, name_of_conf}
+use Rattle.spec_members.specs.Modes.{read_kind_mode}
+
+-- an application has its place
+abbrev pub has_place : List (Option Place) → ℕ → Bool
+has_place places a = is_some (option_and_then (λ (place : Option Place). place) (slice_get places a))
+
+-- an application that has no place yet
+abbrev pub read_unplaced : List AppSpec → List (Option Place) → List ℕ → Data → Result ℕ DocFault
+read_unplaced apps places at d =
+    chain (read_named name_of_app apps UNKNOWN_APPLICATION at d) (λ (a : ℕ).
+    if has_place places a then broken TWICE_IN_LIST at else Ok a)
+
+-- a mode of the application's kind, which the application lists
+abbrev pub read_listed_mode : Option AppSpec → List ℕ → Data → Result ℕ DocFault
+read_listed_mode None at d = broken MODE_NOT_LISTED at
+read_listed_mode (Some app) at d =
+    chain (read_kind_mode app.kind.0 at d) (λ (mode : ℕ).
+    if is_some (mode_in app.modes mode) then Ok mode else broken MODE_NOT_LISTED at)
+
+-- the places with one more
+abbrev pub read_place : List Proc → List AppSpec → List ℕ → List (Option Place) → Data → Result (List (Option Place)) DocFault
+read_place procs apps at places d =
+    chain (object_at at d) (λ (_ : ⊤).
+    chain (needed (codes "app") at d) (λ (app : Data).
+    chain (needed (codes "mode") at d) (λ (mode : Data).
+    chain (needed (codes "on") at d) (λ (on : Data).
+    chain (no_more_than 3 at d) (λ (_ : ⊤).
+    chain (read_unplaced apps places (member_path at (codes "app")) app) (λ (a : ℕ).
+    chain (read_listed_mode (slice_get apps a) (member_path at (codes "mode")) mode) (λ (mode : ℕ).
+    chain (read_named name_of_proc procs UNKNOWN_PROCESSOR (member_path at (codes "on")) on) (λ (proc : ℕ).
+    Ok (set places a (Some (record { mode = record { 0 = mode }; proc = record { 0 = proc } })))))))))))
+
+-- the places of applications, which are off where none is given
+abbrev pub read_place_list : List Proc → List AppSpec → List ℕ → Data → Result (List (Option Place)) DocFault
+read_place_list procs apps at d =
+    chain (list_at 0 8 at d) (λ (ds : Items). folded_from (read_place procs apps) at 0 (replicate 8 None) ds)
+
+-- a configuration, whose name is new
+abbrev pub read_conf : List Proc → List AppSpec → List ℕ → List Conf → Data → Result Conf DocFault
+read_conf procs apps at done d =
+    chain (object_at at d) (λ (_ : ⊤).
+    chain (needed (codes "name") at d) (λ (name : Data).
+    chain (needed (codes "apps") at d) (λ (places : Data).
+    chain (no_more_than 2 at d) (λ (_ : ⊤).
+    chain (read_new_name name_of_conf done (member_path at (codes "name")) name) (λ (name : List ℕ).
+    chain (read_place_list procs apps (member_path at (codes "apps")) places) (λ (places : List (Option Place)).
+    Ok (record { name = name; places = places })))))))
+
+-- the configurations of a document: 1 to 12
+abbrev pub read_confs : List Proc → List AppSpec → List ℕ → Data → Result (List Conf) DocFault
+read_confs procs apps at d = elements_at (read_conf procs apps) 1 12 at d

@@ -1,0 +1,88 @@
+-- How invariants and preconditions are read: intervals for a variable of an application.
+use Rattle.std.specs.Prelude.{ℕ, ℤ, pos, int_le, List, codes, Option, Some, None, slice_get, Result, Ok, ⊤, if◌then◌else◌}
+use Rattle.serde_json.specs.Data.{Data}
+use Rattle.scram_types.specs.Numbers.{minus}
+use Rattle.scram_types.specs.declared.ids.AppId.{AppId}
+use Rattle.scram_types.specs.declared.ids.ConfId.{ConfId}
+use Rattle.scram_types.specs.declared.specification.AppSpec.{AppSpec}
+use Rattle.scram_types.specs.declared.specification.Conf.{Conf}
+use Rattle.scram_types.specs.declared.specification.Invariant.{Invariant}
+use Rattle.scram_types.specs.declared.specification.Precondition.{Precondition}
+use Rattle.app_model.specs.Names.{variable_names, number_in}
+use Rattle.scram_doc.specs.declared.fault.DocFault.{DocFault}
+use Rattle.scram_doc.specs.Chain.{chain, ok_map}
+use Rattle.scram_doc.specs.Faults.{broken, or_broken}
+use Rattle.scram_doc.specs.Paths.{member_path}
+use Rattle.scram_doc.specs.Members.{object_at, needed, no_more_than}
+use Rattle.scram_doc.specs.Values.{text_at, int_at}
+use Rattle.spec_members.specs.declared.rule.TheConstants.{UNKNOWN_APPLICATION, UNKNOWN_VARIABLE, EMPTY_INTERVAL}
+use Rattle.spec_table.specs.declared.intervals.Ends.{Ends}
+use Rattle.spec_table.specs.declared.intervals.Interval.{Interval}
+use Rattle.scram_doc.specs.Lists.{elements_at}
+use Rattle.spec_members.specs.Names.{read_named, name_of_app}
+use Rattle.spec_table.specs.Choices.{read_conf_id, read_source}
+
+-- the application that a text names
+abbrev pub read_app_id : List AppSpec → List ℕ → Data → Result AppId DocFault
+read_app_id apps at d = ok_map (λ (a : ℕ). record { 0 = a }) (read_named name_of_app apps UNKNOWN_APPLICATION at d)
+
+-- a variable of the application's kind
+abbrev pub read_variable : Option AppSpec → List ℕ → Data → Result ℕ DocFault
+read_variable None at d = broken UNKNOWN_VARIABLE at
+read_variable (Some app) at d =
+    chain (text_at at d) (λ (text : List ℕ). or_broken UNKNOWN_VARIABLE at (number_in (variable_names app.kind.0) text))
+
+-- an end of an interval
+abbrev pub read_end : List ℕ → Data → Result ℤ DocFault
+read_end at d = int_at (minus 1000000000) (pos 1000000000) at d
+
+-- the ends of the interval of an object at a path, by its members
+abbrev pub read_ends : List ℕ → Data → Data → Result Ends DocFault
+read_ends at least greatest =
+    chain (read_end (member_path at (codes "least")) least) (λ (low : ℤ).
+    chain (read_end (member_path at (codes "greatest")) greatest) (λ (high : ℤ).
+    if int_le low high then Ok (record { least = low; greatest = high }) else broken EMPTY_INTERVAL (member_path at (codes "greatest"))))
+
+-- the interval of an object at a path, by its members
+abbrev pub read_interval : List AppSpec → List ℕ → Data → Data → Data → Data → Result Interval DocFault
+read_interval apps at app variable least greatest =
+    chain (read_app_id apps (member_path at (codes "app")) app) (λ (app : AppId).
+    chain (read_variable (slice_get apps app.0) (member_path at (codes "variable")) variable) (λ (variable : ℕ).
+    chain (read_ends at least greatest) (λ (ends : Ends).
+    Ok (record { app = app; variable = variable; ends = ends }))))
+
+-- an invariant
+abbrev pub read_invariant : List AppSpec → List Conf → List ℕ → List Invariant → Data → Result Invariant DocFault
+read_invariant apps confs at done d =
+    chain (object_at at d) (λ (_ : ⊤).
+    chain (needed (codes "from") at d) (λ (from : Data).
+    chain (needed (codes "app") at d) (λ (app : Data).
+    chain (needed (codes "variable") at d) (λ (variable : Data).
+    chain (needed (codes "least") at d) (λ (least : Data).
+    chain (needed (codes "greatest") at d) (λ (greatest : Data).
+    chain (no_more_than 5 at d) (λ (_ : ⊤).
+    chain (read_source confs (member_path at (codes "from")) from) (λ (from : Option ConfId).
+    chain (read_interval apps at app variable least greatest) (λ (i : Interval).
+    Ok (record { from = from; app = i.app; variable = i.variable; least = i.ends.least; greatest = i.ends.greatest }))))))))))
+
+-- the invariants of a document: 0 to 64
+abbrev pub read_invariants : List AppSpec → List Conf → List ℕ → Data → Result (List Invariant) DocFault
+read_invariants apps confs at d = elements_at (read_invariant apps confs) 0 64 at d
+
+-- a precondition
+abbrev pub read_precondition : List AppSpec → List Conf → List ℕ → List Precondition → Data → Result Precondition DocFault
+read_precondition apps confs at done d =
+    chain (object_at at d) (λ (_ : ⊤).
+    chain (needed (codes "configuration") at d) (λ (conf : Data).
+    chain (needed (codes "app") at d) (λ (app : Data).
+    chain (needed (codes "variable") at d) (λ (variable : Data).
+    chain (needed (codes "least") at d) (λ (least : Data).
+    chain (needed (codes "greatest") at d) (λ (greatest : Data).
+    chain (no_more_than 5 at d) (λ (_ : ⊤).
+    chain (read_conf_id confs (member_path at (codes "configuration")) conf) (λ (conf : ConfId).
+    chain (read_interval apps at app variable least greatest) (λ (i : Interval).
+    Ok (record { conf = conf; app = i.app; variable = i.variable; least = i.ends.least; greatest = i.ends.greatest }))))))))))
+
+-- the preconditions of a document: 0 to 64
+abbrev pub read_preconditions : List AppSpec → List Conf → List ℕ → Data → Result (List Precondition) DocFault
+read_preconditions apps confs at d = elements_at (read_precondition apps confs) 0 64 at d

@@ -1,0 +1,29 @@
+-- What the rest of a document names, and what it keeps.
+use Rattle.std.specs.Prelude.{List, []}
+use Rattle.scram_types.specs.declared.specification.Proc.{Proc}
+use Rattle.scram_types.specs.declared.specification.AppSpec.{AppSpec}
+use Rattle.scram_types.specs.declared.specification.Conf.{Conf}
+use Rattle.scram_types.specs.declared.specification.Factor.{Factor}
+use Rattle.scram_types.specs.Specification.{HasLength}
+use Rattle.scram_doc.specs.Lists.{AllAfter}
+use Rattle.spec_members.specs.Facts.{IsNewProc, IsNewFactor, FewValues}
+use Rattle.spec_table.specs.Facts.{IsNewConf}
+use Rattle.spec_members.specs.Kept.{AreApps}
+
+-- what the rest of a document names
+pub record Names : Type 0 where
+  pub procs : List Proc
+  pub apps : List AppSpec
+  pub confs : List Conf
+  pub factors : List Factor
+
+-- processors, applications, configurations and factors as they were read
+pub record AreNames (procs : List Proc) (apps : List AppSpec) (confs : List Conf) (factors : List Factor) : Type 0 where
+  pub procs_count : HasLength 1 8 procs
+  pub procs_fit : AllAfter IsNewProc procs
+  pub apps_fit : AreApps apps
+  pub confs_count : HasLength 1 12 confs
+  pub confs_fit : AllAfter (IsNewConf procs apps) confs
+  pub factors_count : HasLength 0 6 factors
+  pub factors_fit : AllAfter IsNewFactor factors
+  pub few_values : FewValues factors

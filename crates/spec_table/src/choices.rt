@@ -1,0 +1,230 @@
+//! Rules of the choice table.
+
+ghost use Rattle.std.specs.Prelude.{◌≡◌, ◌≤◌, ◌<◌, ◌^◌, false, [], codes, length, slice_get, IfOk, IfSome};
+ghost use Rattle.serde_json.specs.View.{view};
+ghost use Rattle.scram_types.specs.Lookups.{number_named};
+ghost use Rattle.scram_types.specs.Specification.{IsIn, IsInIfNamed};
+ghost use Rattle.scram_doc.specs.Chain.{ok_map};
+ghost use Rattle.scram_doc.specs.Faults.{Answers};
+ghost use Rattle.scram_doc.specs.Lists.{AllAfter};
+ghost use Rattle.scram_doc.specs.Numbering.{itself};
+ghost use Rattle.spec_table.specs.Choices.{read_conf_id, read_source, wants_factor, read_new_factor, read_value_of, read_want, read_up, read_up_list, read_choice, read_choices};
+ghost use Rattle.spec_members.specs.Members.{member_in};
+ghost use Rattle.spec_table.specs.Facts.{IsNewWant, FitsChoice, HasValue};
+ghost use Rattle.spec_members.specs.Facts.{FewValues};
+ghost use Rattle.spec_members.specs.Found.{AreMembers};
+
+use crate::vocabulary::Vocabulary;
+use scram_doc::{
+    DocError, DocFault, Elements, Numbered, Path, list, need, no_more, object, read_list, text,
+};
+use scram_types::bits::has_bit;
+use scram_types::limits::{MAX_FACTORS, MAX_PROCESSORS, MAX_RULES};
+use scram_types::{Choice, Conf, ConfId, Factor, FactorId, List, Proc, Want};
+use serde_json::Value;
+use spec_members::members::Members;
+use spec_members::names::{ByName, read_named};
+use spec_members::rule;
+use std::alloc::Global;
+
+/// The configuration that the value names.
+pub fn read_conf_id(
+    confs: &Numbered<Conf, ByName>,
+    v: &Value,
+    at: &Path,
+) -> Result<ConfId, DocFault>
+    requires few { length confs.now ≤ 12 }
+    ensures value { result ≡ read_conf_id confs.now at.now (view v.now) }
+    ensures there { IfOk result (λ c. IsIn confs.now c) }
+{
+    Ok(ConfId(read_named(confs, rule::UNKNOWN_CONFIGURATION, v, at)?))
+}
+
+/// The configuration that the value names, or `None` where it is `*`.
+pub fn read_source(
+    confs: &Numbered<Conf, ByName>,
+    v: &Value,
+    at: &Path,
+) -> Result<Option<ConfId>, DocFault>
+    requires few { length confs.now ≤ 12 }
+    ensures value { result ≡ read_source confs.now at.now (view v.now) }
+    ensures there { IfOk result (λ c. IsInIfNamed confs.now c) }
+{
+    if text(v, at)? == "*" {
+        Ok(None)
+    } else {
+        Ok(Some(read_conf_id(confs, v, at)?))
+    }
+}
+
+fn wants_factor(wants: &[Want], factor: FactorId) -> bool
+    ensures { result ≡ wants_factor wants.now factor.0 }
+{
+    wants.iter().any(|want| want.factor.0 == factor.0)
+}
+
+fn read_new_factor(
+    factors: &Numbered<Factor, ByName>,
+    done: &[Want],
+    v: &Value,
+    at: &Path,
+) -> Result<FactorId, DocFault>
+    requires few { length factors.now ≤ 6 }
+    ensures value { ok_map (λ factor. factor.0) result ≡ read_new_factor factors.now done.now at.now (view v.now) }
+    ensures there { IfOk result (λ factor. factor.0 < length factors.now) }
+    ensures new { IfOk result (λ factor. wants_factor done.now factor.0 ≡ false) }
+{
+    let factor = FactorId(read_named(factors, rule::UNKNOWN_FACTOR_OR_VALUE, v, at)?);
+    if wants_factor(done, factor) {
+        Err(DocFault::new(rule::TWICE_IN_LIST, at))
+    } else {
+        Ok(factor)
+    }
+}
+
+#[tactic(auto, using(spec_members::proofs::Found::number_below))]
+fn number_of_value(factor: &Factor, text: &str) -> Option<u8>
+    requires few { length factor.now.values ≤ 255 }
+    ensures value { result ≡ number_named itself factor.now.values text.now }
+    ensures below { IfSome result (λ value. value < length factor.now.values) }
+{
+    factor.value_named(text.as_bytes())
+}
+
+fn read_value_of(
+    factors: &Numbered<Factor, ByName>,
+    factor: FactorId,
+    v: &Value,
+    at: &Path,
+) -> Result<u8, DocFault>
+    requires few { FewValues factors.now }
+    ensures value { result ≡ read_value_of (slice_get factors.now factor.0) at.now (view v.now) }
+    ensures there { IfOk result (λ value. HasValue (slice_get factors.now factor.0) value) }
+{
+    let Some(found) = factors.items().get(usize::from(factor.0)) else {
+        return Err(DocFault::new(rule::UNKNOWN_FACTOR_OR_VALUE, at));
+    };
+    match number_of_value(found, text(v, at)?) {
+        Some(value) => Ok(value),
+        None => Err(DocFault::new(rule::UNKNOWN_FACTOR_OR_VALUE, at)),
+    }
+}
+
+#[derive(Clone, Copy)]
+struct Wants<'a> {
+    vocabulary: &'a Vocabulary,
+}
+
+impl Elements<Want> for Wants<'_> {
+    ghost room = { 40 };
+
+    ghost reading = { λ wants. read_want wants.vocabulary.now.factors };
+
+    ghost Fits = { λ wants. IsNewWant wants.vocabulary.now.factors };
+
+    fn read(&self, _alloc: Global, done: &[Want], v: &Value, at: &Path) -> Result<Want, DocError> {
+        object(v, at)?;
+        let factor = need(v, "factor", at)?;
+        let value = need(v, "value", at)?;
+        no_more(v, 2, at)?;
+        let vocabulary = self.vocabulary;
+        let factors = &vocabulary.factors;
+        let factor = read_new_factor(factors, done, factor, &at.member("factor"))?;
+        let value = read_value_of(factors, factor, value, &at.member("value"))?;
+        Ok(Want { factor, value })
+    }
+}
+
+/// The set with the processor that the value names.
+fn read_up(procs: &Numbered<Proc, ByName>, set: u8, v: &Value, at: &Path) -> Result<u8, DocFault>
+    requires few { length procs.now ≤ 8 }
+    requires set { set < 2 ^ length procs.now }
+    ensures value { result ≡ read_up procs.now at.now set (view v.now) }
+    ensures below { IfOk result (λ up. up < 2 ^ length procs.now) }
+{
+    let proc = read_named(procs, rule::UNKNOWN_PROCESSOR, v, at)?;
+    if has_bit(set, proc) {
+        Err(DocFault::new(rule::TWICE_IN_LIST, at))
+    } else {
+        Ok(set | 1 << proc)
+    }
+}
+
+/// The set of the processors that the value lists, 0 to 8 of them.
+fn read_up_list(procs: &Numbered<Proc, ByName>, v: &Value, at: &Path) -> Result<u8, DocFault>
+    requires room { length at.now ≤ 40 }
+    requires few { length procs.now ≤ 8 }
+    ensures value { result ≡ read_up_list procs.now at.now (view v.now) }
+    ensures below { IfOk result (λ up. up < 2 ^ length procs.now) }
+{
+    let items = list(v, 0, MAX_PROCESSORS, at)?;
+    let mut set = 0;
+    for (i, v) in items.iter().enumerate() {
+        set = read_up(procs, set, v, &at.item(i))?;
+    }
+    Ok(set)
+}
+
+#[derive(Clone, Copy)]
+struct Choices<'a> {
+    vocabulary: &'a Vocabulary,
+}
+
+impl Elements<Choice> for Choices<'_> {
+    ghost room = { 24 };
+
+    ghost reading = { λ choices. read_choice choices.vocabulary.now.procs choices.vocabulary.now.confs choices.vocabulary.now.factors };
+
+    ghost Fits = { λ choices _. FitsChoice choices.vocabulary.now.procs choices.vocabulary.now.confs choices.vocabulary.now.factors };
+
+    fn read(
+        &self,
+        alloc: Global,
+        _done: &[Choice],
+        v: &Value,
+        at: &Path,
+    ) -> Result<Choice, DocError> {
+        object(v, at)?;
+        let from = need(v, "from", at)?;
+        let wants = need(v, "when", at)?;
+        let up = need(v, "up", at)?;
+        let to = need(v, "to", at)?;
+        no_more(v, 4, at)?;
+        let vocabulary = self.vocabulary;
+        let confs = &vocabulary.confs;
+        let from = read_source(confs, from, &at.member("from"))?;
+        let known = Wants { vocabulary };
+        let wants = read_list(alloc, &known, wants, 0, MAX_FACTORS, &at.member("when"))?;
+        let procs = &vocabulary.procs;
+        let up = read_up_list(procs, up, &at.member("up"))?;
+        let to = read_conf_id(confs, to, &at.member("to"))?;
+        Ok(Choice {
+            from,
+            wants: List::of(wants),
+            up,
+            to,
+        })
+    }
+}
+
+/// The rules of a document's choice table, 0 to 64 of them.
+pub fn read_choices(
+    alloc: Global,
+    vocabulary: &Vocabulary,
+    members: &Members<'_>,
+) -> Result<Vec<Choice>, DocError>
+    requires members { AreMembers members.now }
+    ensures value { Answers (member_in (codes "rules") (read_choices vocabulary.now.procs vocabulary.now.confs vocabulary.now.factors) (view members.now.document.now)) (λ l. l.items) result }
+    ensures few { IfOk result (λ l. length l.items ≤ 64) }
+    ensures fits { IfOk result (λ l. AllAfter (λ _. FitsChoice vocabulary.now.procs vocabulary.now.confs vocabulary.now.factors) l.items) }
+{
+    let at = Path::root().member("rules");
+    read_list(
+        alloc,
+        &Choices { vocabulary },
+        members.rules,
+        0,
+        MAX_RULES,
+        &at,
+    )
+}

@@ -1,0 +1,223 @@
+//! Invariants and preconditions: intervals for a variable of an application.
+
+ghost use Rattle.std.specs.Prelude.{◌≡◌, ◌≤◌, ◌≤ℤ◌, ◌<◌, pos, [], codes, length, slice_get, IfOk};
+ghost use Rattle.serde_json.specs.View.{view};
+ghost use Rattle.scram_types.specs.Numbers.{minus};
+ghost use Rattle.scram_doc.specs.Faults.{Answers};
+ghost use Rattle.spec_table.specs.Intervals.{read_app_id, read_variable, read_end, read_ends, read_interval, read_invariant, read_invariants, read_precondition, read_preconditions};
+ghost use Rattle.spec_members.specs.Members.{member_in};
+ghost use Rattle.scram_doc.specs.Lists.{AllAfter};
+ghost use Rattle.spec_table.specs.Facts.{IsVariable, FitsEnds, FitsInterval, FitsInvariant, FitsPrecondition};
+ghost use Rattle.spec_members.specs.Found.{AreMembers};
+
+use crate::choices::{read_conf_id, read_source};
+use crate::vocabulary::Vocabulary;
+use app_model::variable_named;
+use scram_doc::{
+    DocError, DocFault, Elements, Numbered, Path, int_in, need, no_more, object, read_list, text,
+};
+use scram_types::limits::{MAX_INTERVAL_END, MAX_INTERVALS};
+use scram_types::{AppId, AppSpec, Invariant, Precondition};
+use serde_json::Value;
+use spec_members::members::Members;
+use spec_members::names::{ByName, read_named};
+use spec_members::rule;
+use std::alloc::Global;
+
+fn read_app_id(apps: &Numbered<AppSpec, ByName>, v: &Value, at: &Path) -> Result<AppId, DocFault>
+    requires few { length apps.now ≤ 8 }
+    ensures value { result ≡ read_app_id apps.now at.now (view v.now) }
+    ensures there { IfOk result (λ app. app.0 < length apps.now) }
+{
+    Ok(AppId(read_named(apps, rule::UNKNOWN_APPLICATION, v, at)?))
+}
+
+fn read_variable(apps: &[AppSpec], app: AppId, v: &Value, at: &Path) -> Result<u8, DocFault>
+    ensures value { result ≡ read_variable (slice_get apps.now app.0) at.now (view v.now) }
+    ensures is { IfOk result (λ variable. IsVariable (slice_get apps.now app.0) variable) }
+{
+    let Some(found) = apps.get(usize::from(app.0)) else {
+        return Err(DocFault::new(rule::UNKNOWN_VARIABLE, at));
+    };
+    match variable_named(found.kind, text(v, at)?) {
+        Some(variable) => Ok(variable),
+        None => Err(DocFault::new(rule::UNKNOWN_VARIABLE, at)),
+    }
+}
+
+fn read_end(v: &Value, at: &Path) -> Result<i64, DocFault>
+    ensures value { result ≡ read_end at.now (view v.now) }
+    ensures least { IfOk result (λ end. minus 1000000000 ≤ℤ end) }
+    ensures most { IfOk result (λ end. end ≤ℤ pos 1000000000) }
+{
+    int_in(v, -MAX_INTERVAL_END, MAX_INTERVAL_END, at)
+}
+
+/// The ends of an interval, which is not empty.
+#[derive(Clone, Copy)]
+struct Ends {
+    least: i64,
+    greatest: i64,
+}
+
+/// The ends of the interval of the object at this path, by its members.
+fn read_ends(least: &Value, greatest: &Value, at: &Path) -> Result<Ends, DocFault>
+    requires room { length at.now ≤ 40 }
+    ensures value { result ≡ read_ends at.now (view least.now) (view greatest.now) }
+    ensures fits { IfOk result (λ ends. FitsEnds ends) }
+{
+    let least = read_end(least, &at.member("least"))?;
+    let at = at.member("greatest");
+    let greatest = read_end(greatest, &at)?;
+    if least <= greatest {
+        Ok(Ends { least, greatest })
+    } else {
+        Err(DocFault::new(rule::EMPTY_INTERVAL, &at))
+    }
+}
+
+/// What invariants and preconditions have in common.
+#[derive(Clone, Copy)]
+struct Interval {
+    app: AppId,
+    variable: u8,
+    ends: Ends,
+}
+
+/// The interval of the object at this path, by its members.
+fn read_interval(
+    apps: &Numbered<AppSpec, ByName>,
+    app: &Value,
+    variable: &Value,
+    least: &Value,
+    greatest: &Value,
+    at: &Path,
+) -> Result<Interval, DocFault>
+    requires room { length at.now ≤ 40 }
+    requires few { length apps.now ≤ 8 }
+    ensures value { result ≡ read_interval apps.now at.now (view app.now) (view variable.now) (view least.now) (view greatest.now) }
+    ensures fits { IfOk result (λ i. FitsInterval apps.now i) }
+{
+    let app = read_app_id(apps, app, &at.member("app"))?;
+    let variable = read_variable(apps.items(), app, variable, &at.member("variable"))?;
+    let ends = read_ends(least, greatest, at)?;
+    Ok(Interval {
+        app,
+        variable,
+        ends,
+    })
+}
+
+#[derive(Clone, Copy)]
+struct Intervals<'a> {
+    vocabulary: &'a Vocabulary,
+}
+
+impl Elements<Invariant> for Intervals<'_> {
+    ghost room = { 40 };
+
+    ghost reading = { λ i. read_invariant i.vocabulary.now.apps i.vocabulary.now.confs };
+
+    ghost Fits = { λ i _. FitsInvariant i.vocabulary.now.apps i.vocabulary.now.confs };
+
+    fn read(
+        &self,
+        _alloc: Global,
+        _done: &[Invariant],
+        v: &Value,
+        at: &Path,
+    ) -> Result<Invariant, DocError> {
+        object(v, at)?;
+        let from = need(v, "from", at)?;
+        let app = need(v, "app", at)?;
+        let variable = need(v, "variable", at)?;
+        let least = need(v, "least", at)?;
+        let greatest = need(v, "greatest", at)?;
+        no_more(v, 5, at)?;
+        let vocabulary = self.vocabulary;
+        let from = read_source(&vocabulary.confs, from, &at.member("from"))?;
+        let apps = &vocabulary.apps;
+        let interval = read_interval(apps, app, variable, least, greatest, at)?;
+        Ok(Invariant {
+            from,
+            app: interval.app,
+            variable: interval.variable,
+            least: interval.ends.least,
+            greatest: interval.ends.greatest,
+        })
+    }
+}
+
+impl Elements<Precondition> for Intervals<'_> {
+    ghost room = { 40 };
+
+    ghost reading = { λ i. read_precondition i.vocabulary.now.apps i.vocabulary.now.confs };
+
+    ghost Fits = { λ i _. FitsPrecondition i.vocabulary.now.apps i.vocabulary.now.confs };
+
+    fn read(
+        &self,
+        _alloc: Global,
+        _done: &[Precondition],
+        v: &Value,
+        at: &Path,
+    ) -> Result<Precondition, DocError> {
+        object(v, at)?;
+        let conf = need(v, "configuration", at)?;
+        let app = need(v, "app", at)?;
+        let variable = need(v, "variable", at)?;
+        let least = need(v, "least", at)?;
+        let greatest = need(v, "greatest", at)?;
+        no_more(v, 5, at)?;
+        let vocabulary = self.vocabulary;
+        let conf = read_conf_id(&vocabulary.confs, conf, &at.member("configuration"))?;
+        let apps = &vocabulary.apps;
+        let interval = read_interval(apps, app, variable, least, greatest, at)?;
+        Ok(Precondition {
+            conf,
+            app: interval.app,
+            variable: interval.variable,
+            least: interval.ends.least,
+            greatest: interval.ends.greatest,
+        })
+    }
+}
+
+/// The invariants of a document, 0 to 64 of them.
+pub fn read_invariants(
+    alloc: Global,
+    vocabulary: &Vocabulary,
+    members: &Members<'_>,
+) -> Result<Vec<Invariant>, DocError>
+    requires members { AreMembers members.now }
+    ensures value { Answers (member_in (codes "invariants") (read_invariants vocabulary.now.apps vocabulary.now.confs) (view members.now.document.now)) (λ l. l.items) result }
+    ensures few { IfOk result (λ l. length l.items ≤ 64) }
+    ensures fits { IfOk result (λ l. AllAfter (λ _. FitsInvariant vocabulary.now.apps vocabulary.now.confs) l.items) }
+{
+    let at = Path::root().member("invariants");
+    let intervals = Intervals { vocabulary };
+    read_list(alloc, &intervals, members.invariants, 0, MAX_INTERVALS, &at)
+}
+
+/// The preconditions of a document, 0 to 64 of them.
+pub fn read_preconditions(
+    alloc: Global,
+    vocabulary: &Vocabulary,
+    members: &Members<'_>,
+) -> Result<Vec<Precondition>, DocError>
+    requires members { AreMembers members.now }
+    ensures value { Answers (member_in (codes "preconditions") (read_preconditions vocabulary.now.apps vocabulary.now.confs) (view members.now.document.now)) (λ l. l.items) result }
+    ensures few { IfOk result (λ l. length l.items ≤ 64) }
+    ensures fits { IfOk result (λ l. AllAfter (λ _. FitsPrecondition vocabulary.now.apps vocabulary.now.confs) l.items) }
+{
+    let at = Path::root().member("preconditions");
+    let intervals = Intervals { vocabulary };
+    read_list(
+        alloc,
+        &intervals,
+        members.preconditions,
+        0,
+        MAX_INTERVALS,
+        &at,
+    )
+}

@@ -1,0 +1,31 @@
+//! What the rest of a document names.
+
+use scram_doc::Numbered;
+use scram_types::{AppSpec, Conf, Factor, Proc};
+use spec_members::names::ByName;
+use std::marker::Model;
+
+/// Processors, applications, configurations and factors as they were read.
+#[derive(Drop)]
+pub struct Vocabulary {
+    pub procs: Numbered<Proc, ByName>,
+    pub apps: Numbered<AppSpec, ByName>,
+    pub confs: Numbered<Conf, ByName>,
+    pub factors: Numbered<Factor, ByName>,
+}
+
+impl Model for Vocabulary {
+    ghost use Rattle.spec_table.specs.Vocabulary.{Names};
+    ghost use Rattle.spec_table.specs.Vocabulary.{AreNames};
+
+    ghost Value = { Names };
+
+    ghost view = { λ n. record {
+      procs = n.procs;
+      apps = n.apps;
+      confs = n.confs;
+      factors = n.factors;
+    } };
+
+    ghost invariant = { λ n. AreNames n.procs n.apps n.confs n.factors };
+}

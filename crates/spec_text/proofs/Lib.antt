@@ -1,0 +1,4 @@
+pub mod Plain
+pub mod TextLengths
+pub mod TextSizes
+pub mod Written

@@ -1,0 +1,53 @@
+//! The names of what the items of a specification refer to.
+
+ghost use Rattle.std.specs.Prelude.{◌≡◌};
+ghost use Rattle.spec_text.specs.Texts.{name_of_app_mode, name_of_value, name_of_variable, source_name};
+
+use app_model::{mode_name, variable_name};
+use scram_types::{AppId, AppSpec, ConfId, Mode, Spec, Want};
+
+/// The name of a configuration, or `*` for any.
+pub fn source_name(spec: &Spec, from: Option<ConfId>) -> &str
+    ensures { result.now ≡ source_name spec.now.confs from }
+{
+    match from {
+        Some(conf) => spec.conf_name(conf),
+        None => "*",
+    }
+}
+
+/// The name of the value that is wanted; no bytes where its factor has no such value.
+pub fn name_of_value(spec: &Spec, want: Want) -> &str
+    ensures { result.now ≡ name_of_value spec.now.factors want.factor.0 want.value }
+{
+    match spec.factors.items().get(usize::from(want.factor.0)) {
+        Some(factor) => factor.value_name(want.value),
+        None => "",
+    }
+}
+
+/// The name of a mode of an application's kind.
+pub fn name_of_app_mode(apps: &[AppSpec], app: AppId, mode: Mode) -> &'static str
+    ensures { result.now ≡ name_of_app_mode apps.now app.0 mode.0 }
+{
+    match apps.get(usize::from(app.0)) {
+        Some(app) => match mode_name(app.kind, mode) {
+            Some(name) => name,
+            None => "",
+        },
+        None => "",
+    }
+}
+
+/// The name of a variable of an application's kind.
+pub fn name_of_variable(apps: &[AppSpec], app: AppId, variable: u8) -> &'static str
+    ensures { result.now ≡ name_of_variable apps.now app.0 variable }
+{
+    match apps.get(usize::from(app.0)) {
+        Some(app) => match variable_name(app.kind, variable) {
+            Some(name) => name,
+            None => "",
+        },
+        None => "",
+    }
+}
