@@ -1,10 +1,10 @@
 //! Frames that two live processors draft beside the one-thread frame.
 
 ghost use Rattle.std.specs.Prelude.{◌<◌};
-ghost use Rattle.app_model.specs.Racks.{RackFits, RacksFit};
 
+use app_model::Rack;
 use app_model::kinds::autopilot::KIND;
-use app_model::{Rack, rack_fits, racks_fit};
+use app_model::racks::empty_racks;
 use bank_words::KernelImage;
 use counted_boxes::Counters;
 use fail_stop::{Live, Snapshot};
@@ -15,17 +15,9 @@ use scram_types::{Area, Env, Image, ProcId, Row, Spec};
 use std::io::{self, ErrorKind};
 use std::rt::HostRuntime;
 
-/// Flies `uav`: two racks are those of its processors, the eight others those of the one thread.
-pub fn start(
-    rt: &HostRuntime,
-    racks: Vec<Rack>,
-    rack: Rack,
-    other: Rack,
-    counters: &Counters,
-) -> io::Result<()> {
-    if !rack_fits(&rack) || !rack_fits(&other) || !racks_fit(&racks) {
-        return Err(ErrorKind::InvalidInput.into());
-    }
+/// Flies `uav`: the racks are those of its processors, and the one thread has racks without boxes.
+pub fn start(rt: &HostRuntime, rack: Rack, other: Rack, counters: &Counters) -> io::Result<()> {
+    let racks = empty_racks(rt.alloc())?;
     let one = Live::new(ProcId(0), rack);
     let two = Live::new(ProcId(1), other);
     match uav(rt.alloc()) {
@@ -45,9 +37,6 @@ fn fly(
 ) -> io::Result<()>
     requires one_there { one.proc.0 < 8 }
     requires two_there { two.proc.0 < 8 }
-    requires one { RackFits (λ b. kind_of (b.vtable, b.value)) one.rack.boxes.items }
-    requires two { RackFits (λ b. kind_of (b.vtable, b.value)) two.rack.boxes.items }
-    requires racks { RacksFit (λ b. kind_of (b.vtable, b.value)) (λ r. r.boxes.items) racks.items }
 {
     fly_all(rt, spec, &mut one, &mut two, &mut racks)?;
     print_return(rt, two, racks.pop())?;
@@ -59,16 +48,13 @@ fn fly(
 }
 
 /// A processor halts after the last frame, and lives again where there is a rack for it.
-fn print_return(rt: &HostRuntime, live: Live, spare: Option<Rack>) -> io::Result<()> {
+fn print_return(rt: &HostRuntime, live: Live, spare: Option<Rack>) -> io::Result<()>
+    requires { live.proc.0 < 8 }
+{
     let halted = live.halt(14);
     println!(rt; "p{} halted in frame {}", halted.proc().0, halted.frame())?;
     match spare {
-        Some(rack) => {
-            if rack_fits(&rack) {
-                println!(rt; "p{} lives again", halted.restart(rack).proc().0)?;
-            }
-            Ok(())
-        }
+        Some(rack) => println!(rt; "p{} lives again", halted.restart(rack).proc().0),
         None => Ok(()),
     }
 }
@@ -83,9 +69,7 @@ fn fly_all(
 ) -> io::Result<()>
     requires one_there { one.old.proc.0 < 8 }
     requires two_there { two.old.proc.0 < 8 }
-    requires one { RackFits (λ b. kind_of (b.vtable, b.value)) one.old.rack.boxes.items }
-    requires two { RackFits (λ b. kind_of (b.vtable, b.value)) two.old.rack.boxes.items }
-    requires racks { RacksFit (λ b. kind_of (b.vtable, b.value)) (λ r. r.boxes.items) racks.old }
+    ensures { two.new.proc.0 < 8 }
 {
     let mut sys = Sys::start(spec);
     let mut images = start_images(&sys);

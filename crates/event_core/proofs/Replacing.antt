@@ -1,12 +1,10 @@
 -- Flyers with one more of them, or with another one in a place.
 use Rattle.std.proofs.Common.{◌≡◌, ◌∙◌, ℕ, ◌+◌, ◌<◌, ap, subst, sym, arith, List, [], ◌∷◌, ◌++◌, length}
-use Rattle.std.specs.Prelude.{All, None, Option, Some, map, slice_index_or, slice_set}
-use Rattle.std.specs.Option.{option_to_list}
+use Rattle.std.specs.Prelude.{All, map, slice_index_or, slice_set}
 use native.Mathlib.Decide.{ℕ_discrete}
 use Rattle.std.proofs.lemmas.List.{length-append, get_or-set_other, get_or-set_same, get_or_append_left, length-set}
-use Rattle.std.proofs.lemmas.List.Elements.{All-append, All-cons, All-nil, All-set, All-tail}
+use Rattle.std.proofs.lemmas.List.Elements.{All-append, All-cons, All-nil, All-set}
 use Rattle.std.proofs.Math.Seq.{get_or-append_seam}
-use Rattle.app_model.specs.declared.racks.Rack.{Rack}
 use Rattle.scram_types.specs.Scripts.{ScriptParts}
 use Rattle.scram_types.specs.Specification.{Parts}
 use Rattle.event_core.specs.declared.flyers.Flyer.{Flyer as Member}
@@ -35,24 +33,19 @@ pub taken_more : {A B : Type 0} (of : A → B) (made : List A) (a : A) (left res
 taken_more of [] a left rest is front = ap (λ b. b ∷ rest) is ∙ sym front
 taken_more of (x ∷ made) a left rest is front = ap (λ l. of x ∷ l) (taken_more of made a left rest is front)
 
--- what is left where one is taken from the front
-pub rest_of : {R : Type 0} (P : R → Type 0) (all rest : List R) (taken : Option R) → all ≡ option_to_list taken ++ rest → All P all → All P rest
-rest_of P all rest None is fits = subst (All P) is fits
-rest_of P all rest (Some r) is fits = All-tail P r rest (subst (All P) is fits)
-
-module _ {X : Type 0} {Y : X → Type 0} {B : Type 0} (kind : B → ℕ) (boxes : Rack X Y → List B) where
-  pub flyers_with : (spec : Parts) (script : ScriptParts) (flyers : List (Member X Y)) (i : ℕ) (flyer : Member X Y) → i < 8 → flyer.live.proc.0 ≡ i → FlyerFits kind boxes spec script flyer
-      → FlyersFit kind boxes spec script flyers → FlyersFit kind boxes spec script (slice_set flyers i flyer)
+module _ {X : Type 0} {Y : X → Type 0} where
+  pub flyers_with : (spec : Parts) (script : ScriptParts) (flyers : List (Member X Y)) (i : ℕ) (flyer : Member X Y) → i < 8 → flyer.live.proc.0 ≡ i → FlyerFits spec script flyer
+      → FlyersFit spec script flyers → FlyersFit spec script (slice_set flyers i flyer)
   flyers_with spec script flyers i flyer low is fits old =
       let long = old.0 in
       let inside : i < length flyers = omega (arith, long, low) in
-      (length-set flyers i flyer ∙ long, numbered_set (λ (flyer : Member X Y). flyer.live.proc.0) flyers i flyer inside is old.1, All-set (FlyerFits kind boxes spec script) flyers i flyer fits old.2)
+      (length-set flyers i flyer ∙ long, numbered_set (λ (flyer : Member X Y). flyer.live.proc.0) flyers i flyer inside is old.1, All-set (FlyerFits spec script) flyers i flyer fits old.2)
 
-  pub flyers_in : (spec spec' : Parts) (script script' : ScriptParts) (flyers : List (Member X Y)) → spec ≡ spec' → script ≡ script' → FlyersFit kind boxes spec script flyers → FlyersFit kind boxes spec' script' flyers
+  pub flyers_in : (spec spec' : Parts) (script script' : ScriptParts) (flyers : List (Member X Y)) → spec ≡ spec' → script ≡ script' → FlyersFit spec script flyers → FlyersFit spec' script' flyers
   flyers_in spec spec' script script' flyers is is' fits =
-      subst (λ script. FlyersFit kind boxes spec' script flyers) is' (subst (λ spec. FlyersFit kind boxes spec script flyers) is fits)
+      subst (λ script. FlyersFit spec' script flyers) is' (subst (λ spec. FlyersFit spec script flyers) is fits)
 
-  pub all_push : (spec : Parts) (script : ScriptParts) (flyers : List (Member X Y)) (flyer : Member X Y) → FlyerFits kind boxes spec script flyer
-      → All (FlyerFits kind boxes spec script) flyers → All (FlyerFits kind boxes spec script) (flyers ++ flyer ∷ [])
+  pub all_push : (spec : Parts) (script : ScriptParts) (flyers : List (Member X Y)) (flyer : Member X Y) → FlyerFits spec script flyer
+      → All (FlyerFits spec script) flyers → All (FlyerFits spec script) (flyers ++ flyer ∷ [])
   all_push spec script flyers flyer fits all =
-      All-append (FlyerFits kind boxes spec script) flyers (flyer ∷ []) all (All-cons (FlyerFits kind boxes spec script) flyer [] fits (All-nil (FlyerFits kind boxes spec script)))
+      All-append (FlyerFits spec script) flyers (flyer ∷ []) all (All-cons (FlyerFits spec script) flyer [] fits (All-nil (FlyerFits spec script)))

@@ -1,9 +1,7 @@
-//! Processors with what they need in a flight. That the boxes fit is told by clauses, since no type can keep a fact of a
-//! box; the fields are public so that clauses can name them.
+//! Processors with what they need in a flight. The fields are public so that clauses can name them.
 
-ghost use Rattle.std.specs.Prelude.{◌≡◌, ◌<◌, ◌+◌, ◌∷◌, IfOk, IfSome, None, Some, length, map, ℕ};
+ghost use Rattle.std.specs.Prelude.{◌≡◌, ◌<◌, ◌+◌, ◌∷◌, IfOk, IfSome, None, Some, length, map, vec_len, ℕ};
 ghost use Rattle.std.specs.Vec.Iter.{into_iter_items, into_iter_len};
-ghost use Rattle.app_model.specs.Racks.{AllRacksFit, RackFits, RacksFit};
 ghost use Rattle.event_core.specs.Cores.{flown, standing, standing_words};
 ghost use Rattle.event_core.specs.Places.{HasLooked};
 ghost use Rattle.fail_stop.specs.Events.{IsNext, frame_of};
@@ -35,13 +33,12 @@ pub struct Flyer {
 impl Flyer {
     /// A processor before its first frame.
     pub(crate) fn new(proc: ProcId, rack: Rack, spare: Rack) -> Flyer
-        requires rack { RackFits (λ b. kind_of (b.vtable, b.value)) rack.boxes.items }
-        requires spare { RackFits (λ b. kind_of (b.vtable, b.value)) spare.boxes.items }
+        requires { proc.0 < 8 }
         ensures proc { result.live.proc ≡ proc }
         ensures rack { result.live.rack ≡ rack }
         ensures spare { result.spare ≡ Some spare }
         ensures drafted { result.drafted ≡ None }
-        ensures fits { (spec : Parts) (script : ScriptParts) → FlyerFits (λ b. kind_of (b.vtable, b.value)) (λ r. r.boxes.items) spec script result }
+        ensures fits { (spec : Parts) (script : ScriptParts) → FlyerFits spec script result }
     {
         Flyer {
             live: Live::new(proc, rack),
@@ -53,11 +50,11 @@ impl Flyer {
     /// The processor halts in this frame, and its boxes are dropped. It has those of its spare rack from then on, for
     /// the frame in which it restarts.
     pub(crate) fn halt(&mut self, frame: u32)
-        requires spare { IfSome self.old.spare (λ rack. RackFits (λ b. kind_of (b.vtable, b.value)) rack.boxes.items) }
+        requires { self.old.live.proc.0 < 8 }
         ensures proc { self.new.live.proc ≡ self.old.live.proc }
         ensures rack { IfSome self.old.spare (λ rack. self.new.live.rack ≡ rack) }
         ensures spare { self.new.spare ≡ None }
-        ensures fits { (spec : Parts) (script : ScriptParts) → FlyerFits (λ b. kind_of (b.vtable, b.value)) (λ r. r.boxes.items) spec script self.old → FlyerFits (λ b. kind_of (b.vtable, b.value)) (λ r. r.boxes.items) spec script self.new }
+        ensures fits { (spec : Parts) (script : ScriptParts) → FlyerFits spec script self.old → FlyerFits spec script self.new }
     {
         if let Some(rack) = self.spare.take() {
             let next = Live::new(self.live.proc(), rack);
@@ -71,10 +68,10 @@ impl Flyer {
         requires known { self.old.live.proc.0 < length spec.now.procs }
         requires looked { HasLooked (flown core.now) ((standing core.now).proc self.old.live.proc.0) }
         requires i { i < 64 }
-        requires fits { FlyerFits (λ b. kind_of (b.vtable, b.value)) (λ r. r.boxes.items) core.now.spec core.now.script self.old }
+        requires fits { FlyerFits core.now.spec core.now.script self.old }
         ensures word { result ≡ word_in (draft_words core.now.spec core.now.script self.old.live.proc.0 (frame_of ((standing core.now).proc self.old.live.proc.0))) i }
         ensures proc { self.new.live.proc ≡ self.old.live.proc }
-        ensures fits { FlyerFits (λ b. kind_of (b.vtable, b.value)) (λ r. r.boxes.items) core.now.spec core.now.script self.new }
+        ensures fits { FlyerFits core.now.spec core.now.script self.new }
     {
         let image = self.image(core, spec);
         stored_word(&image, i)
@@ -85,10 +82,10 @@ impl Flyer {
         requires spec { core.now.spec ≡ spec.now }
         requires known { self.old.live.proc.0 < length spec.now.procs }
         requires looked { HasLooked (flown core.now) ((standing core.now).proc self.old.live.proc.0) }
-        requires fits { FlyerFits (λ b. kind_of (b.vtable, b.value)) (λ r. r.boxes.items) core.now.spec core.now.script self.old }
+        requires fits { FlyerFits core.now.spec core.now.script self.old }
         ensures image { result ≡ draft core.now.spec core.now.script self.old.live.proc.0 (frame_of ((standing core.now).proc self.old.live.proc.0)) }
         ensures proc { self.new.live.proc ≡ self.old.live.proc }
-        ensures fits { FlyerFits (λ b. kind_of (b.vtable, b.value)) (λ r. r.boxes.items) core.now.spec core.now.script self.new }
+        ensures fits { FlyerFits core.now.spec core.now.script self.new }
     {
         let frame = core.frame_of(self.live.proc());
         match drafted_in(&self.drafted, frame) {
@@ -101,10 +98,10 @@ impl Flyer {
         requires spec { core.now.spec ≡ spec.now }
         requires known { self.old.live.proc.0 < length spec.now.procs }
         requires looked { HasLooked (flown core.now) ((standing core.now).proc self.old.live.proc.0) }
-        requires fits { FlyerFits (λ b. kind_of (b.vtable, b.value)) (λ r. r.boxes.items) core.now.spec core.now.script self.old }
+        requires fits { FlyerFits core.now.spec core.now.script self.old }
         ensures image { result ≡ draft core.now.spec core.now.script self.old.live.proc.0 (frame_of ((standing core.now).proc self.old.live.proc.0)) }
         ensures proc { self.new.live.proc ≡ self.old.live.proc }
-        ensures fits { FlyerFits (λ b. kind_of (b.vtable, b.value)) (λ r. r.boxes.items) core.now.spec core.now.script self.new }
+        ensures fits { FlyerFits core.now.spec core.now.script self.new }
     {
         let _procs = spec.procs.items().len();
         let snap = core.snapshot(self.live.proc());
@@ -146,9 +143,9 @@ fn draft_word(flyers: &mut [Flyer], core: &Core, spec: &Spec, p: ProcId, i: u8) 
     requires few { p.0 < 8 }
     requires looked { HasLooked (flown core.now) ((standing core.now).proc p.0) }
     requires i { i < 64 }
-    requires fits { FlyersFit (λ b. kind_of (b.vtable, b.value)) (λ r. r.boxes.items) core.now.spec core.now.script flyers.old }
+    requires fits { FlyersFit core.now.spec core.now.script flyers.old }
     ensures word { result ≡ word_in (draft_words core.now.spec core.now.script p.0 (frame_of ((standing core.now).proc p.0))) i }
-    ensures fits { FlyersFit (λ b. kind_of (b.vtable, b.value)) (λ r. r.boxes.items) core.now.spec core.now.script flyers.new }
+    ensures fits { FlyersFit core.now.spec core.now.script flyers.new }
 {
     flyers[usize::from(p.0)].word(core, spec, i)
 }
@@ -157,8 +154,8 @@ fn draft_word(flyers: &mut [Flyer], core: &Core, spec: &Spec, p: ProcId, i: u8) 
 fn halt_processor(flyers: &mut [Flyer], core: &Core, p: ProcId)
     requires known { p.0 < length core.now.spec.procs }
     requires few { p.0 < 8 }
-    requires fits { FlyersFit (λ b. kind_of (b.vtable, b.value)) (λ r. r.boxes.items) core.now.spec core.now.script flyers.old }
-    ensures fits { FlyersFit (λ b. kind_of (b.vtable, b.value)) (λ r. r.boxes.items) core.now.spec core.now.script flyers.new }
+    requires fits { FlyersFit core.now.spec core.now.script flyers.old }
+    ensures fits { FlyersFit core.now.spec core.now.script flyers.new }
 {
     flyers[usize::from(p.0)].halt(core.frame_of(p));
 }
@@ -169,9 +166,9 @@ pub fn make_flyers(
     racks: Vec<Rack>,
     spares: Vec<Rack>,
 ) -> Result<Vec<Flyer>, NoMemory>
-    requires racks { RacksFit (λ b. kind_of (b.vtable, b.value)) (λ r. r.boxes.items) racks.items }
-    requires spares { RacksFit (λ b. kind_of (b.vtable, b.value)) (λ r. r.boxes.items) spares.items }
-    ensures fits { (spec : Parts) (script : ScriptParts) → IfOk result (λ flyers. FlyersFit (λ b. kind_of (b.vtable, b.value)) (λ r. r.boxes.items) spec script flyers.items) }
+    requires racks { vec_len racks ≡ 8 }
+    requires spares { vec_len spares ≡ 8 }
+    ensures fits { (spec : Parts) (script : ScriptParts) → IfOk result (λ flyers. FlyersFit spec script flyers.items) }
     ensures racks { IfOk result (λ flyers. map (λ flyer. flyer.live.rack) flyers.items ≡ racks.items) }
     ensures spares { IfOk result (λ flyers. map (λ flyer. flyer.spare) flyers.items ≡ map Some spares.items) }
 {
@@ -189,9 +186,6 @@ pub fn make_flyers(
 // The next one of these racks.
 fn next_rack(racks: &mut IntoIter<Rack>) -> Rack
     requires some { 0 < into_iter_len racks.old }
-    requires fit { AllRacksFit (λ b. kind_of (b.vtable, b.value)) (λ r. r.boxes.items) (into_iter_items racks.old) }
-    ensures rack { RackFits (λ b. kind_of (b.vtable, b.value)) result.boxes.items }
-    ensures rest { AllRacksFit (λ b. kind_of (b.vtable, b.value)) (λ r. r.boxes.items) (into_iter_items racks.new) }
     ensures first { into_iter_items racks.old ≡ result ∷ into_iter_items racks.new }
     ensures fewer { into_iter_len racks.new + 1 ≡ into_iter_len racks.old }
 {
@@ -205,9 +199,9 @@ fn next_rack(racks: &mut IntoIter<Rack>) -> Rack
 pub fn word_of(core: &Core, spec: &Spec, flyers: &mut [Flyer], event: Event) -> u64
     requires spec { core.now.spec ≡ spec.now }
     requires next { IsNext (flown core.now) (standing core.now) (standing_words core.now) event }
-    requires fits { FlyersFit (λ b. kind_of (b.vtable, b.value)) (λ r. r.boxes.items) core.now.spec core.now.script flyers.old }
+    requires fits { FlyersFit core.now.spec core.now.script flyers.old }
     ensures word { IsEventWord (flown core.now) (standing core.now) event result }
-    ensures fits { FlyersFit (λ b. kind_of (b.vtable, b.value)) (λ r. r.boxes.items) core.now.spec core.now.script flyers.new }
+    ensures fits { FlyersFit core.now.spec core.now.script flyers.new }
 {
     let _procs = spec.procs.items().len();
     match event {

@@ -1,15 +1,14 @@
 //! Flights over both decks, and on one thread.
 
-ghost use Rattle.std.specs.Prelude.{◌≡◌, IfOk};
-ghost use Rattle.app_model.specs.Racks.{RacksFit};
+ghost use Rattle.std.specs.Prelude.{◌≡◌, IfOk, vec_len};
 ghost use Rattle.event_core.specs.Cores.{flown, standing};
 ghost use Rattle.fail_stop.specs.Ends.{IsOver};
 
-use app_model::{Rack, racks_fit};
+use app_model::Rack;
+use app_model::racks::empty_racks;
 use coverage_check::Mission;
 use event_core::Core;
 use lock_deck::LockFlight;
-use racks::racks;
 use scram_types::Flown;
 use std::alloc::AllocGlobal;
 use std::io::{self, ErrorKind};
@@ -26,15 +25,15 @@ pub enum Deck {
     One,
 }
 
-/// Flies a mission with the boxes of the command, with a thread for each processor or for those that are asked for.
+/// Flies a mission with racks without boxes, with a thread for each processor or for those that are asked for.
 pub fn fly_over<R: AllocGlobal + Threads + Wait + Sync>(
     rt: &R,
     mission: &Mission,
     deck: Deck,
     asked: Option<[bool; 8]>,
 ) -> io::Result<Flown> {
-    let racks = racks!(rt);
-    let spares = racks!(rt);
+    let racks = empty_racks(rt.alloc())?;
+    let spares = empty_racks(rt.alloc())?;
     fly_with(rt, mission, deck, asked, racks, spares)
 }
 
@@ -46,10 +45,10 @@ pub fn fly_with<R: AllocGlobal + Threads + Wait + Sync>(
     asked: Option<[bool; 8]>,
     racks: Vec<Rack>,
     spares: Vec<Rack>,
-) -> io::Result<Flown> {
-    if !racks_fit(&racks) || !racks_fit(&spares) {
-        return Err(ErrorKind::InvalidInput.into());
-    }
+) -> io::Result<Flown>
+    requires racks { vec_len racks ≡ 8 }
+    requires spares { vec_len spares ≡ 8 }
+{
     match deck {
         Deck::Words => fly_over_words(rt, mission, asked, racks, spares),
         Deck::Lock => Ok(fly_over_lock(rt, mission, asked, racks, spares)?.finish()),
@@ -64,8 +63,8 @@ fn fly_over_words<R: AllocGlobal + Threads + Wait + Sync>(
     racks: Vec<Rack>,
     spares: Vec<Rack>,
 ) -> io::Result<Flown>
-    requires racks { RacksFit (λ b. kind_of (b.vtable, b.value)) (λ r. r.boxes.items) racks.items }
-    requires spares { RacksFit (λ b. kind_of (b.vtable, b.value)) (λ r. r.boxes.items) spares.items }
+    requires racks { vec_len racks ≡ 8 }
+    requires spares { vec_len spares ≡ 8 }
 {
     let Ok(flight) = WordFlight::open(rt.alloc(), mission, racks, spares) else {
         return Err(ErrorKind::OutOfMemory.into());
@@ -84,8 +83,8 @@ pub fn fly_over_lock<'a, R: AllocGlobal + Threads + Wait + Sync>(
     racks: Vec<Rack>,
     spares: Vec<Rack>,
 ) -> io::Result<Core<'a>>
-    requires racks { RacksFit (λ b. kind_of (b.vtable, b.value)) (λ r. r.boxes.items) racks.items }
-    requires spares { RacksFit (λ b. kind_of (b.vtable, b.value)) (λ r. r.boxes.items) spares.items }
+    requires racks { vec_len racks ≡ 8 }
+    requires spares { vec_len spares ≡ 8 }
     ensures spec { IfOk result (λ core. core.spec ≡ mission.now.spec) }
     ensures over { IfOk result (λ core. IsOver (flown core) (standing core)) }
 {
@@ -102,9 +101,7 @@ fn fly_on_one_thread<R: AllocGlobal>(
     rt: &R,
     mission: &Mission,
     racks: Vec<Rack>,
-) -> io::Result<Flown>
-    requires { RacksFit (λ b. kind_of (b.vtable, b.value)) (λ r. r.boxes.items) racks.items }
-{
+) -> io::Result<Flown> {
     match one_thread(rt.alloc(), mission, racks) {
         Ok(flown) => Ok(flown),
         Err(_) => Err(ErrorKind::OutOfMemory.into()),

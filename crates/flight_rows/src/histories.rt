@@ -1,14 +1,12 @@
 //! Flights over a lock, flown again by their histories.
 
 ghost use Rattle.std.specs.Prelude.{◌≡◌};
-ghost use Rattle.app_model.specs.Racks.{RacksFit};
 ghost use Rattle.schedule_replay.specs.Events.{AreCodes};
 
 use crate::decks::fly_over_lock;
-use app_model::{Rack, racks_fit};
+use app_model::racks::empty_racks;
 use coverage_check::Mission;
 use event_core::Core;
-use racks::racks;
 use schedule_replay::laws::history_has_codes;
 use schedule_replay::{read_schedule, replay, write_schedule};
 use scram_types::Flown;
@@ -23,21 +21,8 @@ pub fn fly_and_write<R: AllocGlobal + Threads + Wait + Sync>(
     mission: &Mission,
     asked: Option<[bool; 8]>,
 ) -> io::Result<(Flown, Vec<u8>)> {
-    let racks = racks!(rt);
-    let spares = racks!(rt);
-    fly_and_write_with(rt, mission, asked, racks, spares)
-}
-
-fn fly_and_write_with<R: AllocGlobal + Threads + Wait + Sync>(
-    rt: &R,
-    mission: &Mission,
-    asked: Option<[bool; 8]>,
-    racks: Vec<Rack>,
-    spares: Vec<Rack>,
-) -> io::Result<(Flown, Vec<u8>)> {
-    if !racks_fit(&racks) || !racks_fit(&spares) {
-        return Err(ErrorKind::InvalidInput.into());
-    }
+    let racks = empty_racks(rt.alloc())?;
+    let spares = empty_racks(rt.alloc())?;
     let core = fly_over_lock(rt, mission, asked, racks, spares)?;
     let text = write_history(rt.alloc(), mission, &core)?;
     Ok((core.finish(), text))
@@ -53,7 +38,7 @@ fn write_history(alloc: Global, mission: &Mission, core: &Core) -> io::Result<Ve
     }
 }
 
-/// Reads a history that was written and flies by it once more, on one thread and with boxes of its own: what came of it,
+/// Reads a history that was written and flies by it once more, on one thread: what came of it,
 /// where it is a schedule at whose end the flight is over.
 pub fn fly_again<R: AllocGlobal>(rt: &R, mission: &Mission, text: &[u8]) -> io::Result<Flown> {
     match read_schedule(rt.alloc(), text, mission.spec()) {
@@ -65,28 +50,11 @@ pub fn fly_again<R: AllocGlobal>(rt: &R, mission: &Mission, text: &[u8]) -> io::
 fn replay_codes<R: AllocGlobal>(rt: &R, mission: &Mission, codes: &[u32]) -> io::Result<Flown>
     requires { AreCodes mission.now.spec codes.now }
 {
-    let racks = racks!(rt);
-    let spares = racks!(rt);
-    if !racks_fit(&racks) || !racks_fit(&spares) {
-        return Err(ErrorKind::InvalidInput.into());
-    }
-    replay_with(rt.alloc(), mission, codes, racks, spares)
-}
-
-fn replay_with(
-    alloc: Global,
-    mission: &Mission,
-    codes: &[u32],
-    racks: Vec<Rack>,
-    spares: Vec<Rack>,
-) -> io::Result<Flown>
-    requires codes { AreCodes mission.now.spec codes.now }
-    requires racks { RacksFit (λ b. kind_of (b.vtable, b.value)) (λ r. r.boxes.items) racks.items }
-    requires spares { RacksFit (λ b. kind_of (b.vtable, b.value)) (λ r. r.boxes.items) spares.items }
-{
+    let racks = empty_racks(rt.alloc())?;
+    let spares = empty_racks(rt.alloc())?;
     mission.holds();
     let (spec, script) = (mission.spec(), mission.script());
-    match replay(alloc, spec, script, racks, spares, codes) {
+    match replay(rt.alloc(), spec, script, racks, spares, codes) {
         Ok(flown) => Ok(flown),
         Err(_) => Err(ErrorKind::InvalidData.into()),
     }

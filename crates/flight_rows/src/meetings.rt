@@ -2,11 +2,12 @@
 
 use crate::decks::{Deck, fly_over, fly_with, is_same};
 use crate::documents::read_mission;
+use app_model::{Rack, racks_fit};
 use counted_boxes::{Counters, counted_racks, counted_spares};
 use coverage_check::Mission;
 use scram_types::Flown;
 use std::alloc::AllocGlobal;
-use std::io;
+use std::io::{self, ErrorKind};
 use std::rt::HostRuntime;
 use std::sync::Wait;
 use std::thread::Threads;
@@ -52,5 +53,19 @@ fn fly_counted<R: AllocGlobal + Threads + Wait + Sync>(
 ) -> io::Result<Flown> {
     let racks = counted_racks!(rt, counters);
     let spares = counted_spares!(rt, counters);
+    fly_fitting(rt, mission, deck, racks, spares)
+}
+
+/// Flies a mission with these boxes, where each is of the kind of its place.
+fn fly_fitting<R: AllocGlobal + Threads + Wait + Sync>(
+    rt: &R,
+    mission: &Mission,
+    deck: Deck,
+    racks: Vec<Rack>,
+    spares: Vec<Rack>,
+) -> io::Result<Flown> {
+    if !racks_fit(&racks) || !racks_fit(&spares) {
+        return Err(ErrorKind::InvalidInput.into());
+    }
     fly_with(rt, mission, deck, None, racks, spares)
 }

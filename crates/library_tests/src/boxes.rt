@@ -2,8 +2,8 @@
 
 use airframe::step;
 use app_model::kinds::{autopilot, data_link, navigator, power_monitor};
-use app_model::racks::racks_frame;
-use app_model::{App, Rack, Seen, rack_fits, racks_fit, start_area};
+use app_model::racks::{empty_racks, rack_frame, racks_frame};
+use app_model::{App, Rack, Seen, rack_fits, start_area};
 use more_apps::PlainAutopilot;
 use racks::{Autopilot, Datalink, FlightControl, Navigator, PowerMonitor, rack, racks};
 use scram_types::{Area, Goal, KindId, Mode, Order, ProcId, World};
@@ -285,23 +285,38 @@ fn data_link_answers_as_was_worked_out(rt: HostRuntime) {
     }
 }
 
-/// What the boxes of the last processor answer to two orders, or `None` where the racks do not fit.
-fn racks_answer(mut racks: Vec<Rack>, seen: &Seen) -> Option<(Area, Area)> {
-    if !racks_fit(&racks) {
-        return None;
-    }
+/// What the rack of the last processor answers to two orders.
+fn racks_answer(mut racks: Vec<Rack>, seen: &Seen) -> (Area, Area) {
     let run = racks_frame(&mut racks, ProcId(7), KindId(2), Order::Run, seen);
     let off = racks_frame(&mut racks, ProcId(7), KindId(4), Order::Off, seen);
-    Some((run, off))
+    (run, off)
 }
 
 #[test]
-fn eight_racks_of_five_boxes_answer(rt: HostRuntime) -> Result<(), Fail> {
+fn racks_answer_with_boxes_and_without(rt: HostRuntime) -> Result<(), Fail> {
     let racks = racks!(rt);
     let start = start_area(KindId(power_monitor::KIND));
     let seen = seen_in(power_monitor::NORMAL, start, LEVEL, LEVEL);
     let charged = [1, 8_020, 120, 100, 0, 0, 1, 0];
-    assert_eq!(rt; racks_answer(racks, &seen), Some((charged, NONE)));
+    assert_eq!(rt; racks_answer(racks, &seen), (charged, NONE));
+    assert_eq!(rt;
+        racks_answer(empty_racks(rt.alloc())?, &seen),
+        (charged, NONE)
+    );
+    assert_eq!(rt; racks_answer(Vec::new(rt.alloc()), &seen), (charged, NONE));
+    Ok(())
+}
+
+#[test]
+fn box_out_of_its_place_is_not_asked(rt: HostRuntime) -> Result<(), Fail> {
+    let mut rack = rack!(rt, Navigator::new());
+    let start = start_area(KindId(autopilot::KIND));
+    let seen = seen_in(autopilot::NAVIGATE, start, (5_000, 3_500), (5_000, 100));
+    let turning = [1, 0, 50, 5_000, 100, 0, 1, 0];
+    assert_eq!(rt;
+        rack_frame(&mut rack, KindId(autopilot::KIND), Order::Run, &seen),
+        turning
+    );
     Ok(())
 }
 

@@ -1,6 +1,6 @@
 //! Files and sinks in memory and of the system, and streams that stop in the middle.
 
-use scram_io::streams::{read_whole, write_whole};
+use scram_io::streams::{read_past, write_whole};
 use scram_io::{Files, MemFiles, MemSink, ReadFault, RealFiles, RealSink, Sink, SinkFault};
 use std::alloc::Global;
 use std::io;
@@ -133,20 +133,24 @@ impl Write for Trickle {
 fn streams_in_pieces(rt: HostRuntime) -> Result<(), Fail> {
     for (calls, ends, limit, want) in [
         (3, true, 3, Ok(3)),
-        (3, true, 2, Err(ReadFault::TooLong)),
-        (3, false, 3, Err(ReadFault::Failed)),
+        (9, true, 3, Ok(4)),
+        (3, false, 2, Ok(3)),
+        (3, false, 3, Err(ErrorKind::BrokenPipe)),
         (0, true, 0, Ok(0)),
     ] {
-        let read = read_whole(rt.alloc(), &mut Trickle { calls, ends }, limit).map(
-            |bytes| bytes.len(),
-        );
+        let read = match read_past(rt.alloc(), &mut Trickle { calls, ends }, limit) {
+            Ok(bytes) => Ok(bytes.len()),
+            Err(error) => Err(error.kind()),
+        };
         assert_eq!(rt; read, want, "{calls} bytes within {limit}");
     }
     let long = vec![in rt.alloc(); b'a'; 9000]?;
-    assert_eq!(rt;
-        read_whole(rt.alloc(), &mut long.as_slice(), 9000)?.len(),
-        9000
-    );
+    for (limit, want) in [(9000, 9000), (8999, 9000), (4096, 4097)] {
+        assert_eq!(rt;
+            read_past(rt.alloc(), &mut long.as_slice(), limit)?.len(),
+            want
+        );
+    }
     for (calls, ends, want) in [
         (3, true, Ok(())),
         (2, true, Err(SinkFault)),

@@ -1,7 +1,6 @@
 //! A flight with a thread for each processor.
 
 ghost use Rattle.std.specs.Prelude.{◌≡◌, ◌≤◌, ◌<◌, ◌+◌, [], All, IfOk, IfSome, OnOk, Some, length, vec_capacity, vec_len};
-ghost use Rattle.app_model.specs.Racks.{AllRacksFit, RackFits, RacksFit};
 ghost use Rattle.coverage_check.specs.Missions.{MissionParts, mission_of};
 ghost use Rattle.event_core.specs.Cores.{flown, standing};
 ghost use Rattle.fail_stop.specs.Ends.{IsOver};
@@ -26,8 +25,8 @@ use std::thread;
 use std::thread::{Scope, Threads};
 use trace_props::missions::reconfigurations_are_assured;
 
-/// A flight of a mission before its first step, with all memory that it needs. That its boxes fit is told by clauses,
-/// since no type can keep a fact of a box; two fields are public so that clauses can name them.
+/// A flight of a mission before its first step, with all memory that it needs. That its processors are those of the
+/// mission is told by clauses; two fields are public so that clauses can name them.
 #[derive(Drop)]
 pub struct LockFlight<'a> {
     pub mission: &'a Mission,
@@ -48,10 +47,10 @@ impl<'a> LockFlight<'a> {
         racks: Vec<Rack>,
         spares: Vec<Rack>,
     ) -> Result<LockFlight<'a>, NoMemory>
-        requires racks { RacksFit (λ b. kind_of (b.vtable, b.value)) (λ r. r.boxes.items) racks.items }
-        requires spares { RacksFit (λ b. kind_of (b.vtable, b.value)) (λ r. r.boxes.items) spares.items }
+        requires racks { vec_len racks ≡ 8 }
+        requires spares { vec_len spares ≡ 8 }
         ensures mission { IfOk result (λ flight. flight.mission.now ≡ mission.now) }
-        ensures fits { IfOk result (λ flight. All (λ member. MemberFits (λ b. kind_of (b.vtable, b.value)) (λ r. r.boxes.items) flight.mission.now member.value) flight.members.items) }
+        ensures fits { IfOk result (λ flight. All (λ member. MemberFits flight.mission.now member.value) flight.members.items) }
     {
         mission.holds();
         let core = Core::open(alloc, mission.spec(), mission.script())?;
@@ -68,7 +67,7 @@ impl<'a> LockFlight<'a> {
     /// Flies the mission with a thread for each processor and the kernel on the caller's, until the flight is over. A
     /// processor whose thread cannot be started is flown by the caller in turns. It takes no memory, and may wait.
     pub fn run<R: Threads + Wait + Sync>(self, rt: &R) -> Core<'a>
-        requires fits { All (λ member. MemberFits (λ b. kind_of (b.vtable, b.value)) (λ r. r.boxes.items) self.mission.now member.value) self.members.items }
+        requires fits { All (λ member. MemberFits self.mission.now member.value) self.members.items }
         ensures spec { result.spec ≡ self.entry.mission.now.spec }
         ensures script { result.script ≡ self.entry.mission.now.script }
         ensures over { IsOver (flown result) (standing result) }
@@ -79,7 +78,7 @@ impl<'a> LockFlight<'a> {
 
     /// As `run`, with threads for the processors that are asked for alone; the others are flown by the caller in turns.
     pub fn run_on<R: Threads + Wait + Sync>(self, rt: &R, asked: [bool; 8]) -> Core<'a>
-        requires fits { All (λ member. MemberFits (λ b. kind_of (b.vtable, b.value)) (λ r. r.boxes.items) self.mission.now member.value) self.members.items }
+        requires fits { All (λ member. MemberFits self.mission.now member.value) self.members.items }
         ensures spec { result.spec ≡ self.entry.mission.now.spec }
         ensures script { result.script ≡ self.entry.mission.now.script }
         ensures over { IsOver (flown result) (standing result) }
@@ -111,9 +110,8 @@ fn make_members(
     racks: Vec<Rack>,
     spares: Vec<Rack>,
 ) -> Result<Vec<CachePadded<Member>>, NoMemory>
-    requires racks { RacksFit (λ b. kind_of (b.vtable, b.value)) (λ r. r.boxes.items) racks.items }
-    requires spares { RacksFit (λ b. kind_of (b.vtable, b.value)) (λ r. r.boxes.items) spares.items }
-    ensures fits { IfOk result (λ members. All (λ member. MemberFits (λ b. kind_of (b.vtable, b.value)) (λ r. r.boxes.items) mission.now member.value) members.items) }
+    requires { vec_len racks ≡ 8 }
+    ensures fits { IfOk result (λ members. All (λ member. MemberFits mission.now member.value) members.items) }
 {
     let mut racks = racks;
     let mut spares = spares;
@@ -132,13 +130,9 @@ fn add_next(
     members: &mut Vec<CachePadded<Member>>,
 ) -> Result<(), NoMemory>
     requires few { vec_len racks.old ≤ 8 }
-    requires racks { AllRacksFit (λ b. kind_of (b.vtable, b.value)) (λ r. r.boxes.items) racks.old.items }
-    requires spares { AllRacksFit (λ b. kind_of (b.vtable, b.value)) (λ r. r.boxes.items) spares.old.items }
-    requires members { All (λ member. MemberFits (λ b. kind_of (b.vtable, b.value)) (λ r. r.boxes.items) mission.now member.value) members.old.items }
+    requires members { All (λ member. MemberFits mission.now member.value) members.old.items }
     ensures few { vec_len racks.new ≤ 8 }
-    ensures racks { AllRacksFit (λ b. kind_of (b.vtable, b.value)) (λ r. r.boxes.items) racks.new.items }
-    ensures spares { AllRacksFit (λ b. kind_of (b.vtable, b.value)) (λ r. r.boxes.items) spares.new.items }
-    ensures members { OnOk result (All (λ member. MemberFits (λ b. kind_of (b.vtable, b.value)) (λ r. r.boxes.items) mission.now member.value) members.new.items) }
+    ensures members { OnOk result (All (λ member. MemberFits mission.now member.value) members.new.items) }
 {
     match next_member(mission, racks, spares) {
         Some(member) => add_member(members, member),
@@ -149,12 +143,8 @@ fn add_next(
 // The processor that has the last of these racks, if there is one of its number.
 fn next_member(mission: &Mission, racks: &mut Vec<Rack>, spares: &mut Vec<Rack>) -> Option<Member>
     requires few { vec_len racks.old ≤ 8 }
-    requires racks { AllRacksFit (λ b. kind_of (b.vtable, b.value)) (λ r. r.boxes.items) racks.old.items }
-    requires spares { AllRacksFit (λ b. kind_of (b.vtable, b.value)) (λ r. r.boxes.items) spares.old.items }
     ensures few { vec_len racks.new ≤ 8 }
-    ensures racks { AllRacksFit (λ b. kind_of (b.vtable, b.value)) (λ r. r.boxes.items) racks.new.items }
-    ensures spares { AllRacksFit (λ b. kind_of (b.vtable, b.value)) (λ r. r.boxes.items) spares.new.items }
-    ensures fits { IfSome result (MemberFits (λ b. kind_of (b.vtable, b.value)) (λ r. r.boxes.items) mission.now) }
+    ensures fits { IfSome result (MemberFits mission.now) }
 {
     let rack = take_rack(racks)?;
     let spare = take_rack(spares)?;
@@ -168,8 +158,6 @@ fn next_member(mission: &Mission, racks: &mut Vec<Rack>, spares: &mut Vec<Rack>)
 
 // The last of these racks, if there is one.
 fn take_rack(racks: &mut Vec<Rack>) -> Option<Rack>
-    ensures rest { AllRacksFit (λ b. kind_of (b.vtable, b.value)) (λ r. r.boxes.items) racks.old.items → AllRacksFit (λ b. kind_of (b.vtable, b.value)) (λ r. r.boxes.items) racks.new.items }
-    ensures fits { AllRacksFit (λ b. kind_of (b.vtable, b.value)) (λ r. r.boxes.items) racks.old.items → IfSome result (λ rack. RackFits (λ b. kind_of (b.vtable, b.value)) rack.boxes.items) }
     ensures fewer { vec_len racks.new ≤ vec_len racks.old }
     ensures one { IfSome result (λ _. vec_len racks.new < vec_len racks.old) }
 {
@@ -178,7 +166,7 @@ fn take_rack(racks: &mut Vec<Rack>) -> Option<Rack>
 
 // Adds a processor to those that wait for a thread.
 fn add_member(members: &mut Vec<CachePadded<Member>>, member: Member) -> Result<(), NoMemory>
-    ensures { OnOk result ((mission : MissionParts) → MemberFits (λ b. kind_of (b.vtable, b.value)) (λ r. r.boxes.items) mission member → All (λ member. MemberFits (λ b. kind_of (b.vtable, b.value)) (λ r. r.boxes.items) mission member.value) members.old.items → All (λ member. MemberFits (λ b. kind_of (b.vtable, b.value)) (λ r. r.boxes.items) mission member.value) members.new.items) }
+    ensures { OnOk result ((mission : MissionParts) → MemberFits mission member → All (λ member. MemberFits mission member.value) members.old.items → All (λ member. MemberFits mission member.value) members.new.items) }
 {
     members.push(CachePadded::new(member))?;
     Ok(())
@@ -192,7 +180,7 @@ fn fly<'a, J: FlightOf + Send + Sync, R: Threads + Wait + Sync>(
 ) -> Core<'a>
     requires own { J.mission ≡ Some mission.now }
     requires core { mission_of core.spec core.script ≡ mission.now }
-    requires fits { All (λ member. MemberFits (λ b. kind_of (b.vtable, b.value)) (λ r. r.boxes.items) mission.now member.value) roster.members.items }
+    requires fits { All (λ member. MemberFits mission.now member.value) roster.members.items }
     requires back { (roster.back.items ≡ []) × (vec_len roster.members ≤ vec_capacity roster.back) }
     ensures core { mission_of result.spec result.script ≡ mission.now }
     ensures over { IsOver (flown result) (standing result) }
@@ -227,7 +215,7 @@ fn fly_shared<'a, J: FlightOf + Send + Sync, R: Threads + Wait + Sync>(
     roster: Roster,
 )
     requires own { J.mission ≡ Some mission.now }
-    requires fits { All (λ member. MemberFits (λ b. kind_of (b.vtable, b.value)) (λ r. r.boxes.items) mission.now member.value) roster.members.items }
+    requires fits { All (λ member. MemberFits mission.now member.value) roster.members.items }
     requires back { (roster.back.items ≡ []) × (vec_len roster.members ≤ vec_capacity roster.back) }
 {
     let flags = flown_by_caller(roster.asked);
@@ -237,7 +225,7 @@ fn fly_shared<'a, J: FlightOf + Send + Sync, R: Threads + Wait + Sync>(
         rt,
         |scope|
             requires own { J.mission ≡ Some mission.now }
-            requires fits { All (λ member. MemberFits (λ b. kind_of (b.vtable, b.value)) (λ r. r.boxes.items) mission.now member.value) roster.members.items }
+            requires fits { All (λ member. MemberFits mission.now member.value) roster.members.items }
             requires back { (roster.back.items ≡ []) × (vec_len roster.members ≤ vec_capacity roster.back) }
         {
             let back = start_all(scope, rt, mission, desk, moved, by_caller, roster);
@@ -258,16 +246,16 @@ fn start_all<'s, 'a, E, J: FlightOf + Send + Sync, R: Threads + Wait + Sync>(
     roster: Roster,
 ) -> Vec<Member>
     requires own { J.mission ≡ Some mission.now }
-    requires fits { All (λ member. MemberFits (λ b. kind_of (b.vtable, b.value)) (λ r. r.boxes.items) mission.now member.value) roster.members.items }
+    requires fits { All (λ member. MemberFits mission.now member.value) roster.members.items }
     requires back { (roster.back.items ≡ []) × (vec_len roster.members ≤ vec_capacity roster.back) }
-    ensures { All (MemberFits (λ b. kind_of (b.vtable, b.value)) (λ r. r.boxes.items) mission.now) result.items }
+    ensures { All (MemberFits mission.now) result.items }
 {
     let mut members = roster.members;
     let mut back = roster.back;
     while let Some(member) = take_member(&mut members) {
         let own = &by_caller[usize::from(member.proc.0 % 8)];
         let fly = move |member: Member|
-            requires { (J.mission ≡ Some mission.now) × MemberFits (λ b. kind_of (b.vtable, b.value)) (λ r. r.boxes.items) mission.now member }
+            requires { (J.mission ≡ Some mission.now) × MemberFits mission.now member }
         {
             fly_processor(rt, mission, desk, moved, member);
         };
@@ -313,8 +301,8 @@ fn start<'s, E, M: Send + Drop + 's, F: FnOnce(M) + Send + Drop + 's>(
 
 // The last of these processors, if there is one.
 fn take_member(members: &mut Vec<CachePadded<Member>>) -> Option<Member>
-    ensures fits { (mission : MissionParts) → All (λ member. MemberFits (λ b. kind_of (b.vtable, b.value)) (λ r. r.boxes.items) mission member.value) members.old.items → IfSome result (MemberFits (λ b. kind_of (b.vtable, b.value)) (λ r. r.boxes.items) mission) }
-    ensures rest { (mission : MissionParts) → All (λ member. MemberFits (λ b. kind_of (b.vtable, b.value)) (λ r. r.boxes.items) mission member.value) members.old.items → All (λ member. MemberFits (λ b. kind_of (b.vtable, b.value)) (λ r. r.boxes.items) mission member.value) members.new.items }
+    ensures fits { (mission : MissionParts) → All (λ member. MemberFits mission member.value) members.old.items → IfSome result (MemberFits mission) }
+    ensures rest { (mission : MissionParts) → All (λ member. MemberFits mission member.value) members.old.items → All (λ member. MemberFits mission member.value) members.new.items }
     ensures fewer { IfSome result (λ member. vec_len members.new + 1 ≡ vec_len members.old) }
 {
     match members.pop() {
@@ -326,7 +314,7 @@ fn take_member(members: &mut Vec<CachePadded<Member>>) -> Option<Member>
 // Adds a processor, if there is one, to those that the caller flies.
 fn keep_member(back: &mut Vec<Member>, member: Option<Member>)
     requires room { vec_len back.old < vec_capacity back.old }
-    ensures fits { (mission : MissionParts) → IfSome member (MemberFits (λ b. kind_of (b.vtable, b.value)) (λ r. r.boxes.items) mission) → All (MemberFits (λ b. kind_of (b.vtable, b.value)) (λ r. r.boxes.items) mission) back.old.items → All (MemberFits (λ b. kind_of (b.vtable, b.value)) (λ r. r.boxes.items) mission) back.new.items }
+    ensures fits { (mission : MissionParts) → IfSome member (MemberFits mission) → All (MemberFits mission) back.old.items → All (MemberFits mission) back.new.items }
     ensures more { vec_len back.new ≤ vec_len back.old + 1 }
     ensures room { vec_capacity back.new ≡ vec_capacity back.old }
 {

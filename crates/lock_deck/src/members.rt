@@ -1,9 +1,6 @@
-//! Processors with what they need in a flight. That the boxes fit is told by clauses, since no type can keep a fact of a
-//! box; the fields are public so that clauses can name them.
+//! Processors with what they need in a flight. The fields are public so that clauses can name them.
 
 ghost use Rattle.std.specs.Prelude.{◌≡◌, ◌<◌, ◌&&◌, false, length, true, IfSome, None, Some, is_some};
-ghost use Rattle.app_model.specs.Racks.{RackFits};
-ghost use Rattle.coverage_check.specs.Missions.{MissionParts};
 ghost use Rattle.lock_deck.specs.Desks.{IfSaw, IsDraftOf, IsSnapshotOf, is_halt, is_start};
 ghost use Rattle.lock_deck.specs.Members.{MemberFits};
 
@@ -27,15 +24,14 @@ impl Member {
     /// A processor that lives, with the rack for its restart. It takes no memory.
     pub fn new(mission: &Mission, proc: ProcId, rack: Rack, spare: Rack) -> Member
         requires proc { proc.0 < length mission.now.spec.procs }
-        requires rack { RackFits (λ b. kind_of (b.vtable, b.value)) rack.boxes.items }
-        requires spare { RackFits (λ b. kind_of (b.vtable, b.value)) spare.boxes.items }
         ensures proc { result.proc ≡ proc }
         ensures live { result.live ≡ Some (record { proc = proc; rack = rack }) }
         ensures halted { result.halted ≡ None }
         ensures spare { result.spare ≡ Some spare }
         ensures drafted { result.drafted ≡ None }
-        ensures fits { MemberFits (λ b. kind_of (b.vtable, b.value)) (λ r. r.boxes.items) mission.now result }
+        ensures fits { MemberFits mission.now result }
     {
+        mission.holds();
         Member {
             proc,
             live: Some(Live::new(proc, rack)),
@@ -49,8 +45,8 @@ impl Member {
     /// after that, in its spare rack, which it leaves alone until then. It takes no memory.
     pub(crate) fn follow(&mut self, mission: &Mission, made: &Made)
         requires saw { IfSaw made.now (IsSnapshotOf mission.now) }
-        requires fits { MemberFits (λ b. kind_of (b.vtable, b.value)) (λ r. r.boxes.items) mission.now self.old }
-        ensures fits { MemberFits (λ b. kind_of (b.vtable, b.value)) (λ r. r.boxes.items) mission.now self.new }
+        requires fits { MemberFits mission.now self.old }
+        ensures fits { MemberFits mission.now self.new }
         ensures proc { self.new.proc ≡ self.old.proc }
         ensures halts { is_halt made.now ≡ true → self.new.live ≡ None }
         ensures restarts { (is_start made.now && is_some self.old.halted) ≡ true → IfSome self.old.spare (λ rack. self.new.live ≡ Some (record { proc = self.old.proc; rack = rack })) }
@@ -58,8 +54,8 @@ impl Member {
     {
         match made {
             Made::Saw(snap) => self.draft(mission, snap),
-            Made::Halted(frame) => self.halt(*frame),
-            Made::Started => self.restart(),
+            Made::Halted(frame) => self.halt(mission, *frame),
+            Made::Started => self.restart(mission),
             Made::Nothing => {}
             Made::Moved => {}
             Made::Done => {}
@@ -68,8 +64,8 @@ impl Member {
 
     fn draft(&mut self, mission: &Mission, snap: &Snapshot)
         requires saw { IsSnapshotOf mission.now snap.now }
-        requires fits { MemberFits (λ b. kind_of (b.vtable, b.value)) (λ r. r.boxes.items) mission.now self.old }
-        ensures fits { MemberFits (λ b. kind_of (b.vtable, b.value)) (λ r. r.boxes.items) mission.now self.new }
+        requires fits { MemberFits mission.now self.old }
+        ensures fits { MemberFits mission.now self.new }
         ensures proc { self.new.proc ≡ self.old.proc }
         ensures spare { self.new.spare ≡ self.old.spare }
     {
@@ -78,8 +74,9 @@ impl Member {
         }
     }
 
-    fn halt(&mut self, frame: u32)
-        ensures fits { (mission : MissionParts) → MemberFits (λ b. kind_of (b.vtable, b.value)) (λ r. r.boxes.items) mission self.old → MemberFits (λ b. kind_of (b.vtable, b.value)) (λ r. r.boxes.items) mission self.new }
+    fn halt(&mut self, mission: &Mission, frame: u32)
+        requires { MemberFits mission.now self.old }
+        ensures fits { MemberFits mission.now self.new }
         ensures proc { self.new.proc ≡ self.old.proc }
         ensures live { self.new.live ≡ None }
         ensures spare { self.new.spare ≡ self.old.spare }
@@ -89,14 +86,14 @@ impl Member {
         }
     }
 
-    fn restart(&mut self)
-        requires spare { IfSome self.old.spare (λ rack. RackFits (λ b. kind_of (b.vtable, b.value)) rack.boxes.items) }
-        requires halted { IfSome self.old.halted (λ halted. halted.proc ≡ self.old.proc) }
+    fn restart(&mut self, mission: &Mission)
+        requires { MemberFits mission.now self.old }
         ensures lives { is_some self.old.halted ≡ true → IfSome self.old.spare (λ rack. self.new.live ≡ Some (record { proc = self.old.proc; rack = rack })) }
-        ensures fits { (mission : MissionParts) → MemberFits (λ b. kind_of (b.vtable, b.value)) (λ r. r.boxes.items) mission self.old → MemberFits (λ b. kind_of (b.vtable, b.value)) (λ r. r.boxes.items) mission self.new }
+        ensures fits { MemberFits mission.now self.new }
         ensures proc { self.new.proc ≡ self.old.proc }
         ensures spare { is_some self.old.halted ≡ false → self.new.spare ≡ self.old.spare }
     {
+        mission.holds();
         if let Some(halted) = self.halted.take() {
             if let Some(spare) = self.spare.take() {
                 self.live = Some(halted.restart(spare));
@@ -109,10 +106,8 @@ impl Member {
 fn draft_by(mission: &Mission, live: &mut Live, snap: &Snapshot) -> Draft
     requires known { live.old.proc.0 < length mission.now.spec.procs }
     requires saw { IsSnapshotOf mission.now snap.now }
-    requires fits { RackFits (λ b. kind_of (b.vtable, b.value)) live.old.rack.boxes.items }
     ensures draft { IsDraftOf mission.now live.old.proc.0 result }
     ensures proc { live.new.proc ≡ live.old.proc }
-    ensures fits { RackFits (λ b. kind_of (b.vtable, b.value)) live.new.rack.boxes.items }
 {
     mission.holds();
     live.draft(mission.spec(), snap)

@@ -19,7 +19,7 @@ pub(crate) fn fly_processor<'a, J: FlightOf, R: Wait>(
     member: Member,
 )
     requires own { J.mission ≡ Some mission.now }
-    requires fits { MemberFits (λ b. kind_of (b.vtable, b.value)) (λ r. r.boxes.items) mission.now member }
+    requires fits { MemberFits mission.now member }
 {
     let mut member = member;
     for _ in rt.forever() {
@@ -40,7 +40,7 @@ pub(crate) fn fly_kernel<'a, J: FlightOf, R: Wait>(
     members: Vec<Member>,
 )
     requires own { J.mission ≡ Some mission.now }
-    requires fits { All (MemberFits (λ b. kind_of (b.vtable, b.value)) (λ r. r.boxes.items) mission.now) members.items }
+    requires fits { All (MemberFits mission.now) members.items }
 {
     let mut members = members;
     for _ in rt.forever() {
@@ -77,8 +77,8 @@ fn make_turn_of_each<'a, J: FlightOf, R: Wait>(
     members: &mut [Member],
 )
     requires own { J.mission ≡ Some mission.now }
-    requires fits { All (MemberFits (λ b. kind_of (b.vtable, b.value)) (λ r. r.boxes.items) mission.now) members.old }
-    ensures fits { All (MemberFits (λ b. kind_of (b.vtable, b.value)) (λ r. r.boxes.items) mission.now) members.new }
+    requires fits { All (MemberFits mission.now) members.old }
+    ensures fits { All (MemberFits mission.now) members.new }
 {
     for place in 0..members.len() {
         make_turn(mission, desk.lock(rt), moved, &mut members[place]);
@@ -94,8 +94,8 @@ fn make_turn<'a, J: FlightOf>(
     member: &mut Member,
 ) -> bool
     requires own { J.mission ≡ Some mission.now }
-    requires fits { MemberFits (λ b. kind_of (b.vtable, b.value)) (λ r. r.boxes.items) mission.now member.old }
-    ensures fits { MemberFits (λ b. kind_of (b.vtable, b.value)) (λ r. r.boxes.items) mission.now member.new }
+    requires fits { MemberFits mission.now member.old }
+    ensures fits { MemberFits mission.now member.new }
 {
     let mut desk = desk;
     let made = desk.make_step(member.proc, member.drafted.as_ref());

@@ -1,13 +1,11 @@
 //! Missions that are accepted and flown, frame by frame and as a whole.
 
-ghost use Rattle.app_model.specs.Racks.{RacksFit};
 ghost use Rattle.fault_script.specs.Fits.{Fits};
 
 use crate::judgements::{are_few, parse_trace, print_judgement};
-use app_model::{Rack, racks_fit};
+use app_model::racks::empty_racks;
 use coverage_check::{Mission, accept, targets};
 use frame_model::{reports, rows};
-use racks::racks;
 use row_lines::{script_of_text, spec_of_text};
 use scram_types::{ConfId, Flown, NoMemory, Report, Row, Script, Spec};
 use std::io::{self, ErrorKind};
@@ -72,10 +70,7 @@ fn print_set(rt: &HostRuntime, spec: &Spec, set: u16) -> io::Result<()> {
 fn fly_rows(rt: &HostRuntime, spec: &Spec, script: &Script, wanted: &Flown) -> io::Result<()>
     requires { Fits spec.now script.now }
 {
-    let racks = racks!(rt);
-    if !racks_fit(&racks) {
-        return Err(ErrorKind::InvalidInput.into());
-    }
+    let racks = empty_racks(rt.alloc())?;
     let rows = given(rows(rt.alloc(), spec, script, racks))?;
     if !are_few(&rows) {
         return Err(ErrorKind::InvalidData.into());
@@ -112,10 +107,7 @@ fn fly_mission(rt: &HostRuntime, spec: Spec, script: Script, wanted: &Flown) -> 
 }
 
 fn fly_whole(rt: &HostRuntime, mission: &Mission, wanted: &Flown) -> io::Result<()> {
-    let racks = racks!(rt);
-    if !racks_fit(&racks) {
-        return Err(ErrorKind::InvalidInput.into());
-    }
+    let racks = empty_racks(rt.alloc())?;
     let flown = given(one_thread(rt.alloc(), mission, racks))?;
     print!(rt; "one thread ")?;
     print_comparison(rt, flown.rows.items(), flown.reports.items(), wanted)?;

@@ -5,8 +5,7 @@ ghost use Rattle.schedule_replay.specs.Events.{AreCodes};
 
 use crate::answers::{print_answer, print_line};
 use crate::schedules::bytes_of;
-use app_model::racks_fit;
-use racks::racks;
+use app_model::racks::empty_racks;
 use row_lines::{line_after, script_of_text};
 use schedule_replay::refusals::make_fault_line;
 use schedule_replay::{ScheduleError, read_schedule, replay, write_schedule};
@@ -75,11 +74,8 @@ fn fly(rt: &HostRuntime, spec: &Spec, script: &Script, list: &[u32], row: &str) 
     requires script { Fits spec.now script.now }
     requires codes { AreCodes spec.now list.now }
 {
-    let racks = racks!(rt);
-    let spares = racks!(rt);
-    if !racks_fit(&racks) || !racks_fit(&spares) {
-        return Err(ErrorKind::InvalidInput.into());
-    }
+    let racks = empty_racks(rt.alloc())?;
+    let spares = empty_racks(rt.alloc())?;
     let answer = replay(rt.alloc(), spec, script, racks, spares, list);
     print_answer(rt, spec, &answer, row)
 }

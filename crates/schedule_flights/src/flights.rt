@@ -1,8 +1,7 @@
 //! Flights to their end.
 
-ghost use Rattle.std.specs.Prelude.{◌≡◌, ◌<◌, ◌≤◌, ◌⊎◌, ◌++◌, [], ◌∷◌, IfOk, length};
+ghost use Rattle.std.specs.Prelude.{◌≡◌, ◌<◌, ◌≤◌, ◌⊎◌, ◌++◌, [], ◌∷◌, IfOk, length, vec_len};
 ghost use Rattle.bank_words.specs.Events.{event_code};
-ghost use Rattle.app_model.specs.Racks.{RacksFit};
 ghost use Rattle.event_core.specs.Cores.{flown, standing, standing_words};
 ghost use Rattle.event_core.specs.Flyers.{FlyersFit};
 ghost use Rattle.event_core.specs.Rooms.{events_left};
@@ -35,8 +34,8 @@ pub fn fly<'a>(
     rule: Rule,
 ) -> Result<Core<'a>, NoMemory>
     requires script { Fits spec.now script.now }
-    requires racks { RacksFit (λ b. kind_of (b.vtable, b.value)) (λ r. r.boxes.items) racks.items }
-    requires spares { RacksFit (λ b. kind_of (b.vtable, b.value)) (λ r. r.boxes.items) spares.items }
+    requires racks { vec_len racks ≡ 8 }
+    requires spares { vec_len spares ≡ 8 }
     ensures spec { IfOk result (λ core. core.spec ≡ spec.now) }
     ensures script { IfOk result (λ core. core.script ≡ script.now) }
     ensures rule { IfOk result (λ core. IsByRule (flown core) rule core.history (standing core) (standing_words core)) }
@@ -62,8 +61,8 @@ pub fn fly_some<'a>(
     events: u32,
 ) -> Result<Core<'a>, NoMemory>
     requires script { Fits spec.now script.now }
-    requires racks { RacksFit (λ b. kind_of (b.vtable, b.value)) (λ r. r.boxes.items) racks.items }
-    requires spares { RacksFit (λ b. kind_of (b.vtable, b.value)) (λ r. r.boxes.items) spares.items }
+    requires racks { vec_len racks ≡ 8 }
+    requires spares { vec_len spares ≡ 8 }
     ensures spec { IfOk result (λ core. core.spec ≡ spec.now) }
     ensures script { IfOk result (λ core. core.script ≡ script.now) }
     ensures rule { IfOk result (λ core. IsByRule (flown core) rule core.history (standing core) (standing_words core)) }
@@ -78,7 +77,7 @@ pub fn fly_some<'a>(
 fn fly_on<'a>(core: Core<'a>, spec: &Spec, flyers: &mut [Flyer], rule: Rule) -> Core<'a>
     requires spec { core.spec ≡ spec.now }
     requires opened { core.history ≡ [] }
-    requires fits { FlyersFit (λ b. kind_of (b.vtable, b.value)) (λ r. r.boxes.items) core.spec core.script flyers.old }
+    requires fits { FlyersFit core.spec core.script flyers.old }
     ensures spec { result.spec ≡ core.entry.spec }
     ensures script { result.script ≡ core.entry.script }
     ensures rule { IsByRule (flown result) rule result.history (standing result) (standing_words result) }
@@ -104,7 +103,7 @@ fn fly_events<'a>(
 ) -> Core<'a>
     requires spec { core.spec ≡ spec.now }
     requires opened { core.history ≡ [] }
-    requires fits { FlyersFit (λ b. kind_of (b.vtable, b.value)) (λ r. r.boxes.items) core.spec core.script flyers.old }
+    requires fits { FlyersFit core.spec core.script flyers.old }
     ensures spec { result.spec ≡ core.entry.spec }
     ensures script { result.script ≡ core.entry.script }
     ensures rule { IsByRule (flown result) rule result.history (standing result) (standing_words result) }
@@ -127,13 +126,13 @@ fn fly_events<'a>(
 fn make(core: &mut Core, spec: &Spec, flyers: &mut [Flyer], event: Event)
     requires spec { core.old.spec ≡ spec.now }
     requires next { IsNext (flown core.old) (standing core.old) (standing_words core.old) event }
-    requires fits { FlyersFit (λ b. kind_of (b.vtable, b.value)) (λ r. r.boxes.items) core.old.spec core.old.script flyers.old }
+    requires fits { FlyersFit core.old.spec core.old.script flyers.old }
     ensures spec { core.new.spec ≡ core.old.spec }
     ensures script { core.new.script ≡ core.old.script }
     ensures happens { Happens (flown core.old) (standing core.old) (standing_words core.old) event (standing core.new) (standing_words core.new) }
     ensures history { core.new.history ≡ core.old.history ++ event_code event ∷ [] }
     ensures fewer { events_left (flown core.new) (standing core.new) < events_left (flown core.old) (standing core.old) }
-    ensures fits { FlyersFit (λ b. kind_of (b.vtable, b.value)) (λ r. r.boxes.items) core.old.spec core.old.script flyers.new }
+    ensures fits { FlyersFit core.old.spec core.old.script flyers.new }
 {
     let word = word_of(core, spec, flyers, event);
     step(core, event, word);

@@ -1,7 +1,6 @@
 //! A schedule flown on one thread.
 
-ghost use Rattle.std.specs.Prelude.{◌≡◌, ◌++◌, ◌∷◌, [], ℕ, List, Err, IfErr, IfOk, IfSome, None, Some, length, slice_get, take};
-ghost use Rattle.app_model.specs.Racks.{RacksFit};
+ghost use Rattle.std.specs.Prelude.{◌≡◌, ◌++◌, ◌∷◌, [], ℕ, List, Err, IfErr, IfOk, IfSome, None, Some, length, slice_get, take, vec_len};
 ghost use Rattle.bank_words.specs.Events.{event_of};
 ghost use Rattle.event_core.specs.Cores.{flown, standing, standing_words};
 ghost use Rattle.event_core.specs.Flyers.{FlyersFit};
@@ -68,8 +67,8 @@ pub fn replay(
     events: &[u32],
 ) -> Result<Flown, ReplayError>
     requires script { Fits spec.now script.now }
-    requires racks { RacksFit (λ b. kind_of (b.vtable, b.value)) (λ r. r.boxes.items) racks.items }
-    requires spares { RacksFit (λ b. kind_of (b.vtable, b.value)) (λ r. r.boxes.items) spares.items }
+    requires racks { vec_len racks ≡ 8 }
+    requires spares { vec_len spares ≡ 8 }
     requires codes { AreCodes spec.now events.now }
     ensures { AnswersReplay spec.now script.now events.now result }
 {
@@ -88,7 +87,7 @@ fn fly<'a>(
 ) -> Result<Core<'a>, ReplayError>
     requires spec { core.spec ≡ spec.now }
     requires opening { core.history ≡ [] }
-    requires fits { FlyersFit (λ b. kind_of (b.vtable, b.value)) (λ r. r.boxes.items) core.spec core.script flyers.items }
+    requires fits { FlyersFit core.spec core.script flyers.items }
     requires codes { AreCodes spec.now events.now }
     ensures spec { IfOk result (λ after. after.spec ≡ core.entry.spec) }
     ensures script { IfOk result (λ after. after.script ≡ core.entry.script) }
@@ -110,10 +109,10 @@ fn fly<'a>(
 fn make(core: &mut Core, spec: &Spec, flyers: &mut Vec<Flyer>, code: u32) -> Result<(), ReplayError>
     requires spec { core.old.spec ≡ spec.now }
     requires code { IsCode spec.now code }
-    requires fits { FlyersFit (λ b. kind_of (b.vtable, b.value)) (λ r. r.boxes.items) core.old.spec core.old.script flyers.old.items }
+    requires fits { FlyersFit core.old.spec core.old.script flyers.old.items }
     ensures spec { core.new.spec ≡ core.old.spec }
     ensures script { core.new.script ≡ core.old.script }
-    ensures fits { FlyersFit (λ b. kind_of (b.vtable, b.value)) (λ r. r.boxes.items) core.old.spec core.old.script flyers.new.items }
+    ensures fits { FlyersFit core.old.spec core.old.script flyers.new.items }
     ensures history { IfOk result (λ _. core.new.history ≡ core.old.history ++ code ∷ []) }
     ensures refused { (list : List ℕ) → take (length core.old.history) list ≡ core.old.history → slice_get list (length core.old.history) ≡ Some code → IfErr result (λ error. AnswersReplay core.old.spec core.old.script list (Err error)) }
 {
@@ -152,9 +151,9 @@ fn events_made(core: &Core) -> u32
 // The word with which an event is made where it is next of its actor.
 fn word_where_next(core: &Core, spec: &Spec, flyers: &mut [Flyer], event: Event) -> u64
     requires spec { core.now.spec ≡ spec.now }
-    requires fits { FlyersFit (λ b. kind_of (b.vtable, b.value)) (λ r. r.boxes.items) core.now.spec core.now.script flyers.old }
+    requires fits { FlyersFit core.now.spec core.now.script flyers.old }
     ensures word { IsNext (flown core.now) (standing core.now) (standing_words core.now) event → IsEventWord (flown core.now) (standing core.now) event result }
-    ensures fits { FlyersFit (λ b. kind_of (b.vtable, b.value)) (λ r. r.boxes.items) core.now.spec core.now.script flyers.new }
+    ensures fits { FlyersFit core.now.spec core.now.script flyers.new }
 {
     if core.next_of_actor(event) == Some(event) {
         word_of(core, spec, flyers, event)

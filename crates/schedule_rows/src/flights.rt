@@ -4,9 +4,8 @@ ghost use Rattle.fault_script.specs.Fits.{Fits};
 
 use crate::halts::{Halt, Halts};
 use crate::scripts::{rule_named, script_of};
-use app_model::racks_fit;
+use app_model::racks::empty_racks;
 use frame_model::{reports, rows};
-use racks::racks;
 use row_lines::{line_after, number_after};
 use schedule_flights::{Rule, fly};
 use scram_types::{Flown, List, Report, Script, Spec};
@@ -118,11 +117,8 @@ fn compare(
 fn fly_by(rt: &HostRuntime, spec: &Spec, script: &Script, rule: Rule) -> io::Result<(usize, Flown)>
     requires { Fits spec.now script.now }
 {
-    let racks = racks!(rt);
-    let spares = racks!(rt);
-    if !racks_fit(&racks) || !racks_fit(&spares) {
-        return Err(ErrorKind::InvalidInput.into());
-    }
+    let racks = empty_racks(rt.alloc())?;
+    let spares = empty_racks(rt.alloc())?;
     match fly(rt.alloc(), spec, script, racks, spares, rule) {
         Ok(core) => {
             let events = core.history().len();
@@ -135,10 +131,7 @@ fn fly_by(rt: &HostRuntime, spec: &Spec, script: &Script, rule: Rule) -> io::Res
 fn fly_on_one_thread(rt: &HostRuntime, spec: &Spec, script: &Script) -> io::Result<Flown>
     requires { Fits spec.now script.now }
 {
-    let racks = racks!(rt);
-    if !racks_fit(&racks) {
-        return Err(ErrorKind::InvalidInput.into());
-    }
+    let racks = empty_racks(rt.alloc())?;
     let rows = match rows(rt.alloc(), spec, script, racks) {
         Ok(rows) => rows,
         Err(_) => return Err(ErrorKind::OutOfMemory.into()),

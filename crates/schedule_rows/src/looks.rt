@@ -4,11 +4,10 @@ ghost use Rattle.fault_script.specs.Fits.{Fits};
 
 use crate::halts::Halts;
 use crate::scripts::{rule_named, script_of};
-use app_model::racks_fit;
+use app_model::racks::empty_racks;
 use bank_words::Event;
 use event_core::{Core, Illegal};
 use frame_model::sights::slot_in;
-use racks::racks;
 use row_lines::number;
 use schedule_flights::fly_some;
 use scram_types::{ProcId, Script, Spec};
@@ -35,11 +34,8 @@ fn look(rt: &HostRuntime, spec: &Spec, script: &Script, line: &str) -> io::Resul
     let (events, rest) = line.split_once(' ').unwrap_or((line, ""));
     let (rule, word) = rest.split_once(' ').unwrap_or((rest, ""));
     let (rule, events) = (rule_named(rule)?, number(events)?);
-    let racks = racks!(rt);
-    let spares = racks!(rt);
-    if !racks_fit(&racks) || !racks_fit(&spares) {
-        return Err(ErrorKind::InvalidInput.into());
-    }
+    let racks = empty_racks(rt.alloc())?;
+    let spares = empty_racks(rt.alloc())?;
     match fly_some(rt.alloc(), spec, script, racks, spares, rule, events) {
         Ok(mut core) => print_word(rt, spec, &mut core, word),
         Err(_) => Err(ErrorKind::OutOfMemory.into()),

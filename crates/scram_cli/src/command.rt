@@ -1,7 +1,6 @@
 //! The top call.
 
-ghost use Rattle.std.specs.Prelude.{◌≡◌, ◌≢◌, ◌∷◌, [], Some, map, string_bytes};
-ghost use Rattle.app_model.specs.Racks.{RacksFit};
+ghost use Rattle.std.specs.Prelude.{◌≡◌, ◌≢◌, ◌∷◌, [], Some, map, string_bytes, vec_len};
 ghost use Rattle.scram_io.specs.Outside.{Rose, Took};
 ghost use Rattle.scram_cli.specs.declared.forms.Form.TheVariants.{Specified};
 ghost use Rattle.scram_cli.specs.declared.forms.Request.TheVariants.{Props, Run};
@@ -14,7 +13,8 @@ ghost use Rattle.scram_cli.specs.declared.status.TheConstants.{ANSWERED, UNREAD_
 
 use crate::assurance::answers_are_assured;
 use crate::bounds::tell_bounds;
-use crate::flights::{Boxes, FlightText, check, fly};
+use crate::boxes::Boxes;
+use crate::flights::{FlightText, check, fly};
 use crate::forms::{Form, Request, form_of};
 use crate::generated::answer_generated;
 use crate::judgements::judge;
@@ -52,8 +52,8 @@ pub fn scram<R: AllocGlobal + Threads + Wait + Sync, F: Files, K: Sink>(
     racks: Vec<Rack>,
     spares: Vec<Rack>,
 ) -> Status
-    requires racks { RacksFit (λ b. kind_of (b.vtable, b.value)) (λ r. r.boxes.items) racks.items }
-    requires spares { RacksFit (λ b. kind_of (b.vtable, b.value)) (λ r. r.boxes.items) spares.items }
+    requires racks { vec_len racks ≡ 8 }
+    requires spares { vec_len spares ≡ 8 }
     ensures answer { Ends (FormAnswers (form_of (map string_bytes words.now))) (files_of (form_of (map string_bytes words.now)))
         (F.state files.old) (F.state files.new) (IsSent (K.state out.old) (K.state out.new) result.code) }
     ensures read { result.code ≡ UNREAD_FILE → Rose (F.state files.old).faults (F.state files.new).faults }
@@ -80,8 +80,6 @@ fn answer_words<R: AllocGlobal + Threads + Wait + Sync, F: Files, K: Sink>(
     out: &mut K,
     boxes: Boxes,
 ) -> Status
-    requires racks { RacksFit (λ b. kind_of (b.vtable, b.value)) (λ r. r.boxes.items) boxes.racks.items }
-    requires spares { RacksFit (λ b. kind_of (b.vtable, b.value)) (λ r. r.boxes.items) boxes.spares.items }
     ensures ends { Ends (FormAnswers (form_of (map string_bytes words.now))) (files_of (form_of (map string_bytes words.now)))
         (F.state files.old) (F.state files.new) (IsTaken (K.state out.old) (K.state out.new) result.code) }
     ensures read { result.code ≡ UNREAD_FILE → Rose (F.state files.old).faults (F.state files.new).faults }
@@ -103,8 +101,6 @@ fn answer_form<R: AllocGlobal + Threads + Wait + Sync, F: Files, K: Sink>(
     out: &mut K,
     boxes: Boxes,
 ) -> Status
-    requires racks { RacksFit (λ b. kind_of (b.vtable, b.value)) (λ r. r.boxes.items) boxes.racks.items }
-    requires spares { RacksFit (λ b. kind_of (b.vtable, b.value)) (λ r. r.boxes.items) boxes.spares.items }
     ensures ends { Ends (FormAnswers (Some (with_names (λ name. name.now) form.entry))) (files_of (Some (with_names (λ name. name.now) form.entry)))
         (F.state files.old) (F.state files.new) (IsTaken (K.state out.old) (K.state out.new) result.code) }
     ensures read { result.code ≡ UNREAD_FILE → Rose (F.state files.old).faults (F.state files.new).faults }
@@ -142,8 +138,6 @@ fn answer_request<R: AllocGlobal + Threads + Wait + Sync, F: Files, K: Sink>(
     out: &mut K,
     boxes: Boxes,
 ) -> Status
-    requires racks { RacksFit (λ b. kind_of (b.vtable, b.value)) (λ r. r.boxes.items) boxes.racks.items }
-    requires spares { RacksFit (λ b. kind_of (b.vtable, b.value)) (λ r. r.boxes.items) boxes.spares.items }
     ensures ends { Ends (FormAnswers (Some (Specified specification.now (with_name (λ name. name.now) request.entry))))
         (specification.now ∷ further_files (with_name (λ name. name.now) request.entry))
         (F.state files.old) (F.state files.new) (IsTaken (K.state out.old) (K.state out.new) result.code) }
@@ -178,8 +172,6 @@ fn answer_read<R: AllocGlobal + Threads + Wait + Sync, F: Files, K: Sink>(
     out: &mut K,
     boxes: Boxes,
 ) -> Status
-    requires racks { RacksFit (λ b. kind_of (b.vtable, b.value)) (λ r. r.boxes.items) boxes.racks.items }
-    requires spares { RacksFit (λ b. kind_of (b.vtable, b.value)) (λ r. r.boxes.items) boxes.spares.items }
     ensures ends { Ends (RequestAnswers (with_name (λ name. name.now) request.entry) spec) (further_files (with_name (λ name. name.now) request.entry))
         (F.state files.old) (F.state files.new) (IsTaken (K.state out.old) (K.state out.new) result.code) }
     ensures read { result.code ≡ UNREAD_FILE → Rose (F.state files.old).faults (F.state files.new).faults }
@@ -217,8 +209,6 @@ fn run<R: AllocGlobal + Threads + Wait + Sync, F: Files, K: Sink>(
     out: &mut K,
     boxes: Boxes,
 ) -> Status
-    requires racks { RacksFit (λ b. kind_of (b.vtable, b.value)) (λ r. r.boxes.items) boxes.racks.items }
-    requires spares { RacksFit (λ b. kind_of (b.vtable, b.value)) (λ r. r.boxes.items) boxes.spares.items }
     ensures ends { Ends (RequestAnswers (Run script.now) spec) (script.now ∷ [])
         (F.state files.old) (F.state files.new) (IsTaken (K.state out.old) (K.state out.new) result.code) }
     ensures read { result.code ≡ UNREAD_FILE → Rose (F.state files.old).faults (F.state files.new).faults }

@@ -1,7 +1,6 @@
 //! What is answered of a specification, and of a script for it, once both are read.
 
 ghost use Rattle.std.specs.Prelude.{◌≡◌, ◌≢◌, ◌<◌, ◌^◌, IfOk, length};
-ghost use Rattle.app_model.specs.Racks.{RacksFit};
 ghost use Rattle.coverage_check.specs.Acceptance.{Accepts, first_refusal};
 ghost use Rattle.fault_script.specs.Assumption.{first_outside};
 ghost use Rattle.fault_script.specs.Fits.{Fits};
@@ -12,10 +11,10 @@ ghost use Rattle.scram_cli.specs.Endings.{Tells};
 ghost use Rattle.scram_cli.specs.Answers.{Gives, check_answer, flight_answer, flown_text, flight_text, within_answer};
 ghost use Rattle.scram_cli.specs.declared.status.TheConstants.{ANSWERED, UNREAD_FILE, UNWRITTEN_OUTPUT};
 
+use crate::boxes::Boxes;
 use crate::lines::{make_accepted_line, make_fly_line, make_outside_line, make_shown_line};
 use crate::refusals::{refuse_memory, tell_line};
 use crate::status::{ANSWERED, NOT_ACCEPTED, Status, UNASSUMED_SCRIPT, UNWRITTEN_OUTPUT};
-use app_model::Rack;
 use coverage_check::{AcceptError, Accepted, Mission, accept};
 use scram_io::{Sink, SinkFault};
 use scram_types::{Flown, NoMemory, Script, Spec};
@@ -49,13 +48,6 @@ pub fn check<K: Sink>(alloc: Global, spec: Spec, out: &mut K) -> Status
     }
 }
 
-/// The boxes that fly a mission: a rack for each processor, and one for its restart.
-#[derive(Drop)]
-pub struct Boxes {
-    pub racks: Vec<Rack>,
-    pub spares: Vec<Rack>,
-}
-
 /// What is told of a flight.
 #[derive(Clone, Copy, Debug, PartialEq, Eq)]
 pub enum FlightText {
@@ -76,8 +68,6 @@ pub fn fly<R: AllocGlobal + Threads + Wait + Sync, K: Sink>(
     boxes: Boxes,
 ) -> Status
     requires script { Fits spec script }
-    requires racks { RacksFit (λ b. kind_of (b.vtable, b.value)) (λ r. r.boxes.items) boxes.racks.items }
-    requires spares { RacksFit (λ b. kind_of (b.vtable, b.value)) (λ r. r.boxes.items) boxes.spares.items }
     ensures tells { Tells (Gives (flight_answer told spec script (first_refusal spec))) (K.state out.old) (K.state out.new) result.code }
     ensures write { result.code ≡ UNWRITTEN_OUTPUT → Rose (K.state out.old).faults (K.state out.new).faults }
     ensures read { result.code ≢ UNREAD_FILE }
@@ -105,8 +95,6 @@ fn fly_accepted<R: AllocGlobal + Threads + Wait + Sync, K: Sink>(
     boxes: Boxes,
 ) -> Status
     requires script { Fits accepted script }
-    requires racks { RacksFit (λ b. kind_of (b.vtable, b.value)) (λ r. r.boxes.items) boxes.racks.items }
-    requires spares { RacksFit (λ b. kind_of (b.vtable, b.value)) (λ r. r.boxes.items) boxes.spares.items }
     ensures tells { Tells (Gives (within_answer told accepted script (first_outside accepted script))) (K.state out.old) (K.state out.new) result.code }
     ensures write { result.code ≡ UNWRITTEN_OUTPUT → Rose (K.state out.old).faults (K.state out.new).faults }
     ensures read { result.code ≢ UNREAD_FILE }
@@ -132,8 +120,6 @@ fn fly_mission<R: AllocGlobal + Threads + Wait + Sync, K: Sink>(
     out: &mut K,
     boxes: Boxes,
 ) -> Status
-    requires racks { RacksFit (λ b. kind_of (b.vtable, b.value)) (λ r. r.boxes.items) boxes.racks.items }
-    requires spares { RacksFit (λ b. kind_of (b.vtable, b.value)) (λ r. r.boxes.items) boxes.spares.items }
     ensures tells { Tells (Gives (ANSWERED, flight_text told mission.now.spec mission.now.script)) (K.state out.old) (K.state out.new) result.code }
     ensures write { result.code ≡ UNWRITTEN_OUTPUT → Rose (K.state out.old).faults (K.state out.new).faults }
     ensures read { result.code ≢ UNREAD_FILE }
@@ -150,8 +136,6 @@ fn fly_on_threads<R: AllocGlobal + Threads + Wait + Sync>(
     mission: &Mission,
     boxes: Boxes,
 ) -> Result<Flown, NoMemory>
-    requires racks { RacksFit (λ b. kind_of (b.vtable, b.value)) (λ r. r.boxes.items) boxes.racks.items }
-    requires spares { RacksFit (λ b. kind_of (b.vtable, b.value)) (λ r. r.boxes.items) boxes.spares.items }
     ensures rows { IfOk result (λ flown. flown.rows ≡ rows_of mission.now.spec mission.now.script) }
     ensures reports { IfOk result (λ flown. flown.reports ≡ reports_of mission.now.spec mission.now.script) }
 {

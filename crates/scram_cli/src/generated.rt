@@ -1,7 +1,6 @@
 //! Missions from a number: printed, or flown.
 
 ghost use Rattle.std.specs.Prelude.{◌≡◌, ◌≢◌, ℕ, List, []};
-ghost use Rattle.app_model.specs.Racks.{RacksFit};
 ghost use Rattle.fault_script.specs.Fits.{Fits};
 ghost use Rattle.scram_io.specs.Outside.{Rose, Took};
 ghost use Rattle.scram_cli.specs.Answers.{Gives, IsMissionAnswer, mission_answer};
@@ -11,7 +10,8 @@ ghost use Rattle.scram_cli.specs.Endings.{Tells};
 ghost use Rattle.scram_cli.specs.declared.status.TheConstants.{ANSWERED, UNREAD_FILE, UNWRITTEN_OUTPUT};
 
 use crate::assurance::flights_are_assured;
-use crate::flights::{Boxes, FlightText, fly};
+use crate::boxes::Boxes;
+use crate::flights::{FlightText, fly};
 use crate::forms::Purpose;
 use crate::refusals::{refuse_memory, tell};
 use crate::status::{ANSWERED, Status};
@@ -30,8 +30,6 @@ pub fn answer_generated<R: AllocGlobal + Threads + Wait + Sync, K: Sink>(
     out: &mut K,
     boxes: Boxes,
 ) -> Status
-    requires racks { RacksFit (λ b. kind_of (b.vtable, b.value)) (λ r. r.boxes.items) boxes.racks.items }
-    requires spares { RacksFit (λ b. kind_of (b.vtable, b.value)) (λ r. r.boxes.items) boxes.spares.items }
     ensures tells { Tells (IsMissionAnswer number purpose) (K.state out.old) (K.state out.new) result.code }
     ensures write { result.code ≡ UNWRITTEN_OUTPUT → Rose (K.state out.old).faults (K.state out.new).faults }
     ensures read { result.code ≢ UNREAD_FILE }
@@ -56,8 +54,6 @@ fn answer_mission<R: AllocGlobal + Threads + Wait + Sync, K: Sink>(
     boxes: Boxes,
 ) -> Status
     requires script { Fits spec script }
-    requires racks { RacksFit (λ b. kind_of (b.vtable, b.value)) (λ r. r.boxes.items) boxes.racks.items }
-    requires spares { RacksFit (λ b. kind_of (b.vtable, b.value)) (λ r. r.boxes.items) boxes.spares.items }
     ensures tells { Tells (Gives (mission_answer number purpose spec script)) (K.state out.old) (K.state out.new) result.code }
     ensures write { result.code ≡ UNWRITTEN_OUTPUT → Rose (K.state out.old).faults (K.state out.new).faults }
     ensures read { result.code ≢ UNREAD_FILE }

@@ -4,6 +4,7 @@
 
 mod assurance;
 mod bounds;
+mod boxes;
 mod command;
 mod flights;
 mod forms;

@@ -1,7 +1,6 @@
 //! The command over the files of the system and standard output.
 
-ghost use Rattle.std.specs.Prelude.{◌≡◌, [], IfOk, map, string_bytes};
-ghost use Rattle.app_model.specs.Racks.{RacksFit};
+ghost use Rattle.std.specs.Prelude.{◌≡◌, [], IfOk, map, string_bytes, vec_len};
 ghost use Rattle.scram_io.specs.Real.{real_files, real_sink};
 ghost use Rattle.scram_cli.specs.Answers.{FormAnswers};
 ghost use Rattle.scram_cli.specs.Assurance.{AssuresForm};
@@ -34,8 +33,8 @@ pub fn run_program<'a, R: AllocGlobal + rt::Files + Print + Threads + Wait + Syn
     racks: Vec<Rack>,
     spares: Vec<Rack>,
 ) -> io::Result<(Status, RealFiles<'a, R>, RealSink<'a, R>)>
-    requires racks { RacksFit (λ b. kind_of (b.vtable, b.value)) (λ r. r.boxes.items) racks.items }
-    requires spares { RacksFit (λ b. kind_of (b.vtable, b.value)) (λ r. r.boxes.items) spares.items }
+    requires racks { vec_len racks ≡ 8 }
+    requires spares { vec_len spares ≡ 8 }
     ensures answer { IfOk result (λ ended. Ends (FormAnswers (form_of (map string_bytes words.now))) (files_of (form_of (map string_bytes words.now)))
         (real_files (record { history = []; faults = 0 })) (real_files ended.1)
         (IsSent (real_sink (record { sent = []; held = []; faults = 0 })) (real_sink ended.2) ended.0.code)) }

@@ -1,7 +1,6 @@
 //! Scripts that are flown by a schedule. No thread is used. What is not handed on is given back before a refusal is told.
 
 ghost use Rattle.std.specs.Prelude.{◌≡◌, ◌≢◌, ◌∷◌, [], Ok};
-ghost use Rattle.app_model.specs.Racks.{RacksFit};
 ghost use Rattle.coverage_check.specs.Acceptance.{Accepts, first_refusal};
 ghost use Rattle.fault_script.specs.Assumption.{first_outside};
 ghost use Rattle.fault_script.specs.Fits.{Fits};
@@ -12,7 +11,8 @@ ghost use Rattle.scram_cli.specs.Answers.{IsReplayAnswer, ListAnswers, ReplayAns
 ghost use Rattle.scram_cli.specs.Endings.{Ends, IsTaken, StaysQuiet, Tells};
 ghost use Rattle.scram_cli.specs.declared.status.TheConstants.{UNREAD_FILE, UNWRITTEN_OUTPUT};
 
-use crate::flights::{Boxes, FlightText, tell_flown};
+use crate::boxes::Boxes;
+use crate::flights::{FlightText, tell_flown};
 use crate::lines::{make_outside_line, make_script_line, make_shown_line};
 use crate::loads::{Loaded, load_schedule, load_script};
 use crate::refusals::{
@@ -36,8 +36,6 @@ pub fn answer_replay<F: Files, K: Sink>(
     out: &mut K,
     boxes: Boxes,
 ) -> Status
-    requires racks { RacksFit (λ b. kind_of (b.vtable, b.value)) (λ r. r.boxes.items) boxes.racks.items }
-    requires spares { RacksFit (λ b. kind_of (b.vtable, b.value)) (λ r. r.boxes.items) boxes.spares.items }
     ensures ends { Ends (RequestAnswers (Replay script.now schedule.now) spec) (script.now ∷ schedule.now ∷ [])
         (F.state files.old) (F.state files.new) (IsTaken (K.state out.old) (K.state out.new) result.code) }
     ensures read { result.code ≡ UNREAD_FILE → Rose (F.state files.old).faults (F.state files.new).faults }
@@ -76,8 +74,6 @@ fn replay_script<F: Files, K: Sink>(
     boxes: Boxes,
 ) -> Status
     requires script { Fits spec script }
-    requires racks { RacksFit (λ b. kind_of (b.vtable, b.value)) (λ r. r.boxes.items) boxes.racks.items }
-    requires spares { RacksFit (λ b. kind_of (b.vtable, b.value)) (λ r. r.boxes.items) boxes.spares.items }
     ensures ends { Ends (ReplayAnswers schedule.now spec (Ok script)) (schedule.now ∷ [])
         (F.state files.old) (F.state files.new) (IsTaken (K.state out.old) (K.state out.new) result.code) }
     ensures read { result.code ≡ UNREAD_FILE → Rose (F.state files.old).faults (F.state files.new).faults }
@@ -116,8 +112,6 @@ fn replay_list<K: Sink>(
 ) -> Status
     requires script { Fits spec script }
     requires codes { AreCodes spec list.now }
-    requires racks { RacksFit (λ b. kind_of (b.vtable, b.value)) (λ r. r.boxes.items) boxes.racks.items }
-    requires spares { RacksFit (λ b. kind_of (b.vtable, b.value)) (λ r. r.boxes.items) boxes.spares.items }
     ensures tells { Tells (ListAnswers spec script list.now (first_refusal spec)) (K.state out.old) (K.state out.new) result.code }
     ensures write { result.code ≡ UNWRITTEN_OUTPUT → Rose (K.state out.old).faults (K.state out.new).faults }
     ensures read { result.code ≢ UNREAD_FILE }
@@ -146,8 +140,6 @@ fn replay_accepted<K: Sink>(
 ) -> Status
     requires script { Fits accepted script }
     requires codes { AreCodes accepted list.now }
-    requires racks { RacksFit (λ b. kind_of (b.vtable, b.value)) (λ r. r.boxes.items) boxes.racks.items }
-    requires spares { RacksFit (λ b. kind_of (b.vtable, b.value)) (λ r. r.boxes.items) boxes.spares.items }
     ensures tells { Tells (ReplayWithin accepted script list.now (first_outside accepted script)) (K.state out.old) (K.state out.new) result.code }
     ensures write { result.code ≡ UNWRITTEN_OUTPUT → Rose (K.state out.old).faults (K.state out.new).faults }
     ensures read { result.code ≢ UNREAD_FILE }
@@ -174,8 +166,6 @@ fn replay_mission<K: Sink>(
     boxes: Boxes,
 ) -> Status
     requires codes { AreCodes mission.now.spec list.now }
-    requires racks { RacksFit (λ b. kind_of (b.vtable, b.value)) (λ r. r.boxes.items) boxes.racks.items }
-    requires spares { RacksFit (λ b. kind_of (b.vtable, b.value)) (λ r. r.boxes.items) boxes.spares.items }
     ensures tells { Tells (IsReplayAnswer mission.now.spec mission.now.script list.now) (K.state out.old) (K.state out.new) result.code }
     ensures write { result.code ≡ UNWRITTEN_OUTPUT → Rose (K.state out.old).faults (K.state out.new).faults }
     ensures read { result.code ≢ UNREAD_FILE }

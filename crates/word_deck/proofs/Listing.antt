@@ -4,8 +4,6 @@ use Rattle.std.specs.Prelude.{All, Option, Some, option_to_list, slice_get}
 use Rattle.std.proofs.lemmas.List.Elements.{All-append, All-pop}
 use Rattle.std.proofs.lemmas.List.{length-append, length-map, map-append}
 use Rattle.std.proofs.lemmas.Option.{slice_get_within}
-use Rattle.app_model.specs.declared.racks.Rack.{Rack}
-use Rattle.app_model.specs.Racks.{AllRacksFit, RackFits}
 use Rattle.fail_stop.specs.Events.{At}
 use Rattle.scram_types.proofs.Items.{first_part, next_part}
 use Rattle.fault_script.proofs.Ends.{before, end, place_of}
@@ -13,10 +11,8 @@ use Rattle.word_table.specs.declared.seats.Seat.{Seat}
 use Rattle.word_table.specs.declared.tables.WordTable.{WordTable}
 use Rattle.word_table.specs.Tables.{IsSeatOf, proc_of, seat_place}
 use Rattle.word_deck.specs.declared.crews.Crew.{Crew}
-use Rattle.word_deck.specs.declared.landings.Berth.{Berth}
-use Rattle.word_deck.specs.Berths.{BerthFits}
 use Rattle.word_deck.specs.Crews.{CrewFits}
-use Rattle.word_deck.specs.Flights.{AllCrewsFit, AreBerths, AreLanded, AreOpen, numbers_in}
+use Rattle.word_deck.specs.Flights.{AllCrewsFit, AreLanded, AreOpen, numbers_in}
 use Rattle.word_deck.specs.Landing.{IsLanded}
 
 -- each item has this fact at its place
@@ -41,10 +37,6 @@ popped xs ys o x all is = all ∙ ap (λ p. ys ++ option_to_list p) is
 all_one : {A : Type 0} (Fact : A → Type 0) (x : A) → Fact x → All Fact (x ∷ [])
 all_one Fact x fact zero d low = fact
 all_one Fact x fact (suc k) d low = absurd (omega (arith, low))
-
--- a rack that is taken off the end fits as the others do
-pub rack_popped : {B R : Type 0} (kind : B → ℕ) (boxes : R → List B) (xs ys : List R) (o : Option R) (rack : R) → xs ≡ ys ++ option_to_list o → o ≡ Some rack → AllRacksFit kind boxes xs → RackFits kind (boxes rack)
-rack_popped {R = R} kind boxes xs ys o rack all is fits = (All-pop (λ (r : R). RackFits kind (boxes r)) xs ys (Some rack) (popped xs ys o rack all is) fits).1
 
 last_same : {A : Type 0} (xs ys : List A) (x y : A) → xs ++ x ∷ [] ≡ ys ++ y ∷ [] → (xs ≡ ys) × (x ≡ y)
 last_same [] [] x y e = (refl, cc)
@@ -73,53 +65,26 @@ module _ {X : Type 0} {Y : X → Type 0} where
 
 -- crews that fly in the caller's turns
 
-module _ {X : Type 0} {Y : X → Type 0} {B : Type 0} (kind : B → ℕ) (boxes : Rack X Y → List B) (words : WordTable) where
-  pub crews_none : (own : List (Crew X Y)) → length own ≡ 0 → AllCrewsFit kind boxes words own
+module _ {X : Type 0} {Y : X → Type 0} (words : WordTable) where
+  pub crews_none : (own : List (Crew X Y)) → length own ≡ 0 → AllCrewsFit words own
   crews_none own none = λ k d low. absurd (omega (arith, none, low))
 
-  pub crews_more : (own all : List (Crew X Y)) (crew : Crew X Y) → AllCrewsFit kind boxes words own → CrewFits kind boxes words crew → all ≡ own ++ crew ∷ [] → AllCrewsFit kind boxes words all
+  pub crews_more : (own all : List (Crew X Y)) (crew : Crew X Y) → AllCrewsFit words own → CrewFits words crew → all ≡ own ++ crew ∷ [] → AllCrewsFit words all
   crews_more own all crew are fits same =
-      subst (AllCrewsFit kind boxes words) (sym same) (All-append (λ (c : Crew X Y). CrewFits kind boxes words c) own (crew ∷ []) are (all_one (λ (c : Crew X Y). CrewFits kind boxes words c) crew fits))
+      subst (AllCrewsFit words) (sym same) (All-append (λ (c : Crew X Y). CrewFits words c) own (crew ∷ []) are (all_one (λ (c : Crew X Y). CrewFits words c) crew fits))
 
-  pub crews_less : (xs ys : List (Crew X Y)) (o : Option (Crew X Y)) (crew : Crew X Y) → xs ≡ ys ++ option_to_list o → o ≡ Some crew → AllCrewsFit kind boxes words xs
-      → AllCrewsFit kind boxes words ys × CrewFits kind boxes words crew
+  pub crews_less : (xs ys : List (Crew X Y)) (o : Option (Crew X Y)) (crew : Crew X Y) → xs ≡ ys ++ option_to_list o → o ≡ Some crew → AllCrewsFit words xs
+      → AllCrewsFit words ys × CrewFits words crew
   crews_less xs ys o crew all is are =
-      let both = All-pop (λ (c : Crew X Y). CrewFits kind boxes words c) xs ys (Some crew) (popped xs ys o crew all is) are in (both.0, both.1)
+      let both = All-pop (λ (c : Crew X Y). CrewFits words c) xs ys (Some crew) (popped xs ys o crew all is) are in (both.0, both.1)
 
--- processors before they start
+-- seats of processors that have not started, as the last one leaves
+pub open_front : (words : WordTable) (xs ys : List Seat) (o : Option Seat) (seat : Seat) → xs ≡ ys ++ option_to_list o → o ≡ Some seat → AreOpen words xs → AreOpen words ys
+open_front words xs ys o seat all is are = front_at (λ p s. IsSeatOf words s × (proc_of s ≡ p) × (seat_place s ≡ At 0 0)) xs ys seat (popped xs ys o seat all is) are
 
-module _ {X : Type 0} {Y : X → Type 0} {B : Type 0} (kind : B → ℕ) (boxes : Rack X Y → List B) (words : WordTable) where
-  pub berths_front : (xs ys : List (Berth X Y)) (o : Option (Berth X Y)) (berth : Berth X Y) → xs ≡ ys ++ option_to_list o → o ≡ Some berth → AreBerths kind boxes words xs → AreBerths kind boxes words ys
-  berths_front xs ys o berth all is are = front_at (λ p b. BerthFits kind boxes words b × (proc_of b.seat ≡ p)) xs ys berth (popped xs ys o berth all is) are
-
-  pub berths_last : (xs ys : List (Berth X Y)) (o : Option (Berth X Y)) (berth : Berth X Y) → xs ≡ ys ++ option_to_list o → o ≡ Some berth → AreBerths kind boxes words xs → BerthFits kind boxes words berth × (proc_of berth.seat ≡ length ys)
-  berths_last xs ys o berth all is are = last_at (λ p b. BerthFits kind boxes words b × (proc_of b.seat ≡ p)) xs ys berth (popped xs ys o berth all is) are
-
--- a processor whose seat was the last of those that are left joins the others
-open_front : (words : WordTable) (xs ys : List Seat) (seat : Seat) → xs ≡ ys ++ seat ∷ [] → AreOpen words xs → AreOpen words ys
-open_front words xs ys seat same are = front_at (λ p s. IsSeatOf words s × (proc_of s ≡ p) × (seat_place s ≡ At 0 0)) xs ys seat same are
-
-open_last : (words : WordTable) (xs ys : List Seat) (seat : Seat) → xs ≡ ys ++ seat ∷ [] → AreOpen words xs → IsSeatOf words seat × (proc_of seat ≡ length ys) × (seat_place seat ≡ At 0 0)
-open_last words xs ys seat same are = last_at (λ p s. IsSeatOf words s × (proc_of s ≡ p) × (seat_place s ≡ At 0 0)) xs ys seat same are
-
-module _ {X : Type 0} {Y : X → Type 0} {B : Type 0} (kind : B → ℕ) (boxes : Rack X Y → List B) (words : WordTable) where
-  pub berths_none : (xs : List (Berth X Y)) → length xs ≡ 0 → AreBerths kind boxes words xs
-  berths_none xs none = λ p berth there. absurd (omega (arith, none, slice_get_within xs p berth there))
-
-  pub berths_more : (old left : List Seat) (o : Option Seat) (seat : Seat) (xs all : List (Berth X Y)) (berth : Berth X Y)
-      → old ≡ left ++ option_to_list o → o ≡ Some seat → AreOpen words old → (AreOpen words left → AreBerths kind boxes words xs) → length xs ≡ length left → all ≡ xs ++ berth ∷ []
-      → berth.seat ≡ seat → berth.kit.live.proc.0 ≡ proc_of seat → RackFits kind (boxes berth.kit.live.rack) → RackFits kind (boxes berth.kit.spare) → AreBerths kind boxes words all
-  berths_more old left o seat xs all berth seats is are front count same of_seat number live_fits spare_fits =
-      let ends : old ≡ left ++ seat ∷ [] = popped old left o seat seats is in
-      let last = open_last words old left seat ends are in
-      let fits : BerthFits kind boxes words berth = record {
-        seated = rw of_seat last.0;
-        opening = rw of_seat last.2;
-        number = number ∙ ap proc_of (sym of_seat);
-        live_fits = live_fits;
-        spare_fits = spare_fits;
-      } in
-      rw same (more_at (λ p b. BerthFits kind boxes words b × (proc_of b.seat ≡ p)) xs berth (front (open_front words old left seat ends are)) (fits, ap proc_of of_seat ∙ last.1 ∙ sym count))
+pub open_last : (words : WordTable) (xs ys : List Seat) (o : Option Seat) (seat : Seat) → xs ≡ ys ++ option_to_list o → o ≡ Some seat → AreOpen words xs
+    → IsSeatOf words seat × (proc_of seat ≡ length ys) × (seat_place seat ≡ At 0 0)
+open_last words xs ys o seat all is are = last_at (λ p s. IsSeatOf words s × (proc_of s ≡ p) × (seat_place s ≡ At 0 0)) xs ys seat (popped xs ys o seat all is) are
 
 pub landed_more : (words : WordTable) (xs all : List Seat) (seat : Seat) (p : ℕ) → AreLanded words xs → length xs ≡ p → IsLanded words p seat → all ≡ xs ++ seat ∷ [] → AreLanded words all
 landed_more words xs all seat p are count is same = rw same (more_at (IsLanded words) xs seat are (rw count is))

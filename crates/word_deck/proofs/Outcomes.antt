@@ -1,6 +1,8 @@
 -- What comes of a flight: the trace, and where the seats stand.
-use Rattle.std.proofs.Common.{◌≡◌, ◌∙◌, ℕ, ◌<◌, ◌≤◌, ap, sym, subst, List, length}
+use Rattle.std.proofs.Common.{◌≡◌, ◌∙◌, ℕ, ◌<◌, ◌≤◌, ap, arith, sym, subst, List, length}
 use Rattle.std.specs.Prelude.{Some}
+use Rattle.std.proofs.lemmas.Option.{slice_get_within}
+use Rattle.fail_stop.specs.Events.{Place}
 use Rattle.scram_types.specs.declared.flights.Report.{Report}
 use Rattle.scram_types.specs.declared.flights.Row.{Row}
 use Rattle.scram_types.specs.Scripts.{ScriptParts}
@@ -10,15 +12,13 @@ use Rattle.frame_model.specs.Flights.{reports_of, rows_of}
 use Rattle.trace_props.specs.Missions.{ReconfigurationsAreAssured}
 use Rattle.trace_props.specs.Properties.{HoldsAll}
 use Rattle.trace_props.proofs.Sizes.{few_reports}
-use Rattle.app_model.specs.declared.racks.Rack.{Rack}
 use Rattle.word_table.specs.declared.seats.KSeat.{KSeat}
 use Rattle.word_table.specs.declared.seats.Seat.{Seat}
 use Rattle.word_table.specs.declared.tables.WordTable.{WordTable}
 use Rattle.word_table.specs.Actors.{IsInFlight, mission_flight}
 use Rattle.word_table.specs.Keeping.{IsFlown}
 use Rattle.word_table.specs.Tables.{AreOpening, AreSeatsOf, IsKernelSeatOf, IsSeatOf, mission_in, seat_place, proc_of}
-use Rattle.word_deck.specs.declared.landings.Berth.{Berth}
-use Rattle.word_deck.specs.Flights.{AreBerths, AreLanded, AreOpen, IsAtTable}
+use Rattle.word_deck.specs.Flights.{AreAtTable, AreLanded, AreOpen, IsAtTable}
 
 -- the trace
 
@@ -31,17 +31,6 @@ all_hold spec script rows told assured facts is r t = rw (r, t) (assured spec sc
 
 -- a table whose words are the same
 
-seat_kept : (old new : WordTable) (seat : Seat) → new.table ≡ old.table → IsSeatOf old seat → IsSeatOf new seat
-seat_kept old new seat same is =
-    let key : mission_in old ≡ mission_in new = ap (λ t. t.shared.key) (sym same) in
-    record {
-      holds = subst IsFlown key is.holds;
-      table = is.table ∙ ap (λ t. t.shared.table_id) (sym same);
-      mission = is.mission ∙ ap (λ (k : MissionParts). Some k) key;
-      proc = subst (λ (k : MissionParts). proc_of seat < length k.spec.procs) key is.proc;
-      in_flight = subst (λ (k : MissionParts). IsInFlight (mission_flight k) (seat_place seat)) key is.in_flight;
-    }
-
 pub kernel_kept : (old new : WordTable) (kseat : KSeat) (mission : MissionParts) → new.table ≡ old.table → IsAtTable old kseat → mission_in old ≡ mission → IsSpec mission.spec → IsMission mission → IsKernelSeatOf new kseat
 kernel_kept old new kseat mission same at of facts is =
     let key : mission_in old ≡ mission_in new = ap (λ t. t.shared.key) (sym same) in
@@ -51,17 +40,27 @@ kernel_kept old new kseat mission same at of facts is =
       mission = at.1 ∙ ap (λ (k : MissionParts). Some k) key;
     }
 
-module _ {X : Type 0} {Y : X → Type 0} {B : Type 0} (kind : B → ℕ) (boxes : Rack X Y → List B) where
-  pub berths_kept : (old new : WordTable) (berths : List (Berth X Y)) → new.table ≡ old.table → AreBerths kind boxes old berths → AreBerths kind boxes new berths
-  berths_kept old new berths same are = λ p berth there.
-      let is = are p berth there in
-      let fits = is.0 in
-      (record { seated = seat_kept old new berth.seat same fits.seated; opening = fits.opening; number = fits.number; live_fits = fits.live_fits; spare_fits = fits.spare_fits }, is.1)
-
 -- the seats
 
-pub are_open : (words : WordTable) (seats : List Seat) → AreSeatsOf words seats → AreOpening seats → AreOpen words seats
-are_open words seats are opening = λ p seat there. ((are.each p seat there).0, (are.each p seat there).1, opening p seat there)
+pub at_table : (words : WordTable) (seats : List Seat) → AreSeatsOf words seats → AreOpening seats → AreAtTable words seats
+at_table words seats are opening = λ p seat there. let is = are.each p seat there in (is.0.table, is.0.mission, is.1, opening p seat there)
+
+pub open_flown : (old new : WordTable) (seats : List Seat) (mission : MissionParts) → new.table ≡ old.table → AreAtTable old seats → length seats ≡ length mission.spec.procs → mission_in old ≡ mission
+    → IsSpec mission.spec → IsMission mission → AreOpen new seats
+open_flown old new seats mission same at count of facts is = λ p seat there.
+    let key : mission_in old ≡ mission_in new = ap (λ t. t.shared.key) (sym same) in
+    let here = at p seat there in
+    let number = here.2 in
+    let inside : p < length seats = slice_get_within seats p seat there in
+    let known : proc_of seat < length mission.spec.procs = omega (arith, number, inside, count) in
+    let seated : IsSeatOf new seat = record {
+      holds = subst IsFlown (sym of ∙ key) record { facts = facts; fits = is.fits };
+      table = here.0 ∙ ap (λ t. t.shared.table_id) (sym same);
+      mission = here.1 ∙ ap (λ (k : MissionParts). Some k) key;
+      proc = subst (λ (k : MissionParts). proc_of seat < length k.spec.procs) (sym of ∙ key) known;
+      in_flight = subst (λ (place : Place). IsInFlight (mission_flight (mission_in new)) place) (sym here.3) (omega arith, λ none. absurd (omega (arith, none)));
+    } in
+    (seated, here.2, here.3)
 
 pub landed_seats : (words : WordTable) (seats : List Seat) → AreLanded words seats → length seats ≡ length (mission_in words).spec.procs → AreSeatsOf words seats
 landed_seats words seats are count = record { count = count; each = λ p seat there. ((are p seat there).seated, (are p seat there).proc) }

@@ -7,9 +7,7 @@ use denote.Struct.Declared.{shape}
 use Rattle.std.proofs.Crossing.{crosses, dyn_box_send}
 use Rattle.atomic_table.proofs.shared.Seat.TheSendSync as shared_seat
 use Rattle.app_model.specs.contracts.racks.Rack as rack
-use Rattle.fail_stop.specs.contracts.units.Live as live
 use Rattle.word_table.specs.contracts.seats.Seat as seat
-use Rattle.word_deck.specs.contracts.landings.Berth as berth
 use Rattle.word_deck.specs.contracts.landings.Kit as kit
 use Rattle.word_deck.specs.contracts.landings.Shelf as shelf
 use Rattle.atomic_table.proofs.shared.Shared.TheSendSync as shared
@@ -33,26 +31,18 @@ table_sync = search (shared.the_sync, lease.the_sync, sendable, crosses) depth 4
 
 -- what goes to a thread of its own, where the boxes may
 
-seat_fields : IsSend seat.the_field.row
+pub seat_fields : IsSend seat.the_field.row
 seat_fields = search (shared_seat.the_send, sendable, crosses) depth 40 fits 5000
 
 module _ (D : RattleType) (g : Ghosts D.Denot) (s : Sends (table_of D.Denot g)) (d : IsSend D) where
   rack_fields : IsSend (rack.the_field D g).row
   rack_fields = let box = dyn_box_send D g s d in struct_send (shape (rack.the_type D g)) (search (box, sendable, crosses) depth 40 fits 5000, tt)
 
-  live_fields : IsSend (live.the_field D g).row
-  live_fields = struct_send (shape (live.the_type D g)) (search (sendable, crosses), (search (rack_fields, sendable, crosses), tt))
-
   kit_fields : IsSend (kit.the_field D g).row
-  kit_fields = struct_send (shape (kit.the_type D g)) (search (live_fields, sendable, crosses), (search (rack_fields, sendable, crosses), tt))
+  kit_fields = struct_send (shape (kit.the_type D g)) (search (rack_fields, sendable, crosses), (search (rack_fields, sendable, crosses), tt))
 
   kit_send : IsSend (kit.the_row D g)
   kit_send = recorded_send (kit.the_field D g).row _ _ (kit.the_type D g).to_one kit_fields
-
-  pub berth_send : IsSend (berth.the_row D g)
-  berth_send =
-      recorded_send (berth.the_field D g).row _ _ (berth.the_type D g).to_one
-      (struct_send (shape (berth.the_type D g)) (search (seat_fields, sendable, crosses), (search (kit_fields, sendable, crosses), tt)))
 
   pub shelf_sync : IsSync (shelf.the_row D g)
   shelf_sync = search (kit_send, sendable, crosses) depth 40 fits 5000

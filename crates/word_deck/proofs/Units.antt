@@ -1,12 +1,13 @@
 -- What a crew's type keeps of its unit, after a start and after a halt.
-use Rattle.std.proofs.Common.{◌≡◌, ◌∙◌, ℕ, ap, refl, sym, subst, true, false, not}
+use Rattle.std.proofs.Common.{◌≡◌, ◌∙◌, ℕ, ◌<◌, ap, arith, refl, sym, subst, true, false, not}
 use Rattle.std.specs.Prelude.{Option, Some, None, IfSome, is_some}
 use Rattle.fail_stop.specs.declared.units.Halted.{Halted as HaltedUnit}
 use Rattle.fail_stop.specs.declared.units.Live.{Live}
 use Rattle.fail_stop.specs.Events.{Halted, frame_of}
 use Rattle.word_table.specs.declared.seats.Seat.{Seat}
 use Rattle.word_table.specs.Actors.{is_halted}
-use Rattle.word_table.specs.Tables.{seat_place, proc_of}
+use Rattle.word_table.specs.declared.tables.WordTable.{WordTable}
+use Rattle.word_table.specs.Tables.{IsSeatOf, seat_place, proc_of}
 use Rattle.word_deck.specs.Keeping.{CrewKeeps}
 
 if_some : {A : Type 0} (Fact : A → Type 0) (o : Option A) → ((x : A) → o ≡ Some x → Fact x) → IfSome o Fact
@@ -18,6 +19,16 @@ of_some Fact o fact x is = subst (λ p. IfSome p Fact) is fact
 
 is_none : {A : Type 0} (o : Option A) (x : A) → is_some o ≡ false → o ≡ Some x → ⊥
 is_none o x none is = let some : is_some o ≡ true = ap is_some is in cc
+
+-- a processor of a table is one of eight, and so is its unit that has halted
+pub few : (words : WordTable) (seat : Seat) → IsSeatOf words seat → proc_of seat < 8
+few words seat is = let known = is.proc in let most = is.holds.facts.procs_count.few in omega (arith, known, most)
+
+pub few_halted : {X : Type 0} {Y : X → Type 0} (words : WordTable) (seat : Seat) (live : Option (Live X Y)) (halted : Option HaltedUnit) → CrewKeeps seat live halted → IsSeatOf words seat
+    → IfSome halted (λ (unit : HaltedUnit). unit.proc.0 < 8)
+few_halted words seat live halted keeps is =
+    let low = few words seat is in
+    if_some (λ (unit : HaltedUnit). unit.proc.0 < 8) halted (λ unit there. let same = keeps.halted_is unit there in omega (arith, low, same))
 
 module _ {X : Type 0} {Y : X → Type 0} (was seat : Seat) (live live2 : Option (Live X Y)) (halted halted2 : Option HaltedUnit) (keeps : CrewKeeps was live halted) (same : proc_of seat ≡ proc_of was) where
   of_live : IfSome live (λ (unit : Live X Y). unit.proc.0 ≡ proc_of seat)

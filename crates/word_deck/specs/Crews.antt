@@ -1,8 +1,5 @@
 -- Processors with what they need in a flight, and what a turn does to the place of one.
-use Rattle.std.specs.Prelude.{◌≡◌, ℕ, suc, ◌<◌, Bool, true, false, not, List, Option, Some, None, IfSome, is_some, if◌then◌else◌, nat_eq, nat_lt}
-use Rattle.app_model.specs.declared.racks.Rack.{Rack}
-use Rattle.app_model.specs.Racks.{RackFits}
-use Rattle.fail_stop.specs.declared.units.Live.{Live}
+use Rattle.std.specs.Prelude.{◌≡◌, ℕ, suc, ◌<◌, Bool, true, false, not, Option, Some, None, is_some, if◌then◌else◌, nat_eq, nat_lt}
 use Rattle.fail_stop.specs.Events.{At, Halted, Place, frame_of}
 use Rattle.fail_stop.specs.Flights.{Flight}
 use Rattle.word_table.specs.declared.tables.WordTable.{WordTable}
@@ -44,25 +41,18 @@ tries_after NotYet tries = suc tries
 tries_after Worked tries = tries
 tries_after Finished tries = tries
 
--- The boxes of a crew's racks fit. How a box's kind is read, and a rack's boxes, are arguments.
-pub record UnitFits {X : Type 0} {Y : X → Type 0} {B : Type 0} (kind : B → ℕ) (boxes : Rack X Y → List B) (crew : Crew X Y) : Type 0 where
-  pub live_fits : IfSome crew.live (λ (live : Live X Y). RackFits kind (boxes live.rack))
-  pub spare_fits : IfSome crew.spare (λ (rack : Rack X Y). RackFits kind (boxes rack))
-
 -- Of processor p, which stands in frame f or has halted there, there is the rack for a restart that is still to come.
 abbrev pub HasSpare : {R : Type 0} → Flight → ℕ → ℕ → Option R → Type 0
 HasSpare m p f spare = (r : ℕ) → m.restart p ≡ Some r → f < r → is_some spare ≡ true
 
 -- A crew is one of this table between two turns.
-pub record CrewFits {X : Type 0} {Y : X → Type 0} {B : Type 0} (kind : B → ℕ) (boxes : Rack X Y → List B) (words : WordTable) (crew : Crew X Y) : Type 0 where
+pub record CrewFits {X : Type 0} {Y : X → Type 0} (words : WordTable) (crew : Crew X Y) : Type 0 where
   pub seated : IsSeatOf words crew.seat
   pub begin : steps_of (seat_place crew.seat) ≡ 0
-  pub unit : UnitFits kind boxes crew
   pub spare_left : HasSpare (flight_in words) (proc_of crew.seat) (frame_of (seat_place crew.seat)) crew.spare
 
 -- A crew is one of this table after n steps of a frame.
-pub record CrewFlies {X : Type 0} {Y : X → Type 0} {B : Type 0} (kind : B → ℕ) (boxes : Rack X Y → List B) (words : WordTable) (n : ℕ) (crew : Crew X Y) : Type 0 where
+pub record CrewFlies {X : Type 0} {Y : X → Type 0} (words : WordTable) (n : ℕ) (crew : Crew X Y) : Type 0 where
   pub seated : IsSeatOf words crew.seat
   pub after : IsAfter n (seat_place crew.seat)
-  pub unit : UnitFits kind boxes crew
   pub spare_left : HasSpare (flight_in words) (proc_of crew.seat) (frame_of (seat_place crew.seat)) crew.spare

@@ -1,30 +1,28 @@
 -- Processors before, in and after a flight.
 use Rattle.std.specs.Prelude.{◌≡◌, ℕ, List, [], ◌∷◌, ◌++◌, All, map, slice_get, Some}
-use Rattle.app_model.specs.declared.racks.Rack.{Rack}
 use Rattle.fail_stop.specs.Events.{At}
 use Rattle.word_table.specs.declared.seats.KSeat.{KSeat}
 use Rattle.word_table.specs.declared.seats.Seat.{Seat}
 use Rattle.word_table.specs.declared.tables.WordTable.{WordTable}
 use Rattle.word_table.specs.Tables.{IsSeatOf, mission_in, seat_place, proc_of}
 use Rattle.word_deck.specs.declared.crews.Crew.{Crew}
-use Rattle.word_deck.specs.declared.landings.Berth.{Berth}
 use Rattle.word_deck.specs.declared.scopes.Boarding.{Boarding}
 use Rattle.word_deck.specs.declared.scopes.Boarding.TheVariants.{Threaded, Own, Landed}
-use Rattle.word_deck.specs.Berths.{BerthFits}
 use Rattle.word_deck.specs.Crews.{CrewFits}
 use Rattle.word_deck.specs.Landing.{IsLanded}
-
--- These are processors before their flight, in the order of their numbers.
-abbrev pub AreBerths : {X : Type 0} {Y : X → Type 0} {B : Type 0} → (B → ℕ) → (Rack X Y → List B) → WordTable → List (Berth X Y) → Type 0
-AreBerths {X = X} {Y = Y} kind boxes words berths = (p : ℕ) (berth : Berth X Y) → slice_get berths p ≡ Some berth → BerthFits kind boxes words berth × (proc_of berth.seat ≡ p)
 
 -- These are seats of a table's processors, in the order of their numbers, each at its opening place.
 abbrev pub AreOpen : WordTable → List Seat → Type 0
 AreOpen words seats = (p : ℕ) (seat : Seat) → slice_get seats p ≡ Some seat → IsSeatOf words seat × (proc_of seat ≡ p) × (seat_place seat ≡ At 0 0)
 
+-- The same, whatever the table's mission.
+abbrev pub AreAtTable : WordTable → List Seat → Type 0
+AreAtTable words seats = (p : ℕ) (seat : Seat) → slice_get seats p ≡ Some seat
+    → (seat.inner.table_id ≡ words.table.shared.table_id) × (seat.inner.me.0.mission ≡ Some (mission_in words)) × (proc_of seat ≡ p) × (seat_place seat ≡ At 0 0)
+
 -- Each crew is one of this table between two turns.
-abbrev pub AllCrewsFit : {X : Type 0} {Y : X → Type 0} {B : Type 0} → (B → ℕ) → (Rack X Y → List B) → WordTable → List (Crew X Y) → Type 0
-AllCrewsFit {X = X} {Y = Y} kind boxes words crews = All (λ (crew : Crew X Y). CrewFits kind boxes words crew) crews
+abbrev pub AllCrewsFit : {X : Type 0} {Y : X → Type 0} → WordTable → List (Crew X Y) → Type 0
+AllCrewsFit {X = X} {Y = Y} words crews = All (λ (crew : Crew X Y). CrewFits words crew) crews
 
 -- The numbers of the processors of these crews.
 abbrev pub numbers_in : {X : Type 0} {Y : X → Type 0} → List (Crew X Y) → List ℕ

@@ -2,6 +2,5 @@ pub mod Frames
 pub mod Keeping
 pub mod Crews
 pub mod Kernels
-pub mod Berths
 pub mod Landing
 pub mod Flights

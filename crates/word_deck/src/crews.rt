@@ -1,9 +1,7 @@
 //! Processors with what they need in a flight. The type keeps that the unit is that of the seat, and lives exactly where
-//! that has not halted. That the boxes fit is told by clauses, since no type can keep a fact of a box; the fields are
-//! public so that clauses can name them.
+//! that has not halted. The fields are public so that clauses can name them.
 
-ghost use Rattle.std.specs.Prelude.{◌≡◌, IfSome, ℕ, false, is_some, not, true};
-ghost use Rattle.app_model.specs.Racks.{RackFits};
+ghost use Rattle.std.specs.Prelude.{◌≡◌, ◌<◌, IfSome, Some, ℕ, false, is_some, not, true};
 ghost use Rattle.word_deck.specs.Keeping.{CrewKeeps};
 
 use crate::frames::{commit, halt_after, look_at_all};
@@ -28,7 +26,7 @@ pub struct Crew {
 }
 
 impl Crew {
-    ghost use Rattle.std.specs.Prelude.{◌↔◌, ◌+◌, ◌<◌, MatchOption, if◌then◌else◌, length};
+    ghost use Rattle.std.specs.Prelude.{◌↔◌, ◌+◌, MatchOption, if◌then◌else◌, length};
     ghost use Rattle.frame_model.specs.Flights.{draft};
     ghost use Rattle.frame_model.specs.Storage.{kernel_image};
     ghost use Rattle.fail_stop.specs.Drafts.{IsSnapshot};
@@ -36,19 +34,20 @@ impl Crew {
     ghost use Rattle.fail_stop.specs.Events.{At, frame_of};
     ghost use Rattle.word_table.specs.Actors.{Waits, frame_awaited, is_halted, mission_flight};
     ghost use Rattle.word_table.specs.Tables.{IsSeatOf, flight_in, mission_in, seat_place, proc_of, tries_of};
-    ghost use Rattle.word_deck.specs.Crews.{CrewFits, CrewFlies, UnitFits, after_frame, is_done, place_after, tries_after};
+    ghost use Rattle.word_deck.specs.Crews.{CrewFits, CrewFlies, after_frame, is_done, place_after, tries_after};
     ghost use Rattle.word_table.specs.declared.tables.WordTable as word_tables;
     ghost use Rattle.word_deck.specs.declared.turns.Turn.TheVariants.{Finished, Worked};
 
-    /// A processor at its opening place, with its unit and the rack for its restart. It takes no memory.
-    pub fn processor(seat: Seat, live: Live, spare: Rack) -> Crew
+    /// A processor at its opening place, with its boxes and those for its restart. It takes no memory.
+    pub fn processor(seat: Seat, rack: Rack, spare: Rack) -> Crew
         requires opening { seat_place seat ≡ At 0 0 }
-        requires proc { live.proc.0 ≡ proc_of seat }
-        requires live { RackFits (λ b. kind_of (b.vtable, b.value)) live.rack.boxes.items }
-        requires spare { RackFits (λ b. kind_of (b.vtable, b.value)) spare.boxes.items }
+        requires few { proc_of seat < 8 }
         ensures seat { result.seat ≡ seat }
-        ensures fits { (words : word_tables.WordTable) → IsSeatOf words seat → CrewFits (λ b. kind_of (b.vtable, b.value)) (λ r. r.boxes.items) words result }
+        ensures rack { IfSome result.live (λ unit. unit.rack ≡ rack) }
+        ensures spare { result.spare ≡ Some spare }
+        ensures fits { (words : word_tables.WordTable) → IsSeatOf words seat → CrewFits words result }
     {
+        let live = Live::new(seat.proc(), rack);
         Crew {
             seat,
             live: Some(live),
@@ -64,8 +63,8 @@ impl Crew {
     #[tactic(auto, using(crate::proofs::Places::waits, crate::proofs::Places::done_by, crate::proofs::Places::flown_after, crate::proofs::Places::finished_by, crate::proofs::Places::tried_by))]
     pub fn turn(&mut self, mission: &Mission, words: &WordTable) -> Turn
         requires mission { mission_in words.now ≡ mission.now }
-        requires fits { CrewFits (λ b. kind_of (b.vtable, b.value)) (λ r. r.boxes.items) words.now self.old }
-        ensures fits { CrewFits (λ b. kind_of (b.vtable, b.value)) (λ r. r.boxes.items) words.now self.new }
+        requires fits { CrewFits words.now self.old }
+        ensures fits { CrewFits words.now self.new }
         ensures proc { proc_of self.new.seat ≡ proc_of self.old.seat }
         ensures place { seat_place self.new.seat ≡ place_after result (flight_in words.now) (proc_of self.old.seat) (seat_place self.old.seat) }
         ensures finished { (result ≡ Finished) ↔ IsDone (flight_in words.now) (proc_of self.old.seat) (seat_place self.new.seat) }
@@ -109,12 +108,12 @@ impl Crew {
     }
 
     // Starts the frame that the processor waits for, where it is released, and lives again with that where it had halted.
-    #[tactic(auto, using(crate::proofs::Places::spare_there, crate::proofs::Places::spare_begun))]
+    #[tactic(auto, using(crate::proofs::Places::spare_there, crate::proofs::Places::spare_begun, crate::proofs::Units::few_halted))]
     fn begin(&mut self, words: &WordTable) -> Option<KernelImage>
-        requires fits { CrewFits (λ b. kind_of (b.vtable, b.value)) (λ r. r.boxes.items) words.now self.old }
+        requires fits { CrewFits words.now self.old }
         requires waits { Waits (flight_in words.now) (proc_of self.old.seat) (seat_place self.old.seat) }
         ensures proc { proc_of self.new.seat ≡ proc_of self.old.seat }
-        ensures fits { MatchOption result (CrewFits (λ b. kind_of (b.vtable, b.value)) (λ r. r.boxes.items) words.now self.new) (λ image. CrewFlies (λ b. kind_of (b.vtable, b.value)) (λ r. r.boxes.items) words.now 1 self.new) }
+        ensures fits { MatchOption result (CrewFits words.now self.new) (λ image. CrewFlies words.now 1 self.new) }
         ensures place { MatchOption result (seat_place self.new.seat ≡ seat_place self.old.seat) (λ image. seat_place self.new.seat ≡ At (frame_awaited (flight_in words.now) (proc_of self.old.seat) (seat_place self.old.seat)) 1) }
         ensures tries { MatchOption result (tries_of self.new.seat ≡ tries_of self.old.seat + 1) (λ image. tries_of self.new.seat ≡ tries_of self.old.seat) }
         ensures image { IfSome result (λ image. image ≡ kernel_image (mission_in words.now).spec (mission_in words.now).script (frame_awaited (flight_in words.now) (proc_of self.old.seat) (seat_place self.old.seat))) }
@@ -127,9 +126,9 @@ impl Crew {
     // Flies the frame that has been started: looks, draft, and the steps up to the halt or the end.
     fn fly(&mut self, mission: &Mission, words: &WordTable, kernel: KernelImage)
         requires mission { mission_in words.now ≡ mission.now }
-        requires flies { CrewFlies (λ b. kind_of (b.vtable, b.value)) (λ r. r.boxes.items) words.now 1 self.old }
+        requires flies { CrewFlies words.now 1 self.old }
         requires kernel { kernel ≡ kernel_image mission.now.spec mission.now.script (frame_of (seat_place self.old.seat)) }
-        ensures fits { CrewFits (λ b. kind_of (b.vtable, b.value)) (λ r. r.boxes.items) words.now self.new }
+        ensures fits { CrewFits words.now self.new }
         ensures proc { proc_of self.new.seat ≡ proc_of self.old.seat }
         ensures place { seat_place self.new.seat ≡ after_frame (frame_of (seat_place self.old.seat)) ((flight_in words.now).halt (proc_of self.old.seat) (frame_of (seat_place self.old.seat))) }
         ensures tries { tries_of self.new.seat ≡ tries_of self.old.seat }
@@ -146,12 +145,10 @@ impl Crew {
     fn draft(&mut self, mission: &Mission, snap: &Snapshot) -> Image
         requires lives { is_halted (seat_place self.old.seat) ≡ false }
         requires known { proc_of self.old.seat < length mission.now.spec.procs }
-        requires fits { UnitFits (λ b. kind_of (b.vtable, b.value)) (λ r. r.boxes.items) self.old }
         requires snap { IsSnapshot mission.now.spec mission.now.script (frame_of (seat_place self.old.seat)) snap.now }
         ensures image { result ≡ draft mission.now.spec mission.now.script (proc_of self.old.seat) (frame_of (seat_place self.old.seat)) }
         ensures seat { self.new.seat ≡ self.old.seat }
         ensures spare { self.new.spare ≡ self.old.spare }
-        ensures fits { UnitFits (λ b. kind_of (b.vtable, b.value)) (λ r. r.boxes.items) self.new }
     {
         mission.holds();
         match &mut self.live {
@@ -163,9 +160,9 @@ impl Crew {
     // Ends the frame whose draft this is: commits it, or halts where the script has a halt in it.
     fn end(&mut self, mission: &Mission, words: &WordTable, image: &Image)
         requires mission { mission_in words.now ≡ mission.now }
-        requires flies { CrewFlies (λ b. kind_of (b.vtable, b.value)) (λ r. r.boxes.items) words.now (length mission.now.spec.procs + 1) self.old }
+        requires flies { CrewFlies words.now (length mission.now.spec.procs + 1) self.old }
         requires image { image.now ≡ draft mission.now.spec mission.now.script (proc_of self.old.seat) (frame_of (seat_place self.old.seat)) }
-        ensures fits { CrewFits (λ b. kind_of (b.vtable, b.value)) (λ r. r.boxes.items) words.now self.new }
+        ensures fits { CrewFits words.now self.new }
         ensures proc { proc_of self.new.seat ≡ proc_of self.old.seat }
         ensures place { seat_place self.new.seat ≡ after_frame (frame_of (seat_place self.old.seat)) ((flight_in words.now).halt (proc_of self.old.seat) (frame_of (seat_place self.old.seat))) }
         ensures tries { tries_of self.new.seat ≡ tries_of self.old.seat }
@@ -188,14 +185,11 @@ impl Crew {
 fn restart_unit(live: &mut Option<Live>, halted: &mut Option<Halted>, spare: &mut Option<Rack>)
     requires one { is_some live.old ≡ not (is_some halted.old) }
     requires spare { is_some halted.old ≡ true → is_some spare.old ≡ true }
-    requires live_fits { IfSome live.old (λ live. RackFits (λ b. kind_of (b.vtable, b.value)) live.rack.boxes.items) }
-    requires spare_fits { IfSome spare.old (λ rack. RackFits (λ b. kind_of (b.vtable, b.value)) rack.boxes.items) }
+    requires few { IfSome halted.old (λ unit. unit.proc.0 < 8) }
     ensures lives { is_some live.new ≡ true }
     ensures halted { is_some halted.new ≡ false }
     ensures spare { is_some halted.old ≡ false → spare.new ≡ spare.old }
     ensures number { (p : ℕ) → IfSome live.old (λ live. live.proc.0 ≡ p) → IfSome halted.old (λ halted. halted.proc.0 ≡ p) → IfSome live.new (λ live. live.proc.0 ≡ p) }
-    ensures live_fits { IfSome live.new (λ live. RackFits (λ b. kind_of (b.vtable, b.value)) live.rack.boxes.items) }
-    ensures spare_fits { IfSome spare.new (λ rack. RackFits (λ b. kind_of (b.vtable, b.value)) rack.boxes.items) }
 {
     if let Some(unit) = halted.take() {
         if let Some(rack) = spare.take() {

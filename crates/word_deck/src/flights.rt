@@ -1,45 +1,45 @@
 //! Flights on words.
 
 ghost use Rattle.std.specs.Prelude.{◌≡◌, ◌≤◌, IfOk, length, vec_capacity, vec_len};
-ghost use Rattle.app_model.specs.Racks.{AllRacksFit, RacksFit};
 ghost use Rattle.frame_model.specs.Flights.{reports_of, rows_of};
 ghost use Rattle.trace_props.specs.Properties.{HoldsAll};
-ghost use Rattle.word_table.specs.Tables.{AreOpening, AreSeatsOf, IsKernelSeatOf, mission_in};
-ghost use Rattle.word_table.specs.declared.tables.WordTable as word_tables;
-ghost use Rattle.word_deck.specs.Flights.{AreBerths, AreLanded, AreOpen, IsAtTable};
+ghost use Rattle.word_table.specs.Tables.{AreSeatsOf, IsKernelSeatOf, mission_in};
+ghost use Rattle.word_deck.specs.Flights.{AreAtTable, AreLanded, IsAtTable};
 ghost use Rattle.word_deck.specs.Kernels.{IsKernelDone};
 
 use crate::kernels::KernelCrew;
-use crate::landings::{Berth, Deck, Kit, Shelf};
+use crate::landings::{Deck, Kit, Shelf};
 use crate::scopes::{Hangar, fly};
 use app_model::Rack;
 use coverage_check::Mission;
-use fail_stop::Live;
 use scram_kernel::Kernel;
 use scram_types::{Flown, NoMemory};
 use std::alloc::Global;
 use std::sync::Wait;
 use std::thread;
 use std::thread::Threads;
+use std::vec::IntoIter;
 use trace_props::missions::reconfigurations_are_assured;
 use word_table::{KSeat, Seat, WordTable, Words};
 
-/// A flight of a mission that is ready to start, with all memory that it takes: the words, the kernel, a unit with its
-/// seat for each processor, and room for what comes back. That the boxes of its units fit is told by clauses.
+/// A flight of a mission that is ready to start, with all memory that it takes: the words, the kernel, the seats of all
+/// processors, their boxes, and room for what comes back.
 #[derive(Drop)]
 pub struct WordFlight<'a> {
     mission: &'a Mission,
     words: WordTable,
     kernel: KernelCrew<'a>,
     hangar: Hangar,
+    shelves: [Shelf; 8],
     ghost of: { mission_in words ≡ mission.now },
     ghost same: { kernel.mission.now ≡ mission.now },
     ghost seated: { IsAtTable words kernel.kseat },
-    ghost all: { vec_len hangar.berths ≡ length mission.now.spec.procs },
+    ghost waiting: { AreAtTable words hangar.waiting.items },
+    ghost all: { vec_len hangar.waiting ≡ length mission.now.spec.procs },
     ghost none_own: { vec_len hangar.own ≡ 0 },
-    ghost none_landed: { vec_len hangar.seats ≡ 0 },
-    ghost own_room: { vec_len hangar.berths ≤ vec_capacity hangar.own },
-    ghost room: { vec_len hangar.berths ≤ vec_capacity hangar.seats },
+    ghost none_landed: { vec_len hangar.landed ≡ 0 },
+    ghost own_room: { vec_len hangar.waiting ≤ vec_capacity hangar.own },
+    ghost room: { vec_len hangar.waiting ≤ vec_capacity hangar.landed },
 }
 
 /// What comes of a flight: the trace, and the words with all their seats, each where nothing is left to do. The seats
@@ -53,18 +53,18 @@ pub struct Landed<'a> {
 }
 
 impl<'a> WordFlight<'a> {
-    /// A flight of a mission with these boxes, and these for restarts. All memory of the flight is taken here; the only
-    /// refusal is want of it.
+    /// A flight of a mission with these boxes, and these for restarts: rack `p` is that of processor `p`. All memory of
+    /// the flight is taken here; the only refusal is want of it.
+    #[tactic(auto, using(crate::proofs::Outcomes::at_table))]
     pub fn open(
         alloc: Global,
         mission: &'a Mission,
         racks: Vec<Rack>,
         spares: Vec<Rack>,
     ) -> Result<WordFlight<'a>, NoMemory>
-        requires racks { RacksFit (λ b. kind_of (b.vtable, b.value)) (λ r. r.boxes.items) racks.items }
-        requires spares { RacksFit (λ b. kind_of (b.vtable, b.value)) (λ r. r.boxes.items) spares.items }
+        requires racks { vec_len racks ≡ 8 }
+        requires spares { vec_len spares ≡ 8 }
         ensures mission { IfOk result (λ flight. flight.mission ≡ mission.entry) }
-        ensures fits { IfOk result (λ flight. AreBerths (λ b. kind_of (b.vtable, b.value)) (λ r. r.boxes.items) flight.words flight.hangar.berths.items) }
     {
         mission.holds();
         let (words, kseat, seats) = WordTable::open(alloc, mission)?;
@@ -72,16 +72,16 @@ impl<'a> WordFlight<'a> {
         let procs = seats.len();
         let own = Vec::with_capacity(alloc, procs)?;
         let landed = Vec::with_capacity(alloc, procs)?;
-        let berths = berths_of(alloc, seats, racks, spares)?;
         Ok(WordFlight {
             mission,
             words,
             kernel: KernelCrew::kernel(mission, kseat, kernel),
             hangar: Hangar {
-                berths,
+                waiting: seats,
                 own,
-                seats: landed,
+                landed,
             },
+            shelves: shelves(alloc, racks, spares),
         })
     }
 
@@ -89,7 +89,6 @@ impl<'a> WordFlight<'a> {
     /// thread can be made flies in the caller's turns. What comes of it is the one-thread trace, of which SP1 to SP5
     /// hold, and the words with all seats, each where nothing is left to do. It waits for threads and has no refusal.
     pub fn run<R: Threads + Wait + Sync>(self, rt: &R) -> Landed<'a>
-        requires fits { AreBerths (λ b. kind_of (b.vtable, b.value)) (λ r. r.boxes.items) self.words self.hangar.berths.items }
         ensures rows { result.flown.rows ≡ rows_of self.entry.mission.now.spec self.entry.mission.now.script }
         ensures reports { result.flown.reports ≡ reports_of self.entry.mission.now.spec self.entry.mission.now.script }
         ensures assured { HoldsAll self.entry.mission.now.spec result.flown.rows result.flown.reports }
@@ -107,7 +106,6 @@ impl<'a> WordFlight<'a> {
 
     /// The same where threads are asked for these processors alone.
     pub fn run_on<R: Threads + Wait + Sync>(self, rt: &R, asked: [bool; 8]) -> Landed<'a>
-        requires fits { AreBerths (λ b. kind_of (b.vtable, b.value)) (λ r. r.boxes.items) self.words self.hangar.berths.items }
         ensures rows { result.flown.rows ≡ rows_of self.entry.mission.now.spec self.entry.mission.now.script }
         ensures reports { result.flown.reports ≡ reports_of self.entry.mission.now.spec self.entry.mission.now.script }
         ensures assured { HoldsAll self.entry.mission.now.spec result.flown.rows result.flown.reports }
@@ -125,11 +123,13 @@ impl<'a> WordFlight<'a> {
             mut words,
             kernel,
             hangar,
+            shelves,
         } = self;
+        mission.holds();
         words.set_turns(turns_of(rt));
         let deck = Deck {
             words,
-            shelves: shelves(),
+            shelves,
             asked,
         };
         let (kernel, seats) = fly(rt, mission, &deck, kernel, hangar);
@@ -139,64 +139,12 @@ impl<'a> WordFlight<'a> {
             asked: _,
         } = deck;
         let (kseat, kernel) = kernel.into_parts();
-        mission.holds();
         reconfigurations_are_assured();
         Landed {
             flown: kernel.finish(),
             words: Words { mission, table },
             kseat,
             seats,
-        }
-    }
-}
-
-// The processors with their units, in order.
-fn berths_of(
-    alloc: Global,
-    mut seats: Vec<Seat>,
-    mut racks: Vec<Rack>,
-    mut spares: Vec<Rack>,
-) -> Result<Vec<Berth>, NoMemory>
-    requires few { vec_len seats ≤ 8 }
-    requires racks { RacksFit (λ b. kind_of (b.vtable, b.value)) (λ r. r.boxes.items) racks.items }
-    requires spares { RacksFit (λ b. kind_of (b.vtable, b.value)) (λ r. r.boxes.items) spares.items }
-    ensures fits { (words : word_tables.WordTable) → AreSeatsOf words seats.items → AreOpening seats.items → IfOk result (λ berths. AreBerths (λ b. kind_of (b.vtable, b.value)) (λ r. r.boxes.items) words berths.items) }
-    ensures len { IfOk result (λ berths. vec_len berths ≡ vec_len seats) }
-{
-    let mut berths = Vec::with_capacity(alloc, seats.len())?;
-    racks.truncate(seats.len());
-    spares.truncate(seats.len());
-    fill(&mut berths, &mut seats, &mut racks, &mut spares);
-    Ok(berths)
-}
-
-// Puts each seat with its racks behind the processors before it.
-fn fill(
-    berths: &mut Vec<Berth>,
-    seats: &mut Vec<Seat>,
-    racks: &mut Vec<Rack>,
-    spares: &mut Vec<Rack>,
-)
-    requires racks { AllRacksFit (λ b. kind_of (b.vtable, b.value)) (λ r. r.boxes.items) racks.old.items }
-    requires spares { AllRacksFit (λ b. kind_of (b.vtable, b.value)) (λ r. r.boxes.items) spares.old.items }
-    requires racks_len { vec_len racks.old ≡ vec_len seats.old }
-    requires spares_len { vec_len spares.old ≡ vec_len seats.old }
-    requires none { vec_len berths.old ≡ 0 }
-    requires room { vec_len seats.old ≤ vec_capacity berths.old }
-    ensures fits { (words : word_tables.WordTable) → AreOpen words seats.old.items → AreBerths (λ b. kind_of (b.vtable, b.value)) (λ r. r.boxes.items) words berths.new.items }
-    ensures len { vec_len berths.new ≡ vec_len seats.old }
-    ensures capacity { vec_capacity berths.new ≡ vec_capacity berths.old }
-{
-    if let Some(seat) = seats.pop() {
-        if let Some(rack) = racks.pop() {
-            if let Some(spare) = spares.pop() {
-                fill(berths, seats, racks, spares);
-                let live = Live::new(seat.proc(), rack);
-                berths.push_reserved(Berth {
-                    seat,
-                    kit: Kit { live, spare },
-                });
-            }
         }
     }
 }
@@ -212,15 +160,26 @@ fn turns_of<R: Threads>(rt: &R) -> u32 {
     }
 }
 
-fn shelves() -> [Shelf; 8] {
+// A shelf for each processor, with its racks.
+fn shelves(alloc: Global, racks: Vec<Rack>, spares: Vec<Rack>) -> [Shelf; 8] {
+    let mut racks = racks.into_iter();
+    let mut spares = spares.into_iter();
     [
-        Shelf::new(),
-        Shelf::new(),
-        Shelf::new(),
-        Shelf::new(),
-        Shelf::new(),
-        Shelf::new(),
-        Shelf::new(),
-        Shelf::new(),
+        next_shelf(alloc, &mut racks, &mut spares),
+        next_shelf(alloc, &mut racks, &mut spares),
+        next_shelf(alloc, &mut racks, &mut spares),
+        next_shelf(alloc, &mut racks, &mut spares),
+        next_shelf(alloc, &mut racks, &mut spares),
+        next_shelf(alloc, &mut racks, &mut spares),
+        next_shelf(alloc, &mut racks, &mut spares),
+        next_shelf(alloc, &mut racks, &mut spares),
     ]
+}
+
+fn next_shelf(alloc: Global, racks: &mut IntoIter<Rack>, spares: &mut IntoIter<Rack>) -> Shelf {
+    let kit = match (racks.next(), spares.next()) {
+        (Some(rack), Some(spare)) => Some(Kit { rack, spare }),
+        _ => None,
+    };
+    Shelf::new(alloc, kit)
 }

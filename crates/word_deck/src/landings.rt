@@ -1,55 +1,55 @@
-//! Processors that fly on threads of their own. A thread gives back the seat: of its result no more can be known than a
-//! promise says, and no promise can speak of boxes. So the boxes of a processor for which no thread can be made come
-//! back through a lock, and are looked at again.
+//! Processors that fly on threads of their own. A thread gives back the seat alone, since no handle of a thread is taken
+//! that gives back boxes. So the boxes of each processor lie on a shelf, from which whoever flies it takes them: its
+//! thread, or the caller where no thread can be made.
 
-ghost use Rattle.std.specs.Prelude.{◌≡◌, IfErr, IfOk, IsTrue};
-ghost use Rattle.app_model.specs.Racks.{RackFits};
+ghost use Rattle.std.specs.Prelude.{◌≡◌, IfErr, IfOk};
 ghost use Rattle.fail_stop.specs.Events.{At};
 ghost use Rattle.word_table.specs.Tables.{IsSeatOf, mission_in, seat_place, proc_of};
-ghost use Rattle.word_deck.specs.Berths.{BerthFits};
 ghost use Rattle.word_deck.specs.Crews.{CrewFits};
 ghost use Rattle.word_deck.specs.Landing.{IsLanded, Lands};
 
 use crate::crews::Crew;
 use crate::turns::Turn;
 use app_model::Rack;
-use app_model::racks::rack_fits;
+use app_model::racks::empty_rack;
 use coverage_check::Mission;
-use fail_stop::Live;
-use scram_types::ProcId;
+use std::alloc::Global;
 use std::snapshot::Snapshot;
-use std::sync::atomic::{AtomicBool, Ordering};
 use std::sync::{Mutex, Wait};
 use std::thread::{Promise, PromisedHandle, Scope, Threads};
 use word_table::{Seat, WordTable};
 
-/// A processor before its flight: its seat, its unit and the rack for its restart.
-#[derive(Drop)]
-pub(crate) struct Berth {
-    pub(crate) seat: Seat,
-    pub(crate) kit: Kit,
-}
-
-/// What a processor brings beside its seat: its unit and the rack for its restart.
+/// The boxes of a processor, and those for its restart.
 #[derive(Drop)]
 pub(crate) struct Kit {
-    pub(crate) live: Live,
+    pub(crate) rack: Rack,
     pub(crate) spare: Rack,
 }
 
-/// Where a processor's kit comes back for which no thread can be made.
+/// Where the kit of a processor lies until it flies.
 #[derive(Drop)]
 pub(crate) struct Shelf {
-    given_up: AtomicBool,
     kit: Mutex<Option<Kit>>,
+    alloc: Global,
 }
 
 impl Shelf {
-    pub(crate) fn new() -> Shelf {
+    /// A shelf with this kit, if there is one.
+    pub(crate) fn new(alloc: Global, kit: Option<Kit>) -> Shelf {
         Shelf {
-            given_up: AtomicBool::new(false),
-            kit: Mutex::new(None),
+            kit: Mutex::new(kit),
+            alloc,
         }
+    }
+
+    // Takes the kit, where it lies there still.
+    fn take<R: Wait>(&self, rt: &R) -> Option<Kit> {
+        self.kit.lock(rt).take()
+    }
+
+    // Lays a kit there.
+    fn put<R: Wait>(&self, rt: &R, kit: Option<Kit>) {
+        *self.kit.lock(rt) = kit;
     }
 }
 
@@ -84,7 +84,7 @@ pub(crate) fn fly_crew<R: Wait>(
     mut crew: Crew,
 ) -> Seat
     requires mission { mission_in words.now ≡ mission.now }
-    requires fits { CrewFits (λ b. kind_of (b.vtable, b.value)) (λ r. r.boxes.items) words.now crew }
+    requires fits { CrewFits words.now crew }
     ensures { IsLanded words.now (proc_of crew.seat) result }
 {
     for _ in rt.forever() {
@@ -106,87 +106,86 @@ pub(crate) fn fly_crew<R: Wait>(
 }
 
 /// Starts a thread for a processor. Where none can be made the landing says what has come of it: it has not flown, and
-/// its kit is on the shelf.
+/// its kit lies on the shelf.
 pub(crate) fn start<'s, E, R: Wait + Threads + Sync>(
     scope: &Scope<'s, E>,
     rt: &'s R,
     mission: &'s Mission,
     words: &'s WordTable,
     shelf: &'s Shelf,
-    berth: Berth,
+    seat: Seat,
 ) -> Result<PromisedHandle<Landing, Lander>, Landing>
     requires mission { mission_in words.now ≡ mission.now }
-    requires fits { BerthFits (λ b. kind_of (b.vtable, b.value)) (λ r. r.boxes.items) words.now berth }
-    ensures thread { IfOk result (λ handle. (handle.promise.0.value ≡ words.now) × (handle.promise.1.value ≡ berth.seat)) }
-    ensures back { IfErr result (λ landing. Lands words.now berth.seat landing) }
+    requires seat { IsSeatOf words.now seat }
+    requires opening { seat_place seat ≡ At 0 0 }
+    ensures thread { IfOk result (λ handle. (handle.promise.0.value ≡ words.now) × (handle.promise.1.value ≡ seat)) }
+    ensures back { IfErr result (λ landing. Lands words.now seat landing) }
 {
-    let promise = Lander(Snapshot::of(words), Snapshot::of(&berth.seat));
+    let promise = Lander(Snapshot::of(words), Snapshot::of(&seat));
     let spawned = scope.spawn_with(
         promise,
         move || -> Landing
             requires mission { mission_in words.now ≡ mission.now }
-            requires fits { BerthFits (λ b. kind_of (b.vtable, b.value)) (λ r. r.boxes.items) words.now berth }
-            ensures { Lands words.entry.now berth.seat result }
-        { fly_berth(rt, mission, words, shelf, berth) },
+            requires seat { IsSeatOf words.now seat }
+            requires opening { seat_place seat ≡ At 0 0 }
+            ensures { Lands words.entry.now seat result }
+        { fly_seat(rt, mission, words, shelf, seat) },
     );
     match spawned {
         Ok(handle) => Ok(handle),
         Err(refused) => {
-            shelf.given_up.store(true, Ordering::SeqCst);
-            Err((refused.value)())
+            // The call gives back the seat and flies nothing, since it finds no kit.
+            let kit = shelf.take(rt);
+            let landing = (refused.value)();
+            shelf.put(rt, kit);
+            Err(landing)
         }
     }
 }
 
-// Flies a processor, or puts its kit on the shelf where its thread is given up.
-fn fly_berth<R: Wait>(
+// Flies a processor with the kit from its shelf; one whose kit has been taken from there is not flown.
+#[tactic(auto, using(crate::proofs::Units::few))]
+fn fly_seat<R: Wait>(
     rt: &R,
     mission: &Mission,
     words: &WordTable,
     shelf: &Shelf,
-    berth: Berth,
+    seat: Seat,
 ) -> Landing
     requires mission { mission_in words.now ≡ mission.now }
-    requires fits { BerthFits (λ b. kind_of (b.vtable, b.value)) (λ r. r.boxes.items) words.now berth }
-    ensures { Lands words.now berth.seat result }
-{
-    let Berth { seat, kit } = berth;
-    if shelf.given_up.load(Ordering::SeqCst) {
-        *shelf.kit.lock(rt) = Some(kit);
-        return Landing { seat, flown: false };
-    }
-    let Kit { live, spare } = kit;
-    let crew = Crew::processor(seat, live, spare);
-    Landing {
-        seat: fly_crew(rt, mission, words, crew),
-        flown: true,
-    }
-}
-
-/// The processor that has this seat, with the kit that it has put on the shelf. It waits for a kit that fits.
-pub(crate) fn take_back<R: Wait>(rt: &R, words: &WordTable, shelf: &Shelf, seat: Seat) -> Crew
     requires seat { IsSeatOf words.now seat }
     requires opening { seat_place seat ≡ At 0 0 }
-    ensures fits { CrewFits (λ b. kind_of (b.vtable, b.value)) (λ r. r.boxes.items) words.now result }
-    ensures proc { proc_of result.seat ≡ proc_of seat }
+    ensures { Lands words.now seat result }
 {
-    for _ in rt.forever() {
-        if let Some(kit) = shelf.kit.lock(rt).take() {
-            if kit_fits(&kit, seat.proc()) {
-                let Kit { live, spare } = kit;
-                return Crew::processor(seat, live, spare);
+    match shelf.take(rt) {
+        Some(kit) => {
+            let Kit { rack, spare } = kit;
+            let crew = Crew::processor(seat, rack, spare);
+            Landing {
+                seat: fly_crew(rt, mission, words, crew),
+                flown: true,
             }
         }
+        None => Landing { seat, flown: false },
     }
-    unreachable!()
 }
 
-fn kit_fits(kit: &Kit, proc: ProcId) -> bool
-    ensures proc { IsTrue result → kit.now.live.proc.0 ≡ proc.0 }
-    ensures live { IsTrue result → RackFits (λ b. kind_of (b.vtable, b.value)) kit.now.live.rack.boxes.items }
-    ensures spare { IsTrue result → RackFits (λ b. kind_of (b.vtable, b.value)) kit.now.spare.boxes.items }
+/// The processor that has this seat, with the kit from its shelf. No proof says that it lies there: where it does not, the
+/// processor flies with racks without boxes.
+#[tactic(auto, using(crate::proofs::Units::few))]
+pub(crate) fn crew_from<R: Wait>(rt: &R, words: &WordTable, shelf: &Shelf, seat: Seat) -> Crew
+    requires seat { IsSeatOf words.now seat }
+    requires opening { seat_place seat ≡ At 0 0 }
+    ensures fits { CrewFits words.now result }
+    ensures proc { proc_of result.seat ≡ proc_of seat }
 {
-    kit.live.proc.0 == proc.0 && rack_fits(&kit.live.rack) && rack_fits(&kit.spare)
+    match shelf.take(rt) {
+        Some(kit) => {
+            let Kit { rack, spare } = kit;
+            Crew::processor(seat, rack, spare)
+        }
+        None => Crew::processor(seat, empty_rack(shelf.alloc), empty_rack(shelf.alloc)),
+    }
 }
 
 /// The seat of a processor that has landed; one that has not flown is flown by the caller, with the kit from the shelf.
@@ -207,6 +206,6 @@ pub(crate) fn land<R: Wait>(
     if landing.flown {
         return landing.seat;
     }
-    let crew = take_back(rt, words, shelf, landing.seat);
+    let crew = crew_from(rt, words, shelf, landing.seat);
     fly_crew(rt, mission, words, crew)
 }

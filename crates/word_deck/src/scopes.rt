@@ -4,12 +4,11 @@ ghost use Rattle.std.specs.Prelude.{ℕ, List, ◌≡◌, ◌≤◌, ◌<◌, �
 ghost use Rattle.fail_stop.specs.Events.{At};
 ghost use Rattle.word_table.specs.Tables.{IsSeatOf, mission_in, proc_of, seat_place};
 ghost use Rattle.word_deck.specs.Landing.{IsLanded};
-ghost use Rattle.word_deck.specs.Berths.{BerthFits};
-ghost use Rattle.word_deck.specs.Flights.{AllCrewsFit, AreBerths, AreLanded, IsBoarded, IsBoardedLast, numbers_boarded, numbers_in};
+ghost use Rattle.word_deck.specs.Flights.{AllCrewsFit, AreLanded, AreOpen, IsBoarded, IsBoardedLast, numbers_boarded, numbers_in};
 
 use crate::conductors::Conductor;
 use crate::crews::Crew;
-use crate::landings::{Berth, Deck, Kit, Lander, Landing, Shelf, fly_crew, land, start, take_back};
+use crate::landings::{Deck, Lander, Landing, Shelf, crew_from, fly_crew, land, start};
 use crate::turns::Turn;
 use coverage_check::Mission;
 use std::snapshot::Snapshot;
@@ -18,13 +17,13 @@ use std::thread;
 use std::thread::{PromisedHandle, Scope, Threads};
 use word_table::{Seat, WordTable};
 
-/// The processors of a flight: those that have not started, those that fly in the caller's turns, and the seats of those
-/// that have landed.
+/// The processors of a flight: the seats of those that have not started, those that fly in the caller's turns, and the
+/// seats of those that have landed.
 #[derive(Drop)]
 pub(crate) struct Hangar {
-    pub(crate) berths: Vec<Berth>,
+    pub(crate) waiting: Vec<Seat>,
     pub(crate) own: Vec<Crew>,
-    pub(crate) seats: Vec<Seat>,
+    pub(crate) landed: Vec<Seat>,
 }
 
 /// A thread that flies a processor.
@@ -52,16 +51,16 @@ pub(crate) fn fly<K: Conductor, R: Threads + Wait + Sync>(
     requires mission { mission_in deck.now.words ≡ mission.now }
     requires kernel { K.mission_of kernel ≡ mission.now }
     requires seated { K.seated deck.now.words kernel }
-    requires berths { AreBerths (λ b. kind_of (b.vtable, b.value)) (λ r. r.boxes.items) deck.now.words hangar.berths.items }
+    requires waiting { AreOpen deck.now.words hangar.waiting.items }
     requires own { vec_len hangar.own ≡ 0 }
-    requires seats { vec_len hangar.seats ≡ 0 }
-    requires own_room { vec_len hangar.berths ≤ vec_capacity hangar.own }
-    requires room { vec_len hangar.berths ≤ vec_capacity hangar.seats }
+    requires landed { vec_len hangar.landed ≡ 0 }
+    requires own_room { vec_len hangar.waiting ≤ vec_capacity hangar.own }
+    requires room { vec_len hangar.waiting ≤ vec_capacity hangar.landed }
     ensures mission { K.mission_of result.0 ≡ mission.now }
     ensures seated { K.seated deck.now.words result.0 }
     ensures done { K.done deck.now.words result.0 }
     ensures seats { AreLanded deck.now.words result.1.items }
-    ensures count { vec_len result.1 ≡ vec_len hangar.berths }
+    ensures count { vec_len result.1 ≡ vec_len hangar.waiting }
 {
     thread::scope(
         thread::scope_env(),
@@ -70,25 +69,25 @@ pub(crate) fn fly<K: Conductor, R: Threads + Wait + Sync>(
             requires mission { mission_in deck.now.words ≡ mission.now }
             requires kernel { K.mission_of kernel ≡ mission.now }
             requires seated { K.seated deck.now.words kernel }
-            requires berths { AreBerths (λ b. kind_of (b.vtable, b.value)) (λ r. r.boxes.items) deck.now.words hangar.berths.items }
+            requires waiting { AreOpen deck.now.words hangar.waiting.items }
             requires own { vec_len hangar.own ≡ 0 }
-            requires seats { vec_len hangar.seats ≡ 0 }
-            requires own_room { vec_len hangar.berths ≤ vec_capacity hangar.own }
-            requires room { vec_len hangar.berths ≤ vec_capacity hangar.seats }
+            requires landed { vec_len hangar.landed ≡ 0 }
+            requires own_room { vec_len hangar.waiting ≤ vec_capacity hangar.own }
+            requires room { vec_len hangar.waiting ≤ vec_capacity hangar.landed }
             ensures mission { K.mission_of result.0 ≡ mission.entry.now }
             ensures seated { K.seated deck.entry.now.words result.0 }
             ensures done { K.done deck.entry.now.words result.0 }
             ensures seats { AreLanded deck.entry.now.words result.1.items }
-            ensures count { vec_len result.1 ≡ vec_len hangar.berths }
+            ensures count { vec_len result.1 ≡ vec_len hangar.waiting }
         {
             let mut hangar = hangar;
             let kernel = fly_rest(scope, rt, mission, deck, kernel, &mut hangar);
             let Hangar {
-                berths: _,
+                waiting: _,
                 own: _,
-                seats,
+                landed,
             } = hangar;
-            (kernel, seats)
+            (kernel, landed)
         },
     )
 }
@@ -105,27 +104,27 @@ fn fly_rest<'s, E, K: Conductor, R: Threads + Wait + Sync>(
     requires mission { mission_in deck.now.words ≡ mission.now }
     requires kernel { K.mission_of kernel ≡ mission.now }
     requires seated { K.seated deck.now.words kernel }
-    requires berths { AreBerths (λ b. kind_of (b.vtable, b.value)) (λ r. r.boxes.items) deck.now.words hangar.old.berths.items }
-    requires own { AllCrewsFit (λ b. kind_of (b.vtable, b.value)) (λ r. r.boxes.items) deck.now.words hangar.old.own.items }
-    requires seats { vec_len hangar.old.seats ≡ 0 }
-    requires own_room { vec_len hangar.old.own + vec_len hangar.old.berths ≤ vec_capacity hangar.old.own }
-    requires room { vec_len hangar.old.berths ≤ vec_capacity hangar.old.seats }
+    requires waiting { AreOpen deck.now.words hangar.old.waiting.items }
+    requires own { AllCrewsFit deck.now.words hangar.old.own.items }
+    requires landed { vec_len hangar.old.landed ≡ 0 }
+    requires own_room { vec_len hangar.old.own + vec_len hangar.old.waiting ≤ vec_capacity hangar.old.own }
+    requires room { vec_len hangar.old.waiting ≤ vec_capacity hangar.old.landed }
     ensures mission { K.mission_of result ≡ mission.now }
     ensures seated { K.seated deck.now.words result }
     ensures done { K.done deck.now.words result }
-    ensures own { AllCrewsFit (λ b. kind_of (b.vtable, b.value)) (λ r. r.boxes.items) deck.now.words hangar.new.own.items }
+    ensures own { AllCrewsFit deck.now.words hangar.new.own.items }
     ensures numbers { numbers_in hangar.new.own.items ≡ numbers_in hangar.old.own.items }
-    ensures seats { AreLanded deck.now.words hangar.new.seats.items }
-    ensures count { vec_len hangar.new.seats ≡ vec_len hangar.old.berths }
-    ensures capacity { vec_capacity hangar.new.seats ≡ vec_capacity hangar.old.seats }
+    ensures seats { AreLanded deck.now.words hangar.new.landed.items }
+    ensures count { vec_len hangar.new.landed ≡ vec_len hangar.old.waiting }
+    ensures capacity { vec_capacity hangar.new.landed ≡ vec_capacity hangar.old.landed }
 {
-    let berth = match hangar.berths.pop() {
-        Some(berth) => berth,
+    let seat = match hangar.waiting.pop() {
+        Some(seat) => seat,
         None => return fly_kernel(rt, mission, &deck.words, kernel, &mut hangar.own),
     };
-    let p = hangar.berths.len() % 8;
-    let was = Snapshot::of(&berth.seat);
-    let boarding = board(scope, rt, mission, deck, p, &mut hangar.own, berth);
+    let p = hangar.waiting.len() % 8;
+    let was = Snapshot::of(&seat);
+    let boarding = board(scope, rt, mission, deck, p, &mut hangar.own, seat);
     let kernel = fly_rest(scope, rt, mission, deck, kernel, hangar);
     let seat = land_boarded(
         rt,
@@ -136,7 +135,7 @@ fn fly_rest<'s, E, K: Conductor, R: Threads + Wait + Sync>(
         was,
         &mut hangar.own,
     );
-    hangar.seats.push_reserved(seat);
+    hangar.landed.push_reserved(seat);
     kernel
 }
 
@@ -154,10 +153,10 @@ fn land_boarded<R: Threads + Wait>(
     requires seat { IsSeatOf words.now was.value }
     requires opening { seat_place was.value ≡ At 0 0 }
     requires boarded { IsBoarded words.now was.value boarding }
-    requires own { AllCrewsFit (λ b. kind_of (b.vtable, b.value)) (λ r. r.boxes.items) words.now own.old.items }
+    requires own { AllCrewsFit words.now own.old.items }
     requires last { IsBoardedLast boarding (proc_of was.value) (numbers_in own.old.items) }
     ensures landed { IsLanded words.now (proc_of was.value) result }
-    ensures own { AllCrewsFit (λ b. kind_of (b.vtable, b.value)) (λ r. r.boxes.items) words.now own.new.items }
+    ensures own { AllCrewsFit words.now own.new.items }
     ensures numbers { (front : List ℕ) → numbers_in own.old.items ≡ numbers_boarded boarding (proc_of was.value) front → numbers_in own.new.items ≡ front }
 {
     match boarding {
@@ -185,11 +184,11 @@ fn fly_kernel<K: Conductor, R: Wait>(
     requires mission { mission_in words.now ≡ mission.now }
     requires kernel { K.mission_of kernel ≡ mission.now }
     requires seated { K.seated words.now kernel }
-    requires own { AllCrewsFit (λ b. kind_of (b.vtable, b.value)) (λ r. r.boxes.items) words.now own.old.items }
+    requires own { AllCrewsFit words.now own.old.items }
     ensures mission { K.mission_of result ≡ mission.now }
     ensures seated { K.seated words.now result }
     ensures done { K.done words.now result }
-    ensures own { AllCrewsFit (λ b. kind_of (b.vtable, b.value)) (λ r. r.boxes.items) words.now own.new.items }
+    ensures own { AllCrewsFit words.now own.new.items }
     ensures numbers { numbers_in own.new.items ≡ numbers_in own.old.items }
 {
     for _ in rt.forever() {
@@ -210,8 +209,8 @@ fn fly_kernel<K: Conductor, R: Wait>(
 // One turn for each of these processors.
 fn turn_all(mission: &Mission, words: &WordTable, own: &mut Vec<Crew>)
     requires mission { mission_in words.now ≡ mission.now }
-    requires own { AllCrewsFit (λ b. kind_of (b.vtable, b.value)) (λ r. r.boxes.items) words.now own.old.items }
-    ensures own { AllCrewsFit (λ b. kind_of (b.vtable, b.value)) (λ r. r.boxes.items) words.now own.new.items }
+    requires own { AllCrewsFit words.now own.old.items }
+    ensures own { AllCrewsFit words.now own.new.items }
     ensures numbers { numbers_in own.new.items ≡ numbers_in own.old.items }
 {
     for i in 0..own.len() {
@@ -227,32 +226,31 @@ fn board<'s, E, R: Threads + Wait + Sync>(
     deck: &'s Deck,
     p: usize,
     own: &mut Vec<Crew>,
-    berth: Berth,
+    seat: Seat,
 ) -> Boarding
     requires mission { mission_in deck.now.words ≡ mission.now }
     requires p { p < 8 }
-    requires fits { BerthFits (λ b. kind_of (b.vtable, b.value)) (λ r. r.boxes.items) deck.now.words berth }
-    requires own { AllCrewsFit (λ b. kind_of (b.vtable, b.value)) (λ r. r.boxes.items) deck.now.words own.old.items }
+    requires seat { IsSeatOf deck.now.words seat }
+    requires opening { seat_place seat ≡ At 0 0 }
+    requires own { AllCrewsFit deck.now.words own.old.items }
     requires room { vec_len own.old < vec_capacity own.old }
-    ensures boarded { IsBoarded deck.now.words berth.seat result }
-    ensures own { AllCrewsFit (λ b. kind_of (b.vtable, b.value)) (λ r. r.boxes.items) deck.now.words own.new.items }
-    ensures numbers { numbers_in own.new.items ≡ numbers_boarded result (proc_of berth.seat) (numbers_in own.old.items) }
+    ensures boarded { IsBoarded deck.now.words seat result }
+    ensures own { AllCrewsFit deck.now.words own.new.items }
+    ensures numbers { numbers_in own.new.items ≡ numbers_boarded result (proc_of seat) (numbers_in own.old.items) }
     ensures capacity { vec_capacity own.new ≡ vec_capacity own.old }
     ensures len { vec_len own.new ≤ vec_len own.old + 1 }
 {
     if !deck.asked[p] {
-        let Berth { seat, kit } = berth;
-        let Kit { live, spare } = kit;
-        own.push_reserved(Crew::processor(seat, live, spare));
+        own.push_reserved(crew_from(rt, &deck.words, &deck.shelves[p], seat));
         return Boarding::Own;
     }
-    match start(scope, rt, mission, &deck.words, &deck.shelves[p], berth) {
+    match start(scope, rt, mission, &deck.words, &deck.shelves[p], seat) {
         Ok(handle) => Boarding::Threaded(Flying { handle }),
         Err(landing) => {
             if landing.flown {
                 return Boarding::Landed(landing.seat);
             }
-            own.push_reserved(take_back(rt, &deck.words, &deck.shelves[p], landing.seat));
+            own.push_reserved(crew_from(rt, &deck.words, &deck.shelves[p], landing.seat));
             Boarding::Own
         }
     }

@@ -1,4 +1,4 @@
-//! The two processors of `uav` with their boxes.
+//! The two processors of `uav` with their racks.
 
 ghost use Rattle.std.specs.Prelude.{◌≡◌, IfOk, IfSome, Some};
 ghost use Rattle.fail_stop.specs.Events.{At};
@@ -6,8 +6,7 @@ ghost use Rattle.word_table.specs.Tables.{AreOpening, AreSeatsOf, IsSeatOf, seat
 ghost use Rattle.word_deck.specs.Crews.{CrewFits};
 ghost use Rattle.word_rows.specs.Pairs.{PairFits};
 
-use app_model::{Rack, rack_fits};
-use fail_stop::Live;
+use app_model::Rack;
 use std::io::{self, ErrorKind};
 use word_deck::Crew;
 use word_table::{Seat, WordTable};
@@ -28,7 +27,7 @@ pub fn pair_of(
 ) -> io::Result<Pair>
     requires seats { AreSeatsOf words.now seats.items }
     requires opening { AreOpening seats.items }
-    ensures { IfOk result (λ pair. PairFits (λ b. kind_of (b.vtable, b.value)) (λ r. r.boxes.items) words.now pair) }
+    ensures { IfOk result (λ pair. PairFits words.now pair) }
 {
     if seats.len() != 2 {
         return Err(ErrorKind::InvalidInput.into());
@@ -48,13 +47,10 @@ fn crew_of(
     requires seat { IfSome seat (IsSeatOf words.now) }
     requires opening { IfSome seat (λ seat. seat_place seat ≡ At 0 0) }
     ensures seat { IfOk result (λ crew. Some crew.seat ≡ seat) }
-    ensures fits { IfOk result (λ crew. CrewFits (λ b. kind_of (b.vtable, b.value)) (λ r. r.boxes.items) words.now crew) }
+    ensures fits { IfOk result (λ crew. CrewFits words.now crew) }
 {
-    if let (Some(seat), Some(rack), Some(spare)) = (seat, rack, spare) {
-        if rack_fits(&rack) && rack_fits(&spare) {
-            let live = Live::new(seat.proc(), rack);
-            return Ok(Crew::processor(seat, live, spare));
-        }
+    match (seat, rack, spare) {
+        (Some(seat), Some(rack), Some(spare)) => Ok(Crew::processor(seat, rack, spare)),
+        _ => Err(ErrorKind::InvalidInput.into()),
     }
-    Err(ErrorKind::InvalidInput.into())
 }

@@ -7,9 +7,8 @@ ghost use Rattle.word_rows.specs.Pairs.{PairFits};
 use crate::crews::{Pair, pair_of};
 use crate::looks::look;
 use crate::rounds::{fly_rounds, print_turns, repeat_turns};
-use app_model::racks_fit;
+use app_model::racks::empty_racks;
 use coverage_check::Mission;
-use racks::racks;
 use row_lines::{fill, line_after, mission_of_texts, number_after};
 use scram_kernel::Kernel;
 use scram_types::Row;
@@ -38,8 +37,8 @@ fn mission_of(rt: &HostRuntime, text: &str, row: &str, step: u32) -> io::Result<
 
 // The words, the kernel's seat and the pair of processors.
 fn open(rt: &HostRuntime, mission: &Mission, row: &str) -> io::Result<()> {
-    let racks = racks!(rt);
-    let spares = racks!(rt);
+    let racks = empty_racks(rt.alloc())?;
+    let spares = empty_racks(rt.alloc())?;
     match Words::open(rt.alloc(), mission) {
         Ok((words, kseat, seats)) => {
             let pair = pair_of(&words.table, seats, racks, spares)?;
@@ -61,7 +60,7 @@ fn fly(
     requires kernel { IsKernelSeatOf words.table kseat }
     requires frame { kernel_frame kseat ≡ 0 }
     requires steps { kernel_steps kseat ≡ 0 }
-    requires fits { PairFits (λ b. kind_of (b.vtable, b.value)) (λ r. r.boxes.items) words.table pair }
+    requires fits { PairFits words.table pair }
 {
     mission.holds();
     match Kernel::new(rt.alloc(), mission.spec(), mission.script()) {
@@ -86,10 +85,10 @@ fn fly_pair(
     requires mission { mission_in words.now ≡ mission.now }
     requires same { kernel.old.mission.now ≡ mission.now }
     requires kernel { IsKernelSeatOf words.now kernel.old.kseat }
-    requires fits { PairFits (λ b. kind_of (b.vtable, b.value)) (λ r. r.boxes.items) words.now pair.old }
+    requires fits { PairFits words.now pair.old }
     ensures same { kernel.new.mission.now ≡ mission.now }
     ensures kernel { IsKernelSeatOf words.now kernel.new.kseat }
-    ensures fits { PairFits (λ b. kind_of (b.vtable, b.value)) (λ r. r.boxes.items) words.now pair.new }
+    ensures fits { PairFits words.now pair.new }
 {
     repeat_asked(mission, words, pair, kernel, row)?;
     print_asked(rt, mission, words, pair, kernel, row)?;
@@ -107,10 +106,10 @@ fn repeat_asked(
     requires mission { mission_in words.now ≡ mission.now }
     requires same { kernel.old.mission.now ≡ mission.now }
     requires kernel { IsKernelSeatOf words.now kernel.old.kseat }
-    requires fits { PairFits (λ b. kind_of (b.vtable, b.value)) (λ r. r.boxes.items) words.now pair.old }
+    requires fits { PairFits words.now pair.old }
     ensures same { kernel.new.mission.now ≡ mission.now }
     ensures kernel { IsKernelSeatOf words.now kernel.new.kseat }
-    ensures fits { PairFits (λ b. kind_of (b.vtable, b.value)) (λ r. r.boxes.items) words.now pair.new }
+    ensures fits { PairFits words.now pair.new }
 {
     match line_after(row, "rounds ") {
         Some(line) => repeat_turns(mission, words, pair, kernel, line),
@@ -130,10 +129,10 @@ fn print_asked(
     requires mission { mission_in words.now ≡ mission.now }
     requires same { kernel.old.mission.now ≡ mission.now }
     requires kernel { IsKernelSeatOf words.now kernel.old.kseat }
-    requires fits { PairFits (λ b. kind_of (b.vtable, b.value)) (λ r. r.boxes.items) words.now pair.old }
+    requires fits { PairFits words.now pair.old }
     ensures same { kernel.new.mission.now ≡ mission.now }
     ensures kernel { IsKernelSeatOf words.now kernel.new.kseat }
-    ensures fits { PairFits (λ b. kind_of (b.vtable, b.value)) (λ r. r.boxes.items) words.now pair.new }
+    ensures fits { PairFits words.now pair.new }
 {
     match line_after(row, "turns ") {
         Some(names) => print_turns(rt, mission, words, pair, kernel, names),
@@ -153,10 +152,10 @@ fn fly_asked(
     requires mission { mission_in words.now ≡ mission.now }
     requires same { kernel.old.mission.now ≡ mission.now }
     requires kernel { IsKernelSeatOf words.now kernel.old.kseat }
-    requires fits { PairFits (λ b. kind_of (b.vtable, b.value)) (λ r. r.boxes.items) words.now pair.old }
+    requires fits { PairFits words.now pair.old }
     ensures same { kernel.new.mission.now ≡ mission.now }
     ensures kernel { IsKernelSeatOf words.now kernel.new.kseat }
-    ensures fits { PairFits (λ b. kind_of (b.vtable, b.value)) (λ r. r.boxes.items) words.now pair.new }
+    ensures fits { PairFits words.now pair.new }
 {
     match line_after(row, "order ") {
         Some(names) => {
@@ -170,10 +169,7 @@ fn fly_asked(
 
 // Compares rows with those of one thread.
 fn print_compared(rt: &HostRuntime, mission: &Mission, rows: &[Row]) -> io::Result<()> {
-    let racks = racks!(rt);
-    if !racks_fit(&racks) {
-        return Err(ErrorKind::InvalidInput.into());
-    }
+    let racks = empty_racks(rt.alloc())?;
     match one_thread(rt.alloc(), mission, racks) {
         Ok(flown) => {
             if flown.rows.items() == rows {
@@ -195,7 +191,7 @@ fn close(
     row: &str,
 ) -> io::Result<()>
     requires kernel { IsKernelSeatOf words.table kernel.kseat }
-    requires fits { PairFits (λ b. kind_of (b.vtable, b.value)) (λ r. r.boxes.items) words.table pair }
+    requires fits { PairFits words.table pair }
 {
     let Pair { first, second } = pair;
     let mut two = second.seat;

@@ -27,10 +27,10 @@ pub fn print_turns(
     requires mission { mission_in words.now ≡ mission.now }
     requires same { kernel.old.mission.now ≡ mission.now }
     requires kernel { IsKernelSeatOf words.now kernel.old.kseat }
-    requires fits { PairFits (λ b. kind_of (b.vtable, b.value)) (λ r. r.boxes.items) words.now pair.old }
+    requires fits { PairFits words.now pair.old }
     ensures same { kernel.new.mission.now ≡ mission.now }
     ensures kernel { IsKernelSeatOf words.now kernel.new.kseat }
-    ensures fits { PairFits (λ b. kind_of (b.vtable, b.value)) (λ r. r.boxes.items) words.now pair.new }
+    ensures fits { PairFits words.now pair.new }
 {
     for name in names.split(' ') {
         let turn = make_turn(mission, words, pair, kernel, name)?;
@@ -50,10 +50,10 @@ pub fn repeat_turns(
     requires mission { mission_in words.now ≡ mission.now }
     requires same { kernel.old.mission.now ≡ mission.now }
     requires kernel { IsKernelSeatOf words.now kernel.old.kseat }
-    requires fits { PairFits (λ b. kind_of (b.vtable, b.value)) (λ r. r.boxes.items) words.now pair.old }
+    requires fits { PairFits words.now pair.old }
     ensures same { kernel.new.mission.now ≡ mission.now }
     ensures kernel { IsKernelSeatOf words.now kernel.new.kseat }
-    ensures fits { PairFits (λ b. kind_of (b.vtable, b.value)) (λ r. r.boxes.items) words.now pair.new }
+    ensures fits { PairFits words.now pair.new }
 {
     let (times, names) = line.split_once(' ').unwrap_or((line, ""));
     for _time in 0..number(times)? {
@@ -74,10 +74,10 @@ pub fn fly_rounds(
     requires mission { mission_in words.now ≡ mission.now }
     requires same { kernel.old.mission.now ≡ mission.now }
     requires kernel { IsKernelSeatOf words.now kernel.old.kseat }
-    requires fits { PairFits (λ b. kind_of (b.vtable, b.value)) (λ r. r.boxes.items) words.now pair.old }
+    requires fits { PairFits words.now pair.old }
     ensures same { kernel.new.mission.now ≡ mission.now }
     ensures kernel { IsKernelSeatOf words.now kernel.new.kseat }
-    ensures fits { PairFits (λ b. kind_of (b.vtable, b.value)) (λ r. r.boxes.items) words.now pair.new }
+    ensures fits { PairFits words.now pair.new }
 {
     for round in 0..ROUNDS {
         if make_round(mission, words, pair, kernel, names)? {
@@ -98,10 +98,10 @@ fn make_round(
     requires mission { mission_in words.now ≡ mission.now }
     requires same { kernel.old.mission.now ≡ mission.now }
     requires kernel { IsKernelSeatOf words.now kernel.old.kseat }
-    requires fits { PairFits (λ b. kind_of (b.vtable, b.value)) (λ r. r.boxes.items) words.now pair.old }
+    requires fits { PairFits words.now pair.old }
     ensures same { kernel.new.mission.now ≡ mission.now }
     ensures kernel { IsKernelSeatOf words.now kernel.new.kseat }
-    ensures fits { PairFits (λ b. kind_of (b.vtable, b.value)) (λ r. r.boxes.items) words.now pair.new }
+    ensures fits { PairFits words.now pair.new }
 {
     let mut finished = true;
     for name in names.split(' ') {
@@ -123,10 +123,10 @@ fn make_turn(
     requires mission { mission_in words.now ≡ mission.now }
     requires same { kernel.old.mission.now ≡ mission.now }
     requires kernel { IsKernelSeatOf words.now kernel.old.kseat }
-    requires fits { PairFits (λ b. kind_of (b.vtable, b.value)) (λ r. r.boxes.items) words.now pair.old }
+    requires fits { PairFits words.now pair.old }
     ensures same { kernel.new.mission.now ≡ mission.now }
     ensures kernel { IsKernelSeatOf words.now kernel.new.kseat }
-    ensures fits { PairFits (λ b. kind_of (b.vtable, b.value)) (λ r. r.boxes.items) words.now pair.new }
+    ensures fits { PairFits words.now pair.new }
 {
     match name {
         "p0" => Ok(pair.first.turn(mission, words)),

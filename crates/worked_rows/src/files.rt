@@ -1,9 +1,10 @@
 //! The files of a row. The first is a file of the data folder, changed as each line `~ PIECE => OTHER PIECE` says. The
 //! second has the lines that stand after `= `, and is not there where no line begins with `=`; the third likewise after
 //! `- `. Of lines `! read N`, `! put N` and `! room N` the first two name a call that fails, from 0, and the last the
-//! bytes that the sink has room for. Lines `! first N` and `! second N` let a file have so many bytes, with spaces at its
-//! end, `! plain N` gives processor N the autopilot that remembers nothing, and `! counted` gives each processor boxes that
-//! count their calls, of which those of the first two processors wait for one another; then the counts are printed.
+//! bytes that the sink has room for; where a put is named, the count of the lines that went out is printed. Lines
+//! `! first N` and `! second N` let a file have so many bytes, with spaces at its end, `! plain N` gives processor N the
+//! autopilot that remembers nothing, and `! counted` gives each processor boxes that count their calls, of which those of
+//! the first two processors wait for one another; then the counts are printed.
 
 use scram_io::MemFiles;
 use std::alloc::Global;
@@ -46,6 +47,11 @@ pub fn make_files(rt: &HostRuntime, words: &[String], row: &str) -> io::Result<M
 /// Whether a row wants boxes that count their calls.
 pub fn is_counted(row: &str) -> bool {
     row.split('\n').any(|line| line == "! counted")
+}
+
+/// Whether a row names a put that fails.
+pub fn is_put_failing(row: &str) -> bool {
+    row.split('\n').any(|line| line.starts_with("! put "))
 }
 
 /// The numbers that stand in a row's lines after these words.

@@ -9,7 +9,7 @@ mod answers;
 mod files;
 
 use crate::answers::{answer, answer_counted, make_sink, plain_processor, print_answer};
-use crate::files::{is_counted, list_words, make_files};
+use crate::files::{is_counted, is_put_failing, list_words, make_files};
 use counted_boxes::Counters;
 use scram_io::{MemFiles, MemSink};
 use std::alloc::AllocGlobal;
@@ -51,22 +51,24 @@ fn answer_words<R: AllocGlobal + Threads + Wait + Sync>(
     if is_counted(row) {
         print_counted(rt, threads, words, files, sink, frames)
     } else {
-        print_plain(rt, threads, words, files, sink, plain, frames)
+        let (status, sink) = answer(rt, threads, words, files, sink, plain)?;
+        print_plain(rt, status, &sink, row, frames)
     }
 }
 
-/// Prints what the command answers.
-fn print_plain<R: AllocGlobal + Threads + Wait + Sync>(
+/// Prints what the command answers, and where a put is to fail, how many lines went out.
+fn print_plain(
     rt: &HostRuntime,
-    threads: &R,
-    words: &[String],
-    files: MemFiles,
-    sink: MemSink,
-    plain: Option<u32>,
+    status: u8,
+    sink: &MemSink,
+    row: &str,
     frames: &str,
 ) -> io::Result<()> {
-    let (status, sink) = answer(rt, threads, words, files, sink, plain)?;
     print_answer(rt, sink.bytes(), frames)?;
+    if is_put_failing(row) {
+        let lines = sink.bytes().iter().filter(|byte| **byte == b'\n').count();
+        println!(rt; "lines {lines}")?;
+    }
     println!(rt; "status {status}\n")
 }
 

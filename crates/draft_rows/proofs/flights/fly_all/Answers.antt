@@ -10,7 +10,4 @@ loop-frame-preserved g c =
       at = omega (arith, next, at);
       one_there = rw c.draft-first.ensures.proc c.loop-frame.invariant.one_there;
       two_there = rw c.draft-second.ensures.proc c.loop-frame.invariant.two_there;
-      one = c.draft-first.ensures.fits;
-      two = c.draft-second.ensures.fits;
-      racks = c.frame-row.ensures.fits;
     }

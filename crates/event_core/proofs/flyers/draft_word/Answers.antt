@@ -10,7 +10,7 @@ returns-clause-fits g c =
     let low : c.from.result < 8 = omega (arith, place, few) in
     let long = c.requires.fits.0 in
     let inside : c.from.result < length c.args.flyers.now = omega (arith, long, low) in
-    flyers_with _ _ _ _ c.args.flyers.now c.from.result c.word.new.self low
+    flyers_with _ _ c.args.flyers.now c.from.result c.word.new.self low
     (ap (λ (p : ProcId). p.0) c.word.ensures.proc ∙ c.requires.fits.1 c.from.result c.index-flyers-from.result inside)
     c.word.ensures.fits
     c.requires.fits

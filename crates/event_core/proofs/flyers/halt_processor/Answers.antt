@@ -11,7 +11,7 @@ returns g c =
     let long = c.requires.fits.0 in
     let inside : c.from.result < length c.args.flyers.now = omega (arith, long, low) in
     record {
-      fits = flyers_with _ _ _ _ c.args.flyers.now c.from.result c.halt.new.self low
+      fits = flyers_with _ _ c.args.flyers.now c.from.result c.halt.new.self low
           (ap (λ (p : ProcId). p.0) c.halt.ensures.proc ∙ c.requires.fits.1 c.from.result c.index-flyers-from.result inside)
           (c.halt.ensures.fits c.args.core.now.spec c.args.core.now.script (c.requires.fits.2 c.from.result c.index-flyers-from.result inside))
           c.requires.fits;

@@ -11,12 +11,10 @@ loop-p-preserved g c =
     let number : c.new.result.live.proc.0 ≡ length at.flyers.items = ap (λ (p : ProcId). p.0) c.new.ensures.proc ∙ sym at.invariant.made in
     record {
       racks_left = omega (arith, at.invariant.racks_left, c.next_rack-rack.ensures.fewer);
-      racks = c.next_rack-rack.ensures.rest;
       spares_left = omega (arith, at.invariant.spares_left, c.next_rack-spare.ensures.fewer);
-      spares = c.next_rack-spare.ensures.rest;
       racks_taken = rw pushed (taken_more (λ flyer. flyer.live.rack) at.flyers.items c.new.result _ _ c.new.ensures.rack c.next_rack-rack.ensures.first ∙ at.invariant.racks_taken);
       spares_taken = rw pushed (taken_more (λ flyer. flyer.spare) at.flyers.items c.new.result _ _ c.new.ensures.spare (ap (map Some) c.next_rack-spare.ensures.first) ∙ at.invariant.spares_taken);
       made = search rules;
       numbered = rw pushed (numbered_push (λ flyer. flyer.live.proc.0) at.flyers.items c.new.result number at.invariant.numbered);
-      fits = λ spec script. rw pushed (all_push _ _ spec script at.flyers.items c.new.result (c.new.ensures.fits spec script) (at.invariant.fits spec script));
+      fits = λ spec script. rw pushed (all_push spec script at.flyers.items c.new.result (c.new.ensures.fits spec script) (at.invariant.fits spec script));
     }

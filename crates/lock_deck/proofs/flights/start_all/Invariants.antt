@@ -5,8 +5,8 @@ use Rattle.lock_deck.proofs.flights.start_all.Given as goal
 
 abbrev pub invariant-loop-member : goal.invariant-loop-member
 invariant-loop-member g l = record {
-  waiting : All (λ member. MemberFits (λ z. (goal.App-dyn g (z.vtable, z.value)).kind_of z.value) (λ r. r.boxes.items) l.mission member.value) l.members.items;
-  back : All (MemberFits (λ z. (goal.App-dyn g (z.vtable, z.value)).kind_of z.value) (λ r. r.boxes.items) l.mission) l.back.items;
+  waiting : All (λ member. MemberFits l.mission member.value) l.members.items;
+  back : All (MemberFits l.mission) l.back.items;
   room : vec_len l.members + vec_len l.back ≤ vec_capacity l.back;
 }
 

@@ -7,5 +7,5 @@ pub loop-preserved : goal.loop-preserved
 loop-preserved g c = (
   tt,
   tt,
-  lent (MemberFits (λ z. (goal.App-dyn g (z.vtable, z.value)).kind_of z.value) (λ r. r.boxes.items) c.args.mission.now) c.loop.members.len (length c.make_turn_of_each.new.members) c.make_turn_of_each.new.members c.loop.members.items c.make_turn_of_each.ensures.fits c.loop.invariant.2,
+  lent (MemberFits c.args.mission.now) c.loop.members.len (length c.make_turn_of_each.new.members) c.make_turn_of_each.new.members c.loop.members.items c.make_turn_of_each.ensures.fits c.loop.invariant.2,
 )

@@ -3,4 +3,4 @@ use Rattle.lock_deck.specs.Members.{MemberFits}
 use Rattle.lock_deck.proofs.turns.fly_kernel.Given as goal
 
 abbrev pub invariant-loop : goal.invariant-loop
-invariant-loop g l = (goal.iterator-loop g).can_next l.iterator' × (goal.iterator-loop g).is_finite l.iterator' × All (MemberFits (λ z. (goal.App-dyn g (z.vtable, z.value)).kind_of z.value) (λ r. r.boxes.items) l.mission) l.members.items
+invariant-loop g l = (goal.iterator-loop g).can_next l.iterator' × (goal.iterator-loop g).is_finite l.iterator' × All (MemberFits l.mission) l.members.items

@@ -2,4 +2,4 @@ use Rattle.lock_deck.specs.Members.{MemberFits}
 use Rattle.lock_deck.proofs.turns.fly_processor.Given as goal
 
 abbrev pub invariant-loop : goal.invariant-loop
-invariant-loop g l = (goal.iterator-loop g).can_next l.iterator' × (goal.iterator-loop g).is_finite l.iterator' × MemberFits (λ z. (goal.App-dyn g (z.vtable, z.value)).kind_of z.value) (λ r. r.boxes.items) l.mission l.member
+invariant-loop g l = (goal.iterator-loop g).can_next l.iterator' × (goal.iterator-loop g).is_finite l.iterator' × MemberFits l.mission l.member

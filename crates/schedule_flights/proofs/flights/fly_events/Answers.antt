@@ -23,5 +23,5 @@ loop-event-preserved g c = record {
   script = c.make.ensures.script ∙ c.loop-event.invariant.script;
   ruled = ruled_on c.loop-event.core _ _ c.loop-event.chooser _ _ c.loop-event.invariant.ruled c.make.ensures.spec c.make.ensures.script (search rules) c.choose.ensures.after (search rules) c.make.ensures.happens c.make.ensures.history;
   count = ap length c.make.ensures.history ∙ length-append c.loop-event.core.history _ ∙ ap (λ n. n + 1) c.loop-event.invariant.count;
-  fits = flyers_in _ _ _ _ _ _ _ (sym c.make.ensures.spec) (sym c.make.ensures.script) c.make.ensures.fits;
+  fits = flyers_in _ _ _ _ _ (sym c.make.ensures.spec) (sym c.make.ensures.script) c.make.ensures.fits;
 }

@@ -10,5 +10,5 @@ invariant-loop-event g l = record {
   script : l.core.script ≡ l.fn.core.script;
   ruled : IsRuledTo (flown l.core) l.fn.rule l.chooser l.core.history (standing l.core) (standing_words l.core);
   count : length l.core.history ≡ l._event;
-  fits : FlyersFit (λ z. (goal.App-dyn g (z.vtable, z.value)).kind_of z.value) (λ r. r.boxes.items) l.core.spec l.core.script l.flyers;
+  fits : FlyersFit l.core.spec l.core.script l.flyers;
 }

@@ -20,5 +20,5 @@ loop-event-preserved g c = record {
   spec = c.make.ensures.spec ∙ c.loop-event.invariant.spec;
   script = c.make.ensures.script ∙ c.loop-event.invariant.script;
   ruled = ruled_on c.loop-event.core _ _ c.loop-event.chooser _ _ c.loop-event.invariant.ruled c.make.ensures.spec c.make.ensures.script (search rules) c.choose.ensures.after (search rules) c.make.ensures.happens c.make.ensures.history;
-  fits = flyers_in _ _ _ _ _ _ _ (sym c.make.ensures.spec) (sym c.make.ensures.script) c.make.ensures.fits;
+  fits = flyers_in _ _ _ _ _ (sym c.make.ensures.spec) (sym c.make.ensures.script) c.make.ensures.fits;
 }

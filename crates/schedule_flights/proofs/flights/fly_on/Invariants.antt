@@ -10,7 +10,7 @@ invariant-loop-event g l = record {
   spec : l.core.spec ≡ l.fn.core.spec;
   script : l.core.script ≡ l.fn.core.script;
   ruled : IsRuledTo (flown l.core) l.fn.rule l.chooser l.core.history (standing l.core) (standing_words l.core);
-  fits : FlyersFit (λ z. (goal.App-dyn g (z.vtable, z.value)).kind_of z.value) (λ r. r.boxes.items) l.core.spec l.core.script l.flyers;
+  fits : FlyersFit l.core.spec l.core.script l.flyers;
 }
 
 abbrev pub decreases-loop-event : goal.decreases-loop-event

@@ -42,6 +42,6 @@ loop-code-preserved g c =
       script = c.make.ensures.script ∙ c.loop-code.invariant.script;
       history = more ∙ ap (λ (l : List ℕ). l ++ slice_index_or list index 0 ∷ []) c.loop-code.invariant.history ∙ sym one_more;
       fits =
-          subst (λ (script : ScriptParts). FlyersFit (λ z. (goal.App-dyn g (z.vtable, z.value)).kind_of z.value) (λ r. r.boxes.items) c.make.new.core.spec script c.make.new.flyers.items) (sym c.make.ensures.script)
-          (subst (λ (spec : Parts). FlyersFit (λ z. (goal.App-dyn g (z.vtable, z.value)).kind_of z.value) (λ r. r.boxes.items) spec core.script c.make.new.flyers.items) (sym c.make.ensures.spec) c.make.ensures.fits);
+          subst (λ (script : ScriptParts). FlyersFit c.make.new.core.spec script c.make.new.flyers.items) (sym c.make.ensures.script)
+          (subst (λ (spec : Parts). FlyersFit spec core.script c.make.new.flyers.items) (sym c.make.ensures.spec) c.make.ensures.fits);
     }

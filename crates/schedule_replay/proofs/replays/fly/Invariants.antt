@@ -7,5 +7,5 @@ invariant-loop-code g l = record {
   spec : l.core.spec ≡ l.fn.core.spec;
   script : l.core.script ≡ l.fn.core.script;
   history : l.core.history ≡ take l.code-index l.events;
-  fits : FlyersFit (λ z. (goal.App-dyn g (z.vtable, z.value)).kind_of z.value) (λ r. r.boxes.items) l.core.spec l.core.script l.flyers.items;
+  fits : FlyersFit l.core.spec l.core.script l.flyers.items;
 }

@@ -6,4 +6,4 @@ use Rattle.word_deck.proofs.landings.fly_crew.Given as goal
 abbrev pub invariant-loop : goal.invariant-loop
 invariant-loop g l =
     (goal.iterator-loop g).can_next l.iterator' × (goal.iterator-loop g).is_finite l.iterator'
-    × CrewFits (λ z. (goal.App-dyn g (z.vtable, z.value)).kind_of z.value) (λ r. r.boxes.items) l.words l.crew × (proc_of l.crew.seat ≡ proc_of l.fn.crew.seat)
+    × CrewFits l.words l.crew × (proc_of l.crew.seat ≡ proc_of l.fn.crew.seat)

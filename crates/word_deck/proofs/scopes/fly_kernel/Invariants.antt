@@ -6,4 +6,4 @@ abbrev pub invariant-loop : goal.invariant-loop
 invariant-loop g l =
     (goal.iterator-loop g).can_next l.iterator' × (goal.iterator-loop g).is_finite l.iterator'
     × (g.K.Conductor.mission_of l.kernel ≡ l.mission) × g.K.Conductor.seated l.words l.kernel
-    × AllCrewsFit (λ z. (goal.App-dyn g (z.vtable, z.value)).kind_of z.value) (λ r. r.boxes.items) l.words l.own.items × (numbers_in l.own.items ≡ numbers_in l.fn.own.items)
+    × AllCrewsFit l.words l.own.items × (numbers_in l.own.items ≡ numbers_in l.fn.own.items)

@@ -8,6 +8,6 @@ use Rattle.word_deck.proofs.scopes.turn_all.Goals as goal
 pub loop-i-preserved : goal.loop-i-preserved
 loop-i-preserved g c =
     let value = c.index_mut.ensures.value in (
-      All-set (λ crew. CrewFits (λ z. (goal.App-dyn g (z.vtable, z.value)).kind_of z.value) (λ r. r.boxes.items) c.args.words.now crew) c.loop-i.own.items c.loop-i.i c.turn.new.self c.turn.ensures.fits c.loop-i.invariant.0,
+      All-set (λ crew. CrewFits c.args.words.now crew) c.loop-i.own.items c.loop-i.i c.turn.new.self c.turn.ensures.fits c.loop-i.invariant.0,
       map-set_same (λ crew. proc_of crew.seat) c.loop-i.own.items c.loop-i.i c.turn.new.self c.index_mut.result.now (c.turn.ensures.proc ∙ ap (λ crew. proc_of crew.seat) value) ∙ c.loop-i.invariant.1,
     )

@@ -3,4 +3,4 @@ use Rattle.word_deck.specs.Flights.{AllCrewsFit, numbers_in}
 use Rattle.word_deck.proofs.scopes.turn_all.Given as goal
 
 abbrev pub invariant-loop-i : goal.invariant-loop-i
-invariant-loop-i g l = AllCrewsFit (λ z. (goal.App-dyn g (z.vtable, z.value)).kind_of z.value) (λ r. r.boxes.items) l.words l.own.items × (numbers_in l.own.items ≡ numbers_in l.fn.own.items)
+invariant-loop-i g l = AllCrewsFit l.words l.own.items × (numbers_in l.own.items ≡ numbers_in l.fn.own.items)

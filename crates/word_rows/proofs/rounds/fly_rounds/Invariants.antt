@@ -7,5 +7,5 @@ abbrev pub invariant-loop-round : goal.invariant-loop-round
 invariant-loop-round g l = record {
   same : l.kernel.mission.now ≡ l.mission;
   kernel : IsKernelSeatOf l.words l.kernel.kseat;
-  fits : PairFits (λ z. (goal.App-dyn g (z.vtable, z.value)).kind_of z.value) (λ r. r.boxes.items) l.words l.pair;
+  fits : PairFits l.words l.pair;
 }

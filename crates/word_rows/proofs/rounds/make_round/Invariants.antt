@@ -9,5 +9,5 @@ invariant-loop-name g l = record {
   finite : (goal.iterator-loop-name g).is_finite l.name-iterator;
   same : l.kernel.mission.now ≡ l.mission;
   kernel : IsKernelSeatOf l.words l.kernel.kseat;
-  fits : PairFits (λ z. (goal.App-dyn g (z.vtable, z.value)).kind_of z.value) (λ r. r.boxes.items) l.words l.pair;
+  fits : PairFits l.words l.pair;
 }

@@ -1,11 +1,12 @@
 use Rattle.std.proofs.Common.{rules, ◌≡◌, ◌∙◌, ap, sym, length}
 use Rattle.frame_model.specs.Flights.{reports_of, rows_of}
-use Rattle.word_deck.proofs.Outcomes.{all_hold, berths_kept, few_told, landed_seats}
+use Rattle.word_deck.proofs.Outcomes.{all_hold, few_told, landed_seats, open_flown}
 use Rattle.word_deck.proofs.flights.WordFlight.run_on.Goals as goal
 
-pub fly-kernel-requires-clause-berths : goal.fly-kernel-requires-clause-berths
-fly-kernel-requires-clause-berths g c κs within =
-    berths_kept (λ z. (goal.App-dyn g (z.vtable, z.value)).kind_of z.value) (λ r. r.boxes.items) c.args.self.words c.set_turns.new.self c.args.self.hangar.berths.items c.set_turns.ensures c.requires.fits
+pub fly-kernel-requires-clause-waiting : goal.fly-kernel-requires-clause-waiting
+fly-kernel-requires-clause-waiting g c κs within =
+    open_flown c.args.self.words c.set_turns.new.self c.args.self.hangar.waiting.items c.args.self.mission.now c.set_turns.ensures c.args.self.waiting c.args.self.all c.args.self.of
+    c.holds.ensures.spec c.holds.ensures.mission
 
 pub returns-clause-assured : goal.returns-clause-assured
 returns-clause-assured g c =

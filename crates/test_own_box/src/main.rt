@@ -1,0 +1,29 @@
+//! A builder's program. It flies a mission on words with a flight control of the builder's own in each rack, and prints
+//! the trace. The spare racks have no boxes: what flies with them computes the laws itself.
+#![tactic(auto)]
+
+mod flights;
+mod own_box;
+
+use crate::flights::fly;
+use crate::own_box::OwnFlightControl;
+use racks::{Autopilot, Datalink, Navigator, PowerMonitor, boxed, rack_of};
+use std::io;
+
+fn main(rt: HostRuntime) -> io::Result<()> {
+    let mut racks = Vec::new(rt.alloc());
+    for _ in 0..8 {
+        let (first, second, third, fourth, fifth) = boxed(
+            rt.alloc(),
+            (
+                Autopilot::new(),
+                OwnFlightControl {},
+                PowerMonitor::new(),
+                Navigator::new(),
+                Datalink::new(),
+            ),
+        )?;
+        racks.push(rack_of(rt.alloc(), first, second, third, fourth, fifth)?)?;
+    }
+    fly(&rt, &rt, racks)
+}

@@ -1,0 +1,86 @@
+//! A flight control of a builder's own.
+#![tactic(auto, unfolding(app_model::specs::FlightControl::closer, app_model::specs::FlightControl::command, app_model::specs::FlightControl::elevator_after, app_model::specs::FlightControl::aileron_after, app_model::specs::FlightControl::flight_control_ran, scram_types::specs::Ranges::clamp_in, scram_types::specs::Numbers::clamp))]
+
+ghost use Rattle.std.specs.Prelude.{◌≡◌, ◌<◌};
+ghost use Rattle.scram_types.specs.Numbers.{IsWord};
+ghost use Rattle.app_model.specs.FlightControl.{closer, command, flight_control_ran};
+
+use app_model::kinds::autopilot;
+use app_model::kinds::every_kind::STATUS;
+use app_model::kinds::flight_control::{AILERON, AUGMENTED, ELEVATOR, KIND};
+use app_model::orders::area_after;
+use app_model::reads::{next_ticks, read_lead, read_own};
+use app_model::{App, Seen};
+use scram_types::numbers::clamped;
+use scram_types::{Area, KindId, Order};
+
+/// A flight control that asks what a surface can reach in one frame, and goes to the point there that lies nearest to the
+/// command. The law of its kind says it the other way round, by the step that the surface makes.
+#[derive(Drop)]
+pub struct OwnFlightControl {}
+
+impl App for OwnFlightControl {
+    ghost kind_of = { λ _. 1 };
+
+    fn kind(&self) -> KindId {
+        KindId(KIND)
+    }
+
+    fn frame(&mut self, order: Order, seen: &Seen) -> Area {
+        match area_after(KIND, order, seen) {
+            Some(area) => area,
+            None => run(seen),
+        }
+    }
+}
+
+/// What a run leaves.
+fn run(seen: &Seen) -> Area
+    ensures { result ≡ flight_control_ran seen.now }
+{
+    let pitch = commanded(seen, autopilot::PITCH);
+    let roll = commanded(seen, autopilot::ROLL);
+    let (elevator, aileron) = if seen.mode.0 == AUGMENTED {
+        (
+            clamped(
+                reached(read_own(KIND, seen, ELEVATOR), pitch, 40),
+                -100,
+                100,
+            ),
+            clamped(reached(read_own(KIND, seen, AILERON), roll, 60), -150, 150),
+        )
+    } else {
+        (2 * pitch, 2 * roll)
+    };
+    let ticks = next_ticks(KIND, seen);
+    [1, elevator, aileron, pitch, roll, 0, ticks, 0]
+}
+
+/// What the autopilot commands: 0 where it does not run.
+fn commanded(seen: &Seen, variable: usize) -> i64
+    requires { variable < 8 }
+    ensures value { result ≡ command seen.now variable }
+    ensures word { IsWord result }
+{
+    if read_lead(autopilot::KIND, seen, STATUS) == 1 {
+        read_lead(autopilot::KIND, seen, variable)
+    } else {
+        0
+    }
+}
+
+/// Where a surface comes in one frame.
+fn reached(from: i64, wanted: i64, step: u32) -> i64
+    requires from { IsWord from }
+    requires wanted { IsWord wanted }
+    ensures { result ≡ closer from wanted step }
+{
+    let step = i64::from(step);
+    if wanted > from + step {
+        from + step
+    } else if wanted < from - step {
+        from - step
+    } else {
+        wanted
+    }
+}
