@@ -9,9 +9,9 @@ ghost use Rattle.form_base.specs.declared.status.TheConstants.{ANSWERED};
 ghost use Rattle.flight_forms.specs.Answers.{RunAnswers};
 ghost use Rattle.flight_forms.specs.Texts.{flight_text, flown_text};
 
+use crate::boxes::Boxes;
 use crate::lines::make_fly_line;
 use crate::missions::{MissionFiles, read_mission};
-use app_model::Rack;
 use coverage_check::Mission;
 use form_base::refusals::Refusal;
 use form_base::status::{ANSWERED, Status};
@@ -23,13 +23,6 @@ use std::sync::Wait;
 use std::thread::Threads;
 use trace_text::put_trace;
 use word_deck::WordFlight;
-
-/// The boxes that fly a mission: a rack for each processor, and one for its restart.
-#[derive(Drop)]
-pub struct Boxes {
-    pub racks: Vec<Rack>,
-    pub spares: Vec<Rack>,
-}
 
 /// What is told of a flight.
 #[derive(Clone, Copy, Debug, PartialEq, Eq)]
@@ -48,7 +41,7 @@ pub fn run<R: AllocGlobal + Threads + Wait + Sync, F: Files, K: Sink>(
     out: &mut K,
     boxes: Boxes,
 ) -> Status
-    ensures { Ends (RunAnswers named.specification.now named.script.now) (named.specification.now ∷ named.script.now ∷ [])
+    ensures { Ends (RunAnswers named.entry.specification.now named.entry.script.now) (named.entry.specification.now ∷ named.entry.script.now ∷ [])
         (F.state files.old) (F.state files.new) (IsTaken (K.state out.old) (K.state out.new) result.code) }
 {
     match read_mission(rt.alloc(), named, files) {

@@ -5,7 +5,8 @@ ghost use Rattle.form_base.specs.Endings.{Tells};
 ghost use Rattle.flight_forms.specs.Answers.{FlyAnswers, GenAnswers, SummaryAnswers};
 ghost use Rattle.fault_script.specs.Fits.{Fits};
 
-use crate::flights::{Boxes, FlightText, fly};
+use crate::boxes::Boxes;
+use crate::flights::{FlightText, fly};
 use crate::missions::make_mission;
 use form_base::refusals::Refusal;
 use form_base::status::{ANSWERED, Status};

@@ -2,6 +2,7 @@
 //! the files that its words name, and what is flown is assured.
 #![tactic(auto)]
 
+mod boxes;
 mod documents;
 mod flights;
 mod generated;
@@ -11,7 +12,8 @@ mod missions;
 mod replays;
 mod summaries;
 
-pub use flights::{Boxes, run};
+pub use boxes::Boxes;
+pub use flights::run;
 pub use generated::{fly_generated, print_generated};
 pub use missions::MissionFiles;
 pub use replays::{ReplayFiles, replay_form};

@@ -31,7 +31,7 @@ pub fn read_mission<F: Files>(
     named: MissionFiles<'_>,
     files: &mut F,
 ) -> Result<Mission, Refusal>
-    ensures { Reads (RunAnswers named.specification.now named.script.now) TellsTrace (named.specification.now ∷ named.script.now ∷ [])
+    ensures { Reads (RunAnswers named.entry.specification.now named.entry.script.now) TellsTrace (named.entry.specification.now ∷ named.entry.script.now ∷ [])
         (F.state files.old) (F.state files.new) result }
 {
     match load(alloc, &Specification, named.specification, files) {

@@ -9,7 +9,8 @@ ghost use Rattle.flight_forms.specs.Documents.{AnswersSchedule, AnswersScript};
 ghost use Rattle.flight_forms.specs.Replays.{HasCodes, MakesReplay, TellsReplay};
 
 use crate::documents::{ScheduleDocument, ScriptDocument};
-use crate::flights::{Boxes, FlightText, tell_flown};
+use crate::boxes::Boxes;
+use crate::flights::{FlightText, tell_flown};
 use crate::missions::make_mission;
 use coverage_check::Mission;
 use form_base::loads::load;
@@ -46,8 +47,8 @@ pub fn replay_form<F: Files, K: Sink>(
     out: &mut K,
     boxes: Boxes,
 ) -> Status
-    ensures { Ends (ReplayAnswers named.specification.now named.script.now named.schedule.now)
-        (named.specification.now ∷ named.script.now ∷ named.schedule.now ∷ [])
+    ensures { Ends (ReplayAnswers named.entry.specification.now named.entry.script.now named.entry.schedule.now)
+        (named.entry.specification.now ∷ named.entry.script.now ∷ named.entry.schedule.now ∷ [])
         (F.state files.old) (F.state files.new) (IsTaken (K.state out.old) (K.state out.new) result.code) }
 {
     match read_replay(alloc, named, files) {
@@ -68,8 +69,8 @@ fn read_replay<F: Files>(
     named: ReplayFiles<'_>,
     files: &mut F,
 ) -> Result<Replay, Refusal>
-    ensures reads { Reads (ReplayAnswers named.specification.now named.script.now named.schedule.now) TellsReplay
-        (named.specification.now ∷ named.script.now ∷ named.schedule.now ∷ []) (F.state files.old) (F.state files.new) result }
+    ensures reads { Reads (ReplayAnswers named.entry.specification.now named.entry.script.now named.entry.schedule.now) TellsReplay
+        (named.entry.specification.now ∷ named.entry.script.now ∷ named.entry.schedule.now ∷ []) (F.state files.old) (F.state files.new) result }
     ensures codes { IfOk result HasCodes }
 {
     match load(alloc, &Specification, named.specification, files) {
@@ -84,7 +85,7 @@ fn read_scheduled<F: Files>(
     named: ReplayFiles<'_>,
     files: &mut F,
 ) -> Result<Replay, Refusal>
-    ensures reads { Reads (AnswersScript spec named.script.now (ScheduleAnswers named.schedule.now spec)) TellsReplay (named.script.now ∷ named.schedule.now ∷ [])
+    ensures reads { Reads (AnswersScript spec named.entry.script.now (ScheduleAnswers named.entry.schedule.now spec)) TellsReplay (named.entry.script.now ∷ named.entry.schedule.now ∷ [])
         (F.state files.old) (F.state files.new) result }
     ensures codes { IfOk result HasCodes }
 {

@@ -1,12 +1,12 @@
 -- From the files that were loaded to what is answered of them.
 use Rattle.std.proofs.Common.{◌≡◌, ℕ, ◌≤◌, List, [], ◌∷◌, ◌++◌, refl, sym, ◌∙◌, ap, inl, inr, arith}
 use Rattle.std.specs.Prelude.{◌≢◌, Bool, Option, Some, None, IfNone, IfSome, IsSome, IsTrue, ◌⊎◌, ◌<◌, Result, Ok, Err, ⊤}
-use Rattle.scram_io.specs.Outside.{FileMap, FilesState, FoundLonger, Grew, History, Rose, StaysSteady, Unrisen, file_at, greatest_count}
+use Rattle.scram_io.specs.Outside.{FileMap, FilesState, FoundLonger, Grew, History, Rose, SinkState, StaysSteady, Unrisen, file_at, greatest_count}
 use Rattle.scram_io.proofs.Histories.{grew_more, grew_none}
 use Rattle.form_base.specs.declared.refusals.Refusal.{Refusal}
 use Rattle.form_base.specs.declared.status.TheConstants.{OUT_OF_MEMORY, UNREAD_FILE}
 use Rattle.form_base.specs.Answers.{Answer, AnswersDocument, AnswersFile, WithoutFiles}
-use Rattle.form_base.specs.Endings.{AreInTurn, AreThere, Decides, Finds, IsMemoryRefusal, Reads, Settles, StaysQuiet}
+use Rattle.form_base.specs.Endings.{AreInTurn, AreThere, Decides, Ends, Finds, IsMemoryRefusal, IsTaken, Reads, Settles, StaysQuiet, Tells}
 use Rattle.form_base.specs.Loads.{HasRead, IsOutOfMemory, IsUnloaded, Loads}
 use Rattle.form_base.specs.Refusals.{memory_line, read_line, told}
 
@@ -69,6 +69,23 @@ settled {T} A Rest files (Err refusal) below is = record {
   quiet = quiet_none [] files below;
   answer = settled_answer A (told refusal).0 (told refusal).1 files is.0;
   unread = λ same. absurd (is.1 same);
+}
+
+-- an answer that needs no file was told
+pub told_ends : (A : ℕ → List ℕ → Type 0) (files : FilesState) (old new : SinkState) (code : ℕ) → (IsTrue files.steady → files.faults < greatest_count) → Tells A old new code
+    → Ends (WithoutFiles A) [] files files (IsTaken old new code)
+told_ends A files old new code below tells = record {
+  status = tells.status;
+  text = tells.text;
+  decides = record {
+    reads = [];
+    grew = grew_none files;
+    quiet = quiet_none [] files below;
+    answer = settled_answer A tells.status tells.text files tells.answer;
+    unread = λ same. absurd (tells.read same);
+  };
+  written = tells.written;
+  shown = tells.taken;
 }
 
 -- one more file was read first

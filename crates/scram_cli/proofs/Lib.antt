@@ -1,11 +1,6 @@
-mod LineExamples
-pub mod Pluses
-mod Endings
-mod Assuring
-mod Loading
-mod TextsBelow
-mod Counted
-mod ShownModes
-mod ShownRows
-mod ShownReports
-mod FlightSizes
+pub mod Assuring
+pub mod Completeness
+pub mod LineExamples
+pub mod ShownModes
+pub mod ShownReports
+pub mod ShownRows

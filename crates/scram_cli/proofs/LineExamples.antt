@@ -15,7 +15,10 @@ use Rattle.scram_types.specs.Specification.{Parts}
 use Rattle.fault_script.specs.declared.assumption.OutsideKind.TheVariants as kind
 use Rattle.coverage_check.specs.declared.shown.Other.TheVariants as other
 use Rattle.trace_props.specs.declared.breaks.Property.TheVariants as property
-use Rattle.scram_cli.specs.Lines.{accepted_line, broken_line, fly_line, holds_line, outside_line, script_line, shown_line, specification_line, trace_line}
+use Rattle.form_base.specs.Lines.{shown_line, specification_line}
+use Rattle.spec_forms.specs.Lines.{accepted_line}
+use Rattle.flight_forms.specs.Lines.{fly_line, outside_line, script_line}
+use Rattle.trace_forms.specs.Lines.{broken_line, holds_line, trace_line}
 
 abbrev conf : List ℕ → Conf
 conf name = record { name = name; places = replicate 8 None }

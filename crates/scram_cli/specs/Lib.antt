@@ -1,10 +1,5 @@
 pub mod Answers
-pub mod Endings
 pub mod Assurance
-pub mod Bounds
 pub mod Forms
 pub mod Laws
-pub mod Lines
-pub mod Loads
 pub mod Pages
-pub mod Summaries

@@ -1,7 +1,7 @@
 //! The forms of the command.
 
 ghost use Rattle.std.specs.Prelude.{◌≡◌, map, string_bytes, option_map};
-ghost use Rattle.scram_cli.specs.Forms.{form_of, form_of_four, form_of_generated, form_of_one, form_of_two, form_of_three, mission_form, with_names};
+ghost use Rattle.scram_cli.specs.Forms.{form_of, form_of_four, form_of_number, form_of_one, form_of_three, form_of_two, mission_number, with_names};
 
 use crate::pages::Page;
 use trace_text::numbers::read_number;
@@ -12,44 +12,26 @@ const MISSIONS: u64 = 1_000_000;
 /// What the words ask for. `N` is what names a file.
 #[derive(Clone, Copy, Debug, PartialEq, Eq)]
 pub enum Form<N> {
-    /// Something is asked of the specification in a file.
-    Specified {
+    /// To fly the mission in two files.
+    Run { specification: N, script: N },
+    /// Whether a specification is accepted.
+    Check { specification: N },
+    /// Which bounds a specification has to give.
+    Bounds { specification: N },
+    /// Whether the properties of reconfigurations hold of a trace.
+    Props { specification: N, trace: N },
+    /// To fly the mission in two files by the schedule in a third.
+    Replay {
         specification: N,
-        request: Request<N>,
+        script: N,
+        schedule: N,
     },
-    /// The mission of a number, 0 to 999,999.
-    Generated {
-        number: u32,
-        purpose: Purpose,
-    },
+    /// To print the mission of a number, 0 to 999,999.
+    Gen { number: u32 },
+    /// To fly the mission of a number, 0 to 999,999, and to tell of it in one line.
+    Fly { number: u32 },
     /// What the command tells of itself.
-    Told {
-        page: Page,
-    },
-}
-
-/// What the mission of a number is for.
-#[derive(Clone, Copy, Debug, PartialEq, Eq)]
-pub enum Purpose {
-    /// To print its specification and its script.
-    Print,
-    /// To fly it, and to tell of the flight in one line.
-    Fly,
-}
-
-/// What is asked of a specification.
-#[derive(Clone, Copy, Debug, PartialEq, Eq)]
-pub enum Request<N> {
-    /// To fly the script in a file.
-    Run { script: N },
-    /// Whether it is accepted.
-    Check,
-    /// Which bounds it has to give.
-    Bounds,
-    /// To fly the script in a file by the schedule in another.
-    Replay { script: N, schedule: N },
-    /// Whether the properties of reconfigurations hold of the trace in a file.
-    Props { trace: N },
+    Told { page: Page },
 }
 
 /// The form that the words after the program's name have.
@@ -92,42 +74,37 @@ fn form_of_two<'a>(command: &str, word: &'a str) -> Option<Form<&'a str>>
     ensures { option_map (with_names (λ name. name.now)) result ≡ form_of_two command.now word.now }
 {
     if command == "check" {
-        Some(Form::Specified {
+        Some(Form::Check {
             specification: word,
-            request: Request::Check,
         })
     } else if command == "bounds" {
-        Some(Form::Specified {
+        Some(Form::Bounds {
             specification: word,
-            request: Request::Bounds,
         })
     } else {
-        form_of_generated(command, word)
+        form_of_number(command, word)
     }
 }
 
-fn form_of_generated<'a>(command: &str, word: &str) -> Option<Form<&'a str>>
-    ensures { option_map (with_names (λ name. name.now)) result ≡ form_of_generated command.now word.now }
+fn form_of_number<'a>(command: &str, word: &str) -> Option<Form<&'a str>>
+    ensures { option_map (with_names (λ name. name.now)) result ≡ form_of_number command.now word.now }
 {
     if command == "gen" {
-        mission_form(Purpose::Print, word)
+        let number = mission_number(word)?;
+        Some(Form::Gen { number })
     } else if command == "fly" {
-        mission_form(Purpose::Fly, word)
+        let number = mission_number(word)?;
+        Some(Form::Fly { number })
     } else {
         None
     }
 }
 
-fn mission_form<'a>(purpose: Purpose, word: &str) -> Option<Form<&'a str>>
-    ensures { option_map (with_names (λ name. name.now)) result ≡ mission_form purpose word.now }
+fn mission_number(word: &str) -> Option<u32>
+    ensures { result ≡ mission_number word.now }
 {
-    match read_number(word.as_bytes(), MISSIONS) {
-        Some(number) => Some(Form::Generated {
-            number: number as u32,
-            purpose,
-        }),
-        None => None,
-    }
+    let number = read_number(word.as_bytes(), MISSIONS)?;
+    Some(number as u32)
 }
 
 fn form_of_three<'a>(
@@ -138,14 +115,14 @@ fn form_of_three<'a>(
     ensures { option_map (with_names (λ name. name.now)) result ≡ form_of_three command.now specification.now further.now }
 {
     if command == "run" {
-        Some(Form::Specified {
+        Some(Form::Run {
             specification,
-            request: Request::Run { script: further },
+            script: further,
         })
     } else if command == "props" {
-        Some(Form::Specified {
+        Some(Form::Props {
             specification,
-            request: Request::Props { trace: further },
+            trace: further,
         })
     } else {
         None
@@ -161,9 +138,10 @@ fn form_of_four<'a>(
     ensures { option_map (with_names (λ name. name.now)) result ≡ form_of_four command.now specification.now script.now schedule.now }
 {
     if command == "replay" {
-        Some(Form::Specified {
+        Some(Form::Replay {
             specification,
-            request: Request::Replay { script, schedule },
+            script,
+            schedule,
         })
     } else {
         None

@@ -1,6 +1,6 @@
 -- A line of a trace adds at most one row and at most one report, so 32 bits count both.
-use Rattle.std.proofs.Common.{◌≡◌, ℕ, suc, ◌+◌, ◌≤◌, ◌∷◌, [], ◌++◌, List, length, Bool, true, false, Result, Ok, Err, arith, refl, sym, length-append}
-use Rattle.std.specs.Prelude.{◌==◌, codes, nat_lt, ⊤, if◌then◌else◌}
+use Rattle.std.proofs.Common.{◌≡◌, ℕ, suc, ◌+◌, ◌<◌, ◌≤◌, ◌∷◌, [], ◌++◌, List, length, Bool, true, false, Result, Ok, Err, arith, refl, sym, length-append}
+use Rattle.std.specs.Prelude.{◌==◌, ◌^◌, codes, nat_lt, ⊤, if◌then◌else◌}
 use Rattle.std.proofs.lemmas.Bool.{ltb-false}
 use Rattle.std.proofs.lemmas.List.Splits.{length-slice_split}
 use Rattle.std.proofs.lemmas.List.Sums.{count_by-le-length}

@@ -1,2 +1,4 @@
 pub mod Assuring
 pub mod Counted
+pub mod FileReading
+pub mod Judged

@@ -42,7 +42,7 @@ pub fn props_form<F: Files, K: Sink>(
     files: &mut F,
     out: &mut K,
 ) -> Status
-    ensures { Ends (PropsAnswers named.specification.now named.trace.now) (named.specification.now ∷ named.trace.now ∷ [])
+    ensures { Ends (PropsAnswers named.entry.specification.now named.entry.trace.now) (named.entry.specification.now ∷ named.entry.trace.now ∷ [])
         (F.state files.old) (F.state files.new) (IsTaken (K.state out.old) (K.state out.new) result.code) }
 {
     match read_judgement(alloc, named, files) {
@@ -57,7 +57,7 @@ fn read_judgement<F: Files>(
     named: TraceFiles<'_>,
     files: &mut F,
 ) -> Result<Judgement, Refusal>
-    ensures reads { Reads (PropsAnswers named.specification.now named.trace.now) TellsJudgement (named.specification.now ∷ named.trace.now ∷ [])
+    ensures reads { Reads (PropsAnswers named.entry.specification.now named.entry.trace.now) TellsJudgement (named.entry.specification.now ∷ named.entry.trace.now ∷ [])
         (F.state files.old) (F.state files.new) result }
     ensures verdict { IfOk result HasVerdict }
 {

@@ -1,21 +1,17 @@
--- The flush at the end.
-use Rattle.scram_cli.proofs.Endings.{assured_sent, completes, failed_ends, flushed_ends}
+use Rattle.std.specs.Prelude.{map, string_bytes}
+use Rattle.form_base.proofs.Endings.{assured_of, completes, unread_rose, unwritten_rose}
+use Rattle.scram_cli.specs.Forms.{form_of}
+use Rattle.scram_cli.proofs.Assuring.{form_assures}
 use Rattle.scram_cli.proofs.command.scram.Goals as goal
 
-pub returns-in-Ok-clause-answer : goal.returns-in-Ok-clause-answer
-returns-in-Ok-clause-answer g c = flushed_ends _ _ _ _ _ _ _ _ c.flush.ensures.kept c.in-Ok.ensures.sent c.answer_words-status.ensures.ends
+pub returns-clause-read : goal.returns-clause-read
+returns-clause-read g c = unread_rose _ _ _ _ _ _ _ c.send_answer.ensures
 
-pub returns-in-Ok-clause-complete : goal.returns-in-Ok-clause-complete
-returns-in-Ok-clause-complete g c =
-    completes _ _ _ _ _ _ _ (flushed_ends _ _ _ _ _ _ _ _ c.flush.ensures.kept c.in-Ok.ensures.sent c.answer_words-status.ensures.ends) c.answer_words-status.ensures.quiet
+pub returns-clause-write : goal.returns-clause-write
+returns-clause-write g c = unwritten_rose _ _ _ _ _ _ _ c.send_answer.ensures
 
-pub returns-in-Ok-clause-assured : goal.returns-in-Ok-clause-assured
-returns-in-Ok-clause-assured g c = λ answered.
-    assured_sent _ _ _ _ _ _ c.flush.ensures.kept c.in-Ok.ensures.sent (c.answer_words-status.ensures.assured answered)
+pub returns-clause-complete : goal.returns-clause-complete
+returns-clause-complete g c = completes _ _ _ _ _ _ _ c.send_answer.ensures
 
-pub returns-in-Err-clause-answer : goal.returns-in-Err-clause-answer
-returns-in-Err-clause-answer g c = failed_ends _ _ _ _ _ _ _ _ c.flush.ensures.kept c.in-Err.ensures.failed c.answer_words-status.ensures.ends
-
-pub returns-in-Err-clause-complete : goal.returns-in-Err-clause-complete
-returns-in-Err-clause-complete g c =
-    completes _ _ _ _ _ _ _ (failed_ends _ _ _ _ _ _ _ _ c.flush.ensures.kept c.in-Err.ensures.failed c.answer_words-status.ensures.ends) c.answer_words-status.ensures.quiet
+pub returns-clause-assured : goal.returns-clause-assured
+returns-clause-assured g c = assured_of _ _ _ _ _ _ _ _ (form_assures c.flights_are_assured.ensures (form_of (map string_bytes c.args.words.now))) c.send_answer.ensures

@@ -1,0 +1,15 @@
+//! The boxes of a flight.
+
+ghost use Rattle.std.specs.Prelude.{◌≡◌, vec_len};
+
+use app_model::Rack;
+
+/// The boxes that fly a mission: a rack for each of eight processors, and one for its restart.
+#[derive(Drop)]
+pub struct Boxes {
+    pub racks: Vec<Rack>,
+    pub spares: Vec<Rack>,
+
+    pub ghost racks_len: { vec_len racks ≡ 8 },
+    pub ghost spares_len: { vec_len spares ≡ 8 },
+}

@@ -1,6 +1,0 @@
--- What is left to write of names joined by pluses, some being written already or none.
-use Rattle.std.specs.Prelude.{ℕ, Bool, List, if◌then◌else◌}
-use Rattle.scram_cli.specs.Lines.{added, further_added}
-
-abbrev pub rest_of : Bool → List (List ℕ) → List ℕ
-rest_of shown names = if shown then further_added names else added names

@@ -1,7 +1,0 @@
-use Rattle.scram_cli.specs.Bounds.{bounds_text_from, texts_below}
-use Rattle.scram_io.specs.Outside.{Printed}
-use Rattle.scram_cli.proofs.bounds.put_bounds.Given as goal
-
-abbrev pub invariant-loop-i : goal.invariant-loop-i
-invariant-loop-i g l =
-    Printed (g.K.Sink.state l.initial.out) (g.K.Sink.state l.out) (texts_below (bounds_text_from l.spec) l.i)
