@@ -1,5 +1,5 @@
 -- What comes of a flight: the trace, and where the seats stand.
-use Rattle.std.proofs.Common.{◌≡◌, ◌∙◌, ℕ, ◌<◌, ◌≤◌, ap, arith, sym, subst, List, length}
+use Rattle.std.proofs.Common.{◌≡◌, ◌∙◌, ◌<◌, ◌≤◌, ap, arith, sym, subst, List, length}
 use Rattle.std.specs.Prelude.{Some}
 use Rattle.std.proofs.lemmas.Option.{slice_get_within}
 use Rattle.fail_stop.specs.Events.{Place}
@@ -17,7 +17,7 @@ use Rattle.word_table.specs.declared.seats.Seat.{Seat}
 use Rattle.word_table.specs.declared.tables.WordTable.{WordTable}
 use Rattle.word_table.specs.Actors.{IsInFlight, mission_flight}
 use Rattle.word_table.specs.Keeping.{IsFlown}
-use Rattle.word_table.specs.Tables.{AreOpening, AreSeatsOf, IsKernelSeatOf, IsSeatOf, mission_in, seat_place, proc_of}
+use Rattle.word_table.specs.Tables.{AreOpening, AreSeatsOf, IsKernelSeatOf, IsSeatOf, mission_in, proc_of}
 use Rattle.word_deck.specs.Flights.{AreAtTable, AreLanded, AreOpen, IsAtTable}
 
 -- the trace

@@ -5,7 +5,8 @@ use Rattle.word_deck.proofs.flights.WordFlight.run_on.Goals as goal
 
 pub fly-kernel-requires-clause-waiting : goal.fly-kernel-requires-clause-waiting
 fly-kernel-requires-clause-waiting g c κs within =
-    open_flown c.args.self.words c.set_turns.new.self c.args.self.hangar.waiting.items c.args.self.mission.now c.set_turns.ensures c.args.self.waiting c.args.self.all c.args.self.of
+    let all : length c.args.self.hangar.waiting.items ≡ length c.args.self.mission.now.spec.procs = search rules in
+    open_flown c.args.self.words c.set_turns.new.self c.args.self.hangar.waiting.items c.args.self.mission.now c.set_turns.ensures c.args.self.waiting all c.args.self.of
     c.holds.ensures.spec c.holds.ensures.mission
 
 pub returns-clause-assured : goal.returns-clause-assured
