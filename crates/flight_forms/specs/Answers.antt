@@ -33,13 +33,17 @@ ScriptAnswers spec script = WithoutFiles (UnlessRefused (mission_refusal spec sc
 abbrev pub RunAnswers : List ℕ → List ℕ → Answer
 RunAnswers specification script = AnswersSpecification specification (λ (spec : Parts). AnswersScript spec script (ScriptAnswers spec))
 
+-- How a list is refused that is no schedule which flies to the end.
+abbrev pub replay_refusal : Parts → ReplayError → ℕ × List ℕ
+replay_refusal spec (replay_error.Illegal index given next) = (BROKEN_SCHEDULE, illegal_line spec index given next)
+replay_refusal spec (replay_error.Short events next) = (BROKEN_SCHEDULE, short_line spec events next)
+replay_refusal spec replay_error.NoMemory = (OUT_OF_MEMORY, memory_line)
+
 -- The answer where a list was flown as a schedule, by what came of it; where it flew to the end, that is the answer of the
 -- flight on one thread.
 abbrev pub replay_answer : Parts → ScriptParts → Result Flown ReplayError → ℕ × List ℕ
 replay_answer spec script (Ok flown) = (ANSWERED, flight_text Trace spec script)
-replay_answer spec script (Err (replay_error.Illegal index given next)) = (BROKEN_SCHEDULE, illegal_line spec index given next)
-replay_answer spec script (Err (replay_error.Short events next)) = (BROKEN_SCHEDULE, short_line spec events next)
-replay_answer spec script (Err replay_error.NoMemory) = (OUT_OF_MEMORY, memory_line)
+replay_answer spec script (Err error) = replay_refusal spec error
 
 -- Status and text tell what comes of a list that is flown as a schedule; there is one such answer.
 pub record IsReplayAnswer (spec : Parts) (script : ScriptParts) (list : List ℕ) (status : ℕ) (text : List ℕ) : Type 0 where

@@ -1,10 +1,11 @@
 //! The form `replay`: a mission flown by a schedule. No thread is used.
 
-ghost use Rattle.std.specs.Prelude.{◌∷◌, [], IfOk};
+ghost use Rattle.std.specs.Prelude.{◌≡◌, ◌∷◌, [], IfOk};
 ghost use Rattle.fault_script.specs.Fits.{Fits};
 ghost use Rattle.schedule_replay.specs.Events.{AreCodes};
 ghost use Rattle.form_base.specs.Endings.{Ends, IsTaken, Reads, Tells};
-ghost use Rattle.flight_forms.specs.Answers.{IsReplayAnswer, ListAnswers, ReplayAnswers, ScheduleAnswers};
+ghost use Rattle.form_base.specs.Refusals.{told};
+ghost use Rattle.flight_forms.specs.Answers.{IsReplayAnswer, ListAnswers, ReplayAnswers, ScheduleAnswers, replay_refusal};
 ghost use Rattle.flight_forms.specs.Documents.{AnswersSchedule, AnswersScript};
 ghost use Rattle.flight_forms.specs.Replays.{HasCodes, MakesReplay, TellsReplay};
 
@@ -152,14 +153,21 @@ fn fly_replay<K: Sink>(alloc: Global, replayed: &Replay, out: &mut K, boxes: Box
             drop(flown);
             status
         }
-        Err(ReplayError::Illegal { index, given, next }) => {
-            let line = make_illegal_line(spec, index, given, next);
-            tell_refusal(out, &Refusal::new(Refused::Schedule, line))
+        Err(error) => tell_refusal(out, &refusal_of(spec, error)),
+    }
+}
+
+/// How a list is refused that is no schedule which flies to the end.
+fn refusal_of(spec: &Spec, error: ReplayError) -> Refusal
+    ensures { told result ≡ replay_refusal spec.now error }
+{
+    match error {
+        ReplayError::Illegal { index, given, next } => {
+            Refusal::new(Refused::Schedule, make_illegal_line(spec, index, given, next))
         }
-        Err(ReplayError::Short { events, next }) => {
-            let line = make_short_line(spec, events, next);
-            tell_refusal(out, &Refusal::new(Refused::Schedule, line))
+        ReplayError::Short { events, next } => {
+            Refusal::new(Refused::Schedule, make_short_line(spec, events, next))
         }
-        Err(ReplayError::NoMemory) => tell_refusal(out, &Refusal::out_of_memory()),
+        ReplayError::NoMemory => Refusal::out_of_memory(),
     }
 }
