@@ -1,4 +1,4 @@
 pub mod Assuring
 pub mod FileReading
 pub mod FlightSizes
-pub mod Missions
+pub mod MissionReading

@@ -4,7 +4,7 @@ use Rattle.flight_forms.specs.Answers.{ScriptAnswers, TellsTrace}
 use Rattle.coverage_check.specs.Missions.{mission_of}
 use Rattle.flight_forms.specs.Missions.{UnlessRefused, mission_refusal}
 use Rattle.flight_forms.proofs.FileReading.{script_reads, script_unread}
-use Rattle.flight_forms.proofs.Missions.{mission_settles}
+use Rattle.flight_forms.proofs.MissionReading.{mission_settles}
 use Rattle.flight_forms.proofs.missions.read_script.Goals as goal
 
 pub returns-in-Ok : goal.returns-in-Ok

@@ -4,7 +4,7 @@ use Rattle.flight_forms.specs.Answers.{IsReplayAnswer, ListAnswers}
 use Rattle.flight_forms.specs.Missions.{UnlessRefused, mission_refusal}
 use Rattle.flight_forms.specs.Replays.{TellsReplay}
 use Rattle.flight_forms.proofs.FileReading.{schedule_reads, schedule_unread}
-use Rattle.flight_forms.proofs.Missions.{replay_settles}
+use Rattle.flight_forms.proofs.MissionReading.{replay_settles}
 use Rattle.flight_forms.proofs.replays.read_list.Goals as goal
 
 pub returns-in-Ok-clause-reads : goal.returns-in-Ok-clause-reads
