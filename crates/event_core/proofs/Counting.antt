@@ -1,6 +1,6 @@
 -- Releases and notes, event by event.
-use Rattle.std.proofs.Common.{◌≡◌, ◌∙◌, ℕ, zero, suc, ◌+◌, ◌*◌, ◌/◌, ◌<◌, ◌≤◌, Bool, true, false, refl, ap, sym, subst, arith, List, [], ◌∷◌, length}
-use Rattle.std.specs.Prelude.{min, nat_le, if◌then◌else◌}
+use Rattle.std.proofs.Common.{◌≡◌, ◌∙◌, ℕ, suc, ◌+◌, ◌*◌, ◌/◌, ◌<◌, ◌≤◌, true, false, refl, ap, sym, subst, arith, List, [], ◌∷◌, length}
+use Rattle.std.specs.Prelude.{min, nat_le}
 use Rattle.std.proofs.lemmas.Bool.Decides.{nat_tests}
 use Rattle.std.proofs.lemmas.Nat.{div-mul-add}
 use native.Mathlib.Decide.{dec_le}
@@ -9,7 +9,7 @@ use Rattle.scram_types.specs.Scripts.{ScriptParts}
 use Rattle.scram_types.specs.Specification.{IsSpec, Parts}
 use Rattle.bank_words.specs.declared.events.Event.{Event}
 use Rattle.bank_words.specs.declared.events.Event.TheVariants.{Start, Look, Store, Flip, Done, Halt, KNote, KStore, Release}
-use Rattle.fail_stop.specs.Events.{IsNext, Places, Word}
+use Rattle.fail_stop.specs.Events.{IsNext, Places}
 use Rattle.fail_stop.specs.Flights.{Flight}
 use Rattle.fail_stop.specs.Schedules.{IsSchedule, Machine, happened, opening}
 use Rattle.fail_stop.specs.ScriptFlights.{flight_of}
@@ -19,8 +19,7 @@ use Rattle.scram_kernel.specs.Kernels.{rows_below}
 use Rattle.scram_types.proofs.Searches.{length_listed}
 use Rattle.event_core.specs.declared.places.Places.{Places as KeptPlaces}
 use Rattle.event_core.specs.Cores.{CoreParts, core_of, flown, frames_ended, standing, standing_words}
-use Rattle.event_core.specs.Counts.{AreCounted, HistoriesTellFrames, notes_in, releases_in, with_note, with_release}
-use Rattle.event_core.specs.Places.{machine_places}
+use Rattle.event_core.specs.Counts.{HistoriesTellFrames, notes_in, releases_in, with_note, with_release}
 use Rattle.event_core.specs.Replays.{IsReplay}
 use Rattle.event_core.proofs.Ending.{ended_by}
 

@@ -1,17 +1,16 @@
 -- What is told of a line is the first rule that it does not keep.
-use Rattle.std.proofs.Common.{ℕ, ◌≡◌, ◌≤◌, ◌∙◌, Bool, true, false, cond, List, [], ◌∷◌, Option, Some, None, Result, Ok, Err, length, arith, refl, sym, ap}
+use Rattle.std.proofs.Common.{ℕ, ◌≡◌, ◌≤◌, ◌∙◌, Bool, true, false, List, [], ◌∷◌, Option, Some, None, Result, Ok, Err, length, arith, refl, ap}
 use Rattle.std.specs.Prelude.{◌==◌, ◌&&◌, is_some, nat_le, option_and_then, option_map, if◌then◌else◌}
 use Rattle.std.specs.List.{list_all}
 use Rattle.std.proofs.lemmas.Bool.Decides.{nat_tests}
 use Rattle.std.proofs.lemmas.Bool.{eqb-true}
 use Rattle.scram_types.specs.Specification.{Parts}
 use Rattle.scram_types.specs.Lookups.{proc_named}
-use Rattle.scram_types.specs.declared.ids.ProcId.{ProcId}
 use Rattle.bank_words.specs.declared.events.Event.{Event}
 use Rattle.bank_words.specs.declared.events.Event.TheVariants as event
 use Rattle.fault_script.specs.Times.{words as width_of}
 use Rattle.trace_text.specs.LineRules.{keeps}
-use Rattle.trace_text.specs.Pieces.{is_filled, word_at, words_in, words_of}
+use Rattle.trace_text.specs.Pieces.{is_filled, word_at, words_of}
 use Rattle.trace_text.specs.Rules.{unless}
 use Rattle.trace_text.specs.Spelling.{spelled_number}
 use Rattle.trace_text.proofs.FirstBroken.{least_from, tells_least, told_by}
