@@ -5,6 +5,7 @@
 use app_model::racks_fit;
 use racks::racks;
 use scram_cli::run_program;
+use scram_types::NoMemory;
 use std::alloc::AllocGlobal;
 use std::env;
 use std::io::{self, ErrorKind, Print};
@@ -15,7 +16,7 @@ use std::thread::Threads;
 
 /// The status where memory is wanting before the command is called.
 const NO_MEMORY: u8 = 9;
-/// The status where the line of that is not written.
+/// The status where a line that is printed here is not written.
 const UNWRITTEN_OUTPUT: u8 = 4;
 /// The status where the boxes that the program makes are not those of the kinds, which its line says.
 const UNFIT_RACKS: u8 = 1;
@@ -29,7 +30,7 @@ fn main(rt: HostRuntime) -> ExitCode {
     };
     match answer(&rt, &rt, &words) {
         Ok(code) => ExitCode::from(code),
-        Err(_) => refuse_memory(&rt),
+        Err(NoMemory) => refuse_memory(&rt),
     }
 }
 
@@ -46,15 +47,22 @@ fn answer<R: AllocGlobal + Files + Print + Threads + Wait + Sync>(
     rt: &HostRuntime,
     threads: &R,
     words: &[String],
-) -> io::Result<u8> {
+) -> Result<u8, NoMemory> {
     let racks = racks!(rt);
     let spares = racks!(rt);
     if !racks_fit(&racks) || !racks_fit(&spares) {
-        println!(rt; "refused: racks")?;
-        return Ok(UNFIT_RACKS);
+        return Ok(refuse_racks(rt));
     }
     let (status, _files, _out) = run_program(threads, words, racks, spares)?;
     Ok(status.code)
+}
+
+/// Tells that the boxes are not those of the kinds: the status.
+fn refuse_racks(rt: &HostRuntime) -> u8 {
+    match println!(rt; "refused: racks") {
+        Ok(()) => UNFIT_RACKS,
+        Err(_) => UNWRITTEN_OUTPUT,
+    }
 }
 
 /// The words after the program's name.

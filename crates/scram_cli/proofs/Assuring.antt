@@ -39,7 +39,7 @@ use Rattle.scram_cli.specs.declared.forms.Purpose.TheVariants.{Fly, Print}
 use Rattle.scram_cli.specs.declared.forms.Request.{Request}
 use Rattle.scram_cli.specs.declared.forms.Request.TheVariants.{Bounds, Check, Props, Replay, Run}
 use Rattle.scram_types.specs.declared.limits.TheConstants.{MAX_SCRIPT_BYTES, MAX_TRACE_BYTES}
-use Rattle.scram_cli.specs.Answers.{Gives, IsGenerated, IsMissionAnswer, Judges, ListAnswers, ReplayAnswers, ReplayWithin, RequestAnswers, ScheduleAnswers, TellsUnread, TraceAnswers, bounds_answer, check_answer, flight_answer, judged_answer, long_schedule, long_script, long_trace, mission_answer, replay_answer, script_answer, flight_text, within_answer}
+use Rattle.scram_cli.specs.Answers.{AnswersUnread, Gives, IsGenerated, IsMissionAnswer, Judges, ListAnswers, ReplayAnswers, ReplayWithin, RequestAnswers, ScheduleAnswers, TraceAnswers, bounds_answer, check_answer, flight_answer, judged_answer, long_schedule, long_script, long_trace, mission_answer, replay_answer, script_answer, flight_text, within_answer}
 use Rattle.scram_cli.specs.Assurance.{AssuresMission, AssuresPurpose, AssuresReplay, AssuresRequest, AssuresScript, AssuresSpec, AssuresTrace, FlightsAreAssured, IsAssured, IsAssuring}
 use Rattle.scram_cli.specs.Bounds.{bounds_text}
 use Rattle.scram_cli.specs.Endings.{IsMemoryRefusal, IsTaken, Tells}
@@ -80,9 +80,10 @@ script_zero spec law name bytes rest reads (Ok script) is first none text gives 
   assured = law Trace script (script_of_fits spec bytes script is) text gives;
 }
 
-unread_zero : {P : Type 0} (limit n : ℕ) (line name : List ℕ) (before after : FilesState) (text : List ℕ) → TellsUnread limit (suc n, line) name before after ANSWERED text → P
-unread_zero limit n line name before after text (inl is) = not_zero 2 _ text is.0
-unread_zero limit n line name before after text (inr is) = not_zero n line text is.0
+unread_zero : {P : Type 0} (limit n : ℕ) (line name : List ℕ) (before after : FilesState) (reads : History) (text : List ℕ)
+    → AnswersUnread limit (suc n, line) name before after reads ANSWERED text → P
+unread_zero limit n line name before after reads text (inl is) = not_zero n line text is.gives
+unread_zero limit n line name before after reads text (inr is) = not_zero 2 _ text is.2
 
 judged_zero : (spec : Parts) (name bytes : List ℕ) (reads : History) (flown : Flown) (judged : Option Broken) → trace_of spec bytes ≡ Ok flown → reads ≡ (name, bytes) ∷ []
     → Judges spec flown judged → (text : List ℕ) → Gives (judged_answer flown judged) ANSWERED text → AssuresTrace spec name reads text
@@ -110,13 +111,13 @@ run_zero : (spec : Parts) → FlightsAreAssured spec → (name : List ℕ) (befo
     → RequestAnswers (Run name) spec before after reads ANSWERED text → AssuresScript spec name reads text
 run_zero spec law name before after reads text (inl is) =
     script_zero spec law name is.bytes is.rest reads (script_of spec is.bytes) refl is.first is.answers.0 text is.answers.1
-run_zero spec law name before after reads text (inr is) = unread_zero MAX_SCRIPT_BYTES 6 (long_script).1 name before after text is.1
+run_zero spec law name before after reads text (inr is) = unread_zero MAX_SCRIPT_BYTES 6 (long_script).1 name before after reads text is
 
 props_zero : (spec : Parts) (name : List ℕ) (before after : FilesState) (reads : History) (text : List ℕ)
     → RequestAnswers (Props name) spec before after reads ANSWERED text → AssuresTrace spec name reads text
 props_zero spec name before after reads text (inl is) =
     trace_zero spec name is.bytes is.rest reads (trace_of spec is.bytes) refl is.first is.answers.0 text is.answers.1
-props_zero spec name before after reads text (inr is) = unread_zero MAX_TRACE_BYTES 10 (long_trace).1 name before after text is.1
+props_zero spec name before after reads text (inr is) = unread_zero MAX_TRACE_BYTES 10 (long_trace).1 name before after reads text is
 
 -- a list that is flown as a schedule
 
@@ -164,7 +165,7 @@ replay_script_zero spec law name bytes schedule script before after rest reads i
     first ∙ ap (λ (reads : History). (name, bytes) ∷ reads) (more.first ∙ ap (λ (reads : History). (schedule, more.bytes) ∷ reads) more.answers.0) in
     schedule_zero spec law name bytes schedule more.bytes reads script (schedule_of spec more.bytes) is refl both text more.answers.1
 replay_script_zero spec law name bytes schedule script before after rest reads is first text (inr more) =
-    unread_zero MAX_SCHEDULE_BYTES 11 (long_schedule).1 schedule before after text more.1
+    unread_zero MAX_SCHEDULE_BYTES 11 (long_schedule).1 schedule before after rest text more
 
 replay_read_zero : (spec : Parts) → FlightsAreAssured spec → (name bytes schedule : List ℕ) (before after : FilesState) (rest reads : History) (read : Result ScriptParts DocFault)
     → script_of spec bytes ≡ read → reads ≡ (name, bytes) ∷ rest → (text : List ℕ) → ReplayAnswers schedule spec read before after rest ANSWERED text
@@ -177,7 +178,7 @@ replay_zero : (spec : Parts) → FlightsAreAssured spec → (name schedule : Lis
     → RequestAnswers (Replay name schedule) spec before after reads ANSWERED text → AssuresReplay spec name schedule reads text
 replay_zero spec law name schedule before after reads text (inl is) =
     replay_read_zero spec law name is.bytes schedule before after is.rest reads (script_of spec is.bytes) refl is.first text is.answers
-replay_zero spec law name schedule before after reads text (inr is) = unread_zero MAX_SCRIPT_BYTES 6 (long_script).1 name before after text is.1
+replay_zero spec law name schedule before after reads text (inr is) = unread_zero MAX_SCRIPT_BYTES 6 (long_script).1 name before after reads text is
 
 -- whatever is asked of a specification and answered with the status of an answer
 pub requests : (spec : Parts) → IsSpec spec → FlightsAreAssured spec → (request : Request (List ℕ)) → IsAssuring (RequestAnswers request spec) (AssuresRequest spec request)

@@ -1,10 +1,10 @@
 -- From what was printed to how a command ends.
 use Rattle.std.proofs.Common.{◌≡◌, ℕ, ◌-◌, ◌<◌, ◌≤◌, List, [], ◌∷◌, ◌++◌, length, append_assoc, append-nil, refl, sym, ◌∙◌, ap, inl, inr, arith}
-use Rattle.std.specs.Prelude.{Bool, Option, Some, None, IfSome, IsSome, IsTrue, ◌⊎◌, map}
-use Rattle.scram_io.specs.Outside.{Agrees, CutOff, FileMap, FilesState, Flushed, Grew, History, IsLonger, Printed, Rose, SinkState, StaysSteady, TakesSurely, Took, TookPrefix, Unrisen, file_at, greatest_count, taken}
+use Rattle.std.specs.Prelude.{Bool, Option, Some, None, IfNone, IfSome, IsSome, IsTrue, ◌⊎◌, map}
+use Rattle.scram_io.specs.Outside.{Agrees, CutOff, FileMap, FilesState, Flushed, FoundLonger, Grew, History, Printed, Rose, SinkState, StaysSteady, TakesSurely, Took, TookPrefix, Unrisen, file_at, greatest_count, taken}
 use Rattle.scram_io.proofs.Histories.{grew_more, grew_none}
 use Rattle.scram_cli.specs.declared.status.TheConstants.{ANSWERED, UNREAD_FILE, UNWRITTEN_OUTPUT, WANTING_MEMORY}
-use Rattle.scram_cli.specs.Answers.{Answer, AnswersFile, Gives, TellsUnread, WithoutFiles, memory_line, read_line}
+use Rattle.scram_cli.specs.Answers.{Answer, AnswersFile, AnswersUnread, Gives, WithoutFiles, memory_line, read_line}
 use Rattle.scram_cli.specs.Assurance.{Assured, IsAssuring}
 use Rattle.scram_cli.specs.Endings.{AreInTurn, AreThere, Completes, Ends, HasRoom, IsMemoryRefusal, IsQuietFor, IsSent, IsTaken, StaysQuiet, StoppedIn, Tells, WentOut}
 
@@ -72,23 +72,25 @@ pub memory_ends_after : (A : Answer) (name : List ℕ) (names : List (List ℕ))
 memory_ends_after A name names bytes before after old new code grew taken =
     record { reads = (name, bytes) ∷ []; status = WANTING_MEMORY; text = memory_line; grew = grew; answer = inr ((refl, refl), (names, refl)); shown = taken }
 
--- the first file was not read
+-- the first file was not read, or is too long
 
 unread_answer : (limit : ℕ) (long : ℕ × List ℕ) (name : List ℕ) (names : List (List ℕ)) (A : List ℕ → Answer) (B : ℕ → List ℕ → Type 0) (before after : FilesState)
-    (status : ℕ) (text : List ℕ) → (B status text → TellsUnread limit long name before after status text) → B status text ⊎ IsMemoryRefusal status text
-    → AnswersFile limit long name A before after [] status text ⊎ (IsMemoryRefusal status text × AreInTurn (name ∷ names) [])
-unread_answer limit long name names A B before after status text turn (inl is) = inl (inr (refl, turn is))
-unread_answer limit long name names A B before after status text turn (inr is) = inr (is, (name ∷ names, refl))
+    (reads : History) (status : ℕ) (text : List ℕ) → (B status text → AnswersUnread limit long name before after reads status text) → AreInTurn (name ∷ names) reads
+    → B status text ⊎ IsMemoryRefusal status text
+    → AnswersFile limit long name A before after reads status text ⊎ (IsMemoryRefusal status text × AreInTurn (name ∷ names) reads)
+unread_answer limit long name names A B before after reads status text turn turns (inl is) = inl (inr (turn is))
+unread_answer limit long name names A B before after reads status text turn turns (inr is) = inr (is, turns)
 
 unread_ends_by : (limit : ℕ) (long : ℕ × List ℕ) (name : List ℕ) (names : List (List ℕ)) (A : List ℕ → Answer) (B : ℕ → List ℕ → Type 0) (before after : FilesState)
-    (old new : SinkState) (code : ℕ) → ((status : ℕ) (text : List ℕ) → B status text → TellsUnread limit long name before after status text) → Grew before after []
-    → Tells B old new code → Ends (AnswersFile limit long name A) (name ∷ names) before after (IsTaken old new code)
-unread_ends_by limit long name names A B before after old new code turn grew tells = record {
-  reads = [];
+    (reads : History) (old new : SinkState) (code : ℕ) → ((status : ℕ) (text : List ℕ) → B status text → AnswersUnread limit long name before after reads status text)
+    → AreInTurn (name ∷ names) reads → Grew before after reads → Tells B old new code
+    → Ends (AnswersFile limit long name A) (name ∷ names) before after (IsTaken old new code)
+unread_ends_by limit long name names A B before after reads old new code turn turns grew tells = record {
+  reads = reads;
   status = tells.status;
   text = tells.text;
   grew = grew;
-  answer = unread_answer limit long name names A B before after tells.status tells.text (turn tells.status tells.text) tells.answer;
+  answer = unread_answer limit long name names A B before after reads tells.status tells.text (turn tells.status tells.text) turns tells.answer;
   shown = tells.taken;
 }
 
@@ -97,53 +99,57 @@ pub unread_ends : (limit : ℕ) (long : ℕ × List ℕ) (name : List ℕ) (name
     (old new : SinkState) (code : ℕ) → Grew before after [] → Rose before.faults after.faults → Tells (Gives (UNREAD_FILE, read_line name)) old new code
     → Ends (AnswersFile limit long name A) (name ∷ names) before after (IsTaken old new code)
 unread_ends limit long name names A before after old new code grew rose tells =
-    unread_ends_by limit long name names A (Gives (UNREAD_FILE, read_line name)) before after old new code (λ status text is. inl (is, rose)) grew tells
+    unread_ends_by limit long name names A (Gives (UNREAD_FILE, read_line name)) before after [] old new code (λ status text is. inr (refl, rose, is))
+    (name ∷ names, refl) grew tells
 
 -- it has too many bytes
 pub long_ends : (limit : ℕ) (long : ℕ × List ℕ) (name : List ℕ) (names : List (List ℕ)) (A : List ℕ → Answer) (before after : FilesState)
-    (old new : SinkState) (code : ℕ) → Grew before after [] → IsLonger before name limit → Tells (Gives long) old new code
+    (old new : SinkState) (code : ℕ) → FoundLonger before after name limit → Tells (Gives long) old new code
     → Ends (AnswersFile limit long name A) (name ∷ names) before after (IsTaken old new code)
-long_ends limit long name names A before after old new code grew longer tells =
-    unread_ends_by limit long name names A (Gives long) before after old new code (λ status text is. inr (is, longer)) grew tells
+long_ends limit long name names A before after old new code found tells =
+    unread_ends_by limit long name names A (Gives long) before after ((name, found.bytes) ∷ []) old new code
+    (λ status text is. inl (record { bytes = found.bytes; read = refl; longer = found.longer; counted = found.counted; gives = is }))
+    (names, refl) found.grew tells
 
 -- the first file was read
 
 read_answer : (limit : ℕ) (long : ℕ × List ℕ) (name bytes : List ℕ) (names : List (List ℕ)) (A : Answer) (B : List ℕ → Answer) (before mid after : FilesState)
     (reads : History) (status : ℕ) (text : List ℕ) → (A mid after reads status text → B bytes before after reads status text)
-    → A mid after reads status text ⊎ (IsMemoryRefusal status text × AreInTurn names reads)
+    → length bytes ≤ limit → A mid after reads status text ⊎ (IsMemoryRefusal status text × AreInTurn names reads)
     → AnswersFile limit long name B before after ((name, bytes) ∷ reads) status text ⊎ (IsMemoryRefusal status text × AreInTurn (name ∷ names) ((name, bytes) ∷ reads))
-read_answer limit long name bytes names A B before mid after reads status text turn (inl is) =
-    inl (inl (record { bytes = bytes; rest = reads; first = refl; answers = turn is }))
-read_answer limit long name bytes names A B before mid after reads status text turn (inr is) =
+read_answer limit long name bytes names A B before mid after reads status text turn fits (inl is) =
+    inl (inl (record { bytes = bytes; rest = reads; first = refl; fits = fits; answers = turn is }))
+read_answer limit long name bytes names A B before mid after reads status text turn fits (inr is) =
     inr (is.0, (is.1.0, ap (λ (more : List (List ℕ)). name ∷ more) is.1.1))
 
 -- what is answered of its bytes, and of what is read after it
 pub read_ends : (limit : ℕ) (long : ℕ × List ℕ) (name bytes : List ℕ) (names : List (List ℕ)) (A : Answer) (B : List ℕ → Answer) (before mid after : FilesState)
-    (Shown : ℕ → List ℕ → Type 0) → Grew before mid ((name, bytes) ∷ [])
+    (Shown : ℕ → List ℕ → Type 0) → Grew before mid ((name, bytes) ∷ []) → length bytes ≤ limit
     → ((reads : History) (status : ℕ) (text : List ℕ) → A mid after reads status text → B bytes before after reads status text)
     → Ends A names mid after Shown → Ends (AnswersFile limit long name B) (name ∷ names) before after Shown
-read_ends limit long name bytes names A B before mid after Shown grew turn ends = record {
+read_ends limit long name bytes names A B before mid after Shown grew fits turn ends = record {
   reads = (name, bytes) ∷ ends.reads;
   status = ends.status;
   text = ends.text;
   grew = grew_more before mid after ((name, bytes) ∷ []) ends.reads grew ends.grew;
-  answer = read_answer limit long name bytes names A B before mid after ends.reads ends.status ends.text (turn ends.reads ends.status ends.text) ends.answer;
+  answer = read_answer limit long name bytes names A B before mid after ends.reads ends.status ends.text (turn ends.reads ends.status ends.text) fits ends.answer;
   shown = ends.shown;
 }
 
 -- a fact of what is told before the reads, and of a count that rose in the later part
 
-pub longer_since : (before mid : FilesState) (reads : History) (name : List ℕ) (limit : ℕ) → Grew before mid reads → IsLonger mid name limit → IsLonger before name limit
-longer_since before mid reads name limit grew longer = rw (grew.told) at longer
+counted_since_by : (told : Option FileMap) (before between now : ℕ) → before ≤ between → IfNone told (Rose between now) → IfNone told (Rose before now)
+counted_since_by None before between now count rose = omega (arith, count, rose)
+counted_since_by (Some map) before between now count rose = tt
 
-unread_since_by : (limit : ℕ) (long : ℕ × List ℕ) (name : List ℕ) (before mid after : FilesState) (reads : History) (status : ℕ) (text : List ℕ) → Grew before mid reads
-    → TellsUnread limit long name mid after status text → TellsUnread limit long name before after status text
-unread_since_by limit long name before mid after reads status text grew (inl is) = inl (is.0, omega (arith, grew.count, is.1))
-unread_since_by limit long name before mid after reads status text grew (inr is) = inr (is.0, longer_since before mid reads name limit grew is.1)
+counted_since : (before mid after : FilesState) (reads : History) → Grew before mid reads → IfNone mid.told (Rose mid.faults after.faults) → IfNone before.told (Rose before.faults after.faults)
+counted_since before mid after reads grew counted = counted_since_by before.told before.faults mid.faults after.faults grew.count (rw (grew.told) at counted)
 
-pub unread_since : (limit : ℕ) (long : ℕ × List ℕ) (name : List ℕ) (before mid after : FilesState) (reads : History) → Grew before mid reads → (status : ℕ) (text : List ℕ)
-    → TellsUnread limit long name mid after status text → TellsUnread limit long name before after status text
-unread_since limit long name before mid after reads grew status text is = unread_since_by limit long name before mid after reads status text grew is
+pub unread_since : (limit : ℕ) (long : ℕ × List ℕ) (name : List ℕ) (before mid after : FilesState) (earlier : History) → Grew before mid earlier
+    → (reads : History) (status : ℕ) (text : List ℕ) → AnswersUnread limit long name mid after reads status text → AnswersUnread limit long name before after reads status text
+unread_since limit long name before mid after earlier grew reads status text (inl is) =
+    inl (record { bytes = is.bytes; read = is.read; longer = is.longer; counted = counted_since before mid after earlier grew is.counted; gives = is.gives })
+unread_since limit long name before mid after earlier grew reads status text (inr is) = inr (is.0, omega (arith, grew.count, is.1), is.2)
 
 -- the flush at the end
 

@@ -3,6 +3,7 @@ pub mod Pluses
 mod Endings
 mod Assuring
 mod Loading
+mod Completeness
 mod TextsBelow
 mod Counted
 mod ShownModes

@@ -1,5 +1,5 @@
 -- What the command answers: a status and a text, by its words and by what it reads of the files that they name.
-use Rattle.std.specs.Prelude.{◌≡◌, ◌≢◌, ◌⊎◌, ℕ, List, [], ◌∷◌, ◌++◌, Option, Some, None, Result, Ok, Err, codes}
+use Rattle.std.specs.Prelude.{◌≡◌, ◌≢◌, ◌⊎◌, ℕ, ◌<◌, ◌≤◌, List, [], ◌∷◌, ◌++◌, length, Option, Some, None, IfNone, Result, Ok, Err, codes}
 use Rattle.scram_types.specs.declared.flights.Flown.{Flown}
 use Rattle.scram_types.specs.declared.flights.Report.{Report}
 use Rattle.scram_types.specs.declared.flights.Row.{Row}
@@ -8,7 +8,7 @@ use Rattle.scram_types.specs.declared.specification.AppSpec.{AppSpec}
 use Rattle.scram_types.specs.Scripts.{ScriptParts}
 use Rattle.scram_types.specs.Specification.{Parts}
 use Rattle.scram_doc.specs.declared.fault.DocFault.{DocFault}
-use Rattle.scram_io.specs.Outside.{FilesState, History, IsLonger, Rose}
+use Rattle.scram_io.specs.Outside.{FilesState, History, Rose}
 use Rattle.spec_apps.specs.declared.fault.SpecFault.{SpecFault}
 use Rattle.spec_members.specs.declared.rule.TheConstants as specification_rule
 use Rattle.fault_script.specs.declared.rule.TheConstants as script_rule
@@ -76,22 +76,37 @@ Answer = FilesState → FilesState → History → ℕ → List ℕ → Type 0
 abbrev pub WithoutFiles : (ℕ → List ℕ → Type 0) → Answer
 WithoutFiles Answers before after reads status text = (reads ≡ []) × Answers status text
 
--- The file of this name was read first, and this is answered of its bytes and of what was read after it.
-pub record AnswersBytes (name : List ℕ) (Answers : List ℕ → Answer) (before after : FilesState) (reads : History) (status : ℕ) (text : List ℕ) : Type 0 where
+-- The file of this name was read first and has no more bytes than the limit, and this is answered of them and of what
+-- was read after it.
+pub record AnswersBytes (limit : ℕ) (name : List ℕ) (Answers : List ℕ → Answer) (before after : FilesState) (reads : History) (status : ℕ) (text : List ℕ) : Type 0 where
   pub bytes : List ℕ
   pub rest : History
   pub first : reads ≡ (name, bytes) ∷ rest
+  pub fits : length bytes ≤ limit
   pub answers : Answers bytes before after rest status text
 
--- Why the file of this name was not read: reading failed, or it has more bytes than the limit, of which `long` is answered.
-abbrev pub TellsUnread : ℕ → ℕ × List ℕ → List ℕ → FilesState → FilesState → ℕ → List ℕ → Type 0
-TellsUnread limit long name before after status text =
-    (Gives (UNREAD_FILE, read_line name) status text × Rose before.faults after.faults) ⊎ (Gives long status text × IsLonger before name limit)
+-- The file of this name alone was read, it has more bytes than the limit, and this is answered. Where the files tell no
+-- map, their count of faults rose.
+pub record AnswersLonger (limit : ℕ) (long : ℕ × List ℕ) (name : List ℕ) (before after : FilesState) (reads : History) (status : ℕ) (text : List ℕ) : Type 0 where
+  pub bytes : List ℕ
+  pub read : reads ≡ (name, bytes) ∷ []
+  pub longer : limit < length bytes
+  pub counted : IfNone before.told (Rose before.faults after.faults)
+  pub gives : Gives long status text
+
+-- Reading the file of this name failed.
+abbrev pub AnswersFailed : List ℕ → Answer
+AnswersFailed name before after reads status text = (reads ≡ []) × Rose before.faults after.faults × Gives (UNREAD_FILE, read_line name) status text
+
+-- What is answered where the file of this name is not there to be read whole.
+abbrev pub AnswersUnread : ℕ → ℕ × List ℕ → List ℕ → Answer
+AnswersUnread limit long name before after reads status text =
+    AnswersLonger limit long name before after reads status text ⊎ AnswersFailed name before after reads status text
 
 -- The file of this name is asked for, and nothing else unless its bytes are there.
 abbrev pub AnswersFile : ℕ → ℕ × List ℕ → List ℕ → (List ℕ → Answer) → Answer
 AnswersFile limit long name Answers before after reads status text =
-    AnswersBytes name Answers before after reads status text ⊎ ((reads ≡ []) × TellsUnread limit long name before after status text)
+    AnswersBytes limit name Answers before after reads status text ⊎ AnswersUnread limit long name before after reads status text
 
 -- what is told of rows and reports
 abbrev pub flown_text : FlightText → Parts → List Row → List Report → List ℕ

@@ -1,13 +1,58 @@
 -- What holds of every mission that the command flies.
-use Rattle.std.specs.Prelude.{◌≡◌, Ok}
+use Rattle.std.specs.Prelude.{◌≡◌, ◌⊎◌, ℕ, ◌≤◌, List, [], ◌∷◌, length, Some, Ok, IsTrue, codes}
 use Rattle.scram_types.specs.Scripts.{ScriptParts}
 use Rattle.scram_types.specs.Specification.{IsSpec, Parts}
+use Rattle.scram_io.specs.Outside.{FileMap, FilesState, SinkState, file_at}
 use Rattle.fault_script.specs.Fits.{Fits}
+use Rattle.fault_script.specs.Reading.{script_of}
+use Rattle.reconf_spec.specs.Documents.{spec_of}
+use Rattle.coverage_check.specs.Missions.{IsMission, MissionParts}
 use Rattle.frame_model.specs.Flights.{reports_of, rows_of}
 use Rattle.trace_text.specs.Text.{text_of}
 use Rattle.trace_text.specs.TraceReading.{trace_of}
+use Rattle.scram_cli.specs.declared.status.TheConstants.{ANSWERED, WANTING_MEMORY}
+use Rattle.scram_cli.specs.declared.flights.FlightText.TheVariants.{Trace}
+use Rattle.scram_cli.specs.Answers.{FormAnswers, flight_text, memory_line}
+use Rattle.scram_cli.specs.Endings.{Completes, Ends, IsSent, WentOut}
+use Rattle.scram_cli.specs.Forms.{files_of, form_of}
 
 -- What is printed of a mission is read as its rows and reconfigurations.
 abbrev pub PrintedMissionsAreRead : Type 0
 PrintedMissionsAreRead = (spec : Parts) (script : ScriptParts) → IsSpec spec → Fits spec script
     → trace_of spec (text_of spec (rows_of spec script) (reports_of spec script)) ≡ Ok (record { rows = rows_of spec script; reports = reports_of spec script })
+
+-- These files of a map hold a mission: the bytes of the one are its specification, those of the other its script.
+pub record HoldsMission (map : FileMap) (specification_name script_name : List ℕ) (mission : MissionParts) : Type 0 where
+  pub specification : List ℕ
+  pub specification_file : file_at specification_name map ≡ Some specification
+  pub is_specification : spec_of specification ≡ Ok mission.spec
+  pub script : List ℕ
+  pub script_file : file_at script_name map ≡ Some script
+  pub is_script : script_of mission.spec script ≡ Ok mission.script
+  pub sound : IsSpec mission.spec
+  pub is_mission : IsMission mission
+
+-- The sink tells that it surely takes as many bytes as the text has, and as the memory line has.
+pub record HasRoomFor (sink : SinkState) (text : List ℕ) : Type 0 where
+  pub room : ℕ
+  pub told : sink.surely ≡ Some room
+  pub fits : length text ≤ room
+  pub memory : length memory_line ≤ room
+
+-- The text went out and the status is 0, or memory was wanting, with its line and status.
+abbrev pub EndsAnswered : List ℕ → SinkState → SinkState → ℕ → Type 0
+EndsAnswered text old new code = ((code ≡ ANSWERED) × WentOut old new text) ⊎ ((code ≡ WANTING_MEMORY) × WentOut old new memory_line)
+
+-- The words `run`, a specification's name and a script's.
+abbrev pub run_words : List ℕ → List ℕ → List (List ℕ)
+run_words specification script = codes "run" ∷ specification ∷ script ∷ []
+
+-- Completeness: with steady files that hold a mission, and room in the sink, a call of `scram` by the words `run`, of which
+-- its clauses `answer` and `complete` hold, ends with status 0 and the whole text of the one-thread trace, or memory was
+-- wanting.
+abbrev pub MissionsAreAnswered : Type 0
+MissionsAreAnswered = (specification script : List ℕ) (map : FileMap) (mission : MissionParts) (before after : FilesState) (old new : SinkState) (code : ℕ)
+    → Ends (FormAnswers (form_of (run_words specification script))) (files_of (form_of (run_words specification script))) before after (IsSent old new code)
+    → Completes (FormAnswers (form_of (run_words specification script))) (files_of (form_of (run_words specification script))) before after old new
+    → before.told ≡ Some map → IsTrue before.steady → HoldsMission map specification script mission
+    → HasRoomFor old (flight_text Trace mission.spec mission.script) → EndsAnswered (flight_text Trace mission.spec mission.script) old new code

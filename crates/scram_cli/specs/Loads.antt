@@ -1,10 +1,10 @@
 -- What the loading of a file says of the file and of its bytes.
-use Rattle.std.specs.Prelude.{◌≡◌, ◌⊎◌, ◌<◌, ◌^◌, ℕ, List, [], ◌∷◌, Vec, length, Ok, Err, ⊤}
+use Rattle.std.specs.Prelude.{◌≡◌, ◌⊎◌, ◌<◌, ◌≤◌, ◌^◌, ℕ, List, [], ◌∷◌, Vec, length, Ok, Err, ⊤}
 use Rattle.scram_types.specs.declared.flights.Flown.{Flown}
 use Rattle.scram_types.specs.Scripts.{ScriptParts}
 use Rattle.scram_types.specs.Specification.{Parts}
 use Rattle.scram_doc.specs.declared.fault.DocFault.{DocFault}
-use Rattle.scram_io.specs.Outside.{FilesState, Grew, IsLonger, Rose}
+use Rattle.scram_io.specs.Outside.{FilesState, FoundLonger, Grew, Rose}
 use Rattle.fault_script.specs.Fits.{Fits}
 use Rattle.fault_script.specs.Reading.{script_of}
 use Rattle.spec_apps.specs.declared.fault.SpecFault.{SpecFault}
@@ -19,20 +19,21 @@ use Rattle.trace_text.specs.TraceReading.{trace_of}
 use Rattle.scram_cli.specs.declared.loads.Loaded.{Loaded}
 use Rattle.scram_cli.specs.declared.loads.Loaded.TheVariants.{Got, Refused, TooLong, Failed, NoMemory}
 
--- The file was read, and nothing else, and had bytes of which this holds.
-pub record HasRead (name : List ℕ) (Fact : List ℕ → Type 0) (before after : FilesState) : Type 0 where
+-- The file was read, and nothing else, and had bytes, no more than the limit, of which this holds.
+pub record HasRead (limit : ℕ) (name : List ℕ) (Fact : List ℕ → Type 0) (before after : FilesState) : Type 0 where
   pub bytes : List ℕ
   pub grew : Grew before after ((name, bytes) ∷ [])
+  pub fits : length bytes ≤ limit
   pub fact : Fact bytes
 
--- What became of loading a file of at most so many bytes: it was read, and its bytes are a value or are refused; or it was
--- not read, because it is too long or because the files failed; or memory was wanting, before it was read or after.
+-- What became of loading a file of at most so many bytes: it was read, and its bytes are a value or are refused, or it
+-- is too long; or it was not read because the files failed; or memory was wanting, before it was read or after.
 abbrev pub Loads : {A E : Type 0} → (A → List ℕ → Type 0) → (E → List ℕ → Type 0) → ℕ → List ℕ → FilesState → FilesState → Loaded A E → Type 0
-Loads Reads Refuses limit name before after (Got value) = HasRead name (Reads value) before after
-Loads Reads Refuses limit name before after (Refused fault) = HasRead name (Refuses fault) before after
-Loads Reads Refuses limit name before after TooLong = Grew before after [] × IsLonger before name limit
+Loads Reads Refuses limit name before after (Got value) = HasRead limit name (Reads value) before after
+Loads Reads Refuses limit name before after (Refused fault) = HasRead limit name (Refuses fault) before after
+Loads Reads Refuses limit name before after TooLong = FoundLonger before after name limit
 Loads Reads Refuses limit name before after Failed = Grew before after [] × Rose before.faults after.faults
-Loads Reads Refuses limit name before after NoMemory = Grew before after [] ⊎ HasRead name (λ (bytes : List ℕ). ⊤) before after
+Loads Reads Refuses limit name before after NoMemory = Grew before after [] ⊎ HasRead limit name (λ (bytes : List ℕ). ⊤) before after
 
 -- the bytes are this specification, or are refused with this fault, which shows a cycle of needs where there is one
 abbrev pub ReadsAsSpec : Parts → List ℕ → Type 0

@@ -20,7 +20,7 @@ pub enum Loaded<T, E> {
     Got(T),
     /// The rule that the bytes break.
     Refused(E),
-    /// The file has more bytes than it may have, and was not read.
+    /// The file has more bytes than it may have.
     TooLong,
     /// The file could not be read.
     Failed,

@@ -12,11 +12,12 @@ use crate::command::scram;
 use crate::status::Status;
 use app_model::Rack;
 use scram_io::{RealFiles, RealSink};
+use scram_types::NoMemory;
 use std::alloc::AllocGlobal;
 use std::io::Print;
+use std::rt;
 use std::sync::Wait;
 use std::thread::Threads;
-use std::{io, rt};
 
 /// Does what the words after the program's name ask for, with the files of the system and standard output. Both are
 /// handed back with what they note: the names and bytes of what was read, in order, and the bytes that went out.
@@ -32,7 +33,7 @@ pub fn run_program<'a, R: AllocGlobal + rt::Files + Print + Threads + Wait + Syn
     words: &[String],
     racks: Vec<Rack>,
     spares: Vec<Rack>,
-) -> io::Result<(Status, RealFiles<'a, R>, RealSink<'a, R>)>
+) -> Result<(Status, RealFiles<'a, R>, RealSink<'a, R>), NoMemory>
     requires racks { vec_len racks ≡ 8 }
     requires spares { vec_len spares ≡ 8 }
     ensures answer { IfOk result (λ ended. Ends (FormAnswers (form_of (map string_bytes words.now))) (files_of (form_of (map string_bytes words.now)))

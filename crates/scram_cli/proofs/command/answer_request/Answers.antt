@@ -18,4 +18,4 @@ returns-in-Got-clause-assured g c = λ answered.
     (assured_of _ _ _ _ _ _ _ _ (c.answers_are_assured.ensures _) c.answer_read.ensures.ends answered)
 
 pub returns-in-NoMemory-clause-ends : goal.returns-in-NoMemory-clause-ends
-returns-in-NoMemory-clause-ends g c = load_memory _ c.args.specification.now _ _ _ _ _ _ c.in-NoMemory.ensures.loads c.refuse_memory.ensures.taken
+returns-in-NoMemory-clause-ends g c = load_memory _ _ c.args.specification.now _ _ _ _ _ _ c.in-NoMemory.ensures.loads c.refuse_memory.ensures.taken

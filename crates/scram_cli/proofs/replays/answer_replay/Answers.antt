@@ -11,4 +11,4 @@ returns-in-Got-clause-quiet g c =
     c.replay_script.ensures.quiet
 
 pub returns-in-NoMemory-clause-ends : goal.returns-in-NoMemory-clause-ends
-returns-in-NoMemory-clause-ends g c = load_memory _ c.args.script.now _ _ _ _ _ _ c.in-NoMemory.ensures.loads c.refuse_memory.ensures.taken
+returns-in-NoMemory-clause-ends g c = load_memory _ _ c.args.script.now _ _ _ _ _ _ c.in-NoMemory.ensures.loads c.refuse_memory.ensures.taken
