@@ -54,7 +54,9 @@ fn print_trace(rt: &HostRuntime, spec: &Spec, flown: &Flown) -> io::Result<()>
     requires rows { length flown.now.rows < 2 ^ 32 }
     requires reports { length flown.now.reports < 2 ^ 32 }
 {
-    let mut out = RealSink::new(rt.alloc(), rt)?;
+    let Ok(mut out) = RealSink::new(rt.alloc(), rt) else {
+        return Err(ErrorKind::OutOfMemory.into());
+    };
     let put = put_trace(&mut out, spec, flown.rows.items(), flown.reports.items());
     match (put, out.flush()) {
         (Ok(()), Ok(())) => Ok(()),

@@ -1,9 +1,9 @@
 //! A flight control of a builder's own.
-#![tactic(auto, unfolding(app_model::specs::FlightControl::closer, app_model::specs::FlightControl::command, app_model::specs::FlightControl::elevator_after, app_model::specs::FlightControl::aileron_after, app_model::specs::FlightControl::flight_control_ran, scram_types::specs::Ranges::clamp_in, scram_types::specs::Numbers::clamp))]
+#![tactic(auto, unfolding(app_model::specs::FlightControl::command, app_model::specs::FlightControl::elevator_after, app_model::specs::FlightControl::aileron_after, app_model::specs::FlightControl::flight_control_ran))]
 
 ghost use Rattle.std.specs.Prelude.{◌≡◌, ◌<◌};
 ghost use Rattle.scram_types.specs.Numbers.{IsWord};
-ghost use Rattle.app_model.specs.FlightControl.{closer, command, flight_control_ran};
+ghost use Rattle.app_model.specs.FlightControl.{aileron_after, closer, command, elevator_after, flight_control_ran};
 
 use app_model::kinds::autopilot;
 use app_model::kinds::every_kind::STATUS;
@@ -11,7 +11,7 @@ use app_model::kinds::flight_control::{AILERON, AUGMENTED, ELEVATOR, KIND};
 use app_model::orders::area_after;
 use app_model::reads::{next_ticks, read_lead, read_own};
 use app_model::{App, Seen};
-use scram_types::numbers::clamped;
+use scram_types::ranges::{clamped_in, make_range};
 use scram_types::{Area, KindId, Order};
 
 /// A flight control that asks what a surface can reach in one frame, and goes to the point there that lies nearest to the
@@ -38,22 +38,44 @@ impl App for OwnFlightControl {
 fn run(seen: &Seen) -> Area
     ensures { result ≡ flight_control_ran seen.now }
 {
-    let pitch = commanded(seen, autopilot::PITCH);
-    let roll = commanded(seen, autopilot::ROLL);
-    let (elevator, aileron) = if seen.mode.0 == AUGMENTED {
-        (
-            clamped(
-                reached(read_own(KIND, seen, ELEVATOR), pitch, 40),
-                -100,
-                100,
-            ),
-            clamped(reached(read_own(KIND, seen, AILERON), roll, 60), -150, 150),
+    [
+        1,
+        next_elevator(seen),
+        next_aileron(seen),
+        commanded(seen, autopilot::PITCH),
+        commanded(seen, autopilot::ROLL),
+        0,
+        next_ticks(KIND, seen),
+        0,
+    ]
+}
+
+fn next_elevator(seen: &Seen) -> i64
+    ensures { result ≡ elevator_after seen.now }
+{
+    let command = commanded(seen, autopilot::PITCH);
+    if seen.mode.0 == AUGMENTED {
+        clamped_in(
+            make_range(100, 100),
+            reached(read_own(KIND, seen, ELEVATOR), command, 40),
         )
     } else {
-        (2 * pitch, 2 * roll)
-    };
-    let ticks = next_ticks(KIND, seen);
-    [1, elevator, aileron, pitch, roll, 0, ticks, 0]
+        2 * command
+    }
+}
+
+fn next_aileron(seen: &Seen) -> i64
+    ensures { result ≡ aileron_after seen.now }
+{
+    let command = commanded(seen, autopilot::ROLL);
+    if seen.mode.0 == AUGMENTED {
+        clamped_in(
+            make_range(150, 150),
+            reached(read_own(KIND, seen, AILERON), command, 60),
+        )
+    } else {
+        2 * command
+    }
 }
 
 /// What the autopilot commands: 0 where it does not run.
@@ -70,6 +92,7 @@ fn commanded(seen: &Seen, variable: usize) -> i64
 }
 
 /// Where a surface comes in one frame.
+#[tactic(auto, unfolding(app_model::specs::FlightControl::closer, scram_types::specs::Ranges::clamp_in, scram_types::specs::Numbers::clamp))]
 fn reached(from: i64, wanted: i64, step: u32) -> i64
     requires from { IsWord from }
     requires wanted { IsWord wanted }
