@@ -94,7 +94,7 @@ no_broken_schedule spec text bytes breaks = not_zero 11 _ text (sym breaks.line)
 
 schedule_assures : (law : ReconfigurationsAreAssured) (schedule : List ℕ) (spec : Parts) (script : ScriptParts) → IsSpec spec → Fits spec script
     → IsAssuring (ScheduleAnswers schedule spec script) (OfDocument (SaysSchedule spec) schedule (λ (list : List ℕ) (reads : History) (text : List ℕ).
-      (reads ≡ []) × IsWholeSchedule (flight_of spec script) list × IsAssured Trace spec script text))
+    (reads ≡ []) × IsWholeSchedule (flight_of spec script) list × IsAssured Trace spec script text))
 schedule_assures law schedule spec script sound fits before after reads text is =
     document_assures (SaysSchedule spec) (BreaksSchedule spec) MAX_SCHEDULE_BYTES 11 (long_schedule).1 schedule (ListAnswers spec script)
     (λ (list : List ℕ) (reads : History) (text : List ℕ). (reads ≡ []) × IsWholeSchedule (flight_of spec script) list × IsAssured Trace spec script text)

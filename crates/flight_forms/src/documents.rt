@@ -55,10 +55,7 @@ impl Document<Script> for ScriptDocument<'_> {
     }
 
     fn too_long(&self) -> Refusal {
-        refuse_script(&ScriptFault::new(
-            fault_script::rule::TOO_LONG,
-            &Path::root(),
-        ))
+        refuse_script(&ScriptFault::new(fault_script::rule::TOO_LONG, &Path::root()))
     }
 }
 

@@ -9,8 +9,8 @@ ghost use Rattle.flight_forms.specs.Answers.{IsReplayAnswer, ListAnswers, Replay
 ghost use Rattle.flight_forms.specs.Documents.{AnswersSchedule, AnswersScript};
 ghost use Rattle.flight_forms.specs.Replays.{HasCodes, MakesReplay, TellsReplay};
 
-use crate::documents::{ScheduleDocument, ScriptDocument};
 use crate::boxes::Boxes;
+use crate::documents::{ScheduleDocument, ScriptDocument};
 use crate::flights::{FlightText, tell_flown};
 use crate::missions::make_mission;
 use coverage_check::Mission;
@@ -147,7 +147,14 @@ fn fly_replay<K: Sink>(alloc: Global, replayed: &Replay, out: &mut K, boxes: Box
     mission.holds();
     let spec = mission.spec();
     let list = replayed.list.items();
-    match replay(alloc, spec, mission.script(), boxes.racks, boxes.spares, list) {
+    match replay(
+        alloc,
+        spec,
+        mission.script(),
+        boxes.racks,
+        boxes.spares,
+        list,
+    ) {
         Ok(flown) => {
             let status = tell_flown(out, mission, &flown, FlightText::Trace);
             drop(flown);
@@ -163,7 +170,10 @@ fn refusal_of(spec: &Spec, error: ReplayError) -> Refusal
 {
     match error {
         ReplayError::Illegal { index, given, next } => {
-            Refusal::new(Refused::Schedule, make_illegal_line(spec, index, given, next))
+            Refusal::new(
+                Refused::Schedule,
+                make_illegal_line(spec, index, given, next),
+            )
         }
         ReplayError::Short { events, next } => {
             Refusal::new(Refused::Schedule, make_short_line(spec, events, next))

@@ -106,7 +106,7 @@ first_decided : {T : Type 0} (Says : T → List ℕ → Type 0) (Breaks : ℕ ×
     (value : T) (before mid after : FilesState) (has : HasRead limit name (Says value) before mid) (reads : History) (status : ℕ) (text : List ℕ)
     → Then value mid after reads status text ⊎ (IsMemoryRefusal status text × AreInTurn names reads)
     → AnswersFile limit long name (AnswersDocument Says Breaks Then) before after ((name, has.bytes) ∷ reads) status text
-      ⊎ (IsMemoryRefusal status text × AreInTurn (name ∷ names) ((name, has.bytes) ∷ reads))
+    ⊎ (IsMemoryRefusal status text × AreInTurn (name ∷ names) ((name, has.bytes) ∷ reads))
 first_decided {T} Says Breaks limit long name names Then value before mid after has reads status text (inl is) =
     inl (first_answer Says Breaks limit long name names Then value before mid after has reads status text is)
 first_decided {T} Says Breaks limit long name names Then value before mid after has reads status text (inr is) = inr (is.0, turn_first name has.bytes names reads is.1)

@@ -9,9 +9,10 @@ ghost use Rattle.form_base.specs.declared.status.TheConstants.{ANSWERED, BROKEN_
 ghost use Rattle.scram_cli.specs.Answers.{FormAnswers, usage_line};
 ghost use Rattle.scram_cli.specs.Assurance.{AssuresForm};
 ghost use Rattle.scram_cli.specs.Forms.{files_of, form_of, with_names};
+ghost use Rattle.scram_cli.specs.Pages.{page_text};
 
 use crate::forms::{Form, form_of};
-use crate::pages::page_text;
+use crate::pages::{Page, page_text};
 use app_model::Rack;
 use flight_forms::laws::flights_are_assured;
 use flight_forms::{
@@ -104,7 +105,15 @@ fn refuse_usage<K: Sink>(out: &mut K) -> Status
 {
     let mut line = Line::new();
     line.text(b"refused: usage\n");
-    tell_refusal(out, &Refusal::new(Refused::Usage, line))
+    let refusal = Refusal::new(Refused::Usage, line);
+    tell_refusal(out, &refusal)
+}
+
+// Puts a page that the command tells of itself.
+fn tell_page<K: Sink>(out: &mut K, page: Page) -> Status
+    ensures { Tells (Gives (ANSWERED, page_text page)) (K.state out.old) (K.state out.new) result.code }
+{
+    tell(out, ANSWERED, page_text(page).as_bytes())
 }
 
 // The table of the forms.
@@ -173,7 +182,7 @@ fn answer_form<R: AllocGlobal + Threads + Wait + Sync, F: Files, K: Sink>(
         Form::Fly { number } => fly_generated(rt, number, out, boxes),
         Form::Told { page } => {
             drop(boxes);
-            tell(out, ANSWERED, page_text(page).as_bytes())
+            tell_page(out, page)
         }
     }
 }

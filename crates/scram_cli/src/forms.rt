@@ -13,13 +13,23 @@ const MISSIONS: u64 = 1_000_000;
 #[derive(Clone, Copy, Debug, PartialEq, Eq)]
 pub enum Form<N> {
     /// To fly the mission in two files.
-    Run { specification: N, script: N },
+    Run {
+        specification: N,
+        script: N,
+    },
     /// Whether a specification is accepted.
-    Check { specification: N },
+    Check {
+        specification: N,
+    },
     /// Which bounds a specification has to give.
-    Bounds { specification: N },
+    Bounds {
+        specification: N,
+    },
     /// Whether the properties of reconfigurations hold of a trace.
-    Props { specification: N, trace: N },
+    Props {
+        specification: N,
+        trace: N,
+    },
     /// To fly the mission in two files by the schedule in a third.
     Replay {
         specification: N,
@@ -27,11 +37,17 @@ pub enum Form<N> {
         schedule: N,
     },
     /// To print the mission of a number, 0 to 999,999.
-    Gen { number: u32 },
+    Gen {
+        number: u32,
+    },
     /// To fly the mission of a number, 0 to 999,999, and to tell of it in one line.
-    Fly { number: u32 },
+    Fly {
+        number: u32,
+    },
     /// What the command tells of itself.
-    Told { page: Page },
+    Told {
+        page: Page,
+    },
 }
 
 /// The form that the words after the program's name have.

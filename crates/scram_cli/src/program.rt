@@ -9,8 +9,8 @@ ghost use Rattle.scram_cli.specs.Forms.{files_of, form_of};
 ghost use Rattle.form_base.specs.declared.status.TheConstants.{ANSWERED};
 
 use crate::command::scram;
-use form_base::status::Status;
 use app_model::Rack;
+use form_base::status::Status;
 use scram_io::{RealFiles, RealSink};
 use scram_types::NoMemory;
 use std::alloc::AllocGlobal;

@@ -6,5 +6,5 @@ mod acceptance;
 mod bound_pairs;
 mod lines;
 
-pub use bound_pairs::bounds;
 pub use acceptance::check;
+pub use bound_pairs::bounds;

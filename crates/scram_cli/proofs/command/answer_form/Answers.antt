@@ -1,4 +1,3 @@
-use Rattle.form_base.proofs.Endings.{answered_tells}
 use Rattle.form_base.proofs.Reading.{told_ends}
 use Rattle.form_base.specs.Answers.{Gives}
 use Rattle.form_base.specs.declared.status.TheConstants.{ANSWERED}
@@ -14,5 +13,4 @@ returns-in-Fly g c = rw (c.in-Fly.is) (told_ends (FlyAnswers c.in-Fly.number) _ 
 
 pub returns-in-Told : goal.returns-in-Told
 returns-in-Told g c =
-    rw (c.in-Told.is) (told_ends (Gives (ANSWERED, page_text c.in-Told.page)) _ _ _ _ (g.met.F.Files.steady_below _)
-    (answered_tells (page_text c.in-Told.page) _ _ _ (rw (c.as_bytes.ensures, c.page_text.ensures) at c.tell.ensures)))
+    rw (c.in-Told.is) (told_ends (Gives (ANSWERED, page_text c.in-Told.page)) _ _ _ _ (g.met.F.Files.steady_below _) c.tell_page.ensures)
