@@ -1,5 +1,5 @@
 -- The two seats that a list ends with, of two.
-use Rattle.std.proofs.Common.{◌≡◌, ◌∙◌, ℕ, ◌+◌, zero, suc, ap, arith, List, [], ◌∷◌, ◌++◌, length, refl, subst, sym}
+use Rattle.std.proofs.Common.{◌≡◌, ◌∙◌, ℕ, ap, arith, List, [], ◌∷◌, ◌++◌, length, subst}
 use Rattle.std.specs.Prelude.{Option, Some, None, IfSome, option_to_list, slice_get}
 use Rattle.std.proofs.lemmas.List.{length-append}
 use Rattle.scram_types.proofs.Items.{first_part, next_part}

@@ -1,4 +1,4 @@
-use Rattle.std.proofs.Common.{◌≡◌, ◌∙◌, ◌++◌, ap, length, rules, subst, sym}
+use Rattle.std.proofs.Common.{◌≡◌, ◌∙◌, ap, length, rules, subst, sym}
 use Rattle.std.specs.Prelude.{IfSome, option_to_list}
 use Rattle.fail_stop.specs.Events.{At}
 use Rattle.word_table.specs.Tables.{IsSeatOf, proc_of, seat_place}
