@@ -5,6 +5,7 @@ ghost use Rattle.scram_io.specs.Outside.{Rose};
 ghost use Rattle.form_base.specs.Answers.{Gives};
 ghost use Rattle.form_base.specs.Assurance.{Assured};
 ghost use Rattle.form_base.specs.Endings.{Completes, Ends, IsSent, IsTaken, Tells, WentOut};
+ghost use Rattle.form_base.specs.Refusals.{told};
 ghost use Rattle.form_base.specs.declared.status.TheConstants.{ANSWERED, BROKEN_USAGE, UNREAD_FILE, UNWRITTEN_OUTPUT};
 ghost use Rattle.scram_cli.specs.Answers.{FormAnswers, usage_line};
 ghost use Rattle.scram_cli.specs.Assurance.{AssuresForm};
@@ -103,10 +104,16 @@ fn answer_words<R: AllocGlobal + Threads + Wait + Sync, F: Files, K: Sink>(
 fn refuse_usage<K: Sink>(out: &mut K) -> Status
     ensures { Tells (Gives (BROKEN_USAGE, usage_line)) (K.state out.old) (K.state out.new) result.code }
 {
+    tell_refusal(out, &usage())
+}
+
+// The refusal of words that have no form.
+fn usage() -> Refusal
+    ensures { told result ≡ (BROKEN_USAGE, usage_line) }
+{
     let mut line = Line::new();
     line.text(b"refused: usage\n");
-    let refusal = Refusal::new(Refused::Usage, line);
-    tell_refusal(out, &refusal)
+    Refusal::new(Refused::Usage, line)
 }
 
 // Puts a page that the command tells of itself.

@@ -9,4 +9,4 @@ pub returns : goal.returns
 returns g c =
     given_tells BROKEN_USAGE usage_line _ _ _ (λ same. absurd (omega (arith, same))) (λ same. absurd (omega (arith, same)))
     (subst (λ (told : ℕ × List ℕ). IsTaken (g.K.Sink.state c.args.out.now) (g.K.Sink.state c.tell_refusal.new.out) c.tell_refusal.result.code told.0 told.1)
-    c.new-refusal.ensures c.tell_refusal.ensures)
+    c.usage.ensures c.tell_refusal.ensures)
