@@ -9,16 +9,16 @@ use Rattle.scram_io.specs.Outside.{FilesState, Rose, StaysSteady}
 use Rattle.form_base.specs.declared.refusals.Refusal.{Refusal}
 use Rattle.form_base.specs.declared.status.TheConstants.{UNREAD_FILE}
 use Rattle.form_base.specs.Answers.{Answer}
-use Rattle.form_base.specs.Endings.{Decides, Reads}
+use Rattle.form_base.specs.Endings.{Decides, Prepares}
 use Rattle.form_base.specs.Loads.{HasRead, IsUnloaded}
 use Rattle.form_base.specs.Refusals.{told}
 use Rattle.form_base.proofs.Reading.{document_reads, refused_reads}
-use Rattle.flight_forms.specs.Documents.{AnswersSchedule, AnswersScript, BreaksSchedule, BreaksScript, SaysSchedule, SaysScript, long_schedule, long_script}
+use Rattle.flight_forms.specs.Documents.{AsksSchedule, AsksScript, BreaksSchedule, BreaksScript, SaysSchedule, SaysScript, long_schedule, long_script}
 
 -- the script was read, and then what is answered of it
 pub script_reads : {U : Type 0} (spec : Parts) (name : List ℕ) (names : List (List ℕ)) (Then : ScriptParts → Answer) (Rest : U → ℕ → List ℕ → Type 0) (value : ScriptParts) (before mid after : FilesState) (result : Result U Refusal)
-    → HasRead MAX_SCRIPT_BYTES name (SaysScript spec value) before mid → StaysSteady before mid name → Reads (Then value) Rest names mid after result
-    → Reads (AnswersScript spec name Then) Rest (name ∷ names) before after result
+    → HasRead MAX_SCRIPT_BYTES name (SaysScript spec value) before mid → StaysSteady before mid name → Prepares (Then value) Rest names mid after result
+    → Prepares (AsksScript spec name Then) Rest (name ∷ names) before after result
 script_reads {U} spec name names Then Rest value before mid after result has steady finds =
     document_reads (SaysScript spec) (BreaksScript spec) MAX_SCRIPT_BYTES long_script name names Then Rest value before mid after result has steady finds
 
@@ -26,14 +26,14 @@ script_reads {U} spec name names Then Rest value before mid after result has ste
 pub script_unread : (spec : Parts) (name : List ℕ) (names : List (List ℕ)) (Then : ScriptParts → Answer) (before after : FilesState) (refusal : Refusal)
     → IsUnloaded (BreaksScript spec) MAX_SCRIPT_BYTES long_script name before after (told refusal) → StaysSteady before after name
     → ((told refusal).0 ≡ UNREAD_FILE → Rose before.faults after.faults)
-    → Decides (AnswersScript spec name Then) (name ∷ names) before after (told refusal).0 (told refusal).1
+    → Decides (AsksScript spec name Then) (name ∷ names) before after (told refusal).0 (told refusal).1
 script_unread spec name names Then before after refusal is steady unread =
     refused_reads (SaysScript spec) (BreaksScript spec) MAX_SCRIPT_BYTES long_script name names Then before after refusal is steady unread
 
 -- the schedule was read, and then what is answered of it
 pub schedule_reads : {U : Type 0} (spec : Parts) (name : List ℕ) (names : List (List ℕ)) (Then : List ℕ → Answer) (Rest : U → ℕ → List ℕ → Type 0) (value : List ℕ) (before mid after : FilesState) (result : Result U Refusal)
-    → HasRead MAX_SCHEDULE_BYTES name (SaysSchedule spec value) before mid → StaysSteady before mid name → Reads (Then value) Rest names mid after result
-    → Reads (AnswersSchedule spec name Then) Rest (name ∷ names) before after result
+    → HasRead MAX_SCHEDULE_BYTES name (SaysSchedule spec value) before mid → StaysSteady before mid name → Prepares (Then value) Rest names mid after result
+    → Prepares (AsksSchedule spec name Then) Rest (name ∷ names) before after result
 schedule_reads {U} spec name names Then Rest value before mid after result has steady finds =
     document_reads (SaysSchedule spec) (BreaksSchedule spec) MAX_SCHEDULE_BYTES long_schedule name names Then Rest value before mid after result has steady finds
 
@@ -41,6 +41,6 @@ schedule_reads {U} spec name names Then Rest value before mid after result has s
 pub schedule_unread : (spec : Parts) (name : List ℕ) (names : List (List ℕ)) (Then : List ℕ → Answer) (before after : FilesState) (refusal : Refusal)
     → IsUnloaded (BreaksSchedule spec) MAX_SCHEDULE_BYTES long_schedule name before after (told refusal) → StaysSteady before after name
     → ((told refusal).0 ≡ UNREAD_FILE → Rose before.faults after.faults)
-    → Decides (AnswersSchedule spec name Then) (name ∷ names) before after (told refusal).0 (told refusal).1
+    → Decides (AsksSchedule spec name Then) (name ∷ names) before after (told refusal).0 (told refusal).1
 schedule_unread spec name names Then before after refusal is steady unread =
     refused_reads (SaysSchedule spec) (BreaksSchedule spec) MAX_SCHEDULE_BYTES long_schedule name names Then before after refusal is steady unread

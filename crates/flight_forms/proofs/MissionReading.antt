@@ -1,5 +1,5 @@
 -- From a specification and a script to what is answered of their mission.
-use Rattle.std.proofs.Common.{◌≡◌, ℕ, List, refl, sym, ap, subst, inl, inr}
+use Rattle.std.proofs.Common.{◌≡◌, ℕ, List, refl, subst, inl, inr}
 use Rattle.std.specs.Prelude.{◌≢◌, ◌⊎◌, Option, Some, None, Result, Ok, Err}
 use Rattle.scram_types.specs.Scripts.{ScriptParts}
 use Rattle.scram_types.specs.Specification.{Parts}
@@ -8,13 +8,11 @@ use Rattle.form_base.specs.declared.refusals.Refusal.{Refusal}
 use Rattle.form_base.specs.Endings.{IsMemoryRefusal, Settles, Tells}
 use Rattle.form_base.specs.Loads.{IsOutOfMemory}
 use Rattle.form_base.specs.Refusals.{told}
+use Rattle.form_base.proofs.Reading.{memory_refusal}
 use Rattle.flight_forms.specs.declared.replays.Replay.{Replay}
 use Rattle.flight_forms.specs.Answers.{IsReplayAnswer}
 use Rattle.flight_forms.specs.Missions.{MakesMission, UnlessRefused, mission_refusal}
 use Rattle.flight_forms.specs.Replays.{MakesReplay, TellsReplay}
-
-pub memory_refusal : (refusal : ℕ × List ℕ) → IsOutOfMemory refusal → IsMemoryRefusal refusal.0 refusal.1
-memory_refusal refusal is = (ap (λ (told : ℕ × List ℕ). told.0) is, ap (λ (told : ℕ × List ℕ). told.1) is)
 
 -- where there is no refusal, the answer is the rest
 unless_none : (refusal : Option (ℕ × List ℕ)) (A : ℕ → List ℕ → Type 0) (status : ℕ) (text : List ℕ) → refusal ≡ None → A status text → UnlessRefused refusal A status text

@@ -15,9 +15,9 @@ use Rattle.schedule_replay.specs.Replaying.{AnswersReplay}
 use Rattle.form_base.specs.declared.status.TheConstants.{ANSWERED, BROKEN_SCHEDULE, OUT_OF_MEMORY}
 use Rattle.form_base.specs.Answers.{Answer, Gives, WithoutFiles}
 use Rattle.form_base.specs.Refusals.{memory_line}
-use Rattle.form_base.specs.Specifications.{AnswersSpecification}
+use Rattle.form_base.specs.Specifications.{AsksSpecification}
 use Rattle.flight_forms.specs.declared.flights.FlightText.TheVariants.{Trace, Summary}
-use Rattle.flight_forms.specs.Documents.{AnswersSchedule, AnswersScript}
+use Rattle.flight_forms.specs.Documents.{AsksSchedule, AsksScript}
 use Rattle.flight_forms.specs.Missions.{UnlessRefused, mission_refusal}
 use Rattle.flight_forms.specs.Texts.{flight_text}
 
@@ -31,7 +31,7 @@ ScriptAnswers spec script = WithoutFiles (UnlessRefused (mission_refusal spec sc
 
 -- The answer to `run` and the names of a specification's file and of a script's.
 abbrev pub RunAnswers : List ℕ → List ℕ → Answer
-RunAnswers specification script = AnswersSpecification specification (λ (spec : Parts). AnswersScript spec script (ScriptAnswers spec))
+RunAnswers specification script = AsksSpecification specification (λ (spec : Parts). AsksScript spec script (ScriptAnswers spec))
 
 -- How a list is refused that is no schedule which flies to the end.
 abbrev pub replay_refusal : Parts → ReplayError → ℕ × List ℕ
@@ -58,12 +58,12 @@ ListAnswers spec script list = WithoutFiles (UnlessRefused (mission_refusal spec
 
 -- The answer to `replay` where a specification and a script are read.
 abbrev pub ScheduleAnswers : List ℕ → Parts → ScriptParts → Answer
-ScheduleAnswers schedule spec script = AnswersSchedule spec schedule (ListAnswers spec script)
+ScheduleAnswers schedule spec script = AsksSchedule spec schedule (ListAnswers spec script)
 
 -- The answer to `replay` and the names of the files of a specification, a script and a schedule.
 abbrev pub ReplayAnswers : List ℕ → List ℕ → List ℕ → Answer
 ReplayAnswers specification script schedule =
-    AnswersSpecification specification (λ (spec : Parts). AnswersScript spec script (ScheduleAnswers schedule spec))
+    AsksSpecification specification (λ (spec : Parts). AsksScript spec script (ScheduleAnswers schedule spec))
 
 -- The specification of generated missions: the value of its text, for which the script of this number fits.
 pub record IsGenerated (number : ℕ) (spec : Parts) : Type 0 where

@@ -33,8 +33,8 @@ abbrev pub long_script : ℕ × List ℕ
 long_script = (BROKEN_SCRIPT, script_line (record { rule = script_rule.TOO_LONG; path = [] }))
 
 -- The file of this name is asked for, and this is answered of the script that it holds.
-abbrev pub AnswersScript : Parts → List ℕ → (ScriptParts → Answer) → Answer
-AnswersScript spec name Then = AnswersFile MAX_SCRIPT_BYTES long_script name (AnswersDocument (SaysScript spec) (BreaksScript spec) Then)
+abbrev pub AsksScript : Parts → List ℕ → (ScriptParts → Answer) → Answer
+AsksScript spec name Then = AnswersFile MAX_SCRIPT_BYTES long_script name (AnswersDocument (SaysScript spec) (BreaksScript spec) Then)
 
 -- The bytes are this schedule, a list of codes of events that the specification has.
 pub record SaysSchedule (spec : Parts) (list : List ℕ) (bytes : List ℕ) : Type 0 where
@@ -52,5 +52,5 @@ abbrev pub long_schedule : ℕ × List ℕ
 long_schedule = (BROKEN_SCHEDULE, fault_line (record { line = 0; rule = schedule_rule.TOO_LONG }))
 
 -- The file of this name is asked for, and this is answered of the schedule that it holds.
-abbrev pub AnswersSchedule : Parts → List ℕ → (List ℕ → Answer) → Answer
-AnswersSchedule spec name Then = AnswersFile MAX_SCHEDULE_BYTES long_schedule name (AnswersDocument (SaysSchedule spec) (BreaksSchedule spec) Then)
+abbrev pub AsksSchedule : Parts → List ℕ → (List ℕ → Answer) → Answer
+AsksSchedule spec name Then = AnswersFile MAX_SCHEDULE_BYTES long_schedule name (AnswersDocument (SaysSchedule spec) (BreaksSchedule spec) Then)

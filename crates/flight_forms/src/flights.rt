@@ -15,7 +15,7 @@ use crate::missions::{MissionFiles, read_mission};
 use coverage_check::Mission;
 use form_base::refusals::Refusal;
 use form_base::status::{ANSWERED, Status};
-use form_base::telling::{status_of, tell_refusal};
+use form_base::telling::{status_after, tell_refusal};
 use scram_io::{Files, Sink, SinkFault};
 use scram_types::{Flown, NoMemory, Spec};
 use std::alloc::AllocGlobal;
@@ -102,7 +102,7 @@ pub fn tell_flown<K: Sink>(
     ensures { Tells (Gives (ANSWERED, flight_text told mission.now.spec mission.now.script)) (K.state out.old) (K.state out.new) result.code }
 {
     mission.holds();
-    status_of(put_flown(out, mission.spec(), flown, told), ANSWERED)
+    status_after(put_flown(out, mission.spec(), flown, told), ANSWERED)
 }
 
 fn put_flown<K: Sink>(

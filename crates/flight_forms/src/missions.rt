@@ -2,9 +2,9 @@
 
 ghost use Rattle.std.specs.Prelude.{◌∷◌, []};
 ghost use Rattle.fault_script.specs.Fits.{Fits};
-ghost use Rattle.form_base.specs.Endings.{Reads};
+ghost use Rattle.form_base.specs.Endings.{Prepares};
 ghost use Rattle.flight_forms.specs.Answers.{RunAnswers, ScriptAnswers, TellsTrace};
-ghost use Rattle.flight_forms.specs.Documents.{AnswersScript};
+ghost use Rattle.flight_forms.specs.Documents.{AsksScript};
 ghost use Rattle.flight_forms.specs.Missions.{JoinsMission, MakesMission};
 
 use crate::documents::ScriptDocument;
@@ -31,7 +31,7 @@ pub fn read_mission<F: Files>(
     named: MissionFiles<'_>,
     files: &mut F,
 ) -> Result<Mission, Refusal>
-    ensures { Reads (RunAnswers named.entry.specification.now named.entry.script.now) TellsTrace (named.entry.specification.now ∷ named.entry.script.now ∷ [])
+    ensures { Prepares (RunAnswers named.entry.specification.now named.entry.script.now) TellsTrace (named.entry.specification.now ∷ named.entry.script.now ∷ [])
         (F.state files.old) (F.state files.new) result }
 {
     match load(alloc, &Specification, named.specification, files) {
@@ -46,7 +46,7 @@ fn read_script<F: Files>(
     script: &str,
     files: &mut F,
 ) -> Result<Mission, Refusal>
-    ensures { Reads (AnswersScript spec script.now (ScriptAnswers spec)) TellsTrace (script.now ∷ []) (F.state files.old) (F.state files.new) result }
+    ensures { Prepares (AsksScript spec script.now (ScriptAnswers spec)) TellsTrace (script.now ∷ []) (F.state files.old) (F.state files.new) result }
 {
     match load(alloc, &ScriptDocument { spec: &spec }, script, files) {
         Ok(script) => make_mission(alloc, spec, script),

@@ -3,10 +3,10 @@
 ghost use Rattle.std.specs.Prelude.{◌≡◌, ◌∷◌, [], IfOk};
 ghost use Rattle.fault_script.specs.Fits.{Fits};
 ghost use Rattle.schedule_replay.specs.Events.{AreCodes};
-ghost use Rattle.form_base.specs.Endings.{Ends, IsTaken, Reads, Tells};
+ghost use Rattle.form_base.specs.Endings.{Ends, IsTaken, Prepares, Tells};
 ghost use Rattle.form_base.specs.Refusals.{told};
 ghost use Rattle.flight_forms.specs.Answers.{IsReplayAnswer, ListAnswers, ReplayAnswers, ScheduleAnswers, replay_refusal};
-ghost use Rattle.flight_forms.specs.Documents.{AnswersSchedule, AnswersScript};
+ghost use Rattle.flight_forms.specs.Documents.{AsksSchedule, AsksScript};
 ghost use Rattle.flight_forms.specs.Replays.{HasCodes, MakesReplay, TellsReplay};
 
 use crate::boxes::Boxes;
@@ -70,7 +70,7 @@ fn read_replay<F: Files>(
     named: ReplayFiles<'_>,
     files: &mut F,
 ) -> Result<Replay, Refusal>
-    ensures reads { Reads (ReplayAnswers named.entry.specification.now named.entry.script.now named.entry.schedule.now) TellsReplay
+    ensures reads { Prepares (ReplayAnswers named.entry.specification.now named.entry.script.now named.entry.schedule.now) TellsReplay
         (named.entry.specification.now ∷ named.entry.script.now ∷ named.entry.schedule.now ∷ []) (F.state files.old) (F.state files.new) result }
     ensures codes { IfOk result HasCodes }
 {
@@ -86,7 +86,7 @@ fn read_scheduled<F: Files>(
     named: ReplayFiles<'_>,
     files: &mut F,
 ) -> Result<Replay, Refusal>
-    ensures reads { Reads (AnswersScript spec named.entry.script.now (ScheduleAnswers named.entry.schedule.now spec)) TellsReplay (named.entry.script.now ∷ named.entry.schedule.now ∷ [])
+    ensures reads { Prepares (AsksScript spec named.entry.script.now (ScheduleAnswers named.entry.schedule.now spec)) TellsReplay (named.entry.script.now ∷ named.entry.schedule.now ∷ [])
         (F.state files.old) (F.state files.new) result }
     ensures codes { IfOk result HasCodes }
 {
@@ -106,7 +106,7 @@ fn read_list<F: Files>(
     files: &mut F,
 ) -> Result<Replay, Refusal>
     requires { Fits parts.0 parts.1 }
-    ensures reads { Reads (AnswersSchedule parts.0 schedule.now (ListAnswers parts.0 parts.1)) TellsReplay (schedule.now ∷ []) (F.state files.old) (F.state files.new) result }
+    ensures reads { Prepares (AsksSchedule parts.0 schedule.now (ListAnswers parts.0 parts.1)) TellsReplay (schedule.now ∷ []) (F.state files.old) (F.state files.new) result }
     ensures codes { IfOk result HasCodes }
 {
     let (spec, script) = parts;

@@ -7,7 +7,7 @@ use Rattle.scram_io.specs.Outside.{FilesState, History}
 use Rattle.form_base.specs.declared.status.TheConstants.{ANSWERED}
 use Rattle.form_base.specs.Answers.{Answer, AnswersDocument, AnswersFile, Gives}
 use Rattle.form_base.specs.Assurance.{IsAssuring, OfDocument, OfSpecification}
-use Rattle.form_base.specs.Specifications.{AnswersSpecification, BreaksSpecification, SaysSpecification, long_specification}
+use Rattle.form_base.specs.Specifications.{AsksSpecification, BreaksSpecification, SaysSpecification, long_specification}
 
 -- an answer with another status is none with status 0
 pub not_zero : {P : Type 0} (n : ℕ) (line text : List ℕ) → Gives (suc n, line) ANSWERED text → P
@@ -40,7 +40,7 @@ no_broken_specification text bytes breaks = not_zero 4 _ text (sym breaks.line)
 
 -- What is answered of the specification in a file is assured.
 pub specification_assures : (name : List ℕ) (Then : Parts → Answer) (Assures : Parts → History → List ℕ → Type 0)
-    → ((spec : Parts) → IsSpec spec → IsAssuring (Then spec) (Assures spec)) → IsAssuring (AnswersSpecification name Then) (OfSpecification name Assures)
+    → ((spec : Parts) → IsSpec spec → IsAssuring (Then spec) (Assures spec)) → IsAssuring (AsksSpecification name Then) (OfSpecification name Assures)
 specification_assures name Then Assures law before after reads text is =
     document_assures SaysSpecification BreaksSpecification MAX_SPECIFICATION_BYTES 4 (long_specification).1 name Then Assures
     (λ spec bytes says. law spec says.sound) no_broken_specification before after reads text is

@@ -7,9 +7,9 @@ use Rattle.form_base.specs.declared.refusals.Refused.{Refused}
 use Rattle.form_base.specs.declared.refusals.Refused.TheVariants.{Usage, File, Specification, Acceptance, Script, Assumption, Memory, Trace, Schedule}
 use Rattle.form_base.specs.Answers.{Answer, Gives, WithoutFiles}
 use Rattle.form_base.specs.Assurance.{Assured, IsAssuring}
-use Rattle.form_base.specs.Endings.{AreInTurn, AreThere, Completes, Decides, Ends, Finds, HasRoom, IsMemoryRefusal, IsQuietFor, IsSent, IsTaken, StaysQuiet, StoppedIn, Tells, WentOut}
+use Rattle.form_base.specs.Endings.{AreInTurn, AreThere, Completes, Decides, Ends, IsPrepared, HasRoom, IsMemoryRefusal, IsQuietFor, IsSent, IsTaken, StaysQuiet, StoppedIn, Tells, WentOut}
 use Rattle.form_base.specs.Refusals.{code_of, memory_line}
-use Rattle.form_base.specs.Telling.{status_of}
+use Rattle.form_base.specs.Telling.{status_after}
 
 -- a text that was printed whole, with its status
 pub printed_taken : (status : ℕ) (text : List ℕ) (old new : SinkState) → Printed old new text → IsTaken old new status status text
@@ -20,7 +20,7 @@ pub cut_taken : (status : ℕ) (text : List ℕ) (old new : SinkState) → CutOf
 cut_taken status text old new cut = record { shown = inr (refl, cut.prefix, cut.rose); surely = cut.surely; count = cut.count }
 
 -- a text was put, with its status where the sink did not fail
-pub put_taken : {A E : Type 0} (put : Result A E) (status : ℕ) (text : List ℕ) (old new : SinkState) → Prints put old new text → IsTaken old new (status_of put status) status text
+pub put_taken : {A E : Type 0} (put : Result A E) (status : ℕ) (text : List ℕ) (old new : SinkState) → Prints put old new text → IsTaken old new (status_after put status) status text
 put_taken {A} {E} (Ok _) status text old new printed = printed_taken status text old new printed
 put_taken {A} {E} (Err _) status text old new cut = cut_taken status text old new cut
 
@@ -75,14 +75,14 @@ pub refusal_ends : (A : Answer) (names : List (List ℕ)) (before after : FilesS
 refusal_ends A names before after refused line old new code decides taken =
     record { status = code_of refused; text = line; decides = decides; written = refusal_written refused; shown = taken }
 
-found_answer : (A : Answer) (Rest : ℕ → List ℕ → Type 0) (names : List (List ℕ)) (before after : FilesState) (finds : Finds A Rest names before after) (status : ℕ) (text : List ℕ)
+found_answer : (A : Answer) (Rest : ℕ → List ℕ → Type 0) (names : List (List ℕ)) (before after : FilesState) (finds : IsPrepared A Rest names before after) (status : ℕ) (text : List ℕ)
     → Rest status text ⊎ IsMemoryRefusal status text → A before after finds.reads status text ⊎ (IsMemoryRefusal status text × AreInTurn names finds.reads)
 found_answer A Rest names before after finds status text (inl is) = inl (finds.answers status text is)
 found_answer A Rest names before after finds status text (inr is) = inr (is, finds.turn)
 
 -- what was left of an answer was told
 pub found_ends : (A : Answer) (Rest : ℕ → List ℕ → Type 0) (names : List (List ℕ)) (before after : FilesState) (old new : SinkState) (code : ℕ)
-    → Finds A Rest names before after → Tells Rest old new code → Ends A names before after (IsTaken old new code)
+    → IsPrepared A Rest names before after → Tells Rest old new code → Ends A names before after (IsTaken old new code)
 found_ends A Rest names before after old new code finds tells = record {
   status = tells.status;
   text = tells.text;

@@ -6,7 +6,7 @@ use Rattle.scram_io.proofs.Histories.{grew_more, grew_none}
 use Rattle.form_base.specs.declared.refusals.Refusal.{Refusal}
 use Rattle.form_base.specs.declared.status.TheConstants.{OUT_OF_MEMORY, UNREAD_FILE}
 use Rattle.form_base.specs.Answers.{Answer, AnswersDocument, AnswersFile, WithoutFiles}
-use Rattle.form_base.specs.Endings.{AreInTurn, AreThere, Decides, Ends, Finds, IsMemoryRefusal, IsTaken, Reads, Settles, StaysQuiet, Tells}
+use Rattle.form_base.specs.Endings.{AreInTurn, AreThere, Decides, Ends, IsPrepared, IsMemoryRefusal, IsTaken, Prepares, Settles, StaysQuiet, Tells}
 use Rattle.form_base.specs.Loads.{HasRead, IsOutOfMemory, IsUnloaded, Loads}
 use Rattle.form_base.specs.Refusals.{memory_line, read_line, told}
 
@@ -55,7 +55,7 @@ settled_answer A status text files (inr is) = inr (is, ([], refl))
 
 -- a decision that reads no file
 pub settled : {T : Type 0} (A : ℕ → List ℕ → Type 0) (Rest : T → ℕ → List ℕ → Type 0) (files : FilesState) (result : Result T Refusal)
-    → (IsTrue files.steady → files.faults < greatest_count) → Settles A Rest result → Reads (WithoutFiles A) Rest [] files files result
+    → (IsTrue files.steady → files.faults < greatest_count) → Settles A Rest result → Prepares (WithoutFiles A) Rest [] files files result
 settled {T} A Rest files (Ok value) below answers = record {
   reads = [];
   grew = grew_none files;
@@ -114,8 +114,8 @@ first_decided {T} Says Breaks limit long name names Then value before mid after 
 -- a document was read, and then what is answered of it
 pub document_reads : {T U : Type 0} (Says : T → List ℕ → Type 0) (Breaks : ℕ × List ℕ → List ℕ → Type 0) (limit : ℕ) (long : ℕ × List ℕ) (name : List ℕ) (names : List (List ℕ)) (Then : T → Answer)
     (Rest : U → ℕ → List ℕ → Type 0) (value : T) (before mid after : FilesState) (result : Result U Refusal)
-    → HasRead limit name (Says value) before mid → StaysSteady before mid name → Reads (Then value) Rest names mid after result
-    → Reads (AnswersFile limit long name (AnswersDocument Says Breaks Then)) Rest (name ∷ names) before after result
+    → HasRead limit name (Says value) before mid → StaysSteady before mid name → Prepares (Then value) Rest names mid after result
+    → Prepares (AnswersFile limit long name (AnswersDocument Says Breaks Then)) Rest (name ∷ names) before after result
 document_reads {T} {U} Says Breaks limit long name names Then Rest value before mid after (Ok rest) has steady finds = record {
   reads = (name, has.bytes) ∷ finds.reads;
   grew = grew_more before mid after ((name, has.bytes) ∷ []) finds.reads has.grew finds.grew;
@@ -139,7 +139,7 @@ record Unloaded {T : Type 0} (Says : T → List ℕ → Type 0) (Breaks : ℕ ×
   grew : Grew before after reads
   answer : AnswersFile limit long name (AnswersDocument Says Breaks Then) before after reads status text ⊎ (IsMemoryRefusal status text × AreInTurn (name ∷ names) reads)
 
-memory_refusal : (refusal : ℕ × List ℕ) → IsOutOfMemory refusal → IsMemoryRefusal refusal.0 refusal.1
+pub memory_refusal : (refusal : ℕ × List ℕ) → IsOutOfMemory refusal → IsMemoryRefusal refusal.0 refusal.1
 memory_refusal refusal is = (ap (λ (told : ℕ × List ℕ). told.0) is, ap (λ (told : ℕ × List ℕ). told.1) is)
 
 memory_unloaded : {T : Type 0} (Says : T → List ℕ → Type 0) (Breaks : ℕ × List ℕ → List ℕ → Type 0) (limit : ℕ) (long : ℕ × List ℕ) (name : List ℕ) (names : List (List ℕ)) (Then : T → Answer)

@@ -7,16 +7,16 @@ use Rattle.scram_io.specs.Outside.{FilesState, Rose, StaysSteady}
 use Rattle.form_base.specs.declared.refusals.Refusal.{Refusal}
 use Rattle.form_base.specs.declared.status.TheConstants.{UNREAD_FILE}
 use Rattle.form_base.specs.Answers.{Answer}
-use Rattle.form_base.specs.Endings.{Decides, Reads}
+use Rattle.form_base.specs.Endings.{Decides, Prepares}
 use Rattle.form_base.specs.Loads.{HasRead, IsUnloaded}
 use Rattle.form_base.specs.Refusals.{told}
-use Rattle.form_base.specs.Specifications.{AnswersSpecification, BreaksSpecification, SaysSpecification, long_specification}
+use Rattle.form_base.specs.Specifications.{AsksSpecification, BreaksSpecification, SaysSpecification, long_specification}
 use Rattle.form_base.proofs.Reading.{document_reads, refused_reads}
 
 -- the specification was read, and then what is answered of it
 pub specification_reads : {U : Type 0} (name : List ℕ) (names : List (List ℕ)) (Then : Parts → Answer) (Rest : U → ℕ → List ℕ → Type 0) (spec : Parts) (before mid after : FilesState) (result : Result U Refusal)
-    → HasRead MAX_SPECIFICATION_BYTES name (SaysSpecification spec) before mid → StaysSteady before mid name → Reads (Then spec) Rest names mid after result
-    → Reads (AnswersSpecification name Then) Rest (name ∷ names) before after result
+    → HasRead MAX_SPECIFICATION_BYTES name (SaysSpecification spec) before mid → StaysSteady before mid name → Prepares (Then spec) Rest names mid after result
+    → Prepares (AsksSpecification name Then) Rest (name ∷ names) before after result
 specification_reads {U} name names Then Rest spec before mid after result has steady finds =
     document_reads SaysSpecification BreaksSpecification MAX_SPECIFICATION_BYTES long_specification name names Then Rest spec before mid after result has steady finds
 
@@ -24,6 +24,6 @@ specification_reads {U} name names Then Rest spec before mid after result has st
 pub specification_unread : (name : List ℕ) (names : List (List ℕ)) (Then : Parts → Answer) (before after : FilesState) (refusal : Refusal)
     → IsUnloaded BreaksSpecification MAX_SPECIFICATION_BYTES long_specification name before after (told refusal) → StaysSteady before after name
     → ((told refusal).0 ≡ UNREAD_FILE → Rose before.faults after.faults)
-    → Decides (AnswersSpecification name Then) (name ∷ names) before after (told refusal).0 (told refusal).1
+    → Decides (AsksSpecification name Then) (name ∷ names) before after (told refusal).0 (told refusal).1
 specification_unread name names Then before after refusal is steady unread =
     refused_reads SaysSpecification BreaksSpecification MAX_SPECIFICATION_BYTES long_specification name names Then before after refusal is steady unread

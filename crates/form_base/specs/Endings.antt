@@ -33,7 +33,7 @@ pub record Decides (Answers : Answer) (names : List (List ℕ)) (before after : 
   pub unread : status ≡ UNREAD_FILE → Rose before.faults after.faults
 
 -- Of the files that are named in this order, all that the answer needs was read, and what is answered of that is the answer.
-pub record Finds (Answers : Answer) (Rest : ℕ → List ℕ → Type 0) (names : List (List ℕ)) (before after : FilesState) : Type 0 where
+pub record IsPrepared (Answers : Answer) (Rest : ℕ → List ℕ → Type 0) (names : List (List ℕ)) (before after : FilesState) : Type 0 where
   pub reads : History
   pub grew : Grew before after reads
   pub quiet : StaysQuiet names before after
@@ -41,9 +41,9 @@ pub record Finds (Answers : Answer) (Rest : ℕ → List ℕ → Type 0) (names 
   pub answers : (status : ℕ) (text : List ℕ) → Rest status text → Answers before after reads status text
 
 -- What comes of reading the files of an answer: a value, of which the rest of the answer is made, or a refusal, which is the answer.
-abbrev pub Reads : {T : Type 0} → Answer → (T → ℕ → List ℕ → Type 0) → List (List ℕ) → FilesState → FilesState → Result T Refusal → Type 0
-Reads Answers Rest names before after (Ok value) = Finds Answers (Rest value) names before after
-Reads Answers Rest names before after (Err refusal) = Decides Answers names before after (told refusal).0 (told refusal).1
+abbrev pub Prepares : {T : Type 0} → Answer → (T → ℕ → List ℕ → Type 0) → List (List ℕ) → FilesState → FilesState → Result T Refusal → Type 0
+Prepares Answers Rest names before after (Ok value) = IsPrepared Answers (Rest value) names before after
+Prepares Answers Rest names before after (Err refusal) = Decides Answers names before after (told refusal).0 (told refusal).1
 
 -- What comes of a decision that reads no file: a value, of which the rest of the answer is made, or a refusal, which is the answer or
 -- says that the allocator had no memory.

@@ -39,5 +39,5 @@ abbrev pub long_specification : ℕ × List ℕ
 long_specification = (BROKEN_SPECIFICATION, specification_line (showing [] (record { rule = rule.TOO_LONG; path = [] })))
 
 -- The file of this name is asked for, and this is answered of the specification that it holds.
-abbrev pub AnswersSpecification : List ℕ → (Parts → Answer) → Answer
-AnswersSpecification name Then = AnswersFile MAX_SPECIFICATION_BYTES long_specification name (AnswersDocument SaysSpecification BreaksSpecification Then)
+abbrev pub AsksSpecification : List ℕ → (Parts → Answer) → Answer
+AsksSpecification name Then = AnswersFile MAX_SPECIFICATION_BYTES long_specification name (AnswersDocument SaysSpecification BreaksSpecification Then)

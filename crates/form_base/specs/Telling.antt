@@ -3,6 +3,6 @@ use Rattle.std.specs.Prelude.{ℕ, Result, Ok, Err}
 use Rattle.form_base.specs.declared.status.TheConstants.{UNWRITTEN_OUTPUT}
 
 -- The status after a text of this status was put.
-abbrev pub status_of : {A E : Type 0} → Result A E → ℕ → ℕ
-status_of (Ok _) code = code
-status_of (Err _) code = UNWRITTEN_OUTPUT
+abbrev pub status_after : {A E : Type 0} → Result A E → ℕ → ℕ
+status_after (Ok _) code = code
+status_after (Err _) code = UNWRITTEN_OUTPUT

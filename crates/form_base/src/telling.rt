@@ -3,15 +3,15 @@
 ghost use Rattle.form_base.specs.Endings.{IsTaken};
 ghost use Rattle.std.specs.Prelude.{◌≡◌};
 ghost use Rattle.form_base.specs.Refusals.{told};
-ghost use Rattle.form_base.specs.Telling.{status_of};
+ghost use Rattle.form_base.specs.Telling.{status_after};
 
 use crate::refusals::Refusal;
 use crate::status::{Status, UNWRITTEN_OUTPUT};
 use scram_io::{Sink, SinkFault};
 
 /// The status after a text of the status `code` was put.
-pub fn status_of(put: Result<(), SinkFault>, code: u8) -> Status
-    ensures { result.code ≡ status_of put code }
+pub fn status_after(put: Result<(), SinkFault>, code: u8) -> Status
+    ensures { result.code ≡ status_after put code }
 {
     match put {
         Ok(()) => Status { code },
@@ -25,7 +25,7 @@ pub fn status_of(put: Result<(), SinkFault>, code: u8) -> Status
 pub fn tell<K: Sink>(out: &mut K, code: u8, text: &[u8]) -> Status
     ensures { IsTaken (K.state out.old) (K.state out.new) result.code code text.now }
 {
-    status_of(out.put(text), code)
+    status_after(out.put(text), code)
 }
 
 /// Puts the line of a refusal. The status is the refusal's, or 4 where the sink fails.

@@ -22,7 +22,7 @@ use Rattle.form_base.specs.Endings.{AreInTurn, AreThere, HasRoom, IsMemoryRefusa
 use Rattle.form_base.specs.Specifications.{BreaksSpecification, SaysSpecification, long_specification}
 use Rattle.flight_forms.specs.declared.flights.FlightText.TheVariants.{Trace}
 use Rattle.flight_forms.specs.Answers.{RunAnswers, ScriptAnswers}
-use Rattle.flight_forms.specs.Documents.{AnswersScript, BreaksScript, SaysScript, long_script}
+use Rattle.flight_forms.specs.Documents.{AsksScript, BreaksScript, SaysScript, long_script}
 use Rattle.flight_forms.specs.Missions.{UnlessRefused, mission_refusal, refusal_by, script_refusal}
 use Rattle.flight_forms.specs.Texts.{flight_text}
 use Rattle.scram_cli.specs.Laws.{EndsAnswered, HasRoomFor, HoldsMission, MissionsAreAnswered}
@@ -117,10 +117,10 @@ mission_answered specification script map mission before after reads status text
     let spec_few : nat_le (length holds.specification) MAX_SPECIFICATION_BYTES ≡ true =
     short_by (nat_le (length holds.specification) MAX_SPECIFICATION_BYTES) _ _ mission.spec holds.is_specification in
     let script_few : nat_le (length holds.script) MAX_SCRIPT_BYTES ≡ true = short_by (nat_le (length holds.script) MAX_SCRIPT_BYTES) _ _ mission.script holds.is_script in
-    let Then : Parts → Answer = λ (spec : Parts). AnswersScript spec script (ScriptAnswers spec) in
+    let Then : Parts → Answer = λ (spec : Parts). AsksScript spec script (ScriptAnswers spec) in
     let first = file_answered MAX_SPECIFICATION_BYTES long_specification specification (AnswersDocument SaysSpecification BreaksSpecification Then) map
     holds.specification before before after reads status text holds.specification_file (grind (arith, nat_tests, spec_few)) quiet (omega arith) agrees is in
-    let asked : AnswersScript mission.spec script (ScriptAnswers mission.spec) first.between after first.rest status text =
+    let asked : AsksScript mission.spec script (ScriptAnswers mission.spec) first.between after first.rest status text =
     said_spec mission.spec Then holds.specification first.between after first.rest status text holds.is_specification first.answers in
     let second = file_answered MAX_SCRIPT_BYTES long_script script (AnswersDocument (SaysScript mission.spec) (BreaksScript mission.spec) (ScriptAnswers mission.spec)) map
     holds.script before first.between after first.rest status text holds.script_file (grind (arith, nat_tests, script_few)) quiet first.count first.agrees asked in

@@ -9,7 +9,7 @@ use Rattle.form_base.specs.declared.status.TheConstants.{ANSWERED, NOT_ACCEPTED}
 use Rattle.form_base.specs.Answers.{Answer, Gives, WithoutFiles}
 use Rattle.form_base.specs.Assurance.{OfSpecification}
 use Rattle.form_base.specs.Lines.{shown_line}
-use Rattle.form_base.specs.Specifications.{AnswersSpecification}
+use Rattle.form_base.specs.Specifications.{AsksSpecification}
 use Rattle.spec_forms.specs.Bounds.{bounds_text}
 use Rattle.spec_forms.specs.Lines.{accepted_line}
 
@@ -25,11 +25,11 @@ bounds_answer spec None = (ANSWERED, bounds_text spec)
 
 -- The answer to `check` and the name of a specification's file.
 abbrev pub CheckAnswers : List ℕ → Answer
-CheckAnswers specification = AnswersSpecification specification (λ (spec : Parts). WithoutFiles (Gives (check_answer spec (first_refusal spec))))
+CheckAnswers specification = AsksSpecification specification (λ (spec : Parts). WithoutFiles (Gives (check_answer spec (first_refusal spec))))
 
 -- The answer to `bounds` and the name of a specification's file.
 abbrev pub BoundsAnswers : List ℕ → Answer
-BoundsAnswers specification = AnswersSpecification specification (λ (spec : Parts). WithoutFiles (Gives (bounds_answer spec (state_refusal spec))))
+BoundsAnswers specification = AsksSpecification specification (λ (spec : Parts). WithoutFiles (Gives (bounds_answer spec (state_refusal spec))))
 
 -- Where `check` ends with status 0, no other file was read, the specification is accepted, and its line is told.
 abbrev pub AssuresCheck : List ℕ → History → List ℕ → Type 0

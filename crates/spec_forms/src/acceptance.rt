@@ -3,7 +3,7 @@
 ghost use Rattle.std.specs.Prelude.{◌∷◌, [], List, ℕ};
 ghost use Rattle.coverage_check.specs.Acceptance.{first_refusal};
 ghost use Rattle.form_base.specs.Answers.{Gives};
-ghost use Rattle.form_base.specs.Endings.{Ends, IsTaken, Reads, Settles};
+ghost use Rattle.form_base.specs.Endings.{Ends, IsTaken, Prepares, Settles};
 ghost use Rattle.form_base.specs.declared.status.TheConstants.{ANSWERED};
 ghost use Rattle.spec_forms.specs.Answers.{CheckAnswers, check_answer};
 
@@ -37,7 +37,7 @@ pub fn check<F: Files, K: Sink>(
 
 /// Reads the specification; the line tells that it is accepted.
 fn read_line<F: Files>(alloc: Global, specification: &str, files: &mut F) -> Result<Line, Refusal>
-    ensures { Reads (CheckAnswers specification.now) (λ (line : List ℕ). Gives (ANSWERED, line)) (specification.now ∷ []) (F.state files.old) (F.state files.new) result }
+    ensures { Prepares (CheckAnswers specification.now) (λ (line : List ℕ). Gives (ANSWERED, line)) (specification.now ∷ []) (F.state files.old) (F.state files.new) result }
 {
     match load(alloc, &Specification, specification, files) {
         Ok(spec) => accepted_line_of(alloc, spec),

@@ -6,7 +6,7 @@ ghost use Rattle.coverage_check.specs.Form.{state_refusal};
 ghost use Rattle.coverage_check.specs.Timing.{asked_bounds, is_bound_asked};
 ghost use Rattle.scram_io.specs.Outside.{Prints};
 ghost use Rattle.form_base.specs.Answers.{Gives};
-ghost use Rattle.form_base.specs.Endings.{Ends, IsTaken, Reads, Settles};
+ghost use Rattle.form_base.specs.Endings.{Ends, IsTaken, Prepares, Settles};
 ghost use Rattle.form_base.specs.declared.status.TheConstants.{ANSWERED};
 ghost use Rattle.spec_forms.specs.Answers.{BoundsAnswers, bounds_answer};
 ghost use Rattle.spec_forms.specs.Asked.{AreAsked, TellsBounds};
@@ -19,7 +19,7 @@ use form_base::loads::load;
 use form_base::refusals::{Refusal, Refused};
 use form_base::specifications::Specification;
 use form_base::status::{ANSWERED, Status};
-use form_base::telling::{status_of, tell_refusal};
+use form_base::telling::{status_after, tell_refusal};
 use scram_io::{Files, Sink, SinkFault};
 use scram_types::{ConfId, NoMemory, Spec};
 use std::alloc::Global;
@@ -42,7 +42,7 @@ pub fn bounds<F: Files, K: Sink>(
 {
     match read_asked(alloc, specification, files) {
         Ok(asked) => {
-            let status = status_of(put_bounds(out, &asked.spec, &asked.sets), ANSWERED);
+            let status = status_after(put_bounds(out, &asked.spec, &asked.sets), ANSWERED);
             drop(asked);
             status
         }
@@ -52,7 +52,7 @@ pub fn bounds<F: Files, K: Sink>(
 
 /// Reads the specification, and finds the bounds that it has to give.
 fn read_asked<F: Files>(alloc: Global, specification: &str, files: &mut F) -> Result<Asked, Refusal>
-    ensures reads { Reads (BoundsAnswers specification.now) TellsBounds (specification.now ∷ []) (F.state files.old) (F.state files.new) result }
+    ensures reads { Prepares (BoundsAnswers specification.now) TellsBounds (specification.now ∷ []) (F.state files.old) (F.state files.new) result }
     ensures asked { IfOk result AreAsked }
 {
     match load(alloc, &Specification, specification, files) {

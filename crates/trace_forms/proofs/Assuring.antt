@@ -10,7 +10,7 @@ use Rattle.form_base.specs.declared.status.TheConstants.{ANSWERED}
 use Rattle.form_base.specs.Answers.{Gives, WithoutFiles}
 use Rattle.form_base.specs.Assurance.{IsAssuring, OfDocument}
 use Rattle.form_base.proofs.Assuring.{document_assures, not_zero, specification_assures, text_of_gives}
-use Rattle.trace_forms.specs.Answers.{AnswersTrace, AssuresProps, BreaksTrace, IsJudgement, Judges, PropsAnswers, SaysTrace, judged_answer, long_trace}
+use Rattle.trace_forms.specs.Answers.{AsksTrace, AssuresProps, BreaksTrace, IsJudgement, Judges, PropsAnswers, SaysTrace, judged_answer, long_trace}
 use Rattle.trace_forms.specs.Lines.{holds_line}
 
 no_broken_trace : (spec : Parts) (text bytes : List ℕ) → BreaksTrace spec (ANSWERED, text) bytes → ANSWERED ≢ ANSWERED

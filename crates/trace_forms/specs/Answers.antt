@@ -13,7 +13,7 @@ use Rattle.trace_text.specs.TraceReading.{trace_of}
 use Rattle.form_base.specs.declared.status.TheConstants.{ANSWERED, BROKEN_PROPERTY, BROKEN_TRACE}
 use Rattle.form_base.specs.Answers.{Answer, AnswersDocument, AnswersFile, Gives, WithoutFiles}
 use Rattle.form_base.specs.Assurance.{OfDocument, OfSpecification}
-use Rattle.form_base.specs.Specifications.{AnswersSpecification}
+use Rattle.form_base.specs.Specifications.{AsksSpecification}
 use Rattle.trace_forms.specs.Lines.{broken_line, holds_line, trace_line}
 
 -- The bytes are this trace of a specification's missions; its rows and its reports can be counted with 32 bits.
@@ -33,8 +33,8 @@ abbrev pub long_trace : ℕ × List ℕ
 long_trace = (BROKEN_TRACE, trace_line (record { line = 0; rule = WRONG_END }))
 
 -- The file of this name is asked for, and this is answered of the trace that it holds.
-abbrev pub AnswersTrace : Parts → List ℕ → (Flown → Answer) → Answer
-AnswersTrace spec name Then = AnswersFile MAX_TRACE_BYTES long_trace name (AnswersDocument (SaysTrace spec) (BreaksTrace spec) Then)
+abbrev pub AsksTrace : Parts → List ℕ → (Flown → Answer) → Answer
+AsksTrace spec name Then = AnswersFile MAX_TRACE_BYTES long_trace name (AnswersDocument (SaysTrace spec) (BreaksTrace spec) Then)
 
 -- The first break of a property by a trace, or none where all of them hold of it.
 abbrev pub Judges : Parts → Flown → Option Broken → Type 0
@@ -55,7 +55,7 @@ pub record IsJudgement (spec : Parts) (flown : Flown) (status : ℕ) (text : Lis
 -- The answer to `props` and the names of a specification's file and of a trace's; the specification need not be accepted.
 abbrev pub PropsAnswers : List ℕ → List ℕ → Answer
 PropsAnswers specification trace =
-    AnswersSpecification specification (λ (spec : Parts). AnswersTrace spec trace (λ (flown : Flown). WithoutFiles (IsJudgement spec flown)))
+    AsksSpecification specification (λ (spec : Parts). AsksTrace spec trace (λ (flown : Flown). WithoutFiles (IsJudgement spec flown)))
 
 -- Where `props` ends with status 0, the properties hold of the trace, and no further file was read.
 abbrev pub AssuresProps : List ℕ → List ℕ → History → List ℕ → Type 0

@@ -3,9 +3,9 @@
 ghost use Rattle.std.specs.Prelude.{◌≡◌, ◌⊎◌, ◌∷◌, [], ◌<◌, ◌^◌, ℕ, List, IfOk, length};
 ghost use Rattle.scram_types.specs.declared.flights.Flown.{Flown};
 ghost use Rattle.form_base.specs.Answers.{WithoutFiles};
-ghost use Rattle.form_base.specs.Endings.{Ends, IsTaken, Reads};
+ghost use Rattle.form_base.specs.Endings.{Ends, IsTaken, Prepares};
 ghost use Rattle.form_base.specs.declared.status.TheConstants.{ANSWERED, BROKEN_PROPERTY};
-ghost use Rattle.trace_forms.specs.Answers.{AnswersTrace, IsJudgement, PropsAnswers};
+ghost use Rattle.trace_forms.specs.Answers.{AsksTrace, IsJudgement, PropsAnswers};
 ghost use Rattle.trace_forms.specs.Verdicts.{HasVerdict, TellsJudgement};
 
 use crate::documents::Trace;
@@ -57,7 +57,7 @@ fn read_judgement<F: Files>(
     named: TraceFiles<'_>,
     files: &mut F,
 ) -> Result<Judgement, Refusal>
-    ensures reads { Reads (PropsAnswers named.entry.specification.now named.entry.trace.now) TellsJudgement (named.entry.specification.now ∷ named.entry.trace.now ∷ [])
+    ensures reads { Prepares (PropsAnswers named.entry.specification.now named.entry.trace.now) TellsJudgement (named.entry.specification.now ∷ named.entry.trace.now ∷ [])
         (F.state files.old) (F.state files.new) result }
     ensures verdict { IfOk result HasVerdict }
 {
@@ -77,7 +77,7 @@ fn judge_file<F: Files>(
     trace: &str,
     files: &mut F,
 ) -> Result<Judgement, Refusal>
-    ensures reads { Reads (AnswersTrace spec.now trace.now (λ (flown : Flown). WithoutFiles (IsJudgement spec.now flown))) TellsJudgement (trace.now ∷ [])
+    ensures reads { Prepares (AsksTrace spec.now trace.now (λ (flown : Flown). WithoutFiles (IsJudgement spec.now flown))) TellsJudgement (trace.now ∷ [])
         (F.state files.old) (F.state files.new) result }
     ensures verdict { IfOk result HasVerdict }
 {

@@ -2,18 +2,18 @@ use Rattle.std.proofs.Common.{[], ◌∷◌}
 use Rattle.scram_types.specs.Specification.{Parts}
 use Rattle.form_base.proofs.SpecReading.{specification_reads, specification_unread}
 use Rattle.flight_forms.specs.Answers.{ScheduleAnswers}
-use Rattle.flight_forms.specs.Documents.{AnswersScript}
+use Rattle.flight_forms.specs.Documents.{AsksScript}
 use Rattle.flight_forms.specs.Replays.{TellsReplay}
 use Rattle.flight_forms.proofs.replays.read_replay.Goals as goal
 
 pub returns-in-Ok-clause-reads : goal.returns-in-Ok-clause-reads
 returns-in-Ok-clause-reads g c =
     let named = c.args.named in
-    specification_reads named.specification.now (named.script.now ∷ named.schedule.now ∷ []) (λ (spec : Parts). AnswersScript spec named.script.now (ScheduleAnswers named.schedule.now spec)) TellsReplay
+    specification_reads named.specification.now (named.script.now ∷ named.schedule.now ∷ []) (λ (spec : Parts). AsksScript spec named.script.now (ScheduleAnswers named.schedule.now spec)) TellsReplay
     c.in-Ok.spec _ _ _ c.read_scheduled.result c.in-Ok.ensures.loads c.load.ensures.steady c.read_scheduled.ensures.reads
 
 pub returns-in-Err-clause-reads : goal.returns-in-Err-clause-reads
 returns-in-Err-clause-reads g c =
     let named = c.args.named in
-    specification_unread named.specification.now (named.script.now ∷ named.schedule.now ∷ []) (λ (spec : Parts). AnswersScript spec named.script.now (ScheduleAnswers named.schedule.now spec)) _ _
+    specification_unread named.specification.now (named.script.now ∷ named.schedule.now ∷ []) (λ (spec : Parts). AsksScript spec named.script.now (ScheduleAnswers named.schedule.now spec)) _ _
     c.in-Err.refusal c.in-Err.ensures.loads c.load.ensures.steady c.in-Err.ensures.unread

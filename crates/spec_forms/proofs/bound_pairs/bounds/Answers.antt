@@ -4,5 +4,5 @@ use Rattle.spec_forms.proofs.bound_pairs.bounds.Goals as goal
 
 pub returns-in-Ok : goal.returns-in-Ok
 returns-in-Ok g c =
-    rw (c.status_of-status.ensures)
+    rw (c.status_after-status.ensures)
     (found_ends _ _ _ _ _ _ _ _ c.in-Ok.ensures.reads (answered_tells (bounds_text c.in-Ok.asked.spec) _ _ _ (put_taken c.put_bounds.result 0 _ _ _ c.put_bounds.ensures)))
