@@ -1,0 +1,5 @@
+mod Decoding
+mod Begun
+mod Telling
+mod Keeping
+mod Starting

@@ -1,0 +1,23 @@
+-- The first writer.
+use Rattle.std.proofs.Common.{◌≡◌, ◌∙◌, ap, sym, []}
+use Rattle.frame_model.specs.declared.readings.Reading.TheVariants.{Steady}
+use Rattle.frame_model.specs.Laws.{BeginningsAreRead}
+use Rattle.frame_model.specs.Readings.{reading_of}
+use Rattle.telemetry_tap.specs.declared.taps.Tap.{Tap}
+use Rattle.telemetry_tap.specs.declared.taps.Writer.{Writer}
+use Rattle.telemetry_tap.specs.Rule.{TapSeat, writer_view}
+use Rattle.telemetry_tap.specs.Summaries.{summary_begun, first_rows}
+use Rattle.telemetry_tap.specs.Taps.{IsWriterOf, tap_mission}
+use Rattle.telemetry_tap.proofs.Begun.{none_begun}
+
+pub first_writer : BeginningsAreRead → (tap : Tap) (writer : Writer) → writer.inner.table_id ≡ tap.table.shared.table_id → writer.inner.me ≡ (writer_view (tap_mission tap), [])
+    → writer.published ≡ 0 → writer.begun ≡ 0 → writer.reading ≡ Steady (tap_mission tap).spec.start → IsWriterOf tap writer
+first_writer law tap writer table me none few start = record {
+  table = table;
+  mission = ap (λ (seat : TapSeat). seat.0.mission) me;
+  writes = ap (λ (seat : TapSeat). seat.0.writes) me;
+  seen = ap (λ (seat : TapSeat). seat.0.seen) me ∙ sym none;
+  empty = ap (λ (seat : TapSeat). seat.1) me;
+  begun = few ∙ none_begun law (tap_mission tap) ∙ ap (summary_begun (tap_mission tap)) (sym none);
+  reading = start ∙ ap (λ n. reading_of (tap_mission tap).spec (first_rows (tap_mission tap) n)) (sym none);
+}

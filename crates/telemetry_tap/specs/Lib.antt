@@ -1,0 +1,5 @@
+pub mod Words
+pub mod Summaries
+pub mod Rule
+pub mod Taps
+pub mod Laws

@@ -1,0 +1,65 @@
+-- The rule of the table, and what its steps show.
+use Rattle.std.specs.Prelude.{◌≡◌, ◌≤◌, ℕ, suc, true, false, [], length, slice_index, Some, IfSome}
+use mathlib.Core.Option.{some}
+use lib.ListN.{get_elem?}
+use Rattle.atomic_table.specs.Table.{Me, State, Step}
+use Rattle.coverage_check.specs.Missions.{MissionParts}
+use Rattle.telemetry_tap.specs.declared.views.TapView.{TapView}
+use Rattle.telemetry_tap.specs.Summaries.{summary_after}
+use Rattle.telemetry_tap.specs.Words.{FitsWord, summary_encode}
+
+-- View j of a table whose writer has view number `writer` and has published m rows.
+pub record IsTapView (mission : MissionParts) (m writer j : ℕ) (v : TapView) : Type 0 where
+  pub planned : v.mission ≡ Some mission
+  pub writing : v.writes ≡ true → (j ≡ writer) × (v.seen ≡ m)
+  pub reading : v.writes ≡ false → v.seen ≤ m
+
+-- Exactly one view is the writer's, the word is that of the summary after the rows that it has published, and no reader has
+-- seen more of them.
+pub record IsTapState (mission : MissionParts) (s : State (Unit {0}) TapView) : Type 0 where
+  pub m : ℕ
+  pub writer : ℕ
+  pub pen : TapView
+  pub within : m ≤ mission.script.frames
+  pub long : length s.words ≡ 1
+  pub word : slice_index s.words 0 ≡ summary_encode (summary_after mission m)
+  pub fits : FitsWord (summary_after mission m)
+  pub there : get_elem? s.views writer ≡ some pen
+  pub writes : pen.writes ≡ true
+  pub each : (j : ℕ) (v : TapView) → get_elem? s.views j ≡ some v → IsTapView mission m writer j v
+
+-- The writer's view before it has published a row.
+abbrev pub writer_view : MissionParts → TapView
+writer_view mission = record { mission = Some mission; writes = true; seen = 0; loads = 0 }
+
+-- A seat as the table has it: its view, and the slots that it holds, which are none.
+abbrev pub TapSeat : Type 0
+TapSeat = Me (Unit {0}) TapView
+
+-- The writer's view after one row more.
+abbrev pub row_later : TapView → TapView
+row_later v = record { mission = v.mission; writes = v.writes; seen = suc v.seen; loads = v.loads }
+
+-- A reader's view after a load that showed the summary of m rows.
+abbrev pub view_loaded : TapView → ℕ → TapView
+view_loaded v m = record { mission = v.mission; writes = v.writes; seen = m; loads = suc v.loads }
+
+-- The view of a reader that has seen what the writer has published.
+abbrev pub reader_view : TapView → TapView
+reader_view v = record { mission = v.mission; writes = false; seen = v.seen; loads = 0 }
+
+-- The writer's store.
+abbrev pub publishes_row : Step (Unit {0}) → TapSeat → ℕ → TapSeat → Type 0
+publishes_row s me n after = (after.0 ≡ row_later me.0) × (after.1 ≡ [])
+
+-- A load by view v found n and left view w: n is the word of the summary after as many rows as w has seen.
+pub record ShowsSummary (mission : MissionParts) (v : TapView) (n : ℕ) (w : TapView) : Type 0 where
+  pub same : w ≡ view_loaded v w.seen
+  pub low : v.seen ≤ w.seen
+  pub within : w.seen ≤ mission.script.frames
+  pub word : n ≡ summary_encode (summary_after mission w.seen)
+  pub fits : FitsWord (summary_after mission w.seen)
+
+-- A reader's load.
+abbrev pub reads_summary : Step (Unit {0}) → TapSeat → ℕ → TapSeat → Type 0
+reads_summary s me n after = (after.1 ≡ []) × IfSome me.0.mission (λ mission. ShowsSummary mission me.0 n after.0)

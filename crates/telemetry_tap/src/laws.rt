@@ -1,0 +1,25 @@
+//! What the definitions in this crate's contracts mean: each function's contract is a law.
+
+ghost use Rattle.telemetry_tap.specs.Laws.{SummariesComeBack, SummariesGoOn, SummariesTellRows};
+
+use frame_model::laws::beginnings_are_read;
+
+/// The summary after `m` frames depends on the first `m` rows alone.
+pub fn summaries_tell_rows()
+    ensures { SummariesTellRows }
+{
+    beginnings_are_read();
+}
+
+/// Between two summaries of a flight the number of reconfigurations that have begun does not fall, and it rises by at most
+/// one with each frame.
+pub fn summaries_go_on()
+    ensures { SummariesGoOn }
+{
+    beginnings_are_read();
+}
+
+/// A summary comes back from its word, and a word of 48 bits from its summary.
+pub fn summaries_come_back()
+    ensures { SummariesComeBack }
+{}

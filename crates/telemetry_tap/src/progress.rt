@@ -1,0 +1,36 @@
+//! How a summary goes on with a row.
+
+ghost use Rattle.std.specs.Prelude.{◌≡◌, ◌≤◌};
+ghost use Rattle.telemetry_tap.specs.Summaries.{begun_with, running_number};
+
+use crate::summaries::NONE_RUNNING;
+use frame_model::{Reading, runs};
+use scram_types::{Act, ConfId, Row, Spec};
+
+/// Returns the number of reconfigurations that begin with a row, after what has been read off the rows before it.
+pub(crate) fn begun_with(spec: &Spec, reading: Reading, acts: &[Act; 8]) -> u32
+    ensures same { result ≡ begun_with spec.now reading acts.now }
+    ensures few { result ≤ 1 }
+{
+    match reading {
+        Reading::Steady(c) => { if runs(spec, acts, c) { 0 } else { 1 } }
+        Reading::Leaving(_, _) => 0,
+    }
+}
+
+/// Returns the number by which a summary names what a row runs.
+pub(crate) fn running_number(conf: Option<ConfId>) -> u8
+    ensures { result ≡ running_number conf }
+{
+    match conf {
+        Some(conf) => conf.0,
+        None => NONE_RUNNING,
+    }
+}
+
+/// Returns the processors that are up in a row. The type of the result bounds it for the proof of `publish`.
+pub(crate) fn up_in(row: &Row) -> u8
+    ensures { result ≡ row.now.env.up }
+{
+    row.env.up
+}

@@ -1,0 +1,35 @@
+//! Taps: a writer publishes the summaries of a flight, and readers load them.
+
+ghost use Rattle.std.specs.Prelude.{◌≡◌};
+
+use crate::views::{TapRule, TapView};
+use atomic_table::{Seat, Table};
+use coverage_check::Mission;
+use frame_model::Reading;
+use std::alloc::Global;
+
+/// The word of a flight's summary, with the mission that is flown. Threads share it by reference.
+#[derive(Drop)]
+pub struct Tap<'a> {
+    pub(crate) mission: &'a Mission,
+    pub(crate) table: Table<(), TapView, Mission, TapRule, Global>,
+    ghost key: { table.shared.key ≡ mission.now },
+    ghost words: { table.shared.table_id.words ≡ 1 },
+    ghost slots: { table.shared.table_id.slots ≡ 0 },
+}
+
+/// The one writer of a tap. For the next summary it keeps the number of rows that it has published, the number of
+/// reconfigurations that have begun in them, and what has been read off them.
+#[derive(Drop)]
+pub struct Writer {
+    pub(crate) published: u32,
+    pub(crate) begun: u32,
+    pub(crate) reading: Reading,
+    pub(crate) inner: Seat<(), TapView>,
+}
+
+/// A reader of a tap.
+#[derive(Drop)]
+pub struct Reader {
+    pub(crate) inner: Seat<(), TapView>,
+}

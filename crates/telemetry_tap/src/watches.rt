@@ -1,0 +1,46 @@
+//! Watches, to which a flight hands its rows while it runs.
+
+ghost use Rattle.std.specs.Prelude.{◌≡◌, ◌+◌, Some, slice_get};
+ghost use Rattle.frame_model.specs.Flights.{rows_of};
+ghost use Rattle.telemetry_tap.specs.Taps.{IsWriterOf};
+
+use crate::taps::{Tap, Writer};
+use scram_types::Row;
+
+/// Takes the rows of a mission while it is flown, each once and in order.
+pub trait Watch: Drop {
+    ghost use Rattle.std.specs.Prelude.{ℕ};
+    ghost use Rattle.coverage_check.specs.Missions.{MissionParts};
+
+    /// The mission whose rows it takes.
+    ghost watched: { Self → MissionParts };
+
+    /// The number of rows that it has taken.
+    ghost taken: { Self → ℕ };
+
+    /// Takes the next row.
+    fn row(&mut self, row: &Row)
+        requires { slice_get (rows_of (watched self.old).spec (watched self.old).script) (taken self.old) ≡ Some row.now }
+        ensures watched { watched self.new ≡ watched self.old }
+        ensures taken { taken self.new ≡ taken self.old + 1 };
+}
+
+/// A watch that publishes each row at a tap.
+#[derive(Drop)]
+pub struct Publisher<'t, 'a> {
+    pub tap: &'t Tap<'a>,
+    pub writer: Writer,
+    ghost writes: { IsWriterOf tap.now writer },
+}
+
+impl<'t, 'a> Watch for Publisher<'t, 'a> {
+    ghost use Rattle.telemetry_tap.specs.Taps.{rows_published, tap_mission};
+
+    ghost watched = { λ publisher. tap_mission publisher.tap.now };
+
+    ghost taken = { λ publisher. rows_published publisher.writer };
+
+    fn row(&mut self, row: &Row) {
+        self.tap.publish(&mut self.writer, row);
+    }
+}
