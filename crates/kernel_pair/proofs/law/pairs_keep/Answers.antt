@@ -1,0 +1,9 @@
+use Rattle.fail_stop.specs.ScriptFlights.{flight_of}
+use Rattle.fail_stop.proofs.ScriptBorder.{script_flies}
+use Rattle.kernel_pair.proofs.Keeping.{opens, schedule_keeps}
+use Rattle.kernel_pair.proofs.law.pairs_keep.Goals as goal
+
+pub returns : goal.returns
+returns c = λ spec script fits halt first events state opening is.
+    let flies = script_flies spec script fits in
+    schedule_keeps (flight_of spec script) halt first events state flies (opens (flight_of spec script) halt first flies opening) is

@@ -1,0 +1,9 @@
+pub mod Cores
+pub mod Kept
+pub mod Laws
+pub mod Machines
+pub mod Openings
+pub mod Pairs
+pub mod Rooms
+pub mod Rounds
+pub mod States

@@ -1,0 +1,61 @@
+-- A pair with its events, as its callers see it, and what it keeps.
+use Rattle.std.specs.Prelude.{◌≡◌, ℕ, suc, ◌+◌, ◌++◌, ◌≤◌, List, [], ◌∷◌, Option, Some, slice_index_or}
+use Rattle.scram_types.specs.Scripts.{ScriptParts}
+use Rattle.scram_types.specs.Specification.{IsSpec, Parts}
+use Rattle.fault_script.specs.Fits.{Fits}
+use Rattle.fail_stop.specs.Flights.{Flight, word_in}
+use Rattle.fail_stop.specs.ScriptFlights.{flight_of}
+use Rattle.kernel_pair.specs.declared.events.UnitHalt.{UnitHalt}
+use Rattle.kernel_pair.specs.declared.events.PairEvent.{PairEvent}
+use Rattle.kernel_pair.specs.declared.events.PairEvent.TheVariants.{Fly, Note, Store, Ready, Meet, Release, Stop}
+use Rattle.kernel_pair.specs.declared.states.PairState.{PairState}
+use Rattle.kernel_pair.specs.Pairs.{IsPairReplay, Pair, pair_after, to_make}
+use Rattle.kernel_pair.specs.Rooms.{pair_left}
+use Rattle.kernel_pair.specs.States.{pair_of}
+
+-- The specification, the script and the halt of a unit by which it flies, its state, and the events so far.
+pub record PairParts : Type 0 where
+  pub spec : Parts
+  pub script : ScriptParts
+  pub halt : Option UnitHalt
+  pub state : PairState
+  pub events : List PairEvent
+
+-- These parts.
+abbrev pub parts_of : Parts → ScriptParts → Option UnitHalt → PairState → List PairEvent → PairParts
+parts_of spec script halt state events = record { spec = spec; script = script; halt = halt; state = state; events = events }
+
+-- The flight of the machine that a pair flies.
+abbrev pub pair_flight : PairParts → Flight
+pair_flight k = flight_of k.spec k.script
+
+-- The state in which a pair stands.
+abbrev pub pair_in : PairParts → Pair
+pair_in k = pair_of k.state
+
+-- What a pair keeps: its events are a schedule from the opening that leads to its state, and there is room for every event that can
+-- still come.
+pub record PairKeeps (spec : Parts) (script : ScriptParts) (halt : Option UnitHalt) (state : PairState) (events : List PairEvent) (room count : ℕ) : Type 0 where
+  pub facts : IsSpec spec
+  pub fits : Fits spec script
+  pub replay : IsPairReplay (flight_of spec script) halt events (pair_of state)
+  pub room_left : count + pair_left (flight_of spec script) halt (pair_of state) ≤ room
+
+-- A frame comes with the words of its draft, and a store with its word.
+abbrev pub AreEventWords : Flight → Pair → PairEvent → List ℕ → ℕ → Type 0
+AreEventWords m s (Fly p u) draft word = (f : ℕ) → to_make (m.restart p.0) (s.proc p.0).place ≡ Some f → (i : ℕ) → slice_index_or draft i 0 ≡ word_in (m.draft p.0 f) i
+AreEventWords m s (Store u i) draft word = word ≡ word_in (m.kernel_image (suc (s.unit u).frame)) i
+AreEventWords m s (Note u p) draft word = Unit {0}
+AreEventWords m s (Ready u) draft word = Unit {0}
+AreEventWords m s (Meet u) draft word = Unit {0}
+AreEventWords m s (Release u) draft word = Unit {0}
+AreEventWords m s (Stop u) draft word = Unit {0}
+
+-- An event takes a pair on: its state is the one after the event, and its events are one more.
+pub record IsPairStep (old : PairParts) (event : PairEvent) (new : PairParts) : Type 0 where
+  pub spec : new.spec ≡ old.spec
+  pub script : new.script ≡ old.script
+  pub halt : new.halt ≡ old.halt
+  pub state : pair_in new ≡ pair_after (pair_flight old) old.halt (pair_in old) event
+  pub events : new.events ≡ old.events ++ event ∷ []
+  pub fewer : suc (pair_left (pair_flight new) new.halt (pair_in new)) ≤ pair_left (pair_flight old) old.halt (pair_in old)

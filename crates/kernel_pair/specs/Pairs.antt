@@ -1,0 +1,228 @@
+-- A pair of kernel units with its processors: what each actor has, which events are next, what an event does.
+use Rattle.std.specs.Prelude.{◌≤◌, ◌≡◌, ◌⊎◌, ℕ, suc, ◌+◌, ◌-◌, ◌*◌, ◌%◌, ◌<◌, Bool, false, ◌&&◌, ◌||◌, List, [], ◌∷◌, Option, Some, None, is_some, if◌then◌else◌, nat_lt, nat_le, nat_eq}
+use Rattle.scram_types.specs.Lookups.{proc_id}
+use Rattle.fail_stop.specs.Ends.{IsDone}
+use Rattle.fail_stop.specs.Events.{Place, At, Halted, after_frame, may_note}
+use Rattle.fail_stop.specs.Flights.{Flight, word_in, reaches_mark, end_word_after, stores_by}
+use Rattle.kernel_pair.specs.declared.events.UnitHalt.{UnitHalt}
+use Rattle.kernel_pair.specs.declared.events.PairEvent.{PairEvent}
+use Rattle.kernel_pair.specs.declared.events.PairEvent.TheVariants.{Fly, Note, Store, Ready, Meet, Release, Stop}
+
+-- A processor: where it stands between two of its frames, its mark, its end word, and word i of bank b.
+pub record Processor : Type 0 where
+  pub place : Place
+  pub mark : ℕ
+  pub end : ℕ
+  pub bank : ℕ → ℕ → ℕ
+
+-- A unit: its frame, the steps made in it, the frame of its halt once it has halted, its release word, its ready word and its
+-- 20 words, and the marks and the words of the images that it has noted.
+pub record KernelUnit : Type 0 where
+  pub frame : ℕ
+  pub step : ℕ
+  pub stopped : Option ℕ
+  pub release : ℕ
+  pub ready : ℕ
+  pub kernel : ℕ → ℕ
+  pub marks : ℕ → ℕ
+  pub images : ℕ → ℕ → ℕ
+
+-- A state: each processor, and each unit.
+pub record Pair : Type 0 where
+  pub proc : ℕ → Processor
+  pub unit : ℕ → KernelUnit
+
+-- The number of the other unit.
+abbrev pub other_unit : ℕ → ℕ
+other_unit u = 1 - u
+
+-- The frame of a restart that comes after frame h.
+abbrev pub restart_past : ℕ → Option ℕ → Option ℕ
+restart_past h None = None
+restart_past h (Some r) = if nat_lt h r then Some r else None
+
+-- The frame that a processor makes next: the one at whose begin it stands, or that of its restart.
+abbrev pub to_make : Option ℕ → Place → Option ℕ
+to_make restart (At f n) = Some f
+to_make restart (Halted h) = restart_past h restart
+
+-- A halt in frame f is one of the flight where it comes after fewer steps than this: all steps of a frame may come before it, but
+-- for the last frame, which ends with the last note.
+abbrev pub halts_below : Flight → ℕ → ℕ
+halts_below m f = if nat_lt (suc f) m.frames then m.procs + 24 else m.procs
+
+-- A unit in frame k after j steps has made just the steps of its halt. After all steps of a frame it stands at the begin of the next.
+abbrev pub is_at_halt : Flight → UnitHalt → ℕ → ℕ → Bool
+is_at_halt m h k j = (nat_eq k h.frame && nat_eq j h.step) || (nat_eq h.step (m.procs + 23) && (nat_eq k (suc h.frame) && nat_eq j 0))
+
+-- Unit u halts in frame k after j steps.
+abbrev pub stops_at : Flight → Option UnitHalt → ℕ → ℕ → ℕ → Bool
+stops_at m None u k j = false
+stops_at m (Some h) u k j = nat_eq u h.unit && (nat_lt h.frame m.frames && (nat_lt h.step (halts_below m h.frame) && is_at_halt m h k j))
+
+-- The frame of a halt, 0 without one.
+abbrev pub halt_frame : Option UnitHalt → ℕ
+halt_frame None = 0
+halt_frame (Some h) = h.frame
+
+-- The other unit's ready word lets a unit meet it in frame k: that unit has been ready in this frame, or has halted.
+abbrev pub may_meet : ℕ → ℕ → Bool
+may_meet k ready = nat_le (2 * suc k) ready || nat_eq (ready % 2) 1
+
+-- The event of unit u in frame k after j steps, once all processors are noted, by the other unit's ready word.
+abbrev pub plan_noted : Flight → ℕ → ℕ → ℕ → ℕ → Option PairEvent
+plan_noted m u k j ready =
+    if nat_lt j (m.procs + 20) then Some (Store u (j - m.procs))
+    else (if nat_eq j (m.procs + 20) then Some (Ready u)
+    else (if nat_eq j (m.procs + 21) then (if may_meet k ready then Some (Meet u) else None)
+    else (if nat_eq j (m.procs + 22) then Some (Release u) else None)))
+
+-- The event of unit u in frame k after j steps, by the other unit's ready word and the end words.
+abbrev pub plan_unit : Flight → ℕ → ℕ → ℕ → ℕ → (ℕ → ℕ) → Option PairEvent
+plan_unit m u k j ready ends =
+    if nat_lt j m.procs then (if may_note m j k (ends j) then Some (Note u (proc_id j)) else None)
+    else (if nat_lt (suc k) m.frames then plan_noted m u k j ready else None)
+
+-- The next event of unit u, which has not halted and is x, by whether it halts here.
+abbrev pub next_going : Flight → ℕ → KernelUnit → ℕ → (ℕ → ℕ) → Bool → Option PairEvent
+next_going m u x ready ends stops = if stops then Some (Stop u) else plan_unit m u x.frame x.step ready ends
+
+-- The next event of unit u, which is x.
+abbrev pub next_by : Flight → Option UnitHalt → ℕ → KernelUnit → ℕ → (ℕ → ℕ) → Option PairEvent
+next_by m halt u x ready ends =
+    if nat_eq m.frames 0 then None
+    else (if is_some x.stopped then None else next_going m u x ready ends (stops_at m halt u x.frame x.step))
+
+-- The next event of unit u, none where it waits for a processor or for the other unit, has halted or has made its last note.
+abbrev pub next_unit : Flight → Option UnitHalt → Pair → ℕ → Option PairEvent
+next_unit m halt s u = next_by m halt u (s.unit u) (s.unit (other_unit u)).ready (λ p. (s.proc p).end)
+
+-- An event is next of its actor. Of one processor two can be: its frame by the words of either unit.
+abbrev pub IsPairNext : Flight → Option UnitHalt → Pair → PairEvent → Type 0
+IsPairNext m halt s (Fly p u) = (p.0 < m.procs) × (u < 2) × ((f : ℕ) × (to_make (m.restart p.0) (s.proc p.0).place ≡ Some f) × (f < (s.unit u).release))
+IsPairNext m halt s (Note u p) = (u < 2) × (next_unit m halt s u ≡ Some (Note u p))
+IsPairNext m halt s (Store u i) = (u < 2) × (next_unit m halt s u ≡ Some (Store u i))
+IsPairNext m halt s (Ready u) = (u < 2) × (next_unit m halt s u ≡ Some (Ready u))
+IsPairNext m halt s (Meet u) = (u < 2) × (next_unit m halt s u ≡ Some (Meet u))
+IsPairNext m halt s (Release u) = (u < 2) × (next_unit m halt s u ≡ Some (Release u))
+IsPairNext m halt s (Stop u) = (u < 2) × (next_unit m halt s u ≡ Some (Stop u))
+
+-- Processor p, which was x, after frame f: its draft stands in the bank that its mark did not name, whole or up to its halt.
+abbrev pub frame_made : Flight → ℕ → ℕ → Processor → Processor
+frame_made m p f x = record {
+  place = after_frame f (m.halt p f);
+  mark = if reaches_mark m.width (m.halt p f) then 2 * suc f + (1 - x.mark % 2) else x.mark;
+  end = end_word_after f (m.halt p f);
+  bank = λ b i. if nat_eq b (1 - x.mark % 2) && nat_lt i (stores_by m.width (m.halt p f)) then word_in (m.draft p f) i else x.bank b i;
+}
+
+-- Processor p after the frame that it makes next, if there is one.
+abbrev pub next_made : Flight → ℕ → Option ℕ → Processor → Processor
+next_made m p None x = x
+next_made m p (Some f) x = frame_made m p f x
+
+-- A unit after a step that changes no word.
+abbrev pub stepped : KernelUnit → KernelUnit
+stepped x = record { frame = x.frame; step = suc x.step; stopped = x.stopped; release = x.release; ready = x.ready; kernel = x.kernel; marks = x.marks; images = x.images }
+
+-- A unit after its note of processor p, which is y: it has the mark, and the words of the bank that this names.
+abbrev pub noted : ℕ → Processor → KernelUnit → KernelUnit
+noted p y x = record {
+  frame = x.frame;
+  step = suc x.step;
+  stopped = x.stopped;
+  release = x.release;
+  ready = x.ready;
+  kernel = x.kernel;
+  marks = λ q. if nat_eq q p then y.mark else x.marks q;
+  images = λ q i. if nat_eq q p then y.bank (y.mark % 2) i else x.images q i;
+}
+
+-- A unit after a store of word i of what the kernel says of the next frame.
+abbrev pub stored : Flight → ℕ → KernelUnit → KernelUnit
+stored m i x = record {
+  frame = x.frame;
+  step = suc x.step;
+  stopped = x.stopped;
+  release = x.release;
+  ready = x.ready;
+  kernel = λ d. if nat_eq d i then word_in (m.kernel_image (suc x.frame)) i else x.kernel d;
+  marks = x.marks;
+  images = x.images;
+}
+
+-- A unit that says that it is ready.
+abbrev pub readied : KernelUnit → KernelUnit
+readied x = record { frame = x.frame; step = suc x.step; stopped = x.stopped; release = x.release; ready = 2 * suc x.frame; kernel = x.kernel; marks = x.marks; images = x.images }
+
+-- A unit that has released the next frame, at whose begin it then stands.
+abbrev pub released : KernelUnit → KernelUnit
+released x = record { frame = suc x.frame; step = 0; stopped = x.stopped; release = suc (suc x.frame); ready = x.ready; kernel = x.kernel; marks = x.marks; images = x.images }
+
+-- A unit that has halted, by a halt in frame t.
+abbrev pub halted_unit : ℕ → KernelUnit → KernelUnit
+halted_unit t x = record { frame = x.frame; step = x.step; stopped = Some t; release = x.release; ready = 2 * t + 1; kernel = x.kernel; marks = x.marks; images = x.images }
+
+-- A family with another member at place i.
+abbrev pub with_at : {A : Type 0} → (ℕ → A) → ℕ → A → ℕ → A
+with_at {A} g i a j = if nat_eq j i then a else g j
+
+-- The state in which unit u is x, and all else as before.
+abbrev pub with_unit : Pair → ℕ → KernelUnit → Pair
+with_unit s u x = record { proc = s.proc; unit = with_at s.unit u x }
+
+-- The state in which processor p is y, and all else as before.
+abbrev pub with_proc : Pair → ℕ → Processor → Pair
+with_proc s p y = record { proc = with_at s.proc p y; unit = s.unit }
+
+-- The state after an event.
+abbrev pub pair_after : Flight → Option UnitHalt → Pair → PairEvent → Pair
+pair_after m halt s (Fly p u) = with_proc s p.0 (next_made m p.0 (to_make (m.restart p.0) (s.proc p.0).place) (s.proc p.0))
+pair_after m halt s (Note u p) = with_unit s u (noted p.0 (s.proc p.0) (s.unit u))
+pair_after m halt s (Store u i) = with_unit s u (stored m i (s.unit u))
+pair_after m halt s (Ready u) = with_unit s u (readied (s.unit u))
+pair_after m halt s (Meet u) = with_unit s u (stepped (s.unit u))
+pair_after m halt s (Release u) = with_unit s u (released (s.unit u))
+pair_after m halt s (Stop u) = with_unit s u (halted_unit (halt_frame halt) (s.unit u))
+
+-- A processor at the opening: bank 0 holds its start image, bank 1 zeros.
+pub record IsFirstProcessor (m : Flight) (p : ℕ) (x : Processor) : Type 0 where
+  pub place : x.place ≡ At 0 0
+  pub mark : x.mark ≡ 0
+  pub end : x.end ≡ 0
+  pub bank : (b i : ℕ) → b < 2 → i < m.width → x.bank b i ≡ (if nat_eq b 0 then word_in (m.start p) i else 0)
+
+-- A unit at the opening: it has released frame 0, if there is one, and says what that frame is.
+pub record IsFirstUnit (m : Flight) (x : KernelUnit) : Type 0 where
+  pub frame : x.frame ≡ 0
+  pub step : x.step ≡ 0
+  pub stopped : x.stopped ≡ None
+  pub release : x.release ≡ (if nat_eq m.frames 0 then 0 else 1)
+  pub ready : x.ready ≡ 0
+  pub kernel : (i : ℕ) → i < 20 → x.kernel i ≡ word_in (m.kernel_image 0) i
+
+-- An opening. What stands past the last processor, past the last unit and past the last word is free.
+pub record IsPairOpening (m : Flight) (s : Pair) : Type 0 where
+  pub processors : (p : ℕ) → p < m.procs → IsFirstProcessor m p (s.proc p)
+  pub units : (u : ℕ) → u < 2 → IsFirstUnit m (s.unit u)
+
+-- The events lead from s to t, each the next of its actor where it stands.
+abbrev pub IsPairSchedule : Flight → Option UnitHalt → Pair → List PairEvent → Pair → Type 0
+IsPairSchedule m halt s [] t = t ≡ s
+IsPairSchedule m halt s (e ∷ es) t = IsPairNext m halt s e × IsPairSchedule m halt (pair_after m halt s e) es t
+
+-- The events lead from an opening to this state.
+pub record IsPairReplay (m : Flight) (halt : Option UnitHalt) (events : List PairEvent) (s : Pair) : Type 0 where
+  pub first : Pair
+  pub opening : IsPairOpening m first
+  pub schedule : IsPairSchedule m halt first events s
+
+-- A unit has made its last note.
+pub record IsAtEnd (m : Flight) (x : KernelUnit) : Type 0 where
+  pub last : suc x.frame ≡ m.frames
+  pub noted_all : m.procs ≤ x.step
+
+-- The pair is over: no frame is flown, or each processor is done, and each unit that has not halted has made its last note.
+abbrev pub IsPairOver : Flight → Pair → Type 0
+IsPairOver m s = (m.frames ≡ 0)
+    ⊎ (((p : ℕ) → p < m.procs → IsDone m p (s.proc p).place) × ((u : ℕ) → u < 2 → (s.unit u).stopped ≡ None → IsAtEnd m (s.unit u)))

@@ -1,0 +1,16 @@
+-- A pair that is flown on.
+use Rattle.std.specs.Prelude.{◌≡◌, ◌≤◌, ℕ}
+use Rattle.kernel_pair.specs.Machines.{PairParts, pair_flight, pair_in}
+use Rattle.kernel_pair.specs.Rooms.{pair_left}
+
+-- The number of events that can still come.
+abbrev pub left_in : PairParts → ℕ
+left_in k = pair_left (pair_flight k) k.halt (pair_in k)
+
+-- A pair is flown on: fewer events can come, or it stands where it stood, and there this holds.
+pub record IsFlownOn (old new : PairParts) (Stuck : Type 0) : Type 0 where
+  pub spec : new.spec ≡ old.spec
+  pub script : new.script ≡ old.script
+  pub halt : new.halt ≡ old.halt
+  pub fewer : left_in new ≤ left_in old
+  pub stuck : left_in new ≡ left_in old → (new ≡ old) × Stuck

@@ -1,0 +1,50 @@
+-- What is kept of a state, as the state of the machine.
+use Rattle.std.specs.Prelude.{ℕ, ℤ, pos, List, [], None, nat_lt, slice_index_or, if◌then◌else◌}
+use Rattle.scram_types.specs.Specification.{Parts}
+use Rattle.bank_words.specs.Numbers.{decode}
+use Rattle.fault_script.specs.Times.{words as width_of}
+use Rattle.fail_stop.specs.Events.{At, Halted, Place}
+use Rattle.kernel_pair.specs.declared.processors.Stand.{Stand}
+use Rattle.kernel_pair.specs.declared.processors.Stand.TheVariants as stand
+use Rattle.kernel_pair.specs.declared.processors.ProcessorState.{ProcessorState}
+use Rattle.kernel_pair.specs.declared.units.UnitState.{UnitState}
+use Rattle.kernel_pair.specs.declared.states.PairState.{PairState}
+use Rattle.kernel_pair.specs.Pairs.{Processor, KernelUnit, Pair}
+
+-- The place where a processor stands.
+abbrev pub stand_place : Stand → Place
+stand_place (stand.Before f) = At f 0
+stand_place (stand.Halted h) = Halted h
+
+-- The processor of the machine.
+abbrev pub processor_of : ProcessorState → Processor
+processor_of x = record { place = stand_place x.stand; mark = x.mark; end = x.end; bank = λ b i. slice_index_or (slice_index_or x.banks b []) i 0 }
+
+-- The unit of the machine.
+abbrev pub unit_of : UnitState → KernelUnit
+unit_of x = record {
+  frame = x.frame;
+  step = x.step;
+  stopped = x.stopped;
+  release = x.release;
+  ready = x.ready;
+  kernel = λ i. slice_index_or x.words i 0;
+  marks = λ p. slice_index_or x.marks p 0;
+  images = λ p i. slice_index_or (slice_index_or x.images p []) i 0;
+}
+
+-- What stands past the last processor.
+abbrev pub blank_processor : ProcessorState
+blank_processor = record { stand = stand.Before 0; mark = 0; end = 0; banks = [] }
+
+-- What stands past the last unit.
+abbrev pub blank_unit : UnitState
+blank_unit = record { frame = 0; step = 0; stopped = None; release = 0; ready = 0; words = []; marks = []; images = [] }
+
+-- The state of the machine.
+abbrev pub pair_of : PairState → Pair
+pair_of s = record { proc = λ p. processor_of (slice_index_or s.procs p blank_processor); unit = λ u. unit_of (slice_index_or s.units u blank_unit) }
+
+-- Word i of the image that these words hold; 0 past the words of the specification.
+abbrev pub word_decoded : Parts → List ℕ → ℕ → ℤ
+word_decoded spec words i = if nat_lt i (width_of spec) then decode (slice_index_or words i 0) else pos 0

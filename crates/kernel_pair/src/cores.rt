@@ -1,0 +1,243 @@
+//! A flight of the kernel on two units, event by event.
+
+use crate::events::{PairEvent, UnitHalt};
+use crate::flights::draft;
+use crate::logs::end_frame;
+use crate::machines::PairMachine;
+use crate::setups::Setup;
+use app_model::Rack;
+use bank_words::kernel_encode;
+use fail_stop::flyers::make_flyers;
+use fail_stop::{Flyer, Snapshot};
+use scram_kernel::Kernel;
+use scram_types::{Flown, NoMemory, ProcId, Row, Script, Spec};
+use std::alloc::Global;
+
+/// A flight by a specification and a script whose kernel runs on two units, one of which may halt, after a schedule of
+/// events.
+#[derive(Drop)]
+pub struct PairCore<'a> {
+    machine: PairMachine<'a>,
+    first: Kernel<'a>,
+    second: Kernel<'a>,
+    flyers: Vec<Flyer>,
+}
+
+impl<'a> std::marker::Model for PairCore<'a> {
+    ghost use Rattle.kernel_pair.specs.Cores.{PairCoreKeeps};
+    ghost use Rattle.kernel_pair.specs.Machines.{PairParts};
+
+    ghost Value = { PairParts };
+
+    ghost view = { λ c. c.machine };
+
+    ghost invariant = { λ c. PairCoreKeeps c.machine c.first c.second c.flyers.items };
+}
+
+impl<'a> PairCore<'a> {
+    ghost use Rattle.std.specs.Prelude.{◌≡◌, ◌<◌, ℕ, [], IfErr, IfOk, IsTrue, ◌↔◌, Some, length, take, vec_len};
+    ghost use Rattle.scram_types.specs.Specification.{IsSpec};
+    ghost use Rattle.fault_script.specs.Fits.{Fits};
+    ghost use Rattle.fault_script.specs.Times.{restart_of};
+    ghost use Rattle.fail_stop.specs.Drafts.{IsSnapshot};
+    ghost use Rattle.frame_model.specs.Flights.{reports_of, rows_of};
+    ghost use Rattle.scram_kernel.specs.Kernels.{kernel_after};
+    ghost use Rattle.kernel_pair.specs.Cores.{IsTurn};
+    ghost use Rattle.kernel_pair.specs.Laws.{PairHolds, noted_frames};
+    ghost use Rattle.kernel_pair.specs.Machines.{IsPairStep, pair_flight, pair_in};
+    ghost use Rattle.kernel_pair.specs.Pairs.{IsPairNext, IsPairOpening, IsPairOver, IsPairReplay, next_unit, to_make};
+    ghost use Rattle.kernel_pair.specs.declared.events.PairEvent.TheVariants.{Fly, Note, Store};
+
+    /// Returns a flight before the first event, with these boxes, and these for restarts: rack `p` is that of
+    /// processor `p`. All memory of the flight is taken here: the rows and reports of both units, and room for every
+    /// event that can come.
+    ///
+    /// # Errors
+    ///
+    /// Out of memory.
+    pub fn open(
+        alloc: Global,
+        spec: &'a Spec,
+        script: &'a Script,
+        halt: Option<UnitHalt>,
+        racks: Vec<Rack>,
+        spares: Vec<Rack>,
+    ) -> Result<PairCore<'a>, NoMemory>
+        requires script { Fits spec.now script.now }
+        requires racks { vec_len racks ≡ 8 }
+        requires spares { vec_len spares ≡ 8 }
+        ensures spec { IfOk result (λ core. core.spec ≡ spec.now) }
+        ensures script { IfOk result (λ core. core.script ≡ script.now) }
+        ensures halt { IfOk result (λ core. core.halt ≡ halt) }
+        ensures opening { IfOk result (λ core. IsPairOpening (pair_flight core) (pair_in core)) }
+        ensures events { IfOk result (λ core. core.events ≡ []) }
+    {
+        let setup = Setup { spec, script, halt };
+        let flyers = make_flyers(alloc, racks, spares)?;
+        let first = Kernel::new(alloc, spec, script)?;
+        let second = Kernel::new(alloc, spec, script)?;
+        let machine = PairMachine::open(alloc, &setup, &kernel_encode(&first.image()))?;
+        machine.holds();
+        Ok(PairCore {
+            machine,
+            first,
+            second,
+            flyers,
+        })
+    }
+
+    /// Returns the next event of unit 0 or 1, or `None` exactly where it waits for a processor or for the other unit,
+    /// has halted or has made its last note, or no frame is flown.
+    pub fn next(&self, unit: u8) -> Option<PairEvent>
+        requires { unit < 2 }
+        ensures { result ≡ next_unit (pair_flight self.now) self.now.halt (pair_in self.now) unit }
+    {
+        self.machine.next(unit)
+    }
+
+    /// Makes an event, where it is next of its actor; else it comes back, and nothing changes.
+    ///
+    /// # Errors
+    ///
+    /// The event, exactly where it is not next of its actor, whatever numbers it has.
+    pub fn step(&mut self, event: PairEvent) -> Result<(), PairEvent>
+        ensures next { IfOk result (λ _. IsPairNext (pair_flight self.old) self.old.halt (pair_in self.old) event) }
+        ensures step { IfOk result (λ _. IsPairStep self.old event self.new) }
+        ensures not_next { IfErr result (λ _. IsPairNext (pair_flight self.old) self.old.halt (pair_in self.old) event → ⊥) }
+        ensures back { IfErr result (λ given. given ≡ event) }
+        ensures same { IfErr result (λ _. self.new ≡ self.old) }
+    {
+        if !self.machine.is_next(event) {
+            return Err(event);
+        }
+        match event {
+            PairEvent::Fly(p, u) => self.fly(p, u),
+            PairEvent::Note(u, p) => self.note(u, p),
+            PairEvent::Store(u, i) => self.store(u, i),
+            PairEvent::Ready(_) => self.turn(event),
+            PairEvent::Meet(_) => self.turn(event),
+            PairEvent::Release(_) => self.turn(event),
+            PairEvent::Stop(_) => self.turn(event),
+        }
+        Ok(())
+    }
+
+    // A processor makes its frame by the words of a unit.
+    fn fly(&mut self, p: ProcId, u: u8)
+        requires { IsPairNext (pair_flight self.old) self.old.halt (pair_in self.old) (Fly p u) }
+        ensures { IsPairStep self.old (Fly p u) self.new }
+    {
+        let words = draft(&mut self.flyers, &self.machine, p, u);
+        self.machine.make(PairEvent::Fly(p, u), &words, 0);
+    }
+
+    // A unit notes a processor. With the last one in its frame it ends the frame.
+    fn note(&mut self, u: u8, p: ProcId)
+        requires { IsPairNext (pair_flight self.old) self.old.halt (pair_in self.old) (Note u p) }
+        ensures { IsPairStep self.old (Note u p) self.new }
+    {
+        self.machine.holds();
+        self.machine.make(PairEvent::Note(u, p), &[0; 64], 0);
+        if u == 0 {
+            end_frame(&self.machine, u, &mut self.first);
+        } else {
+            end_frame(&self.machine, u, &mut self.second);
+        }
+    }
+
+    // A unit stores a word of what the kernel says of the next frame.
+    fn store(&mut self, u: u8, i: u8)
+        requires { IsPairNext (pair_flight self.old) self.old.halt (pair_in self.old) (Store u i) }
+        ensures { IsPairStep self.old (Store u i) self.new }
+    {
+        self.machine.holds();
+        let words = kernel_encode(&self.kernel(u).image());
+        self.machine
+            .make(PairEvent::Store(u, i), &[0; 64], words[usize::from(i)]);
+    }
+
+    // A unit makes an event for which it needs nothing.
+    fn turn(&mut self, event: PairEvent)
+        requires turn { IsTurn event }
+        requires next { IsPairNext (pair_flight self.old) self.old.halt (pair_in self.old) event }
+        ensures { IsPairStep self.old event self.new }
+    {
+        self.machine.holds();
+        self.machine.make(event, &[0; 64], 0);
+    }
+
+    // Returns the kernel of a unit, after the frames in which the unit has noted every processor.
+    fn kernel(&self, u: u8) -> &Kernel<'a>
+        requires { u < 2 }
+        ensures { result.now ≡ kernel_after self.now.spec self.now.script (noted_frames (pair_flight self.now) ((pair_in self.now).unit u)) }
+    {
+        if u == 0 { &self.first } else { &self.second }
+    }
+
+    /// Returns the events so far: a schedule from the opening that leads to the state.
+    pub fn events(&self) -> &[PairEvent]
+        ensures events { result.now ≡ self.now.events }
+        ensures replay { IsPairReplay (pair_flight self.now) self.now.halt self.now.events (pair_in self.now) }
+    {
+        self.machine.events()
+    }
+
+    /// Returns the rows of the frames in which unit 0 or 1 has noted every processor, which are the first rows of the
+    /// one-thread trace.
+    pub fn rows(&self, unit: u8) -> &[Row]
+        requires { unit < 2 }
+        ensures { result.now ≡ take (noted_frames (pair_flight self.now) ((pair_in self.now).unit unit)) (rows_of self.now.spec self.now.script) }
+    {
+        self.kernel(unit).rows()
+    }
+
+    /// Returns what a processor sees that may make a frame by the words of a unit: what the kernel says of that
+    /// frame, and every processor's image before it.
+    pub fn snapshot(&self, p: ProcId, unit: u8, frame: u32) -> Snapshot
+        requires next { IsPairNext (pair_flight self.now) self.now.halt (pair_in self.now) (Fly p unit) }
+        requires frame { to_make (restart_of self.now.script p.0) ((pair_in self.now).proc p.0).place ≡ Some frame }
+        ensures { IsSnapshot self.now.spec self.now.script frame result }
+    {
+        self.machine.snapshot(p, unit, frame)
+    }
+
+    /// Both units have noted a frame before either releases the next, unless one has halted; each processor finds what is
+    /// of its frame; one unit has not halted; and where the pair is not over, some processor or some unit has a next
+    /// event. It states this and does nothing.
+    pub fn holds(&self)
+        ensures facts { IsSpec self.now.spec }
+        ensures holds { PairHolds self.now.spec self.now.script self.now.halt (pair_in self.now) }
+    {
+        self.machine.holds();
+    }
+
+    /// Returns whether no event can come any more: each processor has flown all frames or has halted for good, and
+    /// each unit that has not halted has made its last note, or no frame is flown.
+    pub fn over(&self) -> bool
+        ensures { IsTrue result ↔ IsPairOver (pair_flight self.now) (pair_in self.now) }
+    {
+        self.machine.over()
+    }
+
+    /// Returns the rows and reports of a flight that is over, of a unit that has not halted: those of the one-thread
+    /// trace.
+    pub fn finish(self) -> Flown
+        requires { IsPairOver (pair_flight self) (pair_in self) }
+        ensures rows { result.rows ≡ rows_of self.entry.spec self.entry.script }
+        ensures reports { result.reports ≡ reports_of self.entry.spec self.entry.script }
+    {
+        self.machine.holds();
+        let stopped = self.machine.has_halted(0);
+        let PairCore {
+            machine: _,
+            first,
+            second,
+            flyers: _,
+        } = self;
+        if stopped {
+            second.finish()
+        } else {
+            first.finish()
+        }
+    }
+}

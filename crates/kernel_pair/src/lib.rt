@@ -1,0 +1,23 @@
+//! The kernel on two units, one of which may halt: whatever the order of events, each unit keeps the log of the one-thread
+//! trace, and each processor reads what the kernel says of its frame.
+#![tactic(auto)]
+
+mod cores;
+pub mod events;
+mod flights;
+pub mod law;
+mod logs;
+mod machines;
+mod making;
+mod nexts;
+mod openings;
+pub mod processors;
+mod rounds;
+mod setups;
+mod sights;
+pub mod states;
+pub mod units;
+
+pub use cores::PairCore;
+pub use events::{PairEvent, UnitHalt};
+pub use rounds::fly_on;

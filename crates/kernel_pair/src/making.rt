@@ -1,0 +1,92 @@
+//! An event that is next of its actor is made; a pair is over.
+
+ghost use Rattle.std.specs.Prelude.{◌≡◌, ℕ, suc, ◌<◌, ◌≤◌, ◌+◌, ◌*◌, ◌^◌, length, slice_index_or, Some, None, IsTrue, ◌↔◌};
+ghost use Rattle.scram_types.specs.Specification.{IsSpec};
+ghost use Rattle.fault_script.specs.Fits.{Fits};
+ghost use Rattle.fail_stop.specs.ScriptFlights.{flight_of};
+ghost use Rattle.kernel_pair.specs.Kept.{PairKept};
+ghost use Rattle.kernel_pair.specs.Machines.{AreEventWords};
+ghost use Rattle.kernel_pair.specs.Pairs.{IsAtEnd, IsPairNext, halt_frame, pair_after};
+ghost use Rattle.kernel_pair.specs.States.{pair_of, unit_of};
+ghost use Rattle.kernel_pair.specs.declared.events.PairEvent.TheVariants.{Fly};
+
+use crate::events::{PairEvent, UnitHalt};
+use crate::nexts::frame_of;
+use crate::setups::Setup;
+use crate::states::PairState;
+use crate::units::UnitState;
+use scram_types::{ProcId, Script, Spec};
+
+/// Makes an event that is next of its actor. A frame comes with the words of its draft, and a store with its word.
+pub(crate) fn make(
+    setup: &Setup,
+    state: &mut PairState,
+    event: PairEvent,
+    draft: &[u64; 64],
+    word: u64,
+)
+    requires facts { IsSpec setup.now.spec.now }
+    requires fits { Fits setup.now.spec.now setup.now.script.now }
+    requires kept { PairKept (flight_of setup.now.spec.now setup.now.script.now) setup.now.halt (pair_of state.old) }
+    requires next { IsPairNext (flight_of setup.now.spec.now setup.now.script.now) setup.now.halt (pair_of state.old) event }
+    requires words { AreEventWords (flight_of setup.now.spec.now setup.now.script.now) (pair_of state.old) event draft.now word }
+    ensures { pair_of state.new ≡ pair_after (flight_of setup.now.spec.now setup.now.script.now) setup.now.halt (pair_of state.old) event }
+{
+    match event {
+        PairEvent::Fly(p, u) => make_frame(setup, state, p, u, draft),
+        PairEvent::Note(u, p) => state.note(u, p),
+        PairEvent::Store(u, i) => state.store(u, i, word),
+        PairEvent::Ready(u) => state.ready(u),
+        PairEvent::Meet(u) => state.meet(u),
+        PairEvent::Release(u) => state.release(u),
+        PairEvent::Stop(u) => state.halt(u, halt_frame(setup.halt)),
+    }
+}
+
+// A processor makes the frame that it makes next.
+fn make_frame(setup: &Setup, state: &mut PairState, p: ProcId, u: u8, draft: &[u64; 64])
+    requires facts { IsSpec setup.now.spec.now }
+    requires fits { Fits setup.now.spec.now setup.now.script.now }
+    requires kept { PairKept (flight_of setup.now.spec.now setup.now.script.now) setup.now.halt (pair_of state.old) }
+    requires next { IsPairNext (flight_of setup.now.spec.now setup.now.script.now) setup.now.halt (pair_of state.old) (Fly p u) }
+    requires words { AreEventWords (flight_of setup.now.spec.now setup.now.script.now) (pair_of state.old) (Fly p u) draft.now 0 }
+    ensures { pair_of state.new ≡ pair_after (flight_of setup.now.spec.now setup.now.script.now) setup.now.halt (pair_of state.old) (Fly p u) }
+{
+    let _unit = u;
+    if let Some(frame) = frame_of(setup.script, state, p) {
+        state.fly(setup, p, frame, draft);
+    }
+}
+
+fn halt_frame(halt: Option<UnitHalt>) -> u32
+    ensures { result ≡ halt_frame halt }
+{
+    match halt {
+        Some(halt) => halt.frame,
+        None => 0,
+    }
+}
+
+/// Returns whether a unit has made its last note or has halted.
+pub(crate) fn is_at_end(spec: &Spec, script: &Script, state: &PairState, u: u8) -> bool
+    requires { u < 2 }
+    ensures { IsTrue result ↔ (((pair_of state.now).unit u).stopped ≡ None → IsAtEnd (flight_of spec.now script.now) ((pair_of state.now).unit u)) }
+{
+    ends(spec, script, &state.units[usize::from(u)])
+}
+
+fn ends(spec: &Spec, script: &Script, x: &UnitState) -> bool
+    ensures { IsTrue result ↔ (x.now.stopped ≡ None → IsAtEnd (flight_of spec.now script.now) (unit_of x.now)) }
+{
+    match x.stopped {
+        Some(_) => true,
+        None => is_last(spec, script, x),
+    }
+}
+
+fn is_last(spec: &Spec, script: &Script, x: &UnitState) -> bool
+    ensures { IsTrue result ↔ IsAtEnd (flight_of spec.now script.now) (unit_of x.now) }
+{
+    u64::from(x.frame) + 1 == u64::from(script.frames)
+        && spec.procs.items().len() <= usize::from(x.step)
+}

@@ -1,0 +1,121 @@
+//! A processor between its frames, and what a frame does to it.
+
+ghost use Rattle.std.specs.Prelude.{◌≡◌, ℕ, suc, ◌<◌, ◌≤◌, ◌+◌, ◌-◌, ◌*◌, ◌%◌, ◌^◌, length, option_map, if◌then◌else◌, nat_eq, nat_lt, slice_index_or, List, [], ◌∷◌, ◌&&◌};
+ghost use Rattle.scram_types.specs.declared.scripts.HaltAt.{HaltAt};
+ghost use Rattle.fail_stop.specs.Events.{after_frame};
+ghost use Rattle.fail_stop.specs.Flights.{end_word_after, reaches_mark, stores_by, word_in};
+ghost use Rattle.fail_stop.specs.ScriptFlights.{draft_words, flight_of};
+ghost use Rattle.kernel_pair.specs.Pairs.{frame_made};
+ghost use Rattle.kernel_pair.specs.States.{stand_place, processor_of};
+
+use crate::setups::Setup;
+use bank_words::words;
+use fault_script::halt_in;
+use scram_types::{HaltAt, ProcId};
+
+/// Where a processor stands between two of its frames: at the begin of a frame, or halted in one.
+#[derive(Clone, Copy, Debug, PartialEq, Eq)]
+pub enum Stand {
+    Before(u32),
+    Halted(u32),
+}
+
+/// A processor: where it stands, its mark, its end word and its two banks.
+#[derive(Clone, Copy, Debug)]
+pub struct ProcessorState {
+    pub stand: Stand,
+    pub mark: u64,
+    pub end: u64,
+    pub banks: [[u64; 64]; 2],
+}
+
+impl ProcessorState {
+    /// The processor makes this frame, with the words of this draft: up to its halt in the frame, if there is one.
+    #[tactic(auto, using(crate::proofs::Flying::made_as))]
+    pub(crate) fn fly(&mut self, setup: &Setup, p: ProcId, frame: u32, draft: &[u64; 64])
+        requires narrow { 8 * length setup.now.spec.now.apps ≤ 64 }
+        requires frame { frame + 1 < 2 ^ 32 }
+        requires draft { (i : ℕ) → slice_index_or draft.now i 0 ≡ word_in (draft_words setup.now.spec.now setup.now.script.now p.0 frame) i }
+        ensures { processor_of self.new ≡ frame_made (flight_of setup.now.spec.now setup.now.script.now) p.0 frame (processor_of self.old) }
+    {
+        let halt = halt_in(setup.script, p, frame);
+        let width = words(setup.spec);
+        lay_on(
+            &mut self.banks,
+            (1 - self.mark % 2) as usize,
+            draft,
+            stores_by(width, halt),
+        );
+        self.mark = mark_made(width, frame, halt, self.mark);
+        self.end = end_word_after(frame, halt);
+        self.stand = after_frame(frame, halt);
+    }
+}
+
+fn after_frame(frame: u32, halt: Option<HaltAt>) -> Stand
+    requires { frame + 1 < 2 ^ 32 }
+    ensures { stand_place result ≡ after_frame frame (option_map (λ (halt : HaltAt). halt.step) halt) }
+{
+    match halt {
+        Some(_) => Stand::Halted(frame),
+        None => Stand::Before(frame + 1),
+    }
+}
+
+fn reaches_mark(width: u32, halt: Option<HaltAt>) -> bool
+    ensures { result ≡ reaches_mark width (option_map (λ (halt : HaltAt). halt.step) halt) }
+{
+    match halt {
+        Some(halt) => width < u32::from(halt.step),
+        None => true,
+    }
+}
+
+fn end_word_after(frame: u32, halt: Option<HaltAt>) -> u64
+    ensures { result ≡ end_word_after frame (option_map (λ (halt : HaltAt). halt.step) halt) }
+{
+    match halt {
+        Some(_) => 2 * u64::from(frame) + 1,
+        None => 2 * (u64::from(frame) + 1),
+    }
+}
+
+fn stores_by(width: u32, halt: Option<HaltAt>) -> u32
+    ensures same { result ≡ stores_by width (option_map (λ (halt : HaltAt). halt.step) halt) }
+    ensures few { result ≤ width }
+{
+    match halt {
+        Some(halt) => u32::from(halt.step).min(width),
+        None => width,
+    }
+}
+
+fn mark_made(width: u32, frame: u32, halt: Option<HaltAt>, mark: u64) -> u64
+    ensures { result ≡ (if reaches_mark width (option_map (λ (halt : HaltAt). halt.step) halt) then 2 * suc frame + (1 - mark % 2) else mark) }
+{
+    if reaches_mark(width, halt) {
+        2 * (u64::from(frame) + 1) + (1 - mark % 2)
+    } else {
+        mark
+    }
+}
+
+// The first words of one of two banks become those of a draft.
+#[tactic(auto, using(crate::proofs::Flying::laid_on))]
+fn lay_on(banks: &mut [[u64; 64]; 2], side: usize, draft: &[u64; 64], count: u32)
+    requires count { count ≤ 64 }
+    requires side { side < 2 }
+    ensures { (b i : ℕ) → slice_index_or (slice_index_or banks.new b []) i 0 ≡ (if nat_eq b side && nat_lt i count then slice_index_or draft.now i 0 else slice_index_or (slice_index_or banks.old b []) i 0) }
+{
+    lay(&mut banks[side], draft, count);
+}
+
+// The first words of a bank become those of a draft.
+fn lay(bank: &mut [u64; 64], draft: &[u64; 64], count: u32)
+    requires { count ≤ 64 }
+    ensures { (i : ℕ) → slice_index_or bank.new i 0 ≡ (if nat_lt i count then slice_index_or draft.now i 0 else slice_index_or bank.old i 0) }
+{
+    for i in 0..count as usize {
+        bank[i] = draft[i];
+    }
+}

@@ -1,0 +1,64 @@
+//! A pair is flown to its end on one thread.
+
+ghost use Rattle.std.specs.Prelude.{◌≡◌, ◌<◌, ◌≤◌, ℕ, None, length};
+ghost use Rattle.kernel_pair.specs.Machines.{pair_flight, pair_in};
+ghost use Rattle.kernel_pair.specs.Pairs.{IsPairNext, IsPairOver, next_unit};
+ghost use Rattle.kernel_pair.specs.Rounds.{IsFlownOn, left_in};
+ghost use Rattle.kernel_pair.specs.declared.events.PairEvent.TheVariants.{Fly};
+
+use crate::cores::PairCore;
+use crate::events::PairEvent;
+use scram_types::ProcId;
+
+/// Makes all events that are still to come, in rounds: each processor, then unit 0 as far as it can, then unit 1.
+pub fn fly_on(core: &mut PairCore)
+    ensures spec { core.new.spec ≡ core.old.spec }
+    ensures script { core.new.script ≡ core.old.script }
+    ensures over { IsPairOver (pair_flight core.new) (pair_in core.new) }
+{
+    'rounds: while !core.over() {
+        fly_round(core);
+    }
+}
+
+fn fly_round(core: &mut PairCore)
+    requires { IsPairOver (pair_flight core.old) (pair_in core.old) → ⊥ }
+    ensures spec { core.new.spec ≡ core.old.spec }
+    ensures script { core.new.script ≡ core.old.script }
+    ensures fewer { left_in core.new < left_in core.old }
+{
+    core.holds();
+    for p in 0..8 {
+        fly_processor(core, ProcId(p));
+    }
+    run_unit(core, 0);
+    run_unit(core, 1);
+}
+
+// A processor makes its frame, where some unit has released it.
+fn fly_processor(core: &mut PairCore, p: ProcId)
+    ensures { IsFlownOn core.old core.new ((u : ℕ) → u < 2 → IsPairNext (pair_flight core.old) core.old.halt (pair_in core.old) (Fly p u) → ⊥) }
+{
+    attempt(core, PairEvent::Fly(p, 0));
+    attempt(core, PairEvent::Fly(p, 1));
+}
+
+// Makes an event, where it is next of its actor.
+fn attempt(core: &mut PairCore, event: PairEvent)
+    ensures { IsFlownOn core.old core.new (IsPairNext (pair_flight core.old) core.old.halt (pair_in core.old) event → ⊥) }
+{
+    match core.step(event) {
+        Ok(()) => {}
+        Err(_) => {}
+    }
+}
+
+// A unit goes on until it has no next event.
+fn run_unit(core: &mut PairCore, u: u8)
+    requires { u < 2 }
+    ensures { IsFlownOn core.old core.new (next_unit (pair_flight core.old) core.old.halt (pair_in core.old) u ≡ None) }
+{
+    while let Some(event) = core.next(u) {
+        attempt(core, event);
+    }
+}
