@@ -24,7 +24,7 @@ pub enum Event {
     Release,
 }
 
-/// The number by which an event is kept. It takes no memory.
+/// Returns the number by which an event is kept.
 pub fn event_code(event: Event) -> u32
     ensures code { result ≡ event_code event }
     ensures back { event_of result ≡ Some event }
@@ -42,7 +42,7 @@ pub fn event_code(event: Event) -> u32
     }
 }
 
-/// The event that has this code, or `None` exactly where no event has it. It takes no memory.
+/// Returns the event that has this code, or `None` exactly where no event has it.
 pub fn event_of(code: u32) -> Option<Event>
     ensures event { result ≡ event_of code }
     ensures code { IfSome result (λ event. event_code event ≡ code) }

@@ -16,7 +16,7 @@ pub struct KernelImage {
     pub world: World,
 }
 
-/// The twenty words of a kernel image, in the order of docs/FORMATS.md. It takes no memory.
+/// Returns the twenty words of a kernel image, in the order of docs/FORMATS.md.
 pub fn kernel_encode(k: &KernelImage) -> [u64; 20]
     ensures words { result ≡ kernel_encode k.now }
     ensures back { kernel_decode result ≡ k.now }
@@ -47,7 +47,7 @@ pub fn kernel_encode(k: &KernelImage) -> [u64; 20]
     ]
 }
 
-/// The kernel image that has these twenty words. It takes no memory.
+/// Returns the kernel image that has these twenty words.
 pub fn kernel_decode(words: &[u64; 20]) -> KernelImage
     ensures { result ≡ kernel_decode words.now }
 {

@@ -3,8 +3,8 @@
 ghost use Rattle.std.specs.Prelude.{◌≡◌, ◌≤◌, ◌/◌, ◌%◌};
 ghost use Rattle.bank_words.specs.Marks.{mark_word, pick};
 
-/// The mark of `count` frames up to the last committed one, which bank `bank`, 0 or 1, holds: twice the count
-/// plus the bank. Both come back from it. It takes no memory.
+/// Returns the mark of `count` frames up to the last committed one, which bank `bank`, 0 or 1, holds: twice the count
+/// plus the bank. Both come back from it.
 pub fn mark_word(count: u32, bank: u8) -> u64
     requires { bank ≤ 1 }
     ensures mark { result ≡ mark_word count bank }
@@ -14,8 +14,8 @@ pub fn mark_word(count: u32, bank: u8) -> u64
     2 * u64::from(count) + u64::from(bank)
 }
 
-/// The bank, 0 or 1, that a reader in a frame takes: the marked one, and the other one where the mark is
-/// of this frame already. It takes no memory.
+/// Returns the bank, 0 or 1, that a reader in a frame takes: the marked one, and the other one where the mark is of
+/// this frame already.
 pub fn pick(mark: u64, frame: u32) -> u8
     ensures bank { result ≡ pick mark frame }
     ensures side { result ≤ 1 }

@@ -5,14 +5,14 @@ ghost use Rattle.bank_words.specs.Numbers.{decode, encode};
 
 use scram_types::Spec;
 
-/// How many words an image has: eight for each application. It takes no memory.
+/// Returns how many words an image has: eight for each application.
 pub fn words(spec: &Spec) -> u32
     ensures { result ≡ 8 * length spec.now.apps }
 {
     8 * spec.apps.items().len() as u32
 }
 
-/// A number as a word of storage, by two's complement. It takes no memory.
+/// Returns a number as a word of storage, by two's complement.
 pub fn encode(v: i64) -> u64
     ensures word { result ≡ encode v }
     ensures back { decode result ≡ v }
@@ -20,7 +20,7 @@ pub fn encode(v: i64) -> u64
     v.cast_unsigned()
 }
 
-/// The number that a word of storage holds, by two's complement. It takes no memory.
+/// Returns the number that a word of storage holds, by two's complement.
 pub fn decode(w: u64) -> i64
     ensures number { result ≡ decode w }
     ensures back { encode result ≡ w }

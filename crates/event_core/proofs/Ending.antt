@@ -1,12 +1,10 @@
 -- Which frames have ended for the kernel.
-use Rattle.std.proofs.Common.{◌≡◌, ◌∙◌, ℕ, ◌+◌, Bool, true, false, refl, ap, sym, arith, List, length}
+use Rattle.std.proofs.Common.{◌≡◌, ◌∙◌, ℕ, ◌+◌, Bool, true, false, refl, ap, sym, subst, arith, List, length}
 use Rattle.std.specs.Prelude.{nat_le, if◌then◌else◌}
 use Rattle.std.proofs.lemmas.Bool.Decides.{nat_tests}
 use Rattle.bank_words.specs.declared.events.Event.{Event}
 use Rattle.bank_words.specs.declared.events.Event.TheVariants.{Start, Look, Store, Flip, Done, Halt, KNote, KStore, Release}
 use Rattle.bank_words.specs.declared.images.KernelImage.{KernelImage}
-use Rattle.fault_script.specs.declared.walks.Walk.{Walk}
-use Rattle.fault_script.specs.Walks.{IsWalk}
 use Rattle.frame_model.specs.Storage.{kernel_image}
 use Rattle.scram_kernel.specs.Kernels.{KernelParts, kernel_after}
 use Rattle.scram_types.specs.Scripts.{ScriptParts}
@@ -78,23 +76,14 @@ module _ (spec : Parts) (facts : IsSpec spec) (script : ScriptParts) (places pla
 
 -- a core whose kernel goes on with the frame, and one whose kernel waits
 module _ (spec : Parts) (script : ScriptParts) (places2 : KeptPlaces) (stored2 history2 : List ℕ) (room2 count2 : ℕ) (machine : MachineKeeps spec script places2 stored2 history2 room2 count2)
-    (kernel : KernelParts) (walk : Walk) (image : KernelImage) where
-  pub core_on : frames_ended spec places2 ≡ places2.frame + 1 → kernel ≡ kernel_after spec script (places2.frame + 1) → IsWalk spec script walk.frame walk → walk.frame ≡ places2.frame + 1
-      → image ≡ kernel_image spec script (places2.frame + 1) → CoreKeeps spec script places2 stored2 history2 room2 count2 kernel walk image
-  core_on after is_kernel is_walk is_at is_image = record {
-    machine = machine;
-    kernel_is = is_kernel ∙ ap (kernel_after spec script) (sym after);
-    walk_is = is_walk;
-    walk_at = is_at ∙ sym after;
-    image_is = is_image ∙ ap (kernel_image spec script) (sym after);
-  }
+    (kernel : KernelParts) where
+  pub core_on : frames_ended spec places2 ≡ places2.frame + 1 → kernel ≡ kernel_after spec script (places2.frame + 1) → CoreKeeps spec script places2 stored2 history2 room2 count2 kernel
+  core_on after is_kernel = record { machine = machine; kernel_is = is_kernel ∙ ap (kernel_after spec script) (sym after) }
 
-  pub core_still : (f : ℕ) → frames_ended spec places2 ≡ f → kernel ≡ kernel_after spec script f → IsWalk spec script walk.frame walk → walk.frame ≡ f → image ≡ kernel_image spec script f
-      → CoreKeeps spec script places2 stored2 history2 room2 count2 kernel walk image
-  core_still f after is_kernel is_walk is_at is_image = record {
-    machine = machine;
-    kernel_is = is_kernel ∙ ap (kernel_after spec script) (sym after);
-    walk_is = is_walk;
-    walk_at = is_at ∙ sym after;
-    image_is = is_image ∙ ap (kernel_image spec script) (sym after);
-  }
+  pub core_still : (f : ℕ) → frames_ended spec places2 ≡ f → kernel ≡ kernel_after spec script f → CoreKeeps spec script places2 stored2 history2 room2 count2 kernel
+  core_still f after is_kernel = record { machine = machine; kernel_is = is_kernel ∙ ap (kernel_after spec script) (sym after) }
+
+-- what a kernel after f frames says
+pub kernel_says : (kernel : KernelParts) (spec : Parts) (script : ScriptParts) (f : ℕ) (image : KernelImage) → kernel ≡ kernel_after spec script f → image ≡ kernel_image kernel.spec kernel.script kernel.past
+    → image ≡ kernel_image spec script f
+kernel_says kernel spec script f image is said = subst (λ (k : KernelParts). image ≡ kernel_image k.spec k.script k.past) is said

@@ -5,7 +5,6 @@ pub mod Bounds
 pub mod Replays
 pub mod Steps
 pub mod Opens
-pub mod Reading
 pub mod ImagesFound
 pub mod Noted
 pub mod Ending
@@ -14,4 +13,4 @@ pub mod Snapshots
 pub mod Actors
 pub mod Histories
 mod Counting
-pub mod Replacing
+pub mod Following

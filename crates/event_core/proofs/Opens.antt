@@ -6,18 +6,13 @@ use Rattle.scram_types.specs.Eights.{eight}
 use Rattle.scram_types.specs.Scripts.{ScriptParts}
 use Rattle.scram_types.specs.Specification.{IsSpec, Parts}
 use Rattle.std.proofs.lemmas.Bool.Decides.{nat_tests}
-use Rattle.bank_words.specs.declared.images.KernelImage.{KernelImage}
-use Rattle.fault_script.specs.declared.walks.Walk.{Walk}
 use Rattle.fault_script.specs.Fits.{Fits}
-use Rattle.fault_script.specs.Walks.{IsWalk}
-use Rattle.frame_model.specs.Storage.{kernel_image}
 use Rattle.scram_kernel.specs.Kernels.{KernelParts, kernel_after}
 use Rattle.frame_model.specs.States.{start_area_of, start_keeper_of}
 use Rattle.fail_stop.specs.Flights.{Flight}
 use Rattle.fail_stop.specs.Kept.{opening_places}
 use Rattle.fail_stop.specs.ScriptFlights.{flight_of, kernel_words}
 use Rattle.fail_stop.specs.Schedules.{opening as opening_of}
-use Rattle.event_core.specs.declared.places.Place.{Place as KeptPlace}
 use Rattle.event_core.specs.declared.places.Places.{Places as KeptPlaces}
 use Rattle.event_core.specs.Cores.{CoreKeeps, MachineKeeps, frames_ended}
 use Rattle.fail_stop.specs.Openings.{opening_list}
@@ -26,12 +21,12 @@ use Rattle.event_core.specs.Rooms.{events_a_frame, events_left, left_below}
 use Rattle.fail_stop.proofs.OpeningLists.{opening_listed, opening_long}
 use Rattle.event_core.proofs.Replays.{places_same}
 
-replicated : (n q : ℕ) (x : KeptPlace) → slice_index_or (replicate n x) q x ≡ x
+pub replicated : {A : Type 0} (n q : ℕ) (x : A) → slice_index_or (replicate n x) q x ≡ x
 replicated zero q x = refl
 replicated (suc n) zero x = refl
 replicated (suc n) (suc q) x = replicated n q x
 
-places_open : machine_places kept_opening ≡ opening_places
+pub places_open : machine_places kept_opening ≡ opening_places
 places_open = places_same (machine_places kept_opening) opening_places (λ q. ap machine_place (replicated 8 q _)) refl refl
 
 left_open : (m : Flight) (n : ℕ) → left_below m opening_places n ≡ n * (m.frames * events_a_frame m)
@@ -67,17 +62,10 @@ open_keeps spec script first areas keepers places stored history room count fact
       room_left = subst (λ n. n + events_left (flight_of spec script) (machine_places places) ≤ room) (sym is_count) (subst (λ n. n ≤ room) (sym left) is_room);
     }
 
--- with the kernel, the walk and the kernel's image before the first frame
-pub opened : (spec : Parts) (script : ScriptParts) (places : KeptPlaces) (stored history : List ℕ) (room count : ℕ) (kernel : KernelParts) (walk : Walk) (image : KernelImage)
-    → MachineKeeps spec script places stored history room count → places ≡ kept_opening → kernel ≡ kernel_after spec script 0 → IsWalk spec script 0 walk → image ≡ kernel_image spec script 0
-    → CoreKeeps spec script places stored history room count kernel walk image
-opened spec script places stored history room count kernel walk image machine is_places is_kernel is_walk is_image =
+-- with the kernel before the first frame
+pub opened : (spec : Parts) (script : ScriptParts) (places : KeptPlaces) (stored history : List ℕ) (room count : ℕ) (kernel : KernelParts)
+    → MachineKeeps spec script places stored history room count → places ≡ kept_opening → kernel ≡ kernel_after spec script 0 → CoreKeeps spec script places stored history room count kernel
+opened spec script places stored history room count kernel machine is_places is_kernel =
     let some : nat_le (length spec.procs) 0 ≡ false = (let one = machine.facts.procs_count.enough in grind (arith, nat_tests, one)) in
     let none : frames_ended spec places ≡ 0 = ap (frames_ended spec) is_places ∙ rw some refl in
-    record {
-      machine = machine;
-      kernel_is = is_kernel ∙ ap (kernel_after spec script) (sym none);
-      walk_is = subst (λ f. IsWalk spec script f walk) (sym is_walk.frame) is_walk;
-      walk_at = is_walk.frame ∙ sym none;
-      image_is = is_image ∙ ap (kernel_image spec script) (sym none);
-    }
+    record { machine = machine; kernel_is = is_kernel ∙ ap (kernel_after spec script) (sym none) }

@@ -25,7 +25,7 @@ use Rattle.event_core.proofs.Ending.{ended_by}
 use Rattle.event_core.proofs.Fewer.{first_flies}
 use Rattle.event_core.proofs.Steps.{kept_of}
 
--- whom the kernel has noted in the last frame is done
+-- a processor that the kernel has noted in the last frame is done
 done_by : (m : Flight) (k j p : ℕ) (place : Place) → IsPlaced m k j p place → p < j → suc k ≡ m.frames → ((r : ℕ) → m.restart p ≡ Some r → r < m.frames) → IsDone m p place
 done_by m k j p (At f n) is noted last within = let past = is.noted noted in omega (arith, past, is.high, last)
 done_by m k j p (Halted h) is noted last within = λ r back. by_frame r back (dec_le r h)

@@ -43,7 +43,7 @@ words_are stored image held =
     (next_same _ _ _ _ (held 12 (omega arith)) (next_same _ _ _ _ (held 13 (omega arith)) (next_same _ _ _ _ (held 14 (omega arith)) (next_same _ _ _ _ (held 15 (omega arith))
     (next_same _ _ _ _ (held 16 (omega arith)) (next_same _ _ _ _ (held 17 (omega arith)) (next_same _ _ _ _ (held 18 (omega arith)) (next_same _ _ _ _ (held 19 (omega arith)) refl)))))))))))))))))))
 
--- whoever has looked is in the kernel's frame, which has not noted it
+-- a processor that has looked is in the kernel's frame, and is not noted in it
 pub record Looking (spec : Parts) (script : ScriptParts) (places : KeptPlaces) (stored : List ℕ) (p : ℕ) : Type 0 where
   pub now : frame_of ((machine_places places).proc p) ≡ places.frame
   pub early : places.step ≤ p

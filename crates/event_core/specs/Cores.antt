@@ -4,11 +4,7 @@ use Rattle.scram_types.specs.Scripts.{ScriptParts}
 use Rattle.scram_types.specs.Specification.{IsSpec, Parts}
 use Rattle.bank_words.specs.declared.events.Event.{Event}
 use Rattle.bank_words.specs.declared.events.Event.TheVariants.{Start, Look, Store, Flip, Done, Halt, KNote, KStore, Release}
-use Rattle.bank_words.specs.declared.images.KernelImage.{KernelImage}
-use Rattle.fault_script.specs.declared.walks.Walk.{Walk}
 use Rattle.fault_script.specs.Fits.{Fits}
-use Rattle.fault_script.specs.Walks.{IsWalk}
-use Rattle.frame_model.specs.Storage.{kernel_image}
 use Rattle.scram_kernel.specs.Kernels.{KernelParts, kernel_after}
 use Rattle.fail_stop.specs.Events.{Places, Word}
 use Rattle.fail_stop.specs.Flights.{Flight}
@@ -68,10 +64,7 @@ pub record MachineKeeps (spec : Parts) (script : ScriptParts) (places : KeptPlac
   pub replay : IsReplay (flight_of spec script) history (machine_places places) (stored_in stored)
   pub room_left : count + events_left (flight_of spec script) (machine_places places) ≤ room
 
--- What a core keeps: its machine, and the kernel, the walk and the kernel's image after the frames that have ended.
-pub record CoreKeeps (spec : Parts) (script : ScriptParts) (places : KeptPlaces) (stored history : List ℕ) (room count : ℕ) (kernel : KernelParts) (walk : Walk) (image : KernelImage) : Type 0 where
+-- What a core keeps: its machine, and the kernel after the frames that have ended.
+pub record CoreKeeps (spec : Parts) (script : ScriptParts) (places : KeptPlaces) (stored history : List ℕ) (room count : ℕ) (kernel : KernelParts) : Type 0 where
   pub machine : MachineKeeps spec script places stored history room count
   pub kernel_is : kernel ≡ kernel_after spec script (frames_ended spec places)
-  pub walk_is : IsWalk spec script walk.frame walk
-  pub walk_at : walk.frame ≡ frames_ended spec places
-  pub image_is : image ≡ kernel_image spec script (frames_ended spec places)

@@ -1,4 +1,4 @@
--- What the kernel's events tell of the frames that have ended.
+-- What the kernel's events say about the frames that have ended.
 use Rattle.std.specs.Prelude.{◌≡◌, ℕ, suc, ◌+◌, ◌*◌, ◌/◌, min, List, [], ◌∷◌, length}
 use Rattle.scram_types.specs.Scripts.{ScriptParts}
 use Rattle.scram_types.specs.Specification.{IsSpec, Parts}
@@ -45,14 +45,14 @@ abbrev pub releases_in : List Event → ℕ
 releases_in [] = 0
 releases_in (event ∷ events) = with_release event (releases_in events)
 
--- The kernel stands in the frame of as many releases. Each of them came behind a note of each processor, and the notes of the
--- frame in which it stands came since. A frame has ended for each note of all processors.
+-- The number of the kernel's frame is the number of releases. Each of them came behind a note of each processor, and
+-- the notes of the frame in which it stands came since. A frame has ended for each note of all processors.
 pub record AreCounted (spec : Parts) (events : List Event) (places : KeptPlaces) : Type 0 where
   pub frame : places.frame ≡ releases_in events
   pub notes : notes_in events ≡ length spec.procs * releases_in events + min places.step (length spec.procs)
   pub ended : frames_ended spec places ≡ notes_in events / length spec.procs
 
--- The releases and the notes of a history tell how many frames have ended.
+-- The releases and the notes of a history give how many frames have ended.
 abbrev pub HistoriesTellFrames : Type 0
 HistoriesTellFrames = (spec : Parts) (script : ScriptParts) → IsSpec spec → (codes : List ℕ) (places : KeptPlaces) (words : Word → ℕ)
     → (replay : IsReplay (flight_of spec script) codes (machine_places places) words) → AreCounted spec replay.events places

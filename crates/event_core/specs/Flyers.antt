@@ -1,20 +1,28 @@
--- Processors with what they need in a flight.
-use Rattle.std.specs.Prelude.{◌≡◌, ℕ, ◌<◌, List, length, slice_index_or, All, IfSome}
+-- Processors that fly by a core.
+use Rattle.std.specs.Prelude.{◌≡◌, ℕ, ◌<◌, List, slice_index_or, Option, None, IfSome}
 use Rattle.fail_stop.specs.declared.snapshots.Draft.{Draft}
+use Rattle.fail_stop.specs.Events.{Place}
+use Rattle.fail_stop.specs.Flyers.{AreFlyersAt}
+use Rattle.fail_stop.specs.ScriptFlights.{flight_of}
 use Rattle.frame_model.specs.Flights.{draft}
 use Rattle.scram_types.specs.Scripts.{ScriptParts}
 use Rattle.scram_types.specs.Specification.{Parts}
-use Rattle.event_core.specs.declared.flyers.Flyer.{Flyer as Member}
+use Rattle.event_core.specs.declared.flyers.Flyers.{Flyers}
+use Rattle.event_core.specs.Cores.{CoreParts, standing}
 
--- What was drafted last is the draft of its frame.
-pub record FlyerFits {X : Type 0} {Y : X → Type 0} (spec : Parts) (script : ScriptParts) (flyer : Member X Y) : Type 0 where
-  pub drafted : IfSome flyer.drafted (λ (made : Draft). made.image ≡ draft spec script flyer.live.proc.0 made.frame)
+-- What processor p drafted last, if anything, is its draft of that frame.
+abbrev pub IsLastDraft : Parts → ScriptParts → ℕ → Option Draft → Type 0
+IsLastDraft spec script p drafted = IfSome drafted (λ (made : Draft). made.image ≡ draft spec script p made.frame)
 
--- The number of each item is its place.
-abbrev pub NumberedByPlace : {A : Type 0} → (A → ℕ) → List A → Type 0
-NumberedByPlace {A} number items = (k : ℕ) (d : A) → k < length items → number (slice_index_or items k d) ≡ k
+-- What each of eight processors drafted last is its draft.
+abbrev pub AreLastDrafts : Parts → ScriptParts → List (Option Draft) → Type 0
+AreLastDrafts spec script drafted = (p : ℕ) → p < 8 → IsLastDraft spec script p (slice_index_or drafted p None)
 
--- There are eight processors in order, each of which fits.
-abbrev pub FlyersFit : {X : Type 0} {Y : X → Type 0} → Parts → ScriptParts → List (Member X Y) → Type 0
-FlyersFit {X} {Y} spec script flyers =
-    (length flyers ≡ 8) × NumberedByPlace (λ (flyer : Member X Y). flyer.live.proc.0) flyers × All (FlyerFits spec script) flyers
+-- The processors stand at these places, and what each drafted last is its draft.
+pub record FlyersFit {X : Type 0} {Y : X → Type 0} (spec : Parts) (script : ScriptParts) (at : ℕ → Place) (flyers : Flyers X Y) : Type 0 where
+  pub all : AreFlyersAt (flight_of spec script) at flyers.all.items
+  pub drafted : AreLastDrafts spec script flyers.drafted
+
+-- The processors fly by a core: they stand where those of its machine do.
+abbrev pub FlyBy : {X : Type 0} {Y : X → Type 0} → CoreParts → Flyers X Y → Type 0
+FlyBy core flyers = FlyersFit core.spec core.script (standing core).proc flyers

@@ -28,7 +28,7 @@ abbrev pub CanGoOn : KeptPlace → Type 0
 CanGoOn (kept.At f n) = (f + 1 < 2 ^ 32) × (n + 1 < 2 ^ 32)
 CanGoOn (kept.Halted h) = h + 1 < 2 ^ 32
 
--- Whoever stands here has made all looks of its frame, and neither its flip nor its halt.
+-- A processor at this place has made all looks of its frame, and neither its flip nor its halt.
 abbrev pub HasLooked : Flight → Place → Type 0
 HasLooked m (At f n) = (m.procs < n) × (n < m.procs + m.width + 2)
 HasLooked m (Halted h) = ⊥

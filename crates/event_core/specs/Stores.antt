@@ -32,7 +32,7 @@ IsInside (Halt p) = p.0 < 8
 IsInside (KNote p) = p.0 < 8
 IsInside Release = Unit {0}
 
--- The numbers of who makes an event can grow by one.
+-- The numbers of the actors that make an event can grow by one.
 abbrev pub CanMove : KeptPlaces → Event → Type 0
 CanMove places (Start p) = CanGoOn (kept_place places.procs p.0)
 CanMove places (Look p q) = CanGoOn (kept_place places.procs p.0)

@@ -6,11 +6,10 @@ use crate::nexts::{kept_place, next_kernel, next_of};
 use crate::places::{Place, Places};
 use crate::reads::{images_read, kernel_read};
 use crate::stores::{frame_of, store};
-use bank_words::{Event, KernelImage, event_code, kernel_encode, words};
+use bank_words::{Event, event_code, kernel_encode, words};
 use fail_stop::Snapshot;
 use fail_stop::law::{machine_goes_on, readers_find};
 use fail_stop::openings::opening_words;
-use fault_script::Walk;
 use frame_model::Sys;
 use scram_kernel::Kernel;
 use scram_types::{Flown, NoMemory, ProcId, Row, Script, Spec};
@@ -32,8 +31,6 @@ pub struct Core<'a> {
     stored: Vec<u64>,
     history: Vec<u32>,
     kernel: Kernel<'a>,
-    walk: Walk,
-    image: KernelImage,
 }
 
 impl<'a> std::marker::Model for Core<'a> {
@@ -44,7 +41,7 @@ impl<'a> std::marker::Model for Core<'a> {
 
     ghost view = { λ c. core_of c.spec.now c.script.now c.places c.stored.items c.history.items };
 
-    ghost invariant = { λ c. CoreKeeps c.spec.now c.script.now c.places c.stored.items c.history.items (vec_capacity c.history) (vec_len c.history) c.kernel c.walk c.image };
+    ghost invariant = { λ c. CoreKeeps c.spec.now c.script.now c.places c.stored.items c.history.items (vec_capacity c.history) (vec_len c.history) c.kernel };
 }
 
 impl<'a> Core<'a> {
@@ -61,22 +58,22 @@ impl<'a> Core<'a> {
     ghost use Rattle.event_core.specs.Counts.{notes_in};
     ghost use Rattle.event_core.specs.Cores.{frames_ended, flown, standing, standing_words};
     ghost use Rattle.fault_script.specs.Fits.{Fits};
-    ghost use Rattle.event_core.specs.Places.{HasLooked};
+    ghost use Rattle.event_core.specs.Places.{HasLooked, kept_opening};
     ghost use Rattle.event_core.specs.Rooms.{events_left};
     ghost use Rattle.event_core.specs.Stores.{IsEventWord};
 
-    /// The core of a flight before the first event, with room for every event that can come. The only refusal is want of
-    /// memory.
+    /// Returns the core of a flight before the first event, with room for every event that can come. The only error
+    /// is out of memory.
     pub fn open(alloc: Global, spec: &'a Spec, script: &'a Script) -> Result<Core<'a>, NoMemory>
         requires { Fits spec.now script.now }
         ensures spec { IfOk result (λ core. core.spec ≡ spec.now) }
         ensures script { IfOk result (λ core. core.script ≡ script.now) }
         ensures history { IfOk result (λ core. core.history ≡ []) }
+        ensures places { IfOk result (λ core. core.places ≡ kept_opening) }
     {
         let history = Vec::with_capacity(alloc, events_of(spec, script))?;
         let kernel = Kernel::new(alloc, spec, script)?;
-        let image = kernel.first();
-        let first = kernel_encode(&image);
+        let first = kernel_encode(&kernel.first());
         let stored = opening_words(alloc, script.frames, &first, &Sys::start(spec))?;
         Ok(Core {
             spec,
@@ -85,28 +82,26 @@ impl<'a> Core<'a> {
             stored,
             history,
             kernel,
-            walk: Walk::first(spec, script),
-            image,
         })
     }
 
-    /// The next event of a processor, or `None` exactly where it waits for the release, has halted for good or has
-    /// flown all frames, or does not exist. It takes no memory.
+    /// Returns the next event of a processor, or `None` exactly where it waits for the release, has halted for good
+    /// or has flown all frames, or does not exist.
     pub fn next_of(&self, p: ProcId) -> Option<Event>
         ensures { result ≡ next_of (flown self.now) (standing self.now) (standing_words self.now) p.0 }
     {
         next_of(self.spec, self.script, &self.places, &self.stored, p)
     }
 
-    /// The next event of the kernel, or `None` exactly where the processor that it would note may not be noted yet, or
-    /// all frames are noted. It takes no memory.
+    /// Returns the next event of the kernel, or `None` exactly where the processor that it would note may not be
+    /// noted yet, or all frames are noted.
     pub fn next_kernel(&self) -> Option<Event>
         ensures { result ≡ next_kernel (flown self.now) (standing self.now) (standing_words self.now) }
     {
         next_kernel(self.spec, self.script, &self.places, &self.stored)
     }
 
-    /// The frame in which a processor stands; where it has halted, that in which it halted. It takes no memory.
+    /// Returns the frame in which a processor stands; where it has halted, that in which it halted.
     pub fn frame_of(&self, p: ProcId) -> u32
         requires { p.0 < length self.now.spec.procs }
         ensures { result ≡ frame_of ((standing self.now).proc p.0) }
@@ -114,15 +109,15 @@ impl<'a> Core<'a> {
         frame_of(kept_place(&self.places.procs, p))
     }
 
-    /// The frame in which the kernel stands. It takes no memory.
+    /// Returns the frame in which the kernel stands.
     pub fn kernel_frame(&self) -> u32
         ensures { result ≡ (standing self.now).frame }
     {
         self.places.frame
     }
 
-    /// The codes of the events so far: a schedule from the opening that leads to where all stand and to what is stored. It
-    /// takes no memory.
+    /// Returns the codes of the events so far: a schedule from the opening that leads to where all stand and to what
+    /// is stored.
     pub fn history(&self) -> &[u32]
         ensures history { result.now ≡ self.now.history }
         ensures schedule { IsReplay (flown self.now) self.now.history (standing self.now) (standing_words self.now) }
@@ -131,8 +126,8 @@ impl<'a> Core<'a> {
         &self.history
     }
 
-    /// The rows of the frames that have ended: those in which the kernel has noted every processor, which are the first
-    /// rows of the one-thread trace. It takes no memory.
+    /// Returns the rows of the frames that have ended: those in which the kernel has noted every processor, which are
+    /// the first rows of the one-thread trace.
     pub fn rows(&self) -> &[Row]
         ensures rows { result.now ≡ rows_below self.now.spec self.now.script (frames_ended self.now.spec self.now.places) }
         ensures noted { (replay : IsReplay (flown self.now) self.now.history (standing self.now) (standing_words self.now)) → length result.now ≡ notes_in replay.events / length self.now.spec.procs }
@@ -140,8 +135,8 @@ impl<'a> Core<'a> {
         self.kernel.rows()
     }
 
-    /// What a processor that has made all looks of its frame, and neither its flip nor its halt, finds: what the kernel
-    /// says of that frame, and every processor's image before it. It takes no memory.
+    /// Returns what a processor that has made all looks of its frame, and neither its flip nor its halt, finds: what
+    /// the kernel says of that frame, and every processor's image before it.
     pub fn snapshot(&self, p: ProcId) -> Snapshot
         requires known { p.0 < length self.now.spec.procs }
         requires looked { HasLooked (flown self.now) ((standing self.now).proc p.0) }
@@ -150,7 +145,7 @@ impl<'a> Core<'a> {
         readers_find();
         let frame = self.frame_of(p);
         Snapshot {
-            kernel: kernel_read(&self.stored, &self.image),
+            kernel: kernel_read(&self.stored, &self.kernel.image()),
             images: images_read(self.spec, &self.stored, frame),
         }
     }
@@ -163,17 +158,17 @@ impl<'a> Core<'a> {
         machine_goes_on();
     }
 
-    /// Word `i` of what the kernel says of the next frame, once it has noted every processor. It takes no memory.
+    /// Word `i` of what the kernel says of the next frame, once it has noted every processor.
     pub fn kernel_word(&self, i: u8) -> u64
         requires word { i < 20 }
         requires noted { length self.now.spec.procs ≤ self.now.places.step }
         ensures { result ≡ word_in (kernel_words self.now.spec self.now.script (self.now.places.frame + 1)) i }
     {
-        kernel_encode(&self.image)[usize::from(i)]
+        kernel_encode(&self.kernel.image())[usize::from(i)]
     }
 
-    /// Whether no event can come any more: each processor has flown all frames or has halted for good and the kernel
-    /// has made its last note, or no frame is flown. It takes no memory.
+    /// Returns whether no event can come any more: each processor has flown all frames or has halted for good and the
+    /// kernel has made its last note, or no frame is flown.
     pub fn over(&self) -> bool
         ensures { IsTrue result ↔ IsOver (flown self.now) (standing self.now) }
     {
@@ -184,8 +179,8 @@ impl<'a> Core<'a> {
         frames == 0 || self.places.frame == frames - 1 && self.places.step >= procs
     }
 
-    /// The rows and reports of a flight that is over: those of the one-thread trace, whatever its schedule was. It takes
-    /// no memory.
+    /// Returns the rows and reports of a flight that is over: those of the one-thread trace, whatever its schedule
+    /// was.
     pub fn finish(self) -> Flown
         requires { IsOver (flown self) (standing self) }
         ensures rows { result.rows ≡ rows_of self.entry.spec self.entry.script }
@@ -194,7 +189,7 @@ impl<'a> Core<'a> {
         self.kernel.finish()
     }
 
-    /// The next event of the actor of an event, as `next_of` and `next_kernel` tell it. It takes no memory.
+    /// Returns the next event of the actor of an event, as `next_of` and `next_kernel` give it.
     pub fn next_of_actor(&self, event: Event) -> Option<Event>
         ensures { result ≡ next_of_actor (flown self.now) (standing self.now) (standing_words self.now) event }
     {
@@ -211,9 +206,8 @@ impl<'a> Core<'a> {
         }
     }
 
-    /// Makes an event, where it is the next of its actor. A store comes with its word, by the draft, and a store of the
-    /// kernel with its word, by the image of the next frame. Else it says what is next, and nothing changes. It takes
-    /// no memory.
+    /// Makes an event, where it is the next of its actor. A store comes with its word, by the draft, and a store of
+    /// the kernel with its word, by the image of the next frame. Else it says what is next, and nothing changes.
     pub fn step(&mut self, event: Event, word: u64) -> Result<(), Illegal>
         requires { IsNext (flown self.old) (standing self.old) (standing_words self.old) event → IsEventWord (flown self.old) (standing self.old) event word }
         ensures spec { self.new.spec ≡ self.old.spec }
@@ -233,21 +227,20 @@ impl<'a> Core<'a> {
         self.places = places_after(self.script, &self.places, event);
         self.history.push_reserved(event_code(event));
         if ends_frame(self.spec, event) {
-            self.image = end_frame(
+            end_frame(
                 self.spec,
                 self.script,
                 &self.places,
                 &self.stored,
                 &mut self.kernel,
-                &mut self.walk,
             );
         }
         Ok(())
     }
 }
 
-/// Two flights of one specification and one script that are over give equal rows and reports, whatever their schedules
-/// were. It takes no memory.
+/// Two flights of one specification and one script that are over give equal rows and reports, whatever their
+/// schedules were.
 pub fn finish_both<'a>(one: Core<'a>, other: Core<'a>) -> (Flown, Flown)
     requires spec { other.spec ≡ one.spec }
     requires script { other.script ≡ one.script }
@@ -278,7 +271,7 @@ fn opening_places() -> Places
     }
 }
 
-// How many events a flight has at most.
+// Returns how many events a flight has at most.
 fn events_of(spec: &Spec, script: &Script) -> usize
     ensures known { IsSpec spec.now }
     ensures events { result ≡ script.now.frames * (length spec.now.procs * (length spec.now.procs + 8 * length spec.now.apps + 3) + (length spec.now.procs + 21)) }
@@ -294,7 +287,7 @@ fn is_event(next: Option<Event>, event: Event) -> bool
     next == Some(event)
 }
 
-// Whether an event is the last note of a frame.
+// Returns whether an event is the last note of a frame.
 fn ends_frame(spec: &Spec, event: Event) -> bool
     ensures { result ≡ ends_frame spec.now event }
 {

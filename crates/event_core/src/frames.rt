@@ -3,8 +3,6 @@
 ghost use Rattle.std.specs.Prelude.{◌≡◌, ◌<◌, ◌+◌, length};
 ghost use Rattle.scram_types.specs.Specification.{IsSpec};
 ghost use Rattle.fault_script.specs.Fits.{Fits};
-ghost use Rattle.fault_script.specs.Walks.{IsWalk};
-ghost use Rattle.frame_model.specs.Storage.{kernel_image};
 ghost use Rattle.fail_stop.specs.Kept.{Kept};
 ghost use Rattle.fail_stop.specs.Listed.{places_of_words, stored_in};
 ghost use Rattle.fail_stop.specs.ScriptFlights.{flight_of};
@@ -13,22 +11,18 @@ ghost use Rattle.event_core.specs.Places.{machine_places};
 
 use crate::places::Places;
 use crate::reads::{images_read, marks_read};
-use bank_words::KernelImage;
 use fail_stop::law::notes_fix;
-use fault_script::Walk;
 use scram_kernel::Kernel;
 use scram_types::{Script, Spec};
 
-/// Ends the frame all of whose processors have been noted: the kernel and the walk go on to the next frame, and what the
-/// kernel says of it comes back.
+/// Ends the frame all of whose processors have been noted: the kernel goes on to the next frame.
 pub(crate) fn end_frame(
     spec: &Spec,
     script: &Script,
     places: &Places,
     stored: &[u64],
     kernel: &mut Kernel,
-    walk: &mut Walk,
-) -> KernelImage
+)
     requires facts { IsSpec spec.now }
     requires fits { Fits spec.now script.now }
     requires stored { length stored.now ≡ places_of_words }
@@ -36,18 +30,10 @@ pub(crate) fn end_frame(
     requires noted { places.now.step ≡ length spec.now.procs }
     requires frame { places.now.frame < script.now.frames }
     requires kernel { kernel.old ≡ kernel_after spec.now script.now places.now.frame }
-    requires walk { IsWalk spec.now script.now walk.old.frame walk.old }
-    requires at { walk.old.frame ≡ places.now.frame }
     ensures kernel { kernel.new ≡ kernel_after spec.now script.now (places.now.frame + 1) }
-    ensures walk { IsWalk spec.now script.now walk.new.frame walk.new }
-    ensures at { walk.new.frame ≡ places.now.frame + 1 }
-    ensures image { result ≡ kernel_image spec.now script.now (places.now.frame + 1) }
 {
     notes_fix();
-    let next = walk.next(spec, script);
     let marks = marks_read(stored);
     let images = images_read(spec, stored, places.frame + 1);
-    let factors = next.env.factors;
-    *walk = next;
-    kernel.tick(&marks, &images, factors)
+    kernel.tick(&marks, &images);
 }

@@ -2,8 +2,8 @@
 
 ghost use Rattle.event_core.specs.Counts.{HistoriesTellFrames};
 
-/// The history tells how many frames have ended: the kernel stands in the frame of as many releases, and a frame has ended for
-/// each note of all processors.
+/// The history gives how many frames have ended: the number of the kernel's frame is the number of releases, and a
+/// frame has ended for each note of all processors.
 pub fn histories_tell_frames()
     ensures { HistoriesTellFrames }
 {}

@@ -14,7 +14,7 @@ use bank_words::Event;
 use fault_script::restart_of;
 use scram_types::{ProcId, Script};
 
-/// Where a processor stands after an event of its own.
+/// Returns where a processor stands after an event of its own.
 fn moved(script: &Script, event: Event, p: ProcId, place: Place) -> Place
     requires { CanGoOn place }
     ensures { (spec : Parts) → machine_place result ≡ moved (flight_of spec script.now) event p.0 (machine_place place) }
@@ -74,7 +74,7 @@ fn halted_there(place: Place) -> Place
     }
 }
 
-/// Where all stand after an event.
+/// Returns where all stand after an event.
 pub(crate) fn places_after(script: &Script, places: &Places, event: Event) -> Places
     requires event { IsInside event }
     requires room { CanMove places.now event }

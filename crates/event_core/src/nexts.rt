@@ -18,7 +18,7 @@ use fail_stop::words::end_index;
 use fault_script::{halt_in, restart_of};
 use scram_types::{HaltAt, ProcId, Script, Spec};
 
-/// Where a processor stands; at the opening place past the last.
+/// Returns where a processor stands; at the opening place past the last.
 pub(crate) fn kept_place(procs: &[Place; 8], p: ProcId) -> Place
     ensures { result ≡ kept_place procs.now p.0 }
 {
@@ -28,7 +28,7 @@ pub(crate) fn kept_place(procs: &[Place; 8], p: ProcId) -> Place
     }
 }
 
-/// The next event of a processor, by the places and the words.
+/// Returns the next event of a processor, by the places and the words.
 pub(crate) fn next_of(
     spec: &Spec,
     script: &Script,
@@ -117,7 +117,7 @@ fn next_halted(p: ProcId, frame: u32, release: u64, restart: Option<u32>) -> Opt
     }
 }
 
-/// The next event of the kernel, by the places and the words.
+/// Returns the next event of the kernel, by the places and the words.
 pub(crate) fn next_kernel(
     spec: &Spec,
     script: &Script,

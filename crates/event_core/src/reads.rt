@@ -13,7 +13,7 @@ use bank_words::{KernelImage, decode, kernel_decode, kernel_encode, pick};
 use fail_stop::words::{bank_index, mark_index};
 use scram_types::{Image, ProcId, Spec};
 
-/// The marks of the processors.
+/// Returns the marks of the processors.
 pub(crate) fn marks_read(stored: &[u64]) -> [u64; 8]
     requires { length stored.now ≡ places_of_words }
     ensures { result ≡ eight (λ p. stored_in stored.now (MarkWord p)) }
@@ -38,8 +38,8 @@ fn mark_read(stored: &[u64], p: usize) -> u64
     stored[mark_index(ProcId(p as u8))]
 }
 
-/// The image of a processor that a reader in a frame finds.
-#[tactic(auto, using(crate::proofs::Reading::word_set, crate::proofs::Reading::none_read))]
+/// Returns the image of a processor that a reader in a frame finds.
+#[tactic(auto, using(fail_stop::proofs::Decoding::word_set, fail_stop::proofs::Decoding::none_read))]
 pub(crate) fn image_read(spec: &Spec, stored: &[u64], frame: u32, p: usize) -> Image
     requires stored { length stored.now ≡ places_of_words }
     requires p { p < 8 }
@@ -55,7 +55,7 @@ pub(crate) fn image_read(spec: &Spec, stored: &[u64], frame: u32, p: usize) -> I
     image
 }
 
-/// The images of the processors that a reader in a frame finds.
+/// Returns the images of the processors that a reader in a frame finds.
 pub(crate) fn images_read(spec: &Spec, stored: &[u64], frame: u32) -> [Image; 8]
     requires { length stored.now ≡ places_of_words }
     ensures words { (p : ℕ) → p < 8 → (i : ℕ) → i < 64 → slice_index_or (image_in result p) i (pos 0) ≡ word_read spec.now stored.now frame p i }
@@ -73,7 +73,7 @@ pub(crate) fn images_read(spec: &Spec, stored: &[u64], frame: u32) -> [Image; 8]
     ]
 }
 
-/// What the kernel says of a frame, read back from its words, which are those of this image.
+/// Returns what the kernel says of a frame, read back from its words, which are those of this image.
 pub(crate) fn kernel_read(stored: &[u64], image: &KernelImage) -> KernelImage
     requires stored { length stored.now ≡ places_of_words }
     requires held { (i : ℕ) → i < 20 → stored_in stored.now (KernelWord i) ≡ word_in (kernel_encode image.now) i }

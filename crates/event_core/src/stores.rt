@@ -46,7 +46,7 @@ pub(crate) fn store(stored: &mut Vec<u64>, places: &Places, event: Event, word: 
     }
 }
 
-/// The frame of a place.
+/// Returns the frame of a place.
 pub(crate) fn frame_of(place: Place) -> u32
     ensures { result ≡ frame_of (machine_place place) }
 {
@@ -56,7 +56,7 @@ pub(crate) fn frame_of(place: Place) -> u32
     }
 }
 
-// How many frames there are up to that of a place.
+// Returns how many frames there are up to that of a place.
 fn frames_through(place: Place) -> u32
     requires { CanGoOn place }
     ensures { result ≡ suc (frame_of (machine_place place)) }
@@ -67,7 +67,7 @@ fn frames_through(place: Place) -> u32
     }
 }
 
-// The bank that the mark of a processor does not name.
+// Returns the bank that the mark of a processor does not name.
 fn other_bank(stored: &[u64], p: ProcId) -> u8
     requires stored { length stored.now ≡ places_of_words }
     requires p { p.0 < 8 }

@@ -169,7 +169,7 @@ unfolding end_before
 end_from m p zero h e = absurd (omega arith)
 end_from m p (suc f) h e = from_next m p f h (m.up p f) refl (end_from m p f h) e
 
--- who is up in f with an odd end word has its restart after that halt and up to f
+-- a processor that is up in f with an odd end word has its restart after that halt and up to f
 back_found : (m : Flight) (p f h : ℕ) (b : Bool) → back_by (m.restart p) h f ≡ b → Flies m → m.up p f ≡ true → From m p f h → b ≡ true
 back_found m p f h true e y u r = refl
 back_found m p f h false e y u r = let d : m.up p f ≡ false = y.gone p h r.step f r.up r.halts r.low e in cc

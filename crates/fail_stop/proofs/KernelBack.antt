@@ -205,7 +205,7 @@ world_at spec script zero =
     record { alt = record { low = omega (arith, ints); high = omega (arith, ints) }; climb = zero_is; heading = record { low = omega (arith, ints); high = omega (arith, ints) }; bank = zero_is }
 world_at spec script (suc f) = world_words (state_after spec script (suc f)).world (flyable _)
 
--- factors and who is up
+-- factors and the processors that are up
 
 number_by : (t : Bool) (a b : ℕ) → a < 256 → b < 256 → cond t a b < 256
 number_by true a b h k = h

@@ -99,7 +99,7 @@ next_place m k j q (Halted h) l s = record { step = s.step; up = s.up; halts = s
 pub kernel_zero : (m : Flight) (k j i : ℕ) → j ≤ m.procs → kernel_at m k j i ≡ word_in (m.kernel_image k) i
 kernel_zero m k j i h = grind (arith, nat_tests)
 
-kernel_full : (m : Flight) (k j i : ℕ) → j ≡ m.procs + 20 → i < 20 → kernel_at m k j i ≡ word_in (m.kernel_image (suc k)) i
+pub kernel_full : (m : Flight) (k j i : ℕ) → j ≡ m.procs + 20 → i < 20 → kernel_at m k j i ≡ word_in (m.kernel_image (suc k)) i
 kernel_full m k j i h l = grind (arith, nat_tests)
 
 kernel_store : (m : Flight) (k j i d w : ℕ) → j ≡ m.procs + i → w ≡ kernel_at m k j d → (if nat_eq i d then word_in (m.kernel_image (suc k)) d else w) ≡ kernel_at m k (suc j) d

@@ -1,7 +1,9 @@
+pub mod Decoding
 pub mod Drafting
 pub mod EachState
 pub mod Examples
 pub mod Facts
+pub mod FlyersAt
 pub mod FrameFacts
 pub mod FrameSteps
 pub mod HaltSteps

@@ -137,7 +137,7 @@ release_case false may j i true false true e = (refl, refl, refl)
 release_case false may j i true false false e = cc
 release_case false may j i false b c e = cc
 
-not_less : (a b : ℕ) → nat_lt a b ≡ false → b ≤ a
+pub not_less : (a b : ℕ) → nat_lt a b ≡ false → b ≤ a
 not_less a b h = grind (arith, nat_tests)
 
 is_same : (a b : ℕ) → nat_eq a b ≡ true → a ≡ b

@@ -62,7 +62,7 @@ later_not_in : (k f n : ℕ) → 0 < n → (k < f → n ≡ 0) → Dec (f ≤ k)
 later_not_in k f n z h (yes d) = d
 later_not_in k f n z h (no d) = let e : n ≡ 0 = h (omega arith) in absurd (omega arith)
 
--- who has made a step in f is not ahead of the kernel
+-- a processor that has made a step in f is not ahead of the kernel
 pub later_not : (k f n : ℕ) → 0 < n → (k < f → n ≡ 0) → f ≤ k
 later_not k f n z h = later_not_in k f n z h (dec_le f k)
 
@@ -136,7 +136,7 @@ limit_one : (m : Flight) (o : Option ℕ) → 1 ≤ last_step m o
 limit_one m None = omega arith
 limit_one m (Some s) = omega arith
 
-some_same : (a b : ℕ) (o : Option ℕ) → o ≡ Some a → o ≡ Some b → a ≡ b
+pub some_same : (a b : ℕ) (o : Option ℕ) → o ≡ Some a → o ≡ Some b → a ≡ b
 some_same a b o x y = cc
 
 module _ (m : Flight) (at : Places) (words : Word → ℕ) (at2 : Places) (words2 : Word → ℕ) (p : ℕ) (k : Kept m at words) (l : p < m.procs) (f n : ℕ) (here : at.proc p ≡ At f n) (z : 0 < n) where

@@ -50,10 +50,10 @@ in_limit : (m : Flight) (n : ℕ) (o : Option ℕ) → ((s : ℕ) → o ≡ Some
 in_limit m n None y h = h
 in_limit m n (Some s) y h = let small : s ≤ m.width + 1 = y s refl in omega arith
 
-may_done : (m : Flight) (p k e : ℕ) → e ≡ 2 * suc k → may_note m p k e ≡ true
+pub may_done : (m : Flight) (p k e : ℕ) → e ≡ 2 * suc k → may_note m p k e ≡ true
 may_done m p k e h = rw (eq-eqb e (2 * suc k) h) refl
 
-may_halted : (m : Flight) (p k h e : ℕ) → e ≡ 2 * h + 1 → back_by (m.restart p) h k ≡ false → may_note m p k e ≡ true
+pub may_halted : (m : Flight) (p k h e : ℕ) → e ≡ 2 * h + 1 → back_by (m.restart p) h k ≡ false → may_note m p k e ≡ true
 may_halted m p k h e w b =
     let half : e / 2 ≡ h = omega arith in
     let one : e % 2 ≡ 1 = omega arith in
@@ -63,13 +63,14 @@ may_halted m p k h e w b =
     or_true true = refl
     or_true false = refl
 
-record Found (o : Option ℕ) (h k : ℕ) : Type 0 where
-  r : ℕ
-  is : o ≡ Some r
-  low : h < r
-  high : r ≤ k
+-- the restart by which a processor that has halted in frame h is back in frame k
+pub record Found (o : Option ℕ) (h k : ℕ) : Type 0 where
+  pub r : ℕ
+  pub is : o ≡ Some r
+  pub low : h < r
+  pub high : r ≤ k
 
-found : (o : Option ℕ) (h k : ℕ) → back_by o h k ≡ true → Found o h k
+pub found : (o : Option ℕ) (h k : ℕ) → back_by o h k ≡ true → Found o h k
 found None h k e = cc
 found (Some r) h k e = record { r = r; is = refl; low = grind (arith, nat_tests); high = grind (arith, nat_tests) }
 

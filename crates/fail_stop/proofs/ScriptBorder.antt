@@ -1,4 +1,5 @@
--- The flight of a script: who is up by its halts and restarts, which frames are committed, and the images.
+-- The flight of a script: which processors are up by its halts and restarts, which frames are committed, and the
+-- images.
 use Rattle.std.proofs.Common.{◌≡◌, ◌∙◌, ℕ, zero, suc, ◌+◌, ◌≤◌, Bool, true, false, not, ◌&&◌, ◌||◌, refl, sym, ap, arith, List, [], ◌∷◌}
 use Rattle.std.specs.Prelude.{◌==◌, nat_le, nat_lt, find, is_some, slice_get, Option, Some, None, option_map, if◌then◌else◌}
 use Rattle.std.specs.List.{list_any}
@@ -98,7 +99,7 @@ up_by_halts spec script fits = record { up = up_by spec script fits; steps = λ 
 pub script_flies : (spec : Parts) (script : ScriptParts) → Fits spec script → Flies (flight_of spec script)
 script_flies spec script fits = flies (flight_of spec script) (up_by_halts spec script fits)
 
--- who commits
+-- which processors commit
 
 mark_reached : (w : ℕ) (o : Option HaltAt) → reaches_mark w (option_map (λ (halt : HaltAt). halt.step) o) ≡ not (is_early w o)
 mark_reached w None = refl

@@ -23,7 +23,7 @@ abbrev pub NoRestart : Flight → ℕ → ℕ → ℕ → Type 0
 NoRestart m p h k = (r : ℕ) → m.restart p ≡ Some r → h < r → k < r
 
 -- The invariant fact by fact, with the kernel in its frame: marks and banks by the commits of their processor, where
--- processors and the kernel stand, what a note tells, the kernel's words, and what a reader sees.
+-- processors and the kernel stand, what a note says, the kernel's words, and what a reader sees.
 pub record IsConsistent (m : Flight) (at : Places) (words : Word → ℕ) : Type 0 where
   pub mark : (p : ℕ) → p < m.procs → words (MarkWord p) ≡ mark_word (last_commit m p (marked m (at.proc p))) (commit_count m p (marked m (at.proc p)) % 2)
   pub marked_bank : (p i : ℕ) → p < m.procs → i < m.width → words (BankWord p (commit_count m p (marked m (at.proc p)) % 2) i) ≡ word_in (image_before m p (last_commit m p (marked m (at.proc p)))) i

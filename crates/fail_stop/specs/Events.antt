@@ -25,7 +25,7 @@ pub data Word : Type 0 where
   EndWord : ℕ → Word
   BankWord : ℕ → ℕ → ℕ → Word
 
--- The halt of a frame, if there is one, is step n: it comes after the start, the looks and so many stores.
+-- The halt of a frame, if there is one, is step n: it comes after the start, the looks and its number of stores.
 abbrev pub halts_at : Flight → ℕ → Option ℕ → Bool
 halts_at m n None = false
 halts_at m n (Some s) = nat_eq n (m.procs + 1 + s)
@@ -171,6 +171,16 @@ step_after at (Halt p) = at.step
 abbrev pub frame_of : Place → ℕ
 frame_of (At f n) = f
 frame_of (Halted h) = h
+
+-- The processor has halted.
+abbrev pub is_halted : Place → Bool
+is_halted (At f n) = false
+is_halted (Halted h) = true
+
+-- Where a processor stands after the whole of frame f, by the halt in it.
+abbrev pub after_frame : ℕ → Option ℕ → Place
+after_frame f None = At (suc f) 0
+after_frame f (Some s) = Halted f
 
 -- The word that an event writes, and what it writes there.
 abbrev pub writes : Flight → Places → (Word → ℕ) → Event → Option (Word × ℕ)

@@ -1,9 +1,9 @@
--- What the law of the event machine needs of a mission: numbers, who is up, halts and restarts, images.
+-- What the law of the event machine needs of a mission: numbers, processors that are up, halts and restarts, images.
 use Rattle.std.specs.Prelude.{◌≡◌, ℕ, zero, suc, ◌+◌, ◌-◌, ◌*◌, ◌<◌, ◌≤◌, min, Bool, true, false, ◌&&◌, List, get_or, Option, Some, None, if◌then◌else◌, nat_lt, nat_le, nat_eq}
 use Rattle.bank_words.specs.Marks.{mark_word}
 
--- A flight by functions: the numbers of frames, processors and words of an image, who is up, the step of a halt and the
--- frame of a restart, start images, drafts and the kernel's words.
+-- A flight by functions: the numbers of frames, processors and words of an image, the processors that are up, the
+-- step of a halt and the frame of a restart, start images, drafts and the kernel's words.
 pub record Flight : Type 0 where
   pub frames : ℕ
   pub procs : ℕ
@@ -20,7 +20,7 @@ abbrev pub back_by : Option ℕ → ℕ → ℕ → Bool
 back_by None h g = false
 back_by (Some r) h g = nat_lt h r && nat_le r g
 
--- What makes a flight one of a script: who halts is down from the next frame on, until its restart.
+-- What makes a flight one of a script: a processor that halts is down from the next frame on, until its restart.
 pub record Flies (m : Flight) : Type 0 where
   pub first : (p : ℕ) → m.up p 0 ≡ true
   pub stays : (p f : ℕ) → m.up p f ≡ true → m.halt p f ≡ None → m.up p (suc f) ≡ true

@@ -91,7 +91,7 @@ pub record Finds (spec : Parts) (script : ScriptParts) (words : Word → ℕ) (f
       → words (BankWord q (image_bank_after spec script q f) i) ≡ word_in (image_words_after spec script q f) i
   pub kernel : (i : ℕ) → i < 20 → words (KernelWord i) ≡ word_in (kernel_words spec script f) i
 
--- Whoever reads in a frame finds the images and the kernel's words of that frame.
+-- Each reader in a frame finds the images and the kernel's words of that frame.
 abbrev pub ReadersFind : Type 0
 ReadersFind = (spec : Parts) (script : ScriptParts) → Fits spec script → (at : Places) (words : Word → ℕ)
     → Kept (flight_of spec script) at words → (p f n : ℕ) → p < length spec.procs → Reads at p f n → Finds spec script words f

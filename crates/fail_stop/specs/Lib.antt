@@ -2,6 +2,7 @@ pub mod Consistency
 pub mod Drafts
 pub mod Ends
 pub mod Events
+pub mod Flyers
 pub mod Flights
 pub mod Kept
 pub mod Laws

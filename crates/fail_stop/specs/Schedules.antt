@@ -1,4 +1,4 @@
--- Schedules from the opening, and who is up by the halts and restarts.
+-- Schedules from the opening, and which processors are up by the halts and restarts.
 use Rattle.std.specs.Prelude.{◌≡◌, ℕ, zero, suc, ◌+◌, ◌≤◌, Bool, true, false, ◌&&◌, ◌||◌, List, [], ◌∷◌, Option, Some, None, is_none, is_some, if◌then◌else◌, nat_eq}
 use Rattle.fail_stop.specs.Flights.{Flight, back_by}
 use Rattle.bank_words.specs.declared.events.Event.{Event}
@@ -31,7 +31,7 @@ abbrev pub is_frame : Option ℕ → ℕ → Bool
 is_frame None f = false
 is_frame (Some r) f = nat_eq r f
 
--- Who is up in frame f, frame by frame: the halts below it, and the restart.
+-- Which processors are up in frame f, frame by frame: the halts below it, and the restart.
 unfoldable pub up_by : (ℕ → Option ℕ) → Option ℕ → ℕ → Bool
 up_by halt restart zero = true
 up_by halt restart (suc f) = (up_by halt restart f && is_none (halt f)) || is_frame restart (suc f)
@@ -41,12 +41,12 @@ abbrev pub latest : (ℕ → Option ℕ) → ℕ → Option ℕ
 latest halt zero = None
 latest halt (suc f) = if is_some (halt f) then Some f else latest halt f
 
--- Who is up in frame f by its latest halt below f, if there is one, and its restart.
+-- Whether a processor is up in frame f, by its latest halt below f, if there is one, and its restart.
 abbrev pub is_up_after : Option ℕ → Option ℕ → ℕ → Bool
 is_up_after None restart f = true
 is_up_after (Some h) restart f = back_by restart h f
 
--- Who is up is told by halts and restarts, and each halt comes after some of the stores or after the mark.
+-- Halts and restarts decide which processors are up, and each halt comes after some of the stores or after the mark.
 pub record IsUpBy (m : Flight) : Type 0 where
   pub up : (p f : ℕ) → m.up p f ≡ is_up_after (latest (m.halt p) f) (m.restart p) f
   pub steps : (p f s : ℕ) → m.halt p f ≡ Some s → s ≤ m.width + 1

@@ -30,7 +30,8 @@ draft_words spec script p f = image_words (draft spec script p f)
 abbrev pub kernel_words : Parts → ScriptParts → ℕ → List ℕ
 kernel_words spec script f = kernel_encode (kernel_image spec script f)
 
--- The flight of a script: who is up, halts and restarts as the script says, images and drafts as the frames make them.
+-- The flight of a script: the processors are up, halt and restart as the script says, images and drafts as the frames
+-- make them.
 abbrev pub flight_of : Parts → ScriptParts → Flight
 flight_of spec script = record {
   frames = script.frames;

@@ -21,7 +21,7 @@ pub(crate) struct Setting {
     pub(crate) areas: [Area; 8],
 }
 
-/// The areas that a snapshot shows.
+/// Returns the areas that a snapshot shows.
 pub(crate) fn areas_shown(snap: &Snapshot) -> [Area; 8]
     ensures { result ≡ areas_shown snap.now }
 {
@@ -50,7 +50,7 @@ fn area_kept(snap: &Snapshot, a: u8) -> Area
     }
 }
 
-/// The slots that processor `proc` makes, one call of a box for each application that it hosts.
+/// Returns the slots that processor `proc` makes, one call of a box for each application that it hosts.
 pub(crate) fn make_slots(
     spec: &Spec,
     proc: ProcId,
@@ -101,7 +101,7 @@ fn is_proc(proc: ProcId, named: Option<ProcId>) -> bool
     }
 }
 
-/// The image that has these slots, one after another.
+/// Returns the image that has these slots, one after another.
 pub(crate) fn image_of(slots: &[Area; 8]) -> Image
     requires { AreEight (area_at slots.now) }
     ensures { result ≡ image_of (area_at slots.now) }

@@ -1,5 +1,5 @@
 //! The law of events: what holds of places and words in each state of each schedule of a script that fits its
-//! specification, whoever halts and restarts. Each function states a part of it by its contract and does nothing.
+//! specification, under all halts and restarts. Each function states a part of it by its contract and does nothing.
 
 ghost use Rattle.fail_stop.specs.Laws.{BanksHoldTheLastStores, DraftsAreOfTraces, EventsKeep, EventsKeepLists, FlightsAreOfTraces, KernelImagesComeBack, KeptIsConsistent, MachineGoesOn, NotesFix, OpeningKeeps, OpeningListsAreOfScripts, ReadersFind, SchedulesKeep};
 

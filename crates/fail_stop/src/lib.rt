@@ -1,9 +1,10 @@
-//! In every state of every schedule of a fitting script, with halts and restarts in any frame, marks, banks, the kernel's
-//! words and places are what the one-thread trace and the actors' steps say, so that whoever reads in a frame finds the
-//! images of that frame; what a live processor makes of them is its draft in the one-thread trace.
+//! In every state of every schedule of a fitting script, with halts and restarts in any frame, marks, banks, the
+//! kernel's words and places are what the one-thread trace and the actors' steps say, so that each reader in a frame
+//! finds the images of that frame; what a live processor makes of them is its draft in the one-thread trace.
 #![tactic(auto)]
 
 mod drafts;
+pub mod flyers;
 pub mod law;
 pub mod notes;
 pub mod openings;
@@ -11,5 +12,6 @@ pub mod snapshots;
 pub mod units;
 pub mod words;
 
+pub use flyers::{Flyer, Unit};
 pub use snapshots::{Draft, Snapshot};
 pub use units::{Halted, Live};

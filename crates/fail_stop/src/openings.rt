@@ -14,7 +14,7 @@ use frame_model::{Sys, decide};
 use scram_types::{NoMemory, ProcId, Script, Spec};
 use std::alloc::Global;
 
-/// What the kernel says of the first frame. It takes no memory.
+/// Returns what the kernel says of the first frame.
 pub fn first_image(spec: &Spec, script: &Script) -> KernelImage
     requires { Fits spec.now script.now }
     ensures { result ≡ kernel_image spec.now script.now 0 }
@@ -31,8 +31,8 @@ pub fn first_image(spec: &Spec, script: &Script) -> KernelImage
     }
 }
 
-/// The words at the opening of a flight of so many frames: the kernel's are those of the first frame, bank 0 of each
-/// processor holds its start image, and the release is 1 where a frame is flown.
+/// Returns the words at the opening of a flight with `frames` frames: the kernel's are those of the first frame, bank
+/// 0 of each processor holds its start image, and the release is 1 where a frame is flown.
 #[tactic(auto, using(crate::proofs::OpeningLists::list_whole))]
 pub fn opening_words(
     alloc: Global,

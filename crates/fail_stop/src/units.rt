@@ -29,7 +29,7 @@ pub struct Halted {
 }
 
 impl Live {
-    /// The processor of this number, with these boxes. It takes no memory.
+    /// The processor of this number, with these boxes.
     // No clause rests on the precondition: a function that gives boxes back and asks nothing counts as one that may make
     // them, and so does each function that calls it and asks nothing.
     pub fn new(proc: ProcId, rack: Rack) -> Live
@@ -40,16 +40,16 @@ impl Live {
         Live { proc, rack }
     }
 
-    /// The processor's number.
+    /// Returns the processor's number.
     pub fn proc(&self) -> ProcId
         ensures { result ≡ self.now.proc }
     {
         self.proc
     }
 
-    /// The image of this processor after the snapshot's frame: the area of each application that it hosts there is what
-    /// one call of its rack answers, and the other words are as they were. Where the snapshot is that of a frame of a
-    /// script, it is what the one-thread trace drafts in that frame. It takes no memory.
+    /// Returns the image of this processor after the snapshot's frame: the area of each application that it hosts
+    /// there is what one call of its rack answers, and the other words are as they were. Where the snapshot is that
+    /// of a frame of a script, it is what the one-thread trace drafts in that frame.
     pub fn draft(&mut self, spec: &Spec, snap: &Snapshot) -> Draft
         requires proc { self.old.proc.0 < 8 }
         ensures frame { result.frame ≡ snap.now.kernel.frame }
@@ -73,7 +73,7 @@ impl Live {
         }
     }
 
-    /// The processor halts in this frame, and its boxes are dropped. It takes no memory.
+    /// Halts the processor in this frame, and drops its boxes.
     pub fn halt(self, frame: u32) -> Halted
         ensures proc { result.proc ≡ self.proc }
         ensures frame { result.frame ≡ frame }
@@ -86,21 +86,21 @@ impl Live {
 }
 
 impl Halted {
-    /// The processor's number.
+    /// Returns the processor's number.
     pub fn proc(&self) -> ProcId
         ensures { result ≡ self.now.proc }
     {
         self.proc
     }
 
-    /// The frame in which the processor halted.
+    /// Returns the frame in which the processor halted.
     pub fn frame(&self) -> u32
         ensures { result ≡ self.now.frame }
     {
         self.frame
     }
 
-    /// The same processor lives again, with other boxes. It takes no memory.
+    /// Restarts the processor with other boxes.
     pub fn restart(self, rack: Rack) -> Live
         requires proc { self.proc.0 < 8 }
         ensures proc { result.proc ≡ self.proc }

@@ -9,7 +9,7 @@ use scram_types::ProcId;
 /// How many words there are.
 pub const WORDS: usize = 1_120;
 
-/// The place of word `i` of the kernel, below 20.
+/// Returns the place of word `i` of the kernel, below 20.
 pub fn kernel_index(i: usize) -> usize
     requires { i < 20 }
     ensures { result ≡ index_of (KernelWord i) }
@@ -17,21 +17,21 @@ pub fn kernel_index(i: usize) -> usize
     8 + i
 }
 
-/// The place of a processor's mark.
+/// Returns the place of a processor's mark.
 pub fn mark_index(p: ProcId) -> usize
     ensures { result ≡ index_of (MarkWord p.0) }
 {
     32 + 136 * usize::from(p.0)
 }
 
-/// The place of a processor's end word.
+/// Returns the place of a processor's end word.
 pub fn end_index(p: ProcId) -> usize
     ensures { result ≡ index_of (EndWord p.0) }
 {
     33 + 136 * usize::from(p.0)
 }
 
-/// The place of the first word of a processor's bank, 0 or 1; the further words follow it.
+/// Returns the place of the first word of a processor's bank, 0 or 1; the further words follow it.
 pub fn bank_index(p: ProcId, bank: usize) -> usize
     requires { bank ≤ 1 }
     ensures { result ≡ index_of (BankWord p.0 bank 0) }

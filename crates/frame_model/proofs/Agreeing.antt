@@ -46,7 +46,7 @@ task_exists spec facts (Halting c age) a = for_exists spec (halting_order (halt_
 task_exists spec facts (Preparing c age) a = for_exists spec (preparing_order (prepare_time spec c a) age) (place_of spec c a) (place_exists spec facts c a)
 task_exists spec facts (Initialising c age) a = for_exists spec (initialising_order (init_offset spec c a) (init_time spec c a) age) (place_of spec c a) (place_exists spec facts c a)
 
--- Two tests of who commits agree on the processors that exist.
+-- Two tests of which processors commit agree on the processors that exist.
 unfoldable pub Agree : Parts → (ℕ → Bool) → (ℕ → Bool) → Type 0
 Agree spec s t = (p : ℕ) → p < length spec.procs → s p ≡ t p
 

@@ -1,4 +1,4 @@
--- Who is up, from frame to frame.
+-- Which processors are up, from frame to frame.
 use Rattle.std.proofs.Common.{◌≡◌, ◌∙◌, ℕ, zero, suc, ◌<◌, ◌≤◌, refl, sym, arith, length, Bool, true, false, not, ◌&&◌, ◌||◌, List, [], ◌∷◌}
 use Rattle.std.specs.Prelude.{◌==◌, nat_le, nat_lt, Option, Some, None, IfSome, bit_and, bit_or, if◌then◌else◌}
 use Rattle.std.specs.List.{list_any}

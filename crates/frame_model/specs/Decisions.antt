@@ -18,7 +18,7 @@ leave_for c t frame = if t.0 == c.0 then Stable c else Moving c (Some c) t frame
 abbrev pub stable_decision : Parts → ConfId → ℕ → Env → KMode
 stable_decision spec c frame v = leave_for c (choose spec c v) frame
 
--- The target that the policy wants: the one chosen from the source, unless the old one is kept while it can run.
+-- The target that the policy chooses: the one chosen from the source, unless the old one is kept while it can run.
 abbrev pub wanted : Policy → Parts → ConfId → ConfId → Env → ConfId
 wanted Retarget spec from to v = choose spec from v
 wanted Settle spec from to v = if is_runnable spec to v then to else choose spec from v
@@ -30,7 +30,7 @@ turn_to spec frame from halting to since settled t =
     if nat_lt (frame - since) (halting_frames spec halting) then Moving from halting t since
     else (if settled then Moving from (Some to) t frame else Moving from None t frame)
 
--- In a moving mode: it goes on where the target that is wanted is the one it has, else it turns to the wanted one.
+-- In a moving mode: it goes on where the policy chooses the target that it has, else it turns to the chosen one.
 abbrev pub moving_decision : Parts → ℕ → ConfId → Option ConfId → ConfId → ℕ → Bool → ConfId → KMode
 moving_decision spec frame from halting to since settled t =
     if t.0 == to.0 then Moving from halting to since else turn_to spec frame from halting to since settled t

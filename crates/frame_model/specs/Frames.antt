@@ -13,11 +13,11 @@ use Rattle.frame_model.specs.States.{State, row_of, step}
 abbrev pub state_of : Sys → State
 state_of sys = record { mode = sys.mode; arrived = sys.settled; areas = sys.areas; keepers = sys.keepers; world = sys.world }
 
--- The frame's environment: who restarts in it is up in it.
+-- The frame's environment: a processor that restarts in it is up in it.
 abbrev pub frame_env : Sys → Input → Env
 frame_env sys input = record { up = bit_or sys.up input.back; factors = input.factors }
 
--- Who is up commits, unless it halts before its mark.
+-- A processor that is up commits, unless it halts before its mark.
 abbrev pub committing : Sys → Input → ℕ
 committing sys input = bit_and (frame_env sys input).up (bit_not w8 input.early)
 
@@ -25,7 +25,7 @@ committing sys input = bit_and (frame_env sys input).up (bit_not w8 input.early)
 abbrev pub commits_in : Sys → Input → ℕ → Bool
 commits_in sys input p = has_bit (committing sys input) p
 
--- Who halts in the frame, before or after its mark, is not up at its end.
+-- A processor that halts in the frame, before or after its mark, is not up at its end.
 abbrev pub up_after : Sys → Input → ℕ
 up_after sys input = bit_and (frame_env sys input).up (bit_not w8 (bit_or input.early input.late))
 

@@ -1,4 +1,4 @@
--- What the words of this crate's contracts come to.
+-- What the definitions in this crate's contracts mean.
 use Rattle.std.specs.Prelude.{◌≡◌, ℕ, suc, ◌+◌, ◌<◌, ℤ, Bool, true, false, not, ◌&&◌, ◌==◌, nat_lt, List, [], ◌∷◌, ◌++◌, All, filter, length, map, Option, Some, None, if◌then◌else◌}
 use Rattle.std.specs.List.{list_any}
 use Rattle.scram_types.specs.declared.ids.ConfId.{ConfId}
@@ -91,7 +91,7 @@ pub record ReadsAsTold (spec : Parts) (c : ConfId) (f : ℕ) : Type 0 where
       → (ended_in spec (Steady c) f (before ++ (left ∷ (between ++ (arrived ∷ rest)))) ≡ record { from = c; to = Some j; begin = f + length before; end = e } ∷ ended_in spec (Steady j) (e + 1) rest)
       × (reading_after spec (Steady c) f (before ++ (left ∷ (between ++ (arrived ∷ rest)))) ≡ reading_after spec (Steady j) (e + 1) rest)
 
--- In every specification the rows are read as told, from any configuration and frame on.
+-- In every specification the rows are read in this way, from any configuration and frame on.
 abbrev pub ReadsReconfigurations : Type 0
 ReadsReconfigurations = (spec : Parts) (c : ConfId) (f : ℕ) → ReadsAsTold spec c f
 

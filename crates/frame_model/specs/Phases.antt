@@ -18,14 +18,14 @@ abbrev pub halting_frames : Parts → Option ConfId → ℕ
 halting_frames spec None = 0
 halting_frames spec (Some c) = halting_time spec c
 
--- The phase so many frames after all have halted: preparing, then initialising, then running.
+-- The phase a number of frames after all have halted: preparing, then initialising, then running.
 abbrev pub after_halting : Parts → ConfId → ℕ → Phase
 after_halting spec to age =
     if nat_lt age (preparing_time spec to) then Preparing to age
     else (if nat_lt (age - preparing_time spec to) (initialising_time spec to) then Initialising to (age - preparing_time spec to)
     else Running to)
 
--- The phase so many frames after a mode began: halting what has to halt comes first.
+-- The phase a number of frames after a mode began: halting what has to halt comes first.
 abbrev pub moving_phase : Parts → Option ConfId → ConfId → ℕ → Phase
 moving_phase spec None to age = after_halting spec to age
 moving_phase spec (Some c) to age =

@@ -30,7 +30,7 @@ abbrev pub report_of : Parts → Reading → ℕ → List Act → Option Report
 report_of spec (Steady c) f acts = None
 report_of spec (Leaving c begin) f acts = arrival c begin f (running spec acts)
 
--- The reconfiguration that is cut off after so many frames.
+-- The reconfiguration that is cut off after this number of frames.
 abbrev pub close : Reading → ℕ → Option Report
 close (Steady c) frames = None
 close (Leaving c begin) frames = Some (record { from = c; to = None; begin = begin; end = frames })

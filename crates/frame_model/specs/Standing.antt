@@ -1,4 +1,4 @@
--- Where a system stands in a flight, and who is up there.
+-- Where a system stands in a flight, and which processors are up there.
 use Rattle.std.specs.Prelude.{◌≡◌, ℕ, zero, suc, Bool, true, not, ◌&&◌, length}
 use Rattle.scram_types.specs.Scripts.{ScriptParts}
 use Rattle.scram_types.specs.Specification.{Parts}
@@ -19,7 +19,7 @@ is_up_before script p (suc f) = is_up script p f && not (halts_in script p f)
 abbrev pub up_before : Parts → ScriptParts → ℕ → ℕ
 up_before spec script f = bits_below (λ p. is_up_before script p f) (length spec.procs)
 
--- A system stands before frame f of a script, beside a walk that stands at it.
+-- A system is before frame f of a script, and a walk is at that frame.
 pub record StandsBefore (spec : Parts) (script : ScriptParts) (f : ℕ) (sys : Sys) (walk : Walk) : Type 0 where
   pub frame : sys.frame ≡ f
   pub state : state_of sys ≡ state_after spec script f

@@ -1,4 +1,4 @@
--- What a frame makes of the state, by its environment and by who commits it.
+-- What a frame makes of the state, by its environment and by the processors that commit it.
 use Rattle.std.specs.Prelude.{ℕ, ◌-◌, ◌==◌, ℤ, pos, Bool, false, ◌&&◌, List, [], ◌∷◌, replicate, slice_index_or, Option, Some, None, option_map, if◌then◌else◌}
 use Rattle.scram_types.specs.Lookups.{kind_of_app, place_of}
 use Rattle.scram_types.specs.Eights.{eight}

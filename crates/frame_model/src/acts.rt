@@ -5,8 +5,8 @@ ghost use Rattle.frame_model.specs.Runs.{act_at, is_off, is_ran_at, is_run_by, r
 
 use scram_types::{Act, AppId, ConfId, Place, Spec};
 
-/// Whether the acts of a row run configuration `c`: each application that is on in `c` ran in its mode
-/// and on its processor there, and each other one was off. It takes no memory.
+/// Returns whether the acts of a row run configuration `c`: each application that is on in `c` ran in its mode and on
+/// its processor there, and each other one was off.
 pub fn runs(spec: &Spec, acts: &[Act; 8], c: ConfId) -> bool
     ensures { result ≡ runs spec.now acts.now c }
 {
@@ -18,8 +18,7 @@ pub fn runs(spec: &Spec, acts: &[Act; 8], c: ConfId) -> bool
     true
 }
 
-/// The least-numbered configuration that the acts of a row run, or `None` where they run none. It takes
-/// no memory.
+/// Returns the least-numbered configuration that the acts of a row run, or `None` where they run none.
 pub fn running(spec: &Spec, acts: &[Act; 8]) -> Option<ConfId>
     ensures { result ≡ running spec.now acts.now }
 {

@@ -21,14 +21,13 @@ struct Move {
     frame: u32,
 }
 
-/// The mode that the kernel decides on at the start of a frame, from the state before the frame and the
+/// Returns the mode that the kernel decides on at the start of a frame, from the state before the frame and the
 /// frame's environment.
 ///
-/// A stable configuration stays where the choice table chooses it, and is left where it chooses another.
-/// A reconfiguration that was settled, and whose row ran the target, leaves the target stable, which is
-/// then judged so. Else the target stays where the policy still wants it. Where it wants another one,
-/// only the target changes while something halts; after that the old target halts where it was settled,
-/// and nothing halts where it was not. It takes no memory.
+/// A stable configuration stays where the choice table chooses it, and is left where it chooses another. A
+/// reconfiguration that was settled, and whose row ran the target, leaves the target stable, which is then judged so.
+/// Else the target stays where the policy still chooses it. Where it chooses another one, only the target changes
+/// while something halts; after that the old target halts where it was settled, and nothing halts where it was not.
 pub fn decide(spec: &Spec, sys: &Sys, env: &Env) -> KMode
     ensures { result ≡ mode_decided spec.now sys.now.frame env.now (state_of sys.now) }
 {

@@ -12,7 +12,7 @@ use fault_script::Walk;
 use scram_types::{NoMemory, Row, Script, Spec};
 use std::alloc::Global;
 
-/// The rows of all frames of a script: the one-thread trace. The only refusal is want of memory.
+/// Returns the rows of all frames of a script: the one-thread trace. The only error is out of memory.
 pub fn rows(
     alloc: Global,
     spec: &Spec,

@@ -20,10 +20,9 @@ use app_model::kinds::flight_control;
 use fault_script::Input;
 use scram_types::{Area, Env, KMode, Row, Spec, World};
 
-/// Flies one frame: whoever restarts is up; the kernel decides on the frame's environment; each
-/// application does what it is asked where its processor commits, and is lost where that is not up or
-/// halts before its mark; then the airframe makes a step. The row shows it, and `sys` is the state
-/// after the frame. It takes no memory.
+/// Flies one frame: a processor that restarts is up; the kernel decides on the frame's environment; each application
+/// does what it is asked where its processor commits, and is lost where that is not up or halts before its mark; then
+/// the airframe makes a step. The row shows it, and `sys` is the state after the frame.
 pub fn frame(spec: &Spec, sys: &mut Sys, input: &Input, racks: &mut [Rack]) -> Row
     requires frame { sys.old.frame < MAX_FRAMES }
     ensures row { result ≡ row_given spec.now sys.old input.now }
@@ -85,7 +84,7 @@ fn up_after(sys: &Sys, input: &Input) -> u8
     (sys.up | input.back) & !(input.early | input.late)
 }
 
-/// The world after a frame that leaves these areas. It takes no memory.
+/// Returns the world after a frame that leaves these areas.
 pub fn world_in(spec: &Spec, world: World, areas: &[Area; 8]) -> World
     ensures { result ≡ world_in spec.now world areas.now }
 {
@@ -105,7 +104,7 @@ fn read_word(area: &Area, i: usize) -> i64
     area[i]
 }
 
-/// Whether a frame in this phase was settled and its row ran the target.
+/// Returns whether a frame in this phase was settled and its row ran the target.
 pub fn has_arrived(spec: &Spec, row: &Row, phase: Phase) -> bool
     requires { phase ≡ phase_at spec.now row.now.mode row.now.frame }
     ensures { result ≡ has_arrived spec.now row.now }

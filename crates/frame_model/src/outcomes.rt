@@ -107,7 +107,7 @@ fn perform(spec: &Spec, sys: &Sys, setting: &Setting, a: u8, racks: &mut [Rack])
     }
 }
 
-/// What an application does of an order, where its processor commits.
+/// Returns what an application does of an order, where its processor commits.
 pub fn act_of_order(order: Order, mode: Mode, proc: ProcId) -> Act
     ensures { result ≡ act_of_order order mode proc }
 {
@@ -121,7 +121,7 @@ pub fn act_of_order(order: Order, mode: Mode, proc: ProcId) -> Act
     }
 }
 
-// Whether processor `p` is in a set that is kept as bits.
+// Returns whether processor `p` is in a set that is kept as bits.
 fn has(set: u8, p: u8) -> bool
     requires { p < 8 }
     ensures { result ≡ has_bit set p }
@@ -129,7 +129,7 @@ fn has(set: u8, p: u8) -> bool
     set >> p & 1 == 1
 }
 
-/// The area of the least-numbered application of a kind, zeros without one.
+/// Returns the area of the least-numbered application of a kind, zeros without one.
 pub(crate) fn lead_of(spec: &Spec, areas: &[Area; 8], kind: u8) -> Area
     ensures { result ≡ lead_of spec.now areas.now kind }
 {

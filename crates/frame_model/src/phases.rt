@@ -26,8 +26,8 @@ pub(crate) struct Stage {
     pub(crate) offsets: [u16; 8],
 }
 
-/// The phase of a mode in a frame: first one configuration halts, or none, then the target prepares,
-/// then it initialises, then it is to run. It takes no memory.
+/// Returns the phase of a mode in a frame: first one configuration halts, or none, then the target prepares, then it
+/// initialises, then it is to run.
 pub fn phase_at(spec: &Spec, mode: &KMode, frame: u32) -> Phase
     ensures { result ≡ phase_at spec.now mode.now frame }
 {
@@ -101,7 +101,7 @@ fn stage_after_halting(spec: &Spec, to: ConfId, age: u32) -> Stage
     running_stage(to)
 }
 
-/// How many frames the halting phase takes, where a configuration halts or none. It takes no memory.
+/// Returns how many frames the halting phase takes, where a configuration halts or none.
 pub(crate) fn halting_frames(spec: &Spec, halting: Option<ConfId>) -> u32
     ensures frames { result ≡ halting_frames spec.now halting }
     ensures few { result < 65536 }
@@ -112,7 +112,7 @@ pub(crate) fn halting_frames(spec: &Spec, halting: Option<ConfId>) -> u32
     }
 }
 
-/// The configuration that a mode runs, or comes to run.
+/// Returns the configuration that a mode runs, or comes to run.
 pub fn target(mode: &KMode) -> ConfId
     ensures { result ≡ target mode.now }
 {
@@ -127,7 +127,7 @@ pub fn target(mode: &KMode) -> ConfId
     }
 }
 
-// Whether a frame is past the phases of a reconfiguration, whose halting phase began in frame `since`.
+// Returns whether a frame is past the phases of a reconfiguration, whose halting phase began in frame `since`.
 pub(crate) fn is_past(
     spec: &Spec,
     halting: Option<ConfId>,

@@ -16,9 +16,9 @@ pub enum Reading {
     Leaving(ConfId, u32),
 }
 
-/// Reads the row of a frame: `Leaving` comes with the first row that does not run the configuration that
-/// ran, and `Steady` with the first later row that runs some configuration (the least-numbered one), and
-/// that ends a reconfiguration. It takes no memory.
+/// Reads the row of a frame: `Leaving` comes with the first row that does not run the configuration that ran, and
+/// `Steady` with the first later row that runs some configuration (the least-numbered one), and that ends a
+/// reconfiguration.
 pub fn read_row(
     spec: &Spec,
     reading: Reading,
@@ -58,7 +58,7 @@ fn arrive(from: ConfId, begin: u32, frame: u32, to: Option<ConfId>) -> (Reading,
     }
 }
 
-/// The reconfiguration that is cut off after `frames` frames, if one is under way. It takes no memory.
+/// Returns the reconfiguration that is cut off after `frames` frames, if one is under way.
 pub fn close(reading: Reading, frames: u32) -> Option<Report>
     ensures { result ≡ close reading frames }
 {
@@ -73,9 +73,8 @@ pub fn close(reading: Reading, frames: u32) -> Option<Report>
     }
 }
 
-/// The reconfigurations that rows show, the first row being that of frame 0: read from the start
-/// configuration, in order, and last the one that the end of the rows cuts off. The only refusal is
-/// want of memory.
+/// Returns the reconfigurations that rows show, the first row being that of frame 0: read from the start
+/// configuration, in order, and last the one that the end of the rows cuts off. The only error is out of memory.
 pub fn reports(alloc: Global, spec: &Spec, rows: &[Row]) -> Result<Vec<Report>, NoMemory>
     requires { length rows.now < 2 ^ 32 }
     ensures { IfOk result (λ list. list.items ≡ reports spec.now rows.now) }

@@ -9,8 +9,7 @@ use crate::outcomes::lead_of;
 use app_model::Seen;
 use scram_types::{Area, Env, Image, Mode, Spec, World};
 
-/// What all applications see in a frame of this environment, before which the areas and the world are these. It
-/// takes no memory.
+/// Returns what all applications see in a frame of this environment, before which the areas and the world are these.
 pub fn seen_by_all(spec: &Spec, areas: &[Area; 8], world: World, env: &Env) -> Seen
     ensures { (state : State) → state.areas ≡ areas.now → state.world ≡ world → result ≡ seen_by_all spec.now env.now state }
 {
@@ -41,7 +40,7 @@ fn leads(spec: &Spec, areas: &[Area; 8]) -> [Area; 8]
     ]
 }
 
-/// The same as one of them sees it, which is in a mode and has an area of its own. It takes no memory.
+/// Returns the same as one of them sees it, which is in a mode and has an area of its own.
 pub fn seen_in(seen: &Seen, mode: Mode, own: &Area) -> Seen
     ensures { result ≡ seen_in seen.now mode own.now }
 {
@@ -52,7 +51,7 @@ pub fn seen_in(seen: &Seen, mode: Mode, own: &Area) -> Seen
     seen
 }
 
-/// The slot of an application in an image. It takes no memory.
+/// Returns the slot of an application in an image.
 pub fn slot_in(image: &Image, a: u8) -> Area
     requires { a < 8 }
     ensures { result ≡ slot_in image.now a }

@@ -18,10 +18,10 @@ pub struct Task {
     pub proc: Option<ProcId>,
 }
 
-/// What the kernel's mode asks of an application in a frame: a configuration that is stable runs; else
-/// one configuration halts (each application from its halt offset on, and until then it runs), then the
-/// target prepares, initialises (each application from its init offset on) and runs. An application that
-/// has nothing of its own to do in a phase holds. It takes no memory.
+/// Returns what the kernel's mode asks of an application in a frame: a configuration that is stable runs; else one
+/// configuration halts (each application from its halt offset on, and until then it runs), then the target prepares,
+/// initialises (each application from its init offset on) and runs. An application that has nothing of its own to do
+/// in a phase holds.
 pub fn order_of(spec: &Spec, mode: &KMode, frame: u32, app: AppId) -> Task
     requires { app.0 < 8 }
     ensures { result ≡ task_of spec.now mode.now frame app.0 }
@@ -29,7 +29,7 @@ pub fn order_of(spec: &Spec, mode: &KMode, frame: u32, app: AppId) -> Task
     task_in(spec, &stage_at(spec, mode, frame), app)
 }
 
-/// What the kernel's mode asks of each application in a frame, by one timetable. It takes no memory.
+/// Returns what the kernel's mode asks of each application in a frame, by one timetable.
 pub fn tasks_of(spec: &Spec, mode: &KMode, frame: u32) -> [Task; 8]
     ensures { result ≡ eight (task_of spec.now mode.now frame) }
 {
@@ -46,7 +46,7 @@ pub fn tasks_of(spec: &Spec, mode: &KMode, frame: u32) -> [Task; 8]
     ]
 }
 
-/// What a phase asks of an application.
+/// Returns what a phase asks of an application.
 pub(crate) fn task_in(spec: &Spec, stage: &Stage, app: AppId) -> Task
     requires app { app.0 < 8 }
     requires offsets { stage.now.offsets ≡ offsets_in spec.now stage.now.phase }

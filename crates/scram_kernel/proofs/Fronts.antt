@@ -1,5 +1,5 @@
 -- The first rows of all rows.
-use Rattle.std.proofs.Common.{◌≡◌, ◌∙◌, ℕ, zero, suc, ◌≤◌, refl, subst, sym, arith, length, List, [], ◌∷◌, ◌⊎◌}
+use Rattle.std.proofs.Common.{◌≡◌, ◌∙◌, ℕ, zero, suc, ◌≤◌, refl, subst, sym, arith, List, [], ◌∷◌, ◌⊎◌}
 use mathlib.Core.Logic.{inl, inr}
 use Rattle.std.specs.Prelude.{ℤ, take}
 use Rattle.std.proofs.Math.Seq.{take-length}
@@ -9,6 +9,7 @@ use Rattle.scram_types.specs.declared.flights.Row.{Row}
 use Rattle.scram_types.specs.Scripts.{ScriptParts}
 use Rattle.scram_types.specs.Specification.{Parts}
 use Rattle.bank_words.specs.declared.images.KernelImage.{KernelImage}
+use Rattle.fault_script.specs.declared.walks.Walk.{Walk}
 use Rattle.frame_model.specs.declared.readings.Reading.{Reading}
 use Rattle.scram_types.specs.Searches.{listed_below}
 use Rattle.frame_model.specs.Flights.{row_at, rows_of}
@@ -28,9 +29,9 @@ take_listed value m (suc n) le = elim (last_or_below m n le) [
 ]
 
 -- The rows that a kernel has are the first ones of all rows.
-pub are_first : {spec : Parts} {script : ScriptParts} {image : KernelImage} {areas : List (List ℤ)} {reading : Reading} {rows : List Row} {reports : List Report} {rows_room reports_room rows_count reports_count : ℕ}
-    → KernelKeeps spec script image areas reading rows reports rows_room reports_room rows_count reports_count → (k : KernelParts) → kernel_after spec script image.frame ≡ k
+pub are_first : {spec : Parts} {script : ScriptParts} {walk : Walk} {image : KernelImage} {areas : List (List ℤ)} {reading : Reading} {rows : List Row} {reports : List Report} {rows_room reports_room rows_count reports_count : ℕ}
+    → KernelKeeps spec script walk image areas reading rows reports rows_room reports_room rows_count reports_count → (k : KernelParts) → kernel_after spec script image.frame ≡ k
     → rows ≡ take k.past (rows_of k.spec k.script)
-are_first {spec} {script} {image} {rows = rows} i k is =
+are_first {spec} {script} {image = image} {rows = rows} i k is =
     subst (λ (k : KernelParts). rows ≡ take k.past (rows_of k.spec k.script)) is
     (i.stands.rows_are ∙ sym (take_listed (row_at spec script) image.frame script.frames i.room.within))

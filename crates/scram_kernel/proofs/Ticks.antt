@@ -1,13 +1,16 @@
 -- One frame more.
 use Rattle.std.proofs.Common.{◌≡◌, ◌∙◌, ℕ, suc, ◌+◌, ◌<◌, ◌≤◌, refl, ap, subst, sym, arith, List, [], ◌∷◌, ◌++◌}
 use Rattle.std.specs.Prelude.{ℤ, Option}
+use Rattle.scram_types.specs.declared.flights.Env.{Env}
 use Rattle.scram_types.specs.declared.flights.Report.{Report}
 use Rattle.scram_types.specs.declared.flights.Row.{Row}
 use Rattle.scram_types.specs.declared.ids.ProcId.{ProcId}
 use Rattle.scram_types.specs.Scripts.{ScriptParts}
 use Rattle.scram_types.specs.Specification.{IsSpec, Parts}
 use Rattle.bank_words.specs.declared.images.KernelImage.{KernelImage}
-use Rattle.fault_script.specs.Times.{factors_at}
+use Rattle.fault_script.specs.declared.walks.Walk.{Walk}
+use Rattle.fault_script.specs.Environments.{env_at}
+use Rattle.fault_script.specs.Walks.{IsWalk}
 use Rattle.frame_model.specs.declared.readings.Reading.{Reading}
 use Rattle.frame_model.specs.Flights.{reports_of, row_at, rows_of, state_after}
 use Rattle.frame_model.specs.Readings.{as_list, close, ended, read_row, reading_of, report_of}
@@ -16,31 +19,31 @@ use Rattle.scram_types.proofs.Searches.{length_listed}
 use Rattle.frame_model.proofs.ReadLaws.{row_by_row}
 use Rattle.scram_kernel.specs.Drawing.{keepers_drawn, row_drawn}
 use Rattle.frame_model.specs.Storage.{kernel_image}
-use Rattle.scram_kernel.specs.Images.{env_with, image_given, image_next, state_left}
+use Rattle.scram_kernel.specs.Images.{image_given, image_next, state_left}
 use Rattle.scram_kernel.specs.Kernels.{KernelKeeps, KernelParts, Stands, kernel_after, rows_below}
 use Rattle.scram_kernel.specs.Marks.{AreImages, AreMarks}
 use Rattle.scram_kernel.proofs.Rows.{keepers_are, row_is}
 use Rattle.frame_model.specs.Frames.{sys_of}
 
--- What a tick is told and what it makes of that, over a kernel's parts.
-pub record Ticks (spec : Parts) (script : ScriptParts) (n : ℕ) (image : KernelImage) (areas : List (List ℤ)) (marks : List ℕ) (images : List (List ℤ)) (factors : List ℕ)
+-- The input and the result of a tick, over a kernel's parts.
+pub record Ticks (spec : Parts) (script : ScriptParts) (n : ℕ) (image : KernelImage) (areas : List (List ℤ)) (marks : List ℕ) (images : List (List ℤ)) (v : Env)
     (row : Row) (keepers : List (Option ProcId)) (next : KernelImage) : Type 0 where
   pub facts : IsSpec spec
   pub marks_are : AreMarks spec script (suc n) marks
   pub images_are : AreImages spec script (suc n) images
-  pub factors_are : factors ≡ factors_at script (suc n)
+  pub env_is : v ≡ env_at spec script (suc n)
   pub row_is : row ≡ row_drawn spec image marks images areas
   pub keepers_are : keepers ≡ keepers_drawn spec image marks
-  pub next_is : next ≡ image_next spec script row keepers factors
+  pub next_is : next ≡ image_next spec row keepers v
 
-row_told : {spec : Parts} {script : ScriptParts} {n : ℕ} {image : KernelImage} {areas : List (List ℤ)} {reading : Reading} {rows : List Row} {reports : List Report} {marks : List ℕ} {images : List (List ℤ)} {factors : List ℕ} {row : Row} {keepers : List (Option ProcId)} {next : KernelImage}
-    → Stands spec script n image areas reading rows reports → Ticks spec script n image areas marks images factors row keepers next → row ≡ row_at spec script n
+row_told : {spec : Parts} {script : ScriptParts} {n : ℕ} {image : KernelImage} {areas : List (List ℤ)} {reading : Reading} {rows : List Row} {reports : List Report} {marks : List ℕ} {images : List (List ℤ)} {v : Env} {row : Row} {keepers : List (Option ProcId)} {next : KernelImage}
+    → Stands spec script n image areas reading rows reports → Ticks spec script n image areas marks images v row keepers next → row ≡ row_at spec script n
 row_told {spec} {script} {n} {image} {areas} {marks = marks} {images = images} s t =
     t.row_is ∙ ap (λ i. row_drawn spec i marks images areas) s.image_is ∙ ap (row_drawn spec (kernel_image spec script n) marks images) s.areas_are
     ∙ row_is spec t.facts script n marks images t.marks_are t.images_are
 
-keepers_told : {spec : Parts} {script : ScriptParts} {n : ℕ} {image : KernelImage} {areas : List (List ℤ)} {reading : Reading} {rows : List Row} {reports : List Report} {marks : List ℕ} {images : List (List ℤ)} {factors : List ℕ} {row : Row} {keepers : List (Option ProcId)} {next : KernelImage}
-    → Stands spec script n image areas reading rows reports → Ticks spec script n image areas marks images factors row keepers next → keepers ≡ (state_after spec script (suc n)).keepers
+keepers_told : {spec : Parts} {script : ScriptParts} {n : ℕ} {image : KernelImage} {areas : List (List ℤ)} {reading : Reading} {rows : List Row} {reports : List Report} {marks : List ℕ} {images : List (List ℤ)} {v : Env} {row : Row} {keepers : List (Option ProcId)} {next : KernelImage}
+    → Stands spec script n image areas reading rows reports → Ticks spec script n image areas marks images v row keepers next → keepers ≡ (state_after spec script (suc n)).keepers
 keepers_told {spec} {script} {n} {image} {marks = marks} s t =
     t.keepers_are ∙ ap (λ i. keepers_drawn spec i marks) s.image_is ∙ keepers_are spec t.facts script n marks t.marks_are
 
@@ -48,18 +51,18 @@ left : (spec : Parts) (script : ScriptParts) (n : ℕ) (row : Row) (keepers : Li
     → state_left spec row keepers ≡ state_after spec script (suc n)
 left spec script n row keepers is_row is_keepers = rw (is_keepers, is_row) refl
 
-image_left : (spec : Parts) (script : ScriptParts) (n : ℕ) (row : Row) (keepers : List (Option ProcId)) (factors : List ℕ) → row ≡ row_at spec script n → keepers ≡ (state_after spec script (suc n)).keepers
-    → factors ≡ factors_at script (suc n) → image_next spec script row keepers factors ≡ kernel_image spec script (suc n)
-image_left spec script n row keepers factors is_row is_keepers is_factors =
+image_left : (spec : Parts) (script : ScriptParts) (n : ℕ) (row : Row) (keepers : List (Option ProcId)) (v : Env) → row ≡ row_at spec script n → keepers ≡ (state_after spec script (suc n)).keepers
+    → v ≡ env_at spec script (suc n) → image_next spec row keepers v ≡ kernel_image spec script (suc n)
+image_left spec script n row keepers v is_row is_keepers is_env =
     let at : row.frame + 1 ≡ suc n = ap (λ (r : Row). r.frame + 1) is_row ∙ omega arith in
-    ap (λ f. image_given spec (sys_of f 0 (state_left spec row keepers)) (env_with spec script f factors)) at
-    ∙ ap (λ (s : State). image_given spec (sys_of (suc n) 0 s) (env_with spec script (suc n) factors)) (left spec script n row keepers is_row is_keepers)
-    ∙ ap (λ v. image_given spec (sys_of (suc n) 0 (state_after spec script (suc n))) (env_with spec script (suc n) v)) is_factors
+    ap (λ f. image_given spec (sys_of f 0 (state_left spec row keepers)) v) at
+    ∙ ap (λ (s : State). image_given spec (sys_of (suc n) 0 s) v) (left spec script n row keepers is_row is_keepers)
+    ∙ ap (image_given spec (sys_of (suc n) 0 (state_after spec script (suc n)))) is_env
 
-pub next_told : {spec : Parts} {script : ScriptParts} {n : ℕ} {image : KernelImage} {areas : List (List ℤ)} {reading : Reading} {rows : List Row} {reports : List Report} {marks : List ℕ} {images : List (List ℤ)} {factors : List ℕ} {row : Row} {keepers : List (Option ProcId)} {next : KernelImage}
-    → Stands spec script n image areas reading rows reports → Ticks spec script n image areas marks images factors row keepers next → next ≡ kernel_image spec script (suc n)
-next_told {spec} {script} {n} {factors = factors} {row} {keepers} s t =
-    t.next_is ∙ image_left spec script n row keepers factors (row_told s t) (keepers_told s t) t.factors_are
+pub next_told : {spec : Parts} {script : ScriptParts} {n : ℕ} {image : KernelImage} {areas : List (List ℤ)} {reading : Reading} {rows : List Row} {reports : List Report} {marks : List ℕ} {images : List (List ℤ)} {v : Env} {row : Row} {keepers : List (Option ProcId)} {next : KernelImage}
+    → Stands spec script n image areas reading rows reports → Ticks spec script n image areas marks images v row keepers next → next ≡ kernel_image spec script (suc n)
+next_told {spec} {script} {n} {v = v} {row} {keepers} s t =
+    t.next_is ∙ image_left spec script n row keepers v (row_told s t) (keepers_told s t) t.env_is
 
 read_same : (spec : Parts) (script : ScriptParts) (n : ℕ) (reading : Reading) (row : Row) → reading ≡ reading_of spec (rows_below spec script n) → row ≡ row_at spec script n
     → read_row spec reading row.frame row.acts ≡ reading_of spec (rows_below spec script (suc n))
@@ -71,8 +74,8 @@ reports_same : (spec : Parts) (script : ScriptParts) (n : ℕ) (reading : Readin
 reports_same spec script n reading reports row is is_row is_reports =
     rw (is, is_row, is_reports, (row_by_row spec (rows_below spec script n) (row_at spec script n)).1, length_listed (row_at spec script) n) refl
 
-pub stands_more : {spec : Parts} {script : ScriptParts} {n : ℕ} {image : KernelImage} {areas : List (List ℤ)} {reading : Reading} {rows : List Row} {reports : List Report} {marks : List ℕ} {images : List (List ℤ)} {factors : List ℕ} {row : Row} {keepers : List (Option ProcId)} {next : KernelImage}
-    → Stands spec script n image areas reading rows reports → Ticks spec script n image areas marks images factors row keepers next
+pub stands_more : {spec : Parts} {script : ScriptParts} {n : ℕ} {image : KernelImage} {areas : List (List ℤ)} {reading : Reading} {rows : List Row} {reports : List Report} {marks : List ℕ} {images : List (List ℤ)} {v : Env} {row : Row} {keepers : List (Option ProcId)} {next : KernelImage}
+    → Stands spec script n image areas reading rows reports → Ticks spec script n image areas marks images v row keepers next
     → Stands spec script (suc n) next row.areas (read_row spec reading row.frame row.acts) (rows ++ row ∷ []) (reports ++ as_list (report_of spec reading row.frame row.acts))
 stands_more {spec} {script} {n} {reading = reading} {rows} {reports} {row = row} s t =
     let is_row = row_told s t in record {
@@ -92,18 +95,20 @@ pub reports_all : {spec : Parts} {script : ScriptParts} {n : ℕ} {image : Kerne
 reports_all {spec} {script} {n} s is =
     rw (s.reports_are, s.reading_is, is, length_listed (row_at spec script) script.frames) refl
 
-pub kernel_more : {spec : Parts} {script : ScriptParts} {image : KernelImage} {areas : List (List ℤ)} {reading : Reading} {rows : List Row} {reports : List Report} {marks : List ℕ} {images : List (List ℤ)} {factors : List ℕ} {row : Row} {keepers : List (Option ProcId)} {next : KernelImage} {rows_room reports_room rows_count reports_count : ℕ}
-    → KernelKeeps spec script image areas reading rows reports rows_room reports_room rows_count reports_count → image.frame < script.frames
-    → Ticks spec script image.frame image areas marks images factors row keepers next
-    → (read : Reading) (rows_after : List Row) (reports_after : List Report) (rows_room_after reports_room_after rows_count_after reports_count_after : ℕ)
+pub kernel_more : {spec : Parts} {script : ScriptParts} {walk : Walk} {image : KernelImage} {areas : List (List ℤ)} {reading : Reading} {rows : List Row} {reports : List Report} {marks : List ℕ} {images : List (List ℤ)} {v : Env} {row : Row} {keepers : List (Option ProcId)} {next : KernelImage} {rows_room reports_room rows_count reports_count : ℕ}
+    → KernelKeeps spec script walk image areas reading rows reports rows_room reports_room rows_count reports_count → image.frame < script.frames
+    → Ticks spec script image.frame image areas marks images v row keepers next
+    → (walk_after : Walk) → IsWalk spec script (walk.frame + 1) walk_after → (read : Reading) (rows_after : List Row) (reports_after : List Report) (rows_room_after reports_room_after rows_count_after reports_count_after : ℕ)
     → read ≡ read_row spec reading row.frame row.acts → rows_after ≡ rows ++ row ∷ [] → reports_after ≡ reports ++ as_list (report_of spec reading row.frame row.acts)
     → rows_room_after ≡ rows_room → reports_room_after ≡ reports_room → rows_count_after ≡ rows_count + 1 → reports_count_after ≤ reports_count + 1
-    → KernelKeeps spec script next row.areas read rows_after reports_after rows_room_after reports_room_after rows_count_after reports_count_after
-kernel_more {spec} {script} {image} {reading = reading} {rows} {reports} {row = row} {next = next} k low t read rows_after reports_after rra rpa rca pca is_read is_rows is_reports is_rra is_rpa is_rca is_pca =
+    → KernelKeeps spec script walk_after next row.areas read rows_after reports_after rows_room_after reports_room_after rows_count_after reports_count_after
+kernel_more {spec} {script} {walk} {image} {reading = reading} {rows} {reports} {row = row} {next = next} k low t walk_after walked read rows_after reports_after rra rpa rca pca is_read is_rows is_reports is_rra is_rpa is_rca is_pca =
     let at : next.frame ≡ suc image.frame = ap (λ (i : KernelImage). i.frame) (next_told k.stands t) in
     record {
       facts = k.facts;
       fits = k.fits;
+      walk_is = subst (λ f. IsWalk spec script f walk_after) (sym walked.frame) walked;
+      walk_at = walked.frame ∙ ap (λ f. f + 1) k.walk_at ∙ omega (arith, at);
       stands = rw (is_read, is_rows, is_reports)
           (subst (λ m. Stands spec script m next row.areas (read_row spec reading row.frame row.acts) (rows ++ row ∷ []) (reports ++ as_list (report_of spec reading row.frame row.acts))) (sym at) (stands_more k.stands t));
       room = rw at (record {
@@ -115,18 +120,19 @@ kernel_more {spec} {script} {image} {reading = reading} {rows} {reports} {row = 
       });
     }
 
-pub ticks_by : (k : KernelParts) (spec : Parts) (script : ScriptParts) (image : KernelImage) (areas : List (List ℤ)) (marks : List ℕ) (images : List (List ℤ)) (factors : List ℕ)
-    (row : Row) (keepers : List (Option ProcId)) (next : KernelImage) → kernel_after spec script image.frame ≡ k → IsSpec spec
-    → AreMarks k.spec k.script (k.past + 1) marks → AreImages k.spec k.script (k.past + 1) images → factors ≡ factors_at k.script (k.past + 1)
-    → row ≡ row_drawn spec image marks images areas → keepers ≡ keepers_drawn spec image marks → next ≡ image_next spec script row keepers factors
-    → Ticks spec script image.frame image areas marks images factors row keepers next
-ticks_by k spec script image areas marks images factors row keepers next is facts are_marks are_images are_factors is_row is_keepers is_next =
+pub ticks_by : (k : KernelParts) (spec : Parts) (script : ScriptParts) (walk : Walk) (image : KernelImage) (areas : List (List ℤ)) (marks : List ℕ) (images : List (List ℤ)) (v : Env)
+    (row : Row) (keepers : List (Option ProcId)) (next : KernelImage) → kernel_after spec script image.frame ≡ k → IsSpec spec → walk.frame ≡ image.frame
+    → AreMarks k.spec k.script (k.past + 1) marks → AreImages k.spec k.script (k.past + 1) images → v ≡ env_at spec script (walk.frame + 1)
+    → row ≡ row_drawn spec image marks images areas → keepers ≡ keepers_drawn spec image marks → next ≡ image_next spec row keepers v
+    → Ticks spec script image.frame image areas marks images v row keepers next
+ticks_by k spec script walk image areas marks images v row keepers next is facts at are_marks are_images is_env is_row is_keepers is_next =
     let e : image.frame + 1 ≡ suc image.frame = omega arith in
+    let walked : walk.frame + 1 ≡ suc image.frame = omega (arith, at) in
     record {
       facts = facts;
       marks_are = subst (λ n. AreMarks spec script n marks) e (subst (λ (k : KernelParts). AreMarks k.spec k.script (k.past + 1) marks) (sym is) are_marks);
       images_are = subst (λ n. AreImages spec script n images) e (subst (λ (k : KernelParts). AreImages k.spec k.script (k.past + 1) images) (sym is) are_images);
-      factors_are = subst (λ n. factors ≡ factors_at script n) e (subst (λ (k : KernelParts). factors ≡ factors_at k.script (k.past + 1)) (sym is) are_factors);
+      env_is = is_env ∙ ap (env_at spec script) walked;
       row_is = is_row;
       keepers_are = is_keepers;
       next_is = is_next;

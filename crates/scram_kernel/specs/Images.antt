@@ -1,13 +1,10 @@
 -- What the kernel says of a frame, by the system before it or by the row of the frame before.
-use Rattle.std.specs.Prelude.{ℕ, ◌+◌, List, length, Option}
-use Rattle.scram_types.specs.Bits.{bits_below}
-use Rattle.scram_types.specs.Scripts.{ScriptParts}
+use Rattle.std.specs.Prelude.{◌+◌, List, Option}
 use Rattle.scram_types.specs.Specification.{Parts}
 use Rattle.scram_types.specs.declared.flights.Env.{Env}
 use Rattle.scram_types.specs.declared.flights.Row.{Row}
 use Rattle.scram_types.specs.declared.ids.ProcId.{ProcId}
 use Rattle.bank_words.specs.declared.images.KernelImage.{KernelImage}
-use Rattle.fault_script.specs.Times.{is_up}
 use Rattle.frame_model.specs.declared.systems.Sys.{Sys}
 use Rattle.frame_model.specs.Frames.{state_of, sys_of}
 use Rattle.frame_model.specs.States.{State, has_arrived, mode_decided}
@@ -26,12 +23,7 @@ image_given spec sys v = record {
 abbrev pub state_left : Parts → Row → List (Option ProcId) → State
 state_left spec row keepers = record { mode = row.mode; arrived = has_arrived spec row; areas = row.areas; keepers = keepers; world = row.world }
 
--- The environment of frame f where the factors have these values in it.
-abbrev pub env_with : Parts → ScriptParts → ℕ → List ℕ → Env
-env_with spec script f factors = record { up = bits_below (λ p. is_up script p f) (length spec.procs); factors = factors }
-
--- What the kernel says of the frame after a row, where the factors have these values in it. Who is up matters there by the
+-- What the kernel says of the frame after a row, in this environment. The processors that are up matter there by the
 -- environment alone, so the system is given none.
-abbrev pub image_next : Parts → ScriptParts → Row → List (Option ProcId) → List ℕ → KernelImage
-image_next spec script row keepers factors =
-    image_given spec (sys_of (row.frame + 1) 0 (state_left spec row keepers)) (env_with spec script (row.frame + 1) factors)
+abbrev pub image_next : Parts → Row → List (Option ProcId) → Env → KernelImage
+image_next spec row keepers v = image_given spec (sys_of (row.frame + 1) 0 (state_left spec row keepers)) v

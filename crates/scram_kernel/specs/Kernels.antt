@@ -6,7 +6,9 @@ use Rattle.scram_types.specs.Specification.{IsSpec, Parts}
 use Rattle.scram_types.specs.declared.flights.Report.{Report}
 use Rattle.scram_types.specs.declared.flights.Row.{Row}
 use Rattle.bank_words.specs.declared.images.KernelImage.{KernelImage}
+use Rattle.fault_script.specs.declared.walks.Walk.{Walk}
 use Rattle.fault_script.specs.Fits.{Fits}
+use Rattle.fault_script.specs.Walks.{IsWalk}
 use Rattle.frame_model.specs.declared.readings.Reading.{Reading}
 use Rattle.frame_model.specs.Flights.{row_at, state_after}
 use Rattle.frame_model.specs.Readings.{ended, reading_of}
@@ -43,9 +45,12 @@ pub record HasRoomForFlight (frames f room_of_rows room_of_reports count_of_rows
   pub rows_told : count_of_rows ≡ f
   pub reports_few : count_of_reports ≤ f
 
--- What a kernel keeps. Its image is that of the frame that is running, so it tells how many frames have ended.
-pub record KernelKeeps (spec : Parts) (script : ScriptParts) (image : KernelImage) (areas : List (List ℤ)) (reading : Reading) (rows : List Row) (reports : List Report) (room_of_rows room_of_reports count_of_rows count_of_reports : ℕ) : Type 0 where
+-- What a kernel keeps. Its image is that of the frame that is running, at which its walk stands, so it gives how many
+-- frames have ended.
+pub record KernelKeeps (spec : Parts) (script : ScriptParts) (walk : Walk) (image : KernelImage) (areas : List (List ℤ)) (reading : Reading) (rows : List Row) (reports : List Report) (room_of_rows room_of_reports count_of_rows count_of_reports : ℕ) : Type 0 where
   pub facts : IsSpec spec
   pub fits : Fits spec script
+  pub walk_is : IsWalk spec script walk.frame walk
+  pub walk_at : walk.frame ≡ image.frame
   pub stands : Stands spec script image.frame image areas reading rows reports
   pub room : HasRoomForFlight script.frames image.frame room_of_rows room_of_reports count_of_rows count_of_reports

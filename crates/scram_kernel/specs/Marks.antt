@@ -1,4 +1,4 @@
--- The marks and the images of the processors after the first frames, as whoever ends a frame hands them in.
+-- The marks and the images of the processors after the first frames, as the caller that ends a frame hands them in.
 use Rattle.std.specs.Prelude.{◌≡◌, ℕ, ◌<◌, ℤ, List, length, slice_index_or}
 use Rattle.scram_types.specs.Scripts.{ScriptParts}
 use Rattle.scram_types.specs.Specification.{Parts}

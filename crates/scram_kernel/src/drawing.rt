@@ -12,7 +12,7 @@ use bank_words::KernelImage;
 use frame_model::{Task, act_of_order, tasks_of, world_in};
 use scram_types::{Act, Area, Image, ProcId, Row, Spec};
 
-/// The row of the frame that an image is of, by the areas before that frame, and the keepers after it.
+/// Returns the row of the frame that an image is of, by the areas before that frame, and the keepers after it.
 pub(crate) fn draw(
     spec: &Spec,
     image: &KernelImage,

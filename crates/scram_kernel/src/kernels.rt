@@ -9,13 +9,14 @@ use scram_types::{Area, Flown, Image, List, NoMemory, Report, Row, Script, Spec}
 use std::alloc::Global;
 
 /// The kernel of a flight by a specification and a script, after some frames. It calls no application: what each one did
-/// in a frame it reads off the marks and the images of the processors after it, and who is up in the next frame it reads
-/// in the script. It keeps what it said of the frame that is running, the areas before that frame, and the rows and the
-/// reconfigurations of the frames that have ended.
+/// in a frame it reads off the marks and the images of the processors after it, and the environment of the next frame off
+/// the script, along which it walks. It keeps what it said of the frame that is running, the areas before that frame, and
+/// the rows and the reconfigurations of the frames that have ended.
 #[derive(Drop)]
 pub struct Kernel<'a> {
     spec: &'a Spec,
     script: &'a Script,
+    walk: Walk,
     image: KernelImage,
     areas: [Area; 8],
     reading: Reading,
@@ -31,20 +32,19 @@ impl<'a> std::marker::Model for Kernel<'a> {
 
     ghost view = { λ k. kernel_after k.spec.now k.script.now k.image.frame };
 
-    ghost invariant = { λ k. KernelKeeps k.spec.now k.script.now k.image k.areas k.reading k.rows.items k.reports.items (vec_capacity k.rows) (vec_capacity k.reports) (vec_len k.rows) (vec_len k.reports) };
+    ghost invariant = { λ k. KernelKeeps k.spec.now k.script.now k.walk k.image k.areas k.reading k.rows.items k.reports.items (vec_capacity k.rows) (vec_capacity k.reports) (vec_len k.rows) (vec_len k.reports) };
 }
 
 impl<'a> Kernel<'a> {
     ghost use Rattle.std.specs.Prelude.{◌≡◌, ◌<◌, ◌+◌, IfOk, take};
     ghost use Rattle.fault_script.specs.Fits.{Fits};
-    ghost use Rattle.fault_script.specs.Times.{factors_at};
     ghost use Rattle.frame_model.specs.Flights.{reports_of, rows_of};
     ghost use Rattle.frame_model.specs.Storage.{kernel_image};
     ghost use Rattle.scram_kernel.specs.Kernels.{kernel_after, rows_below};
     ghost use Rattle.scram_kernel.specs.Marks.{AreImages, AreMarks};
 
-    /// The kernel before the first frame, with room for all rows and reports of the script. The only refusal is want of
-    /// memory.
+    /// Returns the kernel before the first frame, with room for all rows and reports of the script. The only error is
+    /// out of memory.
     pub fn new(alloc: Global, spec: &'a Spec, script: &'a Script) -> Result<Kernel<'a>, NoMemory>
         requires { Fits spec.now script.now }
         ensures { IfOk result (λ kernel. kernel ≡ kernel_after spec.now script.now 0) }
@@ -53,10 +53,12 @@ impl<'a> Kernel<'a> {
         let reports = Vec::with_capacity(alloc, script.frames as usize + 1)?;
         let sys = Sys::start(spec);
         let areas = sys.areas;
+        let walk = Walk::first(spec, script);
         Ok(Kernel {
             spec,
             script,
-            image: image_given(spec, &sys, Walk::first(spec, script).env),
+            walk,
+            image: image_given(spec, &sys, walk.env),
             areas,
             reading: Reading::Steady(spec.start),
             rows,
@@ -64,7 +66,7 @@ impl<'a> Kernel<'a> {
         })
     }
 
-    /// What the kernel says of frame 0, however many frames have ended. It takes no memory.
+    /// Returns what the kernel says of frame 0, however many frames have ended.
     pub fn first(&self) -> KernelImage
         ensures { result ≡ kernel_image self.now.spec self.now.script 0 }
     {
@@ -75,7 +77,14 @@ impl<'a> Kernel<'a> {
         )
     }
 
-    /// The rows of the frames that have ended, which are the first rows of the one-thread trace. It takes no memory.
+    /// Returns what the kernel says of the frame that is running: the one after those that have ended.
+    pub fn image(&self) -> KernelImage
+        ensures { result ≡ kernel_image self.now.spec self.now.script self.now.past }
+    {
+        self.image
+    }
+
+    /// Returns the rows of the frames that have ended, which are the first rows of the one-thread trace.
     pub fn rows(&self) -> &[Row]
         ensures rows { result.now ≡ rows_below self.now.spec self.now.script self.now.past }
         ensures first { result.now ≡ take self.now.past (rows_of self.now.spec self.now.script) }
@@ -83,30 +92,31 @@ impl<'a> Kernel<'a> {
         &self.rows
     }
 
-    /// Ends the frame that is running, of which there is one more: from the processors' marks and images after it appends its
-    /// row, and goes on with the reading of reconfigurations. With the values of the factors in the next frame it says what
-    /// that frame is, also after the last one. It takes no memory.
-    pub fn tick(&mut self, marks: &[u64; 8], images: &[Image; 8], next: [u8; 6]) -> KernelImage
+    /// Ends the frame that is running, where not all have ended. From the processors' marks and images after the frame it
+    /// appends its row and goes on with the reading of reconfigurations, and it walks on to the next frame. Returns what it
+    /// says of that frame, also after the last one.
+    pub fn tick(&mut self, marks: &[u64; 8], images: &[Image; 8]) -> KernelImage
         requires frames { self.old.past < self.old.script.frames }
         requires marks { AreMarks self.old.spec self.old.script (self.old.past + 1) marks.now }
         requires images { AreImages self.old.spec self.old.script (self.old.past + 1) images.now }
-        requires next { next ≡ factors_at self.old.script (self.old.past + 1) }
         ensures kernel { self.new ≡ kernel_after self.old.spec self.old.script (self.old.past + 1) }
         ensures image { result ≡ kernel_image self.old.spec self.old.script (self.old.past + 1) }
     {
         let (row, keepers) = draw(self.spec, &self.image, &self.areas, marks, images);
         let (reading, report) = read_row(self.spec, self.reading, row.frame, &row.acts);
-        let image = image_next(self.spec, self.script, &row, keepers, next);
+        let walk = self.walk.next(self.spec, self.script);
+        let image = image_next(self.spec, &row, keepers, walk.env);
         let areas = row.areas;
         self.rows.push_reserved(row);
         log(&mut self.reports, report);
         self.areas = areas;
         self.reading = reading;
+        self.walk = walk;
         self.image = image;
         image
     }
 
-    /// The rows and reports of a flight all of whose frames have ended: the one-thread trace. It takes no memory.
+    /// Returns the rows and reports of a flight all of whose frames have ended: the one-thread trace.
     pub fn finish(self) -> Flown
         requires { self.past ≡ self.script.frames }
         ensures rows { result.rows ≡ rows_of self.entry.spec self.entry.script }
@@ -115,6 +125,7 @@ impl<'a> Kernel<'a> {
         let Kernel {
             spec: _,
             script,
+            walk: _,
             image: _,
             areas: _,
             reading,

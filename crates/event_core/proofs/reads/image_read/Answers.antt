@@ -3,7 +3,7 @@ use Rattle.bank_words.specs.Numbers.{decode}
 use Rattle.fail_stop.specs.Events.{BankWord}
 use Rattle.fail_stop.specs.Listed.{stored_in}
 use Rattle.event_core.specs.Reads.{bank_taken}
-use Rattle.event_core.proofs.Reading.{none_read}
+use Rattle.fail_stop.proofs.Decoding.{none_read}
 use Rattle.event_core.proofs.reads.image_read.Goals as goal
 
 pub loop-i-init : goal.loop-i-init

@@ -26,16 +26,16 @@ push_reserved-requires c =
     let next : IsNext (flight_of c.self.inside.spec.now c.self.inside.script.now) (machine_places c.self.inside.places) (stored_in c.self.inside.stored.items) c.args.event = search rules in
     has_room _ _ _ _ _ _ _ c.self.invariant.machine c.args.event next
 
-pub end_frame-self-inside-requires-clause-kept : goal.end_frame-self-inside-requires-clause-kept
-end_frame-self-inside-requires-clause-kept c =
+pub end_frame-requires-clause-kept : goal.end_frame-requires-clause-kept
+end_frame-requires-clause-kept c =
     let next : IsNext (flight_of c.self.inside.spec.now c.self.inside.script.now) (machine_places c.self.inside.places) (stored_in c.self.inside.stored.items) c.args.event = search rules in
     let machine : MachineKeeps c.self.inside.spec.now c.self.inside.script.now c.places_after-self-inside.result c.store.new.stored.items c.push_reserved.new.self.items (vec_capacity c.push_reserved.new.self) (vec_len c.push_reserved.new.self) =
     step_keeps _ _ _ _ _ _ _ c.self.invariant.machine c.args.event next c.places_after-self-inside.result _ (c.places_after-self-inside.ensures c.self.inside.spec.now) (search rules)
     _ _ _ (search rules) (search rules) (search rules) in
     subst (λ list. Kept (flight_of c.self.inside.spec.now c.self.inside.script.now) (machine_places c.places_after-self-inside.result) (stored_in list)) (sym c.deref.ensures.value) (kept_of machine)
 
-pub end_frame-self-inside-requires-clause-noted : goal.end_frame-self-inside-requires-clause-noted
-end_frame-self-inside-requires-clause-noted c =
+pub end_frame-requires-clause-noted : goal.end_frame-requires-clause-noted
+end_frame-requires-clause-noted c =
     let next : IsNext (flight_of c.self.inside.spec.now c.self.inside.script.now) (machine_places c.self.inside.places) (stored_in c.self.inside.stored.items) c.args.event = search rules in
     let last : ends_frame c.self.inside.spec.now c.args.event ≡ true = sym c.ends_frame.ensures ∙ c.if-ends_frame.true in
     let at_end : Ends c.self.inside.spec.now c.self.invariant.machine.facts c.self.inside.script.now c.self.inside.places c.places_after-self-inside.result (stored_in c.self.inside.stored.items) =
@@ -43,8 +43,8 @@ end_frame-self-inside-requires-clause-noted c =
     c.args.event next (c.places_after-self-inside.ensures c.self.inside.spec.now) last in
     at_end.step
 
-pub end_frame-self-inside-requires-clause-frame : goal.end_frame-self-inside-requires-clause-frame
-end_frame-self-inside-requires-clause-frame c =
+pub end_frame-requires-clause-frame : goal.end_frame-requires-clause-frame
+end_frame-requires-clause-frame c =
     let next : IsNext (flight_of c.self.inside.spec.now c.self.inside.script.now) (machine_places c.self.inside.places) (stored_in c.self.inside.stored.items) c.args.event = search rules in
     let last : ends_frame c.self.inside.spec.now c.args.event ≡ true = sym c.ends_frame.ensures ∙ c.if-ends_frame.true in
     let at_end : Ends c.self.inside.spec.now c.self.invariant.machine.facts c.self.inside.script.now c.self.inside.places c.places_after-self-inside.result (stored_in c.self.inside.stored.items) =
@@ -53,23 +53,14 @@ end_frame-self-inside-requires-clause-frame c =
     let below = low _ _ _ _ _ _ _ c.self.invariant.machine c.args.event next in
     subst (λ f. f < c.self.inside.script.now.frames) (sym at_end.same) below
 
-pub end_frame-self-inside-requires-clause-kernel : goal.end_frame-self-inside-requires-clause-kernel
-end_frame-self-inside-requires-clause-kernel c =
+pub end_frame-requires-clause-kernel : goal.end_frame-requires-clause-kernel
+end_frame-requires-clause-kernel c =
     let next : IsNext (flight_of c.self.inside.spec.now c.self.inside.script.now) (machine_places c.self.inside.places) (stored_in c.self.inside.stored.items) c.args.event = search rules in
     let last : ends_frame c.self.inside.spec.now c.args.event ≡ true = sym c.ends_frame.ensures ∙ c.if-ends_frame.true in
     let at_end : Ends c.self.inside.spec.now c.self.invariant.machine.facts c.self.inside.script.now c.self.inside.places c.places_after-self-inside.result (stored_in c.self.inside.stored.items) =
     ends c.self.inside.spec.now c.self.invariant.machine.facts c.self.inside.script.now c.self.inside.places c.places_after-self-inside.result (stored_in c.self.inside.stored.items)
     c.args.event next (c.places_after-self-inside.ensures c.self.inside.spec.now) last in
     c.self.invariant.kernel_is ∙ ap (kernel_after c.self.inside.spec.now c.self.inside.script.now) at_end.before
-
-pub end_frame-self-inside-requires-clause-at : goal.end_frame-self-inside-requires-clause-at
-end_frame-self-inside-requires-clause-at c =
-    let next : IsNext (flight_of c.self.inside.spec.now c.self.inside.script.now) (machine_places c.self.inside.places) (stored_in c.self.inside.stored.items) c.args.event = search rules in
-    let last : ends_frame c.self.inside.spec.now c.args.event ≡ true = sym c.ends_frame.ensures ∙ c.if-ends_frame.true in
-    let at_end : Ends c.self.inside.spec.now c.self.invariant.machine.facts c.self.inside.script.now c.self.inside.places c.places_after-self-inside.result (stored_in c.self.inside.stored.items) =
-    ends c.self.inside.spec.now c.self.invariant.machine.facts c.self.inside.script.now c.self.inside.places c.places_after-self-inside.result (stored_in c.self.inside.stored.items)
-    c.args.event next (c.places_after-self-inside.ensures c.self.inside.spec.now) last in
-    c.self.invariant.walk_at ∙ at_end.before
 
 pub invariant_of-self : goal.invariant_of-self
 invariant_of-self c =
@@ -81,8 +72,7 @@ invariant_of-self c =
     let at_end : Ends c.self.inside.spec.now c.self.invariant.machine.facts c.self.inside.script.now c.self.inside.places c.places_after-self-inside.result (stored_in c.self.inside.stored.items) =
     ends c.self.inside.spec.now c.self.invariant.machine.facts c.self.inside.script.now c.self.inside.places c.places_after-self-inside.result (stored_in c.self.inside.stored.items)
     c.args.event next (c.places_after-self-inside.ensures c.self.inside.spec.now) last in
-    core_on c.self.inside.spec.now c.self.inside.script.now c.places_after-self-inside.result _ _ _ _ machine _ _ _ at_end.after
-    c.end_frame-self-inside.ensures.kernel c.end_frame-self-inside.ensures.walk c.end_frame-self-inside.ensures.at c.end_frame-self-inside.ensures.image
+    core_on c.self.inside.spec.now c.self.inside.script.now c.places_after-self-inside.result _ _ _ _ machine _ at_end.after c.end_frame.ensures.kernel
 
 pub invariant_of-self-else-ends_frame : goal.invariant_of-self-else-ends_frame
 invariant_of-self-else-ends_frame c =
@@ -93,8 +83,7 @@ invariant_of-self-else-ends_frame c =
     let waits : ends_frame c.self.inside.spec.now c.args.event ≡ false = sym c.ends_frame.ensures ∙ c.if-ends_frame.false in
     let same = goes_on c.self.inside.spec.now c.self.invariant.machine.facts c.self.inside.script.now c.self.inside.places c.places_after-self-inside.result (stored_in c.self.inside.stored.items)
     c.args.event next (c.places_after-self-inside.ensures c.self.inside.spec.now) waits in
-    core_still c.self.inside.spec.now c.self.inside.script.now c.places_after-self-inside.result _ _ _ _ machine _ _ _ _ same
-    c.self.invariant.kernel_is c.self.invariant.walk_is c.self.invariant.walk_at c.self.invariant.image_is
+    core_still c.self.inside.spec.now c.self.inside.script.now c.places_after-self-inside.result _ _ _ _ machine _ _ same c.self.invariant.kernel_is
 
 pub returns-then-ends_frame-clause-happens : goal.returns-then-ends_frame-clause-happens
 returns-then-ends_frame-clause-happens c =

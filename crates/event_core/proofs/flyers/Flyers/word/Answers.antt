@@ -5,7 +5,7 @@ use Rattle.event_core.specs.Cores.{flown, standing}
 use Rattle.event_core.specs.Stores.{IsEventWord}
 use Rattle.fail_stop.specs.Flights.{word_in}
 use Rattle.fail_stop.specs.ScriptFlights.{kernel_words}
-use Rattle.event_core.proofs.flyers.word_of.Goals as goal
+use Rattle.event_core.proofs.flyers.Flyers.word.Goals as goal
 
 pub returns-in-KStore-clause-word : goal.returns-in-KStore-clause-word
 returns-in-KStore-clause-word g c =

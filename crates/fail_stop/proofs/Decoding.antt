@@ -22,15 +22,15 @@ none_read v i = let none : nat_lt i 0 ≡ false = grind (arith, nat_tests) in rw
   zeros_at (suc n) zero = refl
   zeros_at (suc n) (suc i) = zeros_at n i
 
--- what holds of each of eight images
-pub each_image : (P : ℕ → List ℤ → Type 0) (a b c d e f g h : List ℤ) → P 0 a → P 1 b → P 2 c → P 3 d → P 4 e → P 5 f → P 6 g → P 7 h
-    → (p : ℕ) → p < 8 → P p (slice_index_or (a ∷ b ∷ c ∷ d ∷ e ∷ f ∷ g ∷ h ∷ []) p [])
-each_image P a b c d e f g h on_a on_b on_c on_d on_e on_f on_g on_h zero low = on_a
-each_image P a b c d e f g h on_a on_b on_c on_d on_e on_f on_g on_h (suc zero) low = on_b
-each_image P a b c d e f g h on_a on_b on_c on_d on_e on_f on_g on_h (suc (suc zero)) low = on_c
-each_image P a b c d e f g h on_a on_b on_c on_d on_e on_f on_g on_h (suc (suc (suc zero))) low = on_d
-each_image P a b c d e f g h on_a on_b on_c on_d on_e on_f on_g on_h (suc (suc (suc (suc zero)))) low = on_e
-each_image P a b c d e f g h on_a on_b on_c on_d on_e on_f on_g on_h (suc (suc (suc (suc (suc zero))))) low = on_f
-each_image P a b c d e f g h on_a on_b on_c on_d on_e on_f on_g on_h (suc (suc (suc (suc (suc (suc zero)))))) low = on_g
-each_image P a b c d e f g h on_a on_b on_c on_d on_e on_f on_g on_h (suc (suc (suc (suc (suc (suc (suc zero))))))) low = on_h
-each_image P a b c d e f g h on_a on_b on_c on_d on_e on_f on_g on_h (suc (suc (suc (suc (suc (suc (suc (suc p)))))))) low = absurd (omega arith)
+-- what holds of each of eight things
+pub each_of_eight : {A : Type 0} (none : A) (P : ℕ → A → Type 0) (a b c d e f g h : A) → P 0 a → P 1 b → P 2 c → P 3 d → P 4 e → P 5 f → P 6 g → P 7 h
+    → (p : ℕ) → p < 8 → P p (slice_index_or (a ∷ b ∷ c ∷ d ∷ e ∷ f ∷ g ∷ h ∷ []) p none)
+each_of_eight none P a b c d e f g h on_a on_b on_c on_d on_e on_f on_g on_h zero low = on_a
+each_of_eight none P a b c d e f g h on_a on_b on_c on_d on_e on_f on_g on_h (suc zero) low = on_b
+each_of_eight none P a b c d e f g h on_a on_b on_c on_d on_e on_f on_g on_h (suc (suc zero)) low = on_c
+each_of_eight none P a b c d e f g h on_a on_b on_c on_d on_e on_f on_g on_h (suc (suc (suc zero))) low = on_d
+each_of_eight none P a b c d e f g h on_a on_b on_c on_d on_e on_f on_g on_h (suc (suc (suc (suc zero)))) low = on_e
+each_of_eight none P a b c d e f g h on_a on_b on_c on_d on_e on_f on_g on_h (suc (suc (suc (suc (suc zero))))) low = on_f
+each_of_eight none P a b c d e f g h on_a on_b on_c on_d on_e on_f on_g on_h (suc (suc (suc (suc (suc (suc zero)))))) low = on_g
+each_of_eight none P a b c d e f g h on_a on_b on_c on_d on_e on_f on_g on_h (suc (suc (suc (suc (suc (suc (suc zero))))))) low = on_h
+each_of_eight none P a b c d e f g h on_a on_b on_c on_d on_e on_f on_g on_h (suc (suc (suc (suc (suc (suc (suc (suc p)))))))) low = absurd (omega arith)

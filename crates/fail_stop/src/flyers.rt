@@ -1,0 +1,148 @@
+//! Processors in flight. The fields are public so that clauses can name them.
+
+ghost use Rattle.std.specs.Prelude.{◌≡◌, ◌<◌, ◌+◌, ◌∷◌, IfOk, ℕ, None, Some, false, length, map, vec_len};
+ghost use Rattle.std.specs.Vec.Iter.{into_iter_items, into_iter_len};
+ghost use Rattle.scram_types.specs.Scripts.{ScriptParts};
+ghost use Rattle.scram_types.specs.Specification.{IsSpec};
+ghost use Rattle.frame_model.specs.Flights.{draft};
+ghost use Rattle.fail_stop.specs.Drafts.{IsSnapshot, draft_made};
+ghost use Rattle.fail_stop.specs.declared.flyers.Unit.TheVariants.{Up};
+ghost use Rattle.fail_stop.specs.Events.{At};
+ghost use Rattle.fail_stop.specs.Flights.{Flight};
+ghost use Rattle.fail_stop.specs.Flyers.{AreFlyersAt, flyer_halted, flyer_started, is_down, unit_proc, unit_rack};
+
+use crate::snapshots::{Draft, Snapshot};
+use crate::units::{Halted, Live};
+use app_model::Rack;
+use scram_types::{NoMemory, ProcId, Spec};
+use std::alloc::Global;
+use std::vec::IntoIter;
+
+/// A processor that lives, or one that has halted.
+#[derive(Drop)]
+pub enum Unit {
+    Up(Live),
+    Down(Halted),
+}
+
+/// A processor in flight, with the boxes for its restart until that comes.
+#[derive(Drop)]
+pub struct Flyer {
+    pub unit: Unit,
+    pub spare: Option<Rack>,
+}
+
+impl Flyer {
+    /// Returns the processor of this number before its first frame, with its boxes and those for its restart.
+    pub fn new(proc: ProcId, rack: Rack, spare: Rack) -> Flyer
+        requires proc { proc.0 < 8 }
+        ensures unit { result.unit ≡ Up (record { proc = proc; rack = rack }) }
+        ensures spare { result.spare ≡ Some spare }
+    {
+        Flyer {
+            unit: Unit::Up(Live::new(proc, rack)),
+            spare: Some(spare),
+        }
+    }
+
+    /// Returns the processor's number.
+    pub fn proc(&self) -> ProcId
+        ensures { result.0 ≡ unit_proc self.now.unit }
+    {
+        match &self.unit {
+            Unit::Up(live) => live.proc(),
+            Unit::Down(halted) => halted.proc(),
+        }
+    }
+
+    /// Returns whether the processor has halted and has not restarted since.
+    pub fn has_halted(&self) -> bool
+        ensures { result ≡ is_down self.now.unit }
+    {
+        match &self.unit {
+            Unit::Up(_) => false,
+            Unit::Down(_) => true,
+        }
+    }
+
+    /// The processor starts a frame. Where it has halted it lives again in its spare rack, if it has one, and else nothing
+    /// changes.
+    pub fn start(&mut self)
+        requires few { unit_proc self.old.unit < 8 }
+        ensures { self.new ≡ flyer_started self.old }
+    {
+        if self.has_halted() {
+            let proc = self.proc();
+            if let Some(rack) = self.spare.take() {
+                self.unit = Unit::Up(Live::new(proc, rack));
+            }
+        }
+    }
+
+    /// The processor halts in this frame and drops its boxes. Where it has halted already nothing changes.
+    pub fn halt(&mut self, frame: u32)
+        ensures { self.new ≡ flyer_halted frame self.old }
+    {
+        if !self.has_halted() {
+            let proc = self.proc();
+            self.unit = Unit::Down(Halted { proc, frame });
+        }
+    }
+
+    /// Returns what the processor, which lives, drafts after a snapshot, as [`Live::draft`] has it.
+    pub fn draft(&mut self, spec: &Spec, snap: &Snapshot) -> Draft
+        requires lives { is_down self.old.unit ≡ false }
+        requires few { unit_proc self.old.unit < 8 }
+        ensures frame { result.frame ≡ snap.now.kernel.frame }
+        ensures image { result.image ≡ draft_made spec.now snap.now (unit_proc self.old.unit) }
+        ensures trace { (script : ScriptParts) (f : ℕ) → IsSpec spec.now → unit_proc self.old.unit < length spec.now.procs → IsSnapshot spec.now script f snap.now → result.image ≡ draft spec.now script (unit_proc self.old.unit) f }
+        ensures lives { is_down self.new.unit ≡ false }
+        ensures proc { unit_proc self.new.unit ≡ unit_proc self.old.unit }
+        ensures spare { self.new.spare ≡ self.old.spare }
+    {
+        match &mut self.unit {
+            Unit::Up(live) => live.draft(spec, snap),
+            Unit::Down(_) => unreachable!(),
+        }
+    }
+}
+
+/// Returns eight processors before their first frame: rack `p` is that of processor `p`, and spare rack `p` is for its
+/// restart.
+///
+/// # Errors
+///
+/// Out of memory.
+pub fn make_flyers(
+    alloc: Global,
+    racks: Vec<Rack>,
+    spares: Vec<Rack>,
+) -> Result<Vec<Flyer>, NoMemory>
+    requires racks { vec_len racks ≡ 8 }
+    requires spares { vec_len spares ≡ 8 }
+    ensures flyers { (m : Flight) → IfOk result (λ flyers. AreFlyersAt m (λ p. At 0 0) flyers.items) }
+    ensures racks { IfOk result (λ flyers. map (λ flyer. unit_rack flyer.unit) flyers.items ≡ map Some racks.items) }
+    ensures spares { IfOk result (λ flyers. map (λ flyer. flyer.spare) flyers.items ≡ map Some spares.items) }
+{
+    let mut racks = racks.into_iter();
+    let mut spares = spares.into_iter();
+    let mut flyers = Vec::with_capacity(alloc, 8)?;
+    for p in 0..8 {
+        let rack = next_rack(&mut racks);
+        let spare = next_rack(&mut spares);
+        flyers.push(Flyer::new(ProcId(p), rack, spare))?;
+    }
+    Ok(flyers)
+}
+
+// Returns the next one of these racks.
+fn next_rack(racks: &mut IntoIter<Rack>) -> Rack
+    requires some { 0 < into_iter_len racks.old }
+    ensures first { into_iter_items racks.old ≡ result ∷ into_iter_items racks.new }
+    ensures fewer { into_iter_len racks.new + 1 ≡ into_iter_len racks.old }
+{
+    match racks.next() {
+        Some(rack) => rack,
+        None => unreachable!(),
+    }
+}
