@@ -32,7 +32,7 @@ pub(crate) struct Desk<'a, J: FlightOf> {
 }
 
 impl<'a, J: FlightOf> Desk<'a, J> {
-    /// The desk of this core.
+    /// Returns the desk of this core.
     pub(crate) fn new(core: Core<'a>) -> Desk<'a, J>
         requires { J.mission ≡ Some (mission_of core.spec core.script) }
     {
@@ -42,43 +42,43 @@ impl<'a, J: FlightOf> Desk<'a, J> {
         }
     }
 
-    /// The core.
+    /// Returns the core.
     pub(crate) fn into_core(self) -> Core<'a>
         ensures { J.mission ≡ Some (mission_of result.spec result.script) }
     {
         self.core
     }
 
-    /// Whether no event can come any more.
+    /// Returns whether no event can come any more.
     pub(crate) fn is_over(&self) -> bool {
         self.core.over()
     }
 
-    /// Whether a processor has to wait.
+    /// Returns whether a processor has to wait.
     pub(crate) fn waits(&self, p: ProcId) -> bool {
         self.core.next_of(p).is_none() && !self.core.over()
     }
 
-    /// Whether the kernel and these processors have to wait.
+    /// Returns whether the kernel and these processors have to wait.
     pub(crate) fn all_wait(&self, members: &[Member]) -> bool {
         if self.core.next_kernel().is_some() || self.core.over() {
             return false;
         }
         for member in members {
-            if self.core.next_of(member.proc).is_some() {
+            if self.core.next_of(member.proc()).is_some() {
                 return false;
             }
         }
         true
     }
 
-    /// Makes the next step of the kernel, if there is one, and tells which.
+    /// Makes the next step of the kernel, if there is one, and returns it.
     pub(crate) fn make_kernel(&mut self) -> Option<Event> {
         make_kernel(&mut self.core)
     }
 
     /// Makes the next step of a processor, if there is one. A store is made where there is a draft of the frame in
-    /// which the processor stands; else it is told what the processor sees.
+    /// which the processor stands; else what the processor sees is returned.
     pub(crate) fn make_step(&mut self, p: ProcId, drafted: Option<&Draft>) -> Made
         requires { (mission : MissionParts) → J.mission ≡ Some mission → IfSome drafted (λ draft. IsDraftOf mission p.0 draft.now) }
         ensures { (mission : MissionParts) → J.mission ≡ Some mission → IfSaw result (IsSnapshotOf mission) }

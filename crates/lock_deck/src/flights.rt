@@ -26,7 +26,7 @@ use std::thread::{Scope, Threads};
 use trace_props::missions::reconfigurations_are_assured;
 
 /// A flight of a mission before its first step, with all memory that it needs. That its processors are those of the
-/// mission is told by clauses; two fields are public so that clauses can name them.
+/// mission is stated by clauses; two fields are public so that clauses can name them.
 #[derive(Drop)]
 pub struct LockFlight<'a> {
     pub mission: &'a Mission,
@@ -39,8 +39,8 @@ pub struct LockFlight<'a> {
 }
 
 impl<'a> LockFlight<'a> {
-    /// A flight of this mission, before its first step. Rack `p` is that of processor `p`, and spare rack `p` is for its
-    /// restart. It takes all memory that the flight needs, and the only refusal is want of memory.
+    /// Returns a flight of this mission, before its first step. Rack `p` is that of processor `p`, and spare rack `p`
+    /// is for its restart. It allocates all memory that the flight needs; the only error is out of memory.
     pub fn open(
         alloc: Global,
         mission: &'a Mission,
@@ -65,7 +65,7 @@ impl<'a> LockFlight<'a> {
     }
 
     /// Flies the mission with a thread for each processor and the kernel on the caller's, until the flight is over. A
-    /// processor whose thread cannot be started is flown by the caller in turns. It takes no memory, and may wait.
+    /// processor whose thread cannot be started is flown round-robin by the caller. It may block.
     pub fn run<R: Threads + Wait + Sync>(self, rt: &R) -> Core<'a>
         requires fits { All (λ member. MemberFits self.mission.now member.value) self.members.items }
         ensures spec { result.spec ≡ self.entry.mission.now.spec }
@@ -76,7 +76,8 @@ impl<'a> LockFlight<'a> {
         self.run_on(rt, [true; 8])
     }
 
-    /// As `run`, with threads for the processors that are asked for alone; the others are flown by the caller in turns.
+    /// As `run`, with threads for the processors that are asked for alone; the others are flown round-robin by the
+    /// caller.
     pub fn run_on<R: Threads + Wait + Sync>(self, rt: &R, asked: [bool; 8]) -> Core<'a>
         requires fits { All (λ member. MemberFits self.mission.now member.value) self.members.items }
         ensures spec { result.spec ≡ self.entry.mission.now.spec }
@@ -95,7 +96,8 @@ impl<'a> LockFlight<'a> {
     }
 }
 
-// Who flies: the processors that wait for a thread, those that the caller flies, and for whom threads are asked.
+// Where processors fly: those that wait for a thread, those that the caller flies, and those for which threads are
+// asked.
 #[derive(Drop)]
 struct Roster {
     members: Vec<CachePadded<Member>>,
@@ -103,7 +105,7 @@ struct Roster {
     asked: [bool; 8],
 }
 
-// The processors of a mission with their racks, from the last one down.
+// Returns the processors of a mission with their racks, from the last one down.
 fn make_members(
     alloc: Global,
     mission: &Mission,
@@ -140,7 +142,7 @@ fn add_next(
     }
 }
 
-// The processor that has the last of these racks, if there is one of its number.
+// Returns the processor that has the last of these racks, if there is one of its number.
 fn next_member(mission: &Mission, racks: &mut Vec<Rack>, spares: &mut Vec<Rack>) -> Option<Member>
     requires few { vec_len racks.old ≤ 8 }
     ensures few { vec_len racks.new ≤ 8 }
@@ -156,7 +158,7 @@ fn next_member(mission: &Mission, racks: &mut Vec<Rack>, spares: &mut Vec<Rack>)
     }
 }
 
-// The last of these racks, if there is one.
+// Returns the last of these racks, if there is one.
 fn take_rack(racks: &mut Vec<Rack>) -> Option<Rack>
     ensures fewer { vec_len racks.new ≤ vec_len racks.old }
     ensures one { IfSome result (λ _. vec_len racks.new < vec_len racks.old) }
@@ -191,7 +193,7 @@ fn fly<'a, J: FlightOf + Send + Sync, R: Threads + Wait + Sync>(
     finish(rt, desk.into_inner().into_core())
 }
 
-// The steps that are left, which are none where all threads have come to the end.
+// Returns the steps that are left, which are none where all threads have come to the end.
 fn finish<'a, R: Wait>(rt: &R, core: Core<'a>) -> Core<'a>
     ensures spec { result.spec ≡ core.entry.spec }
     ensures script { result.script ≡ core.entry.script }
@@ -253,7 +255,7 @@ fn start_all<'s, 'a, E, J: FlightOf + Send + Sync, R: Threads + Wait + Sync>(
     let mut members = roster.members;
     let mut back = roster.back;
     while let Some(member) = take_member(&mut members) {
-        let own = &by_caller[usize::from(member.proc.0 % 8)];
+        let own = &by_caller[usize::from(member.proc().0 % 8)];
         let fly = move |member: Member|
             requires { (J.mission ≡ Some mission.now) × MemberFits mission.now member }
         {
@@ -299,7 +301,7 @@ fn start<'s, E, M: Send + Drop + 's, F: FnOnce(M) + Send + Drop + 's>(
     }
 }
 
-// The last of these processors, if there is one.
+// Returns the last of these processors, if there is one.
 fn take_member(members: &mut Vec<CachePadded<Member>>) -> Option<Member>
     ensures fits { (mission : MissionParts) → All (λ member. MemberFits mission member.value) members.old.items → IfSome result (MemberFits mission) }
     ensures rest { (mission : MissionParts) → All (λ member. MemberFits mission member.value) members.old.items → All (λ member. MemberFits mission member.value) members.new.items }
@@ -324,7 +326,7 @@ fn keep_member(back: &mut Vec<Member>, member: Option<Member>)
     }
 }
 
-// Which processors the caller flies: those for whom no threads are asked.
+// Returns the processors that the caller flies: those for which no threads are asked.
 fn flown_by_caller(asked: [bool; 8]) -> [AtomicBool; 8] {
     [
         AtomicBool::new(!asked[0]),

@@ -1,4 +1,4 @@
-//! What comes of a turn at the lock.
+//! The result of a turn at the lock.
 
 use fail_stop::Snapshot;
 

@@ -1,114 +1,113 @@
-//! Processors with what they need in a flight. The fields are public so that clauses can name them.
+//! Processors with their last drafts. The fields are public so that clauses can name them.
 
-ghost use Rattle.std.specs.Prelude.{◌≡◌, ◌<◌, ◌&&◌, false, length, true, IfSome, None, Some, is_some};
-ghost use Rattle.lock_deck.specs.Desks.{IfSaw, IsDraftOf, IsSnapshotOf, is_halt, is_start};
+ghost use Rattle.std.specs.Prelude.{◌≡◌, ◌<◌, false, length, true, None, Some, ℕ};
+ghost use Rattle.fail_stop.specs.declared.flyers.Unit.TheVariants.{Up};
+ghost use Rattle.fail_stop.specs.Flyers.{flyer_halted, flyer_started, is_down, unit_proc};
+ghost use Rattle.lock_deck.specs.declared.made.Made.TheVariants.{Halted as HaltMade};
+ghost use Rattle.lock_deck.specs.Desks.{IfSaw, IsDraftOf, IsSnapshotOf, is_start};
 ghost use Rattle.lock_deck.specs.Members.{MemberFits};
 
 use crate::made::Made;
 use app_model::Rack;
 use coverage_check::Mission;
-use fail_stop::{Draft, Halted, Live, Snapshot};
+use fail_stop::{Draft, Flyer, Snapshot};
 use scram_types::ProcId;
 
-/// A processor, live or halted, with the rack for its restart, and its last draft.
+/// A processor in flight, with what it drafted last.
 #[derive(Drop)]
 pub struct Member {
-    pub proc: ProcId,
-    pub live: Option<Live>,
-    pub halted: Option<Halted>,
-    pub spare: Option<Rack>,
+    pub flyer: Flyer,
     pub drafted: Option<Draft>,
 }
 
 impl Member {
-    /// A processor that lives, with the rack for its restart. It takes no memory.
+    /// Returns a processor that lives, with the boxes for its restart.
     pub fn new(mission: &Mission, proc: ProcId, rack: Rack, spare: Rack) -> Member
         requires proc { proc.0 < length mission.now.spec.procs }
-        ensures proc { result.proc ≡ proc }
-        ensures live { result.live ≡ Some (record { proc = proc; rack = rack }) }
-        ensures halted { result.halted ≡ None }
-        ensures spare { result.spare ≡ Some spare }
+        ensures unit { result.flyer.unit ≡ Up (record { proc = proc; rack = rack }) }
+        ensures spare { result.flyer.spare ≡ Some spare }
         ensures drafted { result.drafted ≡ None }
         ensures fits { MemberFits mission.now result }
     {
         mission.holds();
         Member {
-            proc,
-            live: Some(Live::new(proc, rack)),
-            halted: None,
-            spare: Some(spare),
+            flyer: Flyer::new(proc, rack, spare),
             drafted: None,
         }
     }
 
-    /// Does what follows of a turn at the lock: it drafts what it saw, halts with its halt, and lives again with a start
-    /// after that, in its spare rack, which it leaves alone until then. It takes no memory.
+    /// Returns the processor's number.
+    pub(crate) fn proc(&self) -> ProcId
+        ensures { result.0 ≡ unit_proc self.now.flyer.unit }
+    {
+        self.flyer.proc()
+    }
+
+    /// Does what follows of a turn at the lock: the processor drafts what it saw, halts with its halt, and lives again with a
+    /// start after that, in its spare rack, which it leaves alone until then.
     pub(crate) fn follow(&mut self, mission: &Mission, made: &Made)
         requires saw { IfSaw made.now (IsSnapshotOf mission.now) }
         requires fits { MemberFits mission.now self.old }
         ensures fits { MemberFits mission.now self.new }
-        ensures proc { self.new.proc ≡ self.old.proc }
-        ensures halts { is_halt made.now ≡ true → self.new.live ≡ None }
-        ensures restarts { (is_start made.now && is_some self.old.halted) ≡ true → IfSome self.old.spare (λ rack. self.new.live ≡ Some (record { proc = self.old.proc; rack = rack })) }
-        ensures spare { (is_start made.now && is_some self.old.halted) ≡ false → self.new.spare ≡ self.old.spare }
+        ensures proc { unit_proc self.new.flyer.unit ≡ unit_proc self.old.flyer.unit }
+        ensures halts { (frame : ℕ) → made.now ≡ HaltMade frame → self.new.flyer ≡ flyer_halted frame self.old.flyer }
+        ensures starts { is_start made.now ≡ true → self.new.flyer ≡ flyer_started self.old.flyer }
+        ensures spare { is_start made.now ≡ false → self.new.flyer.spare ≡ self.old.flyer.spare }
     {
         match made {
             Made::Saw(snap) => self.draft(mission, snap),
             Made::Halted(frame) => self.halt(mission, *frame),
-            Made::Started => self.restart(mission),
+            Made::Started => self.start(mission),
             Made::Nothing => {}
             Made::Moved => {}
             Made::Done => {}
         }
     }
 
+    // A processor that has halted drafts nothing.
     fn draft(&mut self, mission: &Mission, snap: &Snapshot)
         requires saw { IsSnapshotOf mission.now snap.now }
         requires fits { MemberFits mission.now self.old }
         ensures fits { MemberFits mission.now self.new }
-        ensures proc { self.new.proc ≡ self.old.proc }
-        ensures spare { self.new.spare ≡ self.old.spare }
+        ensures proc { unit_proc self.new.flyer.unit ≡ unit_proc self.old.flyer.unit }
+        ensures spare { self.new.flyer.spare ≡ self.old.flyer.spare }
     {
-        if let Some(live) = &mut self.live {
-            self.drafted = Some(draft_by(mission, live, snap));
+        if !self.flyer.has_halted() {
+            self.drafted = Some(draft_by(mission, &mut self.flyer, snap));
         }
     }
 
+    #[tactic(auto, using(fail_stop::proofs::FlyersAt::number_halted))]
     fn halt(&mut self, mission: &Mission, frame: u32)
         requires { MemberFits mission.now self.old }
         ensures fits { MemberFits mission.now self.new }
-        ensures proc { self.new.proc ≡ self.old.proc }
-        ensures live { self.new.live ≡ None }
-        ensures spare { self.new.spare ≡ self.old.spare }
+        ensures proc { unit_proc self.new.flyer.unit ≡ unit_proc self.old.flyer.unit }
+        ensures flyer { self.new.flyer ≡ flyer_halted frame self.old.flyer }
     {
-        if let Some(live) = self.live.take() {
-            self.halted = Some(live.halt(frame));
-        }
+        self.flyer.halt(frame);
     }
 
-    fn restart(&mut self, mission: &Mission)
+    #[tactic(auto, using(fail_stop::proofs::FlyersAt::number_started))]
+    fn start(&mut self, mission: &Mission)
         requires { MemberFits mission.now self.old }
-        ensures lives { is_some self.old.halted ≡ true → IfSome self.old.spare (λ rack. self.new.live ≡ Some (record { proc = self.old.proc; rack = rack })) }
         ensures fits { MemberFits mission.now self.new }
-        ensures proc { self.new.proc ≡ self.old.proc }
-        ensures spare { is_some self.old.halted ≡ false → self.new.spare ≡ self.old.spare }
+        ensures proc { unit_proc self.new.flyer.unit ≡ unit_proc self.old.flyer.unit }
+        ensures flyer { self.new.flyer ≡ flyer_started self.old.flyer }
     {
         mission.holds();
-        if let Some(halted) = self.halted.take() {
-            if let Some(spare) = self.spare.take() {
-                self.live = Some(halted.restart(spare));
-            }
-        }
+        self.flyer.start();
     }
 }
 
-// What a live processor of a mission drafts by what it sees.
-fn draft_by(mission: &Mission, live: &mut Live, snap: &Snapshot) -> Draft
-    requires known { live.old.proc.0 < length mission.now.spec.procs }
+// Returns what a live processor of a mission drafts by what it sees.
+fn draft_by(mission: &Mission, flyer: &mut Flyer, snap: &Snapshot) -> Draft
+    requires lives { is_down flyer.old.unit ≡ false }
+    requires known { unit_proc flyer.old.unit < length mission.now.spec.procs }
     requires saw { IsSnapshotOf mission.now snap.now }
-    ensures draft { IsDraftOf mission.now live.old.proc.0 result }
-    ensures proc { live.new.proc ≡ live.old.proc }
+    ensures draft { IsDraftOf mission.now (unit_proc flyer.old.unit) result }
+    ensures proc { unit_proc flyer.new.unit ≡ unit_proc flyer.old.unit }
+    ensures spare { flyer.new.spare ≡ flyer.old.spare }
 {
     mission.holds();
-    live.draft(mission.spec(), snap)
+    flyer.draft(mission.spec(), snap)
 }

@@ -16,7 +16,7 @@ use event_core::Core;
 use fail_stop::Draft;
 use scram_types::ProcId;
 
-// Makes an event, with its word, where it is next of its actor, and tells whether it was.
+// Makes an event, with its word, where it is next of its actor, and returns whether it was.
 fn make(core: &mut Core, event: Event, word: u64) -> bool
     requires { IsNext (flown core.old) (standing core.old) (standing_words core.old) event → IsEventWord (flown core.old) (standing core.old) event word }
     ensures spec { core.new.spec ≡ core.old.spec }
@@ -25,7 +25,7 @@ fn make(core: &mut Core, event: Event, word: u64) -> bool
     core.step(event, word).is_ok()
 }
 
-// Whether an event comes without a word.
+// Returns whether an event comes without a word.
 fn is_plain(event: Event) -> bool
     ensures { IsTrue result → (m : Flight) (at : Places) (word : ℕ) → IsEventWord m at event word }
 {
@@ -42,7 +42,7 @@ fn is_plain(event: Event) -> bool
     }
 }
 
-// Makes an event that comes without a word, where it is next of its actor, and tells whether it was.
+// Makes an event that comes without a word, where it is next of its actor, and returns whether it was.
 fn make_plain(core: &mut Core, event: Event) -> bool
     ensures spec { core.new.spec ≡ core.old.spec }
     ensures script { core.new.script ≡ core.old.script }
@@ -50,7 +50,7 @@ fn make_plain(core: &mut Core, event: Event) -> bool
     is_plain(event) && core.step(event, 0).is_ok()
 }
 
-/// Makes the next step of the kernel, if there is one, and tells which.
+/// Makes the next step of the kernel, if there is one, and returns it.
 pub(crate) fn make_kernel(core: &mut Core) -> Option<Event>
     ensures spec { core.new.spec ≡ core.old.spec }
     ensures script { core.new.script ≡ core.old.script }
@@ -84,8 +84,8 @@ pub(crate) fn make_any(core: &mut Core)
     }
 }
 
-/// Makes the next step of a processor, if there is one. A store is made where there is a draft of the frame in which the
-/// processor stands; else it is told what the processor sees.
+/// Makes the next step of a processor, if there is one. A store is made where there is a draft of the frame in which
+/// the processor stands; else what the processor sees is returned.
 pub(crate) fn make_step(core: &mut Core, p: ProcId, drafted: Option<&Draft>) -> Made
     requires drafted { IfSome drafted (λ draft. IsDraftOf (mission_of core.old.spec core.old.script) p.0 draft.now) }
     ensures saw { IfSaw result (IsSnapshotOf (mission_of core.old.spec core.old.script)) }

@@ -1,4 +1,4 @@
-//! Turns at the lock, and who makes them.
+//! Turns at the lock, and which threads make them.
 
 ghost use Rattle.std.specs.Prelude.{◌≡◌, All, Some};
 ghost use Rattle.lock_deck.specs.Members.{MemberFits};
@@ -23,7 +23,7 @@ pub(crate) fn fly_processor<'a, J: FlightOf, R: Wait>(
 {
     let mut member = member;
     for _ in rt.forever() {
-        let p = member.proc;
+        let p = member.proc();
         let desk = moved.wait_while(rt, desk.lock(rt), |desk| desk.waits(p));
         if !make_turn(mission, desk, moved, &mut member) {
             return;
@@ -31,7 +31,7 @@ pub(crate) fn fly_processor<'a, J: FlightOf, R: Wait>(
     }
 }
 
-/// Flies the kernel, and in turns the processors that no thread flies, until the flight is over.
+/// Flies the kernel and, round-robin, the processors that no thread flies, until the flight is over.
 pub(crate) fn fly_kernel<'a, J: FlightOf, R: Wait>(
     rt: &R,
     mission: &Mission,
@@ -52,7 +52,7 @@ pub(crate) fn fly_kernel<'a, J: FlightOf, R: Wait>(
     }
 }
 
-// Makes a step of the kernel, if one is next; wakes those who wait for it; and tells whether the flight goes on.
+// Makes a step of the kernel, if one is next; wakes those that wait for it; and returns whether the flight goes on.
 fn make_turn_of_kernel<'a, J: FlightOf>(
     desk: MutexGuard<'_, Desk<'a, J>>,
     moved: &Condvar,
@@ -85,7 +85,7 @@ fn make_turn_of_each<'a, J: FlightOf, R: Wait>(
     }
 }
 
-// A turn of a processor: a step under the lock, where one is next, and what follows of it outside; it tells whether
+// Makes a step of a processor under the lock, where one is next, and what follows of it outside. Returns whether
 // there was anything to do.
 fn make_turn<'a, J: FlightOf>(
     mission: &Mission,
@@ -98,7 +98,7 @@ fn make_turn<'a, J: FlightOf>(
     ensures fits { MemberFits mission.now member.new }
 {
     let mut desk = desk;
-    let made = desk.make_step(member.proc, member.drafted.as_ref());
+    let made = desk.make_step(member.proc(), member.drafted.as_ref());
     drop(desk);
     if is_awaited(&made) {
         moved.notify_all();
@@ -107,7 +107,7 @@ fn make_turn<'a, J: FlightOf>(
     is_something(&made)
 }
 
-// Whether the kernel may wait for it.
+// Returns whether the kernel may wait for it.
 fn is_awaited(made: &Made) -> bool {
     match made {
         Made::Done => true,

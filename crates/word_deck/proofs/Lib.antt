@@ -4,4 +4,5 @@ pub mod Places
 pub mod Listing
 pub mod Outcomes
 pub mod Sharing
+pub mod Watching
 pub mod Units

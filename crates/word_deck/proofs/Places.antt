@@ -1,16 +1,22 @@
 -- What a turn of a processor does to its place.
-use Rattle.std.proofs.Common.{◌≡◌, ◌∙◌, ◌↔◌, ℕ, ◌<◌, ◌≤◌, ap, sym, refl, arith, Bool, true, false, not}
+use Rattle.std.proofs.Common.{◌≡◌, ◌∙◌, ◌↔◌, ℕ, ◌<◌, ◌≤◌, sym, refl, subst, arith, Bool, true, false, not}
 use Rattle.std.specs.Prelude.{Option, Some, None, is_some, if◌then◌else◌}
 use Rattle.std.proofs.lemmas.Bool.Decides.{nat_tests}
+use Rattle.app_model.specs.declared.racks.Rack.{Rack}
+use Rattle.fail_stop.specs.declared.flyers.Flyer.{Flyer}
+use Rattle.fail_stop.specs.declared.flyers.Unit.{Unit as HeldUnit}
+use Rattle.fail_stop.specs.declared.flyers.Unit.TheVariants.{Up, Down}
 use Rattle.fail_stop.specs.Ends.{IsDone}
-use Rattle.fail_stop.specs.Events.{At, Halted, Place, frame_of}
+use Rattle.fail_stop.specs.Events.{At, Halted, Place, after_frame, frame_of, is_halted}
 use Rattle.fail_stop.specs.Flights.{Flight}
-use Rattle.word_table.specs.Actors.{IsInFlight, Waits, frame_awaited, is_halted, restart_or, steps_of}
-use Rattle.word_deck.specs.Crews.{HasSpare, after_frame, comes_back, is_done, place_after, place_flown, tries_after}
+use Rattle.fail_stop.specs.Flyers.{HasSpare, IsUnitAt, flyer_halted, flyer_started, spare_started}
+use Rattle.fail_stop.proofs.FlyersAt.{unit_begun, unit_stopped}
+use Rattle.word_table.specs.Actors.{IsInFlight, Waits, frame_awaited, restart_or, steps_of}
+use Rattle.word_deck.specs.Crews.{comes_back, is_done, place_after, place_flown, tries_after}
 use Rattle.word_deck.specs.declared.turns.Turn.{Turn}
 use Rattle.word_deck.specs.declared.turns.Turn.TheVariants.{Worked, NotYet, Finished}
 
--- who is done
+-- which processors are done
 
 late : (h : ℕ) (o : Option ℕ) → not (comes_back h o) ≡ true → (r : ℕ) → o ≡ Some r → r ≤ h
 late h None e r s = cc
@@ -28,7 +34,7 @@ pub by_done : (m : Flight) (p : ℕ) (place : Place) → IsDone m p place → is
 by_done m p (At f n) e = grind (arith, nat_tests)
 by_done m p (Halted h) e = early h (m.restart p) e
 
--- who is not done waits
+-- a processor that is not done waits
 
 comes : (h : ℕ) (o : Option ℕ) → not (comes_back h o) ≡ false → h < restart_or h o
 comes h None e = cc
@@ -38,7 +44,7 @@ pub waits : (m : Flight) (p : ℕ) (place : Place) → is_done m p place ≡ fal
 waits m p (At f n) e s l = (s, let ne : f ≡ m.frames → ⊥ = (λ same. grind (arith, nat_tests)) in let le = l.0 in grind (arith, ne, le))
 waits m p (Halted h) e s l = comes h (m.restart p) e
 
--- who has halted and waits has its spare rack
+-- a processor that has halted and waits has its spare rack
 
 has_restart : {R : Type 0} (h : ℕ) (o : Option ℕ) (spare : Option R) → h < restart_or h o → ((r : ℕ) → o ≡ Some r → h < r → is_some spare ≡ true) → is_some spare ≡ true
 has_restart h None spare l s = absurd (omega (arith, l))
@@ -53,10 +59,22 @@ none_later h None spare l r e more = cc
 none_later h (Some q) spare l r e more = let same : q ≡ r = cc in absurd (omega (arith, same, more))
 
 -- the spare rack after a start: of one that had halted none is asked for
-pub spare_begun : {R : Type 0} (m : Flight) (p : ℕ) (place : Place) (spare after : Option R) → Waits m p place → HasSpare m p (frame_of place) spare
-    → (is_halted place ≡ false → after ≡ spare) → HasSpare m p (frame_awaited m p place) after
-spare_begun m p (At f n) spare after w s same = λ r e more. ap is_some (same refl) ∙ s r e more
-spare_begun m p (Halted h) spare after w s same = none_later h (m.restart p) after w
+pub spare_begun : {X : Type 0} {Y : X → Type 0} (m : Flight) (p q : ℕ) (place : Place) (unit : HeldUnit X Y) (spare : Option (Rack X Y)) → Waits m p place → IsUnitAt q place unit → HasSpare m p (frame_of place) spare
+    → HasSpare m p (frame_awaited m p place) (spare_started unit spare)
+spare_begun m p q (At f n) (Up live) spare w is s = s
+spare_begun m p q (At f n) (Down halted) spare w is s = let down = is.down in cc
+spare_begun m p q (Halted h) unit spare w is s = none_later h (m.restart p) (spare_started unit spare) w
+
+-- the processor at a seat that has moved
+pub started_there : {X : Type 0} {Y : X → Type 0} (p q : ℕ) (before after : Place) (was flyer : Flyer X Y) (f n : ℕ) → flyer ≡ flyer_started was → q ≡ p → after ≡ At f n → IsUnitAt p before was.unit
+    → (is_halted before ≡ true → is_some was.spare ≡ true) → IsUnitAt q after flyer.unit
+started_there {X = X} {Y = Y} p q before after was flyer f n made same at is some =
+    rw (same, at) (subst (λ (x : Flyer X Y). IsUnitAt p (At f n) x.unit) (sym made) (unit_begun p before was.unit was.spare f n is some))
+
+pub halted_there : {X : Type 0} {Y : X → Type 0} (p q : ℕ) (before after : Place) (was flyer : Flyer X Y) (f : ℕ) → flyer ≡ flyer_halted f was → q ≡ p → f ≡ frame_of before → after ≡ Halted f
+    → is_halted before ≡ false → IsUnitAt p before was.unit → IsUnitAt q after flyer.unit
+halted_there {X = X} {Y = Y} p q before after was flyer f made same frame at flies is =
+    rw (same, at) (subst (λ (x : Flyer X Y). IsUnitAt p (Halted f) x.unit) (sym made) (rw frame (unit_stopped p before was.unit is flies)))
 
 -- a frame that is flown
 

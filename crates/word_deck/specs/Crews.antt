@@ -1,7 +1,8 @@
 -- Processors with what they need in a flight, and what a turn does to the place of one.
-use Rattle.std.specs.Prelude.{◌≡◌, ℕ, suc, ◌<◌, Bool, true, false, not, Option, Some, None, is_some, if◌then◌else◌, nat_eq, nat_lt}
-use Rattle.fail_stop.specs.Events.{At, Halted, Place, frame_of}
+use Rattle.std.specs.Prelude.{◌≡◌, ℕ, suc, Bool, false, not, Option, Some, None, if◌then◌else◌, nat_eq, nat_lt}
+use Rattle.fail_stop.specs.Events.{At, Halted, Place, after_frame, frame_of}
 use Rattle.fail_stop.specs.Flights.{Flight}
+use Rattle.fail_stop.specs.Flyers.{HasSpare}
 use Rattle.word_table.specs.declared.tables.WordTable.{WordTable}
 use Rattle.word_table.specs.Actors.{frame_awaited, steps_of}
 use Rattle.word_table.specs.Tables.{IsSeatOf, flight_in, seat_place, proc_of}
@@ -20,11 +21,6 @@ abbrev pub is_done : Flight → ℕ → Place → Bool
 is_done m p (At f n) = nat_eq f m.frames
 is_done m p (Halted h) = not (comes_back h (m.restart p))
 
--- Where a processor stands after the whole of frame f, by the halt in it.
-abbrev pub after_frame : ℕ → Option ℕ → Place
-after_frame f None = At (suc f) 0
-after_frame f (Some s) = Halted f
-
 -- Where processor p stands after the frame that it waits for at a place.
 abbrev pub place_flown : Flight → ℕ → Place → Place
 place_flown m p place = after_frame (frame_awaited m p place) (m.halt p (frame_awaited m p place))
@@ -41,18 +37,14 @@ tries_after NotYet tries = suc tries
 tries_after Worked tries = tries
 tries_after Finished tries = tries
 
--- Of processor p, which stands in frame f or has halted there, there is the rack for a restart that is still to come.
-abbrev pub HasSpare : {R : Type 0} → Flight → ℕ → ℕ → Option R → Type 0
-HasSpare m p f spare = (r : ℕ) → m.restart p ≡ Some r → f < r → is_some spare ≡ true
-
 -- A crew is one of this table between two turns.
 pub record CrewFits {X : Type 0} {Y : X → Type 0} (words : WordTable) (crew : Crew X Y) : Type 0 where
   pub seated : IsSeatOf words crew.seat
   pub begin : steps_of (seat_place crew.seat) ≡ 0
-  pub spare_left : HasSpare (flight_in words) (proc_of crew.seat) (frame_of (seat_place crew.seat)) crew.spare
+  pub spare_left : HasSpare (flight_in words) (proc_of crew.seat) (frame_of (seat_place crew.seat)) crew.flyer.spare
 
 -- A crew is one of this table after n steps of a frame.
 pub record CrewFlies {X : Type 0} {Y : X → Type 0} (words : WordTable) (n : ℕ) (crew : Crew X Y) : Type 0 where
   pub seated : IsSeatOf words crew.seat
   pub after : IsAfter n (seat_place crew.seat)
-  pub spare_left : HasSpare (flight_in words) (proc_of crew.seat) (frame_of (seat_place crew.seat)) crew.spare
+  pub spare_left : HasSpare (flight_in words) (proc_of crew.seat) (frame_of (seat_place crew.seat)) crew.flyer.spare

@@ -1,8 +1,6 @@
 -- The kernel with what it needs in a flight.
 use Rattle.std.specs.Prelude.{◌≡◌, ◌⊎◌, ℕ, suc, ◌<◌, ◌≤◌, length, if◌then◌else◌, nat_lt}
 use Rattle.coverage_check.specs.Missions.{MissionParts}
-use Rattle.fault_script.specs.declared.walks.Walk.{Walk}
-use Rattle.fault_script.specs.Walks.{IsWalk}
 use Rattle.frame_model.specs.Flights.{image_after, image_in}
 use Rattle.frame_model.specs.Storage.{mark_after}
 use Rattle.scram_kernel.specs.Kernels.{KernelParts, kernel_after}
@@ -13,7 +11,7 @@ use Rattle.word_deck.specs.declared.kernels.Noted.{Noted}
 use Rattle.word_deck.specs.declared.turns.Turn.{Turn}
 use Rattle.word_deck.specs.declared.turns.Turn.TheVariants.{Worked, NotYet, Finished}
 
--- In how many frames the kernel has noted every one of so many processors.
+-- In how many frames the kernel has noted every one of this number of processors.
 abbrev pub frames_noted : ℕ → KSeat → ℕ
 frames_noted procs kseat = if nat_lt (kernel_steps kseat) procs then kernel_frame kseat else suc (kernel_frame kseat)
 
@@ -34,11 +32,9 @@ pub record IsKernelBetween (procs frames : ℕ) (kseat : KSeat) : Type 0 where
   pub last : kernel_steps kseat ≡ procs → suc (kernel_frame kseat) ≡ frames
 
 -- What a kernel with its seat keeps between two turns.
-pub record KernelCrewKeeps (mission : MissionParts) (kseat : KSeat) (kernel : KernelParts) (walk : Walk) (noted : Noted) : Type 0 where
+pub record KernelCrewKeeps (mission : MissionParts) (kseat : KSeat) (kernel : KernelParts) (noted : Noted) : Type 0 where
   pub between : IsKernelBetween (length mission.spec.procs) mission.script.frames kseat
   pub log : kernel ≡ kernel_after mission.spec mission.script (frames_noted (length mission.spec.procs) kseat)
-  pub walk_is : IsWalk mission.spec mission.script walk.frame walk
-  pub walk_at : walk.frame ≡ frames_noted (length mission.spec.procs) kseat
   pub noted_are : AreNoted mission (kernel_frame kseat) (kernel_steps kseat) noted
 
 -- How a turn moves the kernel: it stays and has tried once more, or is as it was where nothing was left; it has noted more

@@ -1,5 +1,4 @@
 pub mod Frames
-pub mod Keeping
 pub mod Crews
 pub mod Kernels
 pub mod Landing

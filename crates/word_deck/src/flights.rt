@@ -4,12 +4,13 @@ ghost use Rattle.std.specs.Prelude.{◌≡◌, ◌≤◌, IfOk, length, vec_capa
 ghost use Rattle.frame_model.specs.Flights.{reports_of, rows_of};
 ghost use Rattle.trace_props.specs.Properties.{HoldsAll};
 ghost use Rattle.word_table.specs.Tables.{AreSeatsOf, IsKernelSeatOf, mission_in};
-ghost use Rattle.word_deck.specs.Flights.{AreAtTable, AreLanded, IsAtTable};
-ghost use Rattle.word_deck.specs.Kernels.{IsKernelDone};
+ghost use Rattle.word_deck.specs.Flights.{AreAtTable, AreLanded, AreOpen, IsAtTable};
+ghost use Rattle.word_deck.specs.Kernels.{IsKernelDone, frames_noted};
 
 use crate::kernels::KernelCrew;
 use crate::landings::{Deck, Kit, Shelf};
 use crate::scopes::{Hangar, fly};
+use crate::watched::WatchedKernel;
 use app_model::Rack;
 use coverage_check::Mission;
 use scram_kernel::Kernel;
@@ -19,6 +20,7 @@ use std::sync::Wait;
 use std::thread;
 use std::thread::Threads;
 use std::vec::IntoIter;
+use telemetry_tap::Watch;
 use trace_props::missions::reconfigurations_are_assured;
 use word_table::{KSeat, Seat, WordTable, Words};
 
@@ -34,6 +36,7 @@ pub struct WordFlight<'a> {
     ghost of: { mission_in words ≡ mission.now },
     ghost same: { kernel.mission.now ≡ mission.now },
     ghost seated: { IsAtTable words kernel.kseat },
+    ghost fresh: { frames_noted (length mission.now.spec.procs) kernel.kseat ≡ 0 },
     ghost waiting: { AreAtTable words hangar.waiting.items },
     ghost all: { vec_len hangar.waiting ≡ length mission.now.spec.procs },
     ghost none_own: { vec_len hangar.own ≡ 0 },
@@ -42,7 +45,7 @@ pub struct WordFlight<'a> {
     ghost room: { vec_len hangar.waiting ≤ vec_capacity hangar.landed },
 }
 
-/// What comes of a flight: the trace, and the words with all their seats, each where nothing is left to do. The seats
+/// The result of a flight: the trace, and the words with all their seats, each where nothing is left to do. The seats
 /// of the processors stand in the order of their numbers.
 #[derive(Drop)]
 pub struct Landed<'a> {
@@ -53,8 +56,8 @@ pub struct Landed<'a> {
 }
 
 impl<'a> WordFlight<'a> {
-    /// A flight of a mission with these boxes, and these for restarts: rack `p` is that of processor `p`. All memory of
-    /// the flight is taken here; the only refusal is want of it.
+    /// Returns a flight of a mission with these boxes, and these for restarts: rack `p` is that of processor `p`. All
+    /// memory of the flight is allocated here; the only error is out of memory.
     #[tactic(auto, using(crate::proofs::Outcomes::at_table))]
     pub fn open(
         alloc: Global,
@@ -86,8 +89,9 @@ impl<'a> WordFlight<'a> {
     }
 
     /// Flies the mission with a thread for each processor and the kernel on the caller's. A processor for which no
-    /// thread can be made flies in the caller's turns. What comes of it is the one-thread trace, of which SP1 to SP5
-    /// hold, and the words with all seats, each where nothing is left to do. It waits for threads and has no refusal.
+    /// thread can be made flies in the caller's turns. The result is the one-thread trace, of which SP1 to SP5 hold,
+    /// and the words with all seats, each where nothing is left to do. It blocks until the threads have ended, and
+    /// has no error.
     pub fn run<R: Threads + Wait + Sync>(self, rt: &R) -> Landed<'a>
         ensures rows { result.flown.rows ≡ rows_of self.entry.mission.now.spec self.entry.mission.now.script }
         ensures reports { result.flown.reports ≡ reports_of self.entry.mission.now.spec self.entry.mission.now.script }
@@ -118,6 +122,60 @@ impl<'a> WordFlight<'a> {
         ensures seats { AreSeatsOf result.words.table result.seats.items }
         ensures landed { AreLanded result.words.table result.seats.items }
     {
+        let mission = self.mission;
+        let (deck, kernel, hangar) = self.prepare(rt, asked);
+        let (kernel, seats) = fly(rt, mission, &deck, kernel, hangar);
+        land_all(mission, deck, kernel, seats)
+    }
+
+    /// Flies as `run` does, and hands each row to a watch as the kernel writes it. The watch has then taken all rows.
+    pub fn run_watched<W: Watch, R: Threads + Wait + Sync>(
+        self,
+        rt: &R,
+        watch: &mut W,
+    ) -> Landed<'a>
+        requires watched { W.watched watch.old ≡ self.mission.now }
+        requires taken { W.taken watch.old ≡ 0 }
+        ensures rows { result.flown.rows ≡ rows_of self.entry.mission.now.spec self.entry.mission.now.script }
+        ensures reports { result.flown.reports ≡ reports_of self.entry.mission.now.spec self.entry.mission.now.script }
+        ensures assured { HoldsAll self.entry.mission.now.spec result.flown.rows result.flown.reports }
+        ensures count { length result.flown.rows ≡ self.entry.mission.now.script.frames }
+        ensures few { length result.flown.reports ≤ length result.flown.rows }
+        ensures mission { result.words.mission ≡ self.entry.mission }
+        ensures table { result.words.table.table ≡ self.entry.words.table }
+        ensures kernel { IsKernelSeatOf result.words.table result.kseat }
+        ensures kernel_done { IsKernelDone (length self.entry.mission.now.spec.procs) self.entry.mission.now.script.frames result.kseat }
+        ensures seats { AreSeatsOf result.words.table result.seats.items }
+        ensures landed { AreLanded result.words.table result.seats.items }
+        ensures watched { W.watched watch.new ≡ self.entry.mission.now }
+        ensures taken { W.taken watch.new ≡ self.entry.mission.now.script.frames }
+    {
+        let mission = self.mission;
+        let (deck, kernel, hangar) = self.prepare(rt, [true; 8]);
+        let kernel = WatchedKernel { kernel, watch };
+        let (kernel, seats) = fly(rt, mission, &deck, kernel, hangar);
+        // A name for the reference, since the proof else does not learn what stands behind it.
+        let WatchedKernel {
+            kernel,
+            watch: _last,
+        } = kernel;
+        land_all(mission, deck, kernel, seats)
+    }
+
+    // Returns what a flight starts with, where threads are asked for these processors.
+    fn prepare<R: Threads>(self, rt: &R, asked: [bool; 8]) -> (Deck, KernelCrew<'a>, Hangar)
+        ensures table { result.0.words.table ≡ self.entry.words.table }
+        ensures mission { mission_in result.0.words ≡ self.entry.mission.now }
+        ensures same { result.1.mission.now ≡ self.entry.mission.now }
+        ensures seated { IsKernelSeatOf result.0.words result.1.kseat }
+        ensures fresh { frames_noted (length self.entry.mission.now.spec.procs) result.1.kseat ≡ 0 }
+        ensures waiting { AreOpen result.0.words result.2.waiting.items }
+        ensures all { vec_len result.2.waiting ≡ length self.entry.mission.now.spec.procs }
+        ensures own { vec_len result.2.own ≡ 0 }
+        ensures landed { vec_len result.2.landed ≡ 0 }
+        ensures own_room { vec_len result.2.waiting ≤ vec_capacity result.2.own }
+        ensures room { vec_len result.2.waiting ≤ vec_capacity result.2.landed }
+    {
         let WordFlight {
             mission,
             mut words,
@@ -132,27 +190,56 @@ impl<'a> WordFlight<'a> {
             shelves,
             asked,
         };
-        let (kernel, seats) = fly(rt, mission, &deck, kernel, hangar);
-        let Deck {
-            words: table,
-            shelves: _,
-            asked: _,
-        } = deck;
-        let (kseat, kernel) = kernel.into_parts();
-        reconfigurations_are_assured();
-        Landed {
-            flown: kernel.finish(),
-            words: Words { mission, table },
-            kseat,
-            seats,
-        }
+        (deck, kernel, hangar)
     }
 }
 
-// The least of the numbers that were measured (docs/PERFORMANCE.md) by which no thread sleeps while each has a processor.
+// Returns what has come of a flight whose kernel has made its last note and whose processors have landed.
+fn land_all<'a>(
+    mission: &'a Mission,
+    deck: Deck,
+    kernel: KernelCrew<'a>,
+    seats: Vec<Seat>,
+) -> Landed<'a>
+    requires mission { mission_in deck.words ≡ mission.now }
+    requires same { kernel.mission.now ≡ mission.now }
+    requires seated { IsKernelSeatOf deck.words kernel.kseat }
+    requires done { IsKernelDone (length mission.now.spec.procs) mission.now.script.frames kernel.kseat }
+    requires seats { AreLanded deck.words seats.items }
+    requires all { vec_len seats ≡ length mission.now.spec.procs }
+    ensures rows { result.flown.rows ≡ rows_of mission.entry.now.spec mission.entry.now.script }
+    ensures reports { result.flown.reports ≡ reports_of mission.entry.now.spec mission.entry.now.script }
+    ensures assured { HoldsAll mission.entry.now.spec result.flown.rows result.flown.reports }
+    ensures count { length result.flown.rows ≡ mission.entry.now.script.frames }
+    ensures few { length result.flown.reports ≤ length result.flown.rows }
+    ensures mission { result.words.mission ≡ mission.entry }
+    ensures table { result.words.table.table ≡ deck.words.table }
+    ensures kernel { IsKernelSeatOf result.words.table result.kseat }
+    ensures kernel_done { IsKernelDone (length mission.entry.now.spec.procs) mission.entry.now.script.frames result.kseat }
+    ensures seats { AreSeatsOf result.words.table result.seats.items }
+    ensures landed { AreLanded result.words.table result.seats.items }
+{
+    let Deck {
+        words: table,
+        shelves: _,
+        asked: _,
+    } = deck;
+    let (kseat, kernel) = kernel.into_parts();
+    mission.holds();
+    reconfigurations_are_assured();
+    Landed {
+        flown: kernel.finish(),
+        words: Words { mission, table },
+        kseat,
+        seats,
+    }
+}
+
+// The least of the numbers that were measured (docs/PERFORMANCE.md) at which no thread parks while each has a
+// processor.
 const TURNS: u32 = 10_000;
 
-// How often a rest looks before it sleeps: not at all on a machine of one processor.
+// Returns how many times a wait spins before it parks: 0 on a machine with one processor.
 fn turns_of<R: Threads>(rt: &R) -> u32 {
     match thread::available_parallelism(rt) {
         Ok(count) if count.get() > 1 => TURNS,
@@ -160,7 +247,7 @@ fn turns_of<R: Threads>(rt: &R) -> u32 {
     }
 }
 
-// A shelf for each processor, with its racks.
+// Returns a shelf for each processor, with its racks.
 fn shelves(alloc: Global, racks: Vec<Rack>, spares: Vec<Rack>) -> [Shelf; 8] {
     let mut racks = racks.into_iter();
     let mut spares = spares.into_iter();

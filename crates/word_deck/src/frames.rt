@@ -69,7 +69,7 @@ pub(crate) fn commit(words: &WordTable, seat: &mut Seat, image: &Image, width: u
     words.done(seat);
 }
 
-/// Makes the steps of a frame up to the halt that comes after so many of them, and halts.
+/// Makes the steps of a frame up to the halt, which comes after this number of them, and halts.
 #[tactic(auto, using(crate::proofs::Steps::halts_on, crate::proofs::Steps::stopped))]
 pub(crate) fn halt_after(words: &WordTable, seat: &mut Seat, image: &Image, width: u32, step: u32)
     requires seat { IsSeatOf words.now seat.old }
@@ -88,7 +88,7 @@ pub(crate) fn halt_after(words: &WordTable, seat: &mut Seat, image: &Image, widt
     words.halt(seat);
 }
 
-// Makes so many stores, or all of them and the flip.
+// Makes this number of stores, or all of them and the flip.
 #[tactic(auto, using(crate::proofs::Steps::flips_on, crate::proofs::Steps::halts_then, crate::proofs::Steps::flipped))]
 fn make_steps(words: &WordTable, seat: &mut Seat, image: &Image, width: u32, step: u32)
     requires seat { IsSeatOf words.now seat.old }

@@ -1,7 +1,6 @@
 //! The kernel with what it needs in a flight.
 
 ghost use Rattle.std.specs.Prelude.{◌≡◌, ◌↔◌, ◌+◌, ◌<◌, ◌≤◌, length};
-ghost use Rattle.fault_script.specs.Walks.{IsWalk};
 ghost use Rattle.frame_model.specs.Storage.{kernel_image};
 ghost use Rattle.scram_kernel.specs.Kernels.{kernel_after, rows_below};
 ghost use Rattle.word_table.specs.Tables.{IsKernelSeatOf, mission_in, kernel_frame, kernel_steps, kernel_tries};
@@ -11,7 +10,6 @@ ghost use Rattle.word_deck.specs.declared.turns.Turn.TheVariants.{Finished};
 use crate::turns::Turn;
 use bank_words::{KernelImage, kernel_encode};
 use coverage_check::Mission;
-use fault_script::Walk;
 use scram_kernel::Kernel;
 use scram_types::{Image, ProcId, Row};
 use word_table::{KSeat, WordTable};
@@ -23,20 +21,19 @@ pub(crate) struct Noted {
     pub(crate) images: [Image; 8],
 }
 
-/// The kernel of a flight on words: its seat, its log, its walk along the script, and what it has noted in its frame.
-/// Its rows are those of the frames in which it has noted every processor.
+/// The kernel of a flight on words at its seat, and what it has noted in its frame. Its rows are those of the frames in
+/// which it has noted every processor.
 #[derive(Drop)]
 pub struct KernelCrew<'a> {
     pub mission: &'a Mission,
     pub kseat: KSeat,
     pub kernel: Kernel<'a>,
-    pub(crate) walk: Walk,
     pub(crate) noted: Noted,
-    ghost keeps: { KernelCrewKeeps mission.now kseat kernel walk noted },
+    ghost keeps: { KernelCrewKeeps mission.now kseat kernel noted },
 }
 
 impl<'a> KernelCrew<'a> {
-    /// The kernel before the first frame, with its seat. It takes no memory.
+    /// Returns the kernel before the first frame at its seat.
     #[tactic(auto, using(crate::proofs::Noting::below))]
     pub fn kernel(mission: &'a Mission, kseat: KSeat, kernel: Kernel<'a>) -> KernelCrew<'a>
         requires frame { kernel_frame kseat ≡ 0 }
@@ -46,7 +43,6 @@ impl<'a> KernelCrew<'a> {
         ensures seat { result.kseat ≡ kseat }
     {
         mission.holds();
-        let walk = Walk::first(mission.spec(), mission.script());
         let noted = Noted {
             marks: [0; 8],
             images: [[0; 64]; 8],
@@ -55,23 +51,23 @@ impl<'a> KernelCrew<'a> {
             mission,
             kseat,
             kernel,
-            walk,
             noted,
         }
     }
 
-    /// The rows of the frames in which the kernel has noted every processor: the first rows of the one-thread trace. It
-    /// takes no memory.
+    /// Returns the rows of the frames in which the kernel has noted every processor: the first rows of the one-thread
+    /// trace.
     pub fn rows(&self) -> &[Row]
         ensures { let m = self.now.mission.now in result.now ≡ rows_below m.spec m.script (frames_noted (length m.spec.procs) self.now.kseat) }
     {
         self.kernel.rows()
     }
 
-    /// A turn: the kernel notes processors in order, as far as they are done with its frame or have halted. Once all are
-    /// noted it ends the frame, and where there is a next one it says what that is and releases it. `NotYet` comes only
-    /// where the end word that this call loads does not allow the next note; `Finished` comes exactly where the kernel
-    /// has then made its last note, or no frame is flown. It takes no memory and waits for nobody.
+    /// Tries to make the next steps of the kernel: it notes the processors, in order, that are done with its frame or
+    /// have halted. Once all are noted it ends the frame, and where there is a next one it says what that is and
+    /// releases it. `NotYet` comes only where the end word that this call loads does not allow the next note;
+    /// `Finished` comes exactly where the kernel has then made its last note, or no frame is flown. It does not
+    /// block.
     #[tactic(auto, using(crate::proofs::Noting::below, crate::proofs::Noting::all))]
     pub fn turn(&mut self, words: &WordTable) -> Turn
         requires mission { mission_in words.now ≡ self.old.mission.now }
@@ -94,7 +90,7 @@ impl<'a> KernelCrew<'a> {
         if self.kseat.steps() < procs {
             return Turn::Worked;
         }
-        let image = end_frame(self.mission, &self.noted, &mut self.kernel, &mut self.walk);
+        let image = end_frame(self.mission, &self.noted, &mut self.kernel);
         if self.kseat.frame() + 1 == frames {
             return Turn::Finished;
         }
@@ -102,7 +98,7 @@ impl<'a> KernelCrew<'a> {
         Turn::Worked
     }
 
-    /// The seat and the log. It takes no memory.
+    /// Returns the seat and the log.
     #[tactic(auto, using(crate::proofs::Noting::done_log))]
     pub(crate) fn into_parts(self) -> (KSeat, Kernel<'a>)
         ensures seat { result.0 ≡ self.entry.kseat }
@@ -112,7 +108,6 @@ impl<'a> KernelCrew<'a> {
             mission: _,
             kseat,
             kernel,
-            walk: _,
             noted: _,
         } = self;
         (kseat, kernel)
@@ -146,25 +141,17 @@ fn note_all(words: &WordTable, procs: u32, kseat: &mut KSeat, noted: &mut Noted)
     }
 }
 
-// Ends the frame all of whose processors have been noted: the kernel and the walk go on to the next one, and what the
-// kernel says of that comes back.
+// Ends the frame all of whose processors have been noted, and returns what the kernel says of the next one.
 #[tactic(auto, using(crate::proofs::Noting::images_for))]
-fn end_frame(mission: &Mission, noted: &Noted, kernel: &mut Kernel, walk: &mut Walk) -> KernelImage
+fn end_frame(mission: &Mission, noted: &Noted, kernel: &mut Kernel) -> KernelImage
     requires frame { kernel.old.past < mission.now.script.frames }
     requires kernel { kernel.old ≡ kernel_after mission.now.spec mission.now.script kernel.old.past }
     requires noted { AreNoted mission.now kernel.old.past (length mission.now.spec.procs) noted.now }
-    requires walk { IsWalk mission.now.spec mission.now.script walk.old.frame walk.old }
-    requires at { walk.old.frame ≡ kernel.old.past }
     ensures kernel { kernel.new ≡ kernel_after mission.now.spec mission.now.script (kernel.old.past + 1) }
-    ensures walk { IsWalk mission.now.spec mission.now.script walk.new.frame walk.new }
-    ensures at { walk.new.frame ≡ kernel.old.past + 1 }
     ensures image { result ≡ kernel_image mission.now.spec mission.now.script (kernel.old.past + 1) }
 {
     mission.holds();
-    let next = walk.next(mission.spec(), mission.script());
-    let factors = next.env.factors;
-    *walk = next;
-    kernel.tick(&noted.marks, &noted.images, factors)
+    kernel.tick(&noted.marks, &noted.images)
 }
 
 // Says what the next frame is, word by word, and releases it.

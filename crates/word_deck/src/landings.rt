@@ -1,5 +1,5 @@
-//! Processors that fly on threads of their own. A thread gives back the seat alone, since no handle of a thread is taken
-//! that gives back boxes. So the boxes of each processor lie on a shelf, from which whoever flies it takes them: its
+//! Processors that fly on threads of their own. A thread gives back the seat alone, since no handle of a thread is
+//! taken that gives back boxes. So the boxes of each processor lie on a shelf, from which they are taken by its
 //! thread, or the caller where no thread can be made.
 
 ghost use Rattle.std.specs.Prelude.{◌≡◌, IfErr, IfOk};
@@ -34,7 +34,7 @@ pub(crate) struct Shelf {
 }
 
 impl Shelf {
-    /// A shelf with this kit, if there is one.
+    /// Returns a shelf with this kit, if there is one.
     pub(crate) fn new(alloc: Global, kit: Option<Kit>) -> Shelf {
         Shelf {
             kit: Mutex::new(kit),
@@ -68,7 +68,8 @@ impl Promise<Landing> for Lander {
     ghost kept_by = { λ promise landing. Lands promise.0.value promise.1.value landing };
 }
 
-/// What the actors of a flight share: the words, a shelf for each processor, and for whom a thread is asked.
+/// What the actors of a flight share: the words, a shelf for each processor, and the processors for which a thread is
+/// asked.
 #[derive(Drop)]
 pub(crate) struct Deck {
     pub(crate) words: WordTable,
@@ -92,12 +93,7 @@ pub(crate) fn fly_crew<R: Wait>(
             Turn::Worked => {}
             Turn::NotYet => words.rest(rt, &crew.seat),
             Turn::Finished => {
-                let Crew {
-                    seat,
-                    live: _,
-                    halted: _,
-                    spare: _,
-                } = crew;
+                let Crew { seat, flyer: _ } = crew;
                 return seat;
             }
         }
@@ -170,8 +166,8 @@ fn fly_seat<R: Wait>(
     }
 }
 
-/// The processor that has this seat, with the kit from its shelf. No proof says that it lies there: where it does not, the
-/// processor flies with racks without boxes.
+/// Returns the processor that has this seat, with the kit from its shelf. No proof says that it lies there: where it
+/// does not, the processor flies with racks without boxes.
 #[tactic(auto, using(crate::proofs::Units::few))]
 pub(crate) fn crew_from<R: Wait>(rt: &R, words: &WordTable, shelf: &Shelf, seat: Seat) -> Crew
     requires seat { IsSeatOf words.now seat }
@@ -188,7 +184,8 @@ pub(crate) fn crew_from<R: Wait>(rt: &R, words: &WordTable, shelf: &Shelf, seat:
     }
 }
 
-/// The seat of a processor that has landed; one that has not flown is flown by the caller, with the kit from the shelf.
+/// Returns the seat of a processor that has landed; one that has not flown is flown by the caller, with the kit from
+/// the shelf.
 pub(crate) fn land<R: Wait>(
     rt: &R,
     mission: &Mission,

@@ -1,6 +1,7 @@
-//! Threads that fly a mission over shared words. A turn makes the steps of one actor on the table of words and nothing
-//! else: a processor's turn is its next frame, whole or up to its halt, and the kernel's turn notes whom it can and ends
-//! the frame once all are noted. Whoever makes which turn when, what comes of a flight is the one-thread trace.
+//! Threads that fly a mission over shared words. A turn makes the steps of one actor on the table of words and
+//! nothing else: a processor's turn is its next frame, whole or up to its halt, and the kernel's turn notes the
+//! processors that it can and ends the frame once all are noted. In whatever order the turns are made, the result of
+//! a flight is the one-thread trace.
 #![tactic(auto)]
 
 mod conductors;
@@ -11,6 +12,7 @@ pub mod kernels;
 pub mod landings;
 pub mod scopes;
 pub mod turns;
+mod watched;
 
 pub use crews::Crew;
 pub use flights::{Landed, WordFlight};

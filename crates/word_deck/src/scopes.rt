@@ -59,6 +59,7 @@ pub(crate) fn fly<K: Conductor, R: Threads + Wait + Sync>(
     ensures mission { K.mission_of result.0 ≡ mission.now }
     ensures seated { K.seated deck.now.words result.0 }
     ensures done { K.done deck.now.words result.0 }
+    ensures lent { K.lent result.0 ≡ K.lent kernel }
     ensures seats { AreLanded deck.now.words result.1.items }
     ensures count { vec_len result.1 ≡ vec_len hangar.waiting }
 {
@@ -77,6 +78,7 @@ pub(crate) fn fly<K: Conductor, R: Threads + Wait + Sync>(
             ensures mission { K.mission_of result.0 ≡ mission.entry.now }
             ensures seated { K.seated deck.entry.now.words result.0 }
             ensures done { K.done deck.entry.now.words result.0 }
+            ensures lent { K.lent result.0 ≡ K.lent kernel }
             ensures seats { AreLanded deck.entry.now.words result.1.items }
             ensures count { vec_len result.1 ≡ vec_len hangar.waiting }
         {
@@ -112,6 +114,7 @@ fn fly_rest<'s, E, K: Conductor, R: Threads + Wait + Sync>(
     ensures mission { K.mission_of result ≡ mission.now }
     ensures seated { K.seated deck.now.words result }
     ensures done { K.done deck.now.words result }
+    ensures lent { K.lent result ≡ K.lent kernel }
     ensures own { AllCrewsFit deck.now.words hangar.new.own.items }
     ensures numbers { numbers_in hangar.new.own.items ≡ numbers_in hangar.old.own.items }
     ensures seats { AreLanded deck.now.words hangar.new.landed.items }
@@ -139,7 +142,8 @@ fn fly_rest<'s, E, K: Conductor, R: Threads + Wait + Sync>(
     kernel
 }
 
-// The seat of a processor that has started, once it has landed: the caller waits for its thread, or flies it to its end.
+// Returns the seat of a processor that has started, once it has landed: the caller waits for its thread, or flies it
+// to its end.
 fn land_boarded<R: Threads + Wait>(
     rt: &R,
     mission: &Mission,
@@ -188,6 +192,7 @@ fn fly_kernel<K: Conductor, R: Wait>(
     ensures mission { K.mission_of result ≡ mission.now }
     ensures seated { K.seated words.now result }
     ensures done { K.done words.now result }
+    ensures lent { K.lent result ≡ K.lent kernel }
     ensures own { AllCrewsFit words.now own.new.items }
     ensures numbers { numbers_in own.new.items ≡ numbers_in own.old.items }
 {

@@ -1,4 +1,4 @@
--- What each kind of step is allowed to do, and what it tells.
+-- What each kind of step is allowed to do, and what it shows.
 use Rattle.std.proofs.Common.{◌≡◌, ℕ, zero, suc, ◌+◌, ◌-◌, ◌*◌, ◌%◌, ◌<◌, ◌≤◌, Bool, true, false, refl, sym, ap, subst, ◌∙◌, arith, List, [], ◌∷◌}
 use Rattle.std.specs.Prelude.{Option, Some, None, IfSome, nat_lt, slice_index, slice_set}
 use Rattle.std.specs.Bool.{MatchBool}

@@ -46,11 +46,6 @@ abbrev pub steps_of : Place → ℕ
 steps_of (At f n) = n
 steps_of (Halted h) = 0
 
--- The processor has halted.
-abbrev pub is_halted : Place → Bool
-is_halted (At f n) = false
-is_halted (Halted h) = true
-
 -- A place is in a flight: a step is made only in a frame that is flown.
 abbrev pub IsInFlight : Flight → Place → Type 0
 IsInFlight m (At f n) = (f ≤ m.frames) × (0 < n → f < m.frames)

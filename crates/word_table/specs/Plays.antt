@@ -1,4 +1,4 @@
--- What a step tells, of the step, the seat before, the number found and the seat after.
+-- What a step shows, of the step, the seat before, the number found and the seat after.
 use Rattle.std.specs.Prelude.{◌≡◌, ◌<◌, ℕ, Bool, false, List, [], ◌∷◌, ◌++◌, map, slice_index, None, IfSome, nat_lt}
 use Rattle.std.specs.Bool.{MatchBool}
 use Rattle.atomic_table.specs.Table.{Me, Step}
@@ -78,11 +78,11 @@ GoesOrTries ready go v after = MatchBool ready (Has after (each_actor go v)) (Ha
 abbrev pub GoesWhereItWaits : Type 0 → Bool → (Actor → Actor) → View → Sat → Type 0
 GoesWhereItWaits waits ready go v after = (waits → GoesOrTries ready go v after) × (¬ waits → Has after v)
 
--- What a load of word i tells that may be a start.
+-- What a load of word i shows that may be a start.
 abbrev pub TellsStart : Flight → ℕ → ℕ → View → Sat → Type 0
 TellsStart m i n v after = GoesWhereItWaits (AwaitsRelease m i v.actors) (may_start m v.actors n) (begun m) v after
 
--- What a load of word i tells that may be a note.
+-- What a load of word i shows that may be a note.
 abbrev pub TellsNote : Flight → ℕ → ℕ → View → Sat → Type 0
 TellsNote m i n v after = GoesWhereItWaits (AwaitsEnd m i v.actors) (can_note m v.actors n) one_more v after
 

@@ -70,7 +70,7 @@ AreOpening seats = (p : ℕ) (seat : Seat) → slice_get seats p ≡ Some seat �
 abbrev pub has_halted_by : Flight → ℕ → ℕ → Bool
 has_halted_by m p k = not (m.up p k && is_none (m.halt p k))
 
--- The mark of a processor where it stands is that of so many frames of a mission.
+-- The mark of a processor where it stands is that of this number of frames of a mission.
 abbrev pub frames_marked : MissionParts → Place → ℕ
 frames_marked mission place = marked (mission_flight mission) place
 

@@ -1,4 +1,5 @@
-//! What a seat at the table knows, the rule that every step keeps, and what a step tells. No value of these types is made.
+//! What a seat at the table knows, the rule that every step keeps, and what a step shows. No value of these types is
+//! made.
 
 use atomic_table::{Join, Play, Split, TableRule};
 use coverage_check::Mission;

@@ -29,8 +29,7 @@ pub struct LastWords {
 
 impl WordTable {
     /// Ends the table: all its seats are given back, and the marks and the marked images are those of the frames that
-    /// each processor has committed where it stands. Past the last processor both are zero. It takes no memory and waits
-    /// for nobody.
+    /// each processor has committed where it stands. Past the last processor both are zero. It does not block.
     pub fn close(self, kseat: KSeat, seats: Vec<Seat>) -> LastWords
         requires kernel { IsKernelSeatOf self kseat }
         requires seats { AreSeatsOf self seats.items }
@@ -81,7 +80,7 @@ impl WordTable {
     }
 }
 
-// The marks and the images that they name, as they stand in the words.
+// Returns the marks and the images that they name, as they stand in the words.
 fn last_words(closed: &Closed<(), Global>, procs: usize, width: usize) -> LastWords
     requires full { IsFull closed.now.words }
     requires places { slots_len closed.now.words ≡ places_of_words }
@@ -101,7 +100,7 @@ fn last_words(closed: &Closed<(), Global>, procs: usize, width: usize) -> LastWo
     LastWords { images, marks }
 }
 
-// The image whose words stand from place `at` on.
+// Returns the image whose words stand from place `at` on.
 fn stored_image(closed: &Closed<(), Global>, at: usize, width: usize) -> Image
     requires full { IsFull closed.now.words }
     requires places { slots_len closed.now.words ≡ places_of_words }

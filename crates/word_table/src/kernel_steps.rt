@@ -24,9 +24,9 @@ pub struct Marked {
 }
 
 impl WordTable {
-    /// Notes a processor in the kernel's frame, once it is done with it or has halted: `Some` is what it has committed
-    /// by the end of that frame. `None` comes only where the end word that this call loads does not allow the note. It
-    /// takes no memory and waits for nobody.
+    /// Tries to note that a processor is done with the kernel's frame or has halted: `Some` is what it has committed
+    /// by the end of that frame. `None` comes only where the end word that this call loads does not allow the note.
+    /// It does not block.
     pub fn gone(&self, kseat: &mut KSeat, p: ProcId) -> Option<Marked>
         requires seat { IsKernelSeatOf self.now kseat.old }
         requires frame { kernel_frame kseat.old < (mission_in self.now).script.frames }
@@ -58,7 +58,7 @@ impl WordTable {
         })
     }
 
-    /// Whether a processor may be noted in a frame, by its end word.
+    /// Returns whether a processor may be noted in a frame, by its end word.
     pub(crate) fn may_note(&self, p: ProcId, frame: u32, end: u64) -> bool
         requires { p.0 < 8 }
         ensures { result ≡ may_note (flight_in self.now) p.0 frame end }
@@ -66,7 +66,7 @@ impl WordTable {
         may_note(self.restarts[usize::from(p.0)], frame, end)
     }
 
-    /// Stores word `i` of what the kernel says of the next frame. It takes no memory and waits for nobody.
+    /// Stores word `i` of what the kernel says of the next frame. It does not block.
     pub fn publish(&self, kseat: &mut KSeat, i: u32, word: u64)
         requires seat { IsKernelSeatOf self.now kseat.old }
         requires i { i < 20 }
@@ -85,7 +85,7 @@ impl WordTable {
         kseat.step += 1;
     }
 
-    /// Releases the next frame, and wakes the processors that sleep on that. It takes no memory and waits for nobody.
+    /// Releases the next frame, and wakes the processors that are parked on it. It does not block.
     pub fn release(&self, kseat: &mut KSeat)
         requires seat { IsKernelSeatOf self.now kseat.old }
         requires next { kernel_steps kseat.old ≡ length (mission_in self.now).spec.procs + 20 }

@@ -29,7 +29,7 @@ impl WordTable {
         self.table.shared.load::<Reads>(seat, i)
     }
 
-    /// The words of an image from word `from` on, which stand from place `at` on.
+    /// Returns the words of an image from word `from` on, which stand from place `at` on.
     pub(crate) fn read_image(&self, seat: &mut Seat<(), View>, at: usize, from: usize) -> Image
         requires table { seat.old.table_id ≡ self.now.table.shared.table_id }
         requires holds { IsFlown (mission_in self.now) }
@@ -48,7 +48,7 @@ impl WordTable {
         image
     }
 
-    /// The bank of a processor that a reader in a frame takes.
+    /// Returns the bank of a processor that a reader in a frame takes.
     pub(crate) fn bank_picked(&self, seat: &mut Seat<(), View>, frame: u32, q: ProcId) -> usize
         requires table { seat.old.table_id ≡ self.now.table.shared.table_id }
         requires holds { IsFlown (mission_in self.now) }
@@ -65,7 +65,7 @@ impl WordTable {
         usize::from(pick(mark, frame))
     }
 
-    /// The kernel's words.
+    /// Returns the kernel's words.
     pub(crate) fn read_kernel(&self, seat: &mut Seat<(), View>) -> [u64; 20]
         requires table { seat.old.table_id ≡ self.now.table.shared.table_id }
         requires holds { IsFlown (mission_in self.now) }

@@ -25,8 +25,8 @@ use scram_types::{NoMemory, ProcId, Script};
 use std::alloc::Global;
 
 impl WordTable {
-    /// The words of a mission before its first frame, the kernel's seat, and the seats of the processors in order, each
-    /// where its actor opens. The only refusal is want of memory.
+    /// Returns the words of a mission before its first frame, the kernel's seat, and the seats of the processors in
+    /// order, each where its actor opens. The only error is out of memory.
     pub fn open(alloc: Global, mission: &Mission) -> Result<(WordTable, KSeat, Vec<Seat>), NoMemory>
         ensures mission { IfOk result (λ t. mission_in t.0 ≡ mission.now) }
         ensures kernel { IfOk result (λ t. IsKernelSeatOf t.0 t.1) }
@@ -45,7 +45,7 @@ impl WordTable {
         Ok((table, kseat, seats))
     }
 
-    // The table, and the first seat, which has all actors.
+    // Returns the table, and the first seat, which has all actors.
     fn lay(
         alloc: Global,
         mission: &Mission,

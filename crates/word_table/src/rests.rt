@@ -1,4 +1,5 @@
-//! Sleeping until there may be something to do. Nothing is promised: a rest may end for no reason.
+//! Waiting until there may be something to do: a wait spins, and then parks. Nothing is promised: it may end without
+//! a cause.
 
 ghost use Rattle.std.specs.Prelude.{◌≡◌, ◌<◌};
 ghost use Rattle.fail_stop.specs.Listed.{places_of_words};
@@ -11,7 +12,8 @@ use scram_types::ProcId;
 use std::sync::Wait;
 
 impl WordTable {
-    /// May sleep while the release does not show the frame for which the seat waits. It may end for no reason.
+    /// Spins and then parks while the release does not show the frame for which the seat waits. It may end without a
+    /// cause.
     pub fn rest<R: Wait>(&self, rt: &R, seat: &Seat)
         requires { IsSeatOf self.now seat.now }
     {
@@ -29,7 +31,7 @@ impl WordTable {
         }
     }
 
-    /// May sleep while the processor whose note is next may not be noted. It may end for no reason.
+    /// Spins and then parks while the processor whose note is next may not be noted. It may end without a cause.
     pub fn rest_kernel<R: Wait>(&self, rt: &R, kseat: &KSeat) {
         if kseat.step >= self.procs {
             return;

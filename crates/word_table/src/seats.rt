@@ -32,31 +32,32 @@ pub struct KSeat {
 
 impl Seat {
     ghost use Rattle.fail_stop.specs.Events.{frame_of};
-    ghost use Rattle.word_table.specs.Actors.{is_halted, steps_of};
+    ghost use Rattle.fail_stop.specs.Events.{is_halted};
+    ghost use Rattle.word_table.specs.Actors.{steps_of};
     ghost use Rattle.word_table.specs.Tables.{seat_place, proc_of};
 
-    /// The seat's processor. It takes no memory.
+    /// Returns the seat's processor.
     pub fn proc(&self) -> ProcId
         ensures { result.0 ≡ proc_of self.now }
     {
         self.proc
     }
 
-    /// The frame in which the processor stands; where it has halted, that in which it halted. It takes no memory.
+    /// Returns the frame in which the processor stands; where it has halted, that in which it halted.
     pub fn frame(&self) -> u32
         ensures { result ≡ frame_of (seat_place self.now) }
     {
         self.frame
     }
 
-    /// How many steps the processor has made in its frame; 0 where it has halted. It takes no memory.
+    /// Returns how many steps the processor has made in its frame; 0 where it has halted.
     pub fn steps(&self) -> u32
         ensures { result ≡ steps_of (seat_place self.now) }
     {
         self.step
     }
 
-    /// Whether the processor has halted. It takes no memory.
+    /// Returns whether the processor has halted.
     pub fn halted(&self) -> bool
         ensures { result ≡ is_halted (seat_place self.now) }
     {
@@ -67,14 +68,14 @@ impl Seat {
 impl KSeat {
     ghost use Rattle.word_table.specs.Tables.{kernel_frame, kernel_steps};
 
-    /// The frame in which the kernel stands. It takes no memory.
+    /// Returns the frame in which the kernel stands.
     pub fn frame(&self) -> u32
         ensures { result ≡ kernel_frame self.now }
     {
         self.frame
     }
 
-    /// How many steps the kernel has made in its frame. It takes no memory.
+    /// Returns how many steps the kernel has made in its frame.
     pub fn steps(&self) -> u32
         ensures { result ≡ kernel_steps self.now }
     {

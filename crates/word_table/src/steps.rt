@@ -20,9 +20,9 @@ use fail_stop::words::{bank_index, end_index, mark_index};
 use scram_types::{Image, ProcId};
 
 impl WordTable {
-    /// Starts the frame for which the seat waits, once it is released: `Some` is what the kernel says of that frame. A
-    /// processor that has halted starts the frame of its restart. `None` comes only where the release that this call
-    /// loads does not show the frame. It takes no memory and waits for nobody.
+    /// Tries to start the frame for which the seat waits: `Some` is what the kernel says of that frame. A processor
+    /// that has halted starts the frame of its restart. `None` comes only where the release that this call loads does
+    /// not show the frame. It does not block.
     pub fn started(&self, seat: &mut Seat) -> Option<KernelImage>
         requires seat { IsSeatOf self.now seat.old }
         requires waits { Waits (flight_in self.now) (proc_of seat.old) (seat_place seat.old) }
@@ -44,7 +44,7 @@ impl WordTable {
         Some(kernel_decode(&self.read_kernel(&mut seat.inner)))
     }
 
-    /// The frame for whose release a seat waits.
+    /// Returns the frame for whose release a seat waits.
     pub(crate) fn frame_awaited(&self, seat: &Seat) -> u32
         requires { proc_of seat.now < 8 }
         ensures { result ≡ frame_awaited (flight_in self.now) (proc_of seat.now) (seat_place seat.now) }
@@ -58,7 +58,7 @@ impl WordTable {
         }
     }
 
-    /// The image of a processor as the frame of the seat begins. It takes no memory and waits for nobody.
+    /// Returns the image of a processor as the frame of the seat begins. It does not block.
     pub fn look(&self, seat: &mut Seat, q: ProcId) -> Image
         requires seat { IsSeatOf self.now seat.old }
         requires q { q.0 < length (mission_in self.now).spec.procs }
@@ -77,8 +77,7 @@ impl WordTable {
         image
     }
 
-    /// Stores word `i` of the draft of the seat's frame in the bank that the mark does not name. It takes no memory and
-    /// waits for nobody.
+    /// Stores word `i` of the draft of the seat's frame in the bank that the mark does not name. It does not block.
     pub fn store(&self, seat: &mut Seat, i: u32, word: u64)
         requires seat { IsSeatOf self.now seat.old }
         requires next { step_at (flight_in self.now) (proc_of seat.old) (seat_place seat.old) ≡ Some (Store (proc_id (proc_of seat.old)) i) }
@@ -94,8 +93,8 @@ impl WordTable {
         seat.step += 1;
     }
 
-    /// Commits the frame of the seat: the mark names it, and the bank in which its draft was stored. It takes no memory
-    /// and waits for nobody.
+    /// Commits the frame of the seat: the mark names it, and the bank in which its draft was stored. It does not
+    /// block.
     pub fn flip(&self, seat: &mut Seat)
         requires seat { IsSeatOf self.now seat.old }
         requires next { step_at (flight_in self.now) (proc_of seat.old) (seat_place seat.old) ≡ Some (Flip (proc_id (proc_of seat.old))) }
@@ -111,7 +110,7 @@ impl WordTable {
         seat.step += 1;
     }
 
-    /// Ends the frame of the seat, and wakes the kernel where it sleeps on that. It takes no memory and waits for nobody.
+    /// Ends the frame of the seat, and wakes the kernel if it is parked on that. It does not block.
     pub fn done(&self, seat: &mut Seat)
         requires seat { IsSeatOf self.now seat.old }
         requires next { step_at (flight_in self.now) (proc_of seat.old) (seat_place seat.old) ≡ Some (Done (proc_id (proc_of seat.old))) }
@@ -128,8 +127,7 @@ impl WordTable {
         self.table.shared.wake_one(at);
     }
 
-    /// Halts the seat's processor in its frame, and wakes the kernel where it sleeps on that. It takes no memory and
-    /// waits for nobody.
+    /// Halts the seat's processor in its frame, and wakes the kernel if it is parked on that. It does not block.
     pub fn halt(&self, seat: &mut Seat)
         requires seat { IsSeatOf self.now seat.old }
         requires next { step_at (flight_in self.now) (proc_of seat.old) (seat_place seat.old) ≡ Some (Halt (proc_id (proc_of seat.old))) }

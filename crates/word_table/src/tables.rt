@@ -22,8 +22,7 @@ pub struct WordTable {
 impl WordTable {
     ghost use Rattle.std.specs.Prelude.{◌≡◌};
 
-    /// A rest looks so many times whether it may end before it sleeps; none where nobody says otherwise. It takes no
-    /// memory.
+    /// Sets how many times a wait spins before it parks; 0 unless it is set.
     pub fn set_turns(&mut self, turns: u32)
         ensures { self.new.table ≡ self.old.table }
     {

@@ -12,7 +12,8 @@ use scram_types::{Image, NoMemory, ProcId};
 use std::alloc::Global;
 use std::sync::Wait;
 
-/// The shared words of a mission. What threads share of it is the table, whose calls these pass on.
+/// The shared atomic words of a mission, with the mission. Threads share the table of words in it; the calls here
+/// forward to the table.
 #[derive(Drop)]
 pub struct Words<'a> {
     pub mission: &'a Mission,
@@ -34,8 +35,8 @@ impl<'a> Words<'a> {
     ghost use Rattle.word_table.specs.Tables.{AreOpening, AreSeatsOf, IsKernelSeatOf, IsSeatOf, flight_in, mission_in, frames_marked, has_halted_by, kernel_frame, kernel_steps, kernel_tries, seat_place, proc_of, tries_of};
     ghost use Rattle.word_table.specs.declared.seats.Seat as seat_types;
 
-    /// The words of a mission before its first frame, the kernel's seat, and the seats of the processors in order, each
-    /// where its actor opens. The only refusal is want of memory.
+    /// Returns the words of a mission before its first frame, the kernel's seat, and the seats of the processors in
+    /// order, each where its actor opens. The only error is out of memory.
     pub fn open(
         alloc: Global,
         mission: &'a Mission,
@@ -50,16 +51,16 @@ impl<'a> Words<'a> {
         Ok((Words { mission, table }, kseat, seats))
     }
 
-    /// The mission whose words these are. It takes no memory.
+    /// Returns the mission whose words these are.
     pub fn mission(&self) -> &Mission
         ensures { result.now ≡ mission_in self.now.table }
     {
         self.mission
     }
 
-    /// Starts the frame for which the seat waits, once it is released: `Some` is what the kernel says of that frame. A
-    /// processor that has halted starts the frame of its restart. `None` comes only where the release that this call
-    /// loads does not show the frame. It takes no memory and waits for nobody.
+    /// Tries to start the frame for which the seat waits: `Some` is what the kernel says of that frame. A processor
+    /// that has halted starts the frame of its restart. `None` comes only where the release that this call loads does
+    /// not show the frame. It does not block.
     pub fn started(&self, seat: &mut Seat) -> Option<KernelImage>
         requires seat { IsSeatOf self.now.table seat.old }
         requires waits { Waits (flight_in self.now.table) (proc_of seat.old) (seat_place seat.old) }
@@ -72,7 +73,7 @@ impl<'a> Words<'a> {
         self.table.started(seat)
     }
 
-    /// The image of a processor as the frame of the seat begins. It takes no memory and waits for nobody.
+    /// Returns the image of a processor as the frame of the seat begins. It does not block.
     pub fn look(&self, seat: &mut Seat, q: ProcId) -> Image
         requires seat { IsSeatOf self.now.table seat.old }
         requires q { q.0 < length (mission_in self.now.table).spec.procs }
@@ -86,8 +87,7 @@ impl<'a> Words<'a> {
         self.table.look(seat, q)
     }
 
-    /// Stores word `i` of the draft of the seat's frame in the bank that the mark does not name. It takes no memory and
-    /// waits for nobody.
+    /// Stores word `i` of the draft of the seat's frame in the bank that the mark does not name. It does not block.
     pub fn store(&self, seat: &mut Seat, i: u32, word: u64)
         requires seat { IsSeatOf self.now.table seat.old }
         requires next { step_at (flight_in self.now.table) (proc_of seat.old) (seat_place seat.old) ≡ Some (Store (proc_id (proc_of seat.old)) i) }
@@ -100,8 +100,8 @@ impl<'a> Words<'a> {
         self.table.store(seat, i, word);
     }
 
-    /// Commits the frame of the seat: the mark names it, and the bank in which its draft was stored. It takes no memory
-    /// and waits for nobody.
+    /// Commits the frame of the seat: the mark names it, and the bank in which its draft was stored. It does not
+    /// block.
     pub fn flip(&self, seat: &mut Seat)
         requires seat { IsSeatOf self.now.table seat.old }
         requires next { step_at (flight_in self.now.table) (proc_of seat.old) (seat_place seat.old) ≡ Some (Flip (proc_id (proc_of seat.old))) }
@@ -113,7 +113,7 @@ impl<'a> Words<'a> {
         self.table.flip(seat);
     }
 
-    /// Ends the frame of the seat, and wakes the kernel where it sleeps on that. It takes no memory and waits for nobody.
+    /// Ends the frame of the seat, and wakes the kernel if it is parked on that. It does not block.
     pub fn done(&self, seat: &mut Seat)
         requires seat { IsSeatOf self.now.table seat.old }
         requires next { step_at (flight_in self.now.table) (proc_of seat.old) (seat_place seat.old) ≡ Some (Done (proc_id (proc_of seat.old))) }
@@ -125,8 +125,7 @@ impl<'a> Words<'a> {
         self.table.done(seat);
     }
 
-    /// Halts the seat's processor in its frame, and wakes the kernel where it sleeps on that. It takes no memory and
-    /// waits for nobody.
+    /// Halts the seat's processor in its frame, and wakes the kernel if it is parked on that. It does not block.
     pub fn halt(&self, seat: &mut Seat)
         requires seat { IsSeatOf self.now.table seat.old }
         requires next { step_at (flight_in self.now.table) (proc_of seat.old) (seat_place seat.old) ≡ Some (Halt (proc_id (proc_of seat.old))) }
@@ -138,9 +137,9 @@ impl<'a> Words<'a> {
         self.table.halt(seat);
     }
 
-    /// Notes a processor in the kernel's frame, once it is done with it or has halted: `Some` is what it has committed
-    /// by the end of that frame. `None` comes only where the end word that this call loads does not allow the note. It
-    /// takes no memory and waits for nobody.
+    /// Tries to note that a processor is done with the kernel's frame or has halted: `Some` is what it has committed
+    /// by the end of that frame. `None` comes only where the end word that this call loads does not allow the note.
+    /// It does not block.
     pub fn gone(&self, kseat: &mut KSeat, p: ProcId) -> Option<Marked>
         requires seat { IsKernelSeatOf self.now.table kseat.old }
         requires frame { kernel_frame kseat.old < (mission_in self.now.table).script.frames }
@@ -157,7 +156,7 @@ impl<'a> Words<'a> {
         self.table.gone(kseat, p)
     }
 
-    /// Stores word `i` of what the kernel says of the next frame. It takes no memory and waits for nobody.
+    /// Stores word `i` of what the kernel says of the next frame. It does not block.
     pub fn publish(&self, kseat: &mut KSeat, i: u32, word: u64)
         requires seat { IsKernelSeatOf self.now.table kseat.old }
         requires i { i < 20 }
@@ -172,7 +171,7 @@ impl<'a> Words<'a> {
         self.table.publish(kseat, i, word);
     }
 
-    /// Releases the next frame, and wakes the processors that sleep on that. It takes no memory and waits for nobody.
+    /// Releases the next frame, and wakes the processors that are parked on it. It does not block.
     pub fn release(&self, kseat: &mut KSeat)
         requires seat { IsKernelSeatOf self.now.table kseat.old }
         requires next { kernel_steps kseat.old ≡ length (mission_in self.now.table).spec.procs + 20 }
@@ -185,21 +184,21 @@ impl<'a> Words<'a> {
         self.table.release(kseat);
     }
 
-    /// May sleep while the release does not show the frame for which the seat waits. It may end for no reason.
+    /// Spins and then parks while the release does not show the frame for which the seat waits. It may end without a
+    /// cause.
     pub fn rest<R: Wait>(&self, rt: &R, seat: &Seat)
         requires { IsSeatOf self.now.table seat.now }
     {
         self.table.rest(rt, seat);
     }
 
-    /// May sleep while the processor whose note is next may not be noted. It may end for no reason.
+    /// Spins and then parks while the processor whose note is next may not be noted. It may end without a cause.
     pub fn rest_kernel<R: Wait>(&self, rt: &R, kseat: &KSeat) {
         self.table.rest_kernel(rt, kseat);
     }
 
     /// Ends the table: all its seats are given back, and the marks and the marked images are those of the frames that
-    /// each processor has committed where it stands. Past the last processor both are zero. It takes no memory and waits
-    /// for nobody.
+    /// each processor has committed where it stands. Past the last processor both are zero. It does not block.
     pub fn close(self, kseat: KSeat, seats: Vec<Seat>) -> LastWords
         requires kernel { IsKernelSeatOf self.table kseat }
         requires seats { AreSeatsOf self.table seats.items }

@@ -1,11 +1,14 @@
-use Rattle.std.proofs.Common.{ap}
-use Rattle.word_table.specs.Actors.{is_halted}
-use Rattle.word_deck.proofs.Units.{keeps_begun}
+use Rattle.word_table.specs.Actors.{frame_awaited}
+use Rattle.word_table.specs.Tables.{flight_in, proc_of, seat_place}
+use Rattle.word_deck.proofs.Places.{spare_there, started_there}
 use Rattle.word_deck.proofs.crews.Crew.begin.Goals as goal
 
 pub invariant_of-self-2 : goal.invariant_of-self-2
-invariant_of-self-2 g c = record {
-  keeps =
-      keeps_begun c.args.self.now.seat c.started.new.seat c.args.self.now.live c.restart_unit.new.live c.args.self.now.halted c.restart_unit.new.halted c.args.self.now.keeps c.started.ensures.proc
-      (ap is_halted c.in_ok-image.ensures.place) c.restart_unit.ensures.lives c.restart_unit.ensures.halted c.restart_unit.ensures.number;
-}
+invariant_of-self-2 g c =
+    let crew = c.args.self.now in
+    record {
+      keeps =
+          started_there (proc_of crew.seat) (proc_of c.started.new.seat) (seat_place crew.seat) (seat_place c.started.new.seat) crew.flyer c.start.new.self
+          (frame_awaited (flight_in c.args.words.now) (proc_of crew.seat) (seat_place crew.seat)) 1 c.start.ensures c.started.ensures.proc c.in_ok-image.ensures.place crew.keeps
+          (λ halted. spare_there (flight_in c.args.words.now) (proc_of crew.seat) (seat_place crew.seat) crew.flyer.spare c.requires.waits halted c.requires.fits.spare_left);
+    }

@@ -1,9 +1,9 @@
 use Rattle.std.proofs.Common.{rules, ◌≡◌, ◌∙◌, Some, ap, sym}
 use Rattle.fault_script.specs.Times.{halt_in, words}
-use Rattle.fail_stop.specs.Events.{Halted, frame_of}
-use Rattle.word_table.specs.Tables.{seat_place}
+use Rattle.fail_stop.specs.Events.{Halted, frame_of, is_halted}
+use Rattle.word_table.specs.Tables.{proc_of, seat_place}
+use Rattle.word_deck.proofs.Places.{halted_there}
 use Rattle.word_deck.proofs.Steps.{halt_in_width}
-use Rattle.word_deck.proofs.Units.{keeps_halted}
 use Rattle.word_deck.proofs.crews.Crew.end.Goals as goal
 
 pub halt_after-requires-clause-step : goal.halt_after-requires-clause-step
@@ -14,9 +14,10 @@ halt_after-requires-clause-step g c =
 
 pub invariant_of-self : goal.invariant_of-self
 invariant_of-self g c =
-    let frame : c.frame-frame.result ≡ frame_of (seat_place c.args.self.now.seat) = c.frame-frame.ensures in
+    let crew = c.args.self.now in
+    let frame : c.frame-frame.result ≡ frame_of (seat_place crew.seat) = c.frame-frame.ensures in
     record {
       keeps =
-          keeps_halted c.args.self.now.seat c.halt_after.new.seat c.args.self.now.live c.halt_unit.new.live c.args.self.now.halted c.halt_unit.new.halted c.args.self.now.keeps c.halt_after.ensures.proc
-          c.frame-frame.result (c.halt_after.ensures.place ∙ ap Halted (sym frame)) c.halt_unit.ensures.lives c.halt_unit.ensures.halted c.halt_unit.ensures.frame c.halt_unit.ensures.number;
+          halted_there (proc_of crew.seat) (proc_of c.halt_after.new.seat) (seat_place crew.seat) (seat_place c.halt_after.new.seat) crew.flyer c.halt.new.self c.frame-frame.result c.halt.ensures c.halt_after.ensures.proc frame
+          (c.halt_after.ensures.place ∙ ap Halted (sym frame)) (ap is_halted c.requires.flies.after) crew.keeps;
     }

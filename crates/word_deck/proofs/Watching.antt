@@ -1,0 +1,49 @@
+-- What is handed to a watch.
+use Rattle.std.proofs.Common.{◌≡◌, ◌∙◌, ℕ, ◌+◌, ◌<◌, ◌≤◌, ap, sym, arith, List, length}
+use Rattle.std.specs.Prelude.{slice_index_or, slice_get, Some}
+use Rattle.std.proofs.lemmas.Bool.Decides.{nat_tests}
+use Rattle.std.proofs.lemmas.Option.{get_or_from_slice_get}
+use Rattle.scram_types.specs.declared.flights.Row.{Row}
+use Rattle.scram_types.proofs.Searches.{get_listed, length_listed}
+use Rattle.coverage_check.specs.Missions.{MissionParts}
+use Rattle.frame_model.specs.Flights.{row_at, rows_of}
+use Rattle.scram_kernel.specs.Kernels.{rows_below}
+use Rattle.word_table.specs.declared.seats.KSeat.{KSeat}
+use Rattle.word_deck.specs.Kernels.{IsKernelBetween, IsKernelMoved, frames_noted}
+use Rattle.word_deck.specs.declared.turns.Turn.{Turn}
+use Rattle.word_deck.specs.declared.turns.Turn.TheVariants.{Worked, NotYet, Finished}
+
+-- the row that came last is the next one of the mission
+pub next_row : (mission : MissionParts) (rows : List Row) (before : ℕ) (d : Row) → rows ≡ rows_below mission.spec mission.script (length rows) → length rows ≤ mission.script.frames
+    → before < length rows → slice_get (rows_of mission.spec mission.script) before ≡ Some (slice_index_or rows before d)
+next_row mission rows before d are most low =
+    let here : slice_get rows before ≡ Some (row_at mission.spec mission.script before) =
+    ap (λ list. slice_get list before) are ∙ get_listed (row_at mission.spec mission.script) (length rows) before low in
+    get_listed (row_at mission.spec mission.script) mission.script.frames before (omega (arith, low, most))
+    ∙ ap Some (sym (get_or_from_slice_get rows before (row_at mission.spec mission.script before) d here))
+
+-- a turn ends one frame at most
+
+pub moved_on : (turn : Turn) (procs frames : ℕ) (before after : KSeat) → IsKernelMoved turn procs frames before after → frames_noted procs before ≤ frames_noted procs after
+moved_on NotYet procs frames before after moved = grind (arith, nat_tests)
+moved_on Worked procs frames before after moved = grind (arith, nat_tests)
+moved_on Finished procs frames before after moved = grind (arith, nat_tests)
+
+pub moved_by_one : (turn : Turn) (procs frames : ℕ) (before after : KSeat) → IsKernelMoved turn procs frames before after → frames_noted procs after ≤ frames_noted procs before + 1
+moved_by_one NotYet procs frames before after moved = grind (arith, nat_tests)
+moved_by_one Worked procs frames before after moved = grind (arith, nat_tests)
+moved_by_one Finished procs frames before after moved = grind (arith, nat_tests)
+
+pub within_flight : (procs frames : ℕ) (kseat : KSeat) → IsKernelBetween procs frames kseat → frames_noted procs kseat ≤ frames
+within_flight procs frames kseat between =
+    let within = between.within in
+    let most = between.steps in
+    let last = between.last in
+    grind (arith, nat_tests, within, most, last)
+
+-- the rows of n frames are n
+pub rows_count : (mission : MissionParts) (rows : List Row) (n : ℕ) → rows ≡ rows_below mission.spec mission.script n → length rows ≡ n
+rows_count mission rows n are = ap length are ∙ length_listed (row_at mission.spec mission.script) n
+
+pub rows_again : (mission : MissionParts) (rows : List Row) (n : ℕ) → rows ≡ rows_below mission.spec mission.script n → rows ≡ rows_below mission.spec mission.script (length rows)
+rows_again mission rows n are = are ∙ ap (rows_below mission.spec mission.script) (sym (rows_count mission rows n are))
