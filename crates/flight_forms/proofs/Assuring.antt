@@ -13,7 +13,7 @@ use Rattle.mission_gen.specs.Changes.{generated_script}
 use Rattle.mission_gen.specs.Specifications.{mission_text}
 use Rattle.coverage_check.specs.declared.shown.Shown.{Shown}
 use Rattle.coverage_check.specs.Acceptance.{Accepts, first_refusal}
-use Rattle.coverage_check.specs.Missions.{IsMission, mission_of}
+use Rattle.coverage_check.specs.Missions.{IsMission, MissionParts, mission_of}
 use Rattle.coverage_check.proofs.Accepting.{accepts_where_unrefused}
 use Rattle.coverage_check.proofs.Flights.{is_mission}
 use Rattle.trace_props.specs.Missions.{ReconfigurationsAreAssured}
@@ -26,13 +26,12 @@ use Rattle.form_base.specs.declared.status.TheConstants.{ANSWERED}
 use Rattle.form_base.specs.Answers.{Gives, WithoutFiles}
 use Rattle.form_base.specs.Assurance.{IsAssuring, OfDocument}
 use Rattle.form_base.proofs.Assuring.{document_assures, not_zero, specification_assures, text_of_gives}
-use Rattle.flight_forms.specs.declared.flights.FlightText.{FlightText}
 use Rattle.flight_forms.specs.declared.flights.FlightText.TheVariants.{Summary, Trace}
-use Rattle.flight_forms.specs.Answers.{FlyAnswers, GenAnswers, IsReplayAnswer, ListAnswers, ReplayAnswers, RunAnswers, ScheduleAnswers, ScriptAnswers, replay_answer}
-use Rattle.flight_forms.specs.Assurance.{AssuresFly, AssuresGen, AssuresReplay, AssuresRun, FlightsAreAssured, IsAssured}
+use Rattle.flight_forms.specs.Answers.{FlightAnswers, FlyAnswers, GenAnswers, IsReplayAnswer, ListAnswers, ReplayAnswers, ScheduleAnswers, ScriptAnswers, replay_answer}
+use Rattle.flight_forms.specs.Assurance.{AssuresFlight, AssuresFly, AssuresGen, AssuresReplay, FlightsAreAssured, IsAssured}
 use Rattle.flight_forms.specs.Documents.{BreaksSchedule, BreaksScript, SaysSchedule, SaysScript, long_schedule, long_script}
 use Rattle.flight_forms.specs.Missions.{UnlessRefused, mission_refusal, refusal_by, script_refusal}
-use Rattle.flight_forms.specs.Texts.{flight_text}
+use Rattle.flight_forms.specs.Texts.{flight_text, watch_text}
 
 -- where status 0 is answered, the specification and the script make a mission
 
@@ -51,31 +50,31 @@ mission_zero : (spec : Parts) (script : ScriptParts) (A : ℕ → List ℕ → T
     → (text : List ℕ) → UnlessRefused (mission_refusal spec script) A ANSWERED text → IsMission (mission_of spec script) × A ANSWERED text
 mission_zero spec script A sound fits text answers = mission_zero_by spec script A (first_refusal spec) sound fits refl text answers
 
-assured_by : (law : ReconfigurationsAreAssured) (told : FlightText) (spec : Parts) (script : ScriptParts) → IsSpec spec → IsMission (mission_of spec script)
-    → (text : List ℕ) → Gives (ANSWERED, flight_text told spec script) ANSWERED text → IsAssured told spec script text
+assured_by : (law : ReconfigurationsAreAssured) (told : MissionParts → List ℕ) (spec : Parts) (script : ScriptParts) → IsSpec spec → IsMission (mission_of spec script)
+    → (text : List ℕ) → Gives (ANSWERED, told (mission_of spec script)) ANSWERED text → IsAssured told spec script text
 assured_by law told spec script sound mission text gives =
-    record { mission = mission; whole = text_of_gives (flight_text told spec script) text gives; holds = law spec script sound mission }
+    record { mission = mission; whole = text_of_gives (told (mission_of spec script)) text gives; holds = law spec script sound mission }
 
-flight_assures : (law : ReconfigurationsAreAssured) (told : FlightText) (spec : Parts) (script : ScriptParts) → IsSpec spec → Fits spec script
-    → (text : List ℕ) → UnlessRefused (mission_refusal spec script) (Gives (ANSWERED, flight_text told spec script)) ANSWERED text → IsAssured told spec script text
+flight_assures : (law : ReconfigurationsAreAssured) (told : MissionParts → List ℕ) (spec : Parts) (script : ScriptParts) → IsSpec spec → Fits spec script
+    → (text : List ℕ) → UnlessRefused (mission_refusal spec script) (Gives (ANSWERED, told (mission_of spec script))) ANSWERED text → IsAssured told spec script text
 flight_assures law told spec script sound fits text answers =
-    let flown = mission_zero spec script (Gives (ANSWERED, flight_text told spec script)) sound fits text answers in
+    let flown = mission_zero spec script (Gives (ANSWERED, told (mission_of spec script))) sound fits text answers in
     assured_by law told spec script sound flown.0 text flown.1
 
 no_broken_script : (spec : Parts) (text bytes : List ℕ) → BreaksScript spec (ANSWERED, text) bytes → ANSWERED ≢ ANSWERED
 no_broken_script spec text bytes breaks = not_zero 6 _ text (sym breaks.line)
 
-run_assures : ReconfigurationsAreAssured → (specification script : List ℕ) → IsAssuring (RunAnswers specification script) (AssuresRun specification script)
-run_assures law specification script before after reads text is = specification_assures specification _ _
-    (λ spec sound. document_assures (SaysScript spec) (BreaksScript spec) MAX_SCRIPT_BYTES 6 (long_script).1 script (ScriptAnswers spec) _
-    (λ script bytes says before after reads text is. (is.0, flight_assures law Trace spec script sound says.fits text is.1))
+files_assure : ReconfigurationsAreAssured → (told : MissionParts → List ℕ) (specification script : List ℕ) → IsAssuring (FlightAnswers told specification script) (AssuresFlight told specification script)
+files_assure law told specification script before after reads text is = specification_assures specification _ _
+    (λ spec sound. document_assures (SaysScript spec) (BreaksScript spec) MAX_SCRIPT_BYTES 6 (long_script).1 script (ScriptAnswers told spec) _
+    (λ script bytes says before after reads text is. (is.0, flight_assures law told spec script sound says.fits text is.1))
     (no_broken_script spec))
     before after reads text is
 
 -- a list that is flown as a schedule
 
 replayed_zero : (spec : Parts) (script : ScriptParts) (list : List ℕ) (flown : Result Flown ReplayError) (text : List ℕ) → AnswersReplay spec script list flown
-    → Gives (replay_answer spec script flown) ANSWERED text → IsWholeSchedule (flight_of spec script) list × Gives (ANSWERED, flight_text Trace spec script) ANSWERED text
+    → Gives (replay_answer spec script flown) ANSWERED text → IsWholeSchedule (flight_of spec script) list × Gives (ANSWERED, flight_text Trace (mission_of spec script)) ANSWERED text
 replayed_zero spec script list (Ok flown) text answers gives = (answers.0, gives)
 replayed_zero spec script list (Err (replay_error.Illegal index given next)) text answers gives = not_zero 11 _ text gives
 replayed_zero spec script list (Err (replay_error.Short events next)) text answers gives = not_zero 11 _ text gives
@@ -83,21 +82,21 @@ replayed_zero spec script list (Err replay_error.NoMemory) text answers gives = 
 
 list_assures : (law : ReconfigurationsAreAssured) (spec : Parts) (script : ScriptParts) (list : List ℕ) → IsSpec spec → Fits spec script
     → (text : List ℕ) → UnlessRefused (mission_refusal spec script) (IsReplayAnswer spec script list) ANSWERED text
-    → IsWholeSchedule (flight_of spec script) list × IsAssured Trace spec script text
+    → IsWholeSchedule (flight_of spec script) list × IsAssured (flight_text Trace) spec script text
 list_assures law spec script list sound fits text answers =
     let flown = mission_zero spec script (IsReplayAnswer spec script list) sound fits text answers in
     let told = replayed_zero spec script list flown.1.flown text flown.1.answers flown.1.gives in
-    (told.0, assured_by law Trace spec script sound flown.0 text told.1)
+    (told.0, assured_by law (flight_text Trace) spec script sound flown.0 text told.1)
 
 no_broken_schedule : (spec : Parts) (text bytes : List ℕ) → BreaksSchedule spec (ANSWERED, text) bytes → ANSWERED ≢ ANSWERED
 no_broken_schedule spec text bytes breaks = not_zero 11 _ text (sym breaks.line)
 
 schedule_assures : (law : ReconfigurationsAreAssured) (schedule : List ℕ) (spec : Parts) (script : ScriptParts) → IsSpec spec → Fits spec script
     → IsAssuring (ScheduleAnswers schedule spec script) (OfDocument (SaysSchedule spec) schedule (λ (list : List ℕ) (reads : History) (text : List ℕ).
-    (reads ≡ []) × IsWholeSchedule (flight_of spec script) list × IsAssured Trace spec script text))
+    (reads ≡ []) × IsWholeSchedule (flight_of spec script) list × IsAssured (flight_text Trace) spec script text))
 schedule_assures law schedule spec script sound fits before after reads text is =
     document_assures (SaysSchedule spec) (BreaksSchedule spec) MAX_SCHEDULE_BYTES 11 (long_schedule).1 schedule (ListAnswers spec script)
-    (λ (list : List ℕ) (reads : History) (text : List ℕ). (reads ≡ []) × IsWholeSchedule (flight_of spec script) list × IsAssured Trace spec script text)
+    (λ (list : List ℕ) (reads : History) (text : List ℕ). (reads ≡ []) × IsWholeSchedule (flight_of spec script) list × IsAssured (flight_text Trace) spec script text)
     (λ list bytes says before after reads text is. let flown = list_assures law spec script list sound fits text is.1 in (is.0, flown.0, flown.1))
     (no_broken_schedule spec) before after reads text is
 
@@ -120,8 +119,8 @@ fly_assures law number before after reads text is = record {
   none = is.0;
   spec = is.1.spec;
   generated = is.1.generated;
-  assured = flight_assures law (Summary number) is.1.spec (generated_script number) is.1.generated.sound is.1.generated.fits text is.1.answers;
+  assured = flight_assures law (flight_text (Summary number)) is.1.spec (generated_script number) is.1.generated.sound is.1.generated.fits text is.1.answers;
 }
 
 pub flights_assured : ReconfigurationsAreAssured → FlightsAreAssured
-flights_assured law = record { run = run_assures law; replay = replay_assures law; gen = gen_assures; fly = fly_assures law }
+flights_assured law = record { run = files_assure law (flight_text Trace); watch = files_assure law watch_text; replay = replay_assures law; gen = gen_assures; fly = fly_assures law }

@@ -1,11 +1,11 @@
 -- From a specification and a script to what is answered of their mission.
 use Rattle.std.proofs.Common.{◌≡◌, ℕ, List, refl, subst, inl, inr}
-use Rattle.std.specs.Prelude.{◌≢◌, ◌⊎◌, Option, Some, None, Result, Ok, Err}
+use Rattle.std.specs.Prelude.{◌⊎◌, Option, Some, None, Result, Ok, Err}
 use Rattle.scram_types.specs.Scripts.{ScriptParts}
 use Rattle.scram_types.specs.Specification.{Parts}
 use Rattle.coverage_check.specs.Missions.{MissionParts, mission_of}
 use Rattle.form_base.specs.declared.refusals.Refusal.{Refusal}
-use Rattle.form_base.specs.Endings.{IsMemoryRefusal, Settles, Tells}
+use Rattle.form_base.specs.Endings.{IsMemoryRefusal, Settles}
 use Rattle.form_base.specs.Loads.{IsOutOfMemory}
 use Rattle.form_base.specs.Refusals.{told}
 use Rattle.form_base.proofs.Reading.{memory_refusal}

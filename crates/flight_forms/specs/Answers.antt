@@ -1,5 +1,5 @@
 -- What is answered by a flight.
-use Rattle.std.specs.Prelude.{◌≡◌, ◌≢◌, ℕ, List, [], ◌∷◌, Result, Ok, Err}
+use Rattle.std.specs.Prelude.{◌≡◌, ◌≢◌, ℕ, List, Result, Ok, Err}
 use Rattle.scram_types.specs.declared.flights.Flown.{Flown}
 use Rattle.scram_types.specs.Scripts.{ScriptParts}
 use Rattle.scram_types.specs.Specification.{IsSpec, Parts}
@@ -7,7 +7,7 @@ use Rattle.fault_script.specs.Fits.{Fits}
 use Rattle.reconf_spec.specs.Documents.{spec_of}
 use Rattle.mission_gen.specs.Changes.{generated_script}
 use Rattle.mission_gen.specs.Specifications.{generated_text, mission_text}
-use Rattle.coverage_check.specs.Missions.{MissionParts}
+use Rattle.coverage_check.specs.Missions.{MissionParts, mission_of}
 use Rattle.schedule_replay.specs.declared.replays.ReplayError.{ReplayError}
 use Rattle.schedule_replay.specs.declared.replays.ReplayError.TheVariants as replay_error
 use Rattle.schedule_replay.specs.Refusals.{illegal_line, short_line}
@@ -19,19 +19,31 @@ use Rattle.form_base.specs.Specifications.{AsksSpecification}
 use Rattle.flight_forms.specs.declared.flights.FlightText.TheVariants.{Trace, Summary}
 use Rattle.flight_forms.specs.Documents.{AsksSchedule, AsksScript}
 use Rattle.flight_forms.specs.Missions.{UnlessRefused, mission_refusal}
-use Rattle.flight_forms.specs.Texts.{flight_text}
+use Rattle.flight_forms.specs.Texts.{flight_text, watch_text}
 
--- The answer to a mission: the text of its one-thread trace.
-abbrev pub TellsTrace : MissionParts → ℕ → List ℕ → Type 0
-TellsTrace mission = Gives (ANSWERED, flight_text Trace mission.spec mission.script)
+-- The answer to a mission: this text.
+abbrev pub TellsFlight : (MissionParts → List ℕ) → MissionParts → ℕ → List ℕ → Type 0
+TellsFlight text mission = Gives (ANSWERED, text mission)
 
--- The answer to `run` where both files are read.
-abbrev pub ScriptAnswers : Parts → ScriptParts → Answer
-ScriptAnswers spec script = WithoutFiles (UnlessRefused (mission_refusal spec script) (Gives (ANSWERED, flight_text Trace spec script)))
+-- The answer where a specification and a script are read: this text of their mission.
+abbrev pub ScriptAnswers : (MissionParts → List ℕ) → Parts → ScriptParts → Answer
+ScriptAnswers text spec script = WithoutFiles (UnlessRefused (mission_refusal spec script) (TellsFlight text (mission_of spec script)))
+
+-- The answer to the names of a specification's file and of a script's: this text of their mission.
+abbrev pub FlightAnswers : (MissionParts → List ℕ) → List ℕ → List ℕ → Answer
+FlightAnswers text specification script = AsksSpecification specification (λ (spec : Parts). AsksScript spec script (ScriptAnswers text spec))
 
 -- The answer to `run` and the names of a specification's file and of a script's.
 abbrev pub RunAnswers : List ℕ → List ℕ → Answer
-RunAnswers specification script = AsksSpecification specification (λ (spec : Parts). AsksScript spec script (ScriptAnswers spec))
+RunAnswers = FlightAnswers (flight_text Trace)
+
+-- The answer to `pair` and the names of a specification's file and of a script's: that of `run`, whichever halt of a unit is asked for.
+abbrev pub PairAnswers : List ℕ → List ℕ → Answer
+PairAnswers = RunAnswers
+
+-- The answer to `watch` and the names of a specification's file and of a script's.
+abbrev pub WatchAnswers : List ℕ → List ℕ → Answer
+WatchAnswers = FlightAnswers watch_text
 
 -- How a list is refused that is no schedule which flies to the end.
 abbrev pub replay_refusal : Parts → ReplayError → ℕ × List ℕ
@@ -42,10 +54,10 @@ replay_refusal spec replay_error.NoMemory = (OUT_OF_MEMORY, memory_line)
 -- The answer where a list was flown as a schedule, by what came of it; where it flew to the end, that is the answer of the
 -- flight on one thread.
 abbrev pub replay_answer : Parts → ScriptParts → Result Flown ReplayError → ℕ × List ℕ
-replay_answer spec script (Ok flown) = (ANSWERED, flight_text Trace spec script)
+replay_answer spec script (Ok flown) = (ANSWERED, flight_text Trace (mission_of spec script))
 replay_answer spec script (Err error) = replay_refusal spec error
 
--- Status and text tell what comes of a list that is flown as a schedule; there is one such answer.
+-- Status and text are the answer to a list that is flown as a schedule; there is one such answer.
 pub record IsReplayAnswer (spec : Parts) (script : ScriptParts) (list : List ℕ) (status : ℕ) (text : List ℕ) : Type 0 where
   pub flown : Result Flown ReplayError
   pub answers : AnswersReplay spec script list flown
@@ -79,7 +91,7 @@ pub record GenAnswers (number : ℕ) (status : ℕ) (text : List ℕ) : Type 0 w
 
 -- The answer to the mission of a number, flown: one line.
 abbrev pub SummaryAnswers : ℕ → Parts → ScriptParts → ℕ → List ℕ → Type 0
-SummaryAnswers number spec script = UnlessRefused (mission_refusal spec script) (Gives (ANSWERED, flight_text (Summary number) spec script))
+SummaryAnswers number spec script = UnlessRefused (mission_refusal spec script) (TellsFlight (flight_text (Summary number)) (mission_of spec script))
 
 -- The answer to `fly` and a number.
 pub record FlyAnswers (number : ℕ) (status : ℕ) (text : List ℕ) : Type 0 where

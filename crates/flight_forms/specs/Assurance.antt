@@ -5,31 +5,39 @@ use Rattle.scram_types.specs.Specification.{Parts}
 use Rattle.scram_io.specs.Outside.{History}
 use Rattle.mission_gen.specs.Changes.{generated_script}
 use Rattle.mission_gen.specs.Specifications.{mission_text}
-use Rattle.coverage_check.specs.Missions.{IsMission, mission_of}
+use Rattle.coverage_check.specs.Missions.{IsMission, MissionParts, mission_of}
 use Rattle.frame_model.specs.Flights.{reports_of, rows_of}
 use Rattle.trace_props.specs.Properties.{HoldsAll}
 use Rattle.fail_stop.specs.ScriptFlights.{flight_of}
 use Rattle.schedule_replay.specs.Replaying.{IsWholeSchedule}
 use Rattle.form_base.specs.Assurance.{IsAssuring, OfDocument, OfSpecification}
 use Rattle.form_base.specs.Answers.{WithoutFiles}
-use Rattle.flight_forms.specs.declared.flights.FlightText.{FlightText}
 use Rattle.flight_forms.specs.declared.flights.FlightText.TheVariants.{Trace, Summary}
-use Rattle.flight_forms.specs.Answers.{FlyAnswers, GenAnswers, IsGenerated, ReplayAnswers, RunAnswers}
+use Rattle.flight_forms.specs.Answers.{FlyAnswers, GenAnswers, IsGenerated, ReplayAnswers, RunAnswers, WatchAnswers}
 use Rattle.flight_forms.specs.Documents.{SaysSchedule, SaysScript}
-use Rattle.flight_forms.specs.Texts.{flight_text}
+use Rattle.flight_forms.specs.Texts.{flight_text, watch_text}
 
--- The specification is accepted and the script keeps to its failure assumption; the text is what is told of the
--- one-thread flight; and the properties of reconfigurations hold of its rows and reports.
-pub record IsAssured (told : FlightText) (spec : Parts) (script : ScriptParts) (text : List ℕ) : Type 0 where
+-- The specification is accepted and the script keeps to its failure assumption; the text is the one that is told of their
+-- mission; and the properties of reconfigurations hold of the rows and reports of its one-thread flight.
+pub record IsAssured (told : MissionParts → List ℕ) (spec : Parts) (script : ScriptParts) (text : List ℕ) : Type 0 where
   pub mission : IsMission (mission_of spec script)
-  pub whole : text ≡ flight_text told spec script
+  pub whole : text ≡ told (mission_of spec script)
   pub holds : HoldsAll spec (rows_of spec script) (reports_of spec script)
 
--- Where `run` ends with status 0, the mission of the two files is assured, and no other was read.
-abbrev pub AssuresRun : List ℕ → List ℕ → History → List ℕ → Type 0
-AssuresRun specification script =
+-- Where this text of a mission is printed with status 0, the mission of the two files is assured, and no other was
+-- read.
+abbrev pub AssuresFlight : (MissionParts → List ℕ) → List ℕ → List ℕ → History → List ℕ → Type 0
+AssuresFlight told specification script =
     OfSpecification specification (λ (spec : Parts). OfDocument (SaysScript spec) script (λ (script : ScriptParts) (reads : History) (text : List ℕ).
-    (reads ≡ []) × IsAssured Trace spec script text))
+    (reads ≡ []) × IsAssured told spec script text))
+
+-- Where `run` ends with status 0, the mission of the two files is assured.
+abbrev pub AssuresRun : List ℕ → List ℕ → History → List ℕ → Type 0
+AssuresRun = AssuresFlight (flight_text Trace)
+
+-- The same of `watch`.
+abbrev pub AssuresWatch : List ℕ → List ℕ → History → List ℕ → Type 0
+AssuresWatch = AssuresFlight watch_text
 
 -- Where `replay` ends with status 0, the mission of the first two files is assured, the third holds a schedule at whose end its
 -- flight is over, and no other was read.
@@ -37,7 +45,7 @@ abbrev pub AssuresReplay : List ℕ → List ℕ → List ℕ → History → Li
 AssuresReplay specification script schedule =
     OfSpecification specification (λ (spec : Parts). OfDocument (SaysScript spec) script (λ (script : ScriptParts).
     OfDocument (SaysSchedule spec) schedule (λ (list : List ℕ) (reads : History) (text : List ℕ).
-    (reads ≡ []) × IsWholeSchedule (flight_of spec script) list × IsAssured Trace spec script text)))
+    (reads ≡ []) × IsWholeSchedule (flight_of spec script) list × IsAssured (flight_text Trace) spec script text)))
 
 -- Where `gen` ends with status 0, the text is that of the mission of the number; no file was read.
 pub record AssuresGen (number : ℕ) (reads : History) (text : List ℕ) : Type 0 where
@@ -51,11 +59,12 @@ pub record AssuresFly (number : ℕ) (reads : History) (text : List ℕ) : Type 
   pub none : reads ≡ []
   pub spec : Parts
   pub generated : IsGenerated number spec
-  pub assured : IsAssured (Summary number) spec (generated_script number) text
+  pub assured : IsAssured (flight_text (Summary number)) spec (generated_script number) text
 
 -- What is flown and answered with status 0 is assured.
 pub record FlightsAreAssured : Type 0 where
   pub run : (specification script : List ℕ) → IsAssuring (RunAnswers specification script) (AssuresRun specification script)
+  pub watch : (specification script : List ℕ) → IsAssuring (WatchAnswers specification script) (AssuresWatch specification script)
   pub replay : (specification script schedule : List ℕ) → IsAssuring (ReplayAnswers specification script schedule) (AssuresReplay specification script schedule)
   pub gen : (number : ℕ) → IsAssuring (WithoutFiles (GenAnswers number)) (AssuresGen number)
   pub fly : (number : ℕ) → IsAssuring (WithoutFiles (FlyAnswers number)) (AssuresFly number)

@@ -1,5 +1,5 @@
 -- The lines in which a script and a flight are answered.
-use Rattle.std.specs.Prelude.{ℕ, ◌+◌, List, ◌++◌, codes, decimal}
+use Rattle.std.specs.Prelude.{ℕ, List, ◌++◌, codes, decimal}
 use Rattle.scram_types.specs.Lookups.{conf_name}
 use Rattle.scram_types.specs.Specification.{Parts}
 use Rattle.scram_types.specs.declared.flights.Report.{Report}
@@ -8,8 +8,12 @@ use Rattle.scram_doc.specs.declared.fault.DocFault.{DocFault}
 use Rattle.fault_script.specs.declared.assumption.Outside.{Outside}
 use Rattle.fault_script.specs.declared.assumption.OutsideKind.{OutsideKind}
 use Rattle.fault_script.specs.declared.assumption.OutsideKind.TheVariants.{Halts, Changes}
-use Rattle.flight_forms.specs.Summaries.{last_run, longest_duration}
+use Rattle.trace_text.specs.Names.{conf_or_dash}
+use Rattle.trace_text.specs.Text.{up_text}
+use Rattle.telemetry_tap.specs.declared.summaries.Summary.{Summary}
+use Rattle.telemetry_tap.specs.Summaries.{running_conf}
 use Rattle.form_base.specs.Lines.{counts_text, rule_text}
+use Rattle.flight_forms.specs.Summaries.{last_run, longest_duration}
 
 -- a script document breaks a rule
 abbrev pub script_line : DocFault → List ℕ
@@ -29,3 +33,10 @@ outside_line outside = codes "refused: outside at frame " ++ decimal outside.fra
 abbrev pub fly_line : ℕ → Parts → List Row → List Report → List ℕ
 fly_line number spec rows reports =
     codes "fly " ++ decimal number ++ counts_text rows reports ++ codes " longest " ++ decimal (longest_duration reports) ++ codes " final " ++ conf_name spec (last_run spec rows).0 ++ codes "\n"
+
+-- a flight that was watched: the number of frames of a summary, what its last row runs, the processors that are up in it, and
+-- the number of reconfigurations that have begun
+abbrev pub watch_line : Parts → Summary → List ℕ
+watch_line spec summary =
+    codes "watch frames " ++ decimal summary.frames ++ codes " running " ++ conf_or_dash spec (running_conf summary.running) ++ codes " up " ++ up_text spec summary.up
+    ++ codes " begun " ++ decimal summary.begun ++ codes "\n"

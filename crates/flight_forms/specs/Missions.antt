@@ -8,7 +8,7 @@ use Rattle.coverage_check.specs.declared.shown.Shown.{Shown}
 use Rattle.coverage_check.specs.Acceptance.{first_refusal}
 use Rattle.coverage_check.specs.Missions.{MissionParts, mission_of}
 use Rattle.form_base.specs.declared.refusals.Refusal.{Refusal}
-use Rattle.form_base.specs.declared.status.TheConstants.{ANSWERED, NOT_ACCEPTED, UNASSUMED_SCRIPT, UNREAD_FILE}
+use Rattle.form_base.specs.declared.status.TheConstants.{NOT_ACCEPTED, UNASSUMED_SCRIPT, UNREAD_FILE}
 use Rattle.form_base.specs.Answers.{Gives}
 use Rattle.form_base.specs.Lines.{shown_line}
 use Rattle.form_base.specs.Loads.{IsOutOfMemory}
@@ -29,12 +29,13 @@ refusal_by spec script None = script_refusal (first_outside spec script)
 abbrev pub mission_refusal : Parts → ScriptParts → Option (ℕ × List ℕ)
 mission_refusal spec script = refusal_by spec script (first_refusal spec)
 
--- The refusal is told, or where there is none, this is answered.
+-- The refusal is printed, or where there is none, this is answered.
 abbrev pub UnlessRefused : Option (ℕ × List ℕ) → (ℕ → List ℕ → Type 0) → ℕ → List ℕ → Type 0
 UnlessRefused (Some refusal) Answers = Gives refusal
 UnlessRefused None Answers = Answers
 
--- What comes of making a mission: the mission, or how the specification and the script are refused, or the allocator had no memory.
+-- The result of making a mission: the mission, or how the specification and the script are refused, or the allocator
+-- was out of memory.
 abbrev pub MakesMission : Parts → ScriptParts → Result MissionParts Refusal → Type 0
 MakesMission spec script (Ok mission) = (mission ≡ mission_of spec script) × (mission_refusal spec script ≡ None)
 MakesMission spec script (Err refusal) =

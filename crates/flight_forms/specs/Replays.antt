@@ -16,11 +16,11 @@ use Rattle.flight_forms.specs.Missions.{mission_refusal}
 abbrev pub HasCodes : Replay → Type 0
 HasCodes replay = AreCodes replay.mission.spec replay.list
 
--- Status and text tell what comes of the list, flown as a schedule.
+-- Status and text are the answer to the list, flown as a schedule.
 abbrev pub TellsReplay : Replay → ℕ → List ℕ → Type 0
 TellsReplay replay = IsReplayAnswer replay.mission.spec replay.mission.script replay.list
 
--- What comes of making a mission that is flown by a list.
+-- The result of making a mission that is flown by a list.
 abbrev pub MakesReplay : Parts → ScriptParts → List ℕ → Result Replay Refusal → Type 0
 MakesReplay spec script list (Ok replay) = (replay.mission ≡ mission_of spec script) × (replay.list ≡ list) × (mission_refusal spec script ≡ None)
 MakesReplay spec script list (Err refusal) =

@@ -1,4 +1,4 @@
--- What the line of a flight tells of its rows and reports.
+-- What the line of a flight says about its rows and reports.
 use Rattle.std.specs.Prelude.{ℕ, ◌-◌, max, List, [], ◌∷◌, Option, Some, None}
 use Rattle.scram_types.specs.declared.flights.Report.{Report}
 use Rattle.scram_types.specs.declared.flights.Row.{Row}

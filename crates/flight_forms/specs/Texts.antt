@@ -1,20 +1,25 @@
--- What is told of a flight.
+-- What is printed of a flight.
 use Rattle.std.specs.Prelude.{ℕ, List}
 use Rattle.scram_types.specs.declared.flights.Report.{Report}
 use Rattle.scram_types.specs.declared.flights.Row.{Row}
-use Rattle.scram_types.specs.Scripts.{ScriptParts}
 use Rattle.scram_types.specs.Specification.{Parts}
+use Rattle.coverage_check.specs.Missions.{MissionParts}
 use Rattle.frame_model.specs.Flights.{reports_of, rows_of}
+use Rattle.telemetry_tap.specs.Summaries.{summary_after}
 use Rattle.trace_text.specs.Text.{text_of}
 use Rattle.flight_forms.specs.declared.flights.FlightText.{FlightText}
 use Rattle.flight_forms.specs.declared.flights.FlightText.TheVariants.{Trace, Summary}
-use Rattle.flight_forms.specs.Lines.{fly_line}
+use Rattle.flight_forms.specs.Lines.{fly_line, watch_line}
 
--- What is told of rows and reports.
+-- The text of rows and reports.
 abbrev pub flown_text : FlightText → Parts → List Row → List Report → List ℕ
 flown_text Trace spec rows reports = text_of spec rows reports
 flown_text (Summary number) spec rows reports = fly_line number spec rows reports
 
--- What is told of the one-thread flight.
-abbrev pub flight_text : FlightText → Parts → ScriptParts → List ℕ
-flight_text told spec script = flown_text told spec (rows_of spec script) (reports_of spec script)
+-- The text of the one-thread flight of a mission.
+abbrev pub flight_text : FlightText → MissionParts → List ℕ
+flight_text told mission = flown_text told mission.spec (rows_of mission.spec mission.script) (reports_of mission.spec mission.script)
+
+-- The line of a flight that was watched: the summary of all its frames.
+abbrev pub watch_text : MissionParts → List ℕ
+watch_text mission = watch_line mission.spec (summary_after mission mission.script.frames)

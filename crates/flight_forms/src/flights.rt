@@ -24,7 +24,7 @@ use std::thread::Threads;
 use trace_text::put_trace;
 use word_deck::WordFlight;
 
-/// What is told of a flight.
+/// The text that is printed of a flight.
 #[derive(Clone, Copy, Debug, PartialEq, Eq)]
 pub enum FlightText {
     /// Its whole trace.
@@ -57,7 +57,7 @@ pub fn run<R: AllocGlobal + Threads + Wait + Sync, F: Files, K: Sink>(
     }
 }
 
-/// Flies a mission with a thread for each processor, and tells of it.
+/// Flies a mission with a thread for each processor, and prints this text of it.
 pub fn fly<R: AllocGlobal + Threads + Wait + Sync, K: Sink>(
     rt: &R,
     mission: &Mission,
@@ -65,7 +65,7 @@ pub fn fly<R: AllocGlobal + Threads + Wait + Sync, K: Sink>(
     out: &mut K,
     boxes: Boxes,
 ) -> Status
-    ensures { Tells (Gives (ANSWERED, flight_text told mission.now.spec mission.now.script)) (K.state out.old) (K.state out.new) result.code }
+    ensures { Tells (Gives (ANSWERED, flight_text told mission.now)) (K.state out.old) (K.state out.new) result.code }
 {
     match fly_on_threads(rt, mission, boxes) {
         Ok(flown) => {
@@ -77,7 +77,7 @@ pub fn fly<R: AllocGlobal + Threads + Wait + Sync, K: Sink>(
     }
 }
 
-// The trace of a mission, flown with a thread for each processor.
+// Returns the trace of a mission, flown with a thread for each processor.
 fn fly_on_threads<R: AllocGlobal + Threads + Wait + Sync>(
     rt: &R,
     mission: &Mission,
@@ -90,7 +90,7 @@ fn fly_on_threads<R: AllocGlobal + Threads + Wait + Sync>(
     Ok(flight.run(rt).flown)
 }
 
-/// Puts what is told of a mission that was flown.
+/// Prints this text of a mission that was flown.
 pub fn tell_flown<K: Sink>(
     out: &mut K,
     mission: &Mission,
@@ -99,7 +99,7 @@ pub fn tell_flown<K: Sink>(
 ) -> Status
     requires rows { flown.now.rows ≡ rows_of mission.now.spec mission.now.script }
     requires reports { flown.now.reports ≡ reports_of mission.now.spec mission.now.script }
-    ensures { Tells (Gives (ANSWERED, flight_text told mission.now.spec mission.now.script)) (K.state out.old) (K.state out.new) result.code }
+    ensures { Tells (Gives (ANSWERED, flight_text told mission.now)) (K.state out.old) (K.state out.new) result.code }
 {
     mission.holds();
     status_after(put_flown(out, mission.spec(), flown, told), ANSWERED)

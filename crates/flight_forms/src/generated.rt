@@ -24,7 +24,7 @@ pub fn print_generated<K: Sink>(alloc: Global, number: u32, out: &mut K) -> Stat
 {
     match generate(alloc, number) {
         Ok((spec, script)) => {
-            // Whoever uses a field of a specification knows that it keeps its invariant.
+            // Using a field of a specification shows that it keeps its invariant.
             let _ = &spec.procs;
             let text = write_mission(alloc, &spec, &script);
             drop((spec, script));
@@ -37,7 +37,7 @@ pub fn print_generated<K: Sink>(alloc: Global, number: u32, out: &mut K) -> Stat
     }
 }
 
-/// Flies the mission of a number, 0 to 999,999, and tells of it in a line.
+/// Flies the mission of a number, 0 to 999,999, and prints its summary.
 pub fn fly_generated<R: AllocGlobal + Threads + Wait + Sync, K: Sink>(
     rt: &R,
     number: u32,
@@ -48,7 +48,7 @@ pub fn fly_generated<R: AllocGlobal + Threads + Wait + Sync, K: Sink>(
 {
     match generate(rt.alloc(), number) {
         Ok((spec, script)) => {
-            // Whoever uses a field of a specification knows that it keeps its invariant.
+            // Using a field of a specification shows that it keeps its invariant.
             let _ = &spec.procs;
             fly_parts(rt, number, (spec, script), out, boxes)
         }

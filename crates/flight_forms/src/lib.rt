@@ -1,5 +1,5 @@
-//! The forms in which missions are flown: `run`, `replay`, `gen` and `fly`. What each prints is the answer to the bytes of
-//! the files that its words name, and what is flown is assured.
+//! The forms in which missions are flown: `run`, `watch`, `pair`, `replay`, `gen` and `fly`. What each prints is the answer
+//! to the bytes of the files that its words name, and what is flown is assured.
 #![tactic(auto)]
 
 mod boxes;
@@ -9,11 +9,15 @@ mod generated;
 pub mod laws;
 mod lines;
 mod missions;
+mod pairs;
 mod replays;
 mod summaries;
+mod watches;
 
 pub use boxes::Boxes;
 pub use flights::run;
 pub use generated::{fly_generated, print_generated};
 pub use missions::MissionFiles;
+pub use pairs::{PairFiles, pair_form};
 pub use replays::{ReplayFiles, replay_form};
+pub use watches::watch;

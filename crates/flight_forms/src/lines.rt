@@ -2,15 +2,17 @@
 
 ghost use Rattle.std.specs.Prelude.{◌≡◌, ◌+◌, ◌≤◌, ◌++◌, ◌<◌, ◌^◌, length};
 ghost use Rattle.scram_types.specs.declared.limits.TheConstants.{MAX_LINE_BYTES};
-ghost use Rattle.flight_forms.specs.Lines.{fly_line, outside_kind_text, outside_line, script_line};
+ghost use Rattle.flight_forms.specs.Lines.{fly_line, outside_kind_text, outside_line, script_line, watch_line};
 
 use crate::summaries::{last_run, longest_duration};
 use fault_script::{Outside, OutsideKind, ScriptFault};
 use form_base::lines::{add_counts, add_rule};
 use scram_types::{Flown, Spec};
+use telemetry_tap::Summary;
 use trace_text::lines::Line;
+use trace_text::row_lines::{add_conf_or_dash, add_up};
 
-/// A script document breaks a rule.
+/// Returns the line for a script document that breaks a rule.
 pub fn make_script_line(fault: &ScriptFault) -> Line
     ensures { result ≡ script_line fault.now }
 {
@@ -21,7 +23,7 @@ pub fn make_script_line(fault: &ScriptFault) -> Line
     line
 }
 
-/// A script leaves the failure assumption: the frame, and in which way.
+/// Returns the line for a script that leaves the failure assumption: the frame, and in which way.
 pub fn make_outside_line(outside: &Outside) -> Line
     ensures { result ≡ outside_line outside.now }
 {
@@ -34,8 +36,8 @@ pub fn make_outside_line(outside: &Outside) -> Line
     line
 }
 
-/// The mission of a number was flown: the numbers of its frames and of its reconfigurations, how many frames
-/// the longest finished one took, and the configuration that was run last.
+/// Returns the line for the flown mission of a number: the numbers of its frames and of its reconfigurations, how
+/// many frames the longest finished one took, and the configuration that was run last.
 pub fn make_fly_line(number: u32, spec: &Spec, flown: &Flown) -> Line
     requires rows { length flown.now.rows < 2 ^ 32 }
     requires reports { length flown.now.reports < 2 ^ 32 }
@@ -52,6 +54,24 @@ pub fn make_fly_line(number: u32, spec: &Spec, flown: &Flown) -> Line
         spec.conf_name(last_run(spec, flown.rows.items()))
             .as_bytes(),
     );
+    line.text(b"\n");
+    line
+}
+
+/// Returns the line of a flight that was watched: the number of frames of a summary, the configuration that its last row
+/// runs, the processors that are up in it, and the number of reconfigurations that have begun.
+pub fn make_watch_line(spec: &Spec, summary: &Summary) -> Line
+    ensures { result ≡ watch_line spec.now summary.now }
+{
+    let mut line = Line::new();
+    line.text(b"watch frames ");
+    line.number(summary.frames);
+    line.text(b" running ");
+    add_conf_or_dash(&mut line, spec, summary.running_conf());
+    line.text(b" up ");
+    add_up(&mut line, spec, summary.up);
+    line.text(b" begun ");
+    line.number(summary.begun);
     line.text(b"\n");
     line
 }

@@ -1,9 +1,10 @@
 //! Missions, as two files hold them.
 
-ghost use Rattle.std.specs.Prelude.{◌∷◌, []};
+ghost use Rattle.std.specs.Prelude.{ℕ, List, ◌∷◌, []};
+ghost use Rattle.coverage_check.specs.Missions.{MissionParts};
 ghost use Rattle.fault_script.specs.Fits.{Fits};
 ghost use Rattle.form_base.specs.Endings.{Prepares};
-ghost use Rattle.flight_forms.specs.Answers.{RunAnswers, ScriptAnswers, TellsTrace};
+ghost use Rattle.flight_forms.specs.Answers.{FlightAnswers, ScriptAnswers, TellsFlight};
 ghost use Rattle.flight_forms.specs.Documents.{AsksScript};
 ghost use Rattle.flight_forms.specs.Missions.{JoinsMission, MakesMission};
 
@@ -31,8 +32,8 @@ pub fn read_mission<F: Files>(
     named: MissionFiles<'_>,
     files: &mut F,
 ) -> Result<Mission, Refusal>
-    ensures { Prepares (RunAnswers named.entry.specification.now named.entry.script.now) TellsTrace (named.entry.specification.now ∷ named.entry.script.now ∷ [])
-        (F.state files.old) (F.state files.new) result }
+    ensures { (text : MissionParts → List ℕ) → Prepares (FlightAnswers text named.entry.specification.now named.entry.script.now) (TellsFlight text)
+        (named.entry.specification.now ∷ named.entry.script.now ∷ []) (F.state files.old) (F.state files.new) result }
 {
     match load(alloc, &Specification, named.specification, files) {
         Ok(spec) => read_script(alloc, spec, named.script, files),
@@ -46,7 +47,8 @@ fn read_script<F: Files>(
     script: &str,
     files: &mut F,
 ) -> Result<Mission, Refusal>
-    ensures { Prepares (AsksScript spec script.now (ScriptAnswers spec)) TellsTrace (script.now ∷ []) (F.state files.old) (F.state files.new) result }
+    ensures { (text : MissionParts → List ℕ) → Prepares (AsksScript spec script.now (ScriptAnswers text spec)) (TellsFlight text)
+        (script.now ∷ []) (F.state files.old) (F.state files.new) result }
 {
     match load(alloc, &ScriptDocument { spec: &spec }, script, files) {
         Ok(script) => make_mission(alloc, spec, script),
@@ -57,8 +59,8 @@ fn read_script<F: Files>(
     }
 }
 
-/// The mission of a specification and a script that fits it, where the one is accepted and the other keeps to its failure
-/// assumption.
+/// Returns the mission of a specification and a script that fits it, where the one is accepted and the other keeps to
+/// its failure assumption.
 pub fn make_mission(alloc: Global, spec: Spec, script: Script) -> Result<Mission, Refusal>
     requires { Fits spec script }
     ensures { MakesMission spec script result }

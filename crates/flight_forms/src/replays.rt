@@ -164,7 +164,7 @@ fn fly_replay<K: Sink>(alloc: Global, replayed: &Replay, out: &mut K, boxes: Box
     }
 }
 
-/// How a list is refused that is no schedule which flies to the end.
+/// Returns how a list is refused that is no schedule which flies to the end.
 fn refusal_of(spec: &Spec, error: ReplayError) -> Refusal
     ensures { told result ≡ replay_refusal spec.now error }
 {

@@ -24,18 +24,18 @@ pub put_taken : {A E : Type 0} (put : Result A E) (status : ℕ) (text : List �
 put_taken {A} {E} (Ok _) status text old new printed = printed_taken status text old new printed
 put_taken {A} {E} (Err _) status text old new cut = cut_taken status text old new cut
 
--- a text of status 0 was told
+-- a text of status 0 was printed
 pub answered_tells : (text : List ℕ) (old new : SinkState) (code : ℕ) → IsTaken old new code ANSWERED text → Tells (Gives (ANSWERED, text)) old new code
 answered_tells text old new code taken =
     record { status = ANSWERED; text = text; answer = inl refl; read = λ same. absurd (omega (arith, same)); written = λ same. absurd (omega (arith, same)); taken = taken }
 
--- a status and a text that were given were told
+-- a status and a text that were given were printed
 pub given_tells : (status : ℕ) (text : List ℕ) (old new : SinkState) (code : ℕ) → status ≢ UNREAD_FILE → status ≢ UNWRITTEN_OUTPUT
     → IsTaken old new code status text → Tells (Gives (status, text)) old new code
 given_tells status text old new code read written taken =
     record { status = status; text = text; answer = inl refl; read = read; written = written; taken = taken }
 
--- the line of the refusal where the allocator has no memory was told
+-- the line of the refusal where the allocator is out of memory was printed
 pub memory_tells : (A : ℕ → List ℕ → Type 0) (old new : SinkState) (code : ℕ) → IsTaken old new code OUT_OF_MEMORY memory_line → Tells A old new code
 memory_tells A old new code taken =
     record { status = OUT_OF_MEMORY; text = memory_line; answer = inr (refl, refl); read = λ same. absurd (omega (arith, same)); written = λ same. absurd (omega (arith, same)); taken = taken }
@@ -69,7 +69,7 @@ refusal_written Memory same = absurd (omega (arith, same))
 refusal_written Trace same = absurd (omega (arith, same))
 refusal_written Schedule same = absurd (omega (arith, same))
 
--- a refusal was told
+-- a refusal was printed
 pub refusal_ends : (A : Answer) (names : List (List ℕ)) (before after : FilesState) (refused : Refused) (line : List ℕ) (old new : SinkState) (code : ℕ)
     → Decides A names before after (code_of refused) line → IsTaken old new code (code_of refused) line → Ends A names before after (IsTaken old new code)
 refusal_ends A names before after refused line old new code decides taken =
@@ -80,7 +80,7 @@ found_answer : (A : Answer) (Rest : ℕ → List ℕ → Type 0) (names : List (
 found_answer A Rest names before after finds status text (inl is) = inl (finds.answers status text is)
 found_answer A Rest names before after finds status text (inr is) = inr (is, finds.turn)
 
--- what was left of an answer was told
+-- the rest of an answer was printed
 pub found_ends : (A : Answer) (Rest : ℕ → List ℕ → Type 0) (names : List (List ℕ)) (before after : FilesState) (old new : SinkState) (code : ℕ)
     → IsPrepared A Rest names before after → Tells Rest old new code → Ends A names before after (IsTaken old new code)
 found_ends A Rest names before after old new code finds tells = record {

@@ -71,7 +71,7 @@ settled {T} A Rest files (Err refusal) below is = record {
   unread = λ same. absurd (is.1 same);
 }
 
--- an answer that needs no file was told
+-- an answer that needs no file was printed
 pub told_ends : (A : ℕ → List ℕ → Type 0) (files : FilesState) (old new : SinkState) (code : ℕ) → (IsTrue files.steady → files.faults < greatest_count) → Tells A old new code
     → Ends (WithoutFiles A) [] files files (IsTaken old new code)
 told_ends A files old new code below tells = record {

@@ -27,8 +27,8 @@ pub record AnswersBytes (limit : ℕ) (name : List ℕ) (Answers : List ℕ → 
   pub grew : Grew before between ((name, bytes) ∷ [])
   pub answers : Answers bytes between after rest status text
 
--- The file of this name alone was read, it has more bytes than the limit, and this is answered. Where the files tell no
--- map, their count of faults rose.
+-- The file of this name alone was read, it has more bytes than the limit, and this is answered. Where the files have
+-- no known map, their count of faults rose.
 pub record AnswersLonger (limit : ℕ) (long : ℕ × List ℕ) (name : List ℕ) (before after : FilesState) (reads : History) (status : ℕ) (text : List ℕ) : Type 0 where
   pub bytes : List ℕ
   pub read : reads ≡ (name, bytes) ∷ []
@@ -50,7 +50,7 @@ abbrev pub AnswersFile : ℕ → ℕ × List ℕ → List ℕ → (List ℕ → 
 AnswersFile limit long name Answers before after reads status text =
     AnswersBytes limit name Answers before after reads status text ⊎ AnswersUnread limit long name before after reads status text
 
--- The bytes say something, of which this is answered, or they break a rule, and this is told.
+-- The bytes say something, of which this is answered, or they break a rule, and this is reported.
 abbrev pub AnswersDocument : {T : Type 0} → (T → List ℕ → Type 0) → (ℕ × List ℕ → List ℕ → Type 0) → (T → Answer) → List ℕ → Answer
 AnswersDocument {T} Says Breaks Then bytes before after reads status text =
     ((value : T) × Says value bytes × Then value before after reads status text) ⊎ ((reads ≡ []) × Breaks (status, text) bytes)

@@ -6,7 +6,7 @@ use Rattle.form_base.specs.declared.status.TheConstants.{OUT_OF_MEMORY, UNREAD_F
 use Rattle.form_base.specs.Answers.{Answer}
 use Rattle.form_base.specs.Refusals.{memory_line, told}
 
--- The allocator had no memory.
+-- Out of memory.
 abbrev pub IsMemoryRefusal : ℕ → List ℕ → Type 0
 IsMemoryRefusal status text = (status ≡ OUT_OF_MEMORY) × (text ≡ memory_line)
 
@@ -19,12 +19,12 @@ abbrev pub AreThere : FileMap → List (List ℕ) → Type 0
 AreThere map [] = ⊤
 AreThere map (name ∷ names) = IsSome (file_at name map) × AreThere map names
 
--- Where the map is told, the files are steady and these are there, the count of their faults did not rise.
+-- Where the map is known, the files are steady and these are there, the count of their faults did not rise.
 abbrev pub StaysQuiet : List (List ℕ) → FilesState → FilesState → Type 0
 StaysQuiet names before after = IfSome before.told (λ map. IsTrue before.steady → AreThere map names → Unrisen before.faults after.faults)
 
--- Of the files that are named in this order, status and text are the answer to what was read of them, or the allocator
--- had no memory. A file is told as unread only where the count of faults rose.
+-- Of the files that are named in this order, status and text are the answer to what was read of them, or the
+-- allocator was out of memory. A file is reported as unread only where the count of faults rose.
 pub record Decides (Answers : Answer) (names : List (List ℕ)) (before after : FilesState) (status : ℕ) (text : List ℕ) : Type 0 where
   pub reads : History
   pub grew : Grew before after reads
@@ -40,13 +40,14 @@ pub record IsPrepared (Answers : Answer) (Rest : ℕ → List ℕ → Type 0) (n
   pub turn : AreInTurn names reads
   pub answers : (status : ℕ) (text : List ℕ) → Rest status text → Answers before after reads status text
 
--- What comes of reading the files of an answer: a value, of which the rest of the answer is made, or a refusal, which is the answer.
+-- The result of reading the files of an answer: a value, of which the rest of the answer is made, or a refusal, which
+-- is the answer.
 abbrev pub Prepares : {T : Type 0} → Answer → (T → ℕ → List ℕ → Type 0) → List (List ℕ) → FilesState → FilesState → Result T Refusal → Type 0
 Prepares Answers Rest names before after (Ok value) = IsPrepared Answers (Rest value) names before after
 Prepares Answers Rest names before after (Err refusal) = Decides Answers names before after (told refusal).0 (told refusal).1
 
--- What comes of a decision that reads no file: a value, of which the rest of the answer is made, or a refusal, which is the answer or
--- says that the allocator had no memory.
+-- The result of a decision that reads no file: a value, of which the rest of the answer is made, or a refusal, which
+-- is the answer or says that the allocator was out of memory.
 abbrev pub Settles : {T : Type 0} → (ℕ → List ℕ → Type 0) → (T → ℕ → List ℕ → Type 0) → Result T Refusal → Type 0
 Settles Answers Rest (Ok value) = (status : ℕ) (text : List ℕ) → Rest value status text → Answers status text
 Settles Answers Rest (Err refusal) =
@@ -78,7 +79,8 @@ pub record IsSent (old new : SinkState) (code status : ℕ) (text : List ℕ) : 
   pub shown : ((code ≡ status) × WentOut old new text) ⊎ ((code ≡ UNWRITTEN_OUTPUT) × StoppedIn old new text)
   pub surely : IsQuietFor text old new
 
--- An answer that needs no file, or the memory line, was taken by the sink; its status tells neither of a file nor of the sink.
+-- An answer that needs no file, or the memory line, was taken by the sink; its status is about neither a file nor the
+-- sink.
 pub record Tells (Answers : ℕ → List ℕ → Type 0) (old new : SinkState) (code : ℕ) : Type 0 where
   pub status : ℕ
   pub text : List ℕ
@@ -96,8 +98,7 @@ pub record Ends (Answers : Answer) (names : List (List ℕ)) (before after : Fil
   pub written : status ≢ UNWRITTEN_OUTPUT
   pub shown : Shown status text
 
--- The sink tells that it surely takes as many bytes as the memory line and as any answer to what the map has, where no
--- fault comes, have.
+-- The sink is known to take the bytes of the memory line and of any answer to what the map has, where no fault comes.
 pub record HasRoom (Answers : Answer) (map : FileMap) (files : FilesState) (sink : SinkState) : Type 0 where
   pub room : ℕ
   pub told : sink.surely ≡ Some room
@@ -105,7 +106,7 @@ pub record HasRoom (Answers : Answer) (map : FileMap) (files : FilesState) (sink
       → (status : ℕ) (text : List ℕ) → Answers files after reads status text → length text ≤ room
   pub memory : length memory_line ≤ room
 
--- Where the map is told, the files are steady, the named ones are there and the sink has room, neither count rose.
+-- Where the map is known, the files are steady, the named ones are there and the sink has room, neither count rose.
 abbrev pub Completes : Answer → List (List ℕ) → FilesState → FilesState → SinkState → SinkState → Type 0
 Completes Answers names before after old new = IfSome before.told (λ map. IsTrue before.steady → AreThere map names
     → HasRoom Answers map before old → Unrisen before.faults after.faults × Unrisen old.faults new.faults)

@@ -1,4 +1,4 @@
--- The lines of refusals that several forms tell, and pieces of lines.
+-- The lines of refusals that several forms print, and pieces of lines.
 use Rattle.std.specs.Prelude.{ℕ, ◌==◌, ◌+◌, ◌%◌, ◌/◌, List, [], ◌∷◌, ◌++◌, length, slice_index, Option, Some, None, codes, decimal, if◌then◌else◌}
 use Rattle.scram_types.specs.Lookups.{app_name, conf_name, proc_name, value_name}
 use Rattle.scram_types.specs.Specification.{Parts}

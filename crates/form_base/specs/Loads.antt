@@ -12,17 +12,17 @@ pub record HasRead (limit : ℕ) (name : List ℕ) (Fact : List ℕ → Type 0) 
   pub fits : length bytes ≤ limit
   pub fact : Fact bytes
 
--- A refusal says that the allocator had no memory.
+-- A refusal says that the allocator was out of memory.
 abbrev pub IsOutOfMemory : ℕ × List ℕ → Type 0
 IsOutOfMemory refusal = refusal ≡ (OUT_OF_MEMORY, memory_line)
 
--- What bytes are read as: they say a value, or break a rule, or the allocator had no memory.
+-- What bytes are read as: they say a value, or break a rule, or the allocator was out of memory.
 abbrev pub ReadsAs : {T : Type 0} → (T → List ℕ → Type 0) → (ℕ × List ℕ → List ℕ → Type 0) → List ℕ → Result T Refusal → Type 0
 ReadsAs Says Breaks bytes (Ok value) = Says value bytes
 ReadsAs Says Breaks bytes (Err refusal) = Breaks (told refusal) bytes ⊎ IsOutOfMemory (told refusal)
 
--- Why a file was not loaded: its bytes break a rule; it is too long; the files failed; or the allocator had no memory, before the file
--- was read or after.
+-- Why a file was not loaded: its bytes break a rule; it is too long; the files failed; or the allocator was out of
+-- memory, before the file was read or after.
 abbrev pub IsUnloaded : (ℕ × List ℕ → List ℕ → Type 0) → ℕ → ℕ × List ℕ → List ℕ → FilesState → FilesState → ℕ × List ℕ → Type 0
 IsUnloaded Breaks limit long name before after refusal =
     HasRead limit name (Breaks refusal) before after

@@ -28,7 +28,7 @@ line_text (Naming line) = string_bytes line
 abbrev pub told : Refusal → ℕ × List ℕ
 told refusal = (code_of refusal.refused, line_text refusal.line)
 
--- The line where the allocator has no memory.
+-- The line where the allocator is out of memory.
 abbrev pub memory_line : List ℕ
 memory_line = codes "refused: memory\n"
 
@@ -36,6 +36,6 @@ memory_line = codes "refused: memory\n"
 abbrev pub read_line : List ℕ → List ℕ
 read_line name = codes "refused: read " ++ name ++ codes "\n"
 
--- A status and a line tell that the file of this name was not read, or that there is no memory for that line.
+-- A status and a line say that the file of this name was not read, or that there is no memory for that line.
 abbrev pub IsUnread : List ℕ → ℕ × List ℕ → Type 0
 IsUnread name refusal = (refusal ≡ (UNREAD_FILE, read_line name)) ⊎ (refusal ≡ (OUT_OF_MEMORY, memory_line))

@@ -1,4 +1,4 @@
--- What is told.
+-- What is printed.
 use Rattle.std.specs.Prelude.{ℕ, Result, Ok, Err}
 use Rattle.form_base.specs.declared.status.TheConstants.{UNWRITTEN_OUTPUT}
 

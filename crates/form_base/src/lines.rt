@@ -1,4 +1,4 @@
-//! The lines of refusals that several forms tell, and pieces of lines, made without memory.
+//! The lines of refusals that several forms print, and pieces of lines, made without memory.
 
 ghost use Rattle.std.specs.Prelude.{◌≡◌, ◌+◌, ◌*◌, ◌≤◌, ◌++◌, [], ◌<◌, ◌^◌, length, codes, if◌then◌else◌};
 ghost use Rattle.scram_types.specs.declared.limits.TheConstants.{MAX_LINE_BYTES};
@@ -12,8 +12,8 @@ use scram_types::{Env, Factor, Flown, Name, Spec};
 use trace_text::lines::Line;
 use trace_text::row_lines::add_conf_or_dash;
 
-/// A specification document breaks a rule. Where its needs go in a cycle, the line has the names of the
-/// applications in it.
+/// Returns the line for a specification document that breaks a rule. Where its needs go in a cycle, the line has the
+/// names of the applications in it.
 pub fn make_specification_line(fault: &SpecFault) -> Line
     ensures { result ≡ specification_line fault.now }
 {
@@ -25,8 +25,8 @@ pub fn make_specification_line(fault: &SpecFault) -> Line
     line
 }
 
-/// A specification is not accepted: the condition, and the configuration, the environment and what else it
-/// is broken at.
+/// Returns the line for a specification that is not accepted: the condition, and the configuration, the environment
+/// and what else it is broken at.
 pub fn make_shown_line(spec: &Spec, shown: &Shown) -> Line
     ensures { result ≡ shown_line spec.now shown.now }
 {

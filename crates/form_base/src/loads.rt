@@ -20,16 +20,16 @@ pub trait Document<T> {
 
     ghost Breaks: { Self → ℕ × List ℕ → List ℕ → Type 0 };
 
-    /// The greatest number of bytes.
+    /// Returns the greatest number of bytes.
     fn limit(&self) -> usize
         ensures { result ≡ limit self.now };
 
-    /// What the bytes say, or the first rule that they break.
+    /// Returns what the bytes say, or the first rule that they break.
     fn read(&self, alloc: Global, bytes: &[u8]) -> Result<T, Refusal>
         ensures reads { ReadsAs (Says self.now) (Breaks self.now) bytes.now result }
         ensures other { IfErr result (λ refusal. (told refusal).0 ≢ UNREAD_FILE) };
 
-    /// The refusal of a file with more bytes than the limit.
+    /// Returns the refusal of a file with more bytes than the limit.
     fn too_long(&self) -> Refusal
         ensures is { told result ≡ long self.now }
         ensures other { (told result).0 ≢ UNREAD_FILE };

@@ -23,7 +23,7 @@ pub enum Refused {
     Script,
     /// A script leaves the failure assumption.
     Assumption,
-    /// The allocator had no memory.
+    /// Out of memory.
     Memory,
     /// A file breaks a rule of traces.
     Trace,
@@ -32,7 +32,7 @@ pub enum Refused {
 }
 
 impl Refused {
-    /// The status by which the command tells it.
+    /// Returns the status with which the command reports it.
     pub fn code(self) -> u8
         ensures { result ≡ code_of self }
     {
@@ -67,7 +67,7 @@ pub struct Refusal {
 }
 
 impl Refusal {
-    /// The refusal by a line that is made without memory.
+    /// Returns the refusal by a line that is made without memory.
     pub fn new(refused: Refused, line: Line) -> Refusal
         ensures { told result ≡ (code_of refused, line) }
     {
@@ -77,7 +77,7 @@ impl Refusal {
         }
     }
 
-    /// The refusal where the allocator has no memory.
+    /// Returns the refusal where the allocator is out of memory.
     pub fn out_of_memory() -> Refusal
         ensures { told result ≡ (OUT_OF_MEMORY, memory_line) }
     {
@@ -86,8 +86,8 @@ impl Refusal {
         Refusal::new(Refused::Memory, line)
     }
 
-    /// The refusal of a file that was not read, which has the file's name; where there is no memory for that line, the
-    /// refusal that says so.
+    /// Returns the refusal of a file that was not read, which has the file's name; where there is no memory for that
+    /// line, the refusal that says so.
     pub fn unread(alloc: Global, name: &str) -> Refusal
         ensures { IsUnread name.now (told result) }
     {
@@ -100,7 +100,7 @@ impl Refusal {
         }
     }
 
-    /// The bytes of the line.
+    /// Returns the bytes of the line.
     pub fn line(&self) -> &[u8]
         ensures { result.now ≡ line_text self.now.line }
     {

@@ -43,7 +43,7 @@ impl Document<Spec> for Specification {
     fn read(&self, alloc: Global, bytes: &[u8]) -> Result<Spec, Refusal> {
         match read_spec(alloc, bytes) {
             Ok(spec) => {
-                // Whoever uses a field of a specification knows that it keeps its invariant.
+                // Using a field of a specification shows that it keeps its invariant.
                 let _ = &spec.procs;
                 Ok(spec)
             }

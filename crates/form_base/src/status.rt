@@ -6,7 +6,7 @@ pub struct Status {
     pub code: u8,
 }
 
-/// What was asked for is done, and told.
+/// What was asked for is done and printed.
 pub const ANSWERED: u8 = 0;
 
 /// The words have no form of the command.
@@ -30,7 +30,7 @@ pub const BROKEN_SCRIPT: u8 = 7;
 /// The script leaves the failure assumption.
 pub const UNASSUMED_SCRIPT: u8 = 8;
 
-/// The allocator had no memory.
+/// Out of memory.
 pub const OUT_OF_MEMORY: u8 = 9;
 
 /// The trace breaks a property of reconfigurations.

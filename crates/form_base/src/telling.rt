@@ -1,4 +1,4 @@
-//! What is told: a text goes out with its status.
+//! What is printed: a text goes out with its status.
 
 ghost use Rattle.form_base.specs.Endings.{IsTaken};
 ghost use Rattle.std.specs.Prelude.{◌≡◌};
@@ -9,7 +9,7 @@ use crate::refusals::Refusal;
 use crate::status::{Status, UNWRITTEN_OUTPUT};
 use scram_io::{Sink, SinkFault};
 
-/// The status after a text of the status `code` was put.
+/// Returns the status after a text of the status `code` was put.
 pub fn status_after(put: Result<(), SinkFault>, code: u8) -> Status
     ensures { result.code ≡ status_after put code }
 {

@@ -14,7 +14,7 @@ use std::rt::Files;
 use std::sync::Wait;
 use std::thread::Threads;
 
-/// The status where memory is wanting before the command is called.
+/// The status of an out-of-memory error before the command is called.
 const NO_MEMORY: u8 = 9;
 /// The status where a line that is printed here is not written.
 const UNWRITTEN_OUTPUT: u8 = 4;
@@ -34,7 +34,7 @@ fn main(rt: HostRuntime) -> ExitCode {
     }
 }
 
-/// Tells that memory was wanting before the command was called, when nothing had been read or printed.
+/// Prints the line of an out-of-memory error before the command is called, when nothing has been read or printed.
 fn refuse_memory(rt: &HostRuntime) -> ExitCode {
     match println!(rt; "refused: memory") {
         Ok(()) => ExitCode::from(NO_MEMORY),
@@ -57,7 +57,7 @@ fn answer<R: AllocGlobal + Files + Print + Threads + Wait + Sync>(
     Ok(status.code)
 }
 
-/// Tells that the boxes are not those of the kinds: the status.
+/// Prints that the boxes are not those of the kinds, and returns the status.
 fn refuse_racks(rt: &HostRuntime) -> u8 {
     match println!(rt; "refused: racks") {
         Ok(()) => UNFIT_RACKS,
@@ -65,7 +65,7 @@ fn refuse_racks(rt: &HostRuntime) -> u8 {
     }
 }
 
-/// The words after the program's name.
+/// Returns the words after the program's name.
 fn words(rt: &HostRuntime) -> io::Result<Vec<String>> {
     let mut words = Vec::new(rt.alloc());
     for word in env::args(rt)?.skip(1) {

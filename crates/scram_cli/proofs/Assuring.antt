@@ -7,7 +7,7 @@ use Rattle.spec_forms.proofs.Assuring.{bounds_assure, check_assures}
 use Rattle.trace_forms.proofs.Assuring.{props_assure}
 use Rattle.flight_forms.specs.Assurance.{FlightsAreAssured}
 use Rattle.scram_cli.specs.declared.forms.Form.{Form}
-use Rattle.scram_cli.specs.declared.forms.Form.TheVariants.{Run, Check, Bounds, Props, Replay, Gen, Fly, Told}
+use Rattle.scram_cli.specs.declared.forms.Form.TheVariants.{Run, Watch, Pair, Check, Bounds, Props, Replay, Gen, Fly, Told}
 use Rattle.scram_cli.specs.Answers.{FormAnswers}
 use Rattle.scram_cli.specs.Assurance.{AssuresForm}
 use Rattle.scram_cli.specs.Pages.{page_text}
@@ -15,6 +15,8 @@ use Rattle.scram_cli.specs.Pages.{page_text}
 pub form_assures : FlightsAreAssured → (form : Option (Form (List ℕ))) → IsAssuring (FormAnswers form) (AssuresForm form)
 form_assures law None before after reads text is = not_zero 1 _ text is.1
 form_assures law (Some (Run specification script)) before after reads text is = law.run specification script before after reads text is
+form_assures law (Some (Watch specification script)) before after reads text is = law.watch specification script before after reads text is
+form_assures law (Some (Pair specification script halt)) before after reads text is = law.run specification script before after reads text is
 form_assures law (Some (Check specification)) before after reads text is = check_assures specification before after reads text is
 form_assures law (Some (Bounds specification)) before after reads text is = bounds_assure specification before after reads text is
 form_assures law (Some (Props specification trace)) before after reads text is = props_assure specification trace before after reads text is

@@ -1,4 +1,4 @@
--- Where nothing fails and a mission is read, its flight is answered, or the allocator had no memory.
+-- Where nothing fails and a mission is read, its flight is answered, or the allocator was out of memory.
 use Rattle.std.proofs.Common.{◌≡◌, ℕ, ◌<◌, ◌≤◌, List, [], ◌∷◌, length, refl, sym, ◌∙◌, ap, inl, inr, ◌⊎◌, arith}
 use Rattle.std.proofs.lemmas.Bool.Decides.{nat_tests}
 use Rattle.std.specs.Prelude.{Bool, true, false, Option, Some, None, IfSome, IsTrue, Result, Ok, Err, cond, nat_le}
@@ -112,37 +112,37 @@ refused_none spec script None A status text is nowhere answers = script_none (fi
 -- the one answer where the files hold a mission
 mission_answered : (specification script : List ℕ) (map : FileMap) (mission : MissionParts) (before after : FilesState) (reads : History) (status : ℕ) (text : List ℕ)
     → HoldsMission map specification script mission → Unrisen before.faults after.faults → Agrees map reads
-    → RunAnswers specification script before after reads status text → Gives (ANSWERED, flight_text Trace mission.spec mission.script) status text
+    → RunAnswers specification script before after reads status text → Gives (ANSWERED, flight_text Trace mission) status text
 mission_answered specification script map mission before after reads status text holds quiet agrees is =
     let spec_few : nat_le (length holds.specification) MAX_SPECIFICATION_BYTES ≡ true =
     short_by (nat_le (length holds.specification) MAX_SPECIFICATION_BYTES) _ _ mission.spec holds.is_specification in
     let script_few : nat_le (length holds.script) MAX_SCRIPT_BYTES ≡ true = short_by (nat_le (length holds.script) MAX_SCRIPT_BYTES) _ _ mission.script holds.is_script in
-    let Then : Parts → Answer = λ (spec : Parts). AsksScript spec script (ScriptAnswers spec) in
+    let Then : Parts → Answer = λ (spec : Parts). AsksScript spec script (ScriptAnswers (flight_text Trace) spec) in
     let first = file_answered MAX_SPECIFICATION_BYTES long_specification specification (AnswersDocument SaysSpecification BreaksSpecification Then) map
     holds.specification before before after reads status text holds.specification_file (grind (arith, nat_tests, spec_few)) quiet (omega arith) agrees is in
-    let asked : AsksScript mission.spec script (ScriptAnswers mission.spec) first.between after first.rest status text =
+    let asked : AsksScript mission.spec script (ScriptAnswers (flight_text Trace) mission.spec) first.between after first.rest status text =
     said_spec mission.spec Then holds.specification first.between after first.rest status text holds.is_specification first.answers in
-    let second = file_answered MAX_SCRIPT_BYTES long_script script (AnswersDocument (SaysScript mission.spec) (BreaksScript mission.spec) (ScriptAnswers mission.spec)) map
+    let second = file_answered MAX_SCRIPT_BYTES long_script script (AnswersDocument (SaysScript mission.spec) (BreaksScript mission.spec) (ScriptAnswers (flight_text Trace) mission.spec)) map
     holds.script before first.between after first.rest status text holds.script_file (grind (arith, nat_tests, script_few)) quiet first.count first.agrees asked in
-    let answered : ScriptAnswers mission.spec mission.script second.between after second.rest status text =
-    said_script mission.spec mission.script (ScriptAnswers mission.spec) holds.script second.between after second.rest status text holds.is_script second.answers in
-    refused_none mission.spec mission.script (first_refusal mission.spec) (Gives (ANSWERED, flight_text Trace mission.spec mission.script)) status text
+    let answered : ScriptAnswers (flight_text Trace) mission.spec mission.script second.between after second.rest status text =
+    said_script mission.spec mission.script (ScriptAnswers (flight_text Trace) mission.spec) holds.script second.between after second.rest status text holds.is_script second.answers in
+    refused_none mission.spec mission.script (first_refusal mission.spec) (Gives (ANSWERED, flight_text Trace mission)) status text
     ((accepts_where_unrefused mission.spec holds.sound).unrefused holds.is_mission.accepts)
     ((leaves_nowhere mission.spec mission.script).nowhere holds.is_mission.within) answered.1
 
 has_room : (specification script : List ℕ) (map : FileMap) (mission : MissionParts) (before : FilesState) (old : SinkState) → HoldsMission map specification script mission
-    → HasRoomFor old (flight_text Trace mission.spec mission.script) → HasRoom (RunAnswers specification script) map before old
+    → HasRoomFor old (flight_text Trace mission) → HasRoom (RunAnswers specification script) map before old
 has_room specification script map mission before old holds room = record {
   room = room.room;
   told = room.told;
   answers = λ after reads quiet agrees status text is.
-      let gives : Gives (ANSWERED, flight_text Trace mission.spec mission.script) status text =
+      let gives : Gives (ANSWERED, flight_text Trace mission) status text =
       mission_answered specification script map mission before after reads status text holds quiet agrees is in
       rw (ap (λ (answer : ℕ × List ℕ). answer.1) gives) at room.fits;
   memory = room.memory;
 }
 
--- what was shown is the answer, or that the allocator had no memory, where no count rose
+-- what was shown is the answer, or that the allocator was out of memory, where no count rose
 shown_whole : (old new : SinkState) (code status : ℕ) (text : List ℕ) → Unrisen old.faults new.faults
     → ((code ≡ status) × WentOut old new text) ⊎ ((code ≡ UNWRITTEN_OUTPUT) × StoppedIn old new text) → (code ≡ status) × WentOut old new text
 shown_whole old new code status text quiet (inl is) = is
@@ -169,7 +169,7 @@ missions_are_answered specification script map mission before after old new code
     quiet_of (RunAnswers specification script) (specification ∷ script ∷ []) before.told map before after old new told complete steady there
     (has_room specification script map mission before old holds room) in
     let agrees : IfSome (Some map) (λ m. Agrees m answer.decides.reads) = rw told at answer.decides.grew.agrees in
-    answers_by (RunAnswers specification script) (specification ∷ script ∷ []) before after answer.decides.reads (flight_text Trace mission.spec mission.script) old new code
+    answers_by (RunAnswers specification script) (specification ∷ script ∷ []) before after answer.decides.reads (flight_text Trace mission) old new code
     answer.status answer.text
     (λ is. mission_answered specification script map mission before after answer.decides.reads answer.status answer.text holds quiet.0 agrees is)
     answer.decides.answer (shown_whole old new code answer.status answer.text quiet.1 answer.shown.shown)

@@ -133,7 +133,7 @@ halts : outside_line (record { frame = 30; kind = kind.Halts }) ≡ codes "refus
 unfolding digits
 halts = refl
 
--- four sets of values, with nobody down or one of two processors
+-- four sets of values, with no processor or one of two down
 accepted : accepted_line alternators ≡ codes "accepted: configurations 2 states 12 bounds 0\n"
 unfolding digits
 accepted = refl

@@ -127,7 +127,7 @@ time_short spec sound c a time h = time_by (mode_of spec c a) time (λ listed is
 
 -- orders
 
--- an order that tells a frame of a phase tells one of its frames
+-- an order that names a frame of a phase names one of its frames
 abbrev pub IsOrderShown : Order → Type 0
 IsOrderShown order.Run = ⊤
 IsOrderShown (order.Halt k n) = (k < n) × (n ≤ 16)
@@ -153,7 +153,7 @@ initialising_shown offset time age short =
     order_by (nat_lt age offset) order.Hold (cond (nat_lt (age - offset) time) (order.Init (age - offset) time) order.Hold) (λ e. tt)
     (order_by (nat_lt (age - offset) time) (order.Init (age - offset) time) order.Hold (λ e. (ltb-true (age - offset) time e, short)) tt)
 
--- what application a does: it is off, or an order tells it at its place
+-- what application a does: it is off, or an order names it at its place
 pub data IsTold (spec : Parts) (a : ℕ) (told : order_tasks.Task) : Type 0 where
   Nothing : told ≡ off_task → IsTold spec a told
   Told : (o : Order) (place : Place) → told ≡ task_at o place → IsOrderShown o → IsPlace spec.procs spec.apps a place → IsTold spec a told

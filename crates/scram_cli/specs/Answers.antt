@@ -4,9 +4,9 @@ use Rattle.form_base.specs.declared.status.TheConstants.{ANSWERED, BROKEN_USAGE}
 use Rattle.form_base.specs.Answers.{Answer, Gives, WithoutFiles}
 use Rattle.spec_forms.specs.Answers.{BoundsAnswers, CheckAnswers}
 use Rattle.trace_forms.specs.Answers.{PropsAnswers}
-use Rattle.flight_forms.specs.Answers.{FlyAnswers, GenAnswers, ReplayAnswers, RunAnswers}
+use Rattle.flight_forms.specs.Answers.{FlyAnswers, GenAnswers, PairAnswers, ReplayAnswers, RunAnswers, WatchAnswers}
 use Rattle.scram_cli.specs.declared.forms.Form.{Form}
-use Rattle.scram_cli.specs.declared.forms.Form.TheVariants.{Run, Check, Bounds, Props, Replay, Gen, Fly, Told}
+use Rattle.scram_cli.specs.declared.forms.Form.TheVariants.{Run, Watch, Pair, Check, Bounds, Props, Replay, Gen, Fly, Told}
 use Rattle.scram_cli.specs.Pages.{page_text}
 
 -- The line where the words have no form.
@@ -18,6 +18,8 @@ usage_line = codes "refused: usage\n"
 abbrev pub FormAnswers : Option (Form (List ℕ)) → Answer
 FormAnswers None = WithoutFiles (Gives (BROKEN_USAGE, usage_line))
 FormAnswers (Some (Run specification script)) = RunAnswers specification script
+FormAnswers (Some (Watch specification script)) = WatchAnswers specification script
+FormAnswers (Some (Pair specification script halt)) = PairAnswers specification script
 FormAnswers (Some (Check specification)) = CheckAnswers specification
 FormAnswers (Some (Bounds specification)) = BoundsAnswers specification
 FormAnswers (Some (Props specification trace)) = PropsAnswers specification trace

@@ -3,15 +3,17 @@ use Rattle.std.specs.Prelude.{◌≡◌, ℕ, List, [], Option, Some, None}
 use Rattle.scram_io.specs.Outside.{History}
 use Rattle.spec_forms.specs.Answers.{AssuresBounds, AssuresCheck}
 use Rattle.trace_forms.specs.Answers.{AssuresProps}
-use Rattle.flight_forms.specs.Assurance.{AssuresFly, AssuresGen, AssuresReplay, AssuresRun}
+use Rattle.flight_forms.specs.Assurance.{AssuresFly, AssuresGen, AssuresReplay, AssuresRun, AssuresWatch}
 use Rattle.scram_cli.specs.declared.forms.Form.{Form}
-use Rattle.scram_cli.specs.declared.forms.Form.TheVariants.{Run, Check, Bounds, Props, Replay, Gen, Fly, Told}
+use Rattle.scram_cli.specs.declared.forms.Form.TheVariants.{Run, Watch, Pair, Check, Bounds, Props, Replay, Gen, Fly, Told}
 use Rattle.scram_cli.specs.Pages.{page_text}
 
 -- What status 0 assures of the words' form; words without a form never end with it.
 abbrev pub AssuresForm : Option (Form (List ℕ)) → History → List ℕ → Type 0
 AssuresForm None reads text = ⊥
 AssuresForm (Some (Run specification script)) reads text = AssuresRun specification script reads text
+AssuresForm (Some (Watch specification script)) reads text = AssuresWatch specification script reads text
+AssuresForm (Some (Pair specification script halt)) reads text = AssuresRun specification script reads text
 AssuresForm (Some (Check specification)) reads text = AssuresCheck specification reads text
 AssuresForm (Some (Bounds specification)) reads text = AssuresBounds specification reads text
 AssuresForm (Some (Props specification trace)) reads text = AssuresProps specification trace reads text

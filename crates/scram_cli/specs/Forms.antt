@@ -1,9 +1,10 @@
 -- The forms of the command.
-use Rattle.std.specs.Prelude.{ℕ, List, [], ◌∷◌, Option, Some, None, codes, option_map, if◌then◌else◌}
+use Rattle.std.specs.Prelude.{ℕ, List, [], ◌∷◌, Option, Some, None, codes, option_and_then, option_map, if◌then◌else◌}
 use Rattle.std.specs.Str.{bytes_eq}
+use Rattle.kernel_pair.specs.declared.events.UnitHalt.{UnitHalt}
 use Rattle.trace_text.specs.Spelling.{spelled_number}
 use Rattle.scram_cli.specs.declared.forms.Form.{Form}
-use Rattle.scram_cli.specs.declared.forms.Form.TheVariants.{Run, Check, Bounds, Props, Replay, Gen, Fly, Told}
+use Rattle.scram_cli.specs.declared.forms.Form.TheVariants.{Run, Watch, Pair, Check, Bounds, Props, Replay, Gen, Fly, Told}
 use Rattle.scram_cli.specs.declared.pages.Page.TheVariants.{Help, Version}
 
 -- The number of a mission, up to 999,999, which the word has in decimal.
@@ -32,11 +33,22 @@ form_of_two command word =
 abbrev pub form_of_three : List ℕ → List ℕ → List ℕ → Option (Form (List ℕ))
 form_of_three command specification further =
     if bytes_eq command (codes "run") then Some (Run specification further)
-    else (if bytes_eq command (codes "props") then Some (Props specification further) else None)
+    else (if bytes_eq command (codes "watch") then Some (Watch specification further)
+    else (if bytes_eq command (codes "props") then Some (Props specification further) else None))
 
 -- The form of four words, if they have one.
 abbrev pub form_of_four : List ℕ → List ℕ → List ℕ → List ℕ → Option (Form (List ℕ))
 form_of_four command specification script schedule = if bytes_eq command (codes "replay") then Some (Replay specification script schedule) else None
+
+-- The halt of unit 0 or 1 in a frame up to 19,999 after up to 31 steps, which three words have in decimal.
+abbrev pub unit_halt : List ℕ → List ℕ → List ℕ → Option UnitHalt
+unit_halt unit frame step =
+    option_and_then (λ (unit : ℕ). option_and_then (λ (frame : ℕ). option_map (λ (step : ℕ). record { unit = unit; frame = frame; step = step }) (spelled_number 32 step)) (spelled_number 20000 frame)) (spelled_number 2 unit)
+
+-- The form of six words, if they have one.
+abbrev pub form_of_six : List ℕ → List ℕ → List ℕ → List ℕ → List ℕ → List ℕ → Option (Form (List ℕ))
+form_of_six command specification script unit frame step =
+    if bytes_eq command (codes "pair") then option_map (λ (halt : UnitHalt). Pair specification script halt) (unit_halt unit frame step) else None
 
 -- The form that words have, if they have one; a file stands in it by its name.
 abbrev pub form_of : List (List ℕ) → Option (Form (List ℕ))
@@ -45,11 +57,15 @@ form_of (command ∷ []) = form_of_one command
 form_of (command ∷ first ∷ []) = form_of_two command first
 form_of (command ∷ first ∷ second ∷ []) = form_of_three command first second
 form_of (command ∷ first ∷ second ∷ third ∷ []) = form_of_four command first second third
-form_of (command ∷ first ∷ second ∷ third ∷ fourth ∷ words) = None
+form_of (command ∷ first ∷ second ∷ third ∷ fourth ∷ []) = None
+form_of (command ∷ first ∷ second ∷ third ∷ fourth ∷ fifth ∷ []) = form_of_six command first second third fourth fifth
+form_of (command ∷ first ∷ second ∷ third ∷ fourth ∷ fifth ∷ sixth ∷ words) = None
 
 -- What names the files, replaced.
 abbrev pub with_names : {A B : Type 0} → (A → B) → Form A → Form B
 with_names name (Run specification script) = Run (name specification) (name script)
+with_names name (Watch specification script) = Watch (name specification) (name script)
+with_names name (Pair specification script halt) = Pair (name specification) (name script) halt
 with_names name (Check specification) = Check (name specification)
 with_names name (Bounds specification) = Bounds (name specification)
 with_names name (Props specification trace) = Props (name specification) (name trace)
@@ -62,6 +78,8 @@ with_names name (Told page) = Told page
 abbrev pub files_of : Option (Form (List ℕ)) → List (List ℕ)
 files_of None = []
 files_of (Some (Run specification script)) = specification ∷ script ∷ []
+files_of (Some (Watch specification script)) = specification ∷ script ∷ []
+files_of (Some (Pair specification script halt)) = specification ∷ script ∷ []
 files_of (Some (Check specification)) = specification ∷ []
 files_of (Some (Bounds specification)) = specification ∷ []
 files_of (Some (Props specification trace)) = specification ∷ trace ∷ []

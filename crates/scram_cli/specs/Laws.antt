@@ -34,14 +34,14 @@ pub record HoldsMission (map : FileMap) (specification_name script_name : List �
   pub sound : IsSpec mission.spec
   pub is_mission : IsMission mission
 
--- The sink tells that it surely takes as many bytes as the text has, and as the memory line has.
+-- The sink is known to take the bytes of the text, and of the memory line.
 pub record HasRoomFor (sink : SinkState) (text : List ℕ) : Type 0 where
   pub room : ℕ
   pub told : sink.surely ≡ Some room
   pub fits : length text ≤ room
   pub memory : length memory_line ≤ room
 
--- The text went out and the status is 0, or memory was wanting, with its line and status.
+-- The text went out and the status is 0, or the allocator was out of memory, with its line and status.
 abbrev pub EndsAnswered : List ℕ → SinkState → SinkState → ℕ → Type 0
 EndsAnswered text old new code = ((code ≡ ANSWERED) × WentOut old new text) ⊎ ((code ≡ OUT_OF_MEMORY) × WentOut old new memory_line)
 
@@ -49,12 +49,12 @@ EndsAnswered text old new code = ((code ≡ ANSWERED) × WentOut old new text) �
 abbrev pub run_words : List ℕ → List ℕ → List (List ℕ)
 run_words specification script = codes "run" ∷ specification ∷ script ∷ []
 
--- Completeness: with steady files that hold a mission, and room in the sink, a call of `scram` by the words `run`, of which
--- its clauses `answer` and `complete` hold, ends with status 0 and the whole text of the one-thread trace, or memory was
--- wanting.
+-- Completeness: with steady files that hold a mission, and room in the sink, a call of `scram` by the words `run`, of
+-- which its clauses `answer` and `complete` hold, ends with status 0 and the whole text of the one-thread trace, or
+-- the allocator was out of memory.
 abbrev pub MissionsAreAnswered : Type 0
 MissionsAreAnswered = (specification script : List ℕ) (map : FileMap) (mission : MissionParts) (before after : FilesState) (old new : SinkState) (code : ℕ)
     → Ends (FormAnswers (form_of (run_words specification script))) (files_of (form_of (run_words specification script))) before after (IsSent old new code)
     → Completes (FormAnswers (form_of (run_words specification script))) (files_of (form_of (run_words specification script))) before after old new
     → before.told ≡ Some map → IsTrue before.steady → HoldsMission map specification script mission
-    → HasRoomFor old (flight_text Trace mission.spec mission.script) → EndsAnswered (flight_text Trace mission.spec mission.script) old new code
+    → HasRoomFor old (flight_text Trace mission) → EndsAnswered (flight_text Trace mission) old new code

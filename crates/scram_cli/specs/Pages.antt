@@ -1,4 +1,4 @@
--- What the command tells of itself.
+-- The pages that describe the command.
 use Rattle.std.specs.Prelude.{ℕ, List}
 use Rattle.scram_cli.specs.declared.pages.Page.{Page}
 use Rattle.scram_cli.specs.declared.pages.Page.TheVariants.{Help, Version}

@@ -17,7 +17,8 @@ use crate::pages::{Page, page_text};
 use app_model::Rack;
 use flight_forms::laws::flights_are_assured;
 use flight_forms::{
-    Boxes, MissionFiles, ReplayFiles, fly_generated, print_generated, replay_form, run,
+    Boxes, MissionFiles, PairFiles, ReplayFiles, fly_generated, pair_form, print_generated,
+    replay_form, run, watch,
 };
 use form_base::refusals::{Refusal, Refused};
 use form_base::status::{ANSWERED, Status, UNWRITTEN_OUTPUT};
@@ -30,14 +31,16 @@ use std::thread::Threads;
 use trace_forms::{TraceFiles, props_form};
 use trace_text::lines::Line;
 
-/// Does what the words after the program's name ask for: `run SPEC SCRIPT` flies a mission, `check SPEC`
-/// tells whether a specification is accepted, `bounds SPEC` which bounds it has to give, `props SPEC TRACE`
-/// judges a trace, by any specification, `replay SPEC SCRIPT SCHEDULE` flies a mission by a schedule, `gen N` prints
-/// the mission of a number, and `fly N` flies it; `--help` and `--version` tell of the program. What is printed has
-/// gone out when the call ends, or the status is 4.
+/// Does what the words after the program's name ask for: `run SPEC SCRIPT` flies a mission, `watch SPEC SCRIPT` flies
+/// it while two readers read its summary, `pair SPEC SCRIPT UNIT FRAME STEP` flies it with the kernel on two units,
+/// of which the one named may halt in that frame after that number of its steps, `check SPEC` prints whether a
+/// specification is accepted, `bounds SPEC` which bounds it has to give, `props SPEC TRACE` judges a trace, by any
+/// specification, `replay SPEC SCRIPT SCHEDULE` flies a mission by a schedule, `gen N` prints the mission of a
+/// number, and `fly N` flies it; `--help` and `--version` describe the program. What is printed has gone out when the
+/// call ends, or the status is 4.
 ///
-/// A mission is flown with a thread for each processor, and by a schedule without threads. `racks` are the boxes of the
-/// processors, and `spares` those of processors that restart.
+/// A mission is flown with a thread for each processor; by a schedule and on two units it is flown without threads.
+/// `racks` are the boxes of the processors, and `spares` those of processors that restart.
 pub fn scram<R: AllocGlobal + Threads + Wait + Sync, F: Files, K: Sink>(
     rt: &R,
     words: &[String],
@@ -81,7 +84,7 @@ fn send_answer<R: AllocGlobal + Threads + Wait + Sync, F: Files, K: Sink>(
     }
 }
 
-// What is printed may be held back still.
+// Printed text may still be held back.
 fn answer_words<R: AllocGlobal + Threads + Wait + Sync, F: Files, K: Sink>(
     rt: &R,
     words: &[String],
@@ -107,7 +110,7 @@ fn refuse_usage<K: Sink>(out: &mut K) -> Status
     tell_refusal(out, &usage())
 }
 
-// The refusal of words that have no form.
+// Returns the refusal of words that have no form.
 fn usage() -> Refusal
     ensures { told result ≡ (BROKEN_USAGE, usage_line) }
 {
@@ -116,14 +119,14 @@ fn usage() -> Refusal
     Refusal::new(Refused::Usage, line)
 }
 
-// Puts a page that the command tells of itself.
+// Prints a page that describes the command.
 fn tell_page<K: Sink>(out: &mut K, page: Page) -> Status
     ensures { Tells (Gives (ANSWERED, page_text page)) (K.state out.old) (K.state out.new) result.code }
 {
     tell(out, ANSWERED, page_text(page).as_bytes())
 }
 
-// The table of the forms.
+// Returns the table of the forms.
 fn answer_form<R: AllocGlobal + Threads + Wait + Sync, F: Files, K: Sink>(
     rt: &R,
     form: Form<&str>,
@@ -143,6 +146,34 @@ fn answer_form<R: AllocGlobal + Threads + Wait + Sync, F: Files, K: Sink>(
             MissionFiles {
                 specification,
                 script,
+            },
+            files,
+            out,
+            boxes,
+        ),
+        Form::Watch {
+            specification,
+            script,
+        } => watch(
+            rt,
+            MissionFiles {
+                specification,
+                script,
+            },
+            files,
+            out,
+            boxes,
+        ),
+        Form::Pair {
+            specification,
+            script,
+            halt,
+        } => pair_form(
+            rt.alloc(),
+            PairFiles {
+                specification,
+                script,
+                halt,
             },
             files,
             out,

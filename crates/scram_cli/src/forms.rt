@@ -1,13 +1,21 @@
 //! The forms of the command.
 
 ghost use Rattle.std.specs.Prelude.{◌≡◌, map, string_bytes, option_map};
-ghost use Rattle.scram_cli.specs.Forms.{form_of, form_of_four, form_of_number, form_of_one, form_of_three, form_of_two, mission_number, with_names};
+ghost use Rattle.scram_cli.specs.Forms.{form_of, form_of_four, form_of_number, form_of_one, form_of_six, form_of_three, form_of_two, mission_number, unit_halt, with_names};
 
 use crate::pages::Page;
+use kernel_pair::UnitHalt;
 use trace_text::numbers::read_number;
 
 /// The numbers of missions lie below this.
 const MISSIONS: u64 = 1_000_000;
+
+/// The numbers of units, and of frames and steps of their halts, lie below these.
+const UNITS: u64 = 2;
+
+const HALT_FRAMES: u64 = 20_000;
+
+const HALT_STEPS: u64 = 32;
 
 /// What the words ask for. `N` is what names a file.
 #[derive(Clone, Copy, Debug, PartialEq, Eq)]
@@ -16,6 +24,17 @@ pub enum Form<N> {
     Run {
         specification: N,
         script: N,
+    },
+    /// To fly the mission in two files while readers look at it, and to print its last summary in one line.
+    Watch {
+        specification: N,
+        script: N,
+    },
+    /// To fly the mission in two files with the kernel on two units, of which one may halt.
+    Pair {
+        specification: N,
+        script: N,
+        halt: UnitHalt,
     },
     /// Whether a specification is accepted.
     Check {
@@ -40,17 +59,17 @@ pub enum Form<N> {
     Gen {
         number: u32,
     },
-    /// To fly the mission of a number, 0 to 999,999, and to tell of it in one line.
+    /// To fly the mission of a number, 0 to 999,999, and to print its summary.
     Fly {
         number: u32,
     },
-    /// What the command tells of itself.
+    /// The pages that describe the command.
     Told {
         page: Page,
     },
 }
 
-/// The form that the words after the program's name have.
+/// Returns the form that the words after the program's name have.
 pub fn form_of(words: &[String]) -> Option<Form<&str>>
     ensures { option_map (with_names (λ name. name.now)) result ≡ form_of (map string_bytes words.now) }
 {
@@ -67,6 +86,11 @@ pub fn form_of(words: &[String]) -> Option<Form<&str>>
             specification.as_str(),
             script.as_str(),
             schedule.as_str(),
+        ),
+        [command, specification, script, unit, frame, step] => form_of_six(
+            command.as_str(),
+            (specification.as_str(), script.as_str()),
+            (unit.as_str(), frame.as_str(), step.as_str()),
         ),
         _ => None,
     }
@@ -135,6 +159,11 @@ fn form_of_three<'a>(
             specification,
             script: further,
         })
+    } else if command == "watch" {
+        Some(Form::Watch {
+            specification,
+            script: further,
+        })
     } else if command == "props" {
         Some(Form::Props {
             specification,
@@ -162,4 +191,36 @@ fn form_of_four<'a>(
     } else {
         None
     }
+}
+
+fn form_of_six<'a>(
+    command: &str,
+    files: (&'a str, &'a str),
+    halt: (&str, &str, &str),
+) -> Option<Form<&'a str>>
+    ensures { option_map (with_names (λ name. name.now)) result ≡ form_of_six command.now files.entry.0.now files.entry.1.now halt.entry.0.now halt.entry.1.now halt.entry.2.now }
+{
+    if command == "pair" {
+        let halt = unit_halt(halt.0, halt.1, halt.2)?;
+        Some(Form::Pair {
+            specification: files.0,
+            script: files.1,
+            halt,
+        })
+    } else {
+        None
+    }
+}
+
+fn unit_halt(unit: &str, frame: &str, step: &str) -> Option<UnitHalt>
+    ensures { result ≡ unit_halt unit.now frame.now step.now }
+{
+    let unit = read_number(unit.as_bytes(), UNITS)?;
+    let frame = read_number(frame.as_bytes(), HALT_FRAMES)?;
+    let step = read_number(step.as_bytes(), HALT_STEPS)?;
+    Some(UnitHalt {
+        unit: unit as u8,
+        frame: frame as u32,
+        step: step as u8,
+    })
 }

@@ -8,8 +8,9 @@ pub fn printed_missions_are_read()
     ensures { PrintedMissionsAreRead }
 {}
 
-/// With steady files that hold a mission, and room in the sink, what the clauses `answer` and `complete` of `scram` say of
-/// the words `run` comes to this: the status is 0 and the text of the one-thread trace went out, or memory was wanting.
+/// With steady files that hold a mission, and room in the sink, what the clauses `answer` and `complete` of `scram`
+/// say of the words `run` comes to this: the status is 0 and the text of the one-thread trace went out, or the
+/// allocator was out of memory.
 pub fn missions_are_answered()
     ensures { MissionsAreAnswered }
 {}

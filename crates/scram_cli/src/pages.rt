@@ -1,9 +1,9 @@
-//! What the command tells of itself.
+//! The pages that describe the command.
 
 ghost use Rattle.std.specs.Prelude.{◌≡◌};
 ghost use Rattle.scram_cli.specs.Pages.{page_text};
 
-/// A page that the command tells of itself.
+/// A page that describes the command.
 #[derive(Clone, Copy, Debug, PartialEq, Eq)]
 pub enum Page {
     /// The forms and the statuses, a line each.
@@ -15,6 +15,8 @@ pub enum Page {
 /// The forms of the command and its statuses, as docs/FORMATS.md has them.
 pub const HELP: &str = concat!(
     "scram run SPEC SCRIPT              flies a mission and prints its trace\n",
+    "scram watch SPEC SCRIPT            flies a mission while readers look at it and prints its last summary\n",
+    "scram pair SPEC SCRIPT UNIT FRAME STEP  flies a mission with the kernel on two units, one of which may halt\n",
     "scram check SPEC                   tells whether a specification is accepted\n",
     "scram bounds SPEC                  tells which bounds a specification has to give\n",
     "scram props SPEC TRACE             judges a finished trace\n",
@@ -43,7 +45,7 @@ pub const HELP: &str = concat!(
 /// The version, and the toolchain's line.
 pub const VERSION: &str = "scram 1.0.0, proved with rattle-kit-13f logic dac8208d650f15bf\n";
 
-/// The text of a page.
+/// Returns the text of a page.
 pub fn page_text(page: Page) -> &'static str
     ensures { result.now ≡ page_text page }
 {

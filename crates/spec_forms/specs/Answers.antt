@@ -31,7 +31,7 @@ CheckAnswers specification = AsksSpecification specification (λ (spec : Parts).
 abbrev pub BoundsAnswers : List ℕ → Answer
 BoundsAnswers specification = AsksSpecification specification (λ (spec : Parts). WithoutFiles (Gives (bounds_answer spec (state_refusal spec))))
 
--- Where `check` ends with status 0, no other file was read, the specification is accepted, and its line is told.
+-- Where `check` ends with status 0, no other file was read, the specification is accepted, and its line is printed.
 abbrev pub AssuresCheck : List ℕ → History → List ℕ → Type 0
 AssuresCheck specification =
     OfSpecification specification (λ (spec : Parts) (reads : History) (text : List ℕ). (reads ≡ []) × Accepts spec × (text ≡ accepted_line spec))

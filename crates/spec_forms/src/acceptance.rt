@@ -20,7 +20,7 @@ use scram_types::Spec;
 use std::alloc::Global;
 use trace_text::lines::Line;
 
-/// Tells whether the specification in a file is accepted.
+/// Prints whether the specification in a file is accepted.
 pub fn check<F: Files, K: Sink>(
     alloc: Global,
     specification: &str,
@@ -35,7 +35,7 @@ pub fn check<F: Files, K: Sink>(
     }
 }
 
-/// Reads the specification; the line tells that it is accepted.
+/// Reads the specification; the line says that it is accepted.
 fn read_line<F: Files>(alloc: Global, specification: &str, files: &mut F) -> Result<Line, Refusal>
     ensures { Prepares (CheckAnswers specification.now) (λ (line : List ℕ). Gives (ANSWERED, line)) (specification.now ∷ []) (F.state files.old) (F.state files.new) result }
 {

@@ -31,7 +31,7 @@ struct Asked {
     sets: [u16; 12],
 }
 
-/// Tells the bounds that the specification in a file has to give, where it has few enough environments in scope.
+/// Prints the bounds that the specification in a file has to give, where it has few enough environments in scope.
 pub fn bounds<F: Files, K: Sink>(
     alloc: Global,
     specification: &str,
@@ -79,7 +79,7 @@ fn find_bounds(alloc: Global, spec: Spec) -> Result<Asked, Refusal>
     }
 }
 
-// The configurations to which a bound from each configuration is asked for, as bits.
+// Returns the configurations to which a bound from each configuration is asked for, as bits.
 fn find_asked(alloc: Global, spec: &Spec) -> Result<[u16; 12], NoMemory>
     ensures { IfOk result (λ sets. HasAskedBounds spec.now sets) }
 {
@@ -148,7 +148,7 @@ fn put_bound<K: Sink>(
     }
 }
 
-// Whether a bound is asked for; `set` has those from `from` that are.
+// Returns whether a bound is asked for; `set` has those from `from` that are.
 fn is_asked(spec: &Spec, set: u16, from: ConfId, to: ConfId) -> bool
     requires set { set ≡ asked_bounds spec.now from }
     requires to { to.0 < length spec.now.confs }

@@ -9,8 +9,8 @@ use scram_types::{ConfId, Spec};
 use trace_text::lines::Line;
 use trace_text::report_lines::add_bound;
 
-/// A specification is accepted: the numbers of its configurations, of its environments in scope and of the
-/// bounds that it gives.
+/// Returns the line for an accepted specification: the numbers of its configurations, of its environments in scope
+/// and of the bounds that it gives.
 pub fn make_accepted_line(spec: &Spec) -> Line
     ensures { result ≡ accepted_line spec.now }
 {
@@ -25,7 +25,7 @@ pub fn make_accepted_line(spec: &Spec) -> Line
     line
 }
 
-/// The least bound, in frames, that serves a pair of configurations, and the one that is given for it.
+/// Returns the least bound, in frames, that serves a pair of configurations, and the one that is given for it.
 pub fn make_bound_line(spec: &Spec, from: ConfId, to: ConfId) -> Line
     ensures { result ≡ bound_line spec.now from to }
 {

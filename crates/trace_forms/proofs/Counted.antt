@@ -80,7 +80,7 @@ adds_standing spec s Over line = tt
 adds_line : (spec : Parts) (s : SoFar) (line : List ℕ) → Adds s (after_line spec s line)
 adds_line spec s line = either s (is_plain line) (standing_line spec s s.standing line) (Err 1) (adds_standing spec s s.standing line) tt
 
--- so many rows and reports at most
+-- at most this number of rows and of reports
 abbrev UpTo : ℕ → ℕ → Result Flown TraceFault → Type 0
 UpTo rows reports (Ok flown) = (length flown.rows ≤ rows) × (length flown.reports ≤ reports)
 UpTo rows reports (Err fault) = ⊤

@@ -1,4 +1,4 @@
--- From a judgement to what is told of it.
+-- From a judgement to what is printed.
 use Rattle.std.proofs.Common.{◌≡◌, ℕ, List, ap, subst, sym, ◌∙◌, inl, inr, arith}
 use Rattle.std.specs.Prelude.{◌⊎◌}
 use Rattle.scram_types.specs.declared.flights.Flown.{Flown}

@@ -46,7 +46,7 @@ abbrev pub judged_answer : Flown → Option Broken → ℕ × List ℕ
 judged_answer flown (Some broken) = (BROKEN_PROPERTY, broken_line broken)
 judged_answer flown None = (ANSWERED, holds_line flown)
 
--- Status and text tell how a trace is judged.
+-- Status and text say how a trace is judged.
 pub record IsJudgement (spec : Parts) (flown : Flown) (status : ℕ) (text : List ℕ) : Type 0 where
   pub judged : Option Broken
   pub judges : Judges spec flown judged

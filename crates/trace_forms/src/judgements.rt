@@ -35,7 +35,7 @@ struct Judgement {
     line: Line,
 }
 
-/// Tells whether the properties of reconfigurations hold of the trace in a file, or which one it breaks first.
+/// Prints whether the properties of reconfigurations hold of the trace in a file, or which one it breaks first.
 pub fn props_form<F: Files, K: Sink>(
     alloc: Global,
     named: TraceFiles<'_>,

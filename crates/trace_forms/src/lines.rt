@@ -9,7 +9,7 @@ use trace_props::Broken;
 use trace_text::TraceFault;
 use trace_text::lines::Line;
 
-/// A trace breaks a rule in a line.
+/// Returns the line for a trace that breaks a rule.
 pub fn make_trace_line(fault: TraceFault) -> Line
     ensures { result ≡ trace_line fault }
 {
@@ -22,7 +22,8 @@ pub fn make_trace_line(fault: TraceFault) -> Line
     line
 }
 
-/// The five properties hold of a trace: the numbers of its frames and of its reconfigurations.
+/// Returns the line for a trace of which the five properties hold: the numbers of its frames and of its
+/// reconfigurations.
 pub fn make_holds_line(flown: &Flown) -> Line
     requires rows { length flown.now.rows < 2 ^ 32 }
     requires reports { length flown.now.reports < 2 ^ 32 }
@@ -35,7 +36,7 @@ pub fn make_holds_line(flown: &Flown) -> Line
     line
 }
 
-/// A trace breaks a property: which one first, and in which frame.
+/// Returns the line for a trace that breaks a property: the first one, and its frame.
 pub fn make_broken_line(broken: Broken) -> Line
     ensures { result ≡ broken_line broken }
 {

@@ -19,5 +19,5 @@ put_flown-requires-clause-reports g c =
 pub returns : goal.returns
 returns g c =
     rw (c.status_after.ensures)
-    (answered_tells (flight_text c.args.told c.args.mission.now.spec c.args.mission.now.script) _ _ _
+    (answered_tells (flight_text c.args.told c.args.mission.now) _ _ _
     (put_taken c.put_flown.result 0 _ _ _ (rw (c.spec.ensures, c.requires.rows, c.requires.reports) at c.put_flown.ensures)))

@@ -1,20 +1,20 @@
 use Rattle.std.proofs.Common.{[]}
 use Rattle.form_base.proofs.Reading.{settled}
-use Rattle.flight_forms.specs.Answers.{ScriptAnswers, TellsTrace}
 use Rattle.coverage_check.specs.Missions.{mission_of}
+use Rattle.flight_forms.specs.Answers.{ScriptAnswers, TellsFlight}
 use Rattle.flight_forms.specs.Missions.{UnlessRefused, mission_refusal}
 use Rattle.flight_forms.proofs.FileReading.{script_reads, script_unread}
 use Rattle.flight_forms.proofs.MissionReading.{mission_settles}
 use Rattle.flight_forms.proofs.missions.read_script.Goals as goal
 
 pub returns-in-Ok : goal.returns-in-Ok
-returns-in-Ok g c =
+returns-in-Ok g c = λ text.
     let spec = c.args.spec in
     let script = c.in-Ok.script in
-    script_reads spec c.args.script.now [] (ScriptAnswers spec) TellsTrace script _ _ _ c.make_mission.result c.in-Ok.ensures.loads c.load.ensures.steady
-    (settled (UnlessRefused (mission_refusal spec script) (TellsTrace (mission_of spec script))) TellsTrace _ c.make_mission.result (g.met.F.Files.steady_below _)
-    (mission_settles spec script TellsTrace c.make_mission.result c.make_mission.ensures))
+    script_reads spec c.args.script.now [] (ScriptAnswers text spec) (TellsFlight text) script _ _ _ c.make_mission.result c.in-Ok.ensures.loads c.load.ensures.steady
+    (settled (UnlessRefused (mission_refusal spec script) (TellsFlight text (mission_of spec script))) (TellsFlight text) _ c.make_mission.result (g.met.F.Files.steady_below _)
+    (mission_settles spec script (TellsFlight text) c.make_mission.result c.make_mission.ensures))
 
 pub returns-in-Err : goal.returns-in-Err
-returns-in-Err g c =
-    script_unread c.args.spec c.args.script.now [] (ScriptAnswers c.args.spec) _ _ c.in-Err.refusal c.in-Err.ensures.loads c.load.ensures.steady c.in-Err.ensures.unread
+returns-in-Err g c = λ text.
+    script_unread c.args.spec c.args.script.now [] (ScriptAnswers text c.args.spec) _ _ c.in-Err.refusal c.in-Err.ensures.loads c.load.ensures.steady c.in-Err.ensures.unread

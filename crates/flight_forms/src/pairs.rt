@@ -1,0 +1,102 @@
+//! The form `pair`: a mission flown with the kernel on two units, one of which may halt. No thread is used.
+
+ghost use Rattle.std.specs.Prelude.{◌≡◌, ◌∷◌, [], IfOk};
+ghost use Rattle.frame_model.specs.Flights.{reports_of, rows_of};
+ghost use Rattle.form_base.specs.Answers.{Gives};
+ghost use Rattle.form_base.specs.Endings.{Ends, IsTaken, Tells};
+ghost use Rattle.form_base.specs.declared.status.TheConstants.{ANSWERED};
+ghost use Rattle.flight_forms.specs.Answers.{PairAnswers};
+ghost use Rattle.flight_forms.specs.Texts.{flight_text};
+ghost use Rattle.flight_forms.specs.declared.flights.FlightText.TheVariants.{Trace};
+
+use crate::boxes::Boxes;
+use crate::flights::{FlightText, tell_flown};
+use crate::missions::{MissionFiles, read_mission};
+use coverage_check::Mission;
+use form_base::refusals::Refusal;
+use form_base::status::Status;
+use form_base::telling::tell_refusal;
+use kernel_pair::{PairCore, UnitHalt, fly_on};
+use scram_io::{Files, Sink};
+use scram_types::{Flown, NoMemory};
+use std::alloc::Global;
+
+/// The files of a mission, and the halt of a unit with which it is flown.
+#[derive(Clone, Copy)]
+pub struct PairFiles<'a> {
+    pub specification: &'a str,
+    pub script: &'a str,
+    pub halt: UnitHalt,
+}
+
+/// Flies the mission of two files with the kernel on two units, one of which halts, and prints its trace.
+pub fn pair_form<F: Files, K: Sink>(
+    alloc: Global,
+    named: PairFiles<'_>,
+    files: &mut F,
+    out: &mut K,
+    boxes: Boxes,
+) -> Status
+    ensures { Ends (PairAnswers named.entry.specification.now named.entry.script.now) (named.entry.specification.now ∷ named.entry.script.now ∷ [])
+        (F.state files.old) (F.state files.new) (IsTaken (K.state out.old) (K.state out.new) result.code) }
+{
+    let mission = MissionFiles {
+        specification: named.specification,
+        script: named.script,
+    };
+    match read_mission(alloc, mission, files) {
+        Ok(mission) => {
+            let status = fly_pair(alloc, &mission, named.halt, out, boxes);
+            drop(mission);
+            status
+        }
+        Err(refusal) => {
+            drop(boxes);
+            tell_refusal(out, &refusal)
+        }
+    }
+}
+
+fn fly_pair<K: Sink>(
+    alloc: Global,
+    mission: &Mission,
+    halt: UnitHalt,
+    out: &mut K,
+    boxes: Boxes,
+) -> Status
+    ensures { Tells (Gives (ANSWERED, flight_text Trace mission.now)) (K.state out.old) (K.state out.new) result.code }
+{
+    match fly_on_units(alloc, mission, halt, boxes) {
+        Ok(flown) => {
+            let status = tell_flown(out, mission, &flown, FlightText::Trace);
+            drop(flown);
+            status
+        }
+        Err(NoMemory) => tell_refusal(out, &Refusal::out_of_memory()),
+    }
+}
+
+// Returns the trace of a mission, flown in rounds. Its frame has the states of the pair, which no other form is to have on its
+// stack, so it is not inlined.
+#[inline(never)]
+fn fly_on_units(
+    alloc: Global,
+    mission: &Mission,
+    halt: UnitHalt,
+    boxes: Boxes,
+) -> Result<Flown, NoMemory>
+    ensures rows { IfOk result (λ flown. flown.rows ≡ rows_of mission.now.spec mission.now.script) }
+    ensures reports { IfOk result (λ flown. flown.reports ≡ reports_of mission.now.spec mission.now.script) }
+{
+    mission.holds();
+    let mut core = PairCore::open(
+        alloc,
+        mission.spec(),
+        mission.script(),
+        Some(halt),
+        boxes.racks,
+        boxes.spares,
+    )?;
+    fly_on(&mut core);
+    Ok(core.finish())
+}

@@ -1,0 +1,158 @@
+//! The form `watch`: a mission flown with a thread for each processor, while readers look at it.
+
+ghost use Rattle.std.specs.Prelude.{◌≡◌, ◌∷◌, [], IfOk};
+ghost use Rattle.form_base.specs.Answers.{Gives};
+ghost use Rattle.form_base.specs.Endings.{Ends, IsTaken, Tells};
+ghost use Rattle.form_base.specs.declared.status.TheConstants.{ANSWERED};
+ghost use Rattle.telemetry_tap.specs.Summaries.{summary_after};
+ghost use Rattle.telemetry_tap.specs.Taps.{IsReaderOf, rows_published, tap_mission};
+ghost use Rattle.flight_forms.specs.Answers.{WatchAnswers};
+ghost use Rattle.flight_forms.specs.Texts.{watch_text};
+
+use crate::boxes::Boxes;
+use crate::lines::make_watch_line;
+use crate::missions::{MissionFiles, read_mission};
+use coverage_check::Mission;
+use form_base::refusals::Refusal;
+use form_base::status::{ANSWERED, Status};
+use form_base::telling::{tell, tell_refusal};
+use scram_io::{Files, Sink};
+use scram_types::NoMemory;
+use std::alloc::AllocGlobal;
+use std::sync::Wait;
+use std::thread;
+use std::thread::Threads;
+use telemetry_tap::{Publisher, Reader, Summary, Tap, Watch};
+use word_deck::WordFlight;
+
+/// The number of reads after which a reader gives up.
+const MAX_READS: u32 = 1_000_000;
+
+/// Flies the mission of two files with a thread for each processor while two readers look at it, and prints its last
+/// summary.
+pub fn watch<R: AllocGlobal + Threads + Wait + Sync, F: Files, K: Sink>(
+    rt: &R,
+    named: MissionFiles<'_>,
+    files: &mut F,
+    out: &mut K,
+    boxes: Boxes,
+) -> Status
+    ensures { Ends (WatchAnswers named.entry.specification.now named.entry.script.now) (named.entry.specification.now ∷ named.entry.script.now ∷ [])
+        (F.state files.old) (F.state files.new) (IsTaken (K.state out.old) (K.state out.new) result.code) }
+{
+    match read_mission(rt.alloc(), named, files) {
+        Ok(mission) => {
+            let status = watch_mission(rt, &mission, out, boxes);
+            drop(mission);
+            status
+        }
+        Err(refusal) => {
+            drop(boxes);
+            tell_refusal(out, &refusal)
+        }
+    }
+}
+
+fn watch_mission<R: AllocGlobal + Threads + Wait + Sync, K: Sink>(
+    rt: &R,
+    mission: &Mission,
+    out: &mut K,
+    boxes: Boxes,
+) -> Status
+    ensures { Tells (Gives (ANSWERED, watch_text mission.now)) (K.state out.old) (K.state out.new) result.code }
+{
+    match fly_watched(rt, mission, boxes) {
+        Ok(summary) => {
+            let line = make_watch_line(mission.spec(), &summary);
+            tell(out, ANSWERED, line.as_bytes())
+        }
+        Err(NoMemory) => tell_refusal(out, &Refusal::out_of_memory()),
+    }
+}
+
+// Returns the summary of all frames of a mission, which is flown while two readers look at it.
+fn fly_watched<R: AllocGlobal + Threads + Wait + Sync>(
+    rt: &R,
+    mission: &Mission,
+    boxes: Boxes,
+) -> Result<Summary, NoMemory>
+    ensures { IfOk result (λ summary. summary ≡ summary_after mission.now mission.now.script.frames) }
+{
+    let flight = WordFlight::open(rt.alloc(), mission, boxes.racks, boxes.spares)?;
+    let (tap, writer, mut readers) = Tap::open(rt.alloc(), mission, 2)?;
+    let Some(one) = readers.pop() else {
+        unreachable!()
+    };
+    let Some(other) = readers.pop() else {
+        unreachable!()
+    };
+    let publisher = Publisher { tap: &tap, writer };
+    Ok(last_summary(fly_read(rt, &tap, flight, publisher, (one, other))))
+}
+
+// Flies the mission of a tap while these readers look at it. The watch goes through the scope by value, since a
+// closure says nothing of a reference that it captures.
+fn fly_read<'a, W: Watch, R: Threads + Wait + Sync>(
+    rt: &R,
+    tap: &Tap<'a>,
+    flight: WordFlight<'a>,
+    watch: W,
+    readers: (Reader, Reader),
+) -> W
+    requires watched { W.watched watch ≡ flight.mission.now }
+    requires taken { W.taken watch ≡ 0 }
+    requires one { IsReaderOf tap.now readers.0 }
+    requires other { IsReaderOf tap.now readers.1 }
+    ensures watched { W.watched result ≡ flight.entry.mission.now }
+    ensures taken { W.taken result ≡ flight.entry.mission.now.script.frames }
+{
+    let (one, other) = readers;
+    thread::scope(
+        thread::scope_env(),
+        rt,
+        |scope| -> W
+            requires watched { W.watched watch ≡ flight.mission.now }
+            requires taken { W.taken watch ≡ 0 }
+            requires one { IsReaderOf tap.now one }
+            requires other { IsReaderOf tap.now other }
+            ensures watched { W.watched result ≡ flight.entry.mission.now }
+            ensures taken { W.taken result ≡ flight.entry.mission.now.script.frames }
+        {
+            let mut watch = watch;
+            let _one = scope.spawn(
+                move ||
+                    requires { IsReaderOf tap.now one }
+                { read_to_the_end(tap, one) },
+            );
+            let _other = scope.spawn(
+                move ||
+                    requires { IsReaderOf tap.now other }
+                { read_to_the_end(tap, other) },
+            );
+            let _landed = flight.run_watched(rt, &mut watch);
+            watch
+        },
+    )
+}
+
+// Returns the summary that a new reader sees, which has seen what the writer has published.
+fn last_summary(publisher: Publisher) -> Summary
+    requires { rows_published publisher.writer ≡ (tap_mission publisher.tap.now).script.frames }
+    ensures { result ≡ summary_after (tap_mission publisher.entry.tap.now) (tap_mission publisher.entry.tap.now).script.frames }
+{
+    let Publisher { tap, mut writer } = publisher;
+    let mut reader = tap.note(&mut writer);
+    tap.read(&mut reader)
+}
+
+// Reads until the summary of all frames is seen, or gives up after many reads.
+fn read_to_the_end(tap: &Tap, mut reader: Reader)
+    requires { IsReaderOf tap.now reader }
+{
+    let frames = tap.mission().script().frames;
+    for _ in 0..MAX_READS {
+        if tap.read(&mut reader).frames == frames {
+            return;
+        }
+    }
+}
