@@ -122,7 +122,7 @@ power_monitor = record {
       [];
 }
 
--- The kind that tells how far the goal is.
+-- The kind that measures how far the goal is.
 abbrev pub navigator : Kind
 navigator = record {
   name = codes "navigator";
@@ -140,7 +140,7 @@ navigator = record {
       [];
 }
 
--- The kind that sends what the others tell.
+-- The kind that sends the messages of the others.
 abbrev pub data_link : Kind
 data_link = record {
   name = codes "datalink";

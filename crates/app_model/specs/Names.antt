@@ -40,7 +40,7 @@ number_in_from number (name ∷ names) text = if is_spelled name text then Some 
 abbrev pub number_in : List (Option (List ℕ)) → List ℕ → Option ℕ
 number_in names text = number_in_from 0 names text
 
--- a mode that is on, of a kind that has so many modes
+-- the number of a mode that is on, of a kind with this number of modes
 pub record IsModeNumber (mode modes : ℕ) : Type 0 where
   pub first : 1 ≤ mode
   pub last : mode ≤ modes

@@ -1,4 +1,4 @@
-//! The law of each kind, as it is computed.
+//! The functions that compute the law of each kind.
 
 ghost use Rattle.std.specs.Prelude.{◌≡◌};
 ghost use Rattle.app_model.specs.Law.{law, ran};
@@ -21,7 +21,7 @@ fn run_of(kind: KindId, seen: &Seen) -> Area
     }
 }
 
-/// The area of an application of the kind after a frame with this order, by the kind's law. It takes no memory.
+/// Returns the area of an application of the kind after a frame with this order, by the kind's law.
 pub fn law_area(kind: KindId, order: Order, seen: &Seen) -> Area
     ensures { result ≡ law kind.0 order seen.now }
 {

@@ -11,12 +11,12 @@ use scram_types::{Area, KindId, Order};
 pub trait App: Drop {
     ghost kind_of: { Self → ℕ };
 
-    /// The application's kind.
+    /// Returns the application's kind.
     fn kind(&self) -> KindId
         ensures { result.0 ≡ kind_of self.now };
 
-    /// The application's area after a frame with this order: the law of its kind, whatever the object
-    /// keeps, for every order, mode, area, world, factors and goal. The kind stays. It takes no memory.
+    /// Returns the application's area after a frame with this order: the law of its kind, whatever the object keeps,
+    /// for every order, mode, area, world, factors and goal. The kind stays.
     fn frame(&mut self, order: Order, seen: &Seen) -> Area
         ensures answer { result ≡ law (kind_of self.old) order seen.now }
         ensures same { kind_of self.new ≡ kind_of self.old };

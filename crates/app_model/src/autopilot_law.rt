@@ -94,7 +94,7 @@ fn next_roll(seen: &Seen) -> i64
     }
 }
 
-/// What a run leaves. It takes no memory.
+/// Returns what a run leaves.
 pub fn run(seen: &Seen) -> Area
     ensures { result ≡ autopilot_ran seen.now }
 {

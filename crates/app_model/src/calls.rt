@@ -19,7 +19,7 @@ pub struct LastCall {
 }
 
 impl LastCall {
-    /// The call of an application of the kind with this answer.
+    /// Returns the call of an application of the kind with this answer.
     pub fn of(kind: u8, order: Order, seen: &Seen, answer: &Area) -> LastCall
         requires { answer.now ≡ law kind order seen.now }
         ensures kind { result.kind ≡ kind }
@@ -35,7 +35,7 @@ impl LastCall {
         }
     }
 
-    /// The answer once more, where this is the same call; else `None`.
+    /// Returns the answer again where this is the same call, and `None` otherwise.
     pub fn answer_to(&self, kind: u8, order: Order, seen: &Seen) -> Option<Area>
         ensures law { IfSome result (λ area. area ≡ law kind order seen.now) }
         ensures again { self.now.kind ≡ kind → self.now.order ≡ order → self.now.seen ≡ seen.now → IsSome result }

@@ -6,7 +6,7 @@ ghost use Rattle.std.specs.Prelude.{◌≡◌, ◌↔◌, IsTrue};
 use crate::seen::Seen;
 use scram_types::{Area, Goal, Order, World};
 
-/// Whether the orders are the same.
+/// Returns whether the orders are the same.
 pub fn same_order(a: Order, b: Order) -> bool
     ensures { IsTrue result ↔ (a ≡ b) }
 {
@@ -49,7 +49,7 @@ fn same_goal(a: &Goal, b: &Goal) -> bool
     a.altitude == b.altitude && a.heading == b.heading
 }
 
-/// Whether the same is seen.
+/// Returns whether the same is seen.
 pub fn same_seen(a: &Seen, b: &Seen) -> bool
     ensures { IsTrue result ↔ (a.now ≡ b.now) }
 {

@@ -114,7 +114,7 @@ fn next_dropped(seen: &Seen) -> i64
     (read_own(KIND, seen, DROPPED) + all_left_over(seen)).min(1_000_000)
 }
 
-/// What a run leaves. It takes no memory.
+/// Returns what a run leaves.
 pub fn run(seen: &Seen) -> Area
     ensures { result ≡ data_link_ran seen.now }
 {

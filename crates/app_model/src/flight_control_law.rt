@@ -62,7 +62,7 @@ fn next_aileron(seen: &Seen) -> i64
     }
 }
 
-/// What a run leaves. It takes no memory.
+/// Returns what a run leaves.
 pub fn run(seen: &Seen) -> Area
     ensures { result ≡ flight_control_ran seen.now }
 {

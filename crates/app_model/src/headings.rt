@@ -30,8 +30,8 @@ fn centred(x: i64) -> i64
     x - 1_800
 }
 
-/// The turn from one heading to another, the short way: -1,800 to 1,799 tenths of a degree, where
-/// less than 0 is to the left.
+/// Returns the turn from one heading to another, the short way: -1,800 to 1,799 tenths of a degree, where less than 0
+/// is to the left.
 pub fn short_turn(target: i64, from: i64) -> i64
     requires target { IsWord target }
     requires from { IsWord from }

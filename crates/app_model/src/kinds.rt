@@ -74,7 +74,7 @@ pub mod power_monitor {
     pub const SHED: usize = 4;
 }
 
-/// The navigator: it tells how far the aircraft is off its goal.
+/// The navigator: it measures how far the aircraft is off its goal.
 pub mod navigator {
     /// The kind's number.
     pub const KIND: u8 = 3;

@@ -9,15 +9,15 @@ use crate::seen::Seen;
 use scram_types::{Area, KindId, Order};
 use std::marker::PhantomData;
 
-/// A kind's law, as it is computed.
+/// The function that computes a kind's law.
 pub trait KindLaw: Drop {
     ghost number: { ℕ };
 
-    /// The kind's number.
+    /// Returns the kind's number.
     fn kind() -> KindId
         ensures { result.0 ≡ number };
 
-    /// The area of an application of the kind after a frame with this order, by the kind's law. It takes no memory.
+    /// Returns the area of an application of the kind after a frame with this order, by the kind's law.
     fn area_after(order: Order, seen: &Seen) -> Area
         ensures { result ≡ law number order seen.now };
 }
@@ -30,7 +30,7 @@ pub struct Remembering<L: KindLaw> {
 }
 
 impl<L: KindLaw> Remembering<L> {
-    /// A box that has not been called. It takes no memory.
+    /// Returns a box that has not been called.
     pub fn new() -> Remembering<L> {
         Remembering {
             last: None,

@@ -81,7 +81,7 @@ fn number_in(names: &[Option<&str>], text: &str) -> Option<u8>
     None
 }
 
-/// The kind of this name, or `None` where no kind has it.
+/// Returns the kind of this name, or `None` where no kind has it.
 pub fn kind_named(name: &str) -> Option<KindId>
     ensures kind { option_map (λ kind. kind.0) result ≡ number_in kind_names name.now }
     ensures built { IfSome result (λ kind. kind.0 < 5) }
@@ -92,7 +92,7 @@ pub fn kind_named(name: &str) -> Option<KindId>
     }
 }
 
-/// The mode of this name of a kind, or `None` where the kind has no such mode.
+/// Returns the mode of this name of a kind, or `None` where the kind has no such mode.
 pub fn mode_named(kind: KindId, name: &str) -> Option<Mode>
     ensures mode { option_map (λ mode. mode.0) result ≡ number_in (mode_names kind.0) name.now }
     ensures of_kind { kind.0 < 5 → IfSome result (λ mode. IsModeNumber mode.0 (modes_of_kind kind.0)) }
@@ -103,8 +103,8 @@ pub fn mode_named(kind: KindId, name: &str) -> Option<Mode>
     }
 }
 
-/// The place, 0 to 7, of the variable of this name in the areas of a kind, or `None` where the kind has
-/// no such variable.
+/// Returns the place, 0 to 7, of the variable of this name in the areas of a kind, or `None` where the kind has no
+/// such variable.
 pub fn variable_named(kind: KindId, name: &str) -> Option<u8>
     ensures variable { result ≡ number_in (variable_names kind.0) name.now }
     ensures word { IfSome result (λ variable. variable < 8) }
@@ -115,21 +115,21 @@ pub fn variable_named(kind: KindId, name: &str) -> Option<u8>
     }
 }
 
-/// The name of a kind, or `None` where there is no such kind.
+/// Returns the name of a kind, or `None` where there is no such kind.
 pub fn kind_name(kind: KindId) -> Option<&'static str>
     ensures { option_map (λ s. s.now) result ≡ name_in kind_names kind.0 }
 {
     name_in(&names_of_kinds(), kind.0)
 }
 
-/// The name of a mode of a kind, or `None` where the kind has no such mode; mode 0, off, has no name.
+/// Returns the name of a mode of a kind, or `None` where the kind has no such mode; mode 0, off, has no name.
 pub fn mode_name(kind: KindId, mode: Mode) -> Option<&'static str>
     ensures { option_map (λ s. s.now) result ≡ name_in (mode_names kind.0) mode.0 }
 {
     name_in(names_of_modes(kind), mode.0)
 }
 
-/// The name of a variable of a kind, or `None` where the kind does not use this word of its areas.
+/// Returns the name of a variable of a kind, or `None` where the kind does not use this word of its areas.
 pub fn variable_name(kind: KindId, variable: u8) -> Option<&'static str>
     ensures { option_map (λ s. s.now) result ≡ name_in (variable_names kind.0) variable }
 {

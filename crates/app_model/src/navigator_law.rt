@@ -52,7 +52,7 @@ fn next_on_course(seen: &Seen) -> i64
     }
 }
 
-/// What a run leaves. It takes no memory.
+/// Returns what a run leaves.
 pub fn run(seen: &Seen) -> Area
     ensures { result ≡ navigator_ran seen.now }
 {

@@ -120,8 +120,8 @@ fn keep_or_initialise(kind: u8, last: bool, seen: &Seen) -> Area
     }
 }
 
-/// What an order but `Run` leaves of the area of an application of the kind, by the kind's law;
-/// `None` for `Run` alone.
+/// Returns what an order but `Run` leaves of the area of an application of the kind, by the kind's law; `None` for
+/// `Run` alone.
 pub fn area_after(kind: u8, order: Order, seen: &Seen) -> Option<Area>
     ensures law { IfSome result (λ area. area ≡ law kind order seen.now) }
     ensures run { result ≡ None → order ≡ Run }

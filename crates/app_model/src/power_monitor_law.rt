@@ -64,7 +64,7 @@ fn next_shed(seen: &Seen) -> i64
     if next_charge(seen) < 2_000 { 1 } else { 0 }
 }
 
-/// What a run leaves. It takes no memory.
+/// Returns what a run leaves.
 pub fn run(seen: &Seen) -> Area
     ensures { result ≡ power_monitor_ran seen.now }
 {

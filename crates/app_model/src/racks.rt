@@ -16,7 +16,7 @@ pub struct Rack {
     pub boxes: Vec<Box<dyn App + Send>>,
 }
 
-/// A rack without boxes. It takes no memory.
+/// Returns a rack without boxes. It allocates nothing.
 pub fn empty_rack(alloc: Global) -> Rack
     ensures { result.boxes.items ≡ [] }
 {
@@ -25,8 +25,8 @@ pub fn empty_rack(alloc: Global) -> Rack
     }
 }
 
-/// Eight racks without boxes, or `Err` where there is no memory for them. They serve wherever nothing is asked of boxes:
-/// what flies with them computes each law itself.
+/// Returns eight racks without boxes, or `Err` when out of memory. They serve wherever nothing is asked of boxes: a
+/// flight with them computes each law itself.
 pub fn empty_racks(alloc: Global) -> Result<Vec<Rack>, AllocError>
     ensures count { IfOk result (λ racks. vec_len racks ≡ 8) }
     ensures empty { IfOk result (λ racks. All (λ r. r.boxes.items ≡ []) racks.items) }
@@ -38,14 +38,14 @@ pub fn empty_racks(alloc: Global) -> Result<Vec<Rack>, AllocError>
     Ok(racks)
 }
 
-/// The kind of a box.
+/// Returns the kind of a box.
 pub fn box_kind(app: &Box<dyn App + Send>) -> KindId
     ensures { result.0 ≡ kind_of app.now }
 {
     app.kind()
 }
 
-/// Whether the rack has five boxes, that of kind `k` at place `k`.
+/// Returns whether the rack has five boxes, that of kind `k` at place `k`.
 pub fn rack_fits(rack: &Rack) -> bool
     ensures { IsTrue result ↔ RackFits kind_of rack.now.boxes.items }
 {
@@ -68,15 +68,15 @@ fn all_racks_fit(racks: &[Rack]) -> bool
     true
 }
 
-/// Whether there are eight racks, each with the box of kind `k` at place `k`. Wherever racks are handed
-/// in, rack `p` is that of processor `p`.
+/// Returns whether there are eight racks, each with the box of kind `k` at place `k`. Wherever racks are handed in,
+/// rack `p` is that of processor `p`.
 pub fn racks_fit(racks: &[Rack]) -> bool
     ensures { IsTrue result ↔ RacksFit kind_of (λ r. r.boxes.items) racks.now }
 {
     racks.len() == 8 && all_racks_fit(racks)
 }
 
-/// What a box answers in a frame: the law of its kind. The kind stays.
+/// Returns what a box answers in a frame: the law of its kind. The kind stays.
 pub fn box_frame(app: &mut Box<dyn App + Send>, order: Order, seen: &Seen) -> Area
     ensures answer { result ≡ law (kind_of app.old) order seen.now }
     ensures same { kind_of app.new ≡ kind_of app.old }
@@ -84,7 +84,7 @@ pub fn box_frame(app: &mut Box<dyn App + Send>, order: Order, seen: &Seen) -> Ar
     app.frame(order, seen)
 }
 
-// The answer of a box that is of the kind, and the law of the kind where it is not.
+// Returns the answer of a box that is of the kind, and the law of the kind where it is not.
 fn box_or_law(app: &mut Box<dyn App + Send>, kind: KindId, order: Order, seen: &Seen) -> Area
     ensures answer { result ≡ law kind.0 order seen.now }
     ensures same { kind_of app.new ≡ kind_of app.old }
@@ -115,7 +115,7 @@ pub fn rack_frame(rack: &mut Rack, kind: KindId, order: Order, seen: &Seen) -> A
     }
 }
 
-/// The area of an application of the kind after a frame with this order, by the rack of processor `proc` as
+/// Returns the area of an application of the kind after a frame with this order, by the rack of processor `proc` as
 /// `rack_frame` has it, or by the law computed anew where there is no such rack. The kinds of the boxes stay, and the
 /// racks of other processors are as they were.
 pub fn racks_frame(

@@ -7,14 +7,14 @@ ghost use Rattle.app_model.specs.Ranges.{initialised_range, widest_mode, sane_ra
 use crate::table::{kind_or_last, kind_variable, range_in};
 use scram_types::Range;
 
-/// The range of a variable while an application of the kind is in the mode.
+/// Returns the range of a variable while an application of the kind is in the mode.
 pub fn mode_range(kind: u8, mode: u8, variable: usize) -> Range
     ensures { result ≡ mode_range kind mode variable }
 {
     range_in(kind_variable(kind, variable).ranges, mode)
 }
 
-/// The range of a variable after the last frame of an init phase.
+/// Returns the range of a variable after the last frame of an init phase.
 pub fn initialised_range(kind: u8, mode: u8, variable: usize) -> Range
     ensures { result ≡ initialised_range kind mode variable }
 {
@@ -27,14 +27,14 @@ fn widest_mode(kind: u8) -> u8
     kind_or_last(kind).widest
 }
 
-/// The widest of a variable's ranges over the modes of the kind.
+/// Returns the widest of a variable's ranges over the modes of the kind.
 pub fn sane_range(kind: u8, variable: usize) -> Range
     ensures { result ≡ sane_range kind variable }
 {
     mode_range(kind, widest_mode(kind), variable)
 }
 
-/// Whether a halt brings the variable to 0.
+/// Returns whether a halt brings the variable to 0.
 pub fn is_moving(kind: u8, variable: usize) -> bool
     ensures { result ≡ is_moving kind variable }
 {

@@ -18,7 +18,7 @@ fn word_at(area: &Area, variable: usize) -> i64
     area[variable]
 }
 
-/// A word of the application's own area, clamped to the range of the mode that it is to be in.
+/// Returns a word of the application's own area, clamped to the range of the mode that it is to be in.
 pub fn read_own(kind: u8, seen: &Seen, variable: usize) -> i64
     requires { variable < 8 }
     ensures value { result ≡ own_word kind seen.now variable }
@@ -30,7 +30,7 @@ pub fn read_own(kind: u8, seen: &Seen, variable: usize) -> i64
     )
 }
 
-/// A word of the area of the least-numbered application of a kind, clamped to the widest of the modes'
+/// Returns a word of the area of the least-numbered application of a kind, clamped to the widest of the modes'
 /// ranges.
 pub fn read_lead(kind: u8, seen: &Seen, variable: usize) -> i64
     requires kind { kind < 8 }
@@ -44,7 +44,7 @@ pub fn read_lead(kind: u8, seen: &Seen, variable: usize) -> i64
     )
 }
 
-/// The aircraft's altitude in feet, clamped to 0 to 40,000.
+/// Returns the aircraft's altitude in feet, clamped to 0 to 40,000.
 pub fn read_altitude(seen: &Seen) -> i64
     ensures value { result ≡ altitude seen.now }
     ensures word { IsWord result }
@@ -52,7 +52,7 @@ pub fn read_altitude(seen: &Seen) -> i64
     clamped_in(make_range(0, 40_000), seen.world.alt)
 }
 
-/// The aircraft's heading in tenths of a degree, clamped to 0 to 3,599.
+/// Returns the aircraft's heading in tenths of a degree, clamped to 0 to 3,599.
 pub fn read_heading(seen: &Seen) -> i64
     ensures value { result ≡ heading seen.now }
     ensures word { IsWord result }
@@ -60,7 +60,7 @@ pub fn read_heading(seen: &Seen) -> i64
     clamped_in(make_range(0, 3_599), seen.world.heading)
 }
 
-/// The goal's altitude in feet, clamped to 0 to 40,000.
+/// Returns the goal's altitude in feet, clamped to 0 to 40,000.
 pub fn read_goal_altitude(seen: &Seen) -> i64
     ensures value { result ≡ goal_altitude seen.now }
     ensures word { IsWord result }
@@ -68,7 +68,7 @@ pub fn read_goal_altitude(seen: &Seen) -> i64
     clamped_in(make_range(0, 40_000), seen.goal.altitude)
 }
 
-/// The goal's heading in tenths of a degree, clamped to 0 to 3,599.
+/// Returns the goal's heading in tenths of a degree, clamped to 0 to 3,599.
 pub fn read_goal_heading(seen: &Seen) -> i64
     ensures value { result ≡ goal_heading seen.now }
     ensures word { IsWord result }
@@ -76,7 +76,7 @@ pub fn read_goal_heading(seen: &Seen) -> i64
     clamped_in(make_range(0, 3_599), seen.goal.heading)
 }
 
-/// The frames in which the application ran, this one included, at most 1,000,000.
+/// Returns the frames in which the application ran, this one included, at most 1,000,000.
 pub fn next_ticks(kind: u8, seen: &Seen) -> i64
     ensures { result ≡ ticks_after kind seen.now }
 {

@@ -187,7 +187,7 @@ pub const DATA_LINK: Kind = Kind {
     ],
 };
 
-/// A kind by its number, or `None` where there is no such kind.
+/// Returns a kind by its number, or `None` where there is no such kind.
 pub fn find_kind(kind: u8) -> Option<Kind>
     ensures kind { option_map kind_read result ≡ find_kind kind }
     ensures few { IfSome result (λ found. length found.modes.now ≤ 8) }
@@ -203,7 +203,7 @@ pub fn find_kind(kind: u8) -> Option<Kind>
     }
 }
 
-/// A kind by its number, where numbers past the last kind stand for the data link.
+/// Returns a kind by its number, where numbers past the last kind stand for the data link.
 pub fn kind_or_last(kind: u8) -> Kind
     ensures { kind_read result ≡ kind_or_last kind }
 {
@@ -213,7 +213,7 @@ pub fn kind_or_last(kind: u8) -> Kind
     }
 }
 
-/// A word of a kind's area.
+/// Returns a word of a kind's area.
 pub fn kind_variable(kind: u8, variable: usize) -> Variable
     ensures { variable_read result ≡ kind_variable kind variable }
 {
@@ -223,7 +223,7 @@ pub fn kind_variable(kind: u8, variable: usize) -> Variable
     }
 }
 
-/// The range in a mode.
+/// Returns the range in a mode.
 pub fn range_in(ranges: &[Range], mode: u8) -> Range
     ensures { result ≡ range_in ranges.now mode }
 {

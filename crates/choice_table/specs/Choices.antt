@@ -16,7 +16,7 @@ abbrev pub has_source : Option ConfId → ConfId → Bool
 has_source None c = true
 has_source (Some from) c = from.0 == c.0
 
--- An environment has the value that a rule wants of a factor.
+-- An environment has the value that a rule requires of a factor.
 abbrev pub has_wanted : Env → Want → Bool
 has_wanted v want = factor_in v want.factor.0 == want.value
 
@@ -24,8 +24,8 @@ has_wanted v want = factor_in v want.factor.0 == want.value
 abbrev pub all_up : ℕ → Env → Bool
 all_up set v = bit_and set v.up == set
 
--- A rule fits a configuration and an environment: its source, the values that it wants, the processors that it wants
--- up.
+-- A rule fits a configuration and an environment: its source, the values that it requires, the processors that it
+-- requires up.
 abbrev pub rule_fits : ConfId → Env → Choice → Bool
 rule_fits c v rule = has_source rule.from c && list_all (has_wanted v) rule.wants && all_up rule.up v
 

@@ -17,7 +17,7 @@ factor_in v x = slice_index v.factors x
 abbrev pub down_count : Parts → Env → ℕ
 down_count spec v = count_below (λ p. not (is_up_in v p)) (length spec.procs)
 
--- At most as many processors are down as the failure assumption lets be down.
+-- The number of processors that are down is within the failure assumption.
 abbrev pub in_scope : Parts → Env → Bool
 in_scope spec v = nat_le (down_count spec v) spec.halts
 

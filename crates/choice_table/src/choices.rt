@@ -7,8 +7,7 @@ ghost use Rattle.choice_table.specs.Choices.{all_up, choose, has_rule, has_sourc
 use scram_types::bits::has_bit;
 use scram_types::{Choice, ConfId, Env, Place, Spec, Want};
 
-/// The target of the first rule that fits configuration `c` and the environment, and `c` where none
-/// fits. It takes no memory.
+/// Returns the target of the first rule that fits configuration `c` and the environment, and `c` where none fits.
 pub fn choose(spec: &Spec, c: ConfId, env: &Env) -> ConfId
     ensures target { result ≡ choose spec.now c env.now }
     ensures inside { c.0 < length spec.now.confs → result.0 < length spec.now.confs }
@@ -21,15 +20,14 @@ pub fn choose(spec: &Spec, c: ConfId, env: &Env) -> ConfId
     c
 }
 
-/// Whether some rule fits configuration `c` and the environment. It takes no memory.
+/// Returns whether some rule fits configuration `c` and the environment.
 pub fn has_rule(spec: &Spec, c: ConfId, env: &Env) -> bool
     ensures { result ≡ has_rule spec.now c env.now }
 {
     spec.rules.items().iter().any(|rule| fits(rule, c, env))
 }
 
-/// Whether each processor that configuration `c` uses is up; a configuration that does not exist uses
-/// none. It takes no memory.
+/// Returns whether each processor that configuration `c` uses is up; a configuration that does not exist uses none.
 pub fn runnable(spec: &Spec, c: ConfId, env: &Env) -> bool
     ensures { result ≡ is_runnable spec.now c env.now }
 {

@@ -7,15 +7,14 @@ ghost use Rattle.choice_table.specs.Environments.{in_scope};
 use scram_types::bits::has_bit;
 use scram_types::{Env, Spec};
 
-/// Whether at most as many processors are down as the specification's failure assumption lets be down.
-/// It takes no memory.
+/// Returns whether the number of processors that are down is within the specification's failure assumption.
 pub fn in_scope(spec: &Spec, env: &Env) -> bool
     ensures { result ≡ in_scope spec.now env.now }
 {
     count_down(spec.procs.items().len() as u8, env.up) <= spec.halts
 }
 
-// How many of the first `processors` processors are not in the set `up`.
+// Returns how many of the first `processors` processors are not in the set `up`.
 pub(crate) fn count_down(processors: u8, up: u8) -> u8
     ensures value { result ≡ count_below (λ p. not (has_bit up p)) processors }
     ensures most { result ≤ processors }

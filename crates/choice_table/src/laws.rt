@@ -1,4 +1,4 @@
-//! What the words of this crate's contracts come to: each function's contract is a law.
+//! What the definitions in this crate's contracts mean: each function's contract is a law.
 
 ghost use Rattle.choice_table.specs.Laws.{RunsWherePlacesAreUp, SetsAreUpByMembers};
 

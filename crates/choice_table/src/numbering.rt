@@ -16,9 +16,9 @@ pub struct Numbered {
     pub env: Env,
 }
 
-/// The number of an environment: with `M` the product of the factors' counts of values, it is `M` times
-/// the set of processors that are down, as bits, plus the mixed-radix number of the factors' values, the
-/// first factor being the most significant digit. It takes no memory.
+/// Returns the number of an environment: with `M` the product of the factors' counts of values, it is `M` times the
+/// set of processors that are down, as bits, plus the mixed-radix number of the factors' values, the first factor
+/// being the most significant digit.
 pub fn number_of(spec: &Spec, env: &Env) -> u32
     ensures number { result ≡ number_of spec.now env.now }
     ensures back { IsEnv spec.now env.now → env_of spec.now result ≡ Some env.now }
@@ -27,7 +27,7 @@ pub fn number_of(spec: &Spec, env: &Env) -> u32
     u32::from(down) * count_combinations(spec) + number_of_values(spec, &env.factors)
 }
 
-/// The environment that has this number, or `None` where no environment has it. It takes no memory.
+/// Returns the environment that has this number, or `None` where no environment has it.
 pub fn env_of(spec: &Spec, number: u32) -> Option<Env>
     ensures env { result ≡ env_of spec.now number }
     ensures belongs { IfSome result (λ v. IsEnv spec.now v) }
@@ -40,8 +40,7 @@ pub fn env_of(spec: &Spec, number: u32) -> Option<Env>
     }
 }
 
-/// How many environments are in scope. It takes no memory, and looks at each set of processors once and
-/// not at each environment.
+/// Returns how many environments are in scope. It looks at each set of processors once, and not at each environment.
 pub fn states(spec: &Spec) -> u32
     ensures { result ≡ states spec.now }
 {
@@ -55,8 +54,8 @@ pub fn states(spec: &Spec) -> u32
     states
 }
 
-/// The environment in scope with the least number from `low` on, or `None` where there is none. It takes
-/// no memory, and passes over a set of processors that is out of scope at once.
+/// Returns the environment in scope with the least number from `low` on, or `None` where there is none. It passes
+/// over a set of processors that is out of scope at once.
 pub fn next_in_scope(spec: &Spec, low: u32) -> Option<Numbered>
     ensures next { MatchOption result (NoneInScope spec.now low) (λ found. IsNextInScope spec.now low found.number) }
     ensures env { IfSome result (λ found. env_of spec.now found.number ≡ Some found.env) }
@@ -74,7 +73,7 @@ pub fn next_in_scope(spec: &Spec, low: u32) -> Option<Numbered>
     None
 }
 
-// Whether as many processors as stand in the set `down` may be down.
+// Returns whether the processors of the set `down` may be down together.
 fn can_be_down(spec: &Spec, down: u32) -> bool
     requires { down < 2 ^ length spec.now.procs }
     ensures { result ≡ is_down_in_scope spec.now down }
@@ -93,7 +92,7 @@ fn env_numbered(spec: &Spec, number: u32) -> Env
     }
 }
 
-// The processors that are up where those of the set `down` are down.
+// Returns the processors that are up where those of the set `down` are down.
 fn up_beside(spec: &Spec, down: u32) -> u8
     requires { down < 2 ^ length spec.now.procs }
     ensures { result ≡ 2 ^ length spec.now.procs - 1 - down }
@@ -101,7 +100,7 @@ fn up_beside(spec: &Spec, down: u32) -> u8
     (count_sets(spec) - 1 - down) as u8
 }
 
-// The numbers below `count` that are not in a set of numbers, both sets as bits.
+// Returns the numbers below `count` that are not in a set of numbers, both sets as bits.
 fn others(count: u8, set: u8) -> u8
     requires { count ≤ 8 }
     ensures value { result ≡ bits_below (λ p. not (has_bit set p)) count }
@@ -145,7 +144,7 @@ fn count_environments(spec: &Spec) -> u32
     count_sets(spec) * count_combinations(spec)
 }
 
-// How many sets of processors there are.
+// Returns how many sets of processors there are.
 fn count_sets(spec: &Spec) -> u32
     ensures value { result ≡ 2 ^ length spec.now.procs }
     ensures least { 1 ≤ result }

@@ -1,4 +1,4 @@
--- Environments by number, possible targets, and what covers tell of them.
+-- Environments by number, possible targets, and the findings of covers on them.
 use Rattle.std.proofs.Common.{◌≡◌, ℕ, ◌+◌, ◌<◌, Bool, true, false, refl, arith, ap, sym, ◌∙◌, List, get_or, length, set, subst}
 use mathlib.Core.Logic.{inl, inr}
 use Rattle.std.specs.Int.{bit_at}
@@ -49,7 +49,7 @@ module _ (spec : Parts) (made : IsSpec spec) where
   pub belongs_numbered : (n : ℕ) → n < environments spec → IsEnv spec (numbered spec n)
   belongs_numbered n h = is_env spec made.factors made.factors_count n h
 
-  -- the test of possible targets tells them
+  -- the test of possible targets finds them
   pub target_test : (i j : ConfId) → IsTarget spec i j → is_target spec i j.0 ≡ true
   target_test i j target =
       let same = numbered_number target.seen target.belongs in
@@ -79,7 +79,7 @@ module _ (spec : Parts) (made : IsSpec spec) where
     few = bits_lt (is_target spec i) (length spec.confs);
   }
 
-  -- what a cover tells of targets
+  -- the findings of a cover on targets
   pub cover_targets : (i : ConfId) (cover : Cover) → IsCover spec i cover → (j : ℕ) → j < length spec.confs → has_bit cover.targets j ≡ is_target spec i j
   cover_targets i cover is j inside = same_test (has_bit cover.targets j) (is_target spec i j)
       (λ bit. target_test i (conf_id j) (is.only (conf_id j) bit))

@@ -1,4 +1,4 @@
--- When a specification is accepted, and what is shown where it is not.
+-- When a specification is accepted (A1 to A12), and what is shown where it is not.
 use Rattle.std.specs.Prelude.{◌≡◌, ◌≢◌, ◌⊎◌, ℕ, ◌+◌, ◌<◌, ◌≤◌, true, false, length, slice_get, Option, Some, None}
 use Rattle.std.specs.Option.{option_or}
 use Rattle.scram_types.specs.declared.limits.TheConstants.{MAX_ENVIRONMENTS}

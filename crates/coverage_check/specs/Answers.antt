@@ -5,7 +5,7 @@ use Rattle.coverage_check.specs.declared.acceptance.AcceptError.{AcceptError}
 use Rattle.coverage_check.specs.declared.acceptance.AcceptError.TheVariants as error
 use Rattle.coverage_check.specs.Acceptance.{first_refusal}
 
--- The specification comes back, with the first refusal where memory was to be had.
+-- The specification comes back, with the first refusal, unless there is no memory for it.
 abbrev pub IsRefusal : Parts → AcceptError → Type 0
 IsRefusal spec (error.NotAccepted back shown) = (back ≡ spec) × (first_refusal spec ≡ Some shown)
 IsRefusal spec (error.NoMemory back) = back ≡ spec

@@ -1,4 +1,4 @@
--- What the choice table has to give in each environment in scope.
+-- The conditions A5 to A8: what the choice table has to give in each environment in scope.
 use Rattle.std.specs.Prelude.{ℕ, Bool, not, ◌&&◌, ◌==◌, length, Option, option_map}
 use Rattle.scram_types.specs.Lookups.{opening_env, conf_id}
 use Rattle.scram_types.specs.declared.ids.ConfId.{ConfId}
@@ -16,7 +16,7 @@ use Rattle.coverage_check.specs.declared.choosing.Demand.TheVariants as demand
 use Rattle.coverage_check.specs.Search.{shown_if}
 use Rattle.coverage_check.specs.Showing.{shown_in}
 
--- No rule fits; the target cannot run; another target is chosen from the target.
+-- A5: no rule fits. A6: the target cannot run. A7: another target is chosen from the target.
 abbrev pub is_unmet : Parts → Demand → ConfId → Env → Bool
 is_unmet spec demand.HasRule c v = not (has_rule spec c v)
 is_unmet spec demand.CanRun c v = not (is_runnable spec (choose spec c v) v)
@@ -42,7 +42,7 @@ unmet_env_at spec asked c n = shown_if (is_number_in_scope spec n && is_unmet sp
 abbrev pub first_unmet_env : Parts → Demand → ConfId → Option Env
 first_unmet_env spec asked c = first_below (unmet_env_at spec asked c) (environments spec)
 
--- What a cover tells of a demand.
+-- The finding of a cover on a demand.
 abbrev pub unmet_of_cover : Cover → Demand → Option Env
 unmet_of_cover cover demand.HasRule = cover.unfit
 unmet_of_cover cover demand.CanRun = cover.not_runnable
@@ -61,7 +61,7 @@ demand_refusal spec asked = first_below (demand_refusal_of spec asked) (length s
 abbrev pub leaves_start : Parts → Bool
 leaves_start spec = not ((choose spec spec.start (opening_env spec)).0 == spec.start.0)
 
--- The refusal of a start that the table leaves in the opening environment.
+-- A8: the refusal of a start that the table leaves in the opening environment.
 abbrev pub start_refusal : Parts → Option Shown
 start_refusal spec =
     shown_if (leaves_start spec) (shown_in 8 spec.start.0 (opening_env spec) (other.Conf (choose spec spec.start (opening_env spec))))

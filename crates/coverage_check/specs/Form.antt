@@ -1,4 +1,4 @@
--- What a configuration has to be by itself: whole, different from the others, and not too heavy.
+-- The conditions A1 to A4 on a configuration alone: complete, different from the others, and not overloaded.
 use Rattle.std.specs.Prelude.{ℕ, zero, suc, ◌+◌, Bool, true, false, not, ◌&&◌, ◌==◌, nat_lt, List, length, slice_get, Option, Some, None, if◌then◌else◌}
 use Rattle.std.specs.Option.{option_map_or}
 use Rattle.std.specs.List.{list_any}
@@ -72,11 +72,11 @@ is_overloaded spec c p = nat_lt (capacity_of spec p) (load_below spec c p (lengt
 abbrev pub need_refusal_in : Parts → ℕ → Option Shown
 need_refusal_in spec c = first_below (λ a. shown_if (lacks_need spec (conf_id c) a) (shown_at 1 c (other.App (app_id a)))) (length spec.apps)
 
--- The refusal for the first application that is on without what it needs.
+-- A1: the refusal for the first application that is on without what it needs.
 abbrev pub need_refusal : Parts → Option Shown
 need_refusal spec = first_below (need_refusal_in spec) (length spec.confs)
 
--- The refusal of too many environments.
+-- A2: the refusal of too many environments.
 abbrev pub state_refusal : Parts → Option Shown
 state_refusal spec = shown_if (has_too_many_states spec) (shown_nowhere 2 (other.Count (states spec)))
 
@@ -88,7 +88,7 @@ twin_refusal_of spec c = first_below (λ d. shown_if (is_same spec (conf_id c) (
 abbrev pub shape_refusal_of : Parts → ℕ → Option Shown
 shape_refusal_of spec c = if is_empty spec (conf_id c) then Some (shown_at 3 c other.Nothing) else twin_refusal_of spec c
 
--- The refusal of the first configuration that is empty or a twin.
+-- A3: the refusal of the first configuration that is empty or a twin.
 abbrev pub shape_refusal : Parts → Option Shown
 shape_refusal spec = first_below (shape_refusal_of spec) (length spec.confs)
 
@@ -96,6 +96,6 @@ shape_refusal spec = first_below (shape_refusal_of spec) (length spec.confs)
 abbrev pub load_refusal_in : Parts → ℕ → Option Shown
 load_refusal_in spec c = first_below (λ p. shown_if (is_overloaded spec (conf_id c) p) (shown_at 4 c (other.Proc (proc_id p)))) (length spec.procs)
 
--- The refusal for the first configuration that overloads a processor.
+-- A4: the refusal for the first configuration that overloads a processor.
 abbrev pub load_refusal : Parts → Option Shown
 load_refusal spec = first_below (load_refusal_in spec) (length spec.confs)

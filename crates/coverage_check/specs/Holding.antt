@@ -1,4 +1,4 @@
--- What invariants and preconditions have to hold.
+-- The conditions A11 and A12: what invariants and preconditions have to hold.
 use Rattle.std.specs.Prelude.{ℕ, ℤ, pos, Bool, not, ◌&&◌, ◌||◌, int_le, length, slice_get, Option, Some, None}
 use Rattle.std.specs.Option.{option_map_or}
 use Rattle.scram_types.specs.Lookups.{kind_of_app, place_of, conf_id}
@@ -64,7 +64,7 @@ invariant_refusal_of spec k inv = first_below (λ i. shown_if (breaks_from spec 
 abbrev pub invariant_refusal_at : Parts → ℕ → Option Shown
 invariant_refusal_at spec k = option_map_or (invariant_refusal_of spec k) (slice_get spec.invariants k) None
 
--- The refusal of the first invariant that can break.
+-- A11: the refusal of the first invariant that can break.
 abbrev pub invariant_refusal : Parts → Option Shown
 invariant_refusal spec = first_below (invariant_refusal_at spec) (length spec.invariants)
 
@@ -85,6 +85,6 @@ precondition_refusal_of spec k pre = shown_if (breaks_entering spec pre) (shown_
 abbrev pub precondition_refusal_at : Parts → ℕ → Option Shown
 precondition_refusal_at spec k = option_map_or (precondition_refusal_of spec k) (slice_get spec.preconditions k) None
 
--- The refusal of the first precondition that can be missed.
+-- A12: the refusal of the first precondition that can be missed.
 abbrev pub precondition_refusal : Parts → Option Shown
 precondition_refusal spec = first_below (precondition_refusal_at spec) (length spec.preconditions)

@@ -1,4 +1,4 @@
--- How long reconfigurations may take.
+-- The conditions A9 and A10: how long reconfigurations may take.
 use Rattle.std.specs.Prelude.{ℕ, suc, ◌+◌, ◌*◌, max, Bool, false, not, ◌&&◌, ◌||◌, ◌==◌, nat_le, nat_lt, List, [], ◌∷◌, length, Option}
 use Rattle.std.specs.Option.{option_map_or}
 use Rattle.scram_types.specs.declared.ids.ConfId.{ConfId}
@@ -72,7 +72,7 @@ abbrev pub bound_refusal_of : Parts → ℕ → Option Shown
 bound_refusal_of spec i =
     first_below (λ j. shown_if (lacks_bound spec (conf_id i) j) (shown_at 9 i (other.Least (conf_id j) (least spec (conf_id i) (conf_id j))))) (length spec.confs)
 
--- The refusal for the first configuration that lacks a bound.
+-- A9: the refusal for the first configuration that lacks a bound.
 abbrev pub bound_refusal : Parts → Option Shown
 bound_refusal spec = first_below (bound_refusal_of spec) (length spec.confs)
 
@@ -85,6 +85,6 @@ greatest_bound (bound ∷ bounds) = max bound.frames (greatest_bound bounds)
 abbrev pub has_short_window : Parts → Bool
 has_short_window spec = nat_lt spec.window (greatest_bound spec.bounds + 1)
 
--- The refusal of a window that is shorter than the longest bound.
+-- A10: the refusal of a window that is shorter than the longest bound.
 abbrev pub window_refusal : Parts → Option Shown
 window_refusal spec = shown_if (has_short_window spec) (shown_nowhere 10 (other.Count (greatest_bound spec.bounds)))

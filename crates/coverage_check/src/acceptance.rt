@@ -1,4 +1,4 @@
-//! Acceptance: all conditions in their order.
+//! Acceptance: the conditions A1 to A12 in their order.
 
 ghost use Rattle.std.specs.Prelude.{◌≡◌, IfErr, IfOk, None, OnOk};
 ghost use Rattle.coverage_check.specs.Acceptance.{AcceptsWhereUnrefused, ShownIsBroken, choice_refusal, first_refusal, form_refusal, range_refusal, time_refusal};
@@ -35,7 +35,7 @@ impl std::marker::Model for Accepted {
 impl Accepted {
     ghost use Rattle.std.specs.Prelude.{◌≡◌};
 
-    /// The specification. It takes no memory.
+    /// Returns the specification.
     pub fn spec(&self) -> &Spec
         ensures { result.now ≡ self.now }
     {
@@ -51,13 +51,13 @@ pub enum AcceptError {
     NoMemory(Spec),
 }
 
-/// Accepts a specification where all twelve conditions hold.
+/// Accepts a specification if all conditions, A1 to A12, hold.
 ///
 /// # Errors
 ///
-/// The first condition that does not hold, at its least configuration, then its least environment by
-/// number, then its least other value; of invariants and preconditions the first one, and then the least
-/// configuration. Or want of memory. The specification comes back in both.
+/// The first condition that does not hold, at its least configuration, then its least environment by number, then its
+/// least other value; of invariants and preconditions the first one, and then the least configuration; or out of
+/// memory. The specification is given back in both cases.
 #[tactic(auto, using(crate::proofs::Accepting::accepted))]
 pub fn accept(alloc: Global, spec: Spec) -> Result<Accepted, AcceptError>
     ensures accepted { IfOk result (λ accepted. accepted ≡ spec) }

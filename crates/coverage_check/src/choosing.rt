@@ -1,4 +1,4 @@
-//! What the choice table has to give in each environment in scope.
+//! The conditions A5 to A8: what the choice table has to give in each environment in scope.
 
 ghost use Rattle.std.specs.Prelude.{◌≡◌};
 ghost use Rattle.scram_types.specs.Lookups.{conf_id};
@@ -13,8 +13,8 @@ use choice_table::choose;
 use cube_cover::Cover;
 use scram_types::{ConfId, Env, Spec};
 
-/// What is asked of a configuration in each environment in scope: that a rule fits it, that the target
-/// which the table chooses can run, and that from this target the table chooses no other.
+/// A condition on a configuration in each environment in scope: A5, that a rule fits it; A6, that the target which
+/// the table chooses can run; A7, that from this target the table chooses no other.
 #[derive(Clone, Copy, Debug, PartialEq, Eq)]
 pub enum Demand {
     HasRule,
@@ -22,7 +22,7 @@ pub enum Demand {
     Stays,
 }
 
-// The least configuration and environment in which a demand is not met.
+// A5 to A7: returns the refusal for the least configuration and environment in which a demand is not met.
 pub(crate) fn refuse_demand(spec: &Spec, covers: &[Cover; 12], demand: Demand) -> Option<Shown>
     requires { HasCovers spec.now covers.now }
     ensures { result ≡ demand_refusal spec.now demand }
@@ -50,7 +50,7 @@ fn refuse_demand_of(spec: &Spec, cover: &Cover, demand: Demand, c: u8) -> Option
     }
 }
 
-// What a cover tells of a demand: the first environment in scope in which it is not met.
+// Returns the finding of a cover on a demand: the first environment in scope in which it is not met.
 fn unmet_of_cover(cover: &Cover, demand: Demand) -> Option<Env>
     ensures { result ≡ unmet_of_cover cover.now demand }
 {
@@ -80,7 +80,7 @@ fn target_shown(spec: &Spec, demand: Demand, c: ConfId, env: &Env) -> Other
     }
 }
 
-// A start configuration that is left at once.
+// A8: returns the refusal of a start configuration that is left at once.
 pub(crate) fn refuse_start(spec: &Spec) -> Option<Shown>
     ensures { result ≡ start_refusal spec.now }
 {

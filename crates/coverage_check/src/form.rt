@@ -1,4 +1,4 @@
-//! What a configuration has to be by itself: whole, different from the others, and not too heavy.
+//! The conditions A1 to A4 on a configuration alone: complete, different from the others, and not overloaded.
 
 ghost use Rattle.std.specs.Prelude.{◌≡◌, length};
 ghost use Rattle.std.specs.Option.{option_map_or};
@@ -12,7 +12,7 @@ use choice_table::states;
 use scram_types::limits::MAX_ENVIRONMENTS;
 use scram_types::{AppId, ConfId, Mode, ModeSpec, Place, ProcId, Spec};
 
-// An application that is on while something that it needs is off.
+// A1: returns the refusal of an application that is on while something that it needs is off.
 pub(crate) fn refuse_need(spec: &Spec) -> Option<Shown>
     ensures { result ≡ need_refusal spec.now }
 {
@@ -57,7 +57,7 @@ fn has_off(spec: &Spec, c: ConfId, needs: &[AppId]) -> bool
     needs.iter().any(|needed| !spec.is_on(c, *needed))
 }
 
-/// More environments in scope than an acceptance looks through, and how many there are. It takes no memory.
+/// A2: returns the refusal of more environments in scope than acceptance looks through, with their number.
 pub fn refuse_states(spec: &Spec) -> Option<Shown>
     ensures { result ≡ state_refusal spec.now }
 {
@@ -69,7 +69,7 @@ pub fn refuse_states(spec: &Spec) -> Option<Shown>
     }
 }
 
-// A configuration with nothing on, or one that an earlier one equals.
+// A3: returns the refusal of a configuration with nothing on, or of one that an earlier one equals.
 pub(crate) fn refuse_shape(spec: &Spec) -> Option<Shown>
     ensures { result ≡ shape_refusal spec.now }
 {
@@ -135,7 +135,7 @@ fn is_same_place(one: Option<Place>, other: Option<Place>) -> bool
     }
 }
 
-// A processor that a configuration loads beyond its capacity.
+// A4: returns the refusal of a processor that a configuration loads beyond its capacity.
 pub(crate) fn refuse_load(spec: &Spec) -> Option<Shown>
     ensures { result ≡ load_refusal spec.now }
 {
@@ -174,7 +174,7 @@ fn capacity_of(spec: &Spec, p: u8) -> u32
     }
 }
 
-// The load that a configuration puts on a processor, in load units.
+// Returns the load that a configuration puts on a processor, in load units.
 fn load_on(spec: &Spec, c: ConfId, p: u8) -> u64
     ensures { result ≡ load_below spec.now c p (length spec.now.apps) }
 {

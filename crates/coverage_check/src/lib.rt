@@ -1,6 +1,6 @@
-//! Acceptance: a specification that is accepted can carry the promise of assured reconfiguration, and one
-//! that is not comes back with the first reason; a mission is an accepted specification with a script that
-//! keeps to its failure assumption.
+//! The static check of a specification, the conditions A1 to A12: `accept` gives an accepted specification, of which
+//! every reconfiguration is assured, or the first condition that does not hold and its least place. A mission is an
+//! accepted specification with a script that keeps to its failure assumption.
 #![tactic(auto)]
 
 pub mod acceptance;

@@ -40,7 +40,7 @@ impl Mission {
     ghost use Rattle.coverage_check.specs.Missions.{IsMission, mission_of};
     ghost use Rattle.coverage_check.specs.Refusals.{IsNotWithin};
 
-    /// The mission of an accepted specification and a script that fits it. It takes no memory.
+    /// Returns the mission of an accepted specification and a script that fits it.
     ///
     /// # Errors
     ///
@@ -61,22 +61,22 @@ impl Mission {
         }
     }
 
-    /// The specification. It takes no memory.
+    /// Returns the specification.
     pub fn spec(&self) -> &Spec
         ensures { result.now ≡ self.now.spec }
     {
         self.accepted.spec()
     }
 
-    /// The script. It takes no memory.
+    /// Returns the script.
     pub fn script(&self) -> &Script
         ensures { result.now ≡ self.now.script }
     {
         &self.script
     }
 
-    /// What whoever holds a mission knows: its specification is one and is accepted, and its script fits
-    /// it and keeps to its failure assumption. It does nothing.
+    /// Every mission has an accepted specification, and a script that fits it and keeps to its failure assumption.
+    /// The call does nothing.
     pub fn holds(&self)
         ensures spec { IsSpec self.now.spec }
         ensures mission { IsMission self.now }

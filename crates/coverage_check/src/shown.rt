@@ -12,7 +12,7 @@ pub struct Shown {
     pub other: Other,
 }
 
-/// What a condition's place has beside a configuration and an environment.
+/// What the place of a condition has in addition to a configuration and an environment.
 #[derive(Clone, Copy, Debug, PartialEq, Eq)]
 pub enum Other {
     Nothing,
@@ -31,7 +31,7 @@ impl Shown {
     ghost use Rattle.std.specs.Prelude.{◌≡◌};
     ghost use Rattle.coverage_check.specs.Showing.{shown_at, shown_in, shown_nowhere};
 
-    // A condition broken at no configuration.
+    // Returns the refusal of a condition broken at no configuration.
     pub(crate) fn nowhere(condition: u8, other: Other) -> Shown
         ensures { result ≡ shown_nowhere condition other }
     {
@@ -43,7 +43,7 @@ impl Shown {
         }
     }
 
-    // A condition broken at configuration number `c`.
+    // Returns the refusal of a condition broken at configuration number `c`.
     pub(crate) fn at(condition: u8, c: u8, other: Other) -> Shown
         ensures { result ≡ shown_at condition c other }
     {
@@ -55,7 +55,7 @@ impl Shown {
         }
     }
 
-    // A condition broken at configuration number `c` in an environment.
+    // Returns the refusal of a condition broken at configuration number `c` in an environment.
     pub(crate) fn within(condition: u8, c: u8, env: Env, other: Other) -> Shown
         ensures { result ≡ shown_in condition c env other }
     {

@@ -1,4 +1,4 @@
-//! The covers of configurations, and the possible targets that they tell.
+//! The covers of configurations, and the possible targets that they give.
 
 ghost use Rattle.std.specs.Prelude.{◌≡◌, ◌<◌, ◌≤◌, IfOk, length};
 ghost use Rattle.scram_types.specs.Bits.{has_bit};
@@ -10,12 +10,12 @@ use cube_cover::{Cover, cover};
 use scram_types::{ConfId, NoMemory, Spec};
 use std::alloc::Global;
 
-/// The possible targets of configuration `i` as bits: bit `j` is set exactly where the table chooses `j`
-/// from it in some environment in scope, and no other bit is set.
+/// Returns the possible targets of configuration `i` as bits: bit `j` is set exactly where the table chooses `j` from
+/// it in some environment in scope, and no other bit is set.
 ///
 /// # Errors
 ///
-/// Want of memory.
+/// Out of memory.
 pub fn targets(alloc: Global, spec: &Spec, i: ConfId) -> Result<u16, NoMemory>
     requires { i.0 < length spec.now.confs }
     ensures set { IfOk result (λ set. set ≡ targets spec.now i) }
@@ -26,7 +26,7 @@ pub fn targets(alloc: Global, spec: &Spec, i: ConfId) -> Result<u16, NoMemory>
     Ok(found.targets)
 }
 
-// The cover of each configuration; the memory of one is given back before the next is made.
+// Returns the cover of each configuration; the memory of one is given back before the next is made.
 pub(crate) fn find_covers(alloc: Global, spec: &Spec) -> Result<[Cover; 12], NoMemory>
     ensures { IfOk result (λ covers. HasCovers spec.now covers) }
 {
@@ -42,7 +42,7 @@ pub(crate) fn find_covers(alloc: Global, spec: &Spec) -> Result<[Cover; 12], NoM
     Ok(covers)
 }
 
-// Whether number `j` is in a set that is kept as bits.
+// Returns whether number `j` is in a set that is kept as bits.
 pub(crate) fn is_in(set: u16, j: u8) -> bool
     requires { j < 16 }
     ensures { result ≡ has_bit set j }

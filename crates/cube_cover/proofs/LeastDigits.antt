@@ -167,7 +167,7 @@ module _ (spec : Parts) (made : IsSpec spec) (cube : Cube) where
     ];
   }
 
-  -- beside an environment that the cube holds
+  -- compared with an environment that the cube holds
 
   module _ (v : Env) (known : IsEnv spec v) (held : holds cube v ≡ true) where
     digits : HasDigits v

@@ -49,7 +49,7 @@ assigned_more before mid after cubes k d target low so_far is passes v =
     ∙ spread (is_marked before passes v) (is_in (take k cubes) v) (holds (get_or cubes k d) v) (passes target.0)
     ∙ ap (λ (b : Bool). is_marked before passes v || (b && passes target.0)) (sym (taken_more cubes k d v low))
 
--- the cubes of the regions that are wanted
+-- the cubes of the selected regions
 
 pub picked_none : (passes : ℕ → Bool) (cubes : List Cube) → cubes ≡ [] → HoldsMarked [] passes cubes
 picked_none passes cubes e v = ap (λ (xs : List Cube). is_in xs v) e ∙ in_none v ∙ sym (marks_none passes v)

@@ -58,7 +58,7 @@ least_either spec s t (Some f) (Some g) a b = by_bool (nat_le (number_of spec f)
       least = λ v known scope test. cases_of (s v) (t v) test (λ e. let after = a.least v known scope e in omega arith) (λ e. b.least v known scope e);
     }
 
--- a test may be told otherwise
+-- a test may be stated otherwise
 
 pub least_same : (spec : Parts) (s t : Env → Bool) (o : Option Env) → Agree spec s t → IsLeastEnv spec s o → IsLeastEnv spec t o
 least_same spec s t None agree a = λ v known scope. sym (agree v (record { belongs = known; scope = scope })) ∙ a v known scope

@@ -1,4 +1,4 @@
--- What a configuration's choices come to over all environments in scope.
+-- The outcome of a configuration's choices over all environments in scope.
 use Rattle.std.specs.Prelude.{◌≡◌, ◌^◌, ◌<◌, ◌≤◌, Bool, true, false, not, ◌==◌, nat_le, length, Option, Some, None, if◌then◌else◌}
 use Rattle.scram_types.specs.declared.ids.ConfId.{ConfId}
 use Rattle.scram_types.specs.declared.flights.Env.{Env}
@@ -21,7 +21,7 @@ abbrev pub IsLeastEnv : Parts → (Env → Bool) → Option Env → Type 0
 IsLeastEnv spec test (Some found) = IsLeast spec test found
 IsLeastEnv spec test None = (v : Env) → IsEnv spec v → in_scope spec v ≡ true → test v ≡ false
 
--- Of two environments the one with the lesser number.
+-- The one of two environments that has the lesser number.
 abbrev pub earlier_env : Parts → Option Env → Option Env → Option Env
 earlier_env spec None None = None
 earlier_env spec (Some v) None = Some v

@@ -54,7 +54,7 @@ pub record IsInScope (spec : Parts) (v : Env) : Type 0 where
 abbrev pub Agree : Parts → (Env → Bool) → (Env → Bool) → Type 0
 Agree spec one other = (v : Env) → IsInScope spec v → one v ≡ other v
 
--- In scope, cubes came to hold what they held, and what passes a test.
+-- In scope, cubes hold what they held before, and what passes a test.
 abbrev pub Gain : Parts → List Cube → List Cube → (Env → Bool) → Type 0
 Gain spec before after test = Agree spec (is_in after) (λ v. is_in before v || test v)
 

@@ -1,4 +1,4 @@
--- What a target comes to where it is chosen.
+-- The outcome of a target where it is chosen.
 use Rattle.std.specs.Prelude.{◌≡◌, ℕ, Bool, true, not, ◌&&◌, ◌==◌}
 use Rattle.scram_types.specs.declared.ids.ConfId.{ConfId}
 use Rattle.scram_types.specs.declared.flights.Env.{Env}
@@ -20,7 +20,7 @@ is_stuck_at spec i t v = is_chosen_at spec i t v && not (is_runnable spec (conf_
 abbrev pub is_left_at : Parts → ConfId → ℕ → Env → Bool
 is_left_at spec i t v = is_chosen_at spec i t v && not ((choose spec (conf_id t) v).0 == t)
 
--- What a finding tells of target t of configuration i: whether it is chosen, and the least environments of its faults.
+-- The finding on target t of configuration i: whether it is chosen, and the least environments of its faults.
 pub record IsFinding (spec : Parts) (i : ConfId) (t : ℕ) (finding : Finding) : Type 0 where
   pub only : finding.is_chosen ≡ true → IsTarget spec i (conf_id t)
   pub all : IsTarget spec i (conf_id t) → finding.is_chosen ≡ true

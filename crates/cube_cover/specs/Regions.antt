@@ -28,12 +28,13 @@ pub record AreRegions (spec : Parts) (c : ConfId) (cubes : List Cube) (ruled : L
   pub targets : (passes : ℕ → Bool) → Agree spec (is_marked ruled passes) (λ v. is_in cubes v && is_ruled spec.rules c passes v)
   pub rest : Agree spec (is_in unruled) (λ v. is_in cubes v && not (has_rule spec c v))
 
--- Regions came to mark what they marked, and what is in cubes whose target passes the test.
+-- Regions mark what they marked before, and what is in cubes whose target passes the test.
 abbrev pub MarksMore : List Region → List Region → List Cube → ConfId → Type 0
 MarksMore before after cubes target =
     (passes : ℕ → Bool) (v : Env) → is_marked after passes v ≡ (is_marked before passes v || (is_in cubes v && passes target.0))
 
--- In scope, regions came to mark what they marked, and what is in cubes where the rule fits, if its target passes the test.
+-- In scope, regions mark what they marked before, and what is in cubes where the rule fits, if its target passes the
+-- test.
 abbrev pub Rule : Parts → ConfId → Choice → List Cube → List Region → List Region → Type 0
 Rule spec c rule cubes before after = (passes : ℕ → Bool) →
     Agree spec (is_marked after passes) (λ v. is_marked before passes v || (is_in cubes v && (rule_fits c v rule && passes rule.to.0)))
@@ -42,7 +43,7 @@ Rule spec c rule cubes before after = (passes : ℕ → Bool) →
 abbrev pub HoldsMarked : List Region → (ℕ → Bool) → List Cube → Type 0
 HoldsMarked regions passes cubes = (v : Env) → is_in cubes v ≡ is_marked regions passes v
 
--- Cubes came to hold what they held, and what one more holds, if it is wanted.
+-- Cubes hold what they held before, and what one more holds, if it is selected.
 abbrev pub HoldsMore : List Cube → List Cube → Cube → Bool → Type 0
 HoldsMore before after cube wanted = (v : Env) → is_in after v ≡ (is_in before v || (wanted && holds cube v))
 

@@ -2,7 +2,7 @@
 
 use scram_types::Env;
 
-/// What a configuration's choices come to over all environments in scope.
+/// The outcome of a configuration's choices over all environments in scope.
 #[derive(Clone, Copy, Debug, PartialEq, Eq)]
 pub struct Cover {
     /// The possible targets, as bits: bit `j` is set exactly where `j` is chosen in some environment.

@@ -17,7 +17,7 @@ use crate::splits::split_by;
 use scram_types::{ConfId, Env, NoMemory, Spec};
 use std::alloc::Global;
 
-// What a target comes to where it is chosen.
+// The outcome of a target where it is chosen.
 #[derive(Clone, Copy)]
 pub(crate) struct Finding {
     is_chosen: bool,
@@ -25,12 +25,12 @@ pub(crate) struct Finding {
     unsettled: Option<Env>,
 }
 
-/// The cover of configuration `i`: its possible targets, and the least environments in scope, by number, in which
-/// no rule fits it, the target cannot run, or another target is chosen from the target.
+/// Returns the cover of configuration `i`: its possible targets, and the least environments in scope, by number, in
+/// which no rule fits it, the target cannot run, or another target is chosen from the target.
 ///
 /// # Errors
 ///
-/// Want of memory.
+/// Out of memory.
 pub fn cover(alloc: Global, spec: &Spec, i: ConfId) -> Result<Cover, NoMemory>
     requires { i.0 < length spec.now.confs }
     ensures { IfOk result (λ cover. IsCover spec.now i cover) }
@@ -60,7 +60,7 @@ fn count_confs(spec: &Spec) -> u8
     spec.confs.items().len() as u8
 }
 
-// The one cube of all environments.
+// Returns the one cube of all environments.
 fn all_cubes(alloc: Global, spec: &Spec) -> Result<Vec<Cube>, NoMemory>
     requires { IsSpec spec.now }
     ensures { IfOk result (λ cubes. Agree spec.now (is_in cubes.items) (λ v. true)) }
@@ -70,7 +70,7 @@ fn all_cubes(alloc: Global, spec: &Spec) -> Result<Vec<Cube>, NoMemory>
     Ok(cubes)
 }
 
-// The regions with what no rule fits as a region more: there the configuration itself is the target.
+// Returns the regions with what no rule fits as a region more: there the configuration itself is the target.
 fn all_regions(found: Regions, i: ConfId) -> Result<Vec<Region>, NoMemory>
     ensures { IfOk result (λ regions. MarksMore found.ruled.items regions.items found.unruled.items i) }
 {
@@ -79,7 +79,7 @@ fn all_regions(found: Regions, i: ConfId) -> Result<Vec<Region>, NoMemory>
     Ok(regions)
 }
 
-// What target `t` comes to in the regions of configuration `i`.
+// Returns what target `t` means in the regions of configuration `i`.
 fn find(
     alloc: Global,
     spec: &Spec,
@@ -103,8 +103,8 @@ fn find(
     })
 }
 
-// The least environment of the cubes in which another target is chosen from `t`; `i` itself is settled where it is
-// chosen from itself.
+// Returns the least environment of the cubes in which another target is chosen from `t`; `i` itself is settled where
+// it is chosen from itself.
 fn find_unsettled(
     alloc: Global,
     spec: &Spec,

@@ -23,7 +23,7 @@ pub(crate) struct Cube {
 // The first digit of each place.
 const FIRST_DIGITS: u64 = 0x11_1111_1111_1111;
 
-// All environments of a specification.
+// Returns all environments of a specification.
 pub(crate) fn whole(spec: &Spec) -> Cube
     requires { IsSpec spec.now }
     ensures { (v : Env) → IsEnv spec.now v → holds result v ≡ true }
@@ -37,7 +37,7 @@ pub(crate) fn whole(spec: &Spec) -> Cube
     Cube { bits }
 }
 
-// Whether an environment can have digit `d` at place `x`.
+// Returns whether an environment can have digit `d` at place `x`.
 #[tactic(auto, unfolding(crate::specs::Cubes::is_digit))]
 pub(crate) fn is_digit(spec: &Spec, x: u8, d: u8) -> bool
     ensures { result ≡ is_digit spec.now x d }
@@ -58,7 +58,7 @@ fn count_values(spec: &Spec, x: u8) -> u8
     }
 }
 
-// The environments in which what a rule asks beside its source is met.
+// Returns the environments that meet what a rule requires in addition to its source.
 pub(crate) fn rule_cube(rule: &Choice) -> Cube
     ensures { (v : Env) → HasDigits v → holds result v ≡ (list_all (has_wanted v) rule.now.wants && all_up rule.now.up v) }
 {
@@ -75,7 +75,7 @@ fn with_wants(wants: &[Want]) -> Cube
     cube
 }
 
-// A factor past the last one that there can be has value 0.
+// Narrows a cube to the environments with a required value; a factor past the last possible one has value 0.
 fn with_wanted(cube: Cube, want: &Want) -> Cube
     ensures { (v : Env) → HasDigits v → holds result v ≡ (holds cube v && has_wanted v want.now) }
 {
@@ -88,7 +88,7 @@ fn with_wanted(cube: Cube, want: &Want) -> Cube
     }
 }
 
-// The environments of the cube in which each processor of the set is up.
+// Returns the environments of the cube in which each processor of the set is up.
 fn with_up(cube: Cube, set: u8) -> Cube
     ensures { (v : Env) → HasDigits v → holds result v ≡ (holds cube v && all_up set v) }
 {
@@ -110,7 +110,7 @@ fn with_member(cube: Cube, set: u8, p: u8) -> Cube
     }
 }
 
-// The environments in which configuration `c` can run.
+// Returns the environments in which configuration `c` can run.
 pub(crate) fn running(spec: &Spec, c: ConfId) -> Cube
     ensures { (v : Env) → HasDigits v → holds result v ≡ is_runnable spec.now c v }
 {
@@ -145,7 +145,7 @@ fn with_place(cube: Cube, place: &Option<Place>) -> Cube
     }
 }
 
-// The environments of the cube with digit `d` at place `x`.
+// Returns the environments of the cube with digit `d` at place `x`.
 fn with_digit(cube: Cube, x: u8, d: u8) -> Cube
     requires { x < 14 }
     ensures { (v : Env) → HasDigits v → holds result v ≡ (holds cube v && (digit_in v x == d)) }
@@ -160,7 +160,7 @@ fn with_digit(cube: Cube, x: u8, d: u8) -> Cube
     }
 }
 
-// The environments of the cube whose digit at place `x` the cube `by` has open there.
+// Returns the environments of the cube whose digit at place `x` the cube `by` has open there.
 pub(crate) fn inside_at(cube: Cube, by: Cube, x: u8) -> Cube
     requires { x < 14 }
     ensures { (v : Env) → HasDigits v → holds result v ≡ (holds cube v && allows by v x) }
@@ -170,7 +170,7 @@ pub(crate) fn inside_at(cube: Cube, by: Cube, x: u8) -> Cube
     }
 }
 
-// The environments of the cube whose digit at place `x` the cube `by` does not have open there.
+// Returns the environments of the cube whose digit at place `x` the cube `by` does not have open there.
 pub(crate) fn outside_at(cube: Cube, by: Cube, x: u8) -> Cube
     requires { x < 14 }
     ensures { (v : Env) → HasDigits v → holds result v ≡ (holds cube v && not (allows by v x)) }
@@ -180,7 +180,7 @@ pub(crate) fn outside_at(cube: Cube, by: Cube, x: u8) -> Cube
     }
 }
 
-// Whether some digit is open at place `x`; where none is, no environment is held.
+// Returns whether some digit is open at place `x`; where none is, no environment is held.
 pub(crate) fn is_open_at(cube: Cube, x: u8) -> bool
     requires { x < 14 }
     ensures { (v : Env) → HasDigits v → holds cube v ≡ true → result ≡ true }
@@ -188,7 +188,7 @@ pub(crate) fn is_open_at(cube: Cube, x: u8) -> bool
     cube.bits & field(x) != 0
 }
 
-// The bits of all digits at place `x`.
+// Returns the bits of all digits at place `x`.
 fn field(x: u8) -> u64
     requires { x < 14 }
     ensures { result ≡ field_of x }
@@ -196,7 +196,7 @@ fn field(x: u8) -> u64
     15 << (4 * x)
 }
 
-// Whether each place has a digit open in both; where one has none, no environment is held by both.
+// Returns whether each place has a digit open in both; where one has none, no environment is held by both.
 pub(crate) fn meet(one: Cube, other: Cube) -> bool
     ensures { (v : Env) → HasDigits v → (holds one v && holds other v) ≡ true → result ≡ true }
 {
@@ -206,7 +206,7 @@ pub(crate) fn meet(one: Cube, other: Cube) -> bool
     digits & FIRST_DIGITS == FIRST_DIGITS
 }
 
-// Whether digit `d` is open at place `x`.
+// Returns whether digit `d` is open at place `x`.
 pub(crate) fn is_open(cube: Cube, x: u8, d: u8) -> bool
     requires place { x < 14 }
     requires digit { d < 4 }
@@ -215,7 +215,7 @@ pub(crate) fn is_open(cube: Cube, x: u8, d: u8) -> bool
     cube.bits >> (4 * x + d) & 1 == 1
 }
 
-// The digit of an environment at place `x`.
+// Returns the digit of an environment at place `x`.
 #[tactic(auto, unfolding(crate::specs::Cubes::digit_in))]
 pub(crate) fn digit_in(env: &Env, x: u8) -> u8
     requires { x < 14 }

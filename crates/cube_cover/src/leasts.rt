@@ -12,7 +12,7 @@ use choice_table::{in_scope, number_of};
 use scram_types::bits::has_bit;
 use scram_types::{Env, Spec};
 
-// The environment in scope with the least number that one of the cubes holds.
+// Returns the environment in scope with the least number that one of the cubes holds.
 pub(crate) fn least_of(spec: &Spec, cubes: &[Cube]) -> Option<Env>
     requires { IsSpec spec.now }
     ensures { IsLeastEnv spec.now (is_in cubes.now) result }
@@ -24,7 +24,7 @@ pub(crate) fn least_of(spec: &Spec, cubes: &[Cube]) -> Option<Env>
     least
 }
 
-// Of two environments the one with the lesser number.
+// Returns the one of two environments that has the lesser number.
 pub(crate) fn earlier_env(spec: &Spec, one: Option<Env>, other: Option<Env>) -> Option<Env>
     ensures { result ≡ earlier_env spec.now one other }
 {
@@ -42,7 +42,7 @@ pub(crate) fn earlier_env(spec: &Spec, one: Option<Env>, other: Option<Env>) -> 
     }
 }
 
-// The environment in scope with the least number that a cube holds.
+// Returns the environment in scope with the least number that a cube holds.
 pub(crate) fn least_env(spec: &Spec, cube: Cube) -> Option<Env>
     requires { IsSpec spec.now }
     ensures { IsLeastEnv spec.now (holds cube) result }
@@ -55,7 +55,7 @@ pub(crate) fn least_env(spec: &Spec, cube: Cube) -> Option<Env>
     }
 }
 
-// The environment whose digits are the least that are open; past the last processor nobody is up.
+// Returns the environment whose digits are the least that are open; past the last processor none is up.
 fn make_least(spec: &Spec, cube: Cube) -> Env
     ensures { result ≡ least_env spec.now cube }
 {
@@ -84,7 +84,7 @@ fn least_up(spec: &Spec, cube: Cube) -> u8
     up
 }
 
-// The least digit that is open at place `x`, and the last one where none is.
+// Returns the least digit that is open at place `x`, and the last one where none is.
 #[tactic(auto, unfolding(crate::specs::Leasts::least_digit))]
 fn least_digit(cube: Cube, x: u8) -> u8
     requires { x < 14 }
@@ -101,7 +101,7 @@ fn least_digit(cube: Cube, x: u8) -> u8
     }
 }
 
-// Whether each factor has a value that it can have.
+// Returns whether each factor has a value that it can have.
 fn belongs(spec: &Spec, env: &Env) -> bool
     ensures { result ≡ belongs spec.now env.now }
 {

@@ -1,6 +1,5 @@
-//! What a configuration's choices come to over all environments in scope, from cubes of environments: the
-//! possible targets, and the least environments in which no rule fits, the target cannot run, or the target
-//! is left again.
+//! The outcome of a configuration's choices over all environments in scope, from cubes of environments: the possible
+//! targets, and the least environments in which no rule fits, the target cannot run, or the target is left again.
 #![tactic(auto)]
 
 pub mod answers;

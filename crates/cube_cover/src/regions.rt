@@ -96,7 +96,7 @@ pub(crate) fn assign(
     Ok(())
 }
 
-// The cubes of the regions with target `t`.
+// Returns the cubes of the regions with target `t`.
 pub(crate) fn with_target(alloc: Global, regions: &[Region], t: u8) -> Result<Vec<Cube>, NoMemory>
     ensures { IfOk result (λ cubes. HoldsMarked regions.now (λ j. j == t) cubes.items) }
 {
@@ -107,7 +107,7 @@ pub(crate) fn with_target(alloc: Global, regions: &[Region], t: u8) -> Result<Ve
     Ok(cubes)
 }
 
-// The cubes of the regions with another target.
+// Returns the cubes of the regions with another target.
 pub(crate) fn with_other_target(
     alloc: Global,
     regions: &[Region],
@@ -122,7 +122,7 @@ pub(crate) fn with_other_target(
     Ok(cubes)
 }
 
-// Adds a cube to others where it is wanted.
+// Adds a cube to others if it is selected.
 fn push_where(cubes: &mut Vec<Cube>, cube: Cube, is_wanted: bool) -> Result<(), NoMemory>
     ensures { OnOk result (HoldsMore cubes.old.items cubes.new.items cube is_wanted) }
 {

@@ -16,7 +16,7 @@ pub(crate) struct Split {
     pub(crate) outside: Vec<Cube>,
 }
 
-// The parts of cubes that lie inside and outside of the cube `by`.
+// Returns the parts of cubes that lie inside and outside of the cube `by`.
 pub(crate) fn split_by(
     alloc: Global,
     spec: &Spec,
@@ -100,7 +100,7 @@ fn push_in_scope(spec: &Spec, cube: Cube, cubes: &mut Vec<Cube>) -> Result<(), N
     Ok(())
 }
 
-// How many processors are down in each environment that the cube holds.
+// Returns how many processors are down in each environment that the cube holds.
 fn count_always_down(spec: &Spec, cube: Cube) -> u8
     ensures { result ≡ count_below (λ p. not (may_be_up cube p)) (length spec.now.procs) }
 {

@@ -14,9 +14,9 @@ use scram_types::{AppId, AppSpec};
 #[derive(Drop)]
 pub struct Cycle(pub ArrayVec<AppId, 8>);
 
-/// The rank of each application: 0 where it needs none, else one more than the greatest rank of what it
-/// needs. `Cycle` comes exactly where the needs have a cycle. Ranks that an application has already are
-/// not looked at. It takes no memory.
+/// Returns the rank of each application: 0 where it needs none, else one more than the greatest rank of what it
+/// needs. `Cycle` comes exactly where the needs have a cycle. Ranks that an application has already are not looked
+/// at.
 pub fn rank(apps: &[AppSpec]) -> Result<ArrayVec<u8, 8>, Cycle>
     requires few { length apps.now ≤ 8 }
     requires needs { NeedsInRange apps.now }
@@ -35,7 +35,7 @@ pub fn rank(apps: &[AppSpec]) -> Result<ArrayVec<u8, 8>, Cycle>
 // The ranks found so far.
 type Ranks = [Option<u8>; 8];
 
-// The ranks of all applications that do not wait, directly or through others, for a cycle.
+// Returns the ranks of all applications that do not wait, directly or through others, for a cycle.
 fn ranks_of_unbound(apps: &[AppSpec]) -> Ranks
     requires few { length apps.now ≤ 8 }
     requires needs { NeedsInRange apps.now }
@@ -50,7 +50,7 @@ fn ranks_of_unbound(apps: &[AppSpec]) -> Ranks
     ranks
 }
 
-// The first application without a rank whose needs all have one, and the rank that they give it.
+// Returns the first application without a rank whose needs all have one, and the rank that they give it.
 fn find_ready(apps: &[AppSpec], ranks: &Ranks) -> Option<(usize, u8)>
     requires few { length apps.now ≤ 8 }
     requires small { AreSmall ranks.now }
@@ -74,8 +74,8 @@ fn is_without_rank(ranks: &Ranks, a: usize) -> bool
     ranks[a].is_none()
 }
 
-// One more than the greatest rank of what is needed, 0 where nothing is, and `None` where some of it has
-// no rank.
+// Returns one more than the greatest rank of what is needed, 0 where nothing is, and `None` where some of it has no
+// rank.
 fn rank_after(ranks: &Ranks, needs: &[AppId]) -> Option<u8>
     requires { AreSmall ranks.now }
     ensures { result ≡ ready 0 ranks.now needs.now }
@@ -99,7 +99,7 @@ fn rank_of(ranks: &Ranks, app: AppId) -> Option<u8>
     }
 }
 
-// All ranks, in order; or the first application without one.
+// Returns all ranks, in order, or the first application without one.
 fn list_ranks(count: usize, ranks: &Ranks) -> Result<ArrayVec<u8, 8>, u8>
     requires { count ≤ 8 }
     ensures count { IfOk result (λ listed. length listed.items ≡ count) }
@@ -117,7 +117,7 @@ fn list_ranks(count: usize, ranks: &Ranks) -> Result<ArrayVec<u8, 8>, u8>
     Ok(listed)
 }
 
-// The first of these applications that has no rank.
+// Returns the first of these applications that has no rank.
 fn find_waiting(ranks: &Ranks, needs: &[AppId]) -> Option<AppId>
     ensures { result ≡ find (λ needed. is_unranked ranks.now needed.0) needs.now }
 {
@@ -129,7 +129,7 @@ fn find_waiting(ranks: &Ranks, needs: &[AppId]) -> Option<AppId>
     None
 }
 
-// What an application without a rank waits for: the first that it needs and that has no rank.
+// Returns what an application without a rank waits for: the first that it needs and that has no rank.
 fn wait_of(apps: &[AppSpec], ranks: &Ranks, a: AppId) -> AppId
     requires needs { NeedsInRange apps.now }
     requires stuck { IsStuck apps.now ranks.now }
@@ -143,8 +143,8 @@ fn wait_of(apps: &[AppSpec], ranks: &Ranks, a: AppId) -> AppId
     }
 }
 
-// A cycle of needs: a walk from an application without a rank to what it waits for must come back to
-// where it has been.
+// Returns a cycle of needs: a walk from an application without a rank to what it waits for must come back to where it
+// has been.
 fn find_cycle(apps: &[AppSpec], ranks: &Ranks, start: AppId) -> ArrayVec<AppId, 8>
     requires few { length apps.now ≤ 8 }
     requires needs { NeedsInRange apps.now }
@@ -163,7 +163,7 @@ fn find_cycle(apps: &[AppSpec], ranks: &Ranks, start: AppId) -> ArrayVec<AppId, 
     turned(cycle, place_of_least(cycle))
 }
 
-// Where an application stands in a list.
+// Returns where an application stands in a list.
 fn place_of(path: &[AppId], at: AppId) -> usize
     requires { is_named path.now at.0 ≡ true }
     ensures inside { result < length path.now }
@@ -176,7 +176,7 @@ fn place_of(path: &[AppId], at: AppId) -> usize
     place
 }
 
-// Where the least application stands in a list.
+// Returns where the least application stands in a list.
 fn place_of_least(cycle: &[AppId]) -> usize
     requires { 0 < length cycle.now }
     ensures inside { result < length cycle.now }
@@ -191,7 +191,7 @@ fn place_of_least(cycle: &[AppId]) -> usize
     least
 }
 
-// The list from one of its places on, and then what stands before it.
+// Returns the list from one of its places on, and then what stands before it.
 fn turned(cycle: &[AppId], place: usize) -> ArrayVec<AppId, 8>
     requires few { length cycle.now ≤ 8 }
     requires place { place ≤ length cycle.now }

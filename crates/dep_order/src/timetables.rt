@@ -30,9 +30,8 @@ pub enum Phase {
     Init,
 }
 
-/// The timetable of configuration `c`. An application's halt offset is the greatest sum of halt times
-/// over the chains of its dependents that are on, its init offset that of init times over the chains of
-/// what it needs. It takes no memory.
+/// Returns the timetable of configuration `c`. An application's halt offset is the greatest sum of halt times over
+/// the chains of its dependents that are on, its init offset that of init times over the chains of what it needs.
 pub fn timetable(spec: &Spec, c: ConfId) -> Times
     ensures { result ≡ timetable spec.now c }
 {
@@ -51,7 +50,7 @@ pub fn timetable(spec: &Spec, c: ConfId) -> Times
     }
 }
 
-// The offset of each application, 0 where there is none: every round allows chains of one more link.
+// Returns the offset of each application, 0 where there is none: every round allows chains of one more link.
 fn offsets_in(spec: &Spec, phase: Phase, times: &[u8; 8]) -> [u16; 8]
     requires { AtMost 16 (length spec.now.apps) times.now }
     ensures offsets { Holds (offset (timed_chart spec.now phase times.now)) (length spec.now.apps) result }
@@ -76,7 +75,7 @@ fn offsets_after(spec: &Spec, phase: Phase, times: &[u8; 8], before: &[u16; 8]) 
     offsets
 }
 
-// When the last application that goes before application `a` is through, by these offsets.
+// Returns when the last application that goes before application `a` is through, by these offsets.
 fn offset_after(spec: &Spec, phase: Phase, times: &[u8; 8], offsets: &[u16; 8], a: usize) -> u16
     requires times { AtMost 16 (length spec.now.apps) times.now }
     requires offsets { AtMost 112 (length spec.now.apps) offsets.now }
@@ -91,7 +90,7 @@ fn offset_after(spec: &Spec, phase: Phase, times: &[u8; 8], offsets: &[u16; 8], 
     last
 }
 
-// Whether application `b` goes before application `a` in a phase.
+// Returns whether application `b` goes before application `a` in a phase.
 fn precedes(spec: &Spec, phase: Phase, b: usize, a: usize) -> bool
     ensures { result ≡ goes_before spec.now phase b a }
 {
@@ -102,7 +101,7 @@ fn precedes(spec: &Spec, phase: Phase, b: usize, a: usize) -> bool
     }
 }
 
-// Whether application `b` needs application `a`.
+// Returns whether application `b` needs application `a`.
 fn depends(spec: &Spec, b: usize, a: usize) -> bool
     ensures { result ≡ needs spec.now b a }
 {
@@ -143,7 +142,7 @@ fn keep_where_on(times: &[u8; 8], offsets: &[u16; 8]) -> [u16; 8]
     kept
 }
 
-// How many frames the phase takes of each application, 0 where it is off.
+// Returns how many frames the phase takes of each application, 0 where it is off.
 fn times_in(spec: &Spec, c: ConfId, phase: Phase) -> [u8; 8]
     ensures { Holds (phase_time spec.now c phase) 8 result }
 {

@@ -26,7 +26,7 @@ use Rattle.fault_script.proofs.Assuming.{start_up, two_tests}
 use Rattle.fault_script.proofs.Halts.{between, between_test, up_by_lists}
 use Rattle.fault_script.proofs.Losses.{later_frame}
 
--- who is up and does not halt stays up
+-- a processor that is up and does not halt stays up
 
 restarted_later : (script : ScriptParts) (p h f : ℕ) → restarted script p h f ≡ true → restarted script p h (suc f) ≡ true
 restarted_later script p h f t =
@@ -56,7 +56,7 @@ by_kind true b k f e = (refl, ap (λ (o : Outside). o.frame) (same_some _ _ e))
 by_kind false true k f e = absurd (let clash = ap (λ (o : Outside). o.kind) (same_some _ _ e) in cc)
 by_kind false false k f e = none_some _ e
 
--- From one frame to the next too many processors come to be down.
+-- From one frame to the next too many processors go down.
 record Sinks (spec : Parts) (script : ScriptParts) (f : ℕ) : Type 0 where
   before : down_below script f (length spec.procs) ≤ spec.halts
   after : spec.halts < down_below script (suc f) (length spec.procs)
@@ -85,7 +85,7 @@ who_halts spec script f s =
     let found = count_rises (λ p. not (is_up script p f)) (λ p. not (is_up script p (suc f))) (length spec.procs) (omega arith) in
     (found.0, found.1, falls script found.0 f (not-false (is_up script found.0 f) found.2) (not-true (is_up script found.0 (suc f)) found.3))
 
--- without restarts, who is down has halted
+-- without restarts, a processor that is down has halted
 
 abbrev has_gone : ℕ → ℕ → HaltAt → Bool
 has_gone p g halt = halt.proc.0 == p && nat_lt halt.frame g

@@ -1,4 +1,4 @@
--- Who is up after which halts.
+-- Which processors are up after which halts.
 use Rattle.std.proofs.Common.{◌≡◌, ℕ, zero, suc, ◌<◌, ◌≤◌, Bool, true, false, not, refl, arith, ap, sym, ◌∙◌}
 use mathlib.Core.Logic.{inl, inr}
 use Rattle.std.specs.Prelude.{◌&&◌, ◌==◌, Some, if◌then◌else◌, nat_le, nat_lt}
@@ -36,7 +36,7 @@ pub between_test : (p h f : ℕ) (restart : RestartAt) → IsBetween p h f resta
 between_test p h f restart b =
     rw (equal_test restart.proc.0 p b.proc, below_test h restart.frame b.after, at_most_test restart.frame f b.by) refl
 
--- who has restarted since a frame has restarted since each earlier one
+-- a processor that has restarted since a frame has restarted since each earlier one
 restarted_earlier : (script : ScriptParts) (p h g f : ℕ) → h ≤ g → restarted script p g f ≡ true → restarted script p h f ≡ true
 restarted_earlier script p h g f earlier t =
     let found = any_found (is_restart_between p g f) script.restarts t in
@@ -44,7 +44,7 @@ restarted_earlier script p h g f earlier t =
     any_is (is_restart_between p h f) script.restarts found.0 found.1 found.2
     (between_test p h f found.1 (let after = b.after in record { proc = b.proc; after = omega arith; by = b.by }))
 
--- the latest halt below n tells of each halt below n
+-- the latest halt below n decides on each halt below n
 EachOver : ScriptParts → ℕ → ℕ → ℕ → Type 0
 EachOver script p f n = (h : ℕ) → h < n → halts_in script p h ≡ true → restarted script p h f ≡ true
 

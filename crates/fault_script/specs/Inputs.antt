@@ -6,7 +6,8 @@ use Rattle.scram_types.specs.Specification.{Parts}
 use Rattle.fault_script.specs.declared.inputs.Input.{Input}
 use Rattle.fault_script.specs.Times.{factors_at, halts_after_mark, halts_before_mark, restarts_in}
 
--- What happens to frame f: the factors' values, and who halts in it before and after the mark and who restarts.
+-- What happens to frame f: the factors' values, and which processors halt in it before and after the mark and
+-- restart.
 abbrev pub input_at : Parts → ScriptParts → ℕ → Input
 input_at spec script f = record {
   factors = factors_at script f;

@@ -13,12 +13,12 @@ use Rattle.fault_script.specs.Times.{commits, factor_at, halts_in, is_up, restar
 use Rattle.fault_script.specs.Environments.{env_at}
 use Rattle.fault_script.specs.Fits.{Fits}
 
--- A halt shows in the next frame: whoever halts in frame h is down in the environment of frame h + 1.
+-- A halt shows in the next frame: a processor that halts in frame h is down in the environment of frame h + 1.
 abbrev pub HaltsShow : Type 0
 HaltsShow = (spec : Parts) (script : ScriptParts) → Fits spec script → (p h : ℕ) → halts_in script p h ≡ true
     → (is_up script p (suc h) ≡ false) × (bit_at (env_at spec script (suc h)).up p ≡ 0)
 
--- Whoever does not commit a frame is down in that frame's environment or in the next one's.
+-- A processor that does not commit a frame is down in that frame's environment or in the next one's.
 abbrev pub LossesShow : Type 0
 LossesShow = (spec : Parts) (script : ScriptParts) → Fits spec script → (p f : ℕ) → commits spec script p f ≡ false
     → (is_up script p f ≡ false) ⊎ (is_up script p (suc f) ≡ false)
@@ -29,8 +29,8 @@ UpAfterEachHalt = (script : ScriptParts) (p f : ℕ) →
     (is_up script p f ≡ true → (h : ℕ) → h < f → halts_in script p h ≡ true → restarted script p h f ≡ true)
     × (((h : ℕ) → h < f → halts_in script p h ≡ true → restarted script p h f ≡ true) → is_up script p f ≡ true)
 
--- What an environment holds: a processor's bit tells whether it is up, no bit past the last processor is
--- set, each factor has one of its values, and zeros stand past the last factor.
+-- What an environment holds: a processor's bit says whether it is up, no bit past the last processor is set, each
+-- factor has one of its values, and zeros stand past the last factor.
 pub record Shows (spec : Parts) (script : ScriptParts) (f : ℕ) : Type 0 where
   pub up : (p : ℕ) → p < length spec.procs → is_up script p f ≡ true → bit_at (env_at spec script f).up p ≡ 1
   pub down : (p : ℕ) → p < length spec.procs → is_up script p f ≡ false → bit_at (env_at spec script f).up p ≡ 0
@@ -38,7 +38,7 @@ pub record Shows (spec : Parts) (script : ScriptParts) (f : ℕ) : Type 0 where
   pub values : (x : ℕ) (factor : Factor) → slice_get spec.factors x ≡ Some factor → factor_at script x f < length factor.values
   pub rest : (x : ℕ) → length spec.factors ≤ x → factor_at script x f ≡ 0
 
--- The environment of each frame tells which processors are up and which values the factors have.
+-- The environment of each frame says which processors are up and which values the factors have.
 abbrev pub EnvironmentsShow : Type 0
 EnvironmentsShow = (spec : Parts) (script : ScriptParts) → IsSpec spec → Fits spec script → (f : ℕ) → Shows spec script f
 

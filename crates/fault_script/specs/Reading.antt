@@ -82,7 +82,7 @@ read_next_change spec frames at before d =
 abbrev pub read_changes : Parts → ℕ → List ℕ → Data → Result (List Change) DocFault
 read_changes spec frames at d = elements_at (read_next_change spec frames) 0 MAX_CHANGES at d
 
--- The halt of a processor in a frame, after so many stores.
+-- The halt of a processor in a frame, after a number of stores.
 abbrev pub make_halt : ProcId → ℕ → ℕ → HaltAt
 make_halt proc frame step = record { proc = proc; frame = frame; step = step }
 
@@ -188,7 +188,7 @@ read_frames scram frames =
     chain (read_scram (member_path [] (codes "scram")) scram) (λ (_ : ⊤).
     whole_at 0 (MAX_FRAMES + 1) (member_path [] (codes "frames")) frames)
 
--- The script of so many frames with these changes, halts and restarts.
+-- The script with this number of frames and these changes, halts and restarts.
 abbrev pub make_script : ℕ → List Change → List HaltAt → List RestartAt → ScriptParts
 make_script frames changes halts restarts =
     record { frames = frames; changes = changes; halts = halts; restarts = restarts }

@@ -1,4 +1,4 @@
-//! The failure assumption: how much may go wrong at once, and how often the environment may change.
+//! The failure assumption: how many processors may be down at once, and how often the environment may change.
 
 ghost use Rattle.std.specs.Prelude.{◌≡◌, ◌≤◌, ◌+◌, ◌&&◌, nat_lt, None, Some, IfErr, OnOk};
 ghost use Rattle.fault_script.specs.Fits.{Fits};
@@ -24,10 +24,10 @@ pub struct Outside {
     pub kind: OutsideKind,
 }
 
-/// Whether a script that fits the specification keeps to its failure assumption: in no frame, that
-/// after the last one included, are more than `halts` processors down, and any `window` consecutive
-/// frames hold at most `changes + 1` frames whose environment differs from that of the frame before.
-/// A window may begin before the first frame. It takes no memory.
+/// Returns whether a script that fits the specification keeps to its failure assumption: in no frame, that after the
+/// last one included, are more than `halts` processors down, and any `window` consecutive frames hold at most
+/// `changes + 1` frames whose environment differs from that of the frame before. A window may begin before the first
+/// frame.
 ///
 /// # Errors
 ///
@@ -51,7 +51,7 @@ pub fn within(spec: &Spec, script: &Script) -> Result<(), Outside>
     }
 }
 
-// How a frame leaves the assumption, with the window that ends with it.
+// Returns how a frame leaves the assumption, with the window that ends with it.
 fn outside_at(spec: &Spec, script: &Script, window: &Window, frame: u32) -> Option<Outside>
     requires window { IsWindow spec.now script.now frame window.now }
     requires frame { frame ≤ script.now.frames }
@@ -72,7 +72,7 @@ fn outside_at(spec: &Spec, script: &Script, window: &Window, frame: u32) -> Opti
     None
 }
 
-// Whether too many processors are down in the frame after this one.
+// Returns whether too many processors are down in the frame after this one.
 fn brings_too_many_down(spec: &Spec, script: &Script, frame: u32) -> bool
     requires { frame ≤ script.now.frames }
     ensures { result ≡ brings_too_many_down spec.now script.now frame }
@@ -86,7 +86,7 @@ fn has_too_many_down(spec: &Spec, script: &Script, frame: u32) -> bool
     spec.halts < count_down(script, spec.procs.items().len() as u8, frame)
 }
 
-// How many of the first `processors` processors are down in a frame.
+// Returns how many of the first `processors` processors are down in a frame.
 fn count_down(script: &Script, processors: u8, frame: u32) -> u8
     ensures value { result ≡ down_below script.now frame processors }
     ensures most { result ≤ processors }

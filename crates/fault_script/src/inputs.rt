@@ -17,7 +17,7 @@ pub struct Input {
     pub back: u8,
 }
 
-// What happens to a frame in which the factors have these values.
+// Returns what happens to a frame in which the factors have these values.
 pub(crate) fn input_at(spec: &Spec, script: &Script, frame: u32, factors: &[u8; 6]) -> Input
     requires { factors.now ≡ factors_at script.now frame }
     ensures input { result ≡ input_at spec.now script.now frame }
@@ -39,7 +39,7 @@ pub(crate) fn input_at(spec: &Spec, script: &Script, frame: u32, factors: &[u8; 
     input
 }
 
-// The set of processors below `p`, with `p` where it is in.
+// Returns the set of processors below `p`, with `p` where it is in.
 fn with(set: u8, p: u8, is_in: bool) -> u8
     requires p { p < 8 }
     requires set { set < 2 ^ p }

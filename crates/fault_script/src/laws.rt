@@ -2,12 +2,12 @@
 
 ghost use Rattle.fault_script.specs.Laws.{EnvironmentsShow, HaltsShow, LaterIsUnseen, LossesShow, TooManyDownShowsAHalt, UpAfterEachHalt};
 
-/// Who halts in a frame is down in the environment of the next one, where the script fits.
+/// A processor that halts in a frame is down in the environment of the next one, where the script fits.
 pub fn halts_show()
     ensures { HaltsShow }
 {}
 
-/// Who does not commit a frame is down in that frame's environment or in the next one's, where the
+/// A processor that does not commit a frame is down in that frame's environment or in the next one's, where the
 /// script fits.
 pub fn losses_show()
     ensures { LossesShow }
@@ -18,8 +18,8 @@ pub fn up_after_each_halt()
     ensures { UpAfterEachHalt }
 {}
 
-/// An environment's bits tell which processors are up, and its factors have values that they can have;
-/// zeros stand past the last processor and the last factor.
+/// An environment's bits say which processors are up, and its factors have values that they can have; zeros stand
+/// past the last processor and the last factor.
 pub fn environments_show()
     ensures { EnvironmentsShow }
 {}

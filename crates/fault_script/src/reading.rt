@@ -89,7 +89,7 @@ fn read_change(spec: &Spec, frames: u32, v: &Value, at: &Path) -> Result<Change,
     })
 }
 
-/// The changes of a script of so many frames, each of which comes after those before it.
+/// The changes of a script with `frames` frames, each of which comes after those before it.
 #[derive(Clone, Copy)]
 struct Changes<'a> {
     spec: &'a Spec,
@@ -152,7 +152,7 @@ fn read_halt(spec: &Spec, frames: u32, v: &Value, at: &Path) -> Result<HaltAt, S
     })
 }
 
-/// The halts of a script of so many frames, each of which comes after those before it.
+/// The halts of a script with `frames` frames, each of which comes after those before it.
 #[derive(Clone, Copy)]
 struct Halts<'a> {
     spec: &'a Spec,
@@ -220,7 +220,7 @@ fn read_restart(spec: &Spec, frames: u32, v: &Value, at: &Path) -> Result<Restar
     Ok(RestartAt { proc, frame })
 }
 
-/// The restarts of a script of so many frames, each of which comes after those before it.
+/// The restarts of a script with `frames` frames, each of which comes after those before it.
 #[derive(Clone, Copy)]
 struct Restarts<'a> {
     spec: &'a Spec,
@@ -254,7 +254,7 @@ impl Elements<RestartAt> for Restarts<'_> {
     }
 }
 
-// The restarts of a document that has a list of them.
+// Returns the restarts of a document that has a list of them.
 fn read_restarts(
     alloc: Global,
     spec: &Spec,
@@ -384,8 +384,8 @@ fn read_document(alloc: Global, spec: &Spec, v: &Value) -> Result<Script, Script
     read_values(alloc, spec, version, &members)
 }
 
-/// The script that a document is, for a specification, or the first rule that it breaks, with the path where it
-/// is broken.
+/// Returns the script that a document is, for a specification, or the first rule that it breaks, with the path where
+/// it is broken.
 pub fn read_script(alloc: Global, bytes: &[u8], spec: &Spec) -> Result<Script, ScriptError>
     ensures script { Answers (script_of spec.now bytes.now) (λ script. script) result }
     ensures fits { IfOk result (λ script. Fits spec.now script) }

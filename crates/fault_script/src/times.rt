@@ -6,8 +6,8 @@ ghost use Rattle.fault_script.specs.Times.{factors_at, halt_in, halt_of, is_over
 
 use scram_types::{HaltAt, ProcId, Script};
 
-/// The values of the six factors in a frame, each by its number: that of the factor's last change up to
-/// the frame, and 0 without one. It takes no memory.
+/// Returns the values of the six factors in a frame, each by its number: that of the factor's last change up to the
+/// frame, and 0 without one.
 pub fn factors_at(script: &Script, frame: u32) -> [u8; 6]
     ensures { result ≡ factors_at script.now frame }
 {
@@ -33,7 +33,7 @@ fn value_at(script: &Script, factor: u8, frame: u32) -> u8
     value
 }
 
-/// The first halt of a processor, or `None` where the script has no halt of it. It takes no memory.
+/// Returns the first halt of a processor, or `None` where the script has no halt of it.
 pub fn halt_of(script: &Script, proc: ProcId) -> Option<HaltAt>
     ensures { result ≡ halt_of script.now proc.0 }
 {
@@ -45,7 +45,7 @@ pub fn halt_of(script: &Script, proc: ProcId) -> Option<HaltAt>
     None
 }
 
-/// The halt of a processor in a frame, or `None` where it has none there. It takes no memory.
+/// Returns the halt of a processor in a frame, or `None` where it has none there.
 pub fn halt_in(script: &Script, proc: ProcId, frame: u32) -> Option<HaltAt>
     ensures { result ≡ halt_in script.now proc.0 frame }
 {
@@ -57,7 +57,7 @@ pub fn halt_in(script: &Script, proc: ProcId, frame: u32) -> Option<HaltAt>
     None
 }
 
-/// The frame in which a processor restarts, or `None` where it never does. It takes no memory.
+/// Returns the frame in which a processor restarts, or `None` where it never does.
 pub fn restart_of(script: &Script, proc: ProcId) -> Option<u32>
     ensures { result ≡ restart_of script.now proc.0 }
 {
@@ -69,15 +69,15 @@ pub fn restart_of(script: &Script, proc: ProcId) -> Option<u32>
     None
 }
 
-/// Whether a processor is up in a frame: it has no halt in an earlier frame, or it has restarted since
-/// the latest such halt and up to this frame. It takes no memory.
+/// Returns whether a processor is up in a frame: it has no halt in an earlier frame, or it has restarted since the
+/// latest such halt and up to this frame.
 pub fn up_at(script: &Script, proc: ProcId, frame: u32) -> bool
     ensures { result ≡ is_up script.now proc.0 frame }
 {
     are_halts_over(script, proc, frame)
 }
 
-// Whether a processor has restarted since each of its halts in a frame before this one.
+// Returns whether a processor has restarted since each of its halts in a frame before this one.
 fn are_halts_over(script: &Script, proc: ProcId, frame: u32) -> bool
     ensures { result ≡ list_all (is_over script.now proc.0 frame) script.now.halts }
 {
@@ -92,7 +92,7 @@ fn are_halts_over(script: &Script, proc: ProcId, frame: u32) -> bool
     true
 }
 
-// Whether a processor restarts after frame `after` and in a frame up to `frame`.
+// Returns whether a processor restarts after frame `after` and in a frame up to `frame`.
 fn has_restarted(script: &Script, proc: ProcId, after: u32, frame: u32) -> bool
     ensures { result ≡ restarted script.now proc.0 after frame }
 {

@@ -12,8 +12,8 @@ pub enum Version {
     Second,
 }
 
-/// The version whose table a document has: the second where its member `scram` is the number 2, and else
-/// the first.
+/// Returns the version whose table a document has: the second where its member `scram` is the number 2, and else the
+/// first.
 pub fn version_of(v: &Value) -> Version
     ensures { result ≡ version_of (view v.now) }
 {
@@ -27,7 +27,7 @@ pub fn version_of(v: &Value) -> Version
 }
 
 impl Version {
-    /// How many members a script has.
+    /// Returns how many members a script has.
     pub fn member_count(self) -> usize
         ensures { result ≡ member_count self }
     {
@@ -37,7 +37,7 @@ impl Version {
         }
     }
 
-    /// The most halts that a script may list.
+    /// Returns the most halts that a script may list.
     pub fn halts_limit(self) -> usize
         ensures count { result ≡ halts_limit self }
         ensures most { result ≤ 16 }

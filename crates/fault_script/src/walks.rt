@@ -27,7 +27,7 @@ impl Walk {
     ghost use Rattle.fault_script.specs.Inputs.{input_at};
     ghost use Rattle.fault_script.specs.Walks.{IsWalk};
 
-    /// The walk that stands at frame 0. It takes no memory.
+    /// Returns the walk that stands at frame 0.
     pub fn first(spec: &Spec, script: &Script) -> Walk
         requires { Fits spec.now script.now }
         ensures { IsWalk spec.now script.now 0 result }
@@ -42,8 +42,7 @@ impl Walk {
         }
     }
 
-    /// The walk that stands at the next frame; the last one is that after the script's last frame. It
-    /// takes no memory.
+    /// Returns the walk that stands at the next frame; the last one is that after the script's last frame.
     pub fn next(&self, spec: &Spec, script: &Script) -> Walk
         requires fits { Fits spec.now script.now }
         requires walk { IsWalk spec.now script.now self.now.frame self.now }
@@ -67,7 +66,7 @@ impl Walk {
         }
     }
 
-    /// What happens to the frame at which the walk stands. It takes no memory.
+    /// Returns what happens to the frame at which the walk stands.
     pub fn input(&self, spec: &Spec, script: &Script) -> Input
         requires { IsWalk spec.now script.now self.now.frame self.now }
         ensures input { result ≡ input_at spec.now script.now self.now.frame }
@@ -101,7 +100,7 @@ pub(crate) fn opening_window(spec: &Spec, script: &Script) -> Window
     }
 }
 
-// The window that ends with the next frame.
+// Returns the window that ends with the next frame.
 pub(crate) fn next_window(spec: &Spec, script: &Script, window: &Window, frame: u32) -> Window
     requires fits { Fits spec.now script.now }
     requires window { IsWindow spec.now script.now frame window.now }
@@ -129,7 +128,7 @@ pub(crate) fn next_window(spec: &Spec, script: &Script, window: &Window, frame: 
     }
 }
 
-// How many changes come up to a frame, and the factors' values after them, by those of fewer changes.
+// Returns how many changes come up to a frame, and the factors' values after them, by those of fewer changes.
 fn take_changes(
     changes: &[Change],
     before: usize,
@@ -180,7 +179,7 @@ fn differs(env: &Env, other: &Env) -> bool
     !(env.up == other.up && env.factors == other.factors)
 }
 
-/// The processors that are up in a frame, as bits. It takes no memory.
+/// Returns the processors that are up in a frame, as bits.
 pub fn up_set_at(spec: &Spec, script: &Script, frame: u32) -> u8
     ensures { result ≡ bits_below (λ p. is_up script.now p frame) (length spec.now.procs) }
 {

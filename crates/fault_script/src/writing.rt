@@ -83,14 +83,14 @@ fn make_script(alloc: Global, spec: &Spec, script: &Script) -> Result<Value, All
     }
 }
 
-/// The canonical text of a script: compact JSON, in the first version where the script has no restart and else in
-/// the second. Of a script that fits the specification it is read back to the same script.
+/// Returns the canonical text of a script: compact JSON, in the first version where the script has no restart and
+/// else in the second. Of a script that fits the specification it is read back to the same script.
 pub fn write_script(alloc: Global, script: &Script, spec: &Spec) -> Result<Vec<u8>, NoMemory>
     ensures text { IfOk result (λ text. text.items ≡ script_text spec.now script.now) }
     ensures value { IfOk result (λ text. read text.items ≡ Some (script_data spec.now script.now)) }
     ensures back { IfOk result (λ text. Fits spec.now script.now → script_of spec.now text.items ≡ Ok script.now) }
 {
-    // Whoever uses a field of a specification knows that it keeps its invariant.
+    // Using a field of a specification shows that it keeps its invariant.
     let _ = &spec.procs;
     let Ok(value) = make_script(alloc, spec, script) else {
         return Err(NoMemory);

@@ -3,7 +3,7 @@
 ghost use Rattle.std.specs.Prelude.{◌≡◌, ◌<◌, ◌≤◌, ◌^◌};
 ghost use Rattle.mission_gen.specs.Blocks.{alternator, choice, delay, first_frame, next_random, random, turns_both};
 
-/// The random number that follows, below 2^31.
+/// Returns the random number that follows, below 2^31.
 pub(crate) fn next_random(x: u32) -> u32
     ensures value { result ≡ next_random x }
     ensures small { result < 2 ^ 31 }
@@ -11,7 +11,7 @@ pub(crate) fn next_random(x: u32) -> u32
     ((1_103_515_245 * u64::from(x) + 12_345) % 2_147_483_648) as u32
 }
 
-/// The random number of block `k` of mission `n`.
+/// Returns the random number of block `k` of mission `n`.
 pub(crate) fn random(n: u32, k: u32) -> u32
     ensures { result ≡ random n k }
 {
@@ -22,7 +22,7 @@ pub(crate) fn random(n: u32, k: u32) -> u32
     x
 }
 
-/// The frame in which something first happens in block `k`, whose random number is `x`.
+/// Returns the frame in which something first happens in block `k`, whose random number is `x`.
 pub(crate) fn first_frame(k: u32, x: u32) -> u32
     requires { k ≤ 1000 }
     ensures { result ≡ first_frame k x }
@@ -30,7 +30,7 @@ pub(crate) fn first_frame(k: u32, x: u32) -> u32
     60 * k + x / 256 % 8
 }
 
-/// How many frames after that the other alternator changes.
+/// Returns how many frames after that the other alternator changes.
 pub(crate) fn delay(x: u32) -> u32
     ensures value { result ≡ delay x }
     ensures most { result ≤ 8 }
@@ -45,7 +45,7 @@ fn choice(x: u32) -> u32
     x / 65_536 % 4
 }
 
-/// The number of the alternator that changes first.
+/// Returns the number of the alternator that changes first.
 pub(crate) fn alternator(x: u32) -> u8
     ensures value { result ≡ alternator x }
     ensures two { result < 2 }
@@ -53,7 +53,7 @@ pub(crate) fn alternator(x: u32) -> u8
     (choice(x) % 2) as u8
 }
 
-/// Whether the other alternator changes too.
+/// Returns whether the other alternator changes too.
 pub(crate) fn turns_both(x: u32) -> bool
     ensures { result ≡ turns_both x }
 {

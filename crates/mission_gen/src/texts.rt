@@ -120,14 +120,14 @@ const GENERATED: &str = aircraft!(
     r#",{"name":"aux3","values":["v0","v1","v2","v3"]}"#
 );
 
-/// The text of the aircraft's specification.
+/// Returns the text of the aircraft's specification.
 pub(crate) fn uav() -> &'static str
     ensures { result.now ≡ uav_text }
 {
     UAV
 }
 
-/// The text of the generated missions' specification.
+/// Returns the text of the generated missions' specification.
 pub(crate) fn generated() -> &'static str
     ensures { result.now ≡ generated_text }
 {

@@ -19,8 +19,8 @@ pub(crate) struct Walk {
     changes: Vec<Change>,
 }
 
-/// The value after `value`, and the first one after the last; alternators have two values, the further factors
-/// four.
+/// Returns the value after `value`, and the first one after the last; alternators have two values, the further
+/// factors four.
 fn next_value(factor: u8, value: u8) -> u8
     ensures { result ≡ next_value factor value }
 {
@@ -28,7 +28,7 @@ fn next_value(factor: u8, value: u8) -> u8
     ((u32::from(value) + 1) % count) as u8
 }
 
-/// A factor goes to its next value in a frame.
+/// Moves a factor to its next value in a frame.
 fn add_turn(walk: &mut Walk, frame: u32, factor: u8) -> Result<(), NoMemory>
     requires { factor < 6 }
     ensures { OnOk result (Turned walk.old walk.new (turn frame factor ∷ [])) }
@@ -43,7 +43,7 @@ fn add_turn(walk: &mut Walk, frame: u32, factor: u8) -> Result<(), NoMemory>
     Ok(())
 }
 
-/// Every third block changes one of the further factors.
+/// Adds the change of one of the further factors, in every third block.
 fn add_aux_turn(walk: &mut Walk, k: u32, frame: u32) -> Result<(), NoMemory>
     ensures { OnOk result (Turned walk.old walk.new (aux_turns k frame)) }
 {
@@ -54,7 +54,7 @@ fn add_aux_turn(walk: &mut Walk, k: u32, frame: u32) -> Result<(), NoMemory>
     }
 }
 
-/// Some blocks change the other alternator, too, some frames later.
+/// Adds the change of the other alternator some frames later, in some blocks.
 fn add_other_turn(walk: &mut Walk, frame: u32, x: u32) -> Result<(), NoMemory>
     requires { frame ≤ 100000 }
     ensures { OnOk result (Turned walk.old walk.new (other_turns frame x)) }
@@ -66,7 +66,7 @@ fn add_other_turn(walk: &mut Walk, frame: u32, x: u32) -> Result<(), NoMemory>
     }
 }
 
-/// The changes of block `k`, whose random number is the walk's.
+/// Returns the changes of block `k`, whose random number is the walk's.
 fn add_turns(walk: &mut Walk, k: u32) -> Result<(), NoMemory>
     requires { k ≤ 1000 }
     ensures { OnOk result (Turned walk.old walk.new (turns_in k walk.old.random)) }
@@ -81,7 +81,7 @@ fn add_turns(walk: &mut Walk, k: u32) -> Result<(), NoMemory>
     add_other_turn(walk, frame, x)
 }
 
-/// Goes on by a block: the next random number, and the changes that it says.
+/// Moves on by a block: draws the next random number, and adds the changes that it gives.
 fn add_block(walk: &mut Walk, k: u32) -> Result<(), NoMemory>
     requires { k ≤ 1000 }
     ensures { OnOk result (WalkedBlock k walk.old walk.new) }
@@ -90,7 +90,7 @@ fn add_block(walk: &mut Walk, k: u32) -> Result<(), NoMemory>
     add_turns(walk, k)
 }
 
-/// The changes of a script of so many frames.
+/// Returns the changes of a script with `frames` frames.
 pub(crate) fn make_changes(alloc: Global, n: u32, frames: u32) -> Result<Vec<Change>, NoMemory>
     requires { frames ≤ MAX_FRAMES }
     ensures { IfOk result (λ changes. changes.items ≡ changes_of n frames) }
@@ -106,7 +106,8 @@ pub(crate) fn make_changes(alloc: Global, n: u32, frames: u32) -> Result<Vec<Cha
     Ok(walk.changes)
 }
 
-/// The last block that a script of so many frames has: the twentieth frame after its first is none after the end.
+/// Returns the last block that a script with `frames` frames has: the twentieth frame after its first is none after
+/// the end.
 fn last_block(frames: u32) -> u32
     requires { frames ≤ MAX_FRAMES }
     ensures value { result ≡ last_block frames }

@@ -9,7 +9,7 @@ use scram_types::{Area, KindId, Order};
 pub struct PlainAutopilot {}
 
 impl PlainAutopilot {
-    /// An autopilot. It takes no memory.
+    /// Returns an autopilot.
     pub fn new() -> PlainAutopilot {
         PlainAutopilot {}
     }

@@ -1,5 +1,5 @@
 //! The macros that make racks. They are macros, since no function may make boxes and hand them out; each `?` in them
-//! gives back the error of memory that is wanting from the function around them.
+//! gives back the out-of-memory error from the function around them.
 
 /// A rack of five boxes, whose first is given.
 #[macro_export]

@@ -6,7 +6,7 @@ ghost use Rattle.std.specs.Prelude.{◌≡◌, ◌∷◌, [], IfOk};
 use app_model::{App, Rack};
 use std::alloc::{AllocError, Global};
 
-/// A box for each of five applications, or `Err` where there is no memory for one.
+/// Returns a box for each of five applications, or `Err` when out of memory.
 pub fn boxed<A: App, B: App, C: App, D: App, E: App>(
     alloc: Global,
     apps: (A, B, C, D, E),
@@ -27,7 +27,7 @@ pub fn boxed<A: App, B: App, C: App, D: App, E: App>(
     ))
 }
 
-/// The rack of these boxes in this order, or `Err` where there is no memory for it.
+/// Returns the rack of these boxes in this order, or `Err` when out of memory.
 pub fn rack_of(
     alloc: Global,
     first: Box<dyn App + Send>,

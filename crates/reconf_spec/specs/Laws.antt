@@ -3,6 +3,6 @@ use Rattle.std.specs.Prelude.{◌≡◌, ℕ, List}
 use Rattle.scram_doc.specs.Names.{spelled_name}
 use Rattle.scram_types.specs.Names.{name_of}
 
--- A text spells a name of a document just where it spells that name of a specification.
+-- A text spells a name of a document exactly where it spells that name of a specification.
 abbrev pub NamesAreOne : Type 0
 NamesAreOne = (text : List ℕ) → spelled_name text ≡ name_of text

@@ -1,4 +1,4 @@
--- What a specification keeps, beside its invariant, that a document can say.
+-- What a document can say of a specification, in addition to its invariant.
 use Rattle.std.specs.Prelude.{◌≤ℤ◌, ℕ, ℤ, Bool, List, map, is_some, slice_get}
 use Rattle.scram_types.specs.declared.ids.AppId.{AppId}
 use Rattle.scram_types.specs.declared.specification.AppSpec.{AppSpec}
@@ -13,7 +13,7 @@ use Rattle.spec_table.specs.Choices.{wants_factor}
 use Rattle.spec_table.specs.Facts.{IsVariable}
 use Rattle.spec_members.specs.Kept.{IsWritableApp, NoneAgain, rank_of}
 
--- a value of the same factor is wanted before it
+-- an earlier entry requires a value of the same factor
 abbrev pub lists_want : List Want → Want → Bool
 lists_want done want = wants_factor done want.factor.0
 

@@ -149,7 +149,7 @@ fn read_behind_names(
     })
 }
 
-/// The specification of these names and of what stands behind them.
+/// Returns the specification of these names and of what stands behind them.
 fn join(vocabulary: Vocabulary, rest: Rest) -> Spec
     requires fits { FitsRest vocabulary.procs vocabulary.apps vocabulary.confs vocabulary.factors rest }
     ensures value { result ≡ with_rest vocabulary rest }
@@ -173,7 +173,7 @@ fn join(vocabulary: Vocabulary, rest: Rest) -> Spec
     }
 }
 
-/// The specification, once the names are known.
+/// Returns the specification, once the names are known.
 pub(crate) fn read_rest(
     alloc: Global,
     vocabulary: Vocabulary,

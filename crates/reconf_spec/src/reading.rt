@@ -27,7 +27,7 @@ use spec_table::configurations::read_confs;
 use spec_table::vocabulary::Vocabulary;
 use std::alloc::Global;
 
-/// The configurations and factors, beside the processors and applications.
+/// Returns the configurations and factors, beside the processors and applications.
 fn read_more_names(
     alloc: Global,
     procs: Numbered<Proc, ByName>,
@@ -74,7 +74,7 @@ fn read_document(alloc: Global, document: &Value) -> Result<Spec, SpecError>
     Ok(spec)
 }
 
-/// The specification that the bytes are, or the first rule that they break with the path where it is broken.
+/// Returns the specification that the bytes are, or the first rule that they break with the path where it is broken.
 /// A fault carries a cycle of needs exactly where the applications are read and their needs have one. What is read
 /// can be written again.
 pub fn read_spec(alloc: Global, bytes: &[u8]) -> Result<Spec, SpecError>

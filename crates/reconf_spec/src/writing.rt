@@ -10,15 +10,15 @@ use scram_types::{NoMemory, Spec};
 use spec_text::write_text;
 use std::alloc::Global;
 
-/// The canonical text of a specification: compact JSON, in version 1 where the policy is to retarget and else in
-/// version 2. The places of a configuration stand in the order of applications, the processors that a rule wants
-/// up in the order of processors, and every other list as it is kept.
+/// Returns the canonical text of a specification: compact JSON, in version 1 where the policy is to retarget and else
+/// in version 2. The places of a configuration stand in the order of applications, the processors that a rule
+/// requires up in the order of processors, and every other list as it is kept.
 pub fn write_spec(alloc: Global, spec: &Spec) -> Result<Vec<u8>, NoMemory>
     ensures text { IfOk result (λ text. text.items ≡ spec_text spec.now) }
     ensures value { IfOk result (λ text. read text.items ≡ Some (spec_data spec.now)) }
     ensures back { IfOk result (λ text. IsWritable spec.now → spec_of text.items ≡ Ok spec.now) }
 {
-    // Whoever uses a field of a specification knows that it keeps its invariant.
+    // Using a field of a specification shows that it keeps its invariant.
     let _ = &spec.procs;
     match write_text(alloc, spec) {
         Ok(text) => Ok(text),

@@ -1,4 +1,4 @@
--- What is told of a line is the first rule that it does not keep.
+-- What is reported of a line is the first rule that it does not keep.
 use Rattle.std.proofs.Common.{ℕ, ◌≡◌, ◌≤◌, ◌∙◌, Bool, true, false, List, [], ◌∷◌, Option, Some, None, Result, Ok, Err, length, arith, refl, ap}
 use Rattle.std.specs.Prelude.{◌==◌, ◌&&◌, is_some, nat_le, option_and_then, option_map, if◌then◌else◌}
 use Rattle.std.specs.List.{list_all}

@@ -1,4 +1,4 @@
--- The schedule in turns has events of the specification.
+-- The round-robin schedule has events of the specification.
 use Rattle.std.proofs.Common.{ℕ, zero, suc, ◌≡◌, ◌<◌, ◌≤◌, ◌*◌, Bool, true, false, cond, List, [], ◌∷◌, ◌++◌, Option, Some, None, Result, Ok, Err, length, map, arith, refl}
 use Rattle.std.specs.Prelude.{IfOk, Vec, nat_lt}
 use Rattle.scram_types.specs.declared.memory.NoMemory.{NoMemory}

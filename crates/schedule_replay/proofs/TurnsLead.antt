@@ -104,7 +104,7 @@ module _ (m : Flight) (y : Flies m) (p : ℕ) (low : p < m.procs) where
   asked : (s : Machine) (place : Place) → s.at.proc p ≡ place → next_of m s.at s.words p ≡ next_from m p (s.words ReleaseWord) place
   asked s place here = rw (lt-ltb p m.procs low, here) refl
 
-  -- so many events of one kind from step suc n of frame f on
+  -- this number of events of one kind from step suc n of frame f on
   many : (f n : ℕ) (value : ℕ → Event) (count : ℕ) (s : Machine) → Kept m s.at s.words → s.at.proc p ≡ At f (suc n) → ((k : ℕ) → IsOf p (value k))
       → ((k : ℕ) → k < count → plan m p f (suc (n + k)) ≡ Some (value k)) → ((k g j : ℕ) → moved m (value k) p (At g j) ≡ At g (suc j))
       → Leads m s (listed_below value count) p (At f (suc (n + count)))

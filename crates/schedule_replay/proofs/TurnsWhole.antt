@@ -1,4 +1,4 @@
--- The schedule in turns leads from the opening to the end of the flight.
+-- The round-robin schedule leads from the opening to the end of the flight.
 use Rattle.std.proofs.lemmas.Bool.{eq-eqb, le-ltb, lt-ltb}
 use Rattle.std.proofs.Common.{◌≡◌, ◌∙◌, ℕ, zero, suc, ◌+◌, ◌-◌, ◌*◌, ◌/◌, ◌%◌, ◌<◌, ◌≤◌, Bool, true, false, ◌||◌, refl, ap, sym, subst, inl, inr, arith, List, [], ◌∷◌, ◌++◌}
 use Rattle.std.specs.Prelude.{Option, Some, None, nat_eq, nat_lt, nat_le, ◌&&◌, if◌then◌else◌}
@@ -94,7 +94,7 @@ module _ (m : Flight) (y : Flies m) where
             goes = ap (moved m (Start (proc_id p)) p) here ∙ (rw b.is (ap (λ (k : ℕ). At k 1) same));
           }
 
-  -- who is down stays where it is
+  -- a processor that is down stays where it is
   down_went : (s : Machine) (p f : ℕ) (place : Place) → s.at.frame ≡ f → m.up p f ≡ false → IsPlaced m s.at.frame s.at.step p place → Waits f place → Went m p f place
   down_went s p f (At g n) frame down is w = absurd (let same : m.up p f ≡ true = subst (λ (k : ℕ). m.up p k ≡ true) w.0 is.up in let bad : true ≡ false = sym same ∙ down in cc)
   down_went s p f (Halted h) frame down is w = (omega (arith, w), not_back (back_by (m.restart p) h f) refl)
@@ -266,7 +266,7 @@ module _ (m : Flight) (y : Flies m) where
   moved_went : (s t : Machine) (f : ℕ) → ((p : ℕ) → t.at.proc p ≡ s.at.proc p) → ((p : ℕ) → p < m.procs → Went m p f (s.at.proc p)) → (p : ℕ) → p < m.procs → Went m p f (t.at.proc p)
   moved_went s t f same went p low = subst (Went m p f) (sym (same p)) (went p low)
 
-  -- a frame in turns, which is not the last one
+  -- a frame of the round-robin schedule, which is not the last one
   frame_leads : (s : Machine) (f : ℕ) → suc f < m.frames → Begun s f → Next s (turns_of_procs m f m.procs ++ turn_of_kernel m f) (suc f)
   frame_leads s f flying b =
       let r = round s f m.procs (omega (arith, flying)) b (omega arith) in

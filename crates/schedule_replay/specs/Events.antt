@@ -30,7 +30,7 @@ pub record IsCode (spec : Parts) (code : ℕ) : Type 0 where
 abbrev pub AreCodes : Parts → List ℕ → Type 0
 AreCodes spec list = Each (IsCode spec) list
 
--- An event as a line of a schedule tells it.
+-- An event as a line of a schedule gives it.
 abbrev pub event_text : Parts → Event → List ℕ
 event_text spec (Start p) = codes "start " ++ proc_name spec p.0
 event_text spec (Look p q) = codes "look " ++ proc_name spec p.0 ++ codes " " ++ proc_name spec q.0

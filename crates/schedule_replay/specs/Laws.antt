@@ -7,7 +7,7 @@ use Rattle.schedule_replay.specs.declared.replays.ReplayError.{ReplayError}
 use Rattle.schedule_replay.specs.declared.replays.ReplayError.TheVariants.{NoMemory}
 use Rattle.schedule_replay.specs.Replaying.{AnswersReplay}
 
--- Besides want of memory a list has one answer.
+-- Apart from out of memory a list has one answer.
 abbrev pub OneAnswer : Type 0
 OneAnswer = (spec : Parts) (script : ScriptParts) (list : List ℕ) → IsSpec spec → (one other : Result Flown ReplayError)
     → one ≢ Err NoMemory → other ≢ Err NoMemory → AnswersReplay spec script list one → AnswersReplay spec script list other → one ≡ other

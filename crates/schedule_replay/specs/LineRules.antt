@@ -13,7 +13,7 @@ use Rattle.schedule_replay.specs.declared.verbs.Verb.TheVariants.{Start, Look, S
 use Rattle.schedule_replay.specs.Reading.{event_read, is_legible, verb_of}
 use Rattle.schedule_replay.specs.Verbs.{word_count}
 
--- whether no word is empty, and there are as many as an event of a kind has
+-- whether no word is empty, and their number is that of an event of a kind
 abbrev pub has_words : List (List ℕ) → Verb → Bool
 has_words words verb = list_all is_filled words && (length words == word_count verb)
 
@@ -42,6 +42,6 @@ breaks_event_rule spec line rule =
     else (if rule == NO_FORM then not (is_some (event_form line))
     else (if rule == UNKNOWN_EVENT then not (keeps (event_form line) (names_event spec (words_of line))) else false)))
 
--- A line that breaks no rule is read, and of any other the least rule is told that it breaks.
+-- A line that breaks no rule is read, and of any other the least rule that it breaks is reported.
 abbrev pub LeastEventRuleIsTold : Type 0
 LeastEventRuleIsTold = (spec : Parts) (line : List ℕ) → TellsLeast (breaks_event_rule spec line) (event_read spec line)

@@ -29,11 +29,11 @@ is_legible line = nat_le (length line) MAX_EVENT_BYTES && list_all is_printable 
 abbrev pub verb_of : List ℕ → Option Verb
 verb_of line = verb_named (word_at (words_of line) 0)
 
--- The words of a line, where they are as many as an event of a kind has.
+-- The words of a line, where their number is that of an event of a kind.
 abbrev pub words_counted : Verb → List (List ℕ) → Option (List (List ℕ))
 words_counted verb words = if length words == word_count verb then Some words else None
 
--- The words of a line that is to tell an event of a kind: rule 3 asks that none is empty and that they are so many.
+-- The words of a line for an event of a kind: rule 3 requires that none is empty, and the number that the kind has.
 abbrev pub words_for : Verb → List ℕ → Option (List (List ℕ))
 words_for verb line = option_and_then (words_counted verb) (words_in line)
 
@@ -41,7 +41,7 @@ words_for verb line = option_and_then (words_counted verb) (words_in line)
 abbrev pub proc_in : Parts → List (List ℕ) → Option ProcId
 proc_in spec words = proc_named spec (word_at words 1)
 
--- The event that the words of a line of a kind tell; rule 4 asks for one.
+-- The event that the words of a line of a kind give; rule 4 asks for one.
 abbrev pub event_told : Parts → Verb → List (List ℕ) → Option Event
 event_told spec Start words = option_map event.Start (proc_in spec words)
 event_told spec Look words =
@@ -55,14 +55,14 @@ event_told spec Note words = option_map event.KNote (proc_in spec words)
 event_told spec KernelStore words = option_map event.KStore (spelled_number 20 (word_at words 1))
 event_told spec Release words = Some event.Release
 
--- The event that a printable line tells.
+-- The event that a printable line gives.
 abbrev pub line_event : Parts → List ℕ → Result Event ℕ
 line_event spec line =
     unless UNKNOWN_WORD (verb_of line) (λ (verb : Verb).
     unless NO_FORM (words_for verb line) (λ (words : List (List ℕ)).
     unless UNKNOWN_EVENT (event_told spec verb words) (λ (event : Event). Ok event)))
 
--- The event that a line tells, or the least rule that the line breaks.
+-- The event that a line gives, or the least rule that the line breaks.
 abbrev pub event_read : Parts → List ℕ → Result Event ℕ
 event_read spec line = if is_legible line then line_event spec line else Err BROKEN_LINE
 
@@ -82,11 +82,11 @@ codes_from spec k so_far (last ∷ []) = if is_filled last then Err (schedule_fa
 codes_from spec k so_far (line ∷ next ∷ lines) =
     read_on k (event_read spec line) (λ (event : Event). codes_from spec (k + 1) (so_far ++ event_code event ∷ []) (next ∷ lines))
 
--- The codes of the events that the lines tell. A file that is too long breaks its rule at line 0.
+-- The codes of the events that the lines give. A file that is too long breaks its rule at line 0.
 abbrev pub schedule_of : Parts → List ℕ → Result (List ℕ) ScheduleFault
 schedule_of spec bytes = if nat_lt MAX_SCHEDULE_BYTES (length bytes) then Err (schedule_fault 0 TOO_LONG) else codes_from spec 1 [] (pieces_of 10 bytes)
 
--- An answer of the reader: it is the reading's, or memory was wanting.
+-- An answer of the reader: it is the reading's, or out of memory.
 abbrev pub AnswersSchedule : {A : Type 0} → Result (List ℕ) ScheduleFault → Result (Vec ℕ A) ScheduleError → Type 0
 AnswersSchedule reading (Ok list) = reading ≡ Ok list.items
 AnswersSchedule reading (Err (Fault fault)) = reading ≡ Err fault

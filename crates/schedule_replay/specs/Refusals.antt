@@ -5,12 +5,12 @@ use Rattle.scram_types.specs.Specification.{Parts}
 use Rattle.schedule_replay.specs.declared.schedule_reading.ScheduleFault.{ScheduleFault}
 use Rattle.schedule_replay.specs.Events.{event_text}
 
--- An event as a line of a schedule tells it, or a dash.
+-- An event as a line of a schedule gives it, or a dash.
 abbrev pub event_or_dash : Parts → Option Event → List ℕ
 event_or_dash spec (Some event) = event_text spec event
 event_or_dash spec None = codes "-"
 
--- The text of a schedule breaks a rule in a line.
+-- The line for the text of a schedule that breaks a rule.
 abbrev pub fault_line : ScheduleFault → List ℕ
 fault_line fault = codes "refused: schedule rule " ++ decimal fault.rule ++ codes " at line " ++ decimal fault.line ++ codes "\n"
 
@@ -19,6 +19,6 @@ abbrev pub illegal_line : Parts → ℕ → Event → Option Event → List ℕ
 illegal_line spec index given next =
     codes "refused: schedule event " ++ decimal index ++ codes " " ++ event_text spec given ++ codes " next " ++ event_or_dash spec next ++ codes "\n"
 
--- So many events were made, and the flight is not over; what would come next.
+-- The line for a schedule that ends after this number of events, before the flight is over: what would come next.
 abbrev pub short_line : Parts → ℕ → Event → List ℕ
 short_line spec events next = codes "refused: schedule ends after " ++ decimal events ++ codes " events next " ++ event_text spec next ++ codes "\n"

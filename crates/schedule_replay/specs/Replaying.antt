@@ -1,4 +1,4 @@
--- What comes of numbers that are flown as the codes of a schedule.
+-- The result of numbers that are flown as the codes of a schedule.
 use Rattle.std.specs.Prelude.{◌≡◌, ◌≢◌, ℕ, zero, suc, List, length, take, slice_get, Option, Some, None, Result, Ok, Err, ⊤}
 use Rattle.bank_words.specs.Events.{event_of}
 use Rattle.bank_words.specs.declared.events.Event.{Event}

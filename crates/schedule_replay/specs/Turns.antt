@@ -1,4 +1,5 @@
--- The schedule in turns: frame by frame, each processor in order makes all its steps, and then the kernel makes its own.
+-- The round-robin schedule: frame by frame, each processor in order makes all its steps, and then the kernel makes
+-- its own.
 use Rattle.std.specs.Prelude.{◌≡◌, ℕ, zero, suc, List, [], ◌∷◌, ◌++◌, map, Option, Some, None, nat_lt, if◌then◌else◌}
 use Rattle.scram_types.specs.Lookups.{proc_id}
 use Rattle.scram_types.specs.Scripts.{ScriptParts}
@@ -41,12 +42,12 @@ releasing m f = if nat_lt (suc f) m.frames then listed_below KStore 20 ++ Releas
 abbrev pub turn_of_kernel : Flight → ℕ → List Event
 turn_of_kernel m f = listed_below (λ (p : ℕ). KNote (proc_id p)) m.procs ++ releasing m f
 
--- The frames below f in turns.
+-- The frames below f of the round-robin schedule.
 abbrev pub frames_in_turns : Flight → ℕ → List Event
 frames_in_turns m zero = []
 frames_in_turns m (suc f) = frames_in_turns m f ++ (turns_of_procs m f m.procs ++ turn_of_kernel m f)
 
--- The schedule in turns of a specification and a script.
+-- The round-robin schedule of a specification and a script.
 abbrev pub in_turns : Parts → ScriptParts → List Event
 in_turns spec script = frames_in_turns (flight_of spec script) script.frames
 
@@ -60,6 +61,6 @@ pub record LeadsToTheEnd (m : Flight) (events : List Event) : Type 0 where
   pub schedule : IsSchedule m (opening m) events state
   pub over : IsOver m state.at
 
--- Of every script that fits, the schedule in turns leads to the end.
+-- Of every script that fits, the round-robin schedule leads to the end.
 abbrev pub TurnsLeadToTheEnd : Type 0
 TurnsLeadToTheEnd = (spec : Parts) (script : ScriptParts) → Fits spec script → LeadsToTheEnd (flight_of spec script) (in_turns spec script)

@@ -1,4 +1,4 @@
-//! One event, as a line of a schedule tells it.
+//! One event, as a line of a schedule gives it.
 
 ghost use Rattle.std.specs.Prelude.{◌≡◌, ◌+◌, ◌≤◌, ◌<◌, ◌*◌, ◌++◌, IfOk, IfSome, length, decimal};
 ghost use Rattle.scram_types.specs.declared.limits.TheConstants.{MAX_LINE_BYTES};
@@ -18,7 +18,7 @@ use trace_text::numbers::read_number;
 use trace_text::progress::is_printable_text;
 use trace_text::words::{Words, first_word};
 
-/// Appends the text of an event to a line that has room for it. It takes no memory.
+/// Appends the text of an event to a line that has room for it.
 pub fn add_event(line: &mut Line, spec: &Spec, event: Event)
     requires { length line.old + 64 ≤ MAX_LINE_BYTES }
     ensures text { line.new ≡ line.old ++ event_text spec.now event }
@@ -58,7 +58,7 @@ fn add_proc(line: &mut Line, text: &[u8], spec: &Spec, p: ProcId)
     line.text(spec.proc_name(p).as_bytes());
 }
 
-/// The line of an event, with its line feed. It takes no memory.
+/// Returns the line of an event, with its line feed.
 pub fn make_event_line(spec: &Spec, event: Event) -> Line
     ensures { result ≡ event_line spec.now event }
 {
@@ -68,8 +68,8 @@ pub fn make_event_line(spec: &Spec, event: Event) -> Line
     line
 }
 
-/// The event that a line tells, or the least rule that the line breaks. The line stands here without its line feed. It
-/// takes no memory.
+/// Returns the event that a line gives, or the least rule that the line breaks. The line stands here without its line
+/// feed.
 pub fn read_event(spec: &Spec, line: &[u8]) -> Result<Event, u8>
     ensures event { result ≡ event_read spec.now line.now }
     ensures known { IfOk result (λ event. HasEvent spec.now event) }
@@ -132,7 +132,7 @@ fn event_told(spec: &Spec, verb: Verb, words: &Words<'_>) -> Option<Event>
     }
 }
 
-// The processor that a word names.
+// Returns the processor that a word names.
 fn proc_at(spec: &Spec, words: &Words<'_>, at: usize) -> Option<ProcId>
     ensures proc { result ≡ proc_named spec.now (word_at words.now at) }
     ensures below { IfSome result (λ p. p.0 < length spec.now.procs) }
@@ -140,7 +140,7 @@ fn proc_at(spec: &Spec, words: &Words<'_>, at: usize) -> Option<ProcId>
     spec.proc_named(words.word_at(at))
 }
 
-// The number below a limit that a word spells.
+// Returns the number below a limit that a word spells.
 fn word_below(limit: u32, words: &Words<'_>, at: usize) -> Option<u8>
     requires { limit ≤ 256 }
     ensures value { result ≡ spelled_number limit (word_at words.now at) }
@@ -152,7 +152,7 @@ fn word_below(limit: u32, words: &Words<'_>, at: usize) -> Option<u8>
     }
 }
 
-// How many words an image has.
+// Returns how many words an image has.
 fn image_words(spec: &Spec) -> u32
     ensures words { result ≡ 8 * length spec.now.apps }
     ensures few { result ≤ 64 }

@@ -9,19 +9,19 @@ ghost use Rattle.schedule_replay.specs.Turns.{TurnsLeadToTheEnd};
 use event_core::Core;
 use scram_types::Spec;
 
-/// The schedule in turns of a script that fits is a schedule, and at its end the flight is over.
+/// The round-robin schedule of a script that fits is a schedule, and at its end the flight is over.
 pub fn turns_lead_to_the_end()
     ensures { TurnsLeadToTheEnd }
 {}
 
-/// A line that breaks no rule is read, and of any other line the least rule is told that it breaks. What each rule asks is
-/// said on its own, by no order of tests.
+/// A line that breaks no rule is read, and of any other line the least rule that it breaks is reported. What each
+/// rule asks is said on its own, by no order of tests.
 pub fn least_rule_is_told()
     ensures { LeastEventRuleIsTold }
 {}
 
-/// Besides want of memory, a list of numbers has one answer: that of a whole schedule, of the first event that is out of
-/// turn, or of what comes next where it ends too early.
+/// Apart from out of memory, a list of numbers has one answer: that of a whole schedule, of the first event that is
+/// out of turn, or of what comes next where it ends too early.
 pub fn a_list_has_one_answer()
     ensures { OneAnswer }
 {}
@@ -31,7 +31,7 @@ pub fn history_has_codes(core: &Core, spec: &Spec)
     requires { core.now.spec ≡ spec.now }
     ensures { AreCodes spec.now core.now.history }
 {
-    // Whoever uses a field of a specification knows that it keeps its invariant.
+    // Using a field of a specification shows that it keeps its invariant.
     let _ = &spec.procs;
     let _ = core.history();
 }

@@ -11,7 +11,7 @@ use bank_words::Event;
 use scram_types::Spec;
 use trace_text::lines::Line;
 
-/// The text of a schedule breaks a rule in a line.
+/// Returns the line for the text of a schedule that breaks a rule.
 pub fn make_fault_line(fault: ScheduleFault) -> Line
     ensures { result ≡ fault_line fault }
 {
@@ -24,7 +24,8 @@ pub fn make_fault_line(fault: ScheduleFault) -> Line
     line
 }
 
-/// The event of this index, counted from 0, is not the next of its actor; what is next, or `-`.
+/// Returns the line for the event of this index, counted from 0, that is not the next of its actor: what is next, or
+/// `-`.
 pub fn make_illegal_line(spec: &Spec, index: u32, given: Event, next: Option<Event>) -> Line
     ensures { result ≡ illegal_line spec.now index given next }
 {
@@ -39,7 +40,8 @@ pub fn make_illegal_line(spec: &Spec, index: u32, given: Event, next: Option<Eve
     line
 }
 
-/// So many events were made, and the flight is not over; what would come next.
+/// Returns the line for a schedule that ends after this number of events, before the flight is over: what would come
+/// next.
 pub fn make_short_line(spec: &Spec, events: u32, next: Event) -> Line
     ensures { result ≡ short_line spec.now events next }
 {

@@ -3,11 +3,11 @@
 ghost use Rattle.std.specs.Prelude.{◌≡◌, ◌++◌, ◌∷◌, [], ℕ, List, Err, IfErr, IfOk, IfSome, None, Some, length, slice_get, take, vec_len};
 ghost use Rattle.bank_words.specs.Events.{event_of};
 ghost use Rattle.event_core.specs.Cores.{flown, standing, standing_words};
-ghost use Rattle.event_core.specs.Flyers.{FlyersFit};
+ghost use Rattle.event_core.specs.Flyers.{FlyBy, FlyersFit};
 ghost use Rattle.event_core.specs.Replays.{IsReplay};
 ghost use Rattle.event_core.specs.Stores.{IsEventWord};
 ghost use Rattle.fail_stop.specs.Ends.{IsOver};
-ghost use Rattle.fail_stop.specs.Events.{IsNext};
+ghost use Rattle.fail_stop.specs.Events.{IsNext, proc_after};
 ghost use Rattle.fault_script.specs.Fits.{Fits};
 ghost use Rattle.scram_types.specs.Specification.{Parts};
 ghost use Rattle.schedule_replay.specs.declared.replays.ReplayError.TheVariants.{NoMemory as WantsMemory};
@@ -18,7 +18,7 @@ use crate::turns::proc_count;
 use app_model::Rack;
 use bank_words::{Event, event_of};
 use event_core::Core;
-use event_core::flyers::{Flyer, make_flyers, word_of};
+use event_core::flyers::Flyers;
 use scram_types::{Flown, NoMemory, ProcId, Script, Spec};
 use std::alloc::Global;
 
@@ -38,7 +38,7 @@ pub enum ReplayError {
         events: u32,
         next: Event,
     },
-    /// No memory was to be had.
+    /// Out of memory.
     NoMemory,
 }
 
@@ -50,14 +50,14 @@ impl From<NoMemory> for ReplayError {
     }
 }
 
-/// Flies a list of codes as a schedule, on one thread. Where it is a schedule at whose end the flight is over, the rows and
-/// reports are those of the one-thread trace, whatever the list is. Rack `p` is that of processor `p`, and spare rack `p`
-/// is for its restart. It waits for nobody.
+/// Flies a list of codes as a schedule, on one thread. Where it is a schedule at whose end the flight is over, the
+/// rows and reports are those of the one-thread trace, whatever the list is. Rack `p` is that of processor `p`, and
+/// spare rack `p` is for its restart. It does not block.
 ///
 /// # Errors
 ///
-/// The first event that is not the next of its actor; what would come next, where the list ends before the flight does;
-/// want of memory.
+/// The first event that is not the next of its actor; what would come next, where the list ends before the flight
+/// does; out of memory.
 pub fn replay(
     alloc: Global,
     spec: &Spec,
@@ -73,7 +73,7 @@ pub fn replay(
     ensures { AnswersReplay spec.now script.now events.now result }
 {
     let core = Core::open(alloc, spec, script)?;
-    let flyers = make_flyers(alloc, racks, spares)?;
+    let flyers = Flyers::open(alloc, racks, spares)?;
     let core = fly(core, spec, flyers, events)?;
     land(core, spec, events)
 }
@@ -82,12 +82,12 @@ pub fn replay(
 fn fly<'a>(
     core: Core<'a>,
     spec: &Spec,
-    flyers: Vec<Flyer>,
+    flyers: Flyers,
     events: &[u32],
 ) -> Result<Core<'a>, ReplayError>
     requires spec { core.spec ≡ spec.now }
     requires opening { core.history ≡ [] }
-    requires fits { FlyersFit core.spec core.script flyers.items }
+    requires fits { FlyBy core flyers }
     requires codes { AreCodes spec.now events.now }
     ensures spec { IfOk result (λ after. after.spec ≡ core.entry.spec) }
     ensures script { IfOk result (λ after. after.script ≡ core.entry.script) }
@@ -106,13 +106,13 @@ fn fly<'a>(
 }
 
 // Makes the event that has a code, where it is the next of its actor.
-fn make(core: &mut Core, spec: &Spec, flyers: &mut Vec<Flyer>, code: u32) -> Result<(), ReplayError>
+fn make(core: &mut Core, spec: &Spec, flyers: &mut Flyers, code: u32) -> Result<(), ReplayError>
     requires spec { core.old.spec ≡ spec.now }
     requires code { IsCode spec.now code }
-    requires fits { FlyersFit core.old.spec core.old.script flyers.old.items }
+    requires fits { FlyBy core.old flyers.old }
     ensures spec { core.new.spec ≡ core.old.spec }
     ensures script { core.new.script ≡ core.old.script }
-    ensures fits { FlyersFit core.old.spec core.old.script flyers.new.items }
+    ensures fits { IfOk result (λ _. FlyBy core.new flyers.new) }
     ensures history { IfOk result (λ _. core.new.history ≡ core.old.history ++ code ∷ []) }
     ensures refused { (list : List ℕ) → take (length core.old.history) list ≡ core.old.history → slice_get list (length core.old.history) ≡ Some code → IfErr result (λ error. AnswersReplay core.old.spec core.old.script list (Err error)) }
 {
@@ -129,7 +129,7 @@ fn make(core: &mut Core, spec: &Spec, flyers: &mut Vec<Flyer>, code: u32) -> Res
     }
 }
 
-// The event that has a code; there is one.
+// Returns the event that has a code; there is one.
 fn event_at(code: u32) -> Event
     requires { (spec : Parts) × IsCode spec code }
     ensures { event_of code ≡ Some result }
@@ -140,7 +140,7 @@ fn event_at(code: u32) -> Event
     }
 }
 
-// How many events were made. They are a schedule.
+// Returns how many events were made. They are a schedule.
 fn events_made(core: &Core) -> u32
     ensures count { result ≡ length core.now.history }
     ensures schedule { IsReplay (flown core.now) core.now.history (standing core.now) (standing_words core.now) }
@@ -148,21 +148,21 @@ fn events_made(core: &Core) -> u32
     core.history().len() as u32
 }
 
-// The word with which an event is made where it is next of its actor.
-fn word_where_next(core: &Core, spec: &Spec, flyers: &mut [Flyer], event: Event) -> u64
+// Returns the word with which an event is made where it is next of its actor.
+fn word_where_next(core: &Core, spec: &Spec, flyers: &mut Flyers, event: Event) -> u64
     requires spec { core.now.spec ≡ spec.now }
-    requires fits { FlyersFit core.now.spec core.now.script flyers.old }
+    requires fits { FlyBy core.now flyers.old }
     ensures word { IsNext (flown core.now) (standing core.now) (standing_words core.now) event → IsEventWord (flown core.now) (standing core.now) event result }
-    ensures fits { FlyersFit core.now.spec core.now.script flyers.new }
+    ensures fits { IsNext (flown core.now) (standing core.now) (standing_words core.now) event → FlyersFit core.now.spec core.now.script (proc_after (flown core.now) (standing core.now) event) flyers.new }
 {
     if core.next_of_actor(event) == Some(event) {
-        word_of(core, spec, flyers, event)
+        flyers.word(core, spec, event)
     } else {
         0
     }
 }
 
-// The flight's rows and reports where it is over, else what would come next.
+// Returns the flight's rows and reports where it is over, else what would come next.
 fn land(core: Core, spec: &Spec, events: &[u32]) -> Result<Flown, ReplayError>
     requires spec { core.spec ≡ spec.now }
     requires history { core.history ≡ events.now }
@@ -177,7 +177,7 @@ fn land(core: Core, spec: &Spec, events: &[u32]) -> Result<Flown, ReplayError>
     }
 }
 
-// The next event of the least processor that has one, else of the kernel, where the flight is not over.
+// Returns the next event of the least processor that has one, else of the kernel, where the flight is not over.
 fn pending(core: &Core, spec: &Spec) -> Option<Event>
     requires spec { core.now.spec ≡ spec.now }
     ensures over { result ≡ None → IsOver (flown core.now) (standing core.now) }

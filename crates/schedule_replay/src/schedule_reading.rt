@@ -28,8 +28,8 @@ pub enum ScheduleError {
     NoMemory,
 }
 
-/// The codes of the events that the lines tell, in order, or the first line that breaks a rule with the least rule that
-/// it breaks. What is read has codes of events that the specification has.
+/// Returns the codes of the events that the lines give, in order, or the first line that breaks a rule with the least
+/// rule that it breaks. What is read has codes of events that the specification has.
 pub fn read_schedule(alloc: Global, bytes: &[u8], spec: &Spec) -> Result<Vec<u32>, ScheduleError>
     ensures read { AnswersSchedule (schedule_of spec.now bytes.now) result }
     ensures known { IfOk result (λ list. AreCodes spec.now list.items) }

@@ -11,18 +11,18 @@ use scram_types::{NoMemory, Spec};
 use std::alloc::Global;
 use trace_text::lines::Line;
 
-/// The text of a schedule by the codes of its events: a line for each. Where it has at most `MAX_SCHEDULE_BYTES`, it is
-/// read back to the same codes.
+/// Returns the text of a schedule by the codes of its events: a line for each. Where it has at most
+/// `MAX_SCHEDULE_BYTES`, it is read back to the same codes.
 ///
 /// # Errors
 ///
-/// Want of memory.
+/// Out of memory.
 pub fn write_schedule(alloc: Global, events: &[u32], spec: &Spec) -> Result<Vec<u8>, NoMemory>
     requires { AreCodes spec.now events.now }
     ensures text { IfOk result (λ text. text.items ≡ schedule_text spec.now events.now) }
     ensures back { IfOk result (λ text. length text.items ≤ MAX_SCHEDULE_BYTES → schedule_of spec.now text.items ≡ Ok events.now) }
 {
-    // Whoever uses a field of a specification knows that it keeps its invariant.
+    // Using a field of a specification shows that it keeps its invariant.
     let _ = &spec.procs;
     write_lines(alloc, events, spec)
 }

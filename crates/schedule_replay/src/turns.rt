@@ -1,4 +1,4 @@
-//! The schedule in turns.
+//! The round-robin schedule.
 
 ghost use Rattle.std.specs.Prelude.{◌≡◌, ◌*◌, ◌<◌, ◌∷◌, ◌++◌, [], IfOk, None, OnOk, Some, ℕ, length, map, option_map};
 ghost use Rattle.bank_words.specs.Events.{event_code};
@@ -17,17 +17,17 @@ use fault_script::{halt_in, up_at};
 use scram_types::{HaltAt, NoMemory, ProcId, Script, Spec};
 use std::alloc::Global;
 
-/// The codes of the schedule in turns: frame by frame, each processor in order makes all its steps, and then the kernel
-/// makes its own. Who is down makes none; who restarts does so in its turn.
+/// Returns the codes of the round-robin schedule: frame by frame, each processor in order makes all its steps, and
+/// then the kernel makes its own. A processor that is down makes none; one that restarts does so in its turn.
 ///
 /// # Errors
 ///
-/// Want of memory.
+/// Out of memory.
 pub fn in_turns(alloc: Global, spec: &Spec, script: &Script) -> Result<Vec<u32>, NoMemory>
     ensures turns { IfOk result (λ list. list.items ≡ map event_code (in_turns spec.now script.now)) }
     ensures known { IfOk result (λ list. AreCodes spec.now list.items) }
 {
-    // Whoever uses a field of a specification knows that it keeps its invariant.
+    // Using a field of a specification shows that it keeps its invariant.
     let _ = &spec.procs;
     add_frames(alloc, spec, script)
 }
@@ -177,14 +177,14 @@ fn add(list: &mut Vec<u32>, event: Event) -> Result<(), NoMemory>
     Ok(())
 }
 
-/// How many processors there are.
+/// Returns how many processors there are.
 pub(crate) fn proc_count(spec: &Spec) -> u8
     ensures { result ≡ length spec.now.procs }
 {
     spec.procs.items().len() as u8
 }
 
-// How many words an image has.
+// Returns how many words an image has.
 fn image_words(spec: &Spec) -> u8
     ensures { result ≡ 8 * length spec.now.apps }
 {

@@ -17,7 +17,7 @@ pub enum Verb {
     Release,
 }
 
-/// The kind of event that a word names. It takes no memory.
+/// Returns the kind of event that a word names.
 pub fn verb_named(word: &[u8]) -> Option<Verb>
     ensures { result ≡ verb_named word.now }
 {
@@ -44,7 +44,7 @@ pub fn verb_named(word: &[u8]) -> Option<Verb>
     }
 }
 
-/// How many words a line of this kind has. It takes no memory.
+/// Returns how many words a line of this kind has.
 pub fn word_count(verb: Verb) -> usize
     ensures { result ≡ word_count verb }
 {

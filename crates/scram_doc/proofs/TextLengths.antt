@@ -65,7 +65,7 @@ escape_length (x ∷ xs) =
 pub escaped_length : (xs : List ℕ) → length (quoted xs) ≤ 6 * length xs + 2
 escaped_length xs = let inside = escape_length xs in omega (arith, inside, length-append (escape xs) (34 ∷ []))
 
--- a bound on the length of a value's text, where a text has at most the length that `measure` tells
+-- a bound on the length of a value's text, where a text has at most the length that `measure` gives
 abbrev mutual
   pub weight : (List ℕ → ℕ) → Data → ℕ
   weight measure null = 4

@@ -1,4 +1,4 @@
--- A broken rule, and what an answer says of a reading where memory may fail.
+-- A broken rule, and what an answer says of a reading that may run out of memory.
 use Rattle.std.specs.Prelude.{◌≡◌, ℕ, List, Option, Some, None, Result, Ok, Err, ⊤}
 use Rattle.scram_doc.specs.declared.fault.DocFault.{DocFault}
 use Rattle.scram_doc.specs.declared.fault.DocError.{DocError}
@@ -13,7 +13,7 @@ abbrev pub or_broken : {A : Type 0} → ℕ → List ℕ → Option A → Result
 or_broken rule path (Some a) = Ok a
 or_broken rule path None = broken rule path
 
--- the answer is that of the reading, under f, unless memory is wanting
+-- the answer is that of the reading, under f, or out of memory
 abbrev pub Answers : {A B : Type 0} → Result B DocFault → (A → B) → Result A DocError → Type 0
 Answers reading f (Ok a) = reading ≡ Ok (f a)
 Answers reading f (Err (Fault fault)) = reading ≡ Err fault

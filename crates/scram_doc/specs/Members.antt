@@ -17,11 +17,11 @@ object_at at d = ok_map (λ (_ : Members). tt) (or_broken NO_OBJECT at (as_objec
 abbrev pub needed : List ℕ → List ℕ → Data → Result Data DocFault
 needed name at d = or_broken MISSING_MEMBER (member_path at name) (get name d)
 
--- There are at most so many members, and else rule 4 is broken at the path; what is no object has none.
+-- There are at most `most` members, and else rule 4 is broken at the path; what is no object has none.
 abbrev pub members_within : ℕ → List ℕ → Option Members → Result ⊤ DocFault
 members_within most at (Some ms) = if nat_le (members_len ms) most then Ok tt else broken FURTHER_MEMBER at
 members_within most at None = Ok tt
 
--- The value at a path has at most so many members, and else rule 4 is broken there.
+-- The value at a path has at most `most` members, and else rule 4 is broken there.
 abbrev pub no_more_than : ℕ → List ℕ → Data → Result ⊤ DocFault
 no_more_than most at d = members_within most at (as_object d)

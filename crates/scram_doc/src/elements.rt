@@ -26,14 +26,14 @@ pub trait Elements<T: Drop> {
     /// What each element keeps, with those before it.
     ghost Fits: { Self → List T → T → Type 0 };
 
-    /// The element that the value is, `done` being the elements before it.
+    /// Returns the element that the value is, `done` being the elements before it.
     fn read(&self, alloc: Global, done: &[T], v: &Value, at: &Path) -> Result<T, DocError>
         requires room { length at.now ≤ room }
         ensures value { Answers (reading self.now at.now done.now (view v.now)) (λ x. x) result }
         ensures fits { IfOk result (λ x. Fits self.now done.now x) };
 }
 
-/// The elements of a list whose length was tested.
+/// Returns the elements of a list whose length was tested.
 pub fn read_items<T: Drop, E: Elements<T>>(
     alloc: Global,
     elements: &E,
@@ -57,7 +57,7 @@ pub fn read_items<T: Drop, E: Elements<T>>(
     Ok(done)
 }
 
-/// A list of `least` to `most` elements.
+/// Returns a list of `least` to `most` elements.
 pub fn read_list<T: Drop, E: Elements<T>>(
     alloc: Global,
     elements: &E,

@@ -12,7 +12,7 @@ pub struct DocFault {
 }
 
 impl DocFault {
-    /// The rule of this number, broken at this path.
+    /// Returns the rule of this number, broken at this path.
     pub fn new(rule: u8, at: &Path) -> DocFault
         ensures { result ≡ record { rule = rule; path = at.now } }
     {
@@ -29,7 +29,7 @@ pub enum DocError {
     /// The document breaks a rule.
     Fault(DocFault),
 
-    /// The allocator had no memory.
+    /// Out of memory.
     NoMemory,
 }
 

@@ -19,14 +19,14 @@ pub fn object(v: &Value, at: &Path) -> Result<(), DocFault>
     }
 }
 
-/// The value of a member, or none where the value is no object or lacks it.
+/// Returns the value of a member, or none where the value is no object or lacks it.
 pub fn field<'a>(v: &'a Value, name: &str) -> Option<&'a Value>
     ensures { option_map (λ d. view d.now) result ≡ get name.now (view v.now) }
 {
     v.get(name)
 }
 
-/// The value of a member. Rule 3 is broken at the member's path where the value at `at` has no such member;
+/// Returns the value of a member. Rule 3 is broken at the member's path where the value at `at` has no such member;
 /// there must be room for that path.
 pub fn need<'a>(v: &'a Value, name: &str, at: &Path) -> Result<&'a Value, DocFault>
     requires { length at.now + 1 + length name.now ≤ 64 }

@@ -19,7 +19,7 @@ pub trait Naming<T> {
     /// The bytes of a thing's name.
     ghost spelling: { T → List ℕ };
 
-    /// The name of a thing.
+    /// Returns the name of a thing.
     fn name(item: &T) -> &str
         ensures { result.now ≡ spelling item.now };
 }
@@ -55,7 +55,7 @@ impl Numbers {
         self.names.get_index_of(name)
     }
 
-    /// The names with one more, which is not among them.
+    /// Returns the names with one more, which is not among them.
     fn with(self, alloc: Global, name: &str) -> Result<Numbers, AllocError>
         requires { place_named itself self name.now ≡ None }
         ensures { IfOk result (λ numbers. numbers ≡ self ++ name.now ∷ []) }
@@ -85,7 +85,7 @@ impl<T, N: Naming<T>> Model for Numbered<T, N> {
 }
 
 impl<T, N: Naming<T>> Numbered<T, N> {
-    /// These items, whose names the numbers are of.
+    /// Returns these items, whose names the numbers are of.
     pub fn of(items: Vec<T>, numbers: Numbers) -> Numbered<T, N>
         requires { numbers ≡ map N.spelling items.items }
         ensures { result ≡ items.items }
@@ -103,7 +103,7 @@ impl<T, N: Naming<T>> Numbered<T, N> {
         &self.items
     }
 
-    /// The number of the item of this name.
+    /// Returns the number of the item of this name.
     pub fn number(&self, name: &str) -> Option<usize>
         ensures number { result ≡ place_named N.spelling self.now name.now }
         ensures below { IfSome result (λ number. number < length self.now) }
@@ -111,7 +111,7 @@ impl<T, N: Naming<T>> Numbered<T, N> {
         self.numbers.number(name)
     }
 
-    /// The items, and the numbers of their names.
+    /// Returns the items, and the numbers of their names.
     pub fn into_parts(self) -> (Vec<T>, Numbers)
         ensures items { result.0.items ≡ self }
         ensures numbers { result.1 ≡ map N.spelling self }
@@ -119,7 +119,7 @@ impl<T, N: Naming<T>> Numbered<T, N> {
         (self.items, self.numbers)
     }
 
-    /// The items, in order.
+    /// Returns the items, in order.
     pub fn into_items(self) -> Vec<T>
         ensures { result.items ≡ self }
     {
@@ -138,7 +138,7 @@ impl<T: Drop, N: Naming<T>> Numbered<T, N> {
         }
     }
 
-    /// The items with one more, whose name none of them has.
+    /// Returns the items with one more, whose name none of them has.
     fn with(self, alloc: Global, item: T) -> Result<Numbered<T, N>, AllocError>
         requires { place_named N.spelling self (N.spelling item) ≡ None }
         ensures { IfOk result (λ numbered. numbered ≡ self ++ item ∷ []) }
@@ -172,7 +172,7 @@ pub trait NamedElements<T: Drop, N: Naming<T>> {
     /// What each element keeps, with those before it.
     ghost Fits: { Self → List T → T → Type 0 };
 
-    /// The element that the value is, `done` being the elements before it.
+    /// Returns the element that the value is, `done` being the elements before it.
     fn read(
         &self,
         alloc: Global,
@@ -209,7 +209,7 @@ pub fn read_named_items<T: Drop, N: Naming<T>, E: NamedElements<T, N>>(
     Ok(done)
 }
 
-/// A list of `least` to `most` elements that have names.
+/// Returns a list of `least` to `most` elements that have names.
 pub fn read_named_list<T: Drop, N: Naming<T>, E: NamedElements<T, N>>(
     alloc: Global,
     elements: &E,

@@ -22,7 +22,7 @@ impl Model for Path {
 }
 
 impl Path {
-    /// The path of the whole document.
+    /// Returns the path of the whole document.
     pub fn root() -> Path
         ensures { result ≡ [] }
     {
@@ -31,14 +31,14 @@ impl Path {
         }
     }
 
-    /// Another such path, which takes no memory.
+    /// Returns a copy of the path.
     pub fn copy(&self) -> Path
         ensures { result ≡ self.now }
     {
         Path { text: self.text }
     }
 
-    /// The path of a member of the object at this path. There must be room for it.
+    /// Returns the path of a member of the object at this path. There must be room for it.
     pub fn member(&self, name: &str) -> Path
         requires { length self.now + 1 + length name.now ≤ 64 }
         ensures { result ≡ member_path self.now name.now }
@@ -49,7 +49,7 @@ impl Path {
         Path { text }
     }
 
-    /// The path of an element of the list at this path. There must be room for an index of five digits.
+    /// Returns the path of an element of the list at this path. There must be room for an index of five digits.
     pub fn item(&self, index: usize) -> Path
         requires index { index < 100000 }
         requires room { length self.now + 6 ≤ 64 }
@@ -60,7 +60,7 @@ impl Path {
         self.member(buffer.format(index))
     }
 
-    /// The path as it is shown.
+    /// Returns the path as it is shown.
     pub fn as_str(&self) -> &str
         ensures text { result.now ≡ shown self.now }
         ensures short { length result.now ≤ 64 }

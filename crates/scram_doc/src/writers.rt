@@ -17,12 +17,12 @@ pub trait Writes<T> {
     /// What is written for an item.
     ghost written: { Self → T → Data };
 
-    /// The value of an item.
+    /// Returns the value of an item.
     fn value(&self, alloc: Global, item: &T) -> Result<Value, AllocError>
         ensures { IfOk result (λ v. view v ≡ written self.now item.now) };
 }
 
-/// The values of the items of a list, in order.
+/// Returns the values of the items of a list, in order.
 pub fn write_list<T, W: Writes<T>>(
     alloc: Global,
     writer: &W,

@@ -1,4 +1,4 @@
--- Puts one after another: whoever prints by several puts proves the clause of `put` for all its bytes by these.
+-- Puts one after another: the lemmas that show the clause of `put` for all bytes of several puts.
 use Rattle.std.proofs.Common.{◌≡◌, ℕ, ◌+◌, ◌-◌, ◌<◌, ◌≤◌, List, [], ◌++◌, length, Option, Some, None, Result, Ok, Err, IfSome, append_assoc, append-nil, length-append, arith, sym, ◌∙◌, ap, refl}
 use Rattle.scram_io.specs.Outside.{CutOff, Printed, Prints, Rose, SinkState, TakesSurely, Took, TookPrefix, Unrisen, greatest_count, taken}
 
@@ -57,7 +57,7 @@ surely_none_by : (room : Option ℕ) (count : ℕ) → IfSome room (λ _. count 
 surely_none_by None count below = tt
 surely_none_by (Some n) count below = λ fits. (record { same = refl; below = below }, let same : n ≡ n - 0 = omega arith in ap (λ (left : ℕ). Some left) same)
 
--- no put: nothing is taken, and no count rises, since a sink that tells the number has a count below the greatest
+-- no put: nothing is taken, and no count rises, since a sink with a known number has a count below the greatest
 pub printed_none : (sink : SinkState) → IfSome sink.surely (λ _. sink.faults < greatest_count) → Printed sink sink []
 printed_none sink below = record {
   count = omega arith;

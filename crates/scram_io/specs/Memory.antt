@@ -30,12 +30,12 @@ files_state held = record {
   faults = held.faults;
 }
 
--- what a look at a file of at most so many bytes gives
+-- what a look at a file with this limit of bytes gives
 abbrev pub within_limit : ℕ → Option (List ℕ) → Result (List ℕ) ReadFault
 within_limit limit None = Err Failed
 within_limit limit (Some bytes) = if nat_le (length bytes) limit then Ok bytes else Err TooLong
 
--- what the next read gives, if memory is there
+-- what the next read gives, unless out of memory
 abbrev pub read_of : FilesHeld → List ℕ → ℕ → Result (List ℕ) ReadFault
 read_of held name limit = if is_listed held.failing held.reads then Err Failed else within_limit limit (file_at name held.map)
 
@@ -43,7 +43,7 @@ read_of held name limit = if is_listed held.failing held.reads then Err Failed e
 abbrev pub read_fails : FilesHeld → List ℕ → Bool
 read_fails held name = is_listed held.failing held.reads || is_none (file_at name held.map)
 
--- the file of this name, as it is found, with its bytes
+-- the file with this name that is found, with its bytes
 abbrev pub found_as : List ℕ → Option (List ℕ) → History
 found_as name None = []
 found_as name (Some bytes) = (name, bytes) ∷ []

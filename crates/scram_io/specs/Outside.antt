@@ -33,7 +33,7 @@ abbrev pub file_at : List ℕ → FileMap → Option (List ℕ)
 file_at name [] = None
 file_at name (entry ∷ rest) = if bytes_eq entry.0 name then Some entry.1 else file_at name rest
 
--- Files: each read that found one so far, in order, with its bytes; the map of their names, where it is told
+-- Files: each read that found one so far, in order, with its bytes; the map of their names, where it is known
 -- beforehand; whether a read of a name in it surely does not fail; the count of faults.
 pub record FilesState : Type 0 where
   pub history : History
@@ -45,14 +45,14 @@ pub record FilesState : Type 0 where
 abbrev pub Agrees : FileMap → History → Type 0
 Agrees map reads = AllByRecursion (λ (read : List ℕ × List ℕ). file_at read.0 map ≡ Some read.1) reads
 
--- The history grew by exactly these reads, in order. Where the map is told, they have its bytes.
+-- The history grew by exactly these reads, in order. Where the map is known, they have its bytes.
 pub record Grew (old new : FilesState) (reads : History) : Type 0 where
   pub history : new.history ≡ old.history ++ reads
   pub told : new.told ≡ old.told
   pub agrees : IfSome old.told (λ map. Agrees map reads)
   pub count : old.faults ≤ new.faults
 
--- The file of this name has more bytes than the limit, and that many were read of it: where the map is told, all of
+-- The file of this name has more bytes than the limit, and that many were read of it: where the map is known, all of
 -- them, and where it is not, the count of faults rose.
 pub record FoundLonger (old new : FilesState) (name : List ℕ) (limit : ℕ) : Type 0 where
   pub bytes : List ℕ
@@ -60,12 +60,12 @@ pub record FoundLonger (old new : FilesState) (name : List ℕ) (limit : ℕ) : 
   pub longer : limit < length bytes
   pub counted : IfNone old.told (Rose old.faults new.faults)
 
--- where the files are steady and the map is told, a read of a name in it raises no count and leaves them steady
+-- where the files are steady and the map is known, a read of a name in it raises no count and leaves them steady
 abbrev pub StaysSteady : FilesState → FilesState → List ℕ → Type 0
 StaysSteady old new name = IsTrue old.steady → IfSome old.told (λ map. IsSome (file_at name map) → Unrisen old.faults new.faults × IsTrue new.steady)
 
--- A sink: the bytes that went out, those that it took and holds still, how many more it surely takes and sends,
--- where that is told, and the count of faults.
+-- A sink: the bytes that went out, those that it took and holds still, how many more it surely takes and sends, where
+-- that is known, and the count of faults.
 pub record SinkState : Type 0 where
   pub sent : List ℕ
   pub held : List ℕ
@@ -87,7 +87,7 @@ pub record TookPrefix (old new : SinkState) (bytes : List ℕ) : Type 0 where
   pub parts : bytes ≡ front ++ rest
   pub took : Took old new front
 
--- Where the number of bytes surely taken is told and these are no more, no count rose and the number fell by their
+-- Where the number of bytes surely taken is known and these are no more, no count rose and the number fell by their
 -- length.
 abbrev pub TakesSurely : SinkState → SinkState → List ℕ → Type 0
 TakesSurely old new bytes = IfSome old.surely (λ room. length bytes ≤ room → Unrisen old.faults new.faults × (new.surely ≡ Some (room - length bytes)))

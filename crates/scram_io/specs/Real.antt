@@ -7,7 +7,7 @@ pub record FilesSeen : Type 0 where
   pub history : History
   pub faults : ℕ
 
--- they tell no map beforehand, and are not steady
+-- they have no map known beforehand, and are not steady
 abbrev pub real_files : FilesSeen → FilesState
 real_files seen = record { history = seen.history; told = None; steady = false; faults = seen.faults }
 
@@ -17,6 +17,6 @@ pub record SinkSeen : Type 0 where
   pub held : List ℕ
   pub faults : ℕ
 
--- it tells no number of bytes that it surely takes
+-- it has no known number of bytes that it surely takes
 abbrev pub real_sink : SinkSeen → SinkState
 real_sink seen = record { sent = seen.sent; held = seen.held; surely = None; faults = seen.faults }

@@ -3,7 +3,7 @@ use Rattle.std.specs.Prelude.{◌≡◌, ℕ, ◌<◌, ◌≤◌, List, [], ◌�
 use Rattle.std.specs.Io.KnownBytes.{Appends, Consumes}
 use Rattle.scram_io.specs.Outside.{History}
 
--- the stream lost at most so many of its known bytes
+-- the stream lost at most this number of its known bytes
 pub record ConsumesAtMost (old new : Option (List ℕ)) (most : ℕ) : Type 0 where
   pub lost : List ℕ
   pub consumed : Consumes old new lost

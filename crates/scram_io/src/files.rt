@@ -10,7 +10,7 @@ use std::io;
 use std::io::ErrorKind;
 use thiserror::Error;
 
-/// Why a file was not read. Want of memory is merged with no other.
+/// Why a file was not read. Out of memory is never merged with another cause.
 #[derive(Clone, Copy, Debug, PartialEq, Eq, Error)]
 pub enum ReadFault {
     /// The file could not be read. The count of faults rose.
@@ -19,7 +19,7 @@ pub enum ReadFault {
     /// The file has more bytes than the limit.
     #[error("the file is longer than the limit")]
     TooLong,
-    /// No memory was to be had. This can come wherever the read would else give the bytes.
+    /// Out of memory. It can come wherever the read would otherwise return the bytes.
     #[error("memory was wanting")]
     NoMemory,
 }
@@ -43,18 +43,18 @@ impl From<AllocError> for ReadFault {
     }
 }
 
-/// Files that can be read whole, by name. Clauses see their `state`: the history of what was read, the map of
-/// names to bytes where it is told beforehand, whether they are steady, and the count of faults, which never
-/// falls and stays at the greatest `u64`. Files that are steady, and tell a map that has the name, do not fail.
+/// Files that can be read whole, by name. Clauses see their `state`: the history of what was read, the map of names
+/// to bytes where it is known beforehand, whether they are steady, and the count of faults, which never falls and
+/// stays at the greatest `u64`. Files that are steady, and have a map with the name, do not fail.
 pub trait Files {
     ghost state: { Self → FilesState };
 
     /// Reads the file `name`, of at most `limit` bytes. The history grows by each read that found the file, and by no
     /// other.
     ///
-    /// `TooLong` comes exactly where the read did not fail, there was memory, and the file has more
-    /// bytes than `limit`: an `Ok` has no more. Then more than `limit` bytes were read, and files that tell no map count
-    /// it as a fault.
+    /// `TooLong` comes exactly where the read did not fail, memory sufficed, and the file has more bytes than
+    /// `limit`: an `Ok` has no more. Then more than `limit` bytes were read, and files without a known map count it
+    /// as a fault.
     fn read(&mut self, alloc: Global, name: &str, limit: usize) -> Result<Vec<u8>, ReadFault>
         ensures grew { IfOk result (λ bytes. Grew (state self.old) (state self.new) ((name.now, bytes.items) ∷ [])) }
         ensures limited { IfOk result (λ bytes. length bytes.items ≤ limit) }

@@ -12,7 +12,7 @@ use super::notes::NotedReads;
 use std::alloc::Global;
 use std::marker::Model;
 
-/// Files in memory, for tests and for whoever has the bytes already.
+/// Files in memory, for tests and for callers that have the bytes already.
 ///
 /// Contracts see the history, the map, the numbers of the reads that are to fail, and how many reads and faults
 /// there were. The reads are numbered from 0, each call of `read` being one; both counts stay at the
@@ -33,8 +33,8 @@ impl Model for MemFiles {
 }
 
 impl MemFiles {
-    /// The files with these names and bytes; of two entries with one name the first counts. The
-    /// reads whose numbers are in `failing` fail.
+    /// Returns the files with these names and bytes; of two entries with one name the first counts. The reads whose
+    /// numbers are in `failing` fail.
     pub fn new(files: Vec<(String, Vec<u8>)>, failing: Vec<u32>) -> MemFiles
         ensures { result ≡ unread_files (entries_of files.items) failing.items }
     {
@@ -80,14 +80,14 @@ impl Files for MemFiles {
     ghost steady_below = { λ held. Prim.search rules };
 }
 
-/// The bytes of the first entry of this name, where the read is not to fail.
+/// Returns the bytes of the first entry of this name, where the read is not to fail.
 fn find_unless<'a>(listed: bool, files: &'a [(String, Vec<u8>)], name: &str) -> Option<&'a [u8]>
     ensures { option_map (λ bytes. bytes.now) result ≡ (if listed then None else file_at name.now (entries_of files.now)) }
 {
     if listed { None } else { find_file(files, name) }
 }
 
-/// The bytes of the first entry of this name.
+/// Returns the bytes of the first entry of this name.
 fn find_file<'a>(files: &'a [(String, Vec<u8>)], name: &str) -> Option<&'a [u8]>
     ensures { option_map (λ bytes. bytes.now) result ≡ file_at name.now (entries_of files.now) }
 {

@@ -33,7 +33,7 @@ impl Model for MemSink {
 }
 
 impl MemSink {
-    /// A sink with room for so many bytes. The puts whose numbers are in `failing` fail.
+    /// Returns a sink with room for `room` bytes. The puts whose numbers are in `failing` fail.
     pub fn new(alloc: Global, room: usize, failing: Vec<u32>) -> Result<MemSink, NoMemory>
         ensures { IfOk result (λ sink. sink ≡ empty_sink room failing.items) }
     {
@@ -47,7 +47,7 @@ impl MemSink {
         })
     }
 
-    /// The bytes taken, no more than there was room for.
+    /// Returns the bytes taken, no more than there was room for.
     pub fn bytes(&self) -> &[u8]
         ensures shown { result.now ≡ self.now.bytes }
         ensures within { length result.now ≤ self.now.room }
@@ -79,7 +79,7 @@ impl Sink for MemSink {
         }
     }
 
-    /// There is nothing to send.
+    /// Does nothing: what was taken has gone out.
     fn flush(&mut self) -> Result<(), SinkFault>
         ensures same { self.new ≡ self.old }
         ensures ok { IsOk result }

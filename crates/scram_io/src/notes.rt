@@ -15,7 +15,7 @@ impl Model for NotedReads {
 }
 
 impl NotedReads {
-    /// No read yet.
+    /// Creates the note of no reads.
     pub fn new() -> NotedReads
         ensures { result.reads ≡ [] }
     {

@@ -16,8 +16,8 @@ use std::marker::Model;
 /// The most bytes that are held back.
 const HELD: usize = 65536;
 
-/// Standard output, which holds bytes back until there are many or it is flushed. It tells no number of bytes that
-/// it surely takes. Contracts see what went out, what is held back and the count of faults.
+/// Standard output, which holds bytes back until there are many or it is flushed. It has no known number of bytes
+/// that it surely takes. Contracts see what went out, what is held back and the count of faults.
 #[derive(Drop)]
 pub struct RealSink<'a, R: Print> {
     out: BufWriter<Recorded<Printer<'a, R>>>,
@@ -31,8 +31,8 @@ impl<'a, R: Print> Model for RealSink<'a, R> {
 }
 
 impl<'a, R: Print> RealSink<'a, R> {
-    /// The standard output of this runtime, with nothing put and no fault yet. Fails where there is no memory for
-    /// the bytes to be held back.
+    /// Returns the standard output of this runtime, with nothing put and no fault yet. Fails where there is no memory
+    /// for the buffer.
     pub fn new(alloc: Global, rt: &'a R) -> Result<RealSink<'a, R>, NoMemory>
         ensures { IfOk result (λ sink. sink ≡ record { sent = []; held = []; faults = 0 }) }
     {

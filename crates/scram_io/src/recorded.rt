@@ -19,7 +19,7 @@ impl Model for NotedBytes {
 }
 
 impl NotedBytes {
-    /// No bytes yet.
+    /// Creates the note of no bytes.
     fn new() -> NotedBytes
         ensures { result.bytes ≡ [] }
     {
@@ -41,7 +41,7 @@ pub struct Recorded<W> {
 }
 
 impl<W> Recorded<W> {
-    /// The writer, with nothing written yet.
+    /// Returns the writer, with nothing written yet.
     pub fn new(inner: W) -> Recorded<W>
         ensures inner { result.inner ≡ inner }
         ensures empty { result.taken.bytes ≡ [] }

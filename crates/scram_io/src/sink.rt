@@ -9,9 +9,9 @@ use thiserror::Error;
 #[error("the bytes could not be written")]
 pub struct SinkFault;
 
-/// What takes bytes, and takes no memory for it. Clauses see its `state`: the bytes that went out, those that it
-/// took and holds back still, how many more it surely takes and sends, where that is told, and the count of
-/// faults, which never falls and stays at the greatest `u64`.
+/// A sink of bytes, which allocates nothing. Clauses see its `state`: the bytes that went out, those that it took and
+/// holds back still, how many more it surely takes and sends, where that is known, and the count of faults, which
+/// never falls and stays at the greatest `u64`.
 pub trait Sink {
     ghost state: { Self → SinkState };
 
@@ -19,7 +19,7 @@ pub trait Sink {
     fn put(&mut self, bytes: &[u8]) -> Result<(), SinkFault>
         ensures { Prints result (state self.old) (state self.new) bytes.now };
 
-    /// Has all that was taken go out. After an `Ok` nothing is held back.
+    /// Sends all that was taken. After an `Ok` nothing is held back.
     fn flush(&mut self) -> Result<(), SinkFault>
         ensures { Flushes result (state self.old) (state self.new) };
 

@@ -49,7 +49,7 @@ lowest : (b : Bool) → bit_at (bit_of b) 0 ≡ bit_of b
 lowest true = refl
 lowest false = refl
 
--- each bit tells what the test says
+-- each bit is the answer of the test
 pub bit_is : (test : ℕ → Bool) (n i : ℕ) → i < n → bit_at (bits_below test n) i ≡ bit_of (test i)
 bit_is test zero i h = absurd (omega arith)
 bit_is test (suc n) i h = elim (below_or_at i n h) [

@@ -1,4 +1,4 @@
--- What is told by an option.
+-- What an option says.
 use Rattle.std.proofs.Common.{◌≡◌, false, refl, ◌⊎◌}
 use mathlib.Core.Logic.{inl, inr}
 use Rattle.std.specs.Prelude.{Option, Some, None, is_some}

@@ -1,4 +1,4 @@
--- What looking through the numbers below n tells.
+-- What a search through the numbers below n finds.
 use Rattle.std.proofs.Common.{◌≡◌, ℕ, zero, suc, ◌+◌, ◌-◌, ◌<◌, ◌≤◌, Bool, true, false, refl, arith, ap, sym, ◌∙◌, ◌⊎◌, [], ◌∷◌, ◌++◌, length}
 use mathlib.Core.Logic.{inl, inr}
 use Rattle.std.specs.Prelude.{Option, Some, None, is_some, max, slice_get}

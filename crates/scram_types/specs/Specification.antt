@@ -157,7 +157,7 @@ IsIn confs c = c.0 < length confs
 abbrev pub IsInIfNamed : List Conf → Option ConfId → Type 0
 IsInIfNamed confs c = IfSome c (IsIn confs)
 
--- What a rule wants of a factor is a value that this factor has.
+-- What a rule requires of a factor is a value that this factor has.
 pub record IsWant (factors : List Factor) (want : Want) : Type 0 where
   pub factor : Factor
   pub there : slice_get factors want.factor.0 ≡ Some factor

@@ -3,7 +3,7 @@
 ghost use Rattle.std.specs.Prelude.{◌≡◌};
 ghost use Rattle.scram_types.specs.Bits.{has_bit};
 
-/// Whether number `p` is in a set: whether bit `p` of it is set.
+/// Returns whether number `p` is in a set: whether bit `p` of it is set.
 pub fn has_bit(set: u8, p: u8) -> bool
     ensures { result ≡ has_bit set p }
 {

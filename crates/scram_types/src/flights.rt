@@ -20,8 +20,8 @@ pub struct World {
     pub bank: i64,
 }
 
-/// Where the mission wants the aircraft: `altitude` in feet, 0 to 40,000, and `heading` in tenths of a
-/// degree, 0 to 3,599.
+/// Where the mission sends the aircraft: `altitude` in feet, 0 to 40,000, and `heading` in tenths of a degree, 0 to
+/// 3,599.
 #[derive(Clone, Copy, Debug, PartialEq, Eq)]
 pub struct Goal {
     pub altitude: i64,

@@ -26,9 +26,9 @@ pub const MAX_LOAD: u32 = 1_000_000;
 pub const MAX_PHASE: u8 = 16;
 /// The greatest bound on a reconfiguration, in frames; the least is 1.
 pub const MAX_BOUND: u32 = 1_000;
-/// The most processors that the failure assumption lets be down at once.
+/// The most processors that the failure assumption allows to be down at once.
 pub const MAX_ASSUMED_HALTS: u8 = 8;
-/// The most further changes that the failure assumption lets a window hold.
+/// The most further changes that the failure assumption allows in a window.
 pub const MAX_ASSUMED_CHANGES: u8 = 16;
 /// The longest window of the failure assumption, in frames; the shortest is 1.
 pub const MAX_WINDOW: u32 = 1_000;

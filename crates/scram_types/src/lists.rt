@@ -18,21 +18,21 @@ impl<T> std::marker::Model for List<T> {
 }
 
 impl<T> List<T> {
-    /// The list of these items. It takes no memory.
+    /// Returns the list of these items.
     pub fn of(items: Vec<T>) -> List<T>
         ensures { result ≡ items.items }
     {
         List { items }
     }
 
-    /// The items, in order.
+    /// Returns the items, in order.
     pub fn items(&self) -> &[T]
         ensures { result.now ≡ self.now }
     {
         &self.items
     }
 
-    /// The items as a vector, which takes no memory.
+    /// Returns the items as a vector.
     pub fn into_items(self) -> Vec<T>
         ensures { result.items ≡ self }
     {

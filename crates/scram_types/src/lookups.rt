@@ -1,4 +1,4 @@
-//! What stands in a specification, by number and by name. None of these takes memory.
+//! What stands in a specification, by number and by name.
 
 ghost use Rattle.std.specs.Prelude.{◌≡◌, ◌<◌, ◌≤◌, IfSome, length};
 ghost use Rattle.scram_types.specs.Lookups.{app_name, app_named, conf_name, conf_named, factor_name, factor_named, is_on, kind_of_app, mode_of, mode_of_app, number_named, opening_env, place_of, proc_name, proc_named, value_name, value_named};
@@ -9,7 +9,7 @@ use crate::names::Name;
 use crate::specification::{Factor, ModeSpec, Place, Spec};
 
 impl Spec {
-    /// The application of this name.
+    /// Returns the application of this name.
     pub fn app_named(&self, text: &[u8]) -> Option<AppId>
         ensures app { result ≡ app_named self.now text.now }
         ensures below { IfSome result (λ app. app.0 < length self.now.apps) }
@@ -22,7 +22,7 @@ impl Spec {
         None
     }
 
-    /// The processor of this name.
+    /// Returns the processor of this name.
     pub fn proc_named(&self, text: &[u8]) -> Option<ProcId>
         ensures proc { result ≡ proc_named self.now text.now }
         ensures below { IfSome result (λ proc. proc.0 < length self.now.procs) }
@@ -35,7 +35,7 @@ impl Spec {
         None
     }
 
-    /// The configuration of this name.
+    /// Returns the configuration of this name.
     pub fn conf_named(&self, text: &[u8]) -> Option<ConfId>
         ensures conf { result ≡ conf_named self.now text.now }
         ensures below { IfSome result (λ conf. conf.0 < length self.now.confs) }
@@ -48,7 +48,7 @@ impl Spec {
         None
     }
 
-    /// The factor of this name.
+    /// Returns the factor of this name.
     pub fn factor_named(&self, text: &[u8]) -> Option<FactorId>
         ensures factor { result ≡ factor_named self.now text.now }
         ensures below { IfSome result (λ factor. factor.0 < length self.now.factors) }
@@ -61,7 +61,7 @@ impl Spec {
         None
     }
 
-    /// The name of an application, at most 16 bytes; no bytes where it does not exist.
+    /// Returns the name of an application, at most 16 bytes; no bytes where it does not exist.
     pub fn app_name(&self, app: AppId) -> &str
         ensures name { result.now ≡ app_name self.now app.0 }
         ensures short { length result.now ≤ 16 }
@@ -72,7 +72,7 @@ impl Spec {
         }
     }
 
-    /// The name of a processor, at most 16 bytes; no bytes where it does not exist.
+    /// Returns the name of a processor, at most 16 bytes; no bytes where it does not exist.
     pub fn proc_name(&self, proc: ProcId) -> &str
         ensures name { result.now ≡ proc_name self.now proc.0 }
         ensures short { length result.now ≤ 16 }
@@ -83,7 +83,7 @@ impl Spec {
         }
     }
 
-    /// The name of a configuration, at most 16 bytes; no bytes where it does not exist.
+    /// Returns the name of a configuration, at most 16 bytes; no bytes where it does not exist.
     pub fn conf_name(&self, conf: ConfId) -> &str
         ensures name { result.now ≡ conf_name self.now conf.0 }
         ensures short { length result.now ≤ 16 }
@@ -94,7 +94,7 @@ impl Spec {
         }
     }
 
-    /// The name of a factor, at most 16 bytes; no bytes where it does not exist.
+    /// Returns the name of a factor, at most 16 bytes; no bytes where it does not exist.
     pub fn factor_name(&self, factor: FactorId) -> &str
         ensures name { result.now ≡ factor_name self.now factor.0 }
         ensures short { length result.now ≤ 16 }
@@ -105,7 +105,7 @@ impl Spec {
         }
     }
 
-    /// The kind of an application; 0 where it does not exist.
+    /// Returns the kind of an application; 0 where it does not exist.
     pub fn kind_of_app(&self, app: AppId) -> KindId
         ensures kind { result.0 ≡ kind_of_app self.now app.0 }
         ensures built { result.0 < 5 }
@@ -116,7 +116,7 @@ impl Spec {
         }
     }
 
-    /// Where a configuration places an application, or `None` where it is off.
+    /// Returns where a configuration places an application, or `None` where it is off.
     pub fn place_of(&self, c: ConfId, app: AppId) -> Option<Place>
         ensures place { result ≡ place_of self.now c app.0 }
         ensures proc { IfSome result (λ place. place.proc.0 < 8) }
@@ -127,21 +127,21 @@ impl Spec {
         }
     }
 
-    /// Whether an application is on in a configuration.
+    /// Returns whether an application is on in a configuration.
     pub fn is_on(&self, conf: ConfId, app: AppId) -> bool
         ensures { result ≡ is_on self.now conf app.0 }
     {
         self.place_of(conf, app).is_some()
     }
 
-    /// What a mode of an application costs, or `None` where the application does not list it.
+    /// Returns what a mode of an application costs, or `None` where the application does not list it.
     pub fn mode_of_app(&self, app: AppId, mode: Mode) -> Option<ModeSpec>
         ensures { result ≡ mode_of_app self.now app.0 mode.0 }
     {
         self.app(app)?.mode(mode)
     }
 
-    /// What the mode of an application in a configuration costs, or `None` where it is off.
+    /// Returns what the mode of an application in a configuration costs, or `None` where it is off.
     pub fn mode_of(&self, conf: ConfId, app: AppId) -> Option<ModeSpec>
         ensures { result ≡ mode_of self.now conf app.0 }
     {
@@ -149,7 +149,7 @@ impl Spec {
         self.mode_of_app(app, place.mode)
     }
 
-    /// The environment that a flight opens in: each processor is up, each factor has its first value.
+    /// Returns the environment that a flight opens in: each processor is up, each factor has its first value.
     pub fn opening_env(&self) -> Env
         ensures { result ≡ opening_env self.now }
     {
@@ -161,7 +161,7 @@ impl Spec {
 }
 
 impl Factor {
-    /// The number of the value of this name, of at most 255 values.
+    /// Returns the number of the value of this name, of at most 255 values.
     pub fn value_named(&self, text: &[u8]) -> Option<u8>
         requires { length self.now.values ≤ 255 }
         ensures { result ≡ value_named self.now text.now }
@@ -169,7 +169,7 @@ impl Factor {
         number_of_name(self.values.items(), text)
     }
 
-    /// The name of a value, at most 16 bytes; no bytes where the factor has no such value.
+    /// Returns the name of a value, at most 16 bytes; no bytes where the factor has no such value.
     pub fn value_name(&self, value: u8) -> &str
         ensures name { result.now ≡ value_name self.now value }
         ensures short { length result.now ≤ 16 }

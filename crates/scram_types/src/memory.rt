@@ -1,8 +1,8 @@
-//! Want of memory, which any call that allocates may answer.
+//! Out of memory: an error that any call that allocates may return.
 
 use std::alloc::{AllocError, AllocFailed};
 
-/// No memory was to be had. It is a refusal of its own everywhere and is merged with no other.
+/// Out of memory. It is an error of its own everywhere and is never merged with another.
 #[derive(Clone, Copy, Debug, PartialEq, Eq)]
 pub struct NoMemory;
 

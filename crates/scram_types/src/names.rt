@@ -25,7 +25,7 @@ impl std::marker::Model for Name {
 }
 
 impl Name {
-    /// The name that is spelled so, or `None` where the text is no name. It takes no memory.
+    /// Returns the name that is spelled so, or `None` where the text is no name.
     pub fn of(text: &str) -> Option<Name>
         ensures { result ≡ name_of text.now }
     {
@@ -38,7 +38,7 @@ impl Name {
         }
     }
 
-    /// The name's spelling.
+    /// Returns the name's spelling.
     pub fn as_str(&self) -> &str
         ensures text { result.now ≡ self.now }
         ensures short { length result.now ≤ 16 }
@@ -47,7 +47,7 @@ impl Name {
         self.text.as_str()
     }
 
-    /// The same name once more. It takes no memory.
+    /// Returns a copy of the name.
     pub fn copy(&self) -> Name
         ensures { result ≡ self.now }
     {
@@ -56,7 +56,7 @@ impl Name {
 }
 
 impl Default for Name {
-    /// The name `a`, which stands in the unused places of a list of fixed length.
+    /// Returns the name `a`, which stands in the unused places of a list of fixed length.
     fn default() -> Name {
         let mut text = ArrayString::new();
         text.push('a');

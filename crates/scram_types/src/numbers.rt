@@ -4,7 +4,7 @@
 ghost use Rattle.std.specs.Prelude.{◌-ℤ◌, ◌+ℤ◌, pos, ◌≡◌, ◌≤ℤ◌};
 ghost use Rattle.scram_types.specs.Numbers.{IsWord, clamp, minus};
 
-/// `x`, but at least `low` and at most `high`.
+/// Returns `x`, but at least `low` and at most `high`.
 pub fn clamped(x: i64, low: i64, high: i64) -> i64
     requires { low ≤ℤ high }
     ensures value { result ≡ clamp x low high }
@@ -20,7 +20,7 @@ pub fn clamped(x: i64, low: i64, high: i64) -> i64
     }
 }
 
-/// `x + y` of two numbers within 2^32 of 0.
+/// Returns `x + y` of two numbers within 2^32 of 0.
 pub fn sum(x: i64, y: i64) -> i64
     requires x { IsWord x }
     requires y { IsWord y }
@@ -31,7 +31,7 @@ pub fn sum(x: i64, y: i64) -> i64
     x + y
 }
 
-/// How far `target` lies above `x`, both within 2^32 of 0.
+/// Returns how far `target` lies above `x`, both within 2^32 of 0.
 pub fn gap(x: i64, target: i64) -> i64
     requires x { IsWord x }
     requires target { IsWord target }

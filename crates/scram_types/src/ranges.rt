@@ -14,14 +14,14 @@ pub struct Range {
     pub above: u32,
 }
 
-/// The range from `-below` to `above`.
+/// Returns the range from `-below` to `above`.
 pub const fn make_range(below: u32, above: u32) -> Range
     ensures { result ≡ limit below above }
 {
     Range { below, above }
 }
 
-/// `x`, but at least and at most the range's ends.
+/// Returns `x`, but at least and at most the range's ends.
 pub fn clamped_in(range: Range, x: i64) -> i64
     ensures value { result ≡ clamp_in range x }
     ensures low { minus range.below ≤ℤ result }

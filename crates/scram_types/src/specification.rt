@@ -59,15 +59,15 @@ pub struct Factor {
     pub values: List<Name>,
 }
 
-/// A wanted value of a factor, by its number among the factor's values.
+/// A required value of a factor, by its number among the factor's values.
 #[derive(Clone, Copy, Debug, PartialEq, Eq)]
 pub struct Want {
     pub factor: FactorId,
     pub value: u8,
 }
 
-/// A rule of the choice table. It fits where the source is `from` (`None` for any), each wanted factor
-/// has the wanted value, and each processor whose bit is set in `up` is up; its target is `to`.
+/// A rule of the choice table. It fits where the source is `from` (`None` for any), each required factor has the
+/// required value, and each processor whose bit is set in `up` is up; its target is `to`.
 #[derive(Drop)]
 pub struct Choice {
     pub from: Option<ConfId>,
@@ -114,9 +114,9 @@ pub enum Policy {
     Settle,
 }
 
-/// A specification. Whoever makes one proves `IsSpec` of it: names differ within their class, indexes
-/// are in range, the limits hold, a needed application has a lower rank, modes are modes of their
-/// kind, and a placed mode is one that its application lists.
+/// A specification. Its maker proves `IsSpec` of it: names differ within their class, indexes are in range, the
+/// limits hold, a needed application has a lower rank, modes are modes of their kind, and a placed mode is one that
+/// its application lists.
 ///
 /// `halts`, `changes` and `window` are the failure assumption: at most `halts` processors are down at
 /// once, and any `window` consecutive frames hold at most `changes + 1` frames in which the
@@ -182,7 +182,7 @@ impl std::marker::Model for Spec {
 impl Conf {
     ghost use Rattle.scram_types.specs.Specification.{place_in};
 
-    /// Where the configuration places an application, or `None` where it is off.
+    /// Returns where the configuration places an application, or `None` where it is off.
     pub fn place(&self, app: AppId) -> Option<Place>
         ensures { result ≡ place_in self.now app.0 }
     {
@@ -196,7 +196,7 @@ impl Conf {
 impl AppSpec {
     ghost use Rattle.scram_types.specs.Specification.{mode_in};
 
-    /// What a mode of the application costs, or `None` where it does not list the mode.
+    /// Returns what a mode of the application costs, or `None` where it does not list the mode.
     pub fn mode(&self, mode: Mode) -> Option<ModeSpec>
         ensures { result ≡ mode_in self.now.modes mode.0 }
     {
@@ -212,7 +212,7 @@ impl AppSpec {
 impl Spec {
     ghost use Rattle.scram_types.specs.Specification.{bound_in, greatest_bound_in};
 
-    /// The bound, in frames, on a reconfiguration from one configuration to another, if one is given.
+    /// Returns the bound, in frames, on a reconfiguration from one configuration to another, if one is given.
     pub fn bound(&self, from: ConfId, to: ConfId) -> Option<u32>
         ensures { result ≡ bound_in self.now.bounds from.0 to.0 }
     {
@@ -224,7 +224,7 @@ impl Spec {
         None
     }
 
-    /// The greatest bound, in frames, that is given from a configuration to any other.
+    /// Returns the greatest bound, in frames, that is given from a configuration to any other.
     pub fn greatest_bound(&self, from: ConfId) -> Option<u32>
         ensures { result ≡ greatest_bound_in self.now.bounds from.0 }
     {
@@ -237,28 +237,28 @@ impl Spec {
         greatest
     }
 
-    /// The processor of this number, if there is one.
+    /// Returns the processor of this number, if there is one.
     pub fn proc(&self, proc: ProcId) -> Option<&Proc>
         ensures { option_copied result ≡ slice_get self.now.procs proc.0 }
     {
         self.procs.items().get(usize::from(proc.0))
     }
 
-    /// The application of this number, if there is one.
+    /// Returns the application of this number, if there is one.
     pub fn app(&self, app: AppId) -> Option<&AppSpec>
         ensures { option_copied result ≡ slice_get self.now.apps app.0 }
     {
         self.apps.items().get(usize::from(app.0))
     }
 
-    /// The configuration of this number, if there is one.
+    /// Returns the configuration of this number, if there is one.
     pub fn conf(&self, conf: ConfId) -> Option<&Conf>
         ensures { option_copied result ≡ slice_get self.now.confs conf.0 }
     {
         self.confs.items().get(usize::from(conf.0))
     }
 
-    /// The factor of this number, if there is one.
+    /// Returns the factor of this number, if there is one.
     pub fn factor(&self, factor: FactorId) -> Option<&Factor>
         ensures { option_copied result ≡ slice_get self.now.factors factor.0 }
     {

@@ -11,7 +11,7 @@ use Rattle.spec_apps.specs.declared.fault.SpecError.TheVariants.{Fault, NoMemory
 use Rattle.spec_members.specs.Names.{name_of_app}
 use Rattle.spec_apps.specs.Needs.{are_ranked}
 
--- the answer is that of the reading, unless memory is wanting
+-- the answer is that of the reading, or out of memory
 abbrev pub AnswersSpec : {A : Type 0} → Result A DocFault → Result A SpecError → Type 0
 AnswersSpec reading (Ok a) = reading ≡ Ok a
 AnswersSpec reading (Err (Fault fault)) = reading ≡ Err (record { rule = fault.rule; path = fault.path })

@@ -44,8 +44,8 @@ with_ranks (app ∷ apps) [] = app ∷ apps
 with_ranks (app ∷ apps) (rank ∷ ranks) =
     record { name = app.name; kind = app.kind; needs = app.needs; modes = app.modes; rank = rank } ∷ with_ranks apps ranks
 
--- For each application, how long the longest chain of needs is that begins with it and has at most so
--- many links.
+-- For each application, how long the longest chain of needs is that begins with it and has at most this number of
+-- links.
 abbrev pub longest_chains : ℕ → List AppSpec → List ℕ
 longest_chains zero apps = map (λ (app : AppSpec). 0) apps
 longest_chains (suc links) apps = map (λ (app : AppSpec). rank_after (longest_chains links apps) app.needs) apps

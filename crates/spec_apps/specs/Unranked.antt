@@ -7,7 +7,7 @@ use Rattle.scram_types.specs.Specification.{HasLength, Each, NamesDiffer, IsMode
 use Rattle.spec_members.specs.Names.{name_of_app}
 use Rattle.spec_members.specs.Kept.{IsWritableApp}
 
--- an application whose needs are not ranked yet, among so many applications
+-- an application whose needs are not ranked yet, among this number of applications
 pub record IsUnranked (count : ℕ) (app : AppSpec) : Type 0 where
   pub kind : app.kind.0 < 5
   pub few_needs : length app.needs ≤ 8

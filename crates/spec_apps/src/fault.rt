@@ -23,7 +23,7 @@ pub enum SpecError {
     /// The document breaks a rule.
     Fault(SpecFault),
 
-    /// The allocator had no memory.
+    /// Out of memory.
     NoMemory,
 }
 

@@ -112,7 +112,7 @@ fn set_ranks(apps: &mut [AppSpec], ranks: ArrayVec<u8, 8>)
     }
 }
 
-/// The applications with their needs, not ranked yet.
+/// Returns the applications with their needs, not ranked yet.
 fn read_unranked(alloc: Global, v: &Value, at: &Path) -> Result<Numbered<AppSpec, ByName>, DocError>
     requires room { length at.now ≤ 18 }
     ensures value { Answers (read_unranked at.now (view v.now)) (λ apps. apps) result }
@@ -134,7 +134,7 @@ fn name_of(apps: &[AppSpec], app: AppId) -> Name
     apps[usize::from(app.0)].name.copy()
 }
 
-/// The names of applications, in the order in which these are listed.
+/// Returns the names of applications, in the order in which these are listed.
 fn names_of(apps: &[AppSpec], listed: &[AppId]) -> ArrayVec<Name, 8>
     requires there { Each (λ (app : AppId). app.0 < length apps.now) listed.now }
     requires few { length listed.now ≤ 8 }
@@ -147,7 +147,7 @@ fn names_of(apps: &[AppSpec], listed: &[AppId]) -> ArrayVec<Name, 8>
     names
 }
 
-/// The applications with their ranks, or the cycle that keeps them from having any.
+/// Returns the applications with their ranks, or the cycle that keeps them from having any.
 fn finish_apps(
     apps: Numbered<AppSpec, ByName>,
     ranked: Result<ArrayVec<u8, 8>, Cycle>,
@@ -181,7 +181,7 @@ fn finish_apps(
     }
 }
 
-/// The applications of a document, 1 to 8 of them, ranked by what they need.
+/// Returns the applications of a document, 1 to 8 of them, ranked by what they need.
 pub fn read_apps(
     alloc: Global,
     members: &Members<'_>,

@@ -71,7 +71,7 @@ impl NamedElements<Factor, ByName> for Factors {
     }
 }
 
-/// The environment factors of a document, 0 to 6 of them.
+/// Returns the environment factors of a document, 0 to 6 of them.
 pub fn read_factors(
     alloc: Global,
     members: &Members<'_>,

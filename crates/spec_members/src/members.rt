@@ -29,14 +29,14 @@ pub struct Members<'a> {
     pub policy: Option<&'a Value>,
 }
 
-/// The value of a member `scram` is the version 2.
+/// Returns whether the value of a member `scram` is version 2.
 fn is_second_version(scram: &Value) -> bool
     ensures { result ≡ is_two_in (Some (view scram.now)) }
 {
     scram.as_u64() == Some(2)
 }
 
-/// The policy of a document of version 2, where the document has no member beside those of its version.
+/// Returns the policy of a document of version 2, where the document has no other members than those of its version.
 fn find_policy<'a>(document: &'a Value, scram: &Value) -> Result<Option<&'a Value>, DocFault>
     requires scram { needed (codes "scram") [] (view document.now) ≡ Ok (view scram.now) }
     ensures tested { ok_map (λ _. tt) result ≡ chain (policy_tested (view document.now)) (λ _. no_more_than (length (members_of (view document.now))) [] (view document.now)) }
@@ -117,7 +117,7 @@ fn find_behind_names(document: &Value) -> Result<MembersBehindNames<'_>, DocFaul
     })
 }
 
-/// The members of an object that has those of its version and no other.
+/// Returns the members of an object that has those of its version and no other.
 pub fn find_members(document: &Value) -> Result<Members<'_>, DocFault>
     ensures tested { ok_map (λ _. tt) result ≡ members_tested (view document.now) }
     ensures document { IfOk result (λ members. members.document.now ≡ document.now) }

@@ -13,7 +13,7 @@ use scram_doc::{DocFault, Path, text};
 use scram_types::{KindId, Mode};
 use serde_json::Value;
 
-/// The mode of the kind that the value names.
+/// Returns the mode of the kind that the value names.
 pub fn read_kind_mode(kind: KindId, v: &Value, at: &Path) -> Result<Mode, DocFault>
     ensures value { ok_map (λ mode. mode.0) result ≡ read_kind_mode kind.0 at.now (view v.now) }
     ensures of_kind { IfOk result (λ mode. IsListed (number_in (mode_names kind.0)) mode.0) }

@@ -55,7 +55,7 @@ impl Naming<Name> for ByName {
     }
 }
 
-/// The name that the value is.
+/// Returns the name that the value is.
 #[tactic(auto, using(crate::proofs::Spelled::name_spelled))]
 fn read_name(v: &Value, at: &Path) -> Result<Name, DocFault>
     ensures value { result ≡ read_name at.now (view v.now) }
@@ -67,7 +67,7 @@ fn read_name(v: &Value, at: &Path) -> Result<Name, DocFault>
     }
 }
 
-/// The name that the value is, if no item has it yet.
+/// Returns the name that the value is, if no item has it yet.
 #[tactic(auto, using(crate::proofs::Found::place_found))]
 pub fn read_new_name<T, N: Naming<T>>(
     done: &Numbered<T, N>,
@@ -84,7 +84,7 @@ pub fn read_new_name<T, N: Naming<T>>(
     }
 }
 
-/// The number of the item that the value names, or else the rule is broken.
+/// Returns the number of the item that the value names, or else the rule is broken.
 #[tactic(auto, using(crate::proofs::Found::place_found))]
 pub fn read_named<T, N: Naming<T>>(
     items: &Numbered<T, N>,

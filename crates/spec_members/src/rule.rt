@@ -1,4 +1,4 @@
-//! The numbers of the rules that a specification keeps beside those of every document. A fault shows its
+//! The numbers of the rules of specification documents, which follow those of every document. A fault shows its
 //! number, so they never change.
 
 /// The version is neither 1 nor 2.

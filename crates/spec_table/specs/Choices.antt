@@ -36,11 +36,11 @@ source_named confs at text =
 abbrev pub read_source : List Conf → List ℕ → Data → Result (Option ConfId) DocFault
 read_source confs at d = chain (text_at at d) (λ (text : List ℕ). source_named confs at text)
 
--- a wanted value is one of factor f
+-- a required value is one of factor f
 abbrev pub wants_factor : List Want → ℕ → Bool
 wants_factor wants f = list_any (λ (want : Want). want.factor.0 == f) wants
 
--- a factor that is not yet among the wanted ones
+-- a factor that is not yet among the required ones
 abbrev pub read_new_factor : List Factor → List Want → List ℕ → Data → Result ℕ DocFault
 read_new_factor factors done at d =
     chain (read_named name_of_factor factors UNKNOWN_FACTOR_OR_VALUE at d) (λ (f : ℕ).
@@ -51,7 +51,7 @@ abbrev pub read_value_of : Option Factor → List ℕ → Data → Result ℕ Do
 read_value_of None at d = broken UNKNOWN_FACTOR_OR_VALUE at
 read_value_of (Some factor) at d = read_named itself factor.values UNKNOWN_FACTOR_OR_VALUE at d
 
--- a value that a rule wants, of a factor of which it wants none yet
+-- a value that a rule requires, of a factor of which it requires none yet
 abbrev pub read_want : List Factor → List ℕ → List Want → Data → Result Want DocFault
 read_want factors at done d =
     chain (object_at at d) (λ (_ : ⊤).

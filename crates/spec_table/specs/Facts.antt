@@ -47,7 +47,7 @@ pub record IsNewConf (procs : List Proc) (apps : List AppSpec) (done : List Conf
   pub width : length conf.places ≡ 8
   pub places : ArePlaces procs apps conf.places
 
--- a wanted value, the first of its factor
+-- a required value, the first of its factor
 pub record IsNewWant (factors : List Factor) (done : List Want) (want : Want) : Type 0 where
   pub new : wants_factor done want.factor.0 ≡ false
   pub is : IsWant factors want

@@ -87,7 +87,7 @@ impl Elements<Bound> for Bounds<'_> {
     }
 }
 
-/// The bounds of a document, 0 to 144 of them.
+/// Returns the bounds of a document, 0 to 144 of them.
 pub fn read_bounds(
     alloc: Global,
     vocabulary: &Vocabulary,

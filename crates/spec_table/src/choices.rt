@@ -27,7 +27,7 @@ use spec_members::names::{ByName, read_named};
 use spec_members::rule;
 use std::alloc::Global;
 
-/// The configuration that the value names.
+/// Returns the configuration that the value names.
 pub fn read_conf_id(
     confs: &Numbered<Conf, ByName>,
     v: &Value,
@@ -40,7 +40,7 @@ pub fn read_conf_id(
     Ok(ConfId(read_named(confs, rule::UNKNOWN_CONFIGURATION, v, at)?))
 }
 
-/// The configuration that the value names, or `None` where it is `*`.
+/// Returns the configuration that the value names, or `None` where it is `*`.
 pub fn read_source(
     confs: &Numbered<Conf, ByName>,
     v: &Value,
@@ -135,7 +135,7 @@ impl Elements<Want> for Wants<'_> {
     }
 }
 
-/// The set with the processor that the value names.
+/// Returns the set with the processor that the value names.
 fn read_up(procs: &Numbered<Proc, ByName>, set: u8, v: &Value, at: &Path) -> Result<u8, DocFault>
     requires few { length procs.now ≤ 8 }
     requires set { set < 2 ^ length procs.now }
@@ -150,7 +150,7 @@ fn read_up(procs: &Numbered<Proc, ByName>, set: u8, v: &Value, at: &Path) -> Res
     }
 }
 
-/// The set of the processors that the value lists, 0 to 8 of them.
+/// Returns the set of the processors that the value lists, 0 to 8 of them.
 fn read_up_list(procs: &Numbered<Proc, ByName>, v: &Value, at: &Path) -> Result<u8, DocFault>
     requires room { length at.now ≤ 40 }
     requires few { length procs.now ≤ 8 }
@@ -207,7 +207,7 @@ impl Elements<Choice> for Choices<'_> {
     }
 }
 
-/// The rules of a document's choice table, 0 to 64 of them.
+/// Returns the rules of a document's choice table, 0 to 64 of them.
 pub fn read_choices(
     alloc: Global,
     vocabulary: &Vocabulary,

@@ -66,7 +66,7 @@ fn read_listed_mode(app: Option<&AppSpec>, v: &Value, at: &Path) -> Result<Mode,
     }
 }
 
-/// The places with the one that the value adds.
+/// Returns the places with the one that the value adds.
 fn read_place(
     procs: &Numbered<Proc, ByName>,
     apps: &Numbered<AppSpec, ByName>,
@@ -154,7 +154,7 @@ impl NamedElements<Conf, ByName> for Confs<'_> {
     }
 }
 
-/// The configurations of a document, 1 to 12 of them.
+/// Returns the configurations of a document, 1 to 12 of them.
 pub fn read_confs(
     alloc: Global,
     procs: &Numbered<Proc, ByName>,

@@ -60,7 +60,7 @@ struct Ends {
     greatest: i64,
 }
 
-/// The ends of the interval of the object at this path, by its members.
+/// Returns the ends of the interval of the object at this path, by its members.
 fn read_ends(least: &Value, greatest: &Value, at: &Path) -> Result<Ends, DocFault>
     requires room { length at.now ≤ 40 }
     ensures value { result ≡ read_ends at.now (view least.now) (view greatest.now) }
@@ -84,7 +84,7 @@ struct Interval {
     ends: Ends,
 }
 
-/// The interval of the object at this path, by its members.
+/// Returns the interval of the object at this path, by its members.
 fn read_interval(
     apps: &Numbered<AppSpec, ByName>,
     app: &Value,
@@ -183,7 +183,7 @@ impl Elements<Precondition> for Intervals<'_> {
     }
 }
 
-/// The invariants of a document, 0 to 64 of them.
+/// Returns the invariants of a document, 0 to 64 of them.
 pub fn read_invariants(
     alloc: Global,
     vocabulary: &Vocabulary,
@@ -199,7 +199,7 @@ pub fn read_invariants(
     read_list(alloc, &intervals, members.invariants, 0, MAX_INTERVALS, &at)
 }
 
-/// The preconditions of a document, 0 to 64 of them.
+/// Returns the preconditions of a document, 0 to 64 of them.
 pub fn read_preconditions(
     alloc: Global,
     vocabulary: &Vocabulary,

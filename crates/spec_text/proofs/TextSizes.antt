@@ -172,7 +172,7 @@ assumption_short spec is =
     let window = count_short spec.window (omega (arith, most)) in
     omega (arith, halts, changes, window)
 
--- what the lists of a document come to
+-- how long the lists of a document are
 record HasShortLists (spec : Parts) : Type 0 where
   procs : items_weight widest (items_of (map proc_data spec.procs)) ≤ 2000
   apps : items_weight widest (items_of (map (app_data spec.apps) spec.apps)) ≤ 25000

@@ -6,7 +6,7 @@ ghost use Rattle.spec_text.specs.Texts.{name_of_app_mode, name_of_value, name_of
 use app_model::{mode_name, variable_name};
 use scram_types::{AppId, AppSpec, ConfId, Mode, Spec, Want};
 
-/// The name of a configuration, or `*` for any.
+/// Returns the name of a configuration, or `*` for any.
 pub fn source_name(spec: &Spec, from: Option<ConfId>) -> &str
     ensures { result.now ≡ source_name spec.now.confs from }
 {
@@ -16,7 +16,7 @@ pub fn source_name(spec: &Spec, from: Option<ConfId>) -> &str
     }
 }
 
-/// The name of the value that is wanted; no bytes where its factor has no such value.
+/// Returns the name of the required value; no bytes where its factor has no such value.
 pub fn name_of_value(spec: &Spec, want: Want) -> &str
     ensures { result.now ≡ name_of_value spec.now.factors want.factor.0 want.value }
 {
@@ -26,7 +26,7 @@ pub fn name_of_value(spec: &Spec, want: Want) -> &str
     }
 }
 
-/// The name of a mode of an application's kind.
+/// Returns the name of a mode of an application's kind.
 pub fn name_of_app_mode(apps: &[AppSpec], app: AppId, mode: Mode) -> &'static str
     ensures { result.now ≡ name_of_app_mode apps.now app.0 mode.0 }
 {
@@ -39,7 +39,7 @@ pub fn name_of_app_mode(apps: &[AppSpec], app: AppId, mode: Mode) -> &'static st
     }
 }
 
-/// The name of a variable of an application's kind.
+/// Returns the name of a variable of an application's kind.
 pub fn name_of_variable(apps: &[AppSpec], app: AppId, variable: u8) -> &'static str
     ensures { result.now ≡ name_of_variable apps.now app.0 variable }
 {

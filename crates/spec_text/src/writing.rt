@@ -145,7 +145,7 @@ impl Writes<Want> for Writer<'_> {
     }
 }
 
-/// The names of the processors of a set, in order.
+/// Returns the names of the processors of a set, in order.
 fn make_up(alloc: Global, procs: &[Proc], set: u8) -> Result<Vec<Value>, AllocError>
     requires { length procs.now ≤ 8 }
     ensures { IfOk result (λ vs. map view vs.items ≡ up_data set 0 procs.now) }
@@ -321,15 +321,15 @@ fn make_spec(alloc: Global, spec: &Spec) -> Result<Value, AllocError>
     Ok(Value::Object(members))
 }
 
-/// The canonical text of a specification: compact JSON, in version 1 where the policy is to retarget and else in
-/// version 2. The places of a configuration stand in the order of applications, the processors that a rule wants
-/// up in the order of processors, and every other list as it is kept.
+/// Returns the canonical text of a specification: compact JSON, in version 1 where the policy is to retarget and else
+/// in version 2. The places of a configuration stand in the order of applications, the processors that a rule
+/// requires up in the order of processors, and every other list as it is kept.
 pub fn write_text(alloc: Global, spec: &Spec) -> Result<Vec<u8>, NoMemory>
     ensures text { IfOk result (λ text. text.items ≡ spec_text spec.now) }
     ensures value { IfOk result (λ text. read text.items ≡ Some (spec_data spec.now)) }
     ensures utf8 { IfOk result (λ text. IsUtf8 text.items) }
 {
-    // Whoever uses a field of a specification knows that it keeps its invariant.
+    // Using a field of a specification shows that it keeps its invariant.
     let _ = &spec.procs;
     let Ok(value) = make_spec(alloc, spec) else {
         return Err(NoMemory);

@@ -5,7 +5,6 @@ ghost use Rattle.std.specs.Prelude.{◌≡◌, ◌<◌, ◌^◌, length, vec_len
 use app_model::racks::empty_racks;
 use app_model::{Rack, racks_fit};
 use coverage_check::Mission;
-use row_lines::mission_of_texts;
 use scram_io::{RealSink, Sink};
 use scram_types::{Flown, Spec};
 use std::alloc::AllocGlobal;
@@ -14,6 +13,7 @@ use std::io::{self, ErrorKind};
 use std::rt::HostRuntime;
 use std::sync::Wait;
 use std::thread::Threads;
+use test_kit::mission_of_texts;
 use trace_text::put_trace;
 use word_deck::WordFlight;
 
@@ -27,8 +27,8 @@ pub fn fly<R: AllocGlobal + Threads + Wait + Sync>(
     if !racks_fit(&racks) {
         return println!(rt; "refused: racks");
     }
-    let spec = fs::read_to_string(rt, "uav.json")?;
-    let script = fs::read_to_string(rt, "script.json")?;
+    let spec = fs::read_to_string(rt, "uav_high.json")?;
+    let script = fs::read_to_string(rt, "six_frames.json")?;
     let mission = mission_of_texts(rt.alloc(), spec.as_str(), script.as_str())?;
     fly_mission(rt, threads, &mission, racks)
 }

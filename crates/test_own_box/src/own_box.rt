@@ -34,7 +34,7 @@ impl App for OwnFlightControl {
     }
 }
 
-/// What a run leaves.
+/// Returns what a run leaves.
 fn run(seen: &Seen) -> Area
     ensures { result ≡ flight_control_ran seen.now }
 {
@@ -78,7 +78,7 @@ fn next_aileron(seen: &Seen) -> i64
     }
 }
 
-/// What the autopilot commands: 0 where it does not run.
+/// Returns what the autopilot commands: 0 where it does not run.
 fn commanded(seen: &Seen, variable: usize) -> i64
     requires { variable < 8 }
     ensures value { result ≡ command seen.now variable }
@@ -91,7 +91,7 @@ fn commanded(seen: &Seen, variable: usize) -> i64
     }
 }
 
-/// Where a surface comes in one frame.
+/// Returns where a surface comes in one frame.
 #[tactic(auto, unfolding(app_model::specs::FlightControl::closer, scram_types::specs::Ranges::clamp_in, scram_types::specs::Numbers::clamp))]
 fn reached(from: i64, wanted: i64, step: u32) -> i64
     requires from { IsWord from }

@@ -20,7 +20,7 @@ course_is_running plan (Moving from halting to since) frame = nat_le (plan_halti
 abbrev pub course_stable_decision : ℕ → ℕ → ℕ → CourseMode
 course_stable_decision frame c t = if nat_eq t c then Stable c else Moving c (Some c) t frame
 
--- what the policy wants of the environment
+-- what the policy chooses of the environment
 abbrev pub course_wanted : Plan → ℕ → ℕ → Env → ℕ
 course_wanted plan from to v = if (plan.settles && plan.is_runnable to v) then to else plan.choose from v
 

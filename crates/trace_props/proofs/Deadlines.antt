@@ -48,7 +48,7 @@ in_time f first since halted h q x d p i t a b c e = let m : d * q ≤ x * q = g
 pub later : (f first since halted h q d p i k : ℕ) → f ≤ since + halted + p + i → since + halted ≤ first + h + d * q → p + i + 1 + k ≤ q → suc f + k ≤ first + h + suc d * q
 later f first since halted h q d p i k a b c = omega arith
 
--- what the policy wants: the target kept, or the choice made anew
+-- what the policy chooses: the target kept, or the choice made anew
 wanted_by : (a b : Bool) (to t : ℕ) → ((a ≡ true) × (b ≡ true) × ((if (a && b) then to else t) ≡ to)) ⊎ (((a ≡ false) ⊎ (b ≡ false)) × ((if (a && b) then to else t) ≡ t))
 wanted_by true true to t = inl (refl, refl, refl)
 wanted_by true false to t = inr (inr refl, refl)
@@ -168,7 +168,7 @@ module _ (plan : Plan) (course : Course) (accepted : IsAcceptedPlan plan) (withi
     | inr e ↦ rw e.1 (accepted.choose_in from v known)
   ]
 
-  -- when the wanted configuration was chosen
+  -- when the target of the policy was chosen
   pub chosen_when : (first f from : ℕ) (halting : Option ℕ) (to since : ℕ) → Deadlines plan course first f from halting to since
       → (t : ℕ) × (first ≤ t) × (t ≤ suc f) × (plan.choose from (course.env t) ≡ course_wanted plan from to (course.env (suc f))) × (plan.settles ≡ false → t ≡ suc f)
   chosen_when first f from halting to since d = elim (wanted_cases plan from to (course.env (suc f))) [
@@ -210,7 +210,8 @@ module _ (plan : Plan) (course : Course) (accepted : IsAcceptedPlan plan) (withi
         room = d.room;
       }
 
-  -- another target is wanted: the phases that lead to it count from `start`, and their halting phase is not over
+  -- the policy chooses another target: the phases that lead to it count from `start`, and their halting phase is not
+  -- over
   turns : (first f from : ℕ) (halting new : Option ℕ) (to since start : ℕ) (inside : suc f ≤ course.frames) (d : Deadlines plan course first f from halting to since)
       → course_wanted plan from to (course.env (suc f)) ≢ to → ((h : ℕ) → new ≡ Some h → (h < plan.configurations) × ((h ≡ from) ⊎ IsPlanTarget plan from h))
       → first ≤ start → start ≤ suc f → suc f ≤ start + plan_halting plan new
@@ -242,7 +243,7 @@ module _ (plan : Plan) (course : Course) (accepted : IsAcceptedPlan plan) (withi
         room = d.room;
       }
 
-  -- who wants another target has seen a change
+  -- where the policy chooses another target, the environment has changed
   turn_changes : (first f from : ℕ) (halting : Option ℕ) (to since : ℕ) (inside : suc f ≤ course.frames) (d : Deadlines plan course first f from halting to since)
       → course_wanted plan from to (course.env (suc f)) ≢ to → suc d.more ≤ (next_count first f from halting to since inside d).next
   turn_changes first f from halting to since inside d other =

@@ -1,4 +1,4 @@
--- What is told, compared with what is read.
+-- What is reported, compared with what is read.
 use Rattle.std.proofs.Common.{◌≡◌, ℕ, zero, suc, ◌+◌, ◌-◌, ◌<◌, ◌≤◌, true, false, refl, arith, ap, sym, ◌∙◌, List, [], ◌∷◌, length, ◌⊎◌}
 use mathlib.Core.Logic.{inl, inr}
 use Rattle.std.specs.Prelude.{Option, Some, None, min, slice_get, ◌==◌, ◌&&◌}
@@ -65,7 +65,7 @@ same_list (x ∷ xs) (y ∷ ys) h =
     let tail = same_list xs ys (λ k. h (suc k)) in
     cc
 
--- told agrees with all at the first places; or where they first differ is known
+-- what is reported agrees with all at the first places; or where they first differ is known
 abbrev pub Agrees : List Report → List Report → ℕ → Agreement → Type 0
 Agrees told all place (Alike n) = (n ≡ place) × ((k : ℕ) → k < place → slice_get told k ≡ slice_get all k)
 Agrees told all place (Apart frame) = BreaksSp1 told all frame

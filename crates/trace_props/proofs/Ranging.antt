@@ -213,7 +213,7 @@ module _ (spec : Parts) (sound : IsSpec spec) (kinds : KindsLie) where
   filled_order v state commits a Off = zeros_lie
 
   module _ (script : ScriptParts) where
-    -- the area of an application after so many frames
+    -- the area of an application after this number of frames
     abbrev pub area : ℕ → ℕ → List ℤ
     area f a = area_at (state_after spec script f).areas a
 

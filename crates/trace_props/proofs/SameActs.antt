@@ -132,7 +132,7 @@ eight_at value (suc (suc (suc (suc (suc (suc zero)))))) h = refl
 eight_at value (suc (suc (suc (suc (suc (suc (suc zero))))))) h = refl
 eight_at value (suc (suc (suc (suc (suc (suc (suc (suc a)))))))) h = absurd (omega arith)
 
--- who commits, by the frame
+-- which processors commit, by the frame
 abbrev pub committed : Parts → ScriptParts → ℕ → ℕ → Bool
 committed spec script f p = commits spec script p f
 

@@ -81,7 +81,7 @@ belongs spec script f shows =
         let there = six_at spec script f x below in
         rw (some.1, there) (below_test (factor_at script x f) (length some.0.values) (shows.values x some.0 some.1))
 
--- who is down in an environment is who is not up
+-- the processors that are down in an environment are those that are not up
 bit_up : (v : Env) (p : ℕ) → bit_at v.up p ≡ 1 → is_up_in v p ≡ true
 bit_up v p h = rw h refl
 

@@ -31,8 +31,8 @@ lesser_begin (Some one) None = Some one.begin
 lesser_begin None (Some other) = Some other.begin
 lesser_begin (Some one) (Some other) = Some (min one.begin other.begin)
 
--- SP1 is broken at the first place where what is told and what is read off the rows differ, in the lesser
--- begin of the two; where one list has ended there, in the begin of the other.
+-- SP1 is broken at the first place where what is reported and what is read off the rows differ, in the lesser begin
+-- of the two; where one list has ended there, in the begin of the other.
 pub record BreaksSp1 (told read : List Report) (frame : ℕ) : Type 0 where
   pub place : ℕ
   pub alike : (k : ℕ) → k < place → slice_get told k ≡ slice_get read k

@@ -40,7 +40,7 @@ abbrev pub broken_at : Property → Option ℕ → Option Broken
 broken_at property None = None
 broken_at property (Some frame) = Some (record { property = property; frame = frame })
 
--- SP1: how far what is told agrees with what is read.
+-- SP1: how far what is reported agrees with what is read.
 abbrev pub is_same_target : Option ConfId → Option ConfId → Bool
 is_same_target None None = true
 is_same_target None (Some other) = false
@@ -51,22 +51,22 @@ is_same_target (Some one) (Some other) = one.0 == other.0
 abbrev pub is_same_report : Report → Report → Bool
 is_same_report one other = one.from.0 == other.from.0 && is_same_target one.to other.to && one.begin == other.begin && one.end == other.end
 
--- The next reconfiguration that is read, compared with what is told at its place.
+-- The next reconfiguration that is read, compared with what is reported at its place.
 abbrev pub compare_with : ℕ → Option Report → Report → Agreement
 compare_with place None read = Apart read.begin
 compare_with place (Some one) read = if is_same_report one read then Alike (place + 1) else Apart (min one.begin read.begin)
 
--- How far what is told agrees, once one more reconfiguration is read.
+-- How far what is reported agrees, once one more reconfiguration is read.
 abbrev pub compare : List Report → Agreement → Report → Agreement
 compare told (Alike place) read = compare_with place (slice_get told place) read
 compare told (Apart frame) read = Apart frame
 
--- Where a reconfiguration began that is told and not read.
+-- Where a reconfiguration began that is reported and not read.
 abbrev pub begin_told : Option Report → Option ℕ
 begin_told None = None
 begin_told (Some one) = Some one.begin
 
--- The frame in which SP1 is broken, once all is read: what is told beyond is not as it is read.
+-- The frame in which SP1 is broken, once all is read: what is reported beyond is not as it is read.
 abbrev pub difference : List Report → Agreement → Option ℕ
 difference told (Alike place) = begin_told (slice_get told place)
 difference told (Apart frame) = Some frame
@@ -175,7 +175,7 @@ is_another_env (Some env) (Some before) = not (is_same_env env before)
 abbrev pub changes_in : Parts → List Row → ℕ → Bool
 changes_in spec rows f = is_another_env (env_in rows f) (env_before spec rows f)
 
--- Targets are settled before others are wanted.
+-- Whether the policy keeps a target while it can run.
 abbrev pub settles : Policy → Bool
 settles Retarget = false
 settles Settle = true

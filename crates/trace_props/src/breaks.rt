@@ -23,7 +23,7 @@ impl Property {
     ghost use Rattle.std.specs.Prelude.{◌≡◌};
     ghost use Rattle.trace_props.specs.Breaks.{property_number};
 
-    /// The property's number, 1 to 5.
+    /// Returns the property's number, 1 to 5.
     pub fn number(self) -> u8
         ensures { result ≡ property_number self }
     {
@@ -44,7 +44,7 @@ pub struct Broken {
     pub frame: u32,
 }
 
-// A break of a property, if there is a frame in which it is broken.
+// Returns a break of a property, if there is a frame in which it is broken.
 pub(crate) fn broken_at(property: Property, frame: Option<u32>) -> Option<Broken>
     ensures { result ≡ broken_at property frame }
 {
@@ -54,7 +54,7 @@ pub(crate) fn broken_at(property: Property, frame: Option<u32>) -> Option<Broken
     }
 }
 
-// The one of two breaks that comes first.
+// Returns the one of two breaks that comes first.
 pub(crate) fn earlier(one: Option<Broken>, other: Option<Broken>) -> Option<Broken>
     ensures { result ≡ earlier one other }
 {

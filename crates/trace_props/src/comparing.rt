@@ -1,4 +1,4 @@
-//! What is told, compared with what is read off the rows.
+//! What is reported, compared with what is read off the rows.
 
 ghost use Rattle.std.specs.Prelude.{◌≡◌};
 ghost use Rattle.trace_props.specs.Judging.{compare, difference, is_same_report, is_same_target};
@@ -8,13 +8,13 @@ use scram_types::{ConfId, Report};
 /// How far two lists have been found to agree.
 #[derive(Clone, Copy, Debug, PartialEq, Eq)]
 pub(crate) enum Agreement {
-    /// So many reconfigurations are told as they are read.
+    /// This number of reconfigurations are reported as they are read.
     Alike(usize),
     /// The next one is not: the frame in which it began.
     Apart(u32),
 }
 
-// Compares the next reconfiguration that is read with what is told of it.
+// Compares the next reconfiguration that is read with the report of it.
 pub(crate) fn compare(told: &[Report], so_far: Agreement, read: Report) -> Agreement
     ensures { result ≡ compare told.now so_far read }
 {
@@ -33,7 +33,7 @@ pub(crate) fn compare(told: &[Report], so_far: Agreement, read: Report) -> Agree
     }
 }
 
-// Where the lists differ once all is read: what is told beyond is not as it is read either.
+// Returns where the lists differ once all is read: what is reported beyond is not as it is read either.
 pub(crate) fn difference(told: &[Report], so_far: Agreement) -> Option<u32>
     ensures { result ≡ difference told.now so_far }
 {

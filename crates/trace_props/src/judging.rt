@@ -13,8 +13,8 @@ use crate::targets::{late_at, unchosen_at};
 use frame_model::{Reading, close, read_row};
 use scram_types::{Report, Row, Spec};
 
-/// Judges rows, the first of which is that of frame 0, and what is reported of them, by SP1 to SP5. It
-/// judges by any specification, also by one that is not accepted, and takes no memory.
+/// Judges rows, the first of which is that of frame 0, and what is reported of them, by SP1 to SP5. It judges by any
+/// specification, also by one that is not accepted.
 ///
 /// # Errors
 ///
@@ -41,7 +41,7 @@ pub fn holds_where_unbroken()
 /// What has been judged so far.
 #[derive(Clone, Copy, Debug, PartialEq, Eq)]
 pub(crate) struct Judgement {
-    /// How far what is told agrees with what is read.
+    /// How far what is reported agrees with what is read.
     pub agreement: Agreement,
     /// The first break of SP2 to SP5.
     pub broken: Option<Broken>,
@@ -92,7 +92,7 @@ fn judge(
     }
 }
 
-// The first break of SP2 to SP5 by a reconfiguration, where `before` was read just before it.
+// Returns the first break of SP2 to SP5 by a reconfiguration, where `before` was read just before it.
 fn broken_in(spec: &Spec, rows: &[Row], before: Option<Report>, read: Report) -> Option<Broken>
     ensures { result ≡ broken_in spec.now rows.now before read }
 {

@@ -24,8 +24,8 @@ pub fn targets_are_chosen()
     know();
 }
 
-/// The halting phase ends at most so many frames after the first moving one: as long as the source takes
-/// to halt, and for each further change of the environment as long as the slowest turn.
+/// The halting phase ends no later after the first moving frame than this number of frames: as long as the source
+/// takes to halt, and for each further change of the environment as long as the slowest turn.
 pub fn halting_ends_in_time()
     ensures { HaltingEndsInTime }
 {

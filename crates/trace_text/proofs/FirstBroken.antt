@@ -5,7 +5,7 @@ use Rattle.std.proofs.lemmas.Bool.{eq-eqb, ne_eqb}
 use Rattle.scram_types.proofs.Options.{some_none}
 use Rattle.trace_text.specs.LineRules.{TellsLeast}
 
--- the rule that a reading tells
+-- the rule that a reading reports
 abbrev pub told_by : {A : Type 0} → Result A ℕ → Option ℕ
 told_by (Ok a) = None
 told_by (Err rule) = Some rule
@@ -55,7 +55,7 @@ least_broken first [] least h = absurd (let e = h in cc)
 least_broken first (true ∷ ks) least h = later first ks least (least_broken (suc first) ks least h)
 least_broken first (false ∷ ks) least h = let e : first ≡ least = cc in rw (← e) (here first ks)
 
--- a reading that tells the first rule that is not kept tells the least
+-- a reading that reports the first rule that is not kept reports the least
 pub tells_least : {A : Type 0} (first : ℕ) (kept : List Bool) (read : Result A ℕ) → told_by read ≡ least_from first kept → TellsLeast (breaks_from first kept) read
 tells_least first kept (Ok a) h = λ rule. none_broken first kept rule (let e : None ≡ least_from first kept = h in cc)
 tells_least first kept (Err least) h = let p = least_broken first kept least (let e : Some least ≡ least_from first kept = h in cc) in (p.broken, p.others)

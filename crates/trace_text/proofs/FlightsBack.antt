@@ -28,7 +28,7 @@ use Rattle.trace_text.proofs.Splitting.{some_piece}
 use Rattle.trace_text.proofs.Walk.{line_then, of_length}
 use Rattle.trace_text.proofs.WordBytes.{line_split}
 
--- from what was read so far on, a text is read as a flight, and it has at most so many bytes
+-- from what was read so far on, a text is read as a flight, and it has at most this number of bytes
 record Reads (spec : Parts) (s : SoFar) (text : List ℕ) (flown : Flown) (most : ℕ) : Type 0 where
   read : (k : ℕ) → trace_from spec k s (pieces_of 10 text) ≡ Ok flown
   short : length text ≤ most

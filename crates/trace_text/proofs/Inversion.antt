@@ -1,4 +1,4 @@
--- What an answer Ok tells of the tests before it.
+-- What an answer Ok says about the tests before it.
 use Rattle.std.proofs.Common.{ℕ, suc, zero, ◌≡◌, ◌+◌, ◌∙◌, Bool, true, false, cond, List, [], ◌∷◌, Option, Some, None, Result, Ok, Err, drop, length, arith, refl, sym, ap}
 use Rattle.std.specs.Prelude.{◌==◌, ◌&&◌, nat_le, option_map, option_and_then}
 use Rattle.std.specs.List.{join_with_byte, list_all}
@@ -41,7 +41,7 @@ then_some f (Some a) b h = (a, refl, h)
 pub is_text : (ws : List (List ℕ)) (k : ℕ) (text : List ℕ) → is_word ws k text ≡ true → word_at ws k ≡ text
 is_text ws k text h = same_text (word_at ws k) text h
 
--- so many words from word k on
+-- this number of words from word k on
 abbrev pub tab : ℕ → ℕ → List (List ℕ) → List (List ℕ)
 tab zero k ws = []
 tab (suc n) k ws = word_at ws k ∷ tab n (k + 1) ws

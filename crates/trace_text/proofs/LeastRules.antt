@@ -1,4 +1,4 @@
--- What is told of a line, form by form, is the first rule that it does not keep.
+-- The finding on a line, form by form, is the first rule that it does not keep.
 use Rattle.std.proofs.Common.{ℕ, ℤ, ◌≡◌, ◌+◌, ◌-◌, ◌^◌, ◌∙◌, Bool, true, false, cond, List, [], ◌∷◌, Option, Some, None, Result, Ok, Err, length, refl, sym, ap}
 use Rattle.std.specs.Prelude.{◌==◌, ◌&&◌, ◌||◌, ⊤, bytes_eq, codes, is_some, nat_le, nat_lt, option_and_then}
 use Rattle.scram_types.specs.declared.limits.TheConstants.{MAX_FRAMES, MAX_PHASE}
@@ -79,7 +79,7 @@ phase_case (Some a) (Some p) (Some i) None v n phase = refl
 phase_case (Some a) (Some p) (Some i) (Some j) None n phase = refl
 phase_case (Some a) (Some p) (Some i) (Some j) (Some v) n phase = phase_last (a == n) (nat_lt i j && nat_le j MAX_PHASE) (done (phase_act phase i j p) v)
 
--- rules 3 to 9 where the form is told
+-- rules 3 to 9 where the form is known
 abbrev least_of : Parts → SoFar → Words → Option Form → Option ℕ
 least_of spec s words form =
     least_from 3 (is_some form ∷ keeps form (knows_names spec words) ∷ keeps form (spells_numbers words) ∷ keeps form (is_due spec s words)
@@ -310,7 +310,7 @@ end_formed spec line words first =
     let c : begins line (codes "reconfiguration") ≡ false = other_word (word_at (words_of line) 0) (codes "end") (codes "reconfiguration") first refl in
     rw (a, b, c) refl
 
--- what is read into the trace tells the rule of the line
+-- what is read into the trace gives the rule of the line
 
 row_told : (s : SoFar) (read : Result Row ℕ) → told_by (with_row s read) ≡ told_by read
 row_told s (Ok row) = refl

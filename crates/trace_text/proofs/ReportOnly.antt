@@ -36,7 +36,7 @@ bounds_same None (Some b) h = absurd (let e = h in cc)
 bounds_same (Some a) None h = absurd (let e = h in cc)
 bounds_same (Some a) (Some b) h = ap Some (eqb-true a b h)
 
--- what the end of a report's reading tells
+-- what the end of a report's reading says
 record ReportEnd (ws : List (List ℕ)) (from : ConfId) (to : Option ConfId) (end : ℕ) (given : Option ℕ) (report : Report) : Type 0 where
   begin : ℕ
   begun : word_at ws 5 ≡ decimal begin

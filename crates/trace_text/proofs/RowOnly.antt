@@ -159,7 +159,7 @@ world_words ws at world h =
       bank = signed_spelled d.0 _ d.1 ∙ ap (λ (w : World). signed_decimal w.bank) e;
     }
 
--- what the end of a row's reading tells
+-- what the end of a row's reading says
 record RowEnd (spec : Parts) (next : ℕ) (ws : List (List ℕ)) (at : ℕ) (mode : KMode) (values : List ℕ) (row : Row) : Type 0 where
   frame : ℕ
   world : World
@@ -188,7 +188,7 @@ row_ended spec next ws at mode values row h =
       row_is = let e : row_begun f.0 mode (env_read u.0 values) w.0 ≡ row = cc in e;
     }
 
--- what is told of a line that is read as a row's: it is the row's text, and the row is still empty of acts
+-- what is found of a line that is read as a row's: it is the row's text, and the row is still empty of acts
 pub record RowRead (spec : Parts) (next : ℕ) (line : List ℕ) (row : Row) : Type 0 where
   pub text : row_line spec row ≡ line ++ codes "\n"
   pub frame : row.frame ≡ next

@@ -26,7 +26,7 @@ spelled_here : (limit n : ℕ) (text : List ℕ) → n < limit → text ≡ deci
 spelled_here limit n text small e =
     some_where (nat_lt n limit && bytes_eq (decimal n) text) n (and_from _ _ (lt-ltb n limit small) ((bytes_eq-Decides (decimal n) text).1 (sym e)))
 
--- a text spells a number just where it is what is printed of the number
+-- a text spells a number exactly where it is what is printed of the number
 pub number_some : (limit n : ℕ) (text : List ℕ) → n < limit → n < 2 ^ 64 → text ≡ decimal n → spelled_number limit text ≡ Some n
 unfolding spelled_number
 number_some limit n text small fits e =

@@ -93,7 +93,7 @@ below_length A [] a x h = absurd (let e = h in cc)
 below_length A (y ∷ xs) zero x h = omega arith
 below_length A (y ∷ xs) (suc a) x h = let n : a < length xs = below_length A xs a x h in omega (arith, n)
 
--- the lines up to that of application a, when it is told
+-- the lines up to that of application a, once its act and area are set
 lines_told : (spec : Parts) (row : Row) (a : ℕ) (app : AppSpec) (act : Act) (area : List ℤ) → slice_get spec.apps a ≡ Some app → length spec.apps ≤ 8 →
     length row.acts ≡ 8 → length row.areas ≡ 8 →
     app_lines spec (with_app row a act area) (take (a + 1) spec.apps) 0 ≡ app_lines spec row (take a spec.apps) 0 ++ app_line spec app act area

@@ -18,7 +18,7 @@ use Rattle.scram_types.specs.declared.limits.TheConstants.{MAX_LINE_BYTES}
 use Rattle.trace_text.specs.Pieces.{is_filled, pieces_of, words_in, words_of}
 use Rattle.trace_text.specs.TraceReading.{is_plain, is_printable}
 
--- a printable byte that is at least so great
+-- a printable byte that is at least this number
 abbrev pub over : ℕ → ℕ → Bool
 over least b = nat_le least b && nat_le b 126
 

@@ -28,7 +28,7 @@ is_placed_form words = (length words == 14) && is_word words 5 (codes ":")
 abbrev pub is_bare_form : List (List ℕ) → Bool
 is_bare_form words = (length words == 12) && is_word words 3 (codes ":")
 
--- the phase that a word tells
+-- the phase that a word names
 abbrev pub phase_named : List ℕ → Option Phase
 phase_named tag =
     if bytes_eq tag (codes "halting") then Some Halting
@@ -57,7 +57,7 @@ ran_line spec next words =
     unless WRONG_NUMBER (signed_from 8 6 words) (λ (area : List ℤ).
     if app == next then Ok (done (act.Ran mode proc) area) else Err NOT_NEXT))))
 
--- what the line of an application in a phase says, whose frames are told by the two sides of a slash
+-- what the line of an application in a phase says, whose frames are the two sides of a slash
 abbrev pub phase_line : Parts → ℕ → List (List ℕ) → Phase → List ℕ × List ℕ → Result Done ℕ
 phase_line spec next words phase fraction =
     unless UNKNOWN_NAME (app_number spec (word_at words 1)) (λ (app : ℕ).

@@ -1,4 +1,4 @@
--- What is so of the rows and reconfigurations of every flight, by the ranges of its specification.
+-- What holds of the rows and reconfigurations of every flight, by the ranges of its specification.
 use Rattle.std.specs.Prelude.{◌≡◌, ◌<◌, ◌≤◌, ◌^◌, ⊤, ℕ, ℤ, pos, List, [], length, replicate, slice_get, slice_index, slice_index_or, Option, Some, None, IsSome, Ok}
 use lib.Signed.{mag}
 use Rattle.scram_types.specs.declared.flights.Env.{Env}
@@ -93,7 +93,7 @@ abbrev pub IsEndShown : ℕ → Option ConfId → ℕ → Type 0
 IsEndShown frames None end = end ≡ frames
 IsEndShown frames (Some to) end = end < MAX_FRAMES
 
--- A reconfiguration of a flight of so many frames.
+-- A reconfiguration of a flight with this number of frames.
 pub record IsReportShown (spec : Parts) (frames : ℕ) (report : Report) : Type 0 where
   pub source : IsIn spec.confs report.from
   pub target : IsInIfNamed spec.confs report.to

@@ -31,7 +31,7 @@ pub data Form : Type 0 where
 abbrev pub Words : Type 0
 Words = List (List ℕ)
 
--- whether a value is told, and is as it has to be
+-- whether a value is given, and is as it has to be
 abbrev pub is_told : {A : Type 0} → Option A → (A → Bool) → Bool
 is_told None ask = false
 is_told (Some a) ask = ask a
@@ -165,7 +165,7 @@ is_in_order spec words Finished = true
 is_in_order spec words Unfinished = true
 is_in_order spec words Ending = true
 
--- whether a reconfiguration begins by its end, tells how long it took, and shows the bound that is given
+-- whether a reconfiguration begins by its end, says how long it took, and shows the bound that is given
 abbrev pub is_measured : Words → ℕ → Option ℕ → Bool
 is_measured words end given =
     is_told (spelled_number MAX_FRAMES (word_at words 5)) (λ (begin : ℕ).
@@ -222,11 +222,11 @@ breaks_rule spec s line rule =
     else (if rule == WRONG_COUNT then not (keeps (asked_form spec s.standing line) (counts_rightly spec s (words_of line)))
     else (if rule == WRONG_END then not (is_open s.standing) else false))))))))
 
--- A reading answers where no rule is broken, and else tells the least rule that is.
+-- A reading answers where no rule is broken, and else reports the least rule that is.
 abbrev pub TellsLeast : {A : Type 0} → (ℕ → Bool) → Result A ℕ → Type 0
 TellsLeast breaks (Ok a) = (rule : ℕ) → breaks rule ≡ false
 TellsLeast breaks (Err least) = (breaks least ≡ true) × ((rule : ℕ) → rule < least → breaks rule ≡ false)
 
--- A line that breaks no rule is read, and of any other the least rule is told that it breaks.
+-- A line that breaks no rule is read, and of any other the least rule that it breaks is reported.
 abbrev pub LeastRuleIsTold : Type 0
 LeastRuleIsTold = (spec : Parts) (s : SoFar) (line : List ℕ) → TellsLeast (breaks_rule spec s line) (after_line spec s line)

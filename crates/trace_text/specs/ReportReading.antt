@@ -60,7 +60,7 @@ report_in spec frames words =
     else (if is_word words 7 (codes "-") then Err NO_FORM else finished_report spec words))
     else Err NO_FORM
 
--- the reconfiguration that a line tells of a flight of so many frames
+-- the reconfiguration that a line gives for a flight with this number of frames
 abbrev pub report_read : Parts → ℕ → List ℕ → Result Report ℕ
 report_read spec frames line = unless NO_FORM (words_in line) (report_in spec frames)
 
@@ -77,6 +77,6 @@ end_in frames reports words =
     if (f == frames) && (r == reports) then Ok tt else Err WRONG_COUNT))
     else Err NO_FORM
 
--- whether a line ends a trace of so many rows and reports
+-- whether a line ends a trace with these numbers of rows and reports
 abbrev pub end_read : ℕ → ℕ → List ℕ → Result ⊤ ℕ
 end_read frames reports line = unless NO_FORM (words_in line) (end_in frames reports)

@@ -85,7 +85,7 @@ up_from (proc ∷ procs) names bit up =
 abbrev pub up_in : List Proc → List ℕ → Option ℕ
 up_in procs list = up_from procs (items_of list) 1 0
 
--- the world that four words from a place on tell
+-- the world that four words from a place on give
 abbrev pub world_at : List (List ℕ) → ℕ → Option World
 world_at words at =
     option_and_then (λ (alt : ℤ). option_and_then (λ (climb : ℤ). option_and_then (λ (heading : ℤ). option_map (λ (bank : ℤ).

@@ -1,4 +1,4 @@
--- What a line says, or the number of the least rule that it breaks. The rules of a line are told in their order, so
+-- What a line says, or the number of the least rule that it breaks. The rules of a line are tested in their order, so
 -- the first that it breaks is the least.
 use Rattle.std.specs.Prelude.{ℕ, Option, Some, None, Result, Err}
 

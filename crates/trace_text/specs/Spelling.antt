@@ -1,5 +1,5 @@
--- How a number is spelled: the bytes are just what is printed of the number that they stand for. So there are no zeros
--- in front, no `-0` and no `+`.
+-- How a number is spelled: the bytes are exactly what is printed of the number that they stand for. So there are no
+-- zeros in front, no `-0` and no `+`.
 use Rattle.std.specs.Prelude.{ℕ, ℤ, suc, zero, ◌+◌, ◌^◌, ◌&&◌, List, [], ◌∷◌, Option, Some, None, decimal, nat_lt, option_map, option_and_then, bytes_eq, if◌then◌else◌}
 use Rattle.std.specs.Fmt.{signed_decimal}
 use Rattle.std.specs.Str.Parse.{digits_value, signed_digits_value}
@@ -22,7 +22,7 @@ spelled_signed z text = if nat_lt (mag z) (2 ^ 63) && bytes_eq (signed_decimal z
 unfoldable pub signed_of : List ℕ → Option ℤ
 signed_of text = spelled_signed (signed_digits_value 10 text) text
 
--- so many signed numbers from word k on
+-- this number of signed numbers from word k on
 abbrev pub signed_from : ℕ → ℕ → List (List ℕ) → Option (List ℤ)
 signed_from zero k words = Some []
 signed_from (suc n) k words =

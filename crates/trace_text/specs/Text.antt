@@ -114,11 +114,11 @@ abbrev pub reports_text : Parts → List Report → List ℕ
 reports_text spec [] = []
 reports_text spec (report ∷ reports) = report_line spec report ++ reports_text spec reports
 
--- the line that ends a trace of so many rows and reconfigurations
+-- the line that ends a trace with these numbers of rows and reconfigurations
 abbrev pub end_line : ℕ → ℕ → List ℕ
 end_line frames reports = codes "end frames " ++ decimal frames ++ codes " reconfigurations " ++ decimal reports ++ codes "\n"
 
--- what follows the lines of so many rows
+-- what follows the lines of this number of rows
 abbrev pub ending_text : Parts → ℕ → List Report → List ℕ
 ending_text spec frames reports = reports_text spec reports ++ end_line frames (length reports)
 

@@ -27,7 +27,7 @@ pub record SoFar : Type 0 where
   pub reports : List Report
   pub standing : Standing
 
--- so many rows at most have been read, frames being below 20,000
+-- at most this number of rows have been read, frames being below 20,000
 abbrev pub rows_before : Standing → ℕ
 rows_before Rows = MAX_FRAMES
 rows_before (Apps a row) = MAX_FRAMES - 1
@@ -137,7 +137,7 @@ abbrev pub stopped : ℕ → Stop → TraceError
 stopped line (stop.Rule rule) = Fault (fault_at line rule)
 stopped line stop.NoMemory = NoMemory
 
--- An answer of the reader: it is the reading's, or memory was wanting.
+-- An answer of the reader: it is the reading's, or out of memory.
 abbrev pub AnswersLine : Result SoFar ℕ → Result SoFar Stop → Type 0
 AnswersLine reading (Ok s) = reading ≡ Ok s
 AnswersLine reading (Err (stop.Rule rule)) = reading ≡ Err rule

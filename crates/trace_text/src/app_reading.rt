@@ -30,7 +30,7 @@ pub enum Phase {
 // The numbers of a phase's frames lie below this.
 const PHASE_LIMIT: u64 = 256;
 
-/// What a line says, which is to be that of application `next`.
+/// Returns what a line says, which is to be that of application `next`.
 pub fn read_app(spec: &Spec, next: u8, line: &[u8]) -> Result<Done, u8>
     ensures done { result ≡ app_read spec.now next line.now }
     ensures below { IfOk result (λ done. next < length spec.now.apps) }
@@ -69,7 +69,7 @@ fn is_bare(words: &Words<'_>) -> bool
     words.len() == 12 && words.is(3, b":")
 }
 
-// The act that a word tells without a processor.
+// Returns the act without a processor that a word names.
 fn find_bare(tag: &[u8]) -> Option<Act>
     ensures { result ≡ bare_act tag.now }
 {
@@ -108,7 +108,7 @@ fn act_of(phase: Phase, k: u8, n: u8, proc: ProcId) -> Act
     }
 }
 
-// A line of an act on a processor.
+// Reads the line of an act on a processor.
 fn read_placed(spec: &Spec, next: u8, words: &Words<'_>) -> Result<Done, u8>
     ensures done { result ≡ placed_line spec.now next words.now }
     ensures below { IfOk result (λ done. next < length spec.now.apps) }
@@ -188,7 +188,7 @@ fn read_phase(
     })
 }
 
-// A line of an act without a processor.
+// Reads the line of an act without a processor.
 fn read_bare(spec: &Spec, next: u8, words: &Words<'_>, act: Act) -> Result<Done, u8>
     ensures done { result ≡ bare_line spec.now next words.now act }
     ensures below { IfOk result (λ done. next < length spec.now.apps) }

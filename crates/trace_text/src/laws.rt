@@ -3,8 +3,8 @@
 ghost use Rattle.trace_text.specs.Flights.{PrintedIsRead};
 ghost use Rattle.trace_text.specs.LineRules.{LeastRuleIsTold};
 
-/// A line that breaks no rule is read, and of any other line the least rule is told that it breaks. What
-/// each rule asks is said for each form of a line on its own, by no order of tests.
+/// A line that breaks no rule is read, and of any other line the least rule that it breaks is reported. What each
+/// rule asks is said for each form of a line on its own, by no order of tests.
 pub fn least_rule_is_told()
     ensures { LeastRuleIsTold }
 {}

@@ -23,7 +23,7 @@ impl std::marker::Model for Line {
 }
 
 impl Line {
-    /// The empty line.
+    /// Returns the empty line.
     pub fn new() -> Line
         ensures { result ≡ [] }
     {
@@ -32,7 +32,7 @@ impl Line {
         }
     }
 
-    /// The bytes so far.
+    /// Returns the bytes so far.
     pub fn as_bytes(&self) -> &[u8]
         ensures { result.now ≡ self.now }
     {

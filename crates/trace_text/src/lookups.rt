@@ -7,7 +7,7 @@ use crate::pieces::is_dash;
 use crate::row_lines::name_of_mode;
 use scram_types::{ConfId, KindId, Mode, ModeSpec, Spec};
 
-/// The configuration of this name, or none for `-`.
+/// Returns the configuration of this name, or none for `-`.
 pub fn find_conf_or_none(spec: &Spec, text: &[u8]) -> Option<Option<ConfId>>
     ensures { result ≡ conf_or_none spec.now text.now }
 {
@@ -20,7 +20,7 @@ pub fn find_conf_or_none(spec: &Spec, text: &[u8]) -> Option<Option<ConfId>>
     }
 }
 
-/// The number of the application of this name.
+/// Returns the number of the application of this name.
 pub fn find_app(spec: &Spec, text: &[u8]) -> Option<usize>
     ensures app { result ≡ app_number spec.now text.now }
     ensures below { IfSome result (λ a. a < length spec.now.apps) }
@@ -31,7 +31,7 @@ pub fn find_app(spec: &Spec, text: &[u8]) -> Option<usize>
     }
 }
 
-/// The mode of this name that an application lists.
+/// Returns the mode of this name that an application lists.
 pub fn find_mode(spec: &Spec, app: usize, text: &[u8]) -> Option<Mode>
     ensures { result ≡ listed_mode spec.now app text.now }
 {

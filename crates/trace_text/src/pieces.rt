@@ -4,7 +4,7 @@ ghost use Rattle.std.specs.Prelude.{◌≡◌, ◌<◌, ◌+◌, ◌==◌, ◌�
 ghost use Rattle.std.specs.List.{position};
 ghost use Rattle.trace_text.specs.Pieces.{pieces_of, pieces_behind, sides_of};
 
-// Where the first separator stands.
+// Returns where the first separator stands.
 fn separator_place(bytes: &[u8], separator: u8) -> Option<usize>
     ensures { result ≡ position (λ b. b == separator) bytes.now }
 {
@@ -26,7 +26,7 @@ fn behind(bytes: &[u8], at: usize) -> &[u8]
     &bytes[at + 1..]
 }
 
-/// The bytes before the first separator and those behind it, or `None` where there is no separator.
+/// Returns the bytes before the first separator and those behind it, or `None` where there is no separator.
 #[tactic(auto, using(crate::proofs::Splitting::no_separator, crate::proofs::Splitting::first_piece, crate::proofs::Splitting::place_below))]
 pub fn split_once(bytes: &[u8], separator: u8) -> Option<(&[u8], &[u8])>
     ensures pieces { MatchOption result (pieces_of separator bytes.now ≡ bytes.now ∷ [])
@@ -39,7 +39,7 @@ pub fn split_once(bytes: &[u8], separator: u8) -> Option<(&[u8], &[u8])>
     }
 }
 
-/// The first piece, and the bytes behind its separator where there is one.
+/// Returns the first piece, and the bytes behind its separator where there is one.
 pub fn first_piece(bytes: &[u8], separator: u8) -> (&[u8], Option<&[u8]>)
     ensures pieces { pieces_of separator bytes.now ≡ result.0.now ∷ pieces_behind separator (option_map (λ b. b.now) result.1) }
     ensures shorter { IfSome result.1 (λ behind. length behind.now < length bytes.now) }
@@ -50,14 +50,14 @@ pub fn first_piece(bytes: &[u8], separator: u8) -> (&[u8], Option<&[u8]>)
     }
 }
 
-/// Whether a word is the dash, which stands for none.
+/// Returns whether a word is the dash, which stands for none.
 pub fn is_dash(word: &[u8]) -> bool
     ensures { result ≡ bytes_eq word.now (codes "-") }
 {
     word == b"-".as_slice()
 }
 
-/// The two sides of the one slash of a word, or `None` where it has none or several.
+/// Returns the two sides of the one slash of a word, or `None` where it has none or several.
 pub fn slash_sides(word: &[u8]) -> Option<(&[u8], &[u8])>
     ensures { option_map (λ halves. (halves.0.now, halves.1.now)) result ≡ sides_of word.now }
 {

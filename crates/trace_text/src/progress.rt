@@ -34,7 +34,7 @@ pub enum Standing {
 pub enum Stop {
     /// The least rule that it breaks.
     Rule(u8),
-    /// No memory was to be had for a row or a report.
+    /// Out of memory for a row or a report.
     NoMemory,
 }
 
@@ -58,7 +58,7 @@ impl std::marker::Model for Progress {
 }
 
 impl Progress {
-    /// Before the first line.
+    /// Creates the state before the first line.
     pub fn new(alloc: Global) -> Progress
         ensures { result ≡ before_first }
     {
@@ -69,7 +69,7 @@ impl Progress {
         }
     }
 
-    /// What is read after one more line, which stands here without its line feed.
+    /// Reads one more line, which stands here without its line feed.
     pub fn read_line(self, spec: &Spec, line: &[u8]) -> Result<Progress, Stop>
         ensures { AnswersLine (after_line spec.now self line.now) result }
     {
@@ -84,7 +84,7 @@ impl Progress {
         }
     }
 
-    // A line where a row may begin.
+    // Reads a line where a row may begin.
     fn read_open(self, spec: &Spec, line: &[u8]) -> Result<Progress, Stop>
         requires { self.standing ≡ Rows }
         ensures { AnswersLine (standing_line spec.now self Rows line.now) result }
@@ -102,7 +102,7 @@ impl Progress {
         }
     }
 
-    // A line where that of application `a` is to stand.
+    // Reads a line where that of application `a` is to stand.
     fn read_app_line(self, spec: &Spec, a: u8, row: Row, line: &[u8]) -> Result<Progress, Stop>
         requires { length self.rows < MAX_FRAMES }
         ensures { AnswersLine (standing_line spec.now self (Apps a row) line.now) result }
@@ -136,7 +136,7 @@ impl Progress {
         Ok(self)
     }
 
-    // A line where a report or the end line may stand.
+    // Reads a line where a report or the end line may stand.
     fn read_closing(self, spec: &Spec, line: &[u8]) -> Result<Progress, Stop>
         requires { length self.rows ≤ MAX_FRAMES }
         ensures { AnswersLine (closing spec.now self line.now) result }
@@ -173,7 +173,7 @@ impl Progress {
     }
 }
 
-// The row with what application `a` did.
+// Returns the row with what application `a` did.
 fn row_with(row: Row, a: u8, done: &Done) -> Row
     requires { a < 8 }
     ensures { result ≡ with_app row a done.now.act done.now.area }
@@ -196,7 +196,7 @@ fn is_printable_line(line: &[u8]) -> bool
     line.len() <= MAX_LINE_BYTES && is_printable_text(line)
 }
 
-/// Whether each byte of a text is printable.
+/// Returns whether each byte of a text is printable.
 pub fn is_printable_text(text: &[u8]) -> bool
     ensures { result ≡ list_all is_printable text.now }
 {

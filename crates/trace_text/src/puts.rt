@@ -10,7 +10,7 @@ use crate::row_lines::{make_app_line, make_row_line};
 use scram_io::{Sink, SinkFault};
 use scram_types::{AppSpec, Report, Row, Spec};
 
-/// Puts the lines of a row, a line each: its own, and one for each application. It takes no memory.
+/// Puts the lines of a row, a line each: its own, and one for each application.
 pub fn put_row<K: Sink>(out: &mut K, spec: &Spec, row: &Row) -> Result<(), SinkFault>
     ensures { Prints result (K.state out.old) (K.state out.new) (row_text spec.now row.now) }
 {
@@ -20,21 +20,21 @@ pub fn put_row<K: Sink>(out: &mut K, spec: &Spec, row: &Row) -> Result<(), SinkF
     }
 }
 
-/// Puts the line of a reconfiguration. It takes no memory.
+/// Puts the line of a reconfiguration.
 pub fn put_report<K: Sink>(out: &mut K, spec: &Spec, report: &Report) -> Result<(), SinkFault>
     ensures { Prints result (K.state out.old) (K.state out.new) (report_line spec.now report.now) }
 {
     put_line(out, &make_report_line(spec, report))
 }
 
-/// Puts the line that ends a trace of so many rows and reports. It takes no memory.
+/// Puts the line that ends a trace with these numbers of rows and reports.
 pub fn put_end<K: Sink>(out: &mut K, frames: u32, reports: u32) -> Result<(), SinkFault>
     ensures { Prints result (K.state out.old) (K.state out.new) (end_line frames reports) }
 {
     put_line(out, &make_end_line(frames, reports))
 }
 
-/// Puts a whole trace: its rows, its reports, and the line that ends it. It takes no memory.
+/// Puts a whole trace: its rows, its reports, and the line that ends it.
 pub fn put_trace<K: Sink>(
     out: &mut K,
     spec: &Spec,

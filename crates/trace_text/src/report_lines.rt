@@ -7,7 +7,7 @@ ghost use Rattle.scram_types.specs.declared.limits.TheConstants.{MAX_LINE_BYTES}
 use crate::lines::Line;
 use scram_types::{ConfId, Report, Spec};
 
-/// The line of a reconfiguration: where it led, how long it took, and the bound on it.
+/// Returns the line of a reconfiguration: where it led, how long it took, and the bound on it.
 pub fn make_report_line(spec: &Spec, report: &Report) -> Line
     ensures { result ≡ report_line spec.now report.now }
 {
@@ -22,7 +22,7 @@ pub fn make_report_line(spec: &Spec, report: &Report) -> Line
     line
 }
 
-/// The line that ends a trace, with the numbers of its rows and of its reports.
+/// Returns the line that ends a trace, with the numbers of its rows and of its reports.
 pub fn make_end_line(frames: u32, reports: u32) -> Line
     ensures { result ≡ end_line frames reports }
 {

@@ -13,7 +13,7 @@ use scram_types::{ConfId, Report, Spec};
 // Numbers of 32 bits lie below this.
 const COUNT_LIMIT: u64 = 4_294_967_296;
 
-/// The reconfiguration that a line tells of a flight of so many frames.
+/// Returns the reconfiguration that a line gives for a flight with this number of frames.
 pub fn read_report(spec: &Spec, frames: u32, line: &[u8]) -> Result<Report, u8>
     ensures { result ≡ report_read spec.now frames line.now }
 {
@@ -103,7 +103,7 @@ fn read_report_end(
     }
 }
 
-// The number of frames that a bound is spelled as, or none for `-`.
+// Returns the number of frames that a bound is spelled as, or none for `-`.
 fn read_bound(text: &[u8]) -> Option<Option<u32>>
     ensures { result ≡ bound_or_none text.now }
 {
@@ -127,7 +127,7 @@ fn is_same_bound(one: Option<u32>, other: Option<u32>) -> bool
     }
 }
 
-/// Whether a line ends a trace of so many rows and reports.
+/// Returns whether a line ends a trace with these numbers of rows and reports.
 pub fn read_end(frames: usize, reports: usize, line: &[u8]) -> Result<(), u8>
     ensures { result ≡ end_read frames reports line.now }
 {

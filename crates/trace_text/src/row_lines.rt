@@ -12,7 +12,7 @@ use scram_types::{
     Act, AppSpec, Area, ConfId, Factor, KMode, KindId, Mode, Name, ProcId, Row, Spec, World,
 };
 
-/// The line that begins a row: frame, mode, environment and world.
+/// Returns the line that begins a row: frame, mode, environment and world.
 pub fn make_row_line(spec: &Spec, row: &Row) -> Line
     ensures { result ≡ row_line spec.now row.now }
 {
@@ -31,7 +31,7 @@ pub fn make_row_line(spec: &Spec, row: &Row) -> Line
     line
 }
 
-/// The line of an application in a row: what it did, and its area.
+/// Returns the line of an application in a row: what it did, and its area.
 pub fn make_app_line(spec: &Spec, app: &AppSpec, act: &Act, area: &Area) -> Line
     ensures { result ≡ app_line spec.now app.now act.now area.now }
 {
@@ -123,7 +123,8 @@ fn add_further_values(line: &mut Line, factors: &[Factor], values: &[u8; 6])
     }
 }
 
-fn add_up(line: &mut Line, spec: &Spec, up: u8)
+/// Adds the names of the processors that are up, or `-` for none.
+pub fn add_up(line: &mut Line, spec: &Spec, up: u8)
     requires { length line.old + 137 ≤ MAX_LINE_BYTES }
     ensures text { line.new ≡ line.old ++ up_text spec.now up }
     ensures short { length line.new ≤ length line.old + 137 }

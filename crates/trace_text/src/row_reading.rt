@@ -13,7 +13,7 @@ use crate::words::Words;
 use scram_types::limits::MAX_FRAMES;
 use scram_types::{Act, Env, Factor, KMode, Row, Spec, World};
 
-/// The row that a line begins, its frame being `next`; its applications are still to come.
+/// Returns the row that a line begins, its frame being `next`; its applications are still to come.
 pub fn read_row(spec: &Spec, next: usize, line: &[u8]) -> Result<Row, u8>
     ensures row { result ≡ row_read spec.now next line.now }
     ensures below { IfOk result (λ row. next < MAX_FRAMES) }
@@ -117,7 +117,7 @@ fn read_moving(spec: &Spec, next: usize, words: &Words<'_>) -> Result<Row, u8>
     )
 }
 
-// The values of an environment whose words begin at a place, where it has no unknown name.
+// Returns the values of an environment whose words begin at a place, where it has no unknown name.
 fn find_environment(spec: &Spec, words: &Words<'_>, at: usize) -> Option<[u8; 6]>
     requires { at ≤ 7 }
     ensures { result ≡ env_names spec.now words.now at }

@@ -26,8 +26,8 @@ pub enum TraceError {
     NoMemory,
 }
 
-/// The rows and reports of which the bytes are the text, or the first line that breaks a rule with the
-/// least rule that it breaks.
+/// Returns the rows and reports of which the bytes are the text, or the first line that breaks a rule with the least
+/// rule that it breaks.
 pub fn read_trace(alloc: Global, bytes: &[u8], spec: &Spec) -> Result<Flown, TraceError>
     ensures read { AnswersTrace (trace_of spec.now bytes.now) result }
     ensures text { IfOk result (λ flown. bytes.now ≡ text_of spec.now flown.rows flown.reports) }
@@ -77,7 +77,7 @@ fn stopped_at(line: u32, stop: Stop) -> TraceError
     }
 }
 
-// What was read, where the end line has been and nothing follows the last line feed.
+// Returns what was read, where the end line has been and nothing follows the last line feed.
 fn finish(progress: Progress, line: u32, last: &[u8]) -> Result<Flown, TraceError>
     ensures { AnswersTrace (at_last line progress last.now) result }
 {

@@ -20,7 +20,7 @@ impl<'a> std::marker::Model for Words<'a> {
     ghost view = { λ a. map (λ w. w.now) a.words.items };
 }
 
-/// The first word of a line, which is empty where the line begins with a space.
+/// Returns the first word of a line, which is empty where the line begins with a space.
 pub fn first_word(line: &[u8]) -> &[u8]
     ensures { result.now ≡ slice_index_or (words_of line.now) 0 [] }
 {
@@ -28,7 +28,7 @@ pub fn first_word(line: &[u8]) -> &[u8]
 }
 
 impl<'a> Words<'a> {
-    /// The words of a line, or `None` where one is empty or they are more than 16.
+    /// Returns the words of a line, or `None` where one is empty or they are more than 16.
     pub fn of(line: &'a [u8]) -> Option<Words<'a>>
         ensures { result ≡ words_in line.now }
     {
@@ -38,14 +38,14 @@ impl<'a> Words<'a> {
         }
     }
 
-    /// How many they are.
+    /// Returns the number of words.
     pub fn len(&self) -> usize
         ensures { result ≡ length self.now }
     {
         self.words.as_slice().len()
     }
 
-    /// The word at a place, and no bytes where there is none.
+    /// Returns the word at a place, and no bytes where there is none.
     pub fn word_at(&self, at: usize) -> &[u8]
         ensures { result.now ≡ word_at self.now at }
     {
@@ -55,7 +55,7 @@ impl<'a> Words<'a> {
         }
     }
 
-    /// Whether this word stands at a place.
+    /// Returns whether this word stands at a place.
     pub fn is(&self, at: usize, text: &[u8]) -> bool
         ensures { result ≡ is_word self.now at text.now }
     {

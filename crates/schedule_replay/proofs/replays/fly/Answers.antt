@@ -5,7 +5,6 @@ use Rattle.std.proofs.lemmas.List.{length-take-le}
 use Rattle.std.proofs.lemmas.Option.{slice_get-get_or}
 use Rattle.scram_types.specs.Scripts.{ScriptParts}
 use Rattle.scram_types.specs.Specification.{Parts}
-use Rattle.event_core.specs.Flyers.{FlyersFit}
 use Rattle.schedule_replay.specs.Replaying.{AnswersReplay}
 use Rattle.schedule_replay.proofs.replays.fly.Goals as goal
 
@@ -41,7 +40,5 @@ loop-code-preserved g c =
       spec = c.make.ensures.spec ∙ c.loop-code.invariant.spec;
       script = c.make.ensures.script ∙ c.loop-code.invariant.script;
       history = more ∙ ap (λ (l : List ℕ). l ++ slice_index_or list index 0 ∷ []) c.loop-code.invariant.history ∙ sym one_more;
-      fits =
-          subst (λ (script : ScriptParts). FlyersFit c.make.new.core.spec script c.make.new.flyers.items) (sym c.make.ensures.script)
-          (subst (λ (spec : Parts). FlyersFit spec core.script c.make.new.flyers.items) (sym c.make.ensures.spec) c.make.ensures.fits);
+      fits = c.in-Ok.ensures.fits;
     }

@@ -1,5 +1,5 @@
 use Rattle.std.proofs.Common.{◌≡◌, take}
-use Rattle.event_core.specs.Flyers.{FlyersFit}
+use Rattle.event_core.specs.Flyers.{FlyBy}
 use Rattle.schedule_replay.proofs.replays.fly.Given as goal
 
 abbrev pub invariant-loop-code : goal.invariant-loop-code
@@ -7,5 +7,5 @@ invariant-loop-code g l = record {
   spec : l.core.spec ≡ l.fn.core.spec;
   script : l.core.script ≡ l.fn.core.script;
   history : l.core.history ≡ take l.code-index l.events;
-  fits : FlyersFit l.core.spec l.core.script l.flyers.items;
+  fits : FlyBy l.core l.flyers;
 }

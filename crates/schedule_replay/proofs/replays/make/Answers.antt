@@ -5,6 +5,7 @@ use Rattle.event_core.specs.Cores.{flown, standing, standing_words}
 use Rattle.event_core.specs.Replays.{IsReplay}
 use Rattle.fail_stop.specs.Events.{next_of_actor}
 use Rattle.schedule_replay.proofs.Codes.{code_back}
+use Rattle.event_core.proofs.Following.{fly_on}
 use Rattle.schedule_replay.proofs.replays.make.Goals as goal
 
 pub returns-in-Ok-clause-history : goal.returns-in-Ok-clause-history
@@ -26,3 +27,8 @@ returns-in-Err-clause-refused g c = λ list before there.
       next_is = refused.2 ∙ ap (λ (e : Event). next_of_actor (flown core) (standing core) (standing_words core) e) (sym refused.1);
       not_next = λ same. refused.0 (sym refused.2 ∙ same ∙ ap (λ (e : Event). Some e) refused.1);
     }
+
+pub returns-in-Ok-clause-fits : goal.returns-in-Ok-clause-fits
+returns-in-Ok-clause-fits g c =
+    fly_on c.args.core.now c.step.new.self (standing_words c.args.core.now) (standing_words c.step.new.self) c.event_at-event.result c.word_where_next-word.new.flyers c.step.ensures.spec c.step.ensures.script
+    c.in-Ok.ensures.happens (c.word_where_next-word.ensures.fits c.in-Ok.ensures.next)

@@ -1,9 +1,0 @@
-use Rattle.event_core.specs.Cores.{flown, standing, standing_words}
-use Rattle.schedule_flights.proofs.Choosing.{if_own_next}
-use Rattle.schedule_flights.proofs.choices.next_in_order.Goals as goal
-
-pub returns-then-backwards-clause-next : goal.returns-then-backwards-clause-next
-returns-then-backwards-clause-next c = if_own_next (flown c.args.core.now) (standing c.args.core.now) (standing_words c.args.core.now) _ c.next_of.result c.next_of.ensures
-
-pub returns-else-backwards-clause-next : goal.returns-else-backwards-clause-next
-returns-else-backwards-clause-next c = if_own_next (flown c.args.core.now) (standing c.args.core.now) (standing_words c.args.core.now) _ c.next_of-else-backwards.result c.next_of-else-backwards.ensures

@@ -1,0 +1,94 @@
+//! Flights over both decks.
+
+ghost use Rattle.std.specs.Prelude.{◌≡◌, IfOk, vec_len};
+ghost use Rattle.event_core.specs.Cores.{flown, standing};
+ghost use Rattle.fail_stop.specs.Ends.{IsOver};
+
+use app_model::Rack;
+use app_model::racks::empty_racks;
+use coverage_check::Mission;
+use event_core::Core;
+use lock_deck::LockFlight;
+use scram_types::Flown;
+use std::alloc::AllocGlobal;
+use std::io::{self, ErrorKind};
+use std::sync::Wait;
+use std::thread::Threads;
+use word_deck::WordFlight;
+
+/// What the processors of a flight share: words, or a core under a lock.
+#[derive(Clone, Copy, Debug)]
+pub enum Deck {
+    Words,
+    Lock,
+}
+
+/// Flies a mission with a thread for each processor, and with racks without boxes.
+pub fn fly_over<R: AllocGlobal + Threads + Wait + Sync>(
+    rt: &R,
+    mission: &Mission,
+    deck: Deck,
+) -> io::Result<Flown> {
+    let racks = empty_racks(rt.alloc())?;
+    let spares = empty_racks(rt.alloc())?;
+    fly_with(rt, mission, deck, racks, spares)
+}
+
+/// Flies a mission with a thread for each processor, with these boxes, and these for restarts.
+pub fn fly_with<R: AllocGlobal + Threads + Wait + Sync>(
+    rt: &R,
+    mission: &Mission,
+    deck: Deck,
+    racks: Vec<Rack>,
+    spares: Vec<Rack>,
+) -> io::Result<Flown>
+    requires racks { vec_len racks ≡ 8 }
+    requires spares { vec_len spares ≡ 8 }
+{
+    match deck {
+        Deck::Words => fly_over_words(rt, mission, None, racks, spares),
+        Deck::Lock => Ok(fly_over_lock(rt, mission, None, racks, spares)?.finish()),
+    }
+}
+
+/// Flies a mission over words, with a thread for each processor or for those that are asked for.
+pub fn fly_over_words<R: AllocGlobal + Threads + Wait + Sync>(
+    rt: &R,
+    mission: &Mission,
+    asked: Option<[bool; 8]>,
+    racks: Vec<Rack>,
+    spares: Vec<Rack>,
+) -> io::Result<Flown>
+    requires racks { vec_len racks ≡ 8 }
+    requires spares { vec_len spares ≡ 8 }
+{
+    let Ok(flight) = WordFlight::open(rt.alloc(), mission, racks, spares) else {
+        return Err(ErrorKind::OutOfMemory.into());
+    };
+    match asked {
+        Some(asked) => Ok(flight.run_on(rt, asked).flown),
+        None => Ok(flight.run(rt).flown),
+    }
+}
+
+/// Flies a mission over a lock, with a thread for each processor or for those that are asked for: the core at its end.
+pub fn fly_over_lock<'a, R: AllocGlobal + Threads + Wait + Sync>(
+    rt: &R,
+    mission: &'a Mission,
+    asked: Option<[bool; 8]>,
+    racks: Vec<Rack>,
+    spares: Vec<Rack>,
+) -> io::Result<Core<'a>>
+    requires racks { vec_len racks ≡ 8 }
+    requires spares { vec_len spares ≡ 8 }
+    ensures spec { IfOk result (λ core. core.spec ≡ mission.now.spec) }
+    ensures over { IfOk result (λ core. IsOver (flown core) (standing core)) }
+{
+    let Ok(flight) = LockFlight::open(rt.alloc(), mission, racks, spares) else {
+        return Err(ErrorKind::OutOfMemory.into());
+    };
+    match asked {
+        Some(asked) => Ok(flight.run_on(rt, asked)),
+        None => Ok(flight.run(rt)),
+    }
+}

@@ -1,0 +1,229 @@
+//! Flights on threads beside that on one thread.
+
+use crate::decks::fly_over_words;
+use crate::documents::{Documents, read_documents, read_mission};
+use crate::histories::{fly_again, fly_and_write};
+use app_model::racks::empty_racks;
+use coverage_check::Mission;
+use scram_types::Flown;
+use std::alloc::AllocGlobal;
+use std::io;
+use std::rt::HostRuntime;
+use std::sync::Wait;
+use std::thread::Threads;
+use test_kit::{fly_alone, is_same, number, split_word};
+
+/// How often each mission is flown with a thread for each processor.
+const TIMES: u32 = 50;
+
+/// How many flights gave what was expected: over words, over a lock, and by the histories of those over the lock.
+#[derive(Clone, Copy, Debug)]
+struct Counts {
+    words: u32,
+    lock: u32,
+    again: u32,
+}
+
+/// Flights of one mission: the processors for which a thread is asked, in words and by places, and how often it is
+/// flown.
+#[derive(Clone, Copy, Debug)]
+struct Trial<'a> {
+    whom: &'a str,
+    asked: Option<[bool; 8]>,
+    times: u32,
+}
+
+impl<'a> Trial<'a> {
+    /// Returns one flight with threads for these processors.
+    fn once(whom: &'a str, asked: [bool; 8]) -> Trial<'a> {
+        Trial {
+            whom,
+            asked: Some(asked),
+            times: 1,
+        }
+    }
+}
+
+impl Counts {
+    fn new() -> Counts {
+        Counts {
+            words: 0,
+            lock: 0,
+            again: 0,
+        }
+    }
+
+    fn print(&self, rt: &HostRuntime, whom: &str, times: u32) -> io::Result<()> {
+        let Counts { words, lock, again } = *self;
+        println!(rt;
+            "{whom}: over words {words} of {times}, over the lock {lock} of {times}, by its history {again} of {times}"
+        )
+    }
+}
+
+/// Flies the mission of two files on one thread and on threads, over words and over a lock, and prints what came of it.
+pub fn fly<R: AllocGlobal + Threads + Wait + Sync>(
+    rt: &HostRuntime,
+    threads: &R,
+    words: &str,
+) -> io::Result<()> {
+    let mission = read_mission(rt, words)?;
+    fly_mission(rt, threads, &mission)
+}
+
+fn fly_mission<R: AllocGlobal + Threads + Wait + Sync>(
+    rt: &HostRuntime,
+    threads: &R,
+    mission: &Mission,
+) -> io::Result<()> {
+    let wanted = fly_alone(threads.alloc(), mission)?;
+    print_wanted(rt, &wanted)?;
+    let each = Trial {
+        whom: "a thread for each",
+        asked: None,
+        times: TIMES,
+    };
+    let none = Trial::once("none", [false; 8]);
+    let first = Trial::once("all but the first", all_but(0));
+    let last = Trial::once(
+        "all but the last",
+        all_but(mission.spec().procs.items().len() - 1),
+    );
+    print_flights(rt, threads, mission, &wanted, each)?;
+    print_flights(rt, threads, mission, &wanted, none)?;
+    print_flights(rt, threads, mission, &wanted, first)?;
+    print_flights(rt, threads, mission, &wanted, last)
+}
+
+/// Flies a mission as often as a trial says, and prints how often that gave what is expected.
+fn print_flights<R: AllocGlobal + Threads + Wait + Sync>(
+    rt: &HostRuntime,
+    threads: &R,
+    mission: &Mission,
+    wanted: &Flown,
+    trial: Trial,
+) -> io::Result<()> {
+    count_flights(threads, mission, wanted, trial)?.print(rt, trial.whom, trial.times)
+}
+
+fn count_flights<R: AllocGlobal + Threads + Wait + Sync>(
+    rt: &R,
+    mission: &Mission,
+    wanted: &Flown,
+    trial: Trial,
+) -> io::Result<Counts> {
+    let mut counts = Counts::new();
+    for _ in 0..trial.times {
+        fly_both(rt, mission, trial.asked, wanted, &mut counts)?;
+    }
+    Ok(counts)
+}
+
+/// Flies the mission of two files for each step below a count, and prints how often what came of it was that of one thread
+/// and step 0.
+pub fn fly_steps<R: AllocGlobal + Threads + Wait + Sync>(
+    rt: &HostRuntime,
+    threads: &R,
+    words: &str,
+) -> io::Result<()> {
+    let (count, names) = split_word(words);
+    let count = number(count)?;
+    let documents = read_documents(rt, names)?;
+    fly_each_step(rt, threads, count, &documents)
+}
+
+fn fly_each_step<R: AllocGlobal + Threads + Wait + Sync>(
+    rt: &HostRuntime,
+    threads: &R,
+    count: u32,
+    documents: &Documents,
+) -> io::Result<()> {
+    let wanted = fly_first_step(threads, documents)?;
+    print_wanted(rt, &wanted)?;
+    let mut counts = Counts::new();
+    for step in 0..count {
+        fly_step(threads, documents, step, &wanted, &mut counts)?;
+    }
+    counts.print(rt, "a thread for each", count)
+}
+
+fn fly_first_step<R: AllocGlobal + Threads + Wait + Sync>(
+    rt: &R,
+    documents: &Documents,
+) -> io::Result<Flown> {
+    let mission = documents.mission(rt.alloc(), 0)?;
+    fly_alone(rt.alloc(), &mission)
+}
+
+fn fly_step<R: AllocGlobal + Threads + Wait + Sync>(
+    rt: &R,
+    documents: &Documents,
+    step: u32,
+    wanted: &Flown,
+    counts: &mut Counts,
+) -> io::Result<()> {
+    let mission = documents.mission(rt.alloc(), step)?;
+    fly_both(rt, &mission, None, wanted, counts)
+}
+
+fn print_wanted(rt: &HostRuntime, wanted: &Flown) -> io::Result<()> {
+    println!(rt;
+        "frames {} reconfigurations {}",
+        wanted.rows.items().len(),
+        wanted.reports.items().len()
+    )
+}
+
+/// Returns the processors but one.
+fn all_but(place: usize) -> [bool; 8] {
+    let mut asked = [true; 8];
+    if place < 8 {
+        asked[place] = false;
+    }
+    asked
+}
+
+/// Flies a mission over words, over a lock, and by the history of that, and counts which gave what is expected.
+fn fly_both<R: AllocGlobal + Threads + Wait + Sync>(
+    rt: &R,
+    mission: &Mission,
+    asked: Option<[bool; 8]>,
+    wanted: &Flown,
+    counts: &mut Counts,
+) -> io::Result<()> {
+    let words = fly_asked(rt, mission, asked)?;
+    count(&mut counts.words, &words, wanted);
+    drop(words);
+    fly_twice(rt, mission, asked, wanted, counts)
+}
+
+fn fly_asked<R: AllocGlobal + Threads + Wait + Sync>(
+    rt: &R,
+    mission: &Mission,
+    asked: Option<[bool; 8]>,
+) -> io::Result<Flown> {
+    let racks = empty_racks(rt.alloc())?;
+    let spares = empty_racks(rt.alloc())?;
+    fly_over_words(rt, mission, asked, racks, spares)
+}
+
+fn fly_twice<R: AllocGlobal + Threads + Wait + Sync>(
+    rt: &R,
+    mission: &Mission,
+    asked: Option<[bool; 8]>,
+    wanted: &Flown,
+    counts: &mut Counts,
+) -> io::Result<()> {
+    let (lock, history) = fly_and_write(rt, mission, asked)?;
+    count(&mut counts.lock, &lock, wanted);
+    drop(lock);
+    let again = fly_again(rt, mission, &history)?;
+    count(&mut counts.again, &again, wanted);
+    Ok(())
+}
+
+fn count(same: &mut u32, flown: &Flown, wanted: &Flown) {
+    if is_same(flown, wanted) {
+        *same = same.saturating_add(1);
+    }
+}

@@ -1,0 +1,71 @@
+//! Flights in which boxes of two processors wait for one another, so that they end in time only where each has a thread.
+
+use crate::decks::{Deck, fly_with};
+use crate::documents::read_mission;
+use app_model::{Rack, racks_fit};
+use coverage_check::Mission;
+use scram_types::Flown;
+use std::alloc::AllocGlobal;
+use std::io::{self, ErrorKind};
+use std::rt::HostRuntime;
+use std::sync::Wait;
+use std::thread::Threads;
+use test_kit::{Counters, counted_racks, counted_spares, fly_alone, is_same};
+
+/// Flies the mission of two files over words and over a lock with boxes that count their calls, and prints the counts.
+pub fn meet<R: AllocGlobal + Threads + Wait + Sync>(
+    rt: &HostRuntime,
+    threads: &R,
+    words: &str,
+) -> io::Result<()> {
+    let mission = read_mission(rt, words)?;
+    meet_in(rt, threads, &mission)
+}
+
+fn meet_in<R: AllocGlobal + Threads + Wait + Sync>(
+    rt: &HostRuntime,
+    threads: &R,
+    mission: &Mission,
+) -> io::Result<()> {
+    let wanted = fly_alone(threads.alloc(), mission)?;
+    meet_over(rt, threads, mission, Deck::Words, &wanted)?;
+    meet_over(rt, threads, mission, Deck::Lock, &wanted)
+}
+
+fn meet_over<R: AllocGlobal + Threads + Wait + Sync>(
+    rt: &HostRuntime,
+    threads: &R,
+    mission: &Mission,
+    deck: Deck,
+    wanted: &Flown,
+) -> io::Result<()> {
+    let counters = Counters::new(threads.alloc())?;
+    let flown = fly_counted(threads, mission, deck, &counters)?;
+    println!(rt; "{deck:?}, as on one thread: {}", is_same(&flown, wanted))?;
+    counters.print(rt)
+}
+
+fn fly_counted<R: AllocGlobal + Threads + Wait + Sync>(
+    rt: &R,
+    mission: &Mission,
+    deck: Deck,
+    counters: &Counters,
+) -> io::Result<Flown> {
+    let racks = counted_racks!(rt, counters);
+    let spares = counted_spares!(rt, counters);
+    fly_fitting(rt, mission, deck, racks, spares)
+}
+
+/// Flies a mission with these boxes, where each is of the kind of its place.
+fn fly_fitting<R: AllocGlobal + Threads + Wait + Sync>(
+    rt: &R,
+    mission: &Mission,
+    deck: Deck,
+    racks: Vec<Rack>,
+    spares: Vec<Rack>,
+) -> io::Result<Flown> {
+    if !racks_fit(&racks) || !racks_fit(&spares) {
+        return Err(ErrorKind::InvalidInput.into());
+    }
+    fly_with(rt, mission, deck, racks, spares)
+}

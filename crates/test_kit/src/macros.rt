@@ -1,0 +1,46 @@
+//! The macros that make racks of boxes that count. They are macros, since no function may make boxes and hand them out;
+//! each `?` in them returns from the function around them where it is out of memory.
+
+/// A rack of five boxes that count in `$own`, and wait for a call that is counted in `$awaited`, if that is there.
+#[macro_export]
+macro_rules! counted_rack {
+    ($rt:expr, $own:expr, $awaited:expr) => {{
+        let own = $own;
+        let awaited = $awaited;
+        let (first, second, third, fourth, fifth) = $crate::boxed(
+            $rt.alloc(),
+            (
+                $crate::Counted::new($crate::Autopilot::new(), own, awaited),
+                $crate::Counted::new($crate::FlightControl::new(), own, awaited),
+                $crate::Counted::new($crate::PowerMonitor::new(), own, awaited),
+                $crate::Counted::new($crate::Navigator::new(), own, awaited),
+                $crate::Counted::new($crate::Datalink::new(), own, awaited),
+            ),
+        )?;
+        $crate::rack_of($rt.alloc(), first, second, third, fourth, fifth)?
+    }};
+}
+
+/// Eight racks of boxes that count in these `Counters`, in which those of the first two processors wait for one another.
+#[macro_export]
+macro_rules! counted_racks {
+    ($rt:expr, $counters:expr) => {{
+        let mut racks = Vec::new($rt.alloc());
+        for proc in 0..8 {
+            racks.push($crate::counted_rack!($rt, $counters.own(proc), $counters.awaited(proc)))?;
+        }
+        racks
+    }};
+}
+
+/// Eight racks for restarts, of boxes that count in these `Counters`, each for its own processor, and wait for none.
+#[macro_export]
+macro_rules! counted_spares {
+    ($rt:expr, $counters:expr) => {{
+        let mut spares = Vec::new($rt.alloc());
+        for proc in 0..8 {
+            spares.push($crate::counted_rack!($rt, $counters.spare(proc), None))?;
+        }
+        spares
+    }};
+}

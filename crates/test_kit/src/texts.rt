@@ -1,0 +1,115 @@
+//! Specifications, scripts and missions of texts.
+
+ghost use Rattle.std.specs.Prelude.{IfOk};
+ghost use Rattle.fault_script.specs.Fits.{Fits};
+
+use crate::flights::given;
+use crate::lines::line_after;
+use coverage_check::{Accepted, Mission, accept};
+use fault_script::read_script;
+use mission_gen::uav;
+use reconf_spec::{read_spec, write_spec};
+use scram_types::{Script, Spec};
+use std::alloc::Global;
+use std::fs;
+use std::io::{self, ErrorKind};
+use std::rt::HostRuntime;
+
+/// Returns the canonical text of the aircraft `uav`.
+///
+/// # Errors
+///
+/// Out of memory.
+pub fn uav_text(alloc: Global) -> io::Result<String> {
+    match uav(alloc) {
+        Ok(spec) => canonical_text(alloc, &spec),
+        Err(_) => Err(ErrorKind::OutOfMemory.into()),
+    }
+}
+
+fn canonical_text(alloc: Global, spec: &Spec) -> io::Result<String> {
+    match String::from_utf8(given(write_spec(alloc, spec))?) {
+        Ok(text) => Ok(text),
+        Err(_) => Err(ErrorKind::InvalidData.into()),
+    }
+}
+
+/// Returns the specification of a row: that of the file that its line `on ` names, or `uav` where there is no such line.
+///
+/// # Errors
+///
+/// Where the file cannot be read or is no specification; out of memory.
+pub fn spec_of_row(rt: &HostRuntime, row: &str) -> io::Result<Spec> {
+    match line_after(row, "on ") {
+        Some(name) => spec_of_file(rt, name),
+        None => given(uav(rt.alloc())),
+    }
+}
+
+fn spec_of_file(rt: &HostRuntime, name: &str) -> io::Result<Spec> {
+    let text = fs::read_to_string(rt, name)?;
+    spec_of_text(rt.alloc(), text.as_str())
+}
+
+/// Returns the script of a text.
+///
+/// # Errors
+///
+/// Where the text is no script for the specification; out of memory.
+pub fn script_of_text(alloc: Global, spec: &Spec, text: &str) -> io::Result<Script>
+    ensures { IfOk result (λ script. Fits spec.now script) }
+{
+    match read_script(alloc, text.as_bytes(), spec) {
+        Ok(script) => Ok(script),
+        Err(_) => Err(ErrorKind::InvalidInput.into()),
+    }
+}
+
+/// Returns the specification of a text.
+///
+/// # Errors
+///
+/// Where the text is no specification; out of memory.
+pub fn spec_of_text(alloc: Global, text: &str) -> io::Result<Spec> {
+    match read_spec(alloc, text.as_bytes()) {
+        Ok(spec) => Ok(spec),
+        Err(_) => Err(ErrorKind::InvalidInput.into()),
+    }
+}
+
+/// Returns the mission of the texts of a specification and of a script.
+///
+/// # Errors
+///
+/// Where they are none, or the mission is not accepted; out of memory.
+pub fn mission_of_texts(alloc: Global, spec: &str, script: &str) -> io::Result<Mission> {
+    let spec = spec_of_text(alloc, spec)?;
+    match script_of_text(alloc, &spec, script) {
+        Ok(script) => accepted_mission(alloc, spec, script),
+        Err(error) => Err(error),
+    }
+}
+
+fn accepted_mission(alloc: Global, spec: Spec, script: Script) -> io::Result<Mission>
+    requires { Fits spec script }
+{
+    match accept(alloc, spec) {
+        Ok(accepted) => mission_of(accepted, script),
+        Err(refused) => {
+            drop((refused, script));
+            Err(ErrorKind::InvalidInput.into())
+        }
+    }
+}
+
+fn mission_of(accepted: Accepted, script: Script) -> io::Result<Mission>
+    requires { Fits accepted script }
+{
+    match Mission::new(accepted, script) {
+        Ok(mission) => Ok(mission),
+        Err(refused) => {
+            drop(refused);
+            Err(ErrorKind::InvalidInput.into())
+        }
+    }
+}

@@ -1,0 +1,43 @@
+//! Whole missions through the calls themselves. A row of `rows.txt` is `fly SPECIFICATION SCRIPT TRACE`, `judge
+//! SPECIFICATION TRACE` or `cover SPECIFICATION`, whose files lie beside it, and blank lines part the rows. The traces were
+//! made by an independent model of the rules, but for that of `uav`, which is worked out by hand; so were the judgements and
+//! the covers, and the targets by a walk over all environments.
+#![tactic(auto)]
+
+mod covers;
+mod flights;
+mod judgements;
+
+use crate::covers::print_covers;
+use crate::flights::fly;
+use crate::judgements::judge;
+use std::fs;
+use std::io::{self, ErrorKind};
+use test_kit::{each_row, split_word};
+
+fn main(rt: HostRuntime) -> io::Result<()> {
+    each_row(&rt, |title, _lines| {
+        answer(&rt, title)?;
+        println!(rt; "")
+    })
+}
+
+/// Does what a row asks for, and prints what came of it.
+fn answer(rt: &HostRuntime, row: &str) -> io::Result<()> {
+    let (form, files) = split_word(row);
+    let (spec, rest) = split_word(files);
+    let spec = fs::read_to_string(rt, spec)?;
+    match (form, rest.split_once(' ')) {
+        ("fly", Some((script, trace))) => {
+            let script = fs::read_to_string(rt, script)?;
+            let trace = fs::read_to_string(rt, trace)?;
+            fly(rt, spec.as_str(), script.as_str(), trace.as_str())
+        }
+        ("cover", None) => print_covers(rt, spec.as_str()),
+        ("judge", None) => {
+            let trace = fs::read_to_string(rt, rest)?;
+            judge(rt, spec.as_str(), trace.as_str())
+        }
+        _ => Err(ErrorKind::InvalidInput.into()),
+    }
+}

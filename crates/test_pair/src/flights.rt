@@ -1,0 +1,96 @@
+//! Flights to their end, compared with one thread.
+
+ghost use Rattle.fault_script.specs.Fits.{Fits};
+
+use crate::halts::{Halts, halt_of_row};
+use app_model::racks::empty_racks;
+use coverage_check::Mission;
+use kernel_pair::{PairCore, UnitHalt, fly_on};
+use scram_types::{Flown, Report, Script, Spec};
+use std::io::{self, ErrorKind};
+use std::rt::HostRuntime;
+use test_kit::{fly_alone, is_same};
+
+/// The number of flights, of those that gave another answer than one thread, and of the events of all.
+#[derive(Clone, Copy)]
+struct Compared {
+    flights: u32,
+    other: u32,
+    events: usize,
+}
+
+/// Flies the script of a row with each of its halts, and on one thread, and prints what came of it.
+pub(crate) fn fly_row(rt: &HostRuntime, mission: &Mission, row: &str) -> io::Result<()> {
+    let single = fly_alone(rt.alloc(), mission)?;
+    fly_all(rt, mission, row, &single)
+}
+
+fn fly_all(rt: &HostRuntime, mission: &Mission, row: &str, single: &Flown) -> io::Result<()> {
+    let mut compared = Compared {
+        flights: 0,
+        other: 0,
+        events: 0,
+    };
+    match Halts::of_row(row)? {
+        Some(halts) => {
+            for number in 0..halts.count() {
+                compare(rt, mission, Some(halts.halt(number)), single, &mut compared)?;
+            }
+        }
+        None => compare(rt, mission, halt_of_row(row)?, single, &mut compared)?,
+    }
+    println!(rt;
+        "flights {}, unlike one thread {}, events {}",
+        compared.flights, compared.other, compared.events
+    )?;
+    print_reports(rt, single.reports.items())
+}
+
+/// Flies a mission with this halt, and compares the answer with that of one thread.
+fn compare(
+    rt: &HostRuntime,
+    mission: &Mission,
+    halt: Option<UnitHalt>,
+    single: &Flown,
+    compared: &mut Compared,
+) -> io::Result<()> {
+    mission.holds();
+    let (events, flown) = fly(rt, mission.spec(), mission.script(), halt)?;
+    compared.flights = compared.flights.saturating_add(1);
+    compared.events = compared.events.saturating_add(events);
+    if !is_same(&flown, single) {
+        compared.other = compared.other.saturating_add(1);
+    }
+    Ok(())
+}
+
+/// Returns the number of events of a flight, and its answer.
+fn fly(
+    rt: &HostRuntime,
+    spec: &Spec,
+    script: &Script,
+    halt: Option<UnitHalt>,
+) -> io::Result<(usize, Flown)>
+    requires { Fits spec.now script.now }
+{
+    let racks = empty_racks(rt.alloc())?;
+    let spares = empty_racks(rt.alloc())?;
+    match PairCore::open(rt.alloc(), spec, script, halt, racks, spares) {
+        Ok(mut core) => {
+            fly_on(&mut core);
+            let events = core.events().len();
+            Ok((events, core.finish()))
+        }
+        Err(_) => Err(ErrorKind::OutOfMemory.into()),
+    }
+}
+
+fn print_reports(rt: &HostRuntime, reports: &[Report]) -> io::Result<()> {
+    for report in reports {
+        println!(rt;
+            "report {} > {:?} begin {} end {}",
+            report.from.0, report.to, report.begin, report.end
+        )?;
+    }
+    Ok(())
+}

@@ -1,0 +1,72 @@
+//! The halts of a row.
+
+ghost use Rattle.std.specs.Prelude.{◌<◌};
+
+use kernel_pair::UnitHalt;
+use std::io::{self, ErrorKind};
+use test_kit::{line_after, number, number_after};
+
+/// The numbers of units, frames and steps, each from 0 up.
+#[derive(Clone, Copy, Debug)]
+pub(crate) struct Halts {
+    units: u32,
+    frames: u32,
+    steps: u32,
+    ghost some_frame: { 0 < frames },
+    ghost some_step: { 0 < steps },
+}
+
+impl Halts {
+    /// Those of a row, if it has any.
+    pub(crate) fn of_row(row: &str) -> io::Result<Option<Halts>> {
+        let units = number_after(row, "units ", 0)?;
+        let frames = number_after(row, "frames ", 1)?;
+        let steps = number_after(row, "steps ", 1)?;
+        if units == 0 {
+            return Ok(None);
+        }
+        if frames == 0 || steps == 0 {
+            return Err(ErrorKind::InvalidInput.into());
+        }
+        Ok(Some(Halts {
+            units,
+            frames,
+            steps,
+        }))
+    }
+
+    pub(crate) fn count(&self) -> u32 {
+        self.units
+            .saturating_mul(self.frames)
+            .saturating_mul(self.steps)
+    }
+
+    /// Returns the halt of this number: the step changes first, and then the frame.
+    pub(crate) fn halt(&self, number: u32) -> UnitHalt {
+        let frames = number / self.steps;
+        UnitHalt {
+            unit: low_byte(frames / self.frames),
+            frame: frames % self.frames,
+            step: low_byte(number % self.steps),
+        }
+    }
+}
+
+/// Returns the halt of a row whose line `halt ` has its unit, frame and step, if there is one.
+pub(crate) fn halt_of_row(row: &str) -> io::Result<Option<UnitHalt>> {
+    let Some(words) = line_after(row, "halt ") else {
+        return Ok(None);
+    };
+    let (unit, rest) = words.split_once(' ').unwrap_or((words, ""));
+    let (frame, step) = rest.split_once(' ').unwrap_or((rest, ""));
+    Ok(Some(UnitHalt {
+        unit: low_byte(number(unit)?),
+        frame: number(frame)?,
+        step: low_byte(number(step)?),
+    }))
+}
+
+/// The lowest eight bits of a number.
+pub(crate) fn low_byte(number: u32) -> u8 {
+    (number % 256) as u8
+}

@@ -1,0 +1,39 @@
+//! Flights of the kernel on two units. In `rows.txt` a blank line parts the rows, and `= ` stands before a row's script. With
+//! `units `, `frames ` and `steps ` it is flown to its end once for each halt of a unit, in a frame and after a number of
+//! steps that lie below the numbers behind these words, and once without a halt where it has none of them; every answer is
+//! compared with that of one thread. With lines of `try ` a flight with the halt behind `halt ` makes one event after another,
+//! and each is printed with what came of it and with the next events of both units. What the program has to print follows
+//! from the rules, worked out by hand.
+#![tactic(auto)]
+
+mod flights;
+mod halts;
+mod tries;
+
+use crate::flights::fly_row;
+use crate::tries::try_row;
+use coverage_check::Mission;
+use std::io;
+use test_kit::{each_row, line_after, mission_of_texts, uav_text};
+
+fn main(rt: HostRuntime) -> io::Result<()> {
+    let spec = uav_text(rt.alloc())?;
+    each_row(&rt, |_title, lines| {
+        answer(&rt, spec.as_str(), lines)?;
+        println!(rt; "")
+    })
+}
+
+fn answer(rt: &HostRuntime, spec: &str, lines: &str) -> io::Result<()> {
+    let script = line_after(lines, "= ").unwrap_or("");
+    let mission = mission_of_texts(rt.alloc(), spec, script)?;
+    answer_row(rt, &mission, lines)
+}
+
+fn answer_row(rt: &HostRuntime, mission: &Mission, lines: &str) -> io::Result<()> {
+    if line_after(lines, "try ").is_some() {
+        try_row(rt, mission, lines)
+    } else {
+        fly_row(rt, mission, lines)
+    }
+}

@@ -1,0 +1,103 @@
+//! Events that are tried one by one.
+
+ghost use Rattle.fault_script.specs.Fits.{Fits};
+ghost use Rattle.scram_types.specs.Specification.{IsSpec};
+
+use crate::halts::{halt_of_row, low_byte};
+use app_model::racks::empty_racks;
+use coverage_check::Mission;
+use kernel_pair::{PairCore, PairEvent, UnitHalt};
+use scram_types::{ProcId, Script, Spec};
+use std::io::{self, ErrorKind};
+use std::rt::HostRuntime;
+use test_kit::number;
+
+/// Makes the events of a row, and prints what came of each.
+pub(crate) fn try_row(rt: &HostRuntime, mission: &Mission, row: &str) -> io::Result<()> {
+    mission.holds();
+    let halt = halt_of_row(row)?;
+    try_halt(rt, mission.spec(), mission.script(), halt, row)
+}
+
+fn try_halt(
+    rt: &HostRuntime,
+    spec: &Spec,
+    script: &Script,
+    halt: Option<UnitHalt>,
+    row: &str,
+) -> io::Result<()>
+    requires { Fits spec.now script.now }
+{
+    let racks = empty_racks(rt.alloc())?;
+    let spares = empty_racks(rt.alloc())?;
+    match PairCore::open(rt.alloc(), spec, script, halt, racks, spares) {
+        Ok(mut core) => {
+            core.holds();
+            try_lines(rt, &mut core, row)
+        }
+        Err(_) => Err(ErrorKind::OutOfMemory.into()),
+    }
+}
+
+// What asks nothing of a core that it may change counts as one that may make its boxes; so these ask what each core has.
+fn try_lines(rt: &HostRuntime, core: &mut PairCore, row: &str) -> io::Result<()>
+    requires { IsSpec core.old.spec }
+{
+    for line in row.split('\n') {
+        if let Some(words) = line.strip_prefix("try ") {
+            print!(rt; "{words}: ")?;
+            core.holds();
+            try_words(rt, core, words)?;
+            println!(rt; "next {:?} and {:?}", core.next(0), core.next(1))?;
+        }
+    }
+    Ok(())
+}
+
+/// Makes the event of these words, or for `go UNIT` all next events of a unit, one after another.
+fn try_words(rt: &HostRuntime, core: &mut PairCore, words: &str) -> io::Result<()>
+    requires { IsSpec core.old.spec }
+{
+    if let Some(unit) = words.strip_prefix("go ") {
+        let made = go(core, number(unit)?);
+        return print!(rt; "{made} made, ");
+    }
+    match core.step(event_of(words)?) {
+        Ok(()) => print!(rt; "made, "),
+        Err(event) => print!(rt; "given back {event:?}, "),
+    }
+}
+
+/// Makes the next events of a unit until it has none, and counts them; no row has a thousand.
+fn go(core: &mut PairCore, unit: u32) -> u32
+    requires { IsSpec core.old.spec }
+{
+    for made in 0..1_000 {
+        match core.next((unit % 2) as u8) {
+            Some(event) => {
+                if core.step(event).is_err() {
+                    return made;
+                }
+            }
+            None => return made,
+        }
+    }
+    1_000
+}
+
+/// Returns the event of a name and one or two numbers.
+fn event_of(words: &str) -> io::Result<PairEvent> {
+    let (name, rest) = words.split_once(' ').unwrap_or((words, ""));
+    let (first, second) = rest.split_once(' ').unwrap_or((rest, "0"));
+    let (a, b) = (low_byte(number(first)?), low_byte(number(second)?));
+    match name {
+        "fly" => Ok(PairEvent::Fly(ProcId(a), b)),
+        "note" => Ok(PairEvent::Note(a, ProcId(b))),
+        "store" => Ok(PairEvent::Store(a, b)),
+        "ready" => Ok(PairEvent::Ready(a)),
+        "meet" => Ok(PairEvent::Meet(a)),
+        "release" => Ok(PairEvent::Release(a)),
+        "stop" => Ok(PairEvent::Stop(a)),
+        _ => Err(ErrorKind::InvalidInput.into()),
+    }
+}

@@ -1,0 +1,14 @@
+use Rattle.std.proofs.Common.{◌≡◌, length}
+use Rattle.event_core.specs.Cores.{flown, standing, standing_words}
+use Rattle.event_core.specs.Flyers.{FlyBy}
+use Rattle.test_schedules.proofs.Ruling.{IsRuledTo}
+use Rattle.test_schedules.proofs.flights.fly_events.Given as goal
+
+abbrev pub invariant-loop-event : goal.invariant-loop-event
+invariant-loop-event g l = record {
+  spec : l.core.spec ≡ l.fn.core.spec;
+  script : l.core.script ≡ l.fn.core.script;
+  ruled : IsRuledTo (flown l.core) l.fn.rule l.chooser l.core.history (standing l.core) (standing_words l.core);
+  count : length l.core.history ≡ l._event;
+  fits : FlyBy l.core l.flyers;
+}

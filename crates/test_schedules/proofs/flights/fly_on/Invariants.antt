@@ -1,0 +1,17 @@
+use Rattle.std.proofs.Common.{◌≡◌}
+use Rattle.event_core.specs.Cores.{flown, standing, standing_words}
+use Rattle.event_core.specs.Rooms.{events_left}
+use Rattle.event_core.specs.Flyers.{FlyBy}
+use Rattle.test_schedules.proofs.Ruling.{IsRuledTo}
+use Rattle.test_schedules.proofs.flights.fly_on.Given as goal
+
+abbrev pub invariant-loop-event : goal.invariant-loop-event
+invariant-loop-event g l = record {
+  spec : l.core.spec ≡ l.fn.core.spec;
+  script : l.core.script ≡ l.fn.core.script;
+  ruled : IsRuledTo (flown l.core) l.fn.rule l.chooser l.core.history (standing l.core) (standing_words l.core);
+  fits : FlyBy l.core l.flyers;
+}
+
+abbrev pub decreases-loop-event : goal.decreases-loop-event
+decreases-loop-event g l = events_left (flown l.core) (standing l.core)

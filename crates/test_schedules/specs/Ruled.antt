@@ -1,0 +1,22 @@
+-- Schedules by a rule.
+use Rattle.std.specs.Prelude.{◌≡◌, ℕ, List, [], ◌∷◌, Some}
+use Rattle.bank_words.specs.declared.events.Event.{Event}
+use Rattle.event_core.specs.Replays.{IsReplay}
+use Rattle.fail_stop.specs.Events.{Places, Word}
+use Rattle.fail_stop.specs.Flights.{Flight}
+use Rattle.fail_stop.specs.Schedules.{Machine, happened, opening}
+use Rattle.test_schedules.specs.Choices.{chooser_after, chosen, first_chooser}
+use Rattle.test_schedules.specs.declared.choices.Chooser.{Chooser}
+use Rattle.test_schedules.specs.declared.choices.Rule.{Rule}
+
+-- The events lead from state s to t, each the next one of the actor that the rule chooses where all stand.
+abbrev pub AreChosen : Flight → Chooser → Machine → List Event → Chooser → Machine → Type 0
+AreChosen m chooser s [] last t = (last ≡ chooser) × (t ≡ s)
+AreChosen m chooser s (e ∷ es) last t =
+    (place : ℕ) × (chosen m s.at s.words chooser ≡ Some (place, e)) × AreChosen m (chooser_after chooser place) (happened m s e) es last t
+
+-- The codes are those of a schedule from the opening that leads to these places and words, and the rule chose each event of it.
+pub record IsByRule (m : Flight) (rule : Rule) (codes : List ℕ) (at : Places) (words : Word → ℕ) : Type 0 where
+  pub replay : IsReplay m codes at words
+  pub chooser : Chooser
+  pub chosen_are : AreChosen m (first_chooser rule) (opening m) replay.events chooser replay.state

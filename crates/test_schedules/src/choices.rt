@@ -1,0 +1,184 @@
+//! Which actor makes the next event.
+
+ghost use Rattle.std.specs.Prelude.{◌≡◌, ℕ, ◌+◌, ◌-◌, ◌≤◌, ◌<◌, IfSome, None, nat_eq, if◌then◌else◌, length, option_map};
+ghost use Rattle.event_core.specs.Cores.{flown, standing, standing_words};
+ghost use Rattle.fail_stop.specs.Ends.{IsOver};
+ghost use Rattle.fail_stop.specs.Events.{IsNext};
+ghost use Rattle.test_schedules.specs.Choices.{begin_of, chooser_after, chosen, first_chooser, first_from, first_in, generator_after, is_backwards, next_in_order, place_behind, seed_of};
+
+use bank_words::Event;
+use event_core::Core;
+use rand_core::utils::NextWord;
+use rand_pcg::Pcg32;
+use scram_types::ProcId;
+
+/// The rule that chooses the actor of the next event. Actors without a next event are passed over.
+#[derive(Clone, Copy, Debug)]
+pub enum Rule {
+    /// The actor after that of the last one: the processors in order, then the kernel.
+    InTurns,
+    /// The least-numbered processor, and the kernel where none has a next event.
+    LeastFirst,
+    /// The greatest-numbered processor, and the kernel where none has a next event.
+    GreatestFirst,
+    /// The kernel, and the least-numbered processor where it has no next event.
+    KernelFirst,
+    /// The actor that a generator of random numbers with this seed names.
+    Seeded(u64),
+}
+
+/// What a rule has to know from one choice to the next.
+#[derive(Drop)]
+pub(crate) struct Chooser {
+    rule: Rule,
+    last: Option<usize>,
+    generator: Pcg32,
+}
+
+impl Chooser {
+    /// Before the first choice.
+    pub(crate) fn new(rule: Rule) -> Chooser
+        ensures { result ≡ first_chooser rule }
+    {
+        Chooser {
+            rule,
+            last: None,
+            generator: Pcg32::new(seed_of(rule), 1),
+        }
+    }
+
+    // Returns the place among the actors at which to look first.
+    fn begin(&mut self, procs: usize) -> usize
+        requires { procs ≤ 8 }
+        ensures begin { result ≡ begin_of procs self.old }
+        ensures low { result ≤ procs }
+        ensures rule { self.new.rule ≡ self.old.rule }
+        ensures last { self.new.last ≡ self.old.last }
+        ensures generator { self.new.generator ≡ generator_after self.old.rule self.old.generator }
+    {
+        match self.rule {
+            Rule::InTurns => place_behind(procs, self.last),
+            Rule::LeastFirst => 0,
+            Rule::GreatestFirst => 0,
+            Rule::KernelFirst => procs,
+            Rule::Seeded(_) => self.generator.next_word() as usize % (procs + 1),
+        }
+    }
+
+    /// Returns the next event of the actor that the rule chooses; none where the flight is over.
+    pub(crate) fn choose(&mut self, core: &Core, procs: usize) -> Option<Event>
+        requires procs { procs ≡ length core.now.spec.procs }
+        requires few { procs ≤ 8 }
+        ensures event { result ≡ option_map (λ found. found.1) (chosen (flown core.now) (standing core.now) (standing_words core.now) self.old) }
+        ensures after { IfSome (chosen (flown core.now) (standing core.now) (standing_words core.now) self.old) (λ found. self.new ≡ chooser_after self.old found.0) }
+        ensures next { IfSome result (IsNext (flown core.now) (standing core.now) (standing_words core.now)) }
+        ensures over { result ≡ None → IsOver (flown core.now) (standing core.now) }
+    {
+        let backwards = is_backwards(self.rule);
+        let begin = self.begin(procs);
+        match first_from(core, procs, backwards, begin) {
+            Some((place, event)) => {
+                self.last = Some(place);
+                Some(event)
+            }
+            None => None,
+        }
+    }
+}
+
+// Returns the seed of a rule, 0 where it has none.
+fn seed_of(rule: Rule) -> u64
+    ensures { result ≡ seed_of rule }
+{
+    match rule {
+        Rule::Seeded(seed) => seed,
+        Rule::InTurns => 0,
+        Rule::LeastFirst => 0,
+        Rule::GreatestFirst => 0,
+        Rule::KernelFirst => 0,
+    }
+}
+
+// Returns the place after that of the actor that made the last event; the first one behind the kernel, and before any
+// event.
+fn place_behind(procs: usize, last: Option<usize>) -> usize
+    requires { procs ≤ 8 }
+    ensures place { result ≡ place_behind procs last }
+    ensures low { result ≤ procs }
+{
+    match last {
+        Some(place) => { if place < procs { place + 1 } else { 0 } }
+        None => 0,
+    }
+}
+
+fn is_backwards(rule: Rule) -> bool
+    ensures { result ≡ is_backwards rule }
+{
+    match rule {
+        Rule::GreatestFirst => true,
+        Rule::InTurns => false,
+        Rule::LeastFirst => false,
+        Rule::KernelFirst => false,
+        Rule::Seeded(_) => false,
+    }
+}
+
+// Returns the next event of the actor at a place: the processors in order, or from the last one down, and then the
+// kernel.
+fn next_in_order(core: &Core, procs: usize, backwards: bool, place: usize) -> Option<Event>
+    requires procs { procs ≡ length core.now.spec.procs }
+    requires few { procs ≤ 8 }
+    requires place { place ≤ procs }
+    ensures same { result ≡ next_in_order (flown core.now) (standing core.now) (standing_words core.now) backwards place }
+    ensures next { IfSome result (IsNext (flown core.now) (standing core.now) (standing_words core.now)) }
+{
+    if place == procs {
+        core.next_kernel()
+    } else if backwards {
+        core.next_of(ProcId((procs - 1 - place) as u8))
+    } else {
+        core.next_of(ProcId(place as u8))
+    }
+}
+
+// Returns the first place, of those from `begin` and then of those before it, whose actor has a next event, and the
+// event.
+fn first_from(core: &Core, procs: usize, backwards: bool, begin: usize) -> Option<(usize, Event)>
+    requires procs { procs ≡ length core.now.spec.procs }
+    requires few { procs ≤ 8 }
+    requires begin { begin ≤ procs }
+    ensures same { result ≡ first_from (next_in_order (flown core.now) (standing core.now) (standing_words core.now) backwards) procs begin }
+    ensures next { IfSome result (λ found. IsNext (flown core.now) (standing core.now) (standing_words core.now) found.1) }
+    ensures over { result ≡ None → IsOver (flown core.now) (standing core.now) }
+{
+    core.goes_on();
+    match first_in(core, procs, backwards, begin, procs + 1) {
+        Some(found) => Some(found),
+        None => first_in(core, procs, backwards, 0, begin),
+    }
+}
+
+// Returns the first place, of those from `begin` and below `end`, whose actor has a next event, and the event.
+fn first_in(
+    core: &Core,
+    procs: usize,
+    backwards: bool,
+    begin: usize,
+    end: usize,
+) -> Option<(usize, Event)>
+    requires procs { procs ≡ length core.now.spec.procs }
+    requires few { procs ≤ 8 }
+    requires end { end ≤ procs + 1 }
+    ensures same { result ≡ first_in (next_in_order (flown core.now) (standing core.now) (standing_words core.now) backwards) begin (end - begin) }
+    ensures next { IfSome result (λ found. IsNext (flown core.now) (standing core.now) (standing_words core.now) found.1) }
+    ensures none { result ≡ None → (place : ℕ) → begin ≤ place → place < end → next_in_order (flown core.now) (standing core.now) (standing_words core.now) backwards place ≡ None }
+{
+    for place in begin..end {
+        match next_in_order(core, procs, backwards, place) {
+            Some(event) => return Some((place, event)),
+            None => {}
+        }
+    }
+    None
+}

@@ -1,0 +1,165 @@
+//! Flights to their end, compared.
+
+ghost use Rattle.fault_script.specs.Fits.{Fits};
+
+use crate::choices::Rule;
+use crate::flights::fly;
+use crate::halts::{Halt, Halts};
+use crate::scripts::{rule_named, script_of};
+use app_model::racks::empty_racks;
+use scram_types::{Flown, Report, Script, Spec};
+use std::io::{self, ErrorKind};
+use std::rt::HostRuntime;
+use test_kit::{fly_frames, is_same, line_after, number_after};
+use trace_props::props;
+
+/// What came of the flights of a row: how many there were, how many gave another answer than one thread, how many were
+/// judged otherwise than Ok, and how many gave another answer than the first one, of which there are the events too.
+#[derive(Drop)]
+struct Compared {
+    flights: u32,
+    other: u32,
+    broken: u32,
+    unlike: u32,
+    events: usize,
+    first: Option<Flown>,
+}
+
+/// Flies each script of a row by each of its rules and seeds, and on one thread, and prints what came of it.
+pub(crate) fn fly_row(rt: &HostRuntime, spec: &Spec, row: &str) -> io::Result<()> {
+    if line_after(row, "by ").is_none() {
+        return Ok(());
+    }
+    let mut compared = Compared {
+        flights: 0,
+        other: 0,
+        broken: 0,
+        unlike: 0,
+        events: 0,
+        first: None,
+    };
+    let halts = Halts::of_row(row)?;
+    for number in 0..halts.count() {
+        fly_halt(rt, spec, row, halts.halt(number), &mut compared)?;
+    }
+    print_compared(rt, row, &compared)
+}
+
+/// A script with its specification, and what came of it on one thread.
+#[derive(Drop)]
+struct Case<'a> {
+    spec: &'a Spec,
+    script: &'a Script,
+    alone: &'a Flown,
+}
+
+/// Flies the script of a row with this halt.
+fn fly_halt(
+    rt: &HostRuntime,
+    spec: &Spec,
+    row: &str,
+    halt: Halt,
+    compared: &mut Compared,
+) -> io::Result<()> {
+    let script = script_of(rt.alloc(), spec, row, halt)?;
+    let alone = fly_frames(rt.alloc(), spec, &script)?;
+    let case = Case {
+        spec,
+        script: &script,
+        alone: &alone,
+    };
+    fly_case(rt, &case, row, compared)
+}
+
+fn fly_case(rt: &HostRuntime, case: &Case, row: &str, compared: &mut Compared) -> io::Result<()>
+    requires { Fits case.now.spec.now case.now.script.now }
+{
+    for name in line_after(row, "by ").unwrap_or("").split(' ') {
+        compare(rt, case, rule_named(name)?, compared)?;
+    }
+    for seed in 0..number_after(row, "seeds ", 0)? {
+        compare(rt, case, Rule::Seeded(u64::from(seed)), compared)?;
+    }
+    Ok(())
+}
+
+/// Flies a script by a rule, compares the answer with that of one thread and with the first one, and judges it.
+fn compare(rt: &HostRuntime, case: &Case, rule: Rule, compared: &mut Compared) -> io::Result<()>
+    requires { Fits case.now.spec.now case.now.script.now }
+{
+    let (events, flown) = fly_by(rt, case.spec, case.script, rule)?;
+    compared.flights = compared.flights.saturating_add(1);
+    if !is_same(case.alone, &flown) {
+        compared.other = compared.other.saturating_add(1);
+    }
+    if !is_judged_ok(case.spec, &flown) {
+        compared.broken = compared.broken.saturating_add(1);
+    }
+    if is_unlike(&compared.first, &flown) {
+        compared.unlike = compared.unlike.saturating_add(1);
+    }
+    if compared.first.is_none() {
+        compared.events = events;
+        compared.first = Some(flown);
+    }
+    Ok(())
+}
+
+/// Returns the number of events of a flight, and its answer.
+fn fly_by(rt: &HostRuntime, spec: &Spec, script: &Script, rule: Rule) -> io::Result<(usize, Flown)>
+    requires { Fits spec.now script.now }
+{
+    let racks = empty_racks(rt.alloc())?;
+    let spares = empty_racks(rt.alloc())?;
+    match fly(rt.alloc(), spec, script, racks, spares, rule) {
+        Ok(core) => {
+            let events = core.history().len();
+            Ok((events, core.finish()))
+        }
+        Err(_) => Err(ErrorKind::OutOfMemory.into()),
+    }
+}
+
+fn is_unlike(first: &Option<Flown>, flown: &Flown) -> bool {
+    match first {
+        Some(first) => !is_same(first, flown),
+        None => false,
+    }
+}
+
+fn is_judged_ok(spec: &Spec, flown: &Flown) -> bool {
+    let rows = flown.rows.items();
+    rows.len() <= 20_000 && props(spec, rows, flown.reports.items()).is_ok()
+}
+
+fn print_compared(rt: &HostRuntime, row: &str, compared: &Compared) -> io::Result<()> {
+    println!(rt;
+        "flights {}, unlike one thread {}, not judged Ok {}",
+        compared.flights, compared.other, compared.broken
+    )?;
+    if line_after(row, "alike").is_none() {
+        return Ok(());
+    }
+    println!(rt;
+        "unlike the first {}, events of the first {}",
+        compared.unlike, compared.events
+    )?;
+    match &compared.first {
+        Some(first) => print_reports(rt, first.reports.items()),
+        None => Ok(()),
+    }
+}
+
+fn print_reports(rt: &HostRuntime, reports: &[Report]) -> io::Result<()> {
+    for report in reports {
+        let from = report.from.0;
+        match report.to {
+            Some(to) => println!(rt;
+                "report {from} > {} begin {} end {}",
+                to.0, report.begin, report.end
+            )?,
+            None => println!(rt; "report {from} > - begin {} end -", report.begin)?,
+        }
+    }
+    Ok(())
+}

@@ -1,0 +1,157 @@
+//! Flights of a core to its end by a rule, with live processors, their boxes and their spare racks. Whatever the rule, the
+//! core that comes out is that of the specification and the script, and is over.
+
+ghost use Rattle.std.specs.Prelude.{◌≡◌, ◌<◌, ◌≤◌, ◌⊎◌, ◌++◌, [], ◌∷◌, IfOk, length, vec_len};
+ghost use Rattle.bank_words.specs.Events.{event_code};
+ghost use Rattle.event_core.specs.Cores.{flown, standing, standing_words};
+ghost use Rattle.event_core.specs.Flyers.{FlyBy};
+ghost use Rattle.event_core.specs.Rooms.{events_left};
+ghost use Rattle.event_core.specs.Stores.{IsEventWord};
+ghost use Rattle.fail_stop.specs.Ends.{IsOver};
+ghost use Rattle.fail_stop.specs.Events.{Happens, IsNext};
+ghost use Rattle.fault_script.specs.Fits.{Fits};
+ghost use Rattle.test_schedules.specs.Ruled.{IsByRule};
+
+use crate::choices::{Chooser, Rule};
+use app_model::Rack;
+use bank_words::Event;
+use event_core::Core;
+use event_core::flyers::Flyers;
+use scram_types::{NoMemory, Script, Spec};
+use std::alloc::Global;
+
+/// Flies a specification and a script to the end by a rule. Rack `p` is that of processor `p`, and spare rack `p` is for
+/// its restart. The core that comes out is over, so `finish` gives the one-thread trace.
+///
+/// # Errors
+///
+/// Out of memory.
+pub fn fly<'a>(
+    alloc: Global,
+    spec: &'a Spec,
+    script: &'a Script,
+    racks: Vec<Rack>,
+    spares: Vec<Rack>,
+    rule: Rule,
+) -> Result<Core<'a>, NoMemory>
+    requires script { Fits spec.now script.now }
+    requires racks { vec_len racks ≡ 8 }
+    requires spares { vec_len spares ≡ 8 }
+    ensures spec { IfOk result (λ core. core.spec ≡ spec.now) }
+    ensures script { IfOk result (λ core. core.script ≡ script.now) }
+    ensures rule { IfOk result (λ core. IsByRule (flown core) rule core.history (standing core) (standing_words core)) }
+    ensures over { IfOk result (λ core. IsOver (flown core) (standing core)) }
+{
+    let core = Core::open(alloc, spec, script)?;
+    let mut flyers = Flyers::open(alloc, racks, spares)?;
+    Ok(fly_on(core, spec, &mut flyers, rule))
+}
+
+/// Flies this number of events of a specification and a script by a rule, and fewer only where the flight is over
+/// before.
+///
+/// # Errors
+///
+/// Out of memory.
+pub fn fly_some<'a>(
+    alloc: Global,
+    spec: &'a Spec,
+    script: &'a Script,
+    racks: Vec<Rack>,
+    spares: Vec<Rack>,
+    rule: Rule,
+    events: u32,
+) -> Result<Core<'a>, NoMemory>
+    requires script { Fits spec.now script.now }
+    requires racks { vec_len racks ≡ 8 }
+    requires spares { vec_len spares ≡ 8 }
+    ensures spec { IfOk result (λ core. core.spec ≡ spec.now) }
+    ensures script { IfOk result (λ core. core.script ≡ script.now) }
+    ensures rule { IfOk result (λ core. IsByRule (flown core) rule core.history (standing core) (standing_words core)) }
+    ensures count { IfOk result (λ core. (length core.history ≡ events) ⊎ (IsOver (flown core) (standing core) × (length core.history < events))) }
+{
+    let core = Core::open(alloc, spec, script)?;
+    let mut flyers = Flyers::open(alloc, racks, spares)?;
+    Ok(fly_events(core, spec, &mut flyers, rule, events))
+}
+
+// Flies to the end.
+fn fly_on<'a>(core: Core<'a>, spec: &Spec, flyers: &mut Flyers, rule: Rule) -> Core<'a>
+    requires spec { core.spec ≡ spec.now }
+    requires opened { core.history ≡ [] }
+    requires fits { FlyBy core flyers.old }
+    ensures spec { result.spec ≡ core.entry.spec }
+    ensures script { result.script ≡ core.entry.script }
+    ensures rule { IsByRule (flown result) rule result.history (standing result) (standing_words result) }
+    ensures over { IsOver (flown result) (standing result) }
+{
+    let mut core = core;
+    let _opened = core.history();
+    let mut chooser = Chooser::new(rule);
+    let procs = spec.procs.items().len();
+    while let Some(event) = chooser.choose(&core, procs) {
+        make(&mut core, spec, flyers, event);
+    }
+    core
+}
+
+// Flies this number of events, or fewer where the flight is over before.
+fn fly_events<'a>(
+    core: Core<'a>,
+    spec: &Spec,
+    flyers: &mut Flyers,
+    rule: Rule,
+    events: u32,
+) -> Core<'a>
+    requires spec { core.spec ≡ spec.now }
+    requires opened { core.history ≡ [] }
+    requires fits { FlyBy core flyers.old }
+    ensures spec { result.spec ≡ core.entry.spec }
+    ensures script { result.script ≡ core.entry.script }
+    ensures rule { IsByRule (flown result) rule result.history (standing result) (standing_words result) }
+    ensures count { (length result.history ≡ events) ⊎ (IsOver (flown result) (standing result) × (length result.history < events)) }
+{
+    let mut core = core;
+    let _opened = core.history();
+    let mut chooser = Chooser::new(rule);
+    let procs = spec.procs.items().len();
+    for _event in 0..events {
+        match chooser.choose(&core, procs) {
+            Some(event) => make(&mut core, spec, flyers, event),
+            None => return core,
+        }
+    }
+    core
+}
+
+// Makes the next event of its actor, with its word where it is a store.
+fn make(core: &mut Core, spec: &Spec, flyers: &mut Flyers, event: Event)
+    requires spec { core.old.spec ≡ spec.now }
+    requires next { IsNext (flown core.old) (standing core.old) (standing_words core.old) event }
+    requires fits { FlyBy core.old flyers.old }
+    ensures spec { core.new.spec ≡ core.old.spec }
+    ensures script { core.new.script ≡ core.old.script }
+    ensures happens { Happens (flown core.old) (standing core.old) (standing_words core.old) event (standing core.new) (standing_words core.new) }
+    ensures history { core.new.history ≡ core.old.history ++ event_code event ∷ [] }
+    ensures fewer { events_left (flown core.new) (standing core.new) < events_left (flown core.old) (standing core.old) }
+    ensures fits { FlyBy core.new flyers.new }
+{
+    let word = flyers.word(core, spec, event);
+    step(core, event, word);
+}
+
+// Makes the next event of its actor with this word.
+fn step(core: &mut Core, event: Event, word: u64)
+    requires next { IsNext (flown core.old) (standing core.old) (standing_words core.old) event }
+    requires word { IsEventWord (flown core.old) (standing core.old) event word }
+    ensures spec { core.new.spec ≡ core.old.spec }
+    ensures script { core.new.script ≡ core.old.script }
+    ensures happens { Happens (flown core.old) (standing core.old) (standing_words core.old) event (standing core.new) (standing_words core.new) }
+    ensures history { core.new.history ≡ core.old.history ++ event_code event ∷ [] }
+    ensures fewer { events_left (flown core.new) (standing core.new) < events_left (flown core.old) (standing core.old) }
+{
+    match core.step(event, word) {
+        Ok(()) => {}
+        Err(_) => {}
+    }
+}

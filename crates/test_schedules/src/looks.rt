@@ -1,0 +1,93 @@
+//! Cores in the middle of a flight.
+
+ghost use Rattle.fault_script.specs.Fits.{Fits};
+
+use crate::flights::fly_some;
+use crate::halts::Halts;
+use crate::scripts::{rule_named, script_of};
+use app_model::racks::empty_racks;
+use bank_words::Event;
+use event_core::{Core, Illegal};
+use scram_types::{ProcId, Script, Spec};
+use std::io::{self, ErrorKind};
+use std::rt::HostRuntime;
+use test_kit::{number, print_image, split_word};
+
+/// Flies the number of events of a row's script that each of its lines says, and prints what the core shows.
+pub(crate) fn look_row(rt: &HostRuntime, spec: &Spec, row: &str) -> io::Result<()> {
+    let halt = Halts::of_row(row)?.halt(0);
+    for line in row.split('\n') {
+        if let Some(rest) = line.strip_prefix("after ") {
+            println!(rt; "after {rest}")?;
+            let script = script_of(rt.alloc(), spec, row, halt)?;
+            look(rt, spec, &script, rest)?;
+        }
+    }
+    Ok(())
+}
+
+/// Flies this number of events by a rule, as `EVENTS RULE WORD`, and prints what the word asks for.
+fn look(rt: &HostRuntime, spec: &Spec, script: &Script, line: &str) -> io::Result<()>
+    requires { Fits spec.now script.now }
+{
+    let (events, rest) = split_word(line);
+    let (rule, word) = split_word(rest);
+    let (rule, events) = (rule_named(rule)?, number(events)?);
+    let racks = empty_racks(rt.alloc())?;
+    let spares = empty_racks(rt.alloc())?;
+    match fly_some(rt.alloc(), spec, script, racks, spares, rule, events) {
+        Ok(mut core) => print_word(rt, spec, &mut core, word),
+        Err(_) => Err(ErrorKind::OutOfMemory.into()),
+    }
+}
+
+fn print_word(rt: &HostRuntime, spec: &Spec, core: &mut Core, word: &str) -> io::Result<()> {
+    let events = core.history().len();
+    match word {
+        "flip" => {
+            let answer = core.step(Event::Flip(ProcId(0)), 0);
+            print_answer(rt, core, events, answer)
+        }
+        "release" => {
+            let answer = core.step(Event::Release, 0);
+            print_answer(rt, core, events, answer)
+        }
+        "kernel" => print_kernel(rt, core),
+        _ => print_seen(rt, spec, core),
+    }
+}
+
+fn print_kernel(rt: &HostRuntime, core: &Core) -> io::Result<()> {
+    let frame = core.kernel_frame();
+    println!(rt;
+        "events {}, kernel in frame {frame}, next {:?}",
+        core.history().len(),
+        core.next_kernel()
+    )
+}
+
+/// Prints what the core said of an event, how many events it had before, and how many it has.
+fn print_answer(
+    rt: &HostRuntime,
+    core: &Core,
+    before: usize,
+    answer: Result<(), Illegal>,
+) -> io::Result<()> {
+    match answer {
+        Ok(()) => println!(rt; "made"),
+        Err(illegal) => println!(rt;
+            "refused, next {:?}, events {before} and {}",
+            illegal.next,
+            core.history().len()
+        ),
+    }
+}
+
+/// Prints what the second processor finds in the image of the first one, where it has looked.
+fn print_seen(rt: &HostRuntime, spec: &Spec, core: &Core) -> io::Result<()> {
+    let Some(Event::Store(p, _)) = core.next_of(ProcId(1)) else {
+        return println!(rt; "has not looked");
+    };
+    let snap = core.snapshot(p);
+    print_image(rt, spec, 0, &snap.images[0])
+}

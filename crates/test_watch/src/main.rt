@@ -1,0 +1,38 @@
+//! Telemetry of flights. A row of `rows.txt` has a title and lines. `note COUNT` publishes the first COUNT rows of a mission of
+//! `uav`, whose script stands behind `= `, and prints what the readers see: one that was there before the rows, and one of a
+//! note behind them. `fly NUMBER` flies the mission of a number while two readers read, and compares each summary that they
+//! see with that of the flight on one thread. How many different summaries they saw depends on the machine, so that goes to
+//! standard error.
+#![tactic(auto)]
+
+mod notes;
+mod readers;
+mod summaries;
+
+use crate::notes::note;
+use crate::readers::fly;
+use std::alloc::AllocGlobal;
+use std::io::{self, ErrorKind};
+use std::sync::Wait;
+use std::thread::Threads;
+use test_kit::{each_row, line_after, number, split_word};
+
+fn main(rt: HostRuntime) -> io::Result<()> {
+    each_row(&rt, |title, lines| answer_row(&rt, &rt, title, lines))
+}
+
+/// Does what a row says.
+fn answer_row<R: AllocGlobal + Threads + Wait + Sync>(
+    rt: &HostRuntime,
+    threads: &R,
+    title: &str,
+    lines: &str,
+) -> io::Result<()> {
+    let (form, word) = split_word(title);
+    let count = number(word)?;
+    match form {
+        "note" => note(rt, count, line_after(lines, "= ").unwrap_or("")),
+        "fly" => fly(rt, threads, count),
+        _ => Err(ErrorKind::InvalidInput.into()),
+    }
+}

@@ -1,0 +1,63 @@
+//! The two processors of `uav` with their racks.
+
+ghost use Rattle.std.specs.Prelude.{◌≡◌, IfOk, IfSome, Some};
+ghost use Rattle.fail_stop.specs.Events.{At};
+ghost use Rattle.word_table.specs.Tables.{AreOpening, AreSeatsOf, IsSeatOf, seat_place};
+ghost use Rattle.word_deck.specs.Crews.{CrewFits};
+ghost use Rattle.test_words.specs.Actors.{PairFits};
+
+use app_model::Rack;
+use std::io::{self, ErrorKind};
+use word_deck::{Crew, KernelCrew};
+use word_table::{Seat, WordTable};
+
+/// The crews of both processors.
+#[derive(Drop)]
+pub struct Pair {
+    pub first: Crew,
+    pub second: Crew,
+}
+
+/// Both processors and the kernel.
+#[derive(Drop)]
+pub struct Actors<'a> {
+    pub pair: Pair,
+    pub kernel: KernelCrew<'a>,
+}
+
+/// Returns the crews of two processors before the first frame, with racks from the ends of these lists.
+pub fn pair_of(
+    words: &WordTable,
+    mut seats: Vec<Seat>,
+    mut racks: Vec<Rack>,
+    mut spares: Vec<Rack>,
+) -> io::Result<Pair>
+    requires seats { AreSeatsOf words.now seats.items }
+    requires opening { AreOpening seats.items }
+    ensures { IfOk result (λ pair. PairFits words.now pair) }
+{
+    if seats.len() != 2 {
+        return Err(ErrorKind::InvalidInput.into());
+    }
+    let (two, one) = (seats.pop(), seats.pop());
+    let first = crew_of(words, one, racks.pop(), spares.pop())?;
+    let second = crew_of(words, two, racks.pop(), spares.pop())?;
+    Ok(Pair { first, second })
+}
+
+fn crew_of(
+    words: &WordTable,
+    seat: Option<Seat>,
+    rack: Option<Rack>,
+    spare: Option<Rack>,
+) -> io::Result<Crew>
+    requires seat { IfSome seat (IsSeatOf words.now) }
+    requires opening { IfSome seat (λ seat. seat_place seat ≡ At 0 0) }
+    ensures seat { IfOk result (λ crew. Some crew.seat ≡ seat) }
+    ensures fits { IfOk result (λ crew. CrewFits words.now crew) }
+{
+    match (seat, rack, spare) {
+        (Some(seat), Some(rack), Some(spare)) => Ok(Crew::processor(seat, rack, spare)),
+        _ => Err(ErrorKind::InvalidInput.into()),
+    }
+}

@@ -1,0 +1,33 @@
+//! What a processor finds as its frame begins.
+
+ghost use Rattle.std.specs.Prelude.{◌≡◌, ◌<◌, length};
+ghost use Rattle.word_table.specs.Actors.{steps_of};
+ghost use Rattle.word_table.specs.Tables.{IsSeatOf, mission_in, seat_place};
+
+use scram_types::ProcId;
+use std::io;
+use std::rt::HostRuntime;
+use test_kit::print_image;
+use word_table::{Seat, Words};
+
+/// Has the seat's processor start its next frame, where that is released, and look at the first processor. Prints the
+/// areas of the applications that it finds there.
+#[tactic(auto, using(crate::proofs::Looking::waits_at, word_deck::proofs::Steps::looks))]
+pub fn look(rt: &HostRuntime, words: &Words, seat: &mut Seat) -> io::Result<()>
+    requires seat { IsSeatOf words.now.table seat.old }
+    requires begin { steps_of (seat_place seat.old) ≡ 0 }
+    requires some { 0 < length (mission_in words.now.table).spec.procs }
+{
+    let mission = words.mission();
+    let frames = mission.script().frames;
+    if seat.halted() || seat.frame() >= frames {
+        return println!(rt; "does not wait");
+    }
+    match words.started(seat) {
+        Some(_) => {
+            let image = words.look(seat, ProcId(0));
+            print_image(rt, mission.spec(), 0, &image)
+        }
+        None => println!(rt; "not released"),
+    }
+}

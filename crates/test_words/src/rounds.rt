@@ -1,0 +1,105 @@
+//! Turns of processors and of the kernel on one thread.
+
+ghost use Rattle.test_words.specs.Actors.{ActorsFit};
+
+use crate::crews::Actors;
+use coverage_check::Mission;
+use std::io::{self, ErrorKind};
+use std::rt::HostRuntime;
+use test_kit::{number, split_word};
+use word_deck::Turn;
+use word_table::WordTable;
+
+/// A flight of the rows needs fewer rounds.
+const ROUNDS: u32 = 100_000;
+
+/// Makes the turns of these names once, and prints what each answers.
+pub fn print_turns(
+    rt: &HostRuntime,
+    mission: &Mission,
+    words: &WordTable,
+    actors: &mut Actors,
+    names: &str,
+) -> io::Result<()>
+    requires { ActorsFit words.now mission.now actors.old }
+    ensures { ActorsFit words.now mission.now actors.new }
+{
+    for name in names.split(' ') {
+        let turn = make_turn(mission, words, actors, name)?;
+        println!(rt; "{name} {turn:?}")?;
+    }
+    Ok(())
+}
+
+/// Makes the turns of these names this number of times, as `TIMES NAME ..`.
+pub fn repeat_turns(
+    mission: &Mission,
+    words: &WordTable,
+    actors: &mut Actors,
+    line: &str,
+) -> io::Result<()>
+    requires { ActorsFit words.now mission.now actors.old }
+    ensures { ActorsFit words.now mission.now actors.new }
+{
+    let (times, names) = split_word(line);
+    for _time in 0..number(times)? {
+        let _finished = make_round(mission, words, actors, names)?;
+    }
+    Ok(())
+}
+
+/// Makes the turns of these names in order, again and again, until all of a round answer that they have finished. The
+/// number of rounds.
+pub fn fly_rounds(
+    mission: &Mission,
+    words: &WordTable,
+    actors: &mut Actors,
+    names: &str,
+) -> io::Result<u32>
+    requires { ActorsFit words.now mission.now actors.old }
+    ensures { ActorsFit words.now mission.now actors.new }
+{
+    for round in 0..ROUNDS {
+        if make_round(mission, words, actors, names)? {
+            return Ok(round + 1);
+        }
+    }
+    Err(ErrorKind::TimedOut.into())
+}
+
+// Makes the turns of these names: whether all answer that they have finished.
+fn make_round(
+    mission: &Mission,
+    words: &WordTable,
+    actors: &mut Actors,
+    names: &str,
+) -> io::Result<bool>
+    requires { ActorsFit words.now mission.now actors.old }
+    ensures { ActorsFit words.now mission.now actors.new }
+{
+    let mut finished = true;
+    for name in names.split(' ') {
+        if make_turn(mission, words, actors, name)? != Turn::Finished {
+            finished = false;
+        }
+    }
+    Ok(finished)
+}
+
+// Returns the turn of this name.
+fn make_turn(
+    mission: &Mission,
+    words: &WordTable,
+    actors: &mut Actors,
+    name: &str,
+) -> io::Result<Turn>
+    requires { ActorsFit words.now mission.now actors.old }
+    ensures { ActorsFit words.now mission.now actors.new }
+{
+    match name {
+        "p0" => Ok(actors.pair.first.turn(mission, words)),
+        "p1" => Ok(actors.pair.second.turn(mission, words)),
+        "kernel" => Ok(actors.kernel.turn(words)),
+        _ => Err(ErrorKind::InvalidInput.into()),
+    }
+}

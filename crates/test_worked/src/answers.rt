@@ -1,0 +1,117 @@
+//! What the command answers to the words of a row.
+
+use crate::files::numbers;
+use app_model::{Rack, racks_fit};
+use more_apps::PlainAutopilot;
+use racks::racks;
+use scram_cli::scram;
+use scram_io::{MemFiles, MemSink};
+use std::alloc::AllocGlobal;
+use std::io::{self, ErrorKind};
+use std::rt::HostRuntime;
+use std::sync::Wait;
+use std::thread::Threads;
+use test_kit::{Counters, counted_racks, counted_spares};
+
+/// More bytes than any row puts.
+const ROOM: u32 = 200_000;
+
+/// What the command reads and writes.
+#[derive(Drop)]
+pub struct Outside {
+    pub files: MemFiles,
+    pub sink: MemSink,
+}
+
+/// Makes the boxes and calls the command: the status, and what was put. The processor `plain` has the autopilot that
+/// remembers nothing.
+pub fn answer<R: AllocGlobal + Threads + Wait + Sync>(
+    rt: &HostRuntime,
+    threads: &R,
+    words: &[String],
+    outside: Outside,
+    plain: Option<u32>,
+) -> io::Result<(u8, MemSink)> {
+    let racks = racks!(rt, plain, PlainAutopilot::new());
+    let spares = racks!(rt);
+    call(threads, words, outside, racks, spares)
+}
+
+/// Returns the same with boxes that count their calls.
+pub fn answer_counted<R: AllocGlobal + Threads + Wait + Sync>(
+    rt: &HostRuntime,
+    threads: &R,
+    words: &[String],
+    outside: Outside,
+    counters: &Counters,
+) -> io::Result<(u8, MemSink)> {
+    let racks = counted_racks!(rt, counters);
+    let spares = counted_spares!(rt, counters);
+    call(threads, words, outside, racks, spares)
+}
+
+/// Returns the sink of a row, which fails where the row says so.
+pub fn make_sink(rt: &HostRuntime, row: &str) -> io::Result<MemSink> {
+    let failing = numbers(rt.alloc(), row, "! put ")?;
+    let rooms = numbers(rt.alloc(), row, "! room ")?;
+    let room = rooms.first().copied().unwrap_or(ROOM);
+    match MemSink::new(rt.alloc(), room as usize, failing) {
+        Ok(sink) => Ok(sink),
+        Err(_) => Err(ErrorKind::OutOfMemory.into()),
+    }
+}
+
+/// Returns the processor that has the plain autopilot, where the row says so.
+pub fn plain_processor(rt: &HostRuntime, row: &str) -> io::Result<Option<u32>> {
+    let procs = numbers(rt.alloc(), row, "! plain ")?;
+    Ok(procs.first().copied())
+}
+
+fn call<R: AllocGlobal + Threads + Wait + Sync>(
+    threads: &R,
+    words: &[String],
+    outside: Outside,
+    racks: Vec<Rack>,
+    spares: Vec<Rack>,
+) -> io::Result<(u8, MemSink)> {
+    if !racks_fit(&racks) || !racks_fit(&spares) {
+        return Err(ErrorKind::InvalidInput.into());
+    }
+    let Outside {
+        mut files,
+        mut sink,
+    } = outside;
+    let status = scram(threads, words, &mut files, &mut sink, racks, spares);
+    Ok((status.code, sink))
+}
+
+/// Prints what was put, and of a flight's frames the selected ones.
+pub fn print_answer(rt: &HostRuntime, bytes: &[u8], frames: &str) -> io::Result<()> {
+    let Ok(text) = str::from_utf8(bytes) else {
+        return Err(ErrorKind::InvalidData.into());
+    };
+    let mut is_wanted = true;
+    for line in text.split('\n') {
+        is_wanted = is_line_wanted(line, frames, is_wanted);
+        if is_wanted && !line.is_empty() {
+            println!(rt; "{line}")?;
+        }
+    }
+    Ok(())
+}
+
+/// Returns whether a line is selected, where it is said of the line before it.
+fn is_line_wanted(line: &str, frames: &str, before: bool) -> bool {
+    match line.split_once(' ') {
+        Some(("frame", rest)) => is_frame_wanted(rest, frames),
+        Some(("app", _)) => before,
+        _ => true,
+    }
+}
+
+fn is_frame_wanted(rest: &str, frames: &str) -> bool {
+    match rest.split_once(' ') {
+        Some((number, _)) => frames.split(' ').any(|frame| frame == number),
+        None => false,
+    }
+}

@@ -1,0 +1,113 @@
+//! The files of a row. The first is a file of the data folder, changed as each line `~ PIECE => OTHER PIECE` says.
+//! The second has the lines that stand after `= `, and is not there where no line begins with `=`; the third likewise
+//! after `- `. Of lines `! read N`, `! put N` and `! room N` the first two name a call that fails, from 0, and the
+//! last the bytes that the sink has room for; where a put is named, the count of the lines that went out is printed.
+//! Lines `! first N` and `! second N` let a file have this number of bytes, with spaces at its end, `! plain N` gives
+//! processor N the autopilot that remembers nothing, and `! counted` gives each processor boxes that count their
+//! calls, of which those of the first two processors wait for one another; then the counts are printed.
+
+use scram_io::MemFiles;
+use std::alloc::Global;
+use std::rt::HostRuntime;
+use std::{fs, io};
+use test_kit::{change_piece, number};
+
+/// Returns the words of a line.
+pub fn list_words(alloc: Global, line: &str) -> io::Result<Vec<String>> {
+    let mut words = Vec::new(alloc);
+    for word in line.split(' ') {
+        words.push(word.to_string(alloc)?)?;
+    }
+    Ok(words)
+}
+
+/// Returns the files that the words name.
+pub fn make_files(rt: &HostRuntime, words: &[String], row: &str) -> io::Result<MemFiles> {
+    let mut entries = Vec::new(rt.alloc());
+    for (i, word) in words.iter().enumerate() {
+        let text = match i {
+            1 if word.as_str().ends_with(".json") => {
+                let text = fs::read_to_string(rt, word.as_str())?;
+                Some(pad(rt.alloc(), change(rt.alloc(), text, row)?, row, "! first ")?)
+            }
+            2 => match listed_file(rt.alloc(), row, "=")? {
+                Some(text) => Some(pad(rt.alloc(), text, row, "! second ")?),
+                None => None,
+            },
+            3 => listed_file(rt.alloc(), row, "-")?,
+            _ => None,
+        };
+        if let Some(text) = text {
+            entries.push((word.as_str().to_string(rt.alloc())?, text.into_bytes()))?;
+        }
+    }
+    Ok(MemFiles::new(entries, numbers(rt.alloc(), row, "! read ")?))
+}
+
+/// Returns whether a row asks for boxes that count their calls.
+pub fn is_counted(row: &str) -> bool {
+    row.split('\n').any(|line| line == "! counted")
+}
+
+/// Returns whether a row names a put that fails.
+pub fn is_put_failing(row: &str) -> bool {
+    row.split('\n').any(|line| line.starts_with("! put "))
+}
+
+/// Returns the numbers that stand in a row's lines after these words.
+pub fn numbers(alloc: Global, row: &str, words: &str) -> io::Result<Vec<u32>> {
+    let mut numbers = Vec::new(alloc);
+    for line in row.split('\n') {
+        if let Some(digits) = line.strip_prefix(words) {
+            numbers.push(number(digits)?)?;
+        }
+    }
+    Ok(numbers)
+}
+
+/// Returns the text, with spaces at its end where a row's line with these words asks for more bytes.
+fn pad(alloc: Global, text: String, row: &str, words: &str) -> io::Result<String> {
+    match numbers(alloc, row, words)?.first() {
+        Some(length) => {
+            let missing = (*length as usize).saturating_sub(text.len());
+            let spaces = " ".repeat(alloc, missing)?;
+            Ok(format!(in alloc; "{text}{spaces}")?)
+        }
+        None => Ok(text),
+    }
+}
+
+/// Returns the file of the lines that begin with a mark, each without it and the space behind it. A mark alone is no
+/// line of the file, but has it be there.
+fn listed_file(alloc: Global, row: &str, mark: &str) -> io::Result<Option<String>> {
+    let mut file = None;
+    for line in row.split('\n') {
+        if let Some(rest) = line.strip_prefix(mark) {
+            let text = file.unwrap_or_else(|| String::new(alloc));
+            file = Some(append_line(alloc, text, rest.strip_prefix(" "))?);
+        }
+    }
+    Ok(file)
+}
+
+/// Returns the text, and a line after it where there is one.
+fn append_line(alloc: Global, text: String, line: Option<&str>) -> io::Result<String> {
+    match line {
+        Some(line) => Ok(format!(in alloc; "{text}{line}\n")?),
+        None => Ok(text),
+    }
+}
+
+fn change(alloc: Global, text: String, row: &str) -> io::Result<String> {
+    let mut text = text;
+    for line in row.split('\n') {
+        if let Some((piece, new)) = change_of(line) {
+            text = change_piece(alloc, text.as_str(), piece, new)?;
+        }
+    }
+    Ok(text)
+}
+
+fn change_of(line: &str) -> Option<(&str, &str)> {
+    line.strip_prefix("~ ")?.split_once(" => ")
+}
