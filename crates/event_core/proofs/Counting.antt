@@ -92,12 +92,12 @@ ended_notes spec places some = by_side (dec_le (length spec.procs) places.step) 
       ended_by spec places false going ∙ sym (div-mul-add places.frame procs places.step low) ∙ ap (λ n. n / procs) (sym sum) ∙ ap (λ n. (procs * places.frame + n) / procs) (sym kept)
 
 pub counted : HistoriesTellFrames
-counted spec script facts codes places words r =
+counted spec script facts events places words r =
     let m = flight_of spec script in
-    let frame : places.frame ≡ releases_in r.events = ap (λ (at : Places). at.frame) r.places_are ∙ frames_on m (opening m) r.events r.state r.schedule ∙ (let sum : 0 + releases_in r.events ≡ releases_in r.events = omega arith in sum) in
+    let frame : places.frame ≡ releases_in events = ap (λ (at : Places). at.frame) r.places_are ∙ frames_on m (opening m) events r.state r.schedule ∙ (let sum : 0 + releases_in events ≡ releases_in events = omega arith in sum) in
     let start : noted m (opening m).at ≡ 0 = grind arith in
-    let notes : length spec.procs * places.frame + min places.step (length spec.procs) ≡ notes_in r.events =
-    ap (noted m) r.places_are ∙ notes_on m (opening m) r.events r.state r.schedule ∙ ap (λ n. n + notes_in r.events) start ∙ (let sum : 0 + notes_in r.events ≡ notes_in r.events = omega arith in sum) in
+    let notes : length spec.procs * places.frame + min places.step (length spec.procs) ≡ notes_in events =
+    ap (noted m) r.places_are ∙ notes_on m (opening m) events r.state r.schedule ∙ ap (λ n. n + notes_in events) start ∙ (let sum : 0 + notes_in events ≡ notes_in events = omega arith in sum) in
     record {
       frame = frame;
       notes = sym notes ∙ ap (λ f. length spec.procs * f + min places.step (length spec.procs)) frame;
@@ -105,9 +105,9 @@ counted spec script facts codes places words r =
     }
 
 -- the rows of a core, by its history
-pub rows_counted : (core : CoreParts) (spec : Parts) (script : ScriptParts) (places : KeptPlaces) (stored history : List ℕ) (rows : List Row) → core_of spec script places stored history ≡ core
+pub rows_counted : (core : CoreParts) (spec : Parts) (script : ScriptParts) (places : KeptPlaces) (stored : List ℕ) (history : List Event) (rows : List Row) → core_of spec script places stored history ≡ core
     → IsSpec spec → rows ≡ rows_below core.spec core.script (frames_ended core.spec core.places)
-    → (replay : IsReplay (flown core) core.history (standing core) (standing_words core)) → length rows ≡ notes_in replay.events / length core.spec.procs
+    → IsReplay (flown core) core.history (standing core) (standing_words core) → length rows ≡ notes_in core.history / length core.spec.procs
 rows_counted core spec script places stored history rows view facts is replay =
     let sound : IsSpec core.spec = subst (λ (core : CoreParts). IsSpec core.spec) view facts in
     ap length is ∙ length_listed (row_at core.spec core.script) (frames_ended core.spec core.places)

@@ -75,7 +75,7 @@ module _ (spec : Parts) (facts : IsSpec spec) (script : ScriptParts) (places pla
       record { step = last; same = frame; before = ended_by spec places false before ∙ sym frame; after = ended_by spec places2 true after }
 
 -- a core whose kernel goes on with the frame, and one whose kernel waits
-module _ (spec : Parts) (script : ScriptParts) (places2 : KeptPlaces) (stored2 history2 : List ℕ) (room2 count2 : ℕ) (machine : MachineKeeps spec script places2 stored2 history2 room2 count2)
+module _ (spec : Parts) (script : ScriptParts) (places2 : KeptPlaces) (stored2 : List ℕ) (history2 : List Event) (room2 count2 : ℕ) (machine : MachineKeeps spec script places2 stored2 history2 room2 count2)
     (kernel : KernelParts) where
   pub core_on : frames_ended spec places2 ≡ places2.frame + 1 → kernel ≡ kernel_after spec script (places2.frame + 1) → CoreKeeps spec script places2 stored2 history2 room2 count2 kernel
   core_on after is_kernel = record { machine = machine; kernel_is = is_kernel ∙ ap (kernel_after spec script) (sym after) }

@@ -1,11 +1,9 @@
 -- The history of a core is a schedule, and it has few events.
-use Rattle.std.proofs.Common.{◌≡◌, ◌∙◌, ℕ, ◌+◌, ◌*◌, ◌<◌, ◌≤◌, ap, subst, arith, List, [], ◌∷◌, length, refl}
+use Rattle.std.proofs.Common.{◌≡◌, ◌∙◌, ℕ, ◌+◌, ◌*◌, ◌<◌, ◌≤◌, subst, arith, List, [], ◌∷◌, length, refl}
 use Rattle.std.specs.Prelude.{Some}
-use Rattle.std.proofs.lemmas.List.{length-map}
 use Rattle.std.proofs.lemmas.Nat.{mul-le}
 use Rattle.scram_types.specs.Scripts.{ScriptParts}
 use Rattle.scram_types.specs.Specification.{IsSpec, Parts}
-use Rattle.bank_words.specs.Events.{event_code}
 use Rattle.bank_words.specs.declared.events.Event.{Event}
 use Rattle.fail_stop.specs.Events.{Places, Word}
 use Rattle.fail_stop.specs.Flights.{Flies, Flight}
@@ -26,7 +24,7 @@ use Rattle.event_core.proofs.Fewer.{fewer, first_flies}
 use Rattle.event_core.proofs.Opens.{all_events}
 
 -- what the parts keep, the core keeps
-pub replayed_by : (core : CoreParts) (spec : Parts) (script : ScriptParts) (places : KeptPlaces) (stored history : List ℕ) → core_of spec script places stored history ≡ core
+pub replayed_by : (core : CoreParts) (spec : Parts) (script : ScriptParts) (places : KeptPlaces) (stored : List ℕ) (history : List Event) → core_of spec script places stored history ≡ core
     → IsReplay (flight_of spec script) history (machine_places places) (stored_in stored) → IsReplay (flown core) core.history (standing core) (standing_words core)
 replayed_by core spec script places stored history is r = subst (λ (core : CoreParts). IsReplay (flown core) core.history (standing core) (standing_words core)) is r
 
@@ -57,8 +55,5 @@ few spec script (e ∷ es) t sound fits is =
     let long = longer m flies (λ p r is. restarts_within spec script fits p r is) (first_flies m (opening_words m) e is.0) (opening m) (e ∷ es) t (opens m flies) is in
     omega (arith, most, long)
 
-pub history_few : (spec : Parts) (script : ScriptParts) (codes : List ℕ) (at : Places) (words : Word → ℕ) → IsSpec spec → Fits spec script → IsReplay (flight_of spec script) codes at words → length codes ≤ 12580000
-history_few spec script codes at words sound fits r =
-    let all = few spec script r.events r.state sound fits r.schedule in
-    let same : length codes ≡ length r.events = ap length r.codes_are ∙ length-map r.events event_code in
-    omega (arith, all, same)
+pub history_few : (spec : Parts) (script : ScriptParts) (events : List Event) (at : Places) (words : Word → ℕ) → IsSpec spec → Fits spec script → IsReplay (flight_of spec script) events at words → length events ≤ 12580000
+history_few spec script events at words sound fits r = few spec script events r.state sound fits r.schedule

@@ -12,7 +12,7 @@ use Rattle.frame_model.specs.States.{start_area_of, start_keeper_of}
 use Rattle.fail_stop.specs.Flights.{Flight}
 use Rattle.fail_stop.specs.Kept.{opening_places}
 use Rattle.fail_stop.specs.ScriptFlights.{flight_of, kernel_words}
-use Rattle.fail_stop.specs.Schedules.{opening as opening_of}
+use Rattle.fail_stop.specs.Schedules.{IsSchedule, opening, opening as opening_of}
 use Rattle.event_core.specs.declared.places.Places.{Places as KeptPlaces}
 use Rattle.event_core.specs.Cores.{CoreKeeps, MachineKeeps, frames_ended}
 use Rattle.fail_stop.specs.Openings.{opening_list}
@@ -20,6 +20,7 @@ use Rattle.event_core.specs.Places.{kept_opening, machine_place, machine_places}
 use Rattle.event_core.specs.Rooms.{events_a_frame, events_left, left_below}
 use Rattle.fail_stop.proofs.OpeningLists.{opening_listed, opening_long}
 use Rattle.event_core.proofs.Replays.{places_same}
+use Rattle.bank_words.specs.declared.events.Event.{Event}
 
 pub replicated : {A : Type 0} (n q : ℕ) (x : A) → slice_index_or (replicate n x) q x ≡ x
 replicated zero q x = refl
@@ -36,7 +37,7 @@ left_open m (suc n) = let front = left_open m n in grind (arith, front)
 pub all_events : (m : Flight) → events_left m opening_places ≡ m.frames * (m.procs * events_a_frame m + (m.procs + 21))
 all_events m = let procs = left_open m m.procs in rw procs (grind arith)
 
-pub open_keeps : (spec : Parts) (script : ScriptParts) (first : List ℕ) (areas : List (List ℤ)) (keepers : List (Option ProcId)) (places : KeptPlaces) (stored history : List ℕ) (room count : ℕ)
+pub open_keeps : (spec : Parts) (script : ScriptParts) (first : List ℕ) (areas : List (List ℤ)) (keepers : List (Option ProcId)) (places : KeptPlaces) (stored : List ℕ) (history : List Event) (room count : ℕ)
     → IsSpec spec → Fits spec script → places ≡ kept_opening → stored ≡ opening_list script.frames first areas keepers → first ≡ kernel_words spec script 0
     → areas ≡ eight (start_area_of spec) → keepers ≡ eight (start_keeper_of spec) → history ≡ []
     → script.frames * (length spec.procs * (length spec.procs + 8 * length spec.apps + 3) + (length spec.procs + 21)) ≤ room → count ≡ 0
@@ -52,10 +53,8 @@ open_keeps spec script first areas keepers places stored history room count fact
       fits = fits;
       long = ap length is_stored ∙ opening_long script.frames first areas keepers;
       replay = record {
-        events = [];
         state = opening_of (flight_of spec script);
-        codes_are = is_history;
-        schedule = refl;
+        schedule = subst (λ (events : List Event). IsSchedule (flight_of spec script) (opening (flight_of spec script)) events (opening (flight_of spec script))) (sym is_history) refl;
         places_are = where_;
         words_are = λ w s. opening_listed spec script stored w list facts.procs_count.few (omega (arith, narrow)) s;
       };
@@ -63,7 +62,7 @@ open_keeps spec script first areas keepers places stored history room count fact
     }
 
 -- with the kernel before the first frame
-pub opened : (spec : Parts) (script : ScriptParts) (places : KeptPlaces) (stored history : List ℕ) (room count : ℕ) (kernel : KernelParts)
+pub opened : (spec : Parts) (script : ScriptParts) (places : KeptPlaces) (stored : List ℕ) (history : List Event) (room count : ℕ) (kernel : KernelParts)
     → MachineKeeps spec script places stored history room count → places ≡ kept_opening → kernel ≡ kernel_after spec script 0 → CoreKeeps spec script places stored history room count kernel
 opened spec script places stored history room count kernel machine is_places is_kernel =
     let some : nat_le (length spec.procs) 0 ≡ false = (let one = machine.facts.procs_count.enough in grind (arith, nat_tests, one)) in

@@ -38,7 +38,7 @@ nothing_flown : (m : Flight) (es : List Event) (t : Machine) → m.frames ≡ 0 
 nothing_flown m [] t none is = is
 nothing_flown m (x ∷ es) t none is = let some = first_flies m (opening m).words x is.0 in absurd (omega (arith, some, none))
 
-module _ {spec : Parts} {script : ScriptParts} {places : KeptPlaces} {stored history : List ℕ} {room count : ℕ} (k : MachineKeeps spec script places stored history room count) where
+module _ {spec : Parts} {script : ScriptParts} {places : KeptPlaces} {stored : List ℕ} {history : List Event} {room count : ℕ} (k : MachineKeeps spec script places stored history room count) where
   pub is_over : (script.frames ≡ 0) ⊎ ((suc places.frame ≡ script.frames) × (length spec.procs ≤ places.step)) → IsOver (flight_of spec script) (machine_places places)
   is_over (inl none) = inl none
   is_over (inr last) =
@@ -52,7 +52,7 @@ module _ {spec : Parts} {script : ScriptParts} {places : KeptPlaces} {stored his
 
   none_ended : script.frames ≡ 0 → frames_ended spec places ≡ script.frames
   none_ended none =
-      let start = nothing_flown (flight_of spec script) k.replay.events k.replay.state none k.replay.schedule in
+      let start = nothing_flown (flight_of spec script) history k.replay.state none k.replay.schedule in
       let at : machine_places places ≡ (opening (flight_of spec script)).at = k.replay.places_are ∙ ap (λ (s : Machine). s.at) start in
       let frame : places.frame ≡ 0 = ap (λ (at : Places). at.frame) at in
       let step : places.step ≡ 0 = ap (λ (at : Places). at.step) at in
@@ -66,7 +66,7 @@ module _ {spec : Parts} {script : ScriptParts} {places : KeptPlaces} {stored his
   over_ended (inr last) = all_ended last.1 last.2
 
 -- the same of a core that has these parts
-pub over_by : (core : CoreParts) (spec : Parts) (script : ScriptParts) (places : KeptPlaces) (stored history : List ℕ) (room count : ℕ) → core_of spec script places stored history ≡ core
+pub over_by : (core : CoreParts) (spec : Parts) (script : ScriptParts) (places : KeptPlaces) (stored : List ℕ) (history : List Event) (room count : ℕ) → core_of spec script places stored history ≡ core
     → MachineKeeps spec script places stored history room count → (script.frames ≡ 0) ⊎ ((suc places.frame ≡ script.frames) × (length spec.procs ≤ places.step)) → IsOver (flown core) (standing core)
 over_by core spec script places stored history room count is k over = subst (λ (core : CoreParts). IsOver (flown core) (standing core)) is (is_over k over)
 
@@ -77,7 +77,7 @@ less_true : (a b : ℕ) → a ≤ b → IsTrue (nat_le a b)
 less_true a b is = grind (arith, nat_tests, is)
 
 -- in the last frame the flight is over once all are noted
-pub over_told : (core : CoreParts) (spec : Parts) (script : ScriptParts) (places : KeptPlaces) (stored history : List ℕ) (room count : ℕ) (procs : List Proc) → core_of spec script places stored history ≡ core
+pub over_told : (core : CoreParts) (spec : Parts) (script : ScriptParts) (places : KeptPlaces) (stored : List ℕ) (history : List Event) (room count : ℕ) (procs : List Proc) → core_of spec script places stored history ≡ core
     → MachineKeeps spec script places stored history room count → procs ≡ spec.procs → 0 < script.frames → suc places.frame ≡ script.frames
     → (IsTrue (nat_le (length procs) places.step) → IsOver (flown core) (standing core)) × (IsOver (flown core) (standing core) → IsTrue (nat_le (length procs) places.step))
 over_told core spec script places stored history room count procs is k is_procs some last = rw is_procs (
@@ -88,13 +88,13 @@ over_told core spec script places stored history room count procs is k is_procs 
   told (inl none) = absurd (omega (arith, some, none))
   told (inr frames_ended) = less_true (length spec.procs) places.step frames_ended.2
 
-pub ended_in : (core : CoreParts) (spec : Parts) (script : ScriptParts) (places : KeptPlaces) (stored history : List ℕ) (room count : ℕ) (kernel : KernelParts) → core_of spec script places stored history ≡ core
+pub ended_in : (core : CoreParts) (spec : Parts) (script : ScriptParts) (places : KeptPlaces) (stored : List ℕ) (history : List Event) (room count : ℕ) (kernel : KernelParts) → core_of spec script places stored history ≡ core
     → MachineKeeps spec script places stored history room count → kernel ≡ kernel_after spec script (frames_ended spec places) → IsOver (flown core) (standing core) → kernel.past ≡ kernel.script.frames
 ended_in core spec script places stored history room count kernel is k is_kernel over =
     let here : IsOver (flight_of spec script) (machine_places places) = subst (λ (core : CoreParts). IsOver (flown core) (standing core)) (sym is) over in
     ap (λ (k : KernelParts). k.past) is_kernel ∙ over_ended k here ∙ sym (ap (λ (k : KernelParts). k.script.frames) is_kernel)
 
-pub word_said : (core : CoreParts) (spec : Parts) (script : ScriptParts) (places : KeptPlaces) (stored history : List ℕ) (image : KernelImage) → core_of spec script places stored history ≡ core
+pub word_said : (core : CoreParts) (spec : Parts) (script : ScriptParts) (places : KeptPlaces) (stored : List ℕ) (history : List Event) (image : KernelImage) → core_of spec script places stored history ≡ core
     → image ≡ kernel_image spec script (frames_ended spec places) → length core.spec.procs ≤ core.places.step → kernel_encode image ≡ kernel_words core.spec core.script (core.places.frame + 1)
 word_said core spec script places stored history image is is_image all =
     let here : length spec.procs ≤ places.step = subst (λ (core : CoreParts). length core.spec.procs ≤ core.places.step) (sym is) all in

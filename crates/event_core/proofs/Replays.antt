@@ -1,8 +1,7 @@
 -- A history goes on with the next event.
 use Rattle.std.proofs.Common.{◌≡◌, ◌∙◌, ℕ, ◌<◌, Bool, true, false, refl, ap, sym, subst, arith, List, [], ◌∷◌, ◌++◌}
-use Rattle.std.specs.Prelude.{Option, Some, None, map, nat_lt, if◌then◌else◌}
+use Rattle.std.specs.Prelude.{Option, Some, None, nat_lt, if◌then◌else◌}
 use Rattle.std.proofs.lemmas.Bool.Decides.{nat_tests}
-use Rattle.bank_words.specs.Events.{event_code}
 use Rattle.bank_words.specs.declared.events.Event.{Event}
 use Rattle.bank_words.specs.declared.events.Event.TheVariants.{Start, Look, Store, Flip, Done, Halt, KNote, KStore, Release}
 use Rattle.scram_types.specs.Lookups.{proc_id}
@@ -19,10 +18,6 @@ use Rattle.event_core.specs.Replays.{IsReplay}
 more : (m : Flight) (s : Machine) (es : List Event) (t : Machine) (e : Event) → IsSchedule m s es t → IsNext m t.at t.words e → IsSchedule m s (es ++ e ∷ []) (happened m t e)
 more m s [] t e is next = (subst (λ (t : Machine). IsNext m t.at t.words e) is next, ap (λ (t : Machine). happened m t e) is)
 more m s (x ∷ es) t e is next = (is.0, more m (happened m s x) es t e is.1 next)
-
-map_more : (es : List Event) (e : Event) → map event_code (es ++ e ∷ []) ≡ map event_code es ++ event_code e ∷ []
-map_more [] e = refl
-map_more (x ∷ es) e = ap (λ l. event_code x ∷ l) (map_more es e)
 
 -- words that agree have the same next events
 module _ (m : Flight) (at : Places) (v w : Word → ℕ) (same : (x : Word) → IsStored m x → v x ≡ w x) where
@@ -52,9 +47,9 @@ module _ (m : Flight) (at : Places) (v w : Word → ℕ) (same : (x : Word) → 
   next_moved Release i = sym kernel_same ∙ i
 
 -- what stands in the state of a history
-pub replay_kept : (m : Flight) (codes : List ℕ) (at : Places) (words : Word → ℕ) → Flies m → IsReplay m codes at words → Kept m at words
-replay_kept m codes at words y r =
-    let k = each_state m r.events r.state y r.schedule in
+pub replay_kept : (m : Flight) (events : List Event) (at : Places) (words : Word → ℕ) → Flies m → IsReplay m events at words → Kept m at words
+replay_kept m events at words y r =
+    let k = each_state m events r.state y r.schedule in
     let moved : Kept m at r.state.words = subst (λ (a : Places). Kept m a r.state.words) (sym r.places_are) k in
     record { kernel = moved.kernel; placed = moved.placed; words_are = λ w s. r.words_are w s ∙ moved.words_are w s }
 
@@ -84,20 +79,18 @@ places_same a b procs frame step =
     ∙ ap (λ (f : ℕ). record { proc = b.proc; frame = f; step = a.step }) frame ∙ ap (λ (n : ℕ). record { proc = b.proc; frame = b.frame; step = n }) step
 
 -- an event that is next by the kept places and words is next in the state
-pub next_there : (m : Flight) (codes : List ℕ) (at : Places) (words : Word → ℕ) (e : Event) → (r : IsReplay m codes at words) → IsNext m at words e → IsNext m r.state.at r.state.words e
-next_there m codes at words e r next = subst (λ (a : Places). IsNext m a r.state.words e) r.places_are (next_moved m at words r.state.words r.words_are e next)
+pub next_there : (m : Flight) (events : List Event) (at : Places) (words : Word → ℕ) (e : Event) → (r : IsReplay m events at words) → IsNext m at words e → IsNext m r.state.at r.state.words e
+next_there m events at words e r next = subst (λ (a : Places). IsNext m a r.state.words e) r.places_are (next_moved m at words r.state.words r.words_are e next)
 
 -- with one event more at its end
-pub replay_on : (m : Flight) (codes : List ℕ) (at at2 : Places) (words words2 : Word → ℕ) (e : Event) → (r : IsReplay m codes at words) → IsNext m at words e → Moves m at e at2
+pub replay_on : (m : Flight) (events : List Event) (at at2 : Places) (words words2 : Word → ℕ) (e : Event) → (r : IsReplay m events at words) → IsNext m at words e → Moves m at e at2
     → ((w : Word) → IsStored m w → words2 w ≡ written (writes m at words e) words w)
-    → (more : IsReplay m (codes ++ event_code e ∷ []) at2 words2) × (more.events ≡ r.events ++ e ∷ []) × (more.state ≡ happened m r.state e)
-replay_on m codes at at2 words words2 e r next moves written_are =
-    let there = next_there m codes at words e r next in (
+    → (more : IsReplay m (events ++ e ∷ []) at2 words2) × (more.state ≡ happened m r.state e)
+replay_on m events at at2 words words2 e r next moves written_are =
+    let there = next_there m events at words e r next in (
       record {
-        events = r.events ++ e ∷ [];
         state = happened m r.state e;
-        codes_are = ap (λ l. l ++ event_code e ∷ []) r.codes_are ∙ sym (map_more r.events e);
-        schedule = more m (opening m) r.events r.state e r.schedule there;
+        schedule = more m (opening m) events r.state e r.schedule there;
         places_are = places_same at2 (places_after m at e) moves.proc moves.frame moves.step ∙ ap (λ (a : Places). places_after m a e) r.places_are;
         words_are = λ w s. written_are w s
             ∙ ap (λ o. written o words w) (writes_same m at words r.state.words r.words_are e next)
@@ -105,9 +98,8 @@ replay_on m codes at at2 words words2 e r next moves written_are =
             ∙ ap (λ (a : Places). written (writes m a r.state.words e) r.state.words w) r.places_are;
       },
       refl,
-      refl,
     )
 
-pub replay_more : (m : Flight) (codes : List ℕ) (at at2 : Places) (words words2 : Word → ℕ) (e : Event) → IsReplay m codes at words → IsNext m at words e → Moves m at e at2
-    → ((w : Word) → IsStored m w → words2 w ≡ written (writes m at words e) words w) → IsReplay m (codes ++ event_code e ∷ []) at2 words2
-replay_more m codes at at2 words words2 e r next moves written_are = (replay_on m codes at at2 words words2 e r next moves written_are).0
+pub replay_more : (m : Flight) (events : List Event) (at at2 : Places) (words words2 : Word → ℕ) (e : Event) → IsReplay m events at words → IsNext m at words e → Moves m at e at2
+    → ((w : Word) → IsStored m w → words2 w ≡ written (writes m at words e) words w) → IsReplay m (events ++ e ∷ []) at2 words2
+replay_more m events at at2 words words2 e r next moves written_are = (replay_on m events at at2 words words2 e r next moves written_are).0

@@ -58,7 +58,7 @@ module _ (m : Flight) (at : Places) (p : ℕ) where
   not_noted f n is same (yes d) = d
   not_noted f n is same (no d) = let past = is.noted (omega (arith, d)) in absurd (omega (arith, past, same))
 
-module _ {spec : Parts} {script : ScriptParts} {places : KeptPlaces} {stored history : List ℕ} {room count : ℕ} (k : MachineKeeps spec script places stored history room count) (find : ReadersFind) where
+module _ {spec : Parts} {script : ScriptParts} {places : KeptPlaces} {stored : List ℕ} {history : List Event} {room count : ℕ} (k : MachineKeeps spec script places stored history room count) (find : ReadersFind) where
   at_place : (p : ℕ) (place : Place) → p < length spec.procs → (machine_places places).proc p ≡ place → HasLooked (flight_of spec script) place → Looking spec script places stored p
   at_place p (At f n) low here looked =
       let kept = kept_of k in
@@ -77,12 +77,12 @@ module _ {spec : Parts} {script : ScriptParts} {places : KeptPlaces} {stored his
   looking p low looked = at_place p ((machine_places places).proc p) low refl looked
 
 -- the same of a core that has these parts
-pub looking_in : (core : CoreParts) (spec : Parts) (script : ScriptParts) (places : KeptPlaces) (stored history : List ℕ) (room count p : ℕ) → core_of spec script places stored history ≡ core
+pub looking_in : (core : CoreParts) (spec : Parts) (script : ScriptParts) (places : KeptPlaces) (stored : List ℕ) (history : List Event) (room count p : ℕ) → core_of spec script places stored history ≡ core
     → MachineKeeps spec script places stored history room count → ReadersFind → p < length core.spec.procs → HasLooked (flown core) ((standing core).proc p) → Looking spec script places stored p
 looking_in core spec script places stored history room count p is k find low looked =
     looking k find p (subst (λ (core : CoreParts). p < length core.spec.procs) (sym is) low) (subst (λ (core : CoreParts). HasLooked (flown core) ((standing core).proc p)) (sym is) looked)
 
-pub said_by : (core : CoreParts) (spec : Parts) (script : ScriptParts) (places : KeptPlaces) (stored history : List ℕ) (p : ℕ) (image : KernelImage) → core_of spec script places stored history ≡ core
+pub said_by : (core : CoreParts) (spec : Parts) (script : ScriptParts) (places : KeptPlaces) (stored : List ℕ) (history : List Event) (p : ℕ) (image : KernelImage) → core_of spec script places stored history ≡ core
     → p < length core.spec.procs → Looking spec script places stored p → image ≡ kernel_image spec script (frames_ended spec places) → image ≡ kernel_image spec script places.frame
 said_by core spec script places stored history p image is known l is_image =
     let low : p < length spec.procs = subst (λ (core : CoreParts). p < length core.spec.procs) (sym is) known in
@@ -99,7 +99,7 @@ held_now : (spec : Parts) (script : ScriptParts) (stored : List ℕ) (f : ℕ) �
 held_now spec script stored f finds p i low inside = ap (λ b. stored_in stored (BankWord p b i)) (finds.picked p low) ∙ finds.held p i low inside
 
 -- what is read is the snapshot
-pub snapshot_by : (core : CoreParts) (spec : Parts) (script : ScriptParts) (places : KeptPlaces) (stored history : List ℕ) (room count p : ℕ) (snap : Snapshot) (frame : ℕ)
+pub snapshot_by : (core : CoreParts) (spec : Parts) (script : ScriptParts) (places : KeptPlaces) (stored : List ℕ) (history : List Event) (room count p : ℕ) (snap : Snapshot) (frame : ℕ)
     → core_of spec script places stored history ≡ core → MachineKeeps spec script places stored history room count → Looking spec script places stored p
     → snap.kernel ≡ kernel_image spec script places.frame → frame ≡ frame_of ((standing core).proc p)
     → ((p : ℕ) → p < 8 → length (image_in snap.images p) ≡ 64) → ((p : ℕ) → p < 8 → (i : ℕ) → i < 64 → slice_index_or (image_in snap.images p) i (pos 0) ≡ word_read spec stored frame p i)
@@ -126,7 +126,7 @@ store_looked m at words p i next =
     (is_less p.0 m.procs a.0, subst (λ (place : Place). HasLooked m place) (sym b.here) (omega (arith, count), omega (arith, count, low)), low)
 
 -- the machine goes on
-pub goes_on_by : (core : CoreParts) (spec : Parts) (script : ScriptParts) (places : KeptPlaces) (stored history : List ℕ) (room count : ℕ) → core_of spec script places stored history ≡ core
+pub goes_on_by : (core : CoreParts) (spec : Parts) (script : ScriptParts) (places : KeptPlaces) (stored : List ℕ) (history : List Event) (room count : ℕ) → core_of spec script places stored history ≡ core
     → MachineKeeps spec script places stored history room count → MachineGoesOn → IsOver (flown core) (standing core) ⊎ ((event : Event) × IsNext (flown core) (standing core) (standing_words core) event)
 goes_on_by core spec script places stored history room count is k on =
     subst (λ (core : CoreParts). IsOver (flown core) (standing core) ⊎ ((event : Event) × IsNext (flown core) (standing core) (standing_words core) event)) is

@@ -2,7 +2,6 @@
 use Rattle.std.proofs.Common.{◌≡◌, ◌∙◌, ℕ, ◌+◌, ◌*◌, ◌<◌, ◌≤◌, refl, ap, sym, subst, arith, List, [], ◌∷◌, ◌++◌, length}
 use Rattle.std.specs.Prelude.{Option, Some, None}
 use Rattle.std.proofs.lemmas.Grind.{common_steps}
-use Rattle.bank_words.specs.Events.{event_code}
 use Rattle.bank_words.specs.declared.events.Event.{Event}
 use Rattle.scram_types.specs.Scripts.{ScriptParts}
 use Rattle.scram_types.specs.Specification.{Parts}
@@ -27,7 +26,7 @@ long_after : (list : List ℕ) (o : Option (Word × ℕ)) → length (list_after
 long_after list None = refl
 long_after list (Some t) = grind (arith, common_steps)
 
-module _ (spec : Parts) (script : ScriptParts) (places : KeptPlaces) (stored history : List ℕ) (room count : ℕ) (k : MachineKeeps spec script places stored history room count)
+module _ (spec : Parts) (script : ScriptParts) (places : KeptPlaces) (stored : List ℕ) (history : List Event) (room count : ℕ) (k : MachineKeeps spec script places stored history room count)
     (e : Event) (next : IsNext (flight_of spec script) (machine_places places) (stored_in stored) e) where
   flies : Flies (flight_of spec script)
   flies = script_flies spec script k.fits
@@ -36,7 +35,7 @@ module _ (spec : Parts) (script : ScriptParts) (places : KeptPlaces) (stored his
   kept = replay_kept (flight_of spec script) history (machine_places places) (stored_in stored) flies k.replay
 
   flying : 0 < script.frames
-  flying = has_frames (flight_of spec script) k.replay.events k.replay.state e k.replay.schedule (next_there (flight_of spec script) history (machine_places places) (stored_in stored) e k.replay next)
+  flying = has_frames (flight_of spec script) history k.replay.state e k.replay.schedule (next_there (flight_of spec script) history (machine_places places) (stored_in stored) e k.replay next)
 
   few : length spec.procs ≤ 8
   few = k.facts.procs_count.few
@@ -73,7 +72,7 @@ module _ (spec : Parts) (script : ScriptParts) (places : KeptPlaces) (stored his
           (record { procs = few; width = narrow; long = k.long }) (target (flight_of spec script) (machine_places places) (stored_in stored) e next) s;
     }
 
-    pub step_keeps : (history2 : List ℕ) (room2 count2 : ℕ) → history2 ≡ history ++ event_code e ∷ [] → room2 ≡ room → count2 ≡ count + 1
+    pub step_keeps : (history2 : List Event) (room2 count2 : ℕ) → history2 ≡ history ++ e ∷ [] → room2 ≡ room → count2 ≡ count + 1
         → MachineKeeps spec script places2 stored2 history2 room2 count2
     step_keeps history2 room2 count2 is_history is_room is_count =
         let left = less (machine_places places2) moves in record {
@@ -85,17 +84,17 @@ module _ (spec : Parts) (script : ScriptParts) (places : KeptPlaces) (stored his
           room_left = omega (arith, left, k.room_left, is_room, is_count);
         }
 
-pub kept_of : {spec : Parts} {script : ScriptParts} {places : KeptPlaces} {stored history : List ℕ} {room count : ℕ} → MachineKeeps spec script places stored history room count
+pub kept_of : {spec : Parts} {script : ScriptParts} {places : KeptPlaces} {stored : List ℕ} {history : List Event} {room count : ℕ} → MachineKeeps spec script places stored history room count
     → Kept (flight_of spec script) (machine_places places) (stored_in stored)
 kept_of {spec} {script} {places} {stored} {history} k = replay_kept (flight_of spec script) history (machine_places places) (stored_in stored) (script_flies spec script k.fits) k.replay
 
 -- the same of a core that has these parts
-pub happens_by : (core : CoreParts) (spec : Parts) (script : ScriptParts) (places : KeptPlaces) (stored history : List ℕ) (e : Event) (places2 : KeptPlaces) (stored2 : List ℕ)
+pub happens_by : (core : CoreParts) (spec : Parts) (script : ScriptParts) (places : KeptPlaces) (stored : List ℕ) (history : List Event) (e : Event) (places2 : KeptPlaces) (stored2 : List ℕ)
     → core_of spec script places stored history ≡ core → Happens (flight_of spec script) (machine_places places) (stored_in stored) e (machine_places places2) (stored_in stored2)
     → Happens (flown core) (standing core) (standing_words core) e (machine_places places2) (stored_in stored2)
 happens_by core spec script places stored history e places2 stored2 is h = subst (λ (core : CoreParts). Happens (flown core) (standing core) (standing_words core) e (machine_places places2) (stored_in stored2)) is h
 
-pub fewer_by : (core : CoreParts) (spec : Parts) (script : ScriptParts) (places : KeptPlaces) (stored history : List ℕ) (places2 : KeptPlaces)
+pub fewer_by : (core : CoreParts) (spec : Parts) (script : ScriptParts) (places : KeptPlaces) (stored : List ℕ) (history : List Event) (places2 : KeptPlaces)
     → core_of spec script places stored history ≡ core → events_left (flight_of spec script) (machine_places places2) < events_left (flight_of spec script) (machine_places places)
     → events_left (flight_of spec script) (machine_places places2) < events_left (flown core) (standing core)
 fewer_by core spec script places stored history places2 is low =

@@ -1,12 +1,12 @@
 -- A core, as its callers see it, and what it keeps.
-use Rattle.std.specs.Prelude.{◌≡◌, ℕ, ◌+◌, ◌≤◌, Bool, false, List, length, nat_eq, nat_le, if◌then◌else◌}
+use Rattle.std.specs.Prelude.{◌≡◌, ◌≢◌, ℕ, ◌+◌, ◌≤◌, Bool, false, List, length, Option, Some, nat_eq, nat_le, if◌then◌else◌}
 use Rattle.scram_types.specs.Scripts.{ScriptParts}
 use Rattle.scram_types.specs.Specification.{IsSpec, Parts}
 use Rattle.bank_words.specs.declared.events.Event.{Event}
 use Rattle.bank_words.specs.declared.events.Event.TheVariants.{Start, Look, Store, Flip, Done, Halt, KNote, KStore, Release}
 use Rattle.fault_script.specs.Fits.{Fits}
 use Rattle.scram_kernel.specs.Kernels.{KernelParts, kernel_after}
-use Rattle.fail_stop.specs.Events.{Places, Word}
+use Rattle.fail_stop.specs.Events.{Happens, IsNext, Places, Word, next_of_actor}
 use Rattle.fail_stop.specs.Flights.{Flight}
 use Rattle.fail_stop.specs.Listed.{places_of_words, stored_in}
 use Rattle.fail_stop.specs.ScriptFlights.{flight_of}
@@ -14,17 +14,19 @@ use Rattle.event_core.specs.declared.places.Places.{Places as KeptPlaces}
 use Rattle.event_core.specs.Places.{machine_places}
 use Rattle.event_core.specs.Replays.{IsReplay}
 use Rattle.event_core.specs.Rooms.{events_left}
+use Rattle.event_core.specs.declared.cores.Illegal.{Illegal}
+use Rattle.event_core.specs.Stores.{IsEventWord}
 
--- The specification and the script that it flies, where all stand, what is stored, and the codes of the events so far.
+-- The specification and the script that it flies, where all stand, what is stored, and the events so far.
 pub record CoreParts : Type 0 where
   pub spec : Parts
   pub script : ScriptParts
   pub places : KeptPlaces
   pub stored : List ℕ
-  pub history : List ℕ
+  pub history : List Event
 
 -- The parts of a core that keeps these places, these words in one list, and this history.
-abbrev pub core_of : Parts → ScriptParts → KeptPlaces → List ℕ → List ℕ → CoreParts
+abbrev pub core_of : Parts → ScriptParts → KeptPlaces → List ℕ → List Event → CoreParts
 core_of spec script places stored history = record { spec = spec; script = script; places = places; stored = stored; history = history }
 
 -- The flight of the machine that a core flies.
@@ -38,6 +40,26 @@ standing core = machine_places core.places
 -- What each word holds.
 abbrev pub standing_words : CoreParts → Word → ℕ
 standing_words core = stored_in core.stored
+
+-- An event is next in a core.
+abbrev pub IsNextIn : CoreParts → Event → Type 0
+IsNextIn core event = IsNext (flown core) (standing core) (standing_words core) event
+
+-- The next event of the actor of an event, where it has one.
+abbrev pub next_event : CoreParts → Event → Option Event
+next_event core event = next_of_actor (flown core) (standing core) (standing_words core) event
+
+-- A word is the one that an event stores in a core.
+abbrev pub IsWordIn : CoreParts → Event → ℕ → Type 0
+IsWordIn core event word = IsEventWord (flown core) (standing core) event word
+
+-- An event takes one core on to another.
+abbrev pub HappensIn : CoreParts → Event → CoreParts → Type 0
+HappensIn old event new = Happens (flown old) (standing old) (standing_words old) event (standing new) (standing_words new)
+
+-- An event is not the next of its actor: what is told is that event, and the one that is next instead.
+abbrev pub RefusesEvent : CoreParts → Event → Illegal → Type 0
+RefusesEvent core event told = (next_event core event ≢ Some event) × (told.given ≡ event) × (told.next ≡ next_event core event)
 
 -- How many frames have ended for the kernel: its own too, once all processors are noted in it.
 abbrev pub frames_ended : Parts → KeptPlaces → ℕ
@@ -57,7 +79,7 @@ ends_frame spec Release = false
 
 -- What the machine of a core keeps: the history is a schedule that leads to where all stand and to what is stored, and there is room for
 -- every event that can still come.
-pub record MachineKeeps (spec : Parts) (script : ScriptParts) (places : KeptPlaces) (stored history : List ℕ) (room count : ℕ) : Type 0 where
+pub record MachineKeeps (spec : Parts) (script : ScriptParts) (places : KeptPlaces) (stored : List ℕ) (history : List Event) (room count : ℕ) : Type 0 where
   pub facts : IsSpec spec
   pub fits : Fits spec script
   pub long : length stored ≡ places_of_words
@@ -65,6 +87,7 @@ pub record MachineKeeps (spec : Parts) (script : ScriptParts) (places : KeptPlac
   pub room_left : count + events_left (flight_of spec script) (machine_places places) ≤ room
 
 -- What a core keeps: its machine, and the kernel after the frames that have ended.
-pub record CoreKeeps (spec : Parts) (script : ScriptParts) (places : KeptPlaces) (stored history : List ℕ) (room count : ℕ) (kernel : KernelParts) : Type 0 where
+pub record CoreKeeps (spec : Parts) (script : ScriptParts) (places : KeptPlaces) (stored : List ℕ) (history : List Event)
+    (room count : ℕ) (kernel : KernelParts) : Type 0 where
   pub machine : MachineKeeps spec script places stored history room count
   pub kernel_is : kernel ≡ kernel_after spec script (frames_ended spec places)

@@ -54,5 +54,5 @@ pub record AreCounted (spec : Parts) (events : List Event) (places : KeptPlaces)
 
 -- The releases and the notes of a history give how many frames have ended.
 abbrev pub HistoriesTellFrames : Type 0
-HistoriesTellFrames = (spec : Parts) (script : ScriptParts) → IsSpec spec → (codes : List ℕ) (places : KeptPlaces) (words : Word → ℕ)
-    → (replay : IsReplay (flight_of spec script) codes (machine_places places) words) → AreCounted spec replay.events places
+HistoriesTellFrames = (spec : Parts) (script : ScriptParts) → IsSpec spec → (events : List Event) (places : KeptPlaces) (words : Word → ℕ)
+    → IsReplay (flight_of spec script) events (machine_places places) words → AreCounted spec events places

@@ -18,7 +18,8 @@ word_read spec stored f p i = if nat_lt i (words spec) then decode (stored_in st
 -- The kernel's twenty words.
 abbrev pub kernel_words_stored : List ℕ → List ℕ
 kernel_words_stored stored =
-    stored_in stored (KernelWord 0) ∷ stored_in stored (KernelWord 1) ∷ stored_in stored (KernelWord 2) ∷ stored_in stored (KernelWord 3) ∷ stored_in stored (KernelWord 4)
-    ∷ stored_in stored (KernelWord 5) ∷ stored_in stored (KernelWord 6) ∷ stored_in stored (KernelWord 7) ∷ stored_in stored (KernelWord 8) ∷ stored_in stored (KernelWord 9)
-    ∷ stored_in stored (KernelWord 10) ∷ stored_in stored (KernelWord 11) ∷ stored_in stored (KernelWord 12) ∷ stored_in stored (KernelWord 13) ∷ stored_in stored (KernelWord 14)
-    ∷ stored_in stored (KernelWord 15) ∷ stored_in stored (KernelWord 16) ∷ stored_in stored (KernelWord 17) ∷ stored_in stored (KernelWord 18) ∷ stored_in stored (KernelWord 19) ∷ []
+    stored_in stored (KernelWord 0) ∷ stored_in stored (KernelWord 1) ∷ stored_in stored (KernelWord 2) ∷ stored_in stored (KernelWord 3)
+    ∷ stored_in stored (KernelWord 4) ∷ stored_in stored (KernelWord 5) ∷ stored_in stored (KernelWord 6) ∷ stored_in stored (KernelWord 7)
+    ∷ stored_in stored (KernelWord 8) ∷ stored_in stored (KernelWord 9) ∷ stored_in stored (KernelWord 10) ∷ stored_in stored (KernelWord 11)
+    ∷ stored_in stored (KernelWord 12) ∷ stored_in stored (KernelWord 13) ∷ stored_in stored (KernelWord 14) ∷ stored_in stored (KernelWord 15)
+    ∷ stored_in stored (KernelWord 16) ∷ stored_in stored (KernelWord 17) ∷ stored_in stored (KernelWord 18) ∷ stored_in stored (KernelWord 19) ∷ []

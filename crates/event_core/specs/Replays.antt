@@ -1,16 +1,13 @@
 -- A history as a schedule.
-use Rattle.std.specs.Prelude.{◌≡◌, ℕ, List, map}
-use Rattle.bank_words.specs.Events.{event_code}
+use Rattle.std.specs.Prelude.{◌≡◌, ℕ, List}
 use Rattle.bank_words.specs.declared.events.Event.{Event}
 use Rattle.fail_stop.specs.Events.{IsStored, Places, Word}
 use Rattle.fail_stop.specs.Flights.{Flight}
 use Rattle.fail_stop.specs.Schedules.{IsSchedule, Machine, opening}
 
--- The codes are those of a schedule from the opening, and the places and the words are what it leaves.
-pub record IsReplay (m : Flight) (codes : List ℕ) (at : Places) (words : Word → ℕ) : Type 0 where
-  pub events : List Event
+-- The events are a schedule from the opening, and the places and the words are what it leaves.
+pub record IsReplay (m : Flight) (events : List Event) (at : Places) (words : Word → ℕ) : Type 0 where
   pub state : Machine
-  pub codes_are : codes ≡ map event_code events
   pub schedule : IsSchedule m (opening m) events state
   pub places_are : at ≡ state.at
   pub words_are : (w : Word) → IsStored m w → words w ≡ state.words w

@@ -6,7 +6,7 @@ use crate::nexts::{kept_place, next_kernel, next_of};
 use crate::places::{Place, Places};
 use crate::reads::{images_read, kernel_read};
 use crate::stores::{frame_of, store};
-use bank_words::{Event, event_code, kernel_encode, words};
+use bank_words::{Event, kernel_encode, words};
 use fail_stop::Snapshot;
 use fail_stop::law::{machine_goes_on, readers_find};
 use fail_stop::openings::opening_words;
@@ -29,7 +29,7 @@ pub struct Core<'a> {
     script: &'a Script,
     places: Places,
     stored: Vec<u64>,
-    history: Vec<u32>,
+    history: Vec<Event>,
     kernel: Kernel<'a>,
 }
 
@@ -46,9 +46,8 @@ impl<'a> std::marker::Model for Core<'a> {
 
 impl<'a> Core<'a> {
     ghost use Rattle.std.specs.Prelude.{◌≡◌, ◌≢◌, ◌<◌, ◌/◌, ◌++◌, [], ◌∷◌, IfErr, IfOk, IsTrue, ◌↔◌, ◌≤◌, ◌+◌, ◌⊎◌, ◌^◌, length};
-    ghost use Rattle.bank_words.specs.Events.{event_code};
     ghost use Rattle.event_core.specs.Replays.{IsReplay};
-    ghost use Rattle.fail_stop.specs.Events.{Happens, IsNext, frame_of, next_kernel, next_of, next_of_actor};
+    ghost use Rattle.fail_stop.specs.Events.{frame_of, next_kernel, next_of, next_of_actor};
     ghost use Rattle.fail_stop.specs.Drafts.{IsSnapshot};
     ghost use Rattle.fail_stop.specs.Ends.{IsOver};
     ghost use Rattle.fail_stop.specs.Flights.{word_in};
@@ -56,11 +55,10 @@ impl<'a> Core<'a> {
     ghost use Rattle.frame_model.specs.Flights.{reports_of, rows_of};
     ghost use Rattle.scram_kernel.specs.Kernels.{rows_below};
     ghost use Rattle.event_core.specs.Counts.{notes_in};
-    ghost use Rattle.event_core.specs.Cores.{frames_ended, flown, standing, standing_words};
+    ghost use Rattle.event_core.specs.Cores.{HappensIn, IsNextIn, IsWordIn, RefusesEvent, flown, frames_ended, next_event, standing, standing_words};
     ghost use Rattle.fault_script.specs.Fits.{Fits};
     ghost use Rattle.event_core.specs.Places.{HasLooked, kept_opening};
     ghost use Rattle.event_core.specs.Rooms.{events_left};
-    ghost use Rattle.event_core.specs.Stores.{IsEventWord};
 
     /// Returns the core of a flight before the first event, with room for every event that can come. The only error
     /// is out of memory.
@@ -116,9 +114,9 @@ impl<'a> Core<'a> {
         self.places.frame
     }
 
-    /// Returns the codes of the events so far: a schedule from the opening that leads to where all stand and to what
+    /// Returns the events so far: a schedule from the opening that leads to where all stand and to what
     /// is stored.
-    pub fn history(&self) -> &[u32]
+    pub fn history(&self) -> &[Event]
         ensures history { result.now ≡ self.now.history }
         ensures schedule { IsReplay (flown self.now) self.now.history (standing self.now) (standing_words self.now) }
         ensures few { length result.now < 2 ^ 32 }
@@ -130,7 +128,7 @@ impl<'a> Core<'a> {
     /// the first rows of the one-thread trace.
     pub fn rows(&self) -> &[Row]
         ensures rows { result.now ≡ rows_below self.now.spec self.now.script (frames_ended self.now.spec self.now.places) }
-        ensures noted { (replay : IsReplay (flown self.now) self.now.history (standing self.now) (standing_words self.now)) → length result.now ≡ notes_in replay.events / length self.now.spec.procs }
+        ensures noted { length result.now ≡ notes_in self.now.history / length self.now.spec.procs }
     {
         self.kernel.rows()
     }
@@ -152,7 +150,7 @@ impl<'a> Core<'a> {
 
     /// Where a flight is not over, some actor has a next event. It states this and does nothing.
     pub fn goes_on(&self)
-        ensures { IsOver (flown self.now) (standing self.now) ⊎ ((event : Event) × IsNext (flown self.now) (standing self.now) (standing_words self.now) event) }
+        ensures { IsOver (flown self.now) (standing self.now) ⊎ ((event : Event) × IsNextIn self.now event) }
     {
         let _places = &self.places;
         machine_goes_on();
@@ -191,7 +189,7 @@ impl<'a> Core<'a> {
 
     /// Returns the next event of the actor of an event, as `next_of` and `next_kernel` give it.
     pub fn next_of_actor(&self, event: Event) -> Option<Event>
-        ensures { result ≡ next_of_actor (flown self.now) (standing self.now) (standing_words self.now) event }
+        ensures { result ≡ next_event self.now event }
     {
         match event {
             Event::Start(p) => self.next_of(p),
@@ -209,14 +207,14 @@ impl<'a> Core<'a> {
     /// Makes an event, where it is the next of its actor. A store comes with its word, by the draft, and a store of
     /// the kernel with its word, by the image of the next frame. Else it says what is next, and nothing changes.
     pub fn step(&mut self, event: Event, word: u64) -> Result<(), Illegal>
-        requires { IsNext (flown self.old) (standing self.old) (standing_words self.old) event → IsEventWord (flown self.old) (standing self.old) event word }
+        requires { IsNextIn self.old event → IsWordIn self.old event word }
         ensures spec { self.new.spec ≡ self.old.spec }
         ensures script { self.new.script ≡ self.old.script }
-        ensures next { IfOk result (λ _. IsNext (flown self.old) (standing self.old) (standing_words self.old) event) }
-        ensures happens { IfOk result (λ _. Happens (flown self.old) (standing self.old) (standing_words self.old) event (standing self.new) (standing_words self.new)) }
+        ensures next { IfOk result (λ _. IsNextIn self.old event) }
+        ensures happens { IfOk result (λ _. HappensIn self.old event self.new) }
         ensures fewer { IfOk result (λ _. events_left (flown self.new) (standing self.new) < events_left (flown self.old) (standing self.old)) }
-        ensures history { IfOk result (λ _. self.new.history ≡ self.old.history ++ event_code event ∷ []) }
-        ensures illegal { IfErr result (λ e. (next_of_actor (flown self.old) (standing self.old) (standing_words self.old) event ≢ Some event) × (e.given ≡ event) × (e.next ≡ next_of_actor (flown self.old) (standing self.old) (standing_words self.old) event)) }
+        ensures history { IfOk result (λ _. self.new.history ≡ self.old.history ++ event ∷ []) }
+        ensures illegal { IfErr result (RefusesEvent self.old event) }
         ensures same { IfErr result (λ _. self.new ≡ self.old) }
     {
         let next = self.next_of_actor(event);
@@ -225,7 +223,7 @@ impl<'a> Core<'a> {
         }
         store(&mut self.stored, &self.places, event, word);
         self.places = places_after(self.script, &self.places, event);
-        self.history.push_reserved(event_code(event));
+        self.history.push_reserved(event);
         if ends_frame(self.spec, event) {
             end_frame(
                 self.spec,
@@ -260,6 +258,7 @@ ghost use Rattle.fail_stop.specs.Ends.{IsOver};
 ghost use Rattle.frame_model.specs.Flights.{reports_of, rows_of};
 ghost use Rattle.event_core.specs.Cores.{ends_frame, flown, standing};
 ghost use Rattle.event_core.specs.Places.{kept_opening};
+ghost use Rattle.event_core.specs.declared.cores.Illegal.{Illegal};
 
 fn opening_places() -> Places
     ensures { result ≡ kept_opening }
@@ -274,7 +273,8 @@ fn opening_places() -> Places
 // Returns how many events a flight has at most.
 fn events_of(spec: &Spec, script: &Script) -> usize
     ensures known { IsSpec spec.now }
-    ensures events { result ≡ script.now.frames * (length spec.now.procs * (length spec.now.procs + 8 * length spec.now.apps + 3) + (length spec.now.procs + 21)) }
+    ensures events { result
+        ≡ script.now.frames * (length spec.now.procs * (length spec.now.procs + 8 * length spec.now.apps + 3) + (length spec.now.procs + 21)) }
 {
     let procs = spec.procs.items().len();
     let each = procs + words(spec) as usize + 3;

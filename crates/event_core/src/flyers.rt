@@ -1,12 +1,11 @@
 //! Processors that fly by a core. The fields are public so that clauses can name them.
 
 ghost use Rattle.std.specs.Prelude.{◌≡◌, ◌<◌, IfOk, IfSome, Some, length, map, vec_len, ℕ};
-ghost use Rattle.event_core.specs.Cores.{flown, standing, standing_words};
+ghost use Rattle.event_core.specs.Cores.{IsNextIn, IsWordIn, flown, standing};
 ghost use Rattle.event_core.specs.Flyers.{FlyBy, FlyersFit, IsLastDraft};
 ghost use Rattle.event_core.specs.Places.{HasLooked};
-ghost use Rattle.event_core.specs.Stores.{IsEventWord};
 ghost use Rattle.bank_words.specs.declared.events.Event.TheVariants.{Halt as HaltEvent, Start as StartEvent};
-ghost use Rattle.fail_stop.specs.Events.{At, IsNext, frame_of, proc_after};
+ghost use Rattle.fail_stop.specs.Events.{At, frame_of, proc_after};
 ghost use Rattle.fail_stop.specs.Flights.{word_in};
 ghost use Rattle.fail_stop.specs.Flyers.{unit_rack};
 ghost use Rattle.fail_stop.specs.ScriptFlights.{draft_words, image_words};
@@ -54,9 +53,9 @@ impl Flyers {
     /// a frame.
     pub fn word(&mut self, core: &Core, spec: &Spec, event: Event) -> u64
         requires spec { core.now.spec ≡ spec.now }
-        requires next { IsNext (flown core.now) (standing core.now) (standing_words core.now) event }
+        requires next { IsNextIn core.now event }
         requires fits { FlyBy core.now self.old }
-        ensures word { IsEventWord (flown core.now) (standing core.now) event result }
+        ensures word { IsWordIn core.now event result }
         ensures fits { FlyersFit core.now.spec core.now.script (proc_after (flown core.now) (standing core.now) event) self.new }
     {
         let _procs = spec.procs.items().len();
@@ -82,7 +81,7 @@ impl Flyers {
     fn start(&mut self, core: &Core, p: ProcId)
         requires known { p.0 < length core.now.spec.procs }
         requires few { p.0 < 8 }
-        requires next { IsNext (flown core.now) (standing core.now) (standing_words core.now) (StartEvent p) }
+        requires next { IsNextIn core.now (StartEvent p) }
         requires fits { FlyBy core.now self.old }
         ensures fits { FlyersFit core.now.spec core.now.script (proc_after (flown core.now) (standing core.now) (StartEvent p)) self.new }
     {
@@ -159,7 +158,8 @@ fn stored_word(image: &Image, i: u8) -> u64
 
 // Returns the image that was drafted, where it was in this frame.
 fn drafted_in(drafted: &Option<Draft>, frame: u32) -> Option<Image>
-    ensures { (spec : Parts) (script : ScriptParts) (p : ℕ) → IsLastDraft spec script p drafted.now → IfSome result (λ image. image ≡ draft spec script p frame) }
+    ensures { (spec : Parts) (script : ScriptParts) (p : ℕ) → IsLastDraft spec script p drafted.now
+        → IfSome result (λ image. image ≡ draft spec script p frame) }
 {
     match drafted {
         Some(made) => {

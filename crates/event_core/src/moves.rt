@@ -106,7 +106,9 @@ fn with_kernel(places: &Places, frame: u32, step: u32) -> Places
 fn with_proc(script: &Script, places: &Places, event: Event, p: ProcId) -> Places
     requires p { p.0 < 8 }
     requires place { CanGoOn (kept_place places.now.procs p.0) }
-    ensures procs { (spec : Parts) → (q : ℕ) → machine_place (kept_place result.procs q) ≡ (if nat_eq q p.0 then moved (flight_of spec script.now) event q (machine_place (kept_place places.now.procs q)) else machine_place (kept_place places.now.procs q)) }
+    ensures procs { (spec : Parts) → (q : ℕ) → machine_place (kept_place result.procs q)
+        ≡ (if nat_eq q p.0 then moved (flight_of spec script.now) event q (machine_place (kept_place places.now.procs q))
+            else machine_place (kept_place places.now.procs q)) }
     ensures frame { result.frame ≡ places.now.frame }
     ensures step { result.step ≡ places.now.step }
 {

@@ -18,7 +18,8 @@ pub(crate) fn store(stored: &mut Vec<u64>, places: &Places, event: Event, word: 
     requires stored { length stored.old.items ≡ places_of_words }
     requires event { IsInside event }
     requires room { CanMove places.now event }
-    ensures { (m : Flight) → IsEventWord m (machine_places places.now) event word → stored.new.items ≡ list_after stored.old.items (writes m (machine_places places.now) (stored_in stored.old.items) event) }
+    ensures { (m : Flight) → IsEventWord m (machine_places places.now) event word
+        → stored.new.items ≡ list_after stored.old.items (writes m (machine_places places.now) (stored_in stored.old.items) event) }
 {
     match event {
         Event::Store(p, i) => {

@@ -26,12 +26,13 @@ use Rattle.form_base.specs.declared.status.TheConstants.{ANSWERED}
 use Rattle.form_base.specs.Answers.{Gives, WithoutFiles}
 use Rattle.form_base.specs.Assurance.{IsAssuring, OfDocument}
 use Rattle.form_base.proofs.Assuring.{document_assures, not_zero, specification_assures, text_of_gives}
-use Rattle.flight_forms.specs.declared.flights.FlightText.TheVariants.{Summary, Trace}
+use Rattle.flight_forms.specs.declared.runs.FlightText.TheVariants.{Summary, Trace}
 use Rattle.flight_forms.specs.Answers.{FlightAnswers, FlyAnswers, GenAnswers, IsReplayAnswer, ListAnswers, ReplayAnswers, ScheduleAnswers, ScriptAnswers, replay_answer}
 use Rattle.flight_forms.specs.Assurance.{AssuresFlight, AssuresFly, AssuresGen, AssuresReplay, FlightsAreAssured, IsAssured}
 use Rattle.flight_forms.specs.Documents.{BreaksSchedule, BreaksScript, SaysSchedule, SaysScript, long_schedule, long_script}
 use Rattle.flight_forms.specs.Missions.{UnlessRefused, mission_refusal, refusal_by, script_refusal}
 use Rattle.flight_forms.specs.Texts.{flight_text, watch_text}
+use Rattle.bank_words.specs.declared.events.Event.{Event}
 
 -- where status 0 is answered, the specification and the script make a mission
 
@@ -73,14 +74,14 @@ files_assure law told specification script before after reads text is = specific
 
 -- a list that is flown as a schedule
 
-replayed_zero : (spec : Parts) (script : ScriptParts) (list : List ℕ) (flown : Result Flown ReplayError) (text : List ℕ) → AnswersReplay spec script list flown
+replayed_zero : (spec : Parts) (script : ScriptParts) (list : List Event) (flown : Result Flown ReplayError) (text : List ℕ) → AnswersReplay spec script list flown
     → Gives (replay_answer spec script flown) ANSWERED text → IsWholeSchedule (flight_of spec script) list × Gives (ANSWERED, flight_text Trace (mission_of spec script)) ANSWERED text
 replayed_zero spec script list (Ok flown) text answers gives = (answers.0, gives)
 replayed_zero spec script list (Err (replay_error.Illegal index given next)) text answers gives = not_zero 11 _ text gives
 replayed_zero spec script list (Err (replay_error.Short events next)) text answers gives = not_zero 11 _ text gives
 replayed_zero spec script list (Err replay_error.NoMemory) text answers gives = not_zero 8 _ text gives
 
-list_assures : (law : ReconfigurationsAreAssured) (spec : Parts) (script : ScriptParts) (list : List ℕ) → IsSpec spec → Fits spec script
+list_assures : (law : ReconfigurationsAreAssured) (spec : Parts) (script : ScriptParts) (list : List Event) → IsSpec spec → Fits spec script
     → (text : List ℕ) → UnlessRefused (mission_refusal spec script) (IsReplayAnswer spec script list) ANSWERED text
     → IsWholeSchedule (flight_of spec script) list × IsAssured (flight_text Trace) spec script text
 list_assures law spec script list sound fits text answers =
@@ -92,11 +93,11 @@ no_broken_schedule : (spec : Parts) (text bytes : List ℕ) → BreaksSchedule s
 no_broken_schedule spec text bytes breaks = not_zero 11 _ text (sym breaks.line)
 
 schedule_assures : (law : ReconfigurationsAreAssured) (schedule : List ℕ) (spec : Parts) (script : ScriptParts) → IsSpec spec → Fits spec script
-    → IsAssuring (ScheduleAnswers schedule spec script) (OfDocument (SaysSchedule spec) schedule (λ (list : List ℕ) (reads : History) (text : List ℕ).
+    → IsAssuring (ScheduleAnswers schedule spec script) (OfDocument (SaysSchedule spec) schedule (λ (list : List Event) (reads : History) (text : List ℕ).
     (reads ≡ []) × IsWholeSchedule (flight_of spec script) list × IsAssured (flight_text Trace) spec script text))
 schedule_assures law schedule spec script sound fits before after reads text is =
     document_assures (SaysSchedule spec) (BreaksSchedule spec) MAX_SCHEDULE_BYTES 11 (long_schedule).1 schedule (ListAnswers spec script)
-    (λ (list : List ℕ) (reads : History) (text : List ℕ). (reads ≡ []) × IsWholeSchedule (flight_of spec script) list × IsAssured (flight_text Trace) spec script text)
+    (λ (list : List Event) (reads : History) (text : List ℕ). (reads ≡ []) × IsWholeSchedule (flight_of spec script) list × IsAssured (flight_text Trace) spec script text)
     (λ list bytes says before after reads text is. let flown = list_assures law spec script list sound fits text is.1 in (is.0, flown.0, flown.1))
     (no_broken_schedule spec) before after reads text is
 

@@ -14,6 +14,7 @@ use Rattle.form_base.specs.Loads.{HasRead, IsUnloaded}
 use Rattle.form_base.specs.Refusals.{told}
 use Rattle.form_base.proofs.Reading.{document_reads, refused_reads}
 use Rattle.flight_forms.specs.Documents.{AsksSchedule, AsksScript, BreaksSchedule, BreaksScript, SaysSchedule, SaysScript, long_schedule, long_script}
+use Rattle.bank_words.specs.declared.events.Event.{Event}
 
 -- the script was read, and then what is answered of it
 pub script_reads : {U : Type 0} (spec : Parts) (name : List ℕ) (names : List (List ℕ)) (Then : ScriptParts → Answer) (Rest : U → ℕ → List ℕ → Type 0) (value : ScriptParts) (before mid after : FilesState) (result : Result U Refusal)
@@ -31,14 +32,14 @@ script_unread spec name names Then before after refusal is steady unread =
     refused_reads (SaysScript spec) (BreaksScript spec) MAX_SCRIPT_BYTES long_script name names Then before after refusal is steady unread
 
 -- the schedule was read, and then what is answered of it
-pub schedule_reads : {U : Type 0} (spec : Parts) (name : List ℕ) (names : List (List ℕ)) (Then : List ℕ → Answer) (Rest : U → ℕ → List ℕ → Type 0) (value : List ℕ) (before mid after : FilesState) (result : Result U Refusal)
+pub schedule_reads : {U : Type 0} (spec : Parts) (name : List ℕ) (names : List (List ℕ)) (Then : List Event → Answer) (Rest : U → ℕ → List ℕ → Type 0) (value : List Event) (before mid after : FilesState) (result : Result U Refusal)
     → HasRead MAX_SCHEDULE_BYTES name (SaysSchedule spec value) before mid → StaysSteady before mid name → Prepares (Then value) Rest names mid after result
     → Prepares (AsksSchedule spec name Then) Rest (name ∷ names) before after result
 schedule_reads {U} spec name names Then Rest value before mid after result has steady finds =
     document_reads (SaysSchedule spec) (BreaksSchedule spec) MAX_SCHEDULE_BYTES long_schedule name names Then Rest value before mid after result has steady finds
 
 -- the schedule was not loaded
-pub schedule_unread : (spec : Parts) (name : List ℕ) (names : List (List ℕ)) (Then : List ℕ → Answer) (before after : FilesState) (refusal : Refusal)
+pub schedule_unread : (spec : Parts) (name : List ℕ) (names : List (List ℕ)) (Then : List Event → Answer) (before after : FilesState) (refusal : Refusal)
     → IsUnloaded (BreaksSchedule spec) MAX_SCHEDULE_BYTES long_schedule name before after (told refusal) → StaysSteady before after name
     → ((told refusal).0 ≡ UNREAD_FILE → Rose before.faults after.faults)
     → Decides (AsksSchedule spec name Then) (name ∷ names) before after (told refusal).0 (told refusal).1

@@ -13,6 +13,7 @@ use Rattle.flight_forms.specs.declared.replays.Replay.{Replay}
 use Rattle.flight_forms.specs.Answers.{IsReplayAnswer}
 use Rattle.flight_forms.specs.Missions.{MakesMission, UnlessRefused, mission_refusal}
 use Rattle.flight_forms.specs.Replays.{MakesReplay, TellsReplay}
+use Rattle.bank_words.specs.declared.events.Event.{Event}
 
 -- where there is no refusal, the answer is the rest
 unless_none : (refusal : Option (ℕ × List ℕ)) (A : ℕ → List ℕ → Type 0) (status : ℕ) (text : List ℕ) → refusal ≡ None → A status text → UnlessRefused refusal A status text
@@ -34,14 +35,14 @@ mission_settles spec script A (Ok mission) makes = λ status text is.
 mission_settles spec script A (Err refusal) makes =
     (refused_settles (mission_refusal spec script) (A (mission_of spec script)) (told refusal) makes.0, makes.1)
 
-replay_told : (spec : Parts) (script : ScriptParts) (list : List ℕ) (replay : Replay) (status : ℕ) (text : List ℕ) → replay.mission ≡ mission_of spec script → replay.list ≡ list
+replay_told : (spec : Parts) (script : ScriptParts) (list : List Event) (replay : Replay) (status : ℕ) (text : List ℕ) → replay.mission ≡ mission_of spec script → replay.list ≡ list
     → TellsReplay replay status text → IsReplayAnswer spec script list status text
 replay_told spec script list replay status text mission_is list_is is =
     subst (λ (m : MissionParts). IsReplayAnswer m.spec m.script list status text) mission_is
-    (subst (λ (l : List ℕ). IsReplayAnswer replay.mission.spec replay.mission.script l status text) list_is is)
+    (subst (λ (l : List Event). IsReplayAnswer replay.mission.spec replay.mission.script l status text) list_is is)
 
 -- a mission that is flown by a list was made, or refused
-pub replay_settles : (spec : Parts) (script : ScriptParts) (list : List ℕ) (result : Result Replay Refusal) → MakesReplay spec script list result
+pub replay_settles : (spec : Parts) (script : ScriptParts) (list : List Event) (result : Result Replay Refusal) → MakesReplay spec script list result
     → Settles (UnlessRefused (mission_refusal spec script) (IsReplayAnswer spec script list)) TellsReplay result
 replay_settles spec script list (Ok replay) makes = λ status text is.
     unless_none (mission_refusal spec script) (IsReplayAnswer spec script list) status text makes.2 (replay_told spec script list replay status text makes.0 makes.1 is)

@@ -16,10 +16,11 @@ use Rattle.form_base.specs.declared.status.TheConstants.{ANSWERED, BROKEN_SCHEDU
 use Rattle.form_base.specs.Answers.{Answer, Gives, WithoutFiles}
 use Rattle.form_base.specs.Refusals.{memory_line}
 use Rattle.form_base.specs.Specifications.{AsksSpecification}
-use Rattle.flight_forms.specs.declared.flights.FlightText.TheVariants.{Trace, Summary}
+use Rattle.flight_forms.specs.declared.runs.FlightText.TheVariants.{Trace, Summary}
 use Rattle.flight_forms.specs.Documents.{AsksSchedule, AsksScript}
 use Rattle.flight_forms.specs.Missions.{UnlessRefused, mission_refusal}
 use Rattle.flight_forms.specs.Texts.{flight_text, watch_text}
+use Rattle.bank_words.specs.declared.events.Event.{Event}
 
 -- The answer to a mission: this text.
 abbrev pub TellsFlight : (MissionParts → List ℕ) → MissionParts → ℕ → List ℕ → Type 0
@@ -58,14 +59,14 @@ replay_answer spec script (Ok flown) = (ANSWERED, flight_text Trace (mission_of 
 replay_answer spec script (Err error) = replay_refusal spec error
 
 -- Status and text are the answer to a list that is flown as a schedule; there is one such answer.
-pub record IsReplayAnswer (spec : Parts) (script : ScriptParts) (list : List ℕ) (status : ℕ) (text : List ℕ) : Type 0 where
+pub record IsReplayAnswer (spec : Parts) (script : ScriptParts) (list : List Event) (status : ℕ) (text : List ℕ) : Type 0 where
   pub flown : Result Flown ReplayError
   pub answers : AnswersReplay spec script list flown
   pub had_memory : flown ≢ Err replay_error.NoMemory
   pub gives : Gives (replay_answer spec script flown) status text
 
 -- The answer to `replay` where all files are read.
-abbrev pub ListAnswers : Parts → ScriptParts → List ℕ → Answer
+abbrev pub ListAnswers : Parts → ScriptParts → List Event → Answer
 ListAnswers spec script list = WithoutFiles (UnlessRefused (mission_refusal spec script) (IsReplayAnswer spec script list))
 
 -- The answer to `replay` where a specification and a script are read.

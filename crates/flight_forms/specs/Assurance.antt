@@ -12,10 +12,11 @@ use Rattle.fail_stop.specs.ScriptFlights.{flight_of}
 use Rattle.schedule_replay.specs.Replaying.{IsWholeSchedule}
 use Rattle.form_base.specs.Assurance.{IsAssuring, OfDocument, OfSpecification}
 use Rattle.form_base.specs.Answers.{WithoutFiles}
-use Rattle.flight_forms.specs.declared.flights.FlightText.TheVariants.{Trace, Summary}
+use Rattle.flight_forms.specs.declared.runs.FlightText.TheVariants.{Trace, Summary}
 use Rattle.flight_forms.specs.Answers.{FlyAnswers, GenAnswers, IsGenerated, ReplayAnswers, RunAnswers, WatchAnswers}
 use Rattle.flight_forms.specs.Documents.{SaysSchedule, SaysScript}
 use Rattle.flight_forms.specs.Texts.{flight_text, watch_text}
+use Rattle.bank_words.specs.declared.events.Event.{Event}
 
 -- The specification is accepted and the script keeps to its failure assumption; the text is the one that is told of their
 -- mission; and the properties of reconfigurations hold of the rows and reports of its one-thread flight.
@@ -44,7 +45,7 @@ AssuresWatch = AssuresFlight watch_text
 abbrev pub AssuresReplay : List ℕ → List ℕ → List ℕ → History → List ℕ → Type 0
 AssuresReplay specification script schedule =
     OfSpecification specification (λ (spec : Parts). OfDocument (SaysScript spec) script (λ (script : ScriptParts).
-    OfDocument (SaysSchedule spec) schedule (λ (list : List ℕ) (reads : History) (text : List ℕ).
+    OfDocument (SaysSchedule spec) schedule (λ (list : List Event) (reads : History) (text : List ℕ).
     (reads ≡ []) × IsWholeSchedule (flight_of spec script) list × IsAssured (flight_text Trace) spec script text)))
 
 -- Where `gen` ends with status 0, the text is that of the mission of the number; no file was read.

@@ -10,7 +10,7 @@ use Rattle.fault_script.specs.Reading.{script_of}
 use Rattle.schedule_replay.specs.declared.limits.TheConstants.{MAX_SCHEDULE_BYTES}
 use Rattle.schedule_replay.specs.declared.rule.TheConstants as schedule_rule
 use Rattle.schedule_replay.specs.declared.schedule_reading.ScheduleFault.{ScheduleFault}
-use Rattle.schedule_replay.specs.Events.{AreCodes}
+use Rattle.bank_words.specs.declared.events.Event.{Event}
 use Rattle.schedule_replay.specs.Reading.{schedule_of}
 use Rattle.schedule_replay.specs.Refusals.{fault_line}
 use Rattle.form_base.specs.declared.status.TheConstants.{BROKEN_SCHEDULE, BROKEN_SCRIPT}
@@ -36,10 +36,9 @@ long_script = (BROKEN_SCRIPT, script_line (record { rule = script_rule.TOO_LONG;
 abbrev pub AsksScript : Parts → List ℕ → (ScriptParts → Answer) → Answer
 AsksScript spec name Then = AnswersFile MAX_SCRIPT_BYTES long_script name (AnswersDocument (SaysScript spec) (BreaksScript spec) Then)
 
--- The bytes are this schedule, a list of codes of events that the specification has.
-pub record SaysSchedule (spec : Parts) (list : List ℕ) (bytes : List ℕ) : Type 0 where
+-- The bytes are this schedule.
+pub record SaysSchedule (spec : Parts) (list : List Event) (bytes : List ℕ) : Type 0 where
   pub is : schedule_of spec bytes ≡ Ok list
-  pub known : AreCodes spec list
 
 -- The bytes are refused as a schedule for a specification.
 pub record BreaksSchedule (spec : Parts) (refusal : ℕ × List ℕ) (bytes : List ℕ) : Type 0 where
@@ -52,5 +51,5 @@ abbrev pub long_schedule : ℕ × List ℕ
 long_schedule = (BROKEN_SCHEDULE, fault_line (record { line = 0; rule = schedule_rule.TOO_LONG }))
 
 -- The file of this name is asked for, and this is answered of the schedule that it holds.
-abbrev pub AsksSchedule : Parts → List ℕ → (List ℕ → Answer) → Answer
+abbrev pub AsksSchedule : Parts → List ℕ → (List Event → Answer) → Answer
 AsksSchedule spec name Then = AnswersFile MAX_SCHEDULE_BYTES long_schedule name (AnswersDocument (SaysSchedule spec) (BreaksSchedule spec) Then)

@@ -32,11 +32,13 @@ outside_line outside = codes "refused: outside at frame " ++ decimal outside.fra
 -- finished one took, and the configuration that was run last
 abbrev pub fly_line : ℕ → Parts → List Row → List Report → List ℕ
 fly_line number spec rows reports =
-    codes "fly " ++ decimal number ++ counts_text rows reports ++ codes " longest " ++ decimal (longest_duration reports) ++ codes " final " ++ conf_name spec (last_run spec rows).0 ++ codes "\n"
+    codes "fly " ++ decimal number ++ counts_text rows reports ++ codes " longest " ++ decimal (longest_duration reports)
+    ++ codes " final " ++ conf_name spec (last_run spec rows).0 ++ codes "\n"
 
 -- a flight that was watched: the number of frames of a summary, what its last row runs, the processors that are up in it, and
 -- the number of reconfigurations that have begun
 abbrev pub watch_line : Parts → Summary → List ℕ
 watch_line spec summary =
-    codes "watch frames " ++ decimal summary.frames ++ codes " running " ++ conf_or_dash spec (running_conf summary.running) ++ codes " up " ++ up_text spec summary.up
+    codes "watch frames " ++ decimal summary.frames ++ codes " running " ++ conf_or_dash spec (running_conf summary.running)
+    ++ codes " up " ++ up_text spec summary.up
     ++ codes " begun " ++ decimal summary.begun ++ codes "\n"

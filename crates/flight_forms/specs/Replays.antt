@@ -3,7 +3,7 @@ use Rattle.std.specs.Prelude.{◌≡◌, ◌≢◌, ◌⊎◌, ℕ, List, Some, 
 use Rattle.scram_types.specs.Scripts.{ScriptParts}
 use Rattle.scram_types.specs.Specification.{Parts}
 use Rattle.coverage_check.specs.Missions.{mission_of}
-use Rattle.schedule_replay.specs.Events.{AreCodes}
+use Rattle.bank_words.specs.declared.events.Event.{Event}
 use Rattle.form_base.specs.declared.refusals.Refusal.{Refusal}
 use Rattle.form_base.specs.declared.status.TheConstants.{UNREAD_FILE}
 use Rattle.form_base.specs.Loads.{IsOutOfMemory}
@@ -12,16 +12,12 @@ use Rattle.flight_forms.specs.declared.replays.Replay.{Replay}
 use Rattle.flight_forms.specs.Answers.{IsReplayAnswer}
 use Rattle.flight_forms.specs.Missions.{mission_refusal}
 
--- The list has codes of events that the specification has.
-abbrev pub HasCodes : Replay → Type 0
-HasCodes replay = AreCodes replay.mission.spec replay.list
-
 -- Status and text are the answer to the list, flown as a schedule.
 abbrev pub TellsReplay : Replay → ℕ → List ℕ → Type 0
 TellsReplay replay = IsReplayAnswer replay.mission.spec replay.mission.script replay.list
 
 -- The result of making a mission that is flown by a list.
-abbrev pub MakesReplay : Parts → ScriptParts → List ℕ → Result Replay Refusal → Type 0
+abbrev pub MakesReplay : Parts → ScriptParts → List Event → Result Replay Refusal → Type 0
 MakesReplay spec script list (Ok replay) = (replay.mission ≡ mission_of spec script) × (replay.list ≡ list) × (mission_refusal spec script ≡ None)
 MakesReplay spec script list (Err refusal) =
     ((mission_refusal spec script ≡ Some (told refusal)) ⊎ IsOutOfMemory (told refusal)) × ((told refusal).0 ≢ UNREAD_FILE)

@@ -7,8 +7,8 @@ use Rattle.coverage_check.specs.Missions.{MissionParts}
 use Rattle.frame_model.specs.Flights.{reports_of, rows_of}
 use Rattle.telemetry_tap.specs.Summaries.{summary_after}
 use Rattle.trace_text.specs.Text.{text_of}
-use Rattle.flight_forms.specs.declared.flights.FlightText.{FlightText}
-use Rattle.flight_forms.specs.declared.flights.FlightText.TheVariants.{Trace, Summary}
+use Rattle.flight_forms.specs.declared.runs.FlightText.{FlightText}
+use Rattle.flight_forms.specs.declared.runs.FlightText.TheVariants.{Trace, Summary}
 use Rattle.flight_forms.specs.Lines.{fly_line, watch_line}
 
 -- The text of rows and reports.

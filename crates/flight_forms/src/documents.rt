@@ -10,6 +10,7 @@ ghost use Rattle.flight_forms.specs.Documents.{BreaksSchedule, BreaksScript, Say
 ghost use Rattle.flight_forms.specs.Lines.{script_line};
 
 use crate::lines::make_script_line;
+use bank_words::Event;
 use fault_script::{ScriptError, ScriptFault, read_script};
 use form_base::loads::Document;
 use form_base::refusals::{Refusal, Refused};
@@ -59,7 +60,7 @@ impl Document<Script> for ScriptDocument<'_> {
     }
 }
 
-/// The document of a schedule for a specification: the codes of its events.
+/// The document of a schedule for a specification.
 #[derive(Clone, Copy)]
 pub struct ScheduleDocument<'a> {
     pub spec: &'a Spec,
@@ -71,7 +72,7 @@ fn refuse_schedule(fault: ScheduleFault) -> Refusal
     Refusal::new(Refused::Schedule, make_fault_line(fault))
 }
 
-impl Document<List<u32>> for ScheduleDocument<'_> {
+impl Document<List<Event>> for ScheduleDocument<'_> {
     ghost limit = { λ _. MAX_SCHEDULE_BYTES };
 
     ghost long = { λ _. long_schedule };
@@ -84,7 +85,7 @@ impl Document<List<u32>> for ScheduleDocument<'_> {
         MAX_SCHEDULE_BYTES
     }
 
-    fn read(&self, alloc: Global, bytes: &[u8]) -> Result<List<u32>, Refusal> {
+    fn read(&self, alloc: Global, bytes: &[u8]) -> Result<List<Event>, Refusal> {
         match read_schedule(alloc, bytes, self.spec) {
             Ok(list) => Ok(List::of(list)),
             Err(ScheduleError::Fault(fault)) => Err(refuse_schedule(fault)),

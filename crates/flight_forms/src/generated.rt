@@ -6,7 +6,7 @@ ghost use Rattle.flight_forms.specs.Answers.{FlyAnswers, GenAnswers, SummaryAnsw
 ghost use Rattle.fault_script.specs.Fits.{Fits};
 
 use crate::boxes::Boxes;
-use crate::flights::{FlightText, fly};
+use crate::runs::{FlightText, fly};
 use crate::missions::make_mission;
 use form_base::refusals::Refusal;
 use form_base::status::{ANSWERED, Status};

@@ -4,7 +4,7 @@
 
 mod boxes;
 mod documents;
-mod flights;
+mod runs;
 mod generated;
 pub mod laws;
 mod lines;
@@ -15,7 +15,7 @@ mod summaries;
 mod watches;
 
 pub use boxes::Boxes;
-pub use flights::run;
+pub use runs::run;
 pub use generated::{fly_generated, print_generated};
 pub use missions::MissionFiles;
 pub use pairs::{PairFiles, pair_form};

@@ -7,10 +7,10 @@ ghost use Rattle.form_base.specs.Endings.{Ends, IsTaken, Tells};
 ghost use Rattle.form_base.specs.declared.status.TheConstants.{ANSWERED};
 ghost use Rattle.flight_forms.specs.Answers.{PairAnswers};
 ghost use Rattle.flight_forms.specs.Texts.{flight_text};
-ghost use Rattle.flight_forms.specs.declared.flights.FlightText.TheVariants.{Trace};
+ghost use Rattle.flight_forms.specs.declared.runs.FlightText.TheVariants.{Trace};
 
 use crate::boxes::Boxes;
-use crate::flights::{FlightText, tell_flown};
+use crate::runs::{FlightText, tell_flown};
 use crate::missions::{MissionFiles, read_mission};
 use coverage_check::Mission;
 use form_base::refusals::Refusal;

@@ -1,18 +1,18 @@
 //! The form `replay`: a mission flown by a schedule. No thread is used.
 
-ghost use Rattle.std.specs.Prelude.{◌≡◌, ◌∷◌, [], IfOk};
+ghost use Rattle.std.specs.Prelude.{◌≡◌, ◌∷◌, []};
 ghost use Rattle.fault_script.specs.Fits.{Fits};
-ghost use Rattle.schedule_replay.specs.Events.{AreCodes};
 ghost use Rattle.form_base.specs.Endings.{Ends, IsTaken, Prepares, Tells};
 ghost use Rattle.form_base.specs.Refusals.{told};
 ghost use Rattle.flight_forms.specs.Answers.{IsReplayAnswer, ListAnswers, ReplayAnswers, ScheduleAnswers, replay_refusal};
 ghost use Rattle.flight_forms.specs.Documents.{AsksSchedule, AsksScript};
-ghost use Rattle.flight_forms.specs.Replays.{HasCodes, MakesReplay, TellsReplay};
+ghost use Rattle.flight_forms.specs.Replays.{MakesReplay, TellsReplay};
 
 use crate::boxes::Boxes;
 use crate::documents::{ScheduleDocument, ScriptDocument};
-use crate::flights::{FlightText, tell_flown};
+use crate::runs::{FlightText, tell_flown};
 use crate::missions::make_mission;
+use bank_words::Event;
 use coverage_check::Mission;
 use form_base::loads::load;
 use form_base::refusals::{Refusal, Refused};
@@ -33,11 +33,11 @@ pub struct ReplayFiles<'a> {
     pub schedule: &'a str,
 }
 
-/// A mission, and the codes of the events by which it is flown.
+/// A mission, and the events by which it is flown.
 #[derive(Drop)]
 struct Replay {
     mission: Mission,
-    list: List<u32>,
+    list: List<Event>,
 }
 
 /// Flies the mission of two files by the schedule in a third, and prints its trace.
@@ -70,9 +70,8 @@ fn read_replay<F: Files>(
     named: ReplayFiles<'_>,
     files: &mut F,
 ) -> Result<Replay, Refusal>
-    ensures reads { Prepares (ReplayAnswers named.entry.specification.now named.entry.script.now named.entry.schedule.now) TellsReplay
+    ensures { Prepares (ReplayAnswers named.entry.specification.now named.entry.script.now named.entry.schedule.now) TellsReplay
         (named.entry.specification.now ∷ named.entry.script.now ∷ named.entry.schedule.now ∷ []) (F.state files.old) (F.state files.new) result }
-    ensures codes { IfOk result HasCodes }
 {
     match load(alloc, &Specification, named.specification, files) {
         Ok(spec) => read_scheduled(alloc, spec, named, files),
@@ -86,9 +85,8 @@ fn read_scheduled<F: Files>(
     named: ReplayFiles<'_>,
     files: &mut F,
 ) -> Result<Replay, Refusal>
-    ensures reads { Prepares (AsksScript spec named.entry.script.now (ScheduleAnswers named.entry.schedule.now spec)) TellsReplay (named.entry.script.now ∷ named.entry.schedule.now ∷ [])
-        (F.state files.old) (F.state files.new) result }
-    ensures codes { IfOk result HasCodes }
+    ensures { Prepares (AsksScript spec named.entry.script.now (ScheduleAnswers named.entry.schedule.now spec)) TellsReplay
+        (named.entry.script.now ∷ named.entry.schedule.now ∷ []) (F.state files.old) (F.state files.new) result }
 {
     match load(alloc, &ScriptDocument { spec: &spec }, named.script, files) {
         Ok(script) => read_list(alloc, (spec, script), named.schedule, files),
@@ -106,8 +104,8 @@ fn read_list<F: Files>(
     files: &mut F,
 ) -> Result<Replay, Refusal>
     requires { Fits parts.0 parts.1 }
-    ensures reads { Prepares (AsksSchedule parts.0 schedule.now (ListAnswers parts.0 parts.1)) TellsReplay (schedule.now ∷ []) (F.state files.old) (F.state files.new) result }
-    ensures codes { IfOk result HasCodes }
+    ensures { Prepares (AsksSchedule parts.0 schedule.now (ListAnswers parts.0 parts.1)) TellsReplay (schedule.now ∷ [])
+        (F.state files.old) (F.state files.new) result }
 {
     let (spec, script) = parts;
     match load(alloc, &ScheduleDocument { spec: &spec }, schedule, files) {
@@ -123,12 +121,10 @@ fn make_replay(
     alloc: Global,
     spec: Spec,
     script: Script,
-    list: List<u32>,
+    list: List<Event>,
 ) -> Result<Replay, Refusal>
-    requires script { Fits spec script }
-    requires codes { AreCodes spec list }
-    ensures makes { MakesReplay spec script list result }
-    ensures codes { IfOk result HasCodes }
+    requires { Fits spec script }
+    ensures { MakesReplay spec script list result }
 {
     match make_mission(alloc, spec, script) {
         Ok(mission) => Ok(Replay { mission, list }),
@@ -140,7 +136,6 @@ fn make_replay(
 }
 
 fn fly_replay<K: Sink>(alloc: Global, replayed: &Replay, out: &mut K, boxes: Boxes) -> Status
-    requires { HasCodes replayed.now }
     ensures { Tells (TellsReplay replayed.now) (K.state out.old) (K.state out.new) result.code }
 {
     let mission = &replayed.mission;

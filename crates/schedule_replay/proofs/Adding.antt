@@ -1,20 +1,16 @@
--- Codes added to a list, piece by piece.
-use Rattle.std.proofs.Common.{ℕ, ◌∙◌, List, [], ◌++◌, map, append_assoc, append-nil, sym, ap}
+-- Events added to a list, piece by piece.
+use Rattle.std.proofs.Common.{◌∙◌, List, [], ◌++◌, append_assoc, append-nil, sym, ap}
 use Rattle.std.specs.Prelude.{OnOk, Result, Ok, Err}
-use Rattle.std.proofs.lemmas.List.{map-append}
-use Rattle.bank_words.specs.Events.{event_code}
 use Rattle.bank_words.specs.declared.events.Event.{Event}
 use Rattle.schedule_replay.specs.Turns.{Adds}
 
-pub adds_none : (list : List ℕ) → Adds list list []
+pub adds_none : (list : List Event) → Adds list list []
 adds_none list = sym (append-nil list)
 
-pub adds_both : (old between new : List ℕ) (xs ys : List Event) → Adds old between xs → Adds between new ys → Adds old new (xs ++ ys)
-adds_both old between new xs ys first second =
-    second ∙ ap (λ (l : List ℕ). l ++ map event_code ys) first ∙ append_assoc old (map event_code xs) (map event_code ys)
-    ∙ ap (λ (l : List ℕ). old ++ l) (sym (map-append event_code xs ys))
+pub adds_both : (old between new xs ys : List Event) → Adds old between xs → Adds between new ys → Adds old new (xs ++ ys)
+adds_both old between new xs ys first second = second ∙ ap (λ (l : List Event). l ++ ys) first ∙ append_assoc old xs ys
 
 -- where the second are added at all, both are
-pub adds_then : {A E : Type 0} (result : Result A E) (old between new : List ℕ) (xs ys : List Event) → Adds old between xs → OnOk result (Adds between new ys) → OnOk result (Adds old new (xs ++ ys))
+pub adds_then : {A E : Type 0} (result : Result A E) (old between new xs ys : List Event) → Adds old between xs → OnOk result (Adds between new ys) → OnOk result (Adds old new (xs ++ ys))
 adds_then (Ok done) old between new xs ys first second = adds_both old between new xs ys first second
 adds_then (Err error) old between new xs ys first second = tt

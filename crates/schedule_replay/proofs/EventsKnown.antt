@@ -1,9 +1,9 @@
 -- The events of every schedule are events of the specification.
-use Rattle.std.proofs.Common.{ℕ, ◌≡◌, ◌<◌, ◌+◌, ◌-◌, ◌∙◌, Bool, true, false, List, [], ◌∷◌, Some, None, arith, sym, ap, subst, inl, inr}
+use Rattle.std.proofs.Common.{ℕ, ◌≡◌, ◌<◌, ◌+◌, ◌-◌, ◌∙◌, Bool, true, false, List, [], ◌∷◌, Some, None, arith, sym, ap, inl, inr}
 use Rattle.std.specs.Prelude.{nat_eq, nat_le, nat_lt, if◌then◌else◌}
 use Rattle.scram_types.specs.Lookups.{proc_id}
 use Rattle.scram_types.specs.Scripts.{ScriptParts}
-use Rattle.scram_types.specs.Specification.{Each, IsSpec, Parts}
+use Rattle.scram_types.specs.Specification.{Parts}
 use Rattle.scram_types.specs.declared.ids.ProcId.{ProcId}
 use Rattle.bank_words.specs.declared.events.Event.{Event}
 use Rattle.bank_words.specs.declared.events.Event.TheVariants.{Start, Look, Store, Flip, Done, Halt, KNote, KStore, Release}
@@ -13,8 +13,8 @@ use Rattle.fail_stop.specs.Flights.{Flight}
 use Rattle.fail_stop.specs.Schedules.{IsSchedule, Machine, happened, opening}
 use Rattle.fail_stop.specs.ScriptFlights.{flight_of}
 use Rattle.fail_stop.proofs.Plans.{Mid, fork, gate, is_less, mid, next_kstore, next_note, plan_look, plan_store}
-use Rattle.schedule_replay.specs.Events.{AreCodes, HasEvent}
-use Rattle.schedule_replay.proofs.TurnsKnown.{codes_known, none, with_one}
+use Rattle.schedule_replay.specs.Events.{HasEvent, HasEvents}
+use Rattle.schedule_replay.proofs.TurnsKnown.{none, with_one}
 
 looked_at : (m : Flight) (p n : ℕ) (q : ProcId) → plan_step m p n ≡ Some (Look (proc_id p) q) → q.0 ≡ n - 1
 looked_at m p n q h = elim (fork (nat_eq n 0) (Some (Start (proc_id p))) _ (Look (proc_id p) q) h) [
@@ -60,11 +60,9 @@ module _ (spec : Parts) (script : ScriptParts) where
   next_known at words (KStore x) i = (next_kstore (flight_of spec script) at words x i).2
   next_known at words Release i = tt
 
-  schedule_known : (s : Machine) (es : List Event) (t : Machine) → IsSchedule (flight_of spec script) s es t → Each (HasEvent spec) es
+  schedule_known : (s : Machine) (es : List Event) (t : Machine) → IsSchedule (flight_of spec script) s es t → HasEvents spec es
   schedule_known s [] t i = none spec script
   schedule_known s (e ∷ es) t i = with_one spec script e es (next_known s.at s.words e i.0) (schedule_known (happened (flight_of spec script) s e) es t i.1)
 
-  pub history_known : (list : List ℕ) (at : Places) (words : Word → ℕ) → IsSpec spec → IsReplay (flight_of spec script) list at words → AreCodes spec list
-  history_known list at words sound r =
-      let known = codes_known spec r.events sound (schedule_known (opening (flight_of spec script)) r.events r.state r.schedule) in
-      subst (AreCodes spec) (sym r.codes_are) known
+  pub history_known : (events : List Event) (at : Places) (words : Word → ℕ) → IsReplay (flight_of spec script) events at words → HasEvents spec events
+  history_known events at words r = schedule_known (opening (flight_of spec script)) events r.state r.schedule

@@ -1,4 +1,3 @@
-mod Codes
 mod Walk
 mod EventsBack
 mod ScheduleBack

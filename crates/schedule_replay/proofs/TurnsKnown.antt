@@ -1,47 +1,18 @@
 -- The round-robin schedule has events of the specification.
-use Rattle.std.proofs.Common.{ℕ, zero, suc, ◌≡◌, ◌<◌, ◌≤◌, ◌*◌, Bool, true, false, cond, List, [], ◌∷◌, ◌++◌, Option, Some, None, Result, Ok, Err, length, map, arith, refl}
+use Rattle.std.proofs.Common.{ℕ, zero, suc, ◌≡◌, ◌<◌, ◌≤◌, ◌*◌, Bool, true, false, cond, List, [], ◌∷◌, ◌++◌, Option, Some, None, Result, Ok, Err, length, arith}
 use Rattle.std.specs.Prelude.{IfOk, Vec, nat_lt}
 use Rattle.scram_types.specs.declared.memory.NoMemory.{NoMemory}
 use Rattle.scram_types.specs.Lookups.{proc_id}
 use Rattle.scram_types.specs.Scripts.{ScriptParts}
 use Rattle.scram_types.specs.Searches.{listed_below}
-use Rattle.scram_types.specs.Specification.{Each, IsSpec, Parts}
+use Rattle.scram_types.specs.Specification.{Each, Parts}
 use Rattle.scram_types.proofs.Options.{same_some}
-use Rattle.bank_words.specs.Events.{IsEvent, event_code}
 use Rattle.bank_words.specs.declared.events.Event.{Event}
 use Rattle.bank_words.specs.declared.events.Event.TheVariants.{Start, Look, Store, Flip, Done, Halt, KNote, KStore, Release}
 use Rattle.fail_stop.specs.Flights.{stores_by}
 use Rattle.fail_stop.specs.ScriptFlights.{flight_of}
-use Rattle.schedule_replay.specs.Events.{AreCodes, HasEvent}
+use Rattle.schedule_replay.specs.Events.{HasEvent, HasEvents}
 use Rattle.schedule_replay.specs.Turns.{ending, frames_in_turns, in_turns, releasing, steps_by, turn_of_kernel, turn_of_proc, turns_of_procs}
-use Rattle.schedule_replay.proofs.Codes.{event_back}
-
--- the numbers of an event of a specification are small
-is_event : (spec : Parts) (e : Event) → IsSpec spec → HasEvent spec e → IsEvent e
-is_event spec (Start p) sound has = let few = sound.procs_count.few in omega (arith, has, few)
-is_event spec (Look p q) sound has = let few = sound.procs_count.few in
-    let a = has.0 in
-    let b = has.1 in
-    (omega (arith, a, few), omega (arith, b, few))
-is_event spec (Store p i) sound has = let few = sound.procs_count.few in
-    let apps = sound.apps_count.few in
-    let a = has.0 in
-    let b = has.1 in
-    (omega (arith, a, few), omega (arith, b, apps))
-is_event spec (Flip p) sound has = let few = sound.procs_count.few in omega (arith, has, few)
-is_event spec (Done p) sound has = let few = sound.procs_count.few in omega (arith, has, few)
-is_event spec (Halt p) sound has = let few = sound.procs_count.few in omega (arith, has, few)
-is_event spec (KNote p) sound has = let few = sound.procs_count.few in omega (arith, has, few)
-is_event spec (KStore i) sound has = omega (arith, has)
-is_event spec Release sound has = omega arith
-
-pub codes_known : (spec : Parts) (events : List Event) → IsSpec spec → Each (HasEvent spec) events → AreCodes spec (map event_code events)
-codes_known spec [] sound have i code there = absurd (let e = there in cc)
-codes_known spec (e ∷ events) sound have zero code there =
-    let same : event_code e ≡ code = same_some (event_code e) code there in
-    let has = have 0 e refl in
-    rw (← same) (record { event = e; of_code = event_back e (is_event spec e sound has); has = has })
-codes_known spec (e ∷ events) sound have (suc i) code there = codes_known spec events sound (λ j x at. have (suc j) x at) i code there
 
 -- the events of the turns
 
@@ -106,9 +77,10 @@ module _ (spec : Parts) (script : ScriptParts) where
       joined (frames_in_turns (flight_of spec script) f) (turns_of_procs (flight_of spec script) f (length spec.procs) ++ turn_of_kernel (flight_of spec script) f) (frames_have f)
       (joined (turns_of_procs (flight_of spec script) f (length spec.procs)) (turn_of_kernel (flight_of spec script) f) (procs_have f (length spec.procs) (omega arith)) (kernel_has f))
 
-  pub turns_known : IsSpec spec → AreCodes spec (map event_code (in_turns spec script))
-  turns_known sound = codes_known spec (in_turns spec script) sound (frames_have script.frames)
+  pub turns_known : HasEvents spec (in_turns spec script)
+  turns_known = frames_have script.frames
 
-pub turns_are_codes : {A : Type 0} (spec : Parts) (script : ScriptParts) (result : Result (Vec ℕ A) NoMemory) → IsSpec spec → IfOk result (λ list. list.items ≡ map event_code (in_turns spec script)) → IfOk result (λ list. AreCodes spec list.items)
-turns_are_codes spec script (Ok list) sound is = rw is (turns_known spec script sound)
-turns_are_codes spec script (Err wanting) sound is = tt
+pub turns_are_known : {A : Type 0} (spec : Parts) (script : ScriptParts) (result : Result (Vec Event A) NoMemory) → IfOk result (λ list. list.items ≡ in_turns spec script)
+    → IfOk result (λ list. HasEvents spec list.items)
+turns_are_known spec script (Ok list) is = rw is (turns_known spec script)
+turns_are_known spec script (Err none) is = tt

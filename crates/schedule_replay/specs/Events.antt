@@ -1,9 +1,7 @@
 -- Which events a specification has, and their text.
-use Rattle.std.specs.Prelude.{◌≡◌, ℕ, ◌<◌, List, [], ◌∷◌, ◌++◌, length, codes, decimal, Some, ⊤}
-use Rattle.std.specs.Option.{option_map_or}
+use Rattle.std.specs.Prelude.{ℕ, ◌<◌, List, [], ◌∷◌, ◌++◌, length, codes, decimal, ⊤}
 use Rattle.scram_types.specs.Specification.{Each, Parts}
 use Rattle.scram_types.specs.Lookups.{proc_name}
-use Rattle.bank_words.specs.Events.{event_of}
 use Rattle.bank_words.specs.declared.events.Event.{Event}
 use Rattle.bank_words.specs.declared.events.Event.TheVariants.{Start, Look, Store, Flip, Done, Halt, KNote, KStore, Release}
 use Rattle.fault_script.specs.Times.{words as width_of}
@@ -20,15 +18,9 @@ HasEvent spec (KNote p) = p.0 < length spec.procs
 HasEvent spec (KStore i) = i < 20
 HasEvent spec Release = ⊤
 
--- A number is the code of an event that the specification has.
-pub record IsCode (spec : Parts) (code : ℕ) : Type 0 where
-  pub event : Event
-  pub of_code : event_of code ≡ Some event
-  pub has : HasEvent spec event
-
--- Each number of a list is the code of an event that the specification has.
-abbrev pub AreCodes : Parts → List ℕ → Type 0
-AreCodes spec list = Each (IsCode spec) list
+-- The specification has each event of a list.
+abbrev pub HasEvents : Parts → List Event → Type 0
+HasEvents spec events = Each (HasEvent spec) events
 
 -- An event as a line of a schedule gives it.
 abbrev pub event_text : Parts → Event → List ℕ
@@ -46,11 +38,7 @@ event_text spec Release = codes "release"
 abbrev pub event_line : Parts → Event → List ℕ
 event_line spec event = event_text spec event ++ codes "\n"
 
--- The line of the event that has a code, and nothing where none has it.
-abbrev pub code_line : Parts → ℕ → List ℕ
-code_line spec code = option_map_or (event_line spec) (event_of code) []
-
 -- A schedule as text: a line for each event, in order.
-abbrev pub schedule_text : Parts → List ℕ → List ℕ
+abbrev pub schedule_text : Parts → List Event → List ℕ
 schedule_text spec [] = []
-schedule_text spec (code ∷ list) = code_line spec code ++ schedule_text spec list
+schedule_text spec (event ∷ events) = event_line spec event ++ schedule_text spec events

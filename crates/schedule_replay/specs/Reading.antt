@@ -4,7 +4,6 @@ use Rattle.std.specs.List.{list_all}
 use Rattle.scram_types.specs.Specification.{Parts}
 use Rattle.scram_types.specs.Lookups.{proc_named}
 use Rattle.scram_types.specs.declared.ids.ProcId.{ProcId}
-use Rattle.bank_words.specs.Events.{event_code}
 use Rattle.bank_words.specs.declared.events.Event.{Event}
 use Rattle.bank_words.specs.declared.events.Event.TheVariants as event
 use Rattle.fault_script.specs.Times.{words as width_of}
@@ -71,23 +70,23 @@ abbrev pub schedule_fault : ℕ → ℕ → ScheduleFault
 schedule_fault line rule = record { line = line; rule = rule }
 
 -- The reading goes on behind a line that is read, and ends at line k where that one breaks a rule.
-abbrev pub read_on : ℕ → Result Event ℕ → (Event → Result (List ℕ) ScheduleFault) → Result (List ℕ) ScheduleFault
+abbrev pub read_on : ℕ → Result Event ℕ → (Event → Result (List Event) ScheduleFault) → Result (List Event) ScheduleFault
 read_on k (Ok event) next = next event
 read_on k (Err rule) next = Err (schedule_fault k rule)
 
--- From line k on, behind lines with these codes: the lines, and what follows the last line feed, which has to be nothing.
-abbrev pub codes_from : Parts → ℕ → List ℕ → List (List ℕ) → Result (List ℕ) ScheduleFault
-codes_from spec k so_far [] = Ok so_far
-codes_from spec k so_far (last ∷ []) = if is_filled last then Err (schedule_fault k BROKEN_LINE) else Ok so_far
-codes_from spec k so_far (line ∷ next ∷ lines) =
-    read_on k (event_read spec line) (λ (event : Event). codes_from spec (k + 1) (so_far ++ event_code event ∷ []) (next ∷ lines))
+-- From line k on, behind lines with these events: the lines, and what follows the last line feed, which has to be nothing.
+abbrev pub events_from : Parts → ℕ → List Event → List (List ℕ) → Result (List Event) ScheduleFault
+events_from spec k so_far [] = Ok so_far
+events_from spec k so_far (last ∷ []) = if is_filled last then Err (schedule_fault k BROKEN_LINE) else Ok so_far
+events_from spec k so_far (line ∷ next ∷ lines) =
+    read_on k (event_read spec line) (λ (event : Event). events_from spec (k + 1) (so_far ++ event ∷ []) (next ∷ lines))
 
--- The codes of the events that the lines give. A file that is too long breaks its rule at line 0.
-abbrev pub schedule_of : Parts → List ℕ → Result (List ℕ) ScheduleFault
-schedule_of spec bytes = if nat_lt MAX_SCHEDULE_BYTES (length bytes) then Err (schedule_fault 0 TOO_LONG) else codes_from spec 1 [] (pieces_of 10 bytes)
+-- The events that the lines give. A file that is too long breaks its rule at line 0.
+abbrev pub schedule_of : Parts → List ℕ → Result (List Event) ScheduleFault
+schedule_of spec bytes = if nat_lt MAX_SCHEDULE_BYTES (length bytes) then Err (schedule_fault 0 TOO_LONG) else events_from spec 1 [] (pieces_of 10 bytes)
 
 -- An answer of the reader: it is the reading's, or out of memory.
-abbrev pub AnswersSchedule : {A : Type 0} → Result (List ℕ) ScheduleFault → Result (Vec ℕ A) ScheduleError → Type 0
+abbrev pub AnswersSchedule : {A : Type 0} → Result (List Event) ScheduleFault → Result (Vec Event A) ScheduleError → Type 0
 AnswersSchedule reading (Ok list) = reading ≡ Ok list.items
 AnswersSchedule reading (Err (Fault fault)) = reading ≡ Err fault
 AnswersSchedule reading (Err NoMemory) = ⊤

@@ -1,6 +1,5 @@
--- The result of numbers that are flown as the codes of a schedule.
+-- The result of events that are flown as a schedule.
 use Rattle.std.specs.Prelude.{◌≡◌, ◌≢◌, ℕ, zero, suc, List, length, take, slice_get, Option, Some, None, Result, Ok, Err, ⊤}
-use Rattle.bank_words.specs.Events.{event_of}
 use Rattle.bank_words.specs.declared.events.Event.{Event}
 use Rattle.event_core.specs.Replays.{IsReplay}
 use Rattle.fail_stop.specs.Ends.{IsOver}
@@ -28,26 +27,24 @@ next_below m at words (suc n) = first_of_two (next_below m at words n) (next_of 
 abbrev pub first_next : Flight → Places → (Word → ℕ) → Option Event
 first_next m at words = first_of_two (next_below m at words m.procs) (next_kernel m at words)
 
--- The numbers are the codes of a schedule at whose end the machine is over.
-pub record IsWholeSchedule (m : Flight) (list : List ℕ) : Type 0 where
+-- The events are a schedule at whose end the machine is over.
+pub record IsWholeSchedule (m : Flight) (list : List Event) : Type 0 where
   pub at : Places
   pub words : Word → ℕ
   pub replay : IsReplay m list at words
   pub over : IsOver m at
 
--- The numbers before this place are the codes of a schedule, and behind it the event at this place is not the next of its actor.
-pub record IsIllegal (m : Flight) (list : List ℕ) (index : ℕ) (given : Event) (next : Option Event) : Type 0 where
+-- The events before this place are a schedule, and behind it the event at this place is not the next of its actor.
+pub record IsIllegal (m : Flight) (list : List Event) (index : ℕ) (given : Event) (next : Option Event) : Type 0 where
   pub at : Places
   pub words : Word → ℕ
   pub before : IsReplay m (take index list) at words
-  pub code : ℕ
-  pub there : slice_get list index ≡ Some code
-  pub given_is : event_of code ≡ Some given
+  pub there : slice_get list index ≡ Some given
   pub next_is : next ≡ next_of_actor m at words given
   pub not_next : next ≢ Some given
 
--- The numbers are the codes of a schedule at whose end the machine is not over.
-pub record IsShort (m : Flight) (list : List ℕ) (events : ℕ) (next : Event) : Type 0 where
+-- The events are a schedule at whose end the machine is not over.
+pub record IsShort (m : Flight) (list : List Event) (events : ℕ) (next : Event) : Type 0 where
   pub at : Places
   pub words : Word → ℕ
   pub replay : IsReplay m list at words
@@ -57,8 +54,9 @@ pub record IsShort (m : Flight) (list : List ℕ) (events : ℕ) (next : Event) 
 
 -- An answer to a list: the one-thread trace where the list is a whole schedule, the first event that is out of turn, or what comes next
 -- where the list ends too early.
-abbrev pub AnswersReplay : Parts → ScriptParts → List ℕ → Result Flown ReplayError → Type 0
-AnswersReplay spec script list (Ok flown) = IsWholeSchedule (flight_of spec script) list × (flown.rows ≡ rows_of spec script) × (flown.reports ≡ reports_of spec script)
+abbrev pub AnswersReplay : Parts → ScriptParts → List Event → Result Flown ReplayError → Type 0
+AnswersReplay spec script list (Ok flown) = IsWholeSchedule (flight_of spec script) list × (flown.rows ≡ rows_of spec script)
+    × (flown.reports ≡ reports_of spec script)
 AnswersReplay spec script list (Err (error.Illegal index given next)) = IsIllegal (flight_of spec script) list index given next
 AnswersReplay spec script list (Err (error.Short events next)) = IsShort (flight_of spec script) list events next
 AnswersReplay spec script list (Err error.NoMemory) = ⊤

@@ -1,11 +1,10 @@
 -- The round-robin schedule: frame by frame, each processor in order makes all its steps, and then the kernel makes
 -- its own.
-use Rattle.std.specs.Prelude.{◌≡◌, ℕ, zero, suc, List, [], ◌∷◌, ◌++◌, map, Option, Some, None, nat_lt, if◌then◌else◌}
+use Rattle.std.specs.Prelude.{◌≡◌, ℕ, zero, suc, List, [], ◌∷◌, ◌++◌, Option, Some, None, nat_lt, if◌then◌else◌}
 use Rattle.scram_types.specs.Lookups.{proc_id}
 use Rattle.scram_types.specs.Scripts.{ScriptParts}
 use Rattle.scram_types.specs.Searches.{listed_below}
 use Rattle.scram_types.specs.Specification.{Parts}
-use Rattle.bank_words.specs.Events.{event_code}
 use Rattle.bank_words.specs.declared.events.Event.{Event}
 use Rattle.bank_words.specs.declared.events.Event.TheVariants.{Start, Look, Store, Flip, Done, Halt, KNote, KStore, Release}
 use Rattle.fail_stop.specs.Ends.{IsOver}
@@ -51,9 +50,9 @@ frames_in_turns m (suc f) = frames_in_turns m f ++ (turns_of_procs m f m.procs +
 abbrev pub in_turns : Parts → ScriptParts → List Event
 in_turns spec script = frames_in_turns (flight_of spec script) script.frames
 
--- The codes of some events were added to a list.
-abbrev pub Adds : List ℕ → List ℕ → List Event → Type 0
-Adds old new events = new ≡ old ++ map event_code events
+-- Some events were added to a list.
+abbrev pub Adds : List Event → List Event → List Event → Type 0
+Adds old new events = new ≡ old ++ events
 
 -- The events are a schedule from the opening, at whose end the machine is over.
 pub record LeadsToTheEnd (m : Flight) (events : List Event) : Type 0 where

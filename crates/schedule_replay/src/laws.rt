@@ -1,7 +1,7 @@
 //! What holds of schedules: each function's contract is a law.
 
 ghost use Rattle.std.specs.Prelude.{◌≡◌};
-ghost use Rattle.schedule_replay.specs.Events.{AreCodes};
+ghost use Rattle.schedule_replay.specs.Events.{HasEvents};
 ghost use Rattle.schedule_replay.specs.Laws.{OneAnswer};
 ghost use Rattle.schedule_replay.specs.LineRules.{LeastEventRuleIsTold};
 ghost use Rattle.schedule_replay.specs.Turns.{TurnsLeadToTheEnd};
@@ -20,16 +20,16 @@ pub fn least_rule_is_told()
     ensures { LeastEventRuleIsTold }
 {}
 
-/// Apart from out of memory, a list of numbers has one answer: that of a whole schedule, of the first event that is
+/// Apart from out of memory, a list of events has one answer: that of a whole schedule, of the first event that is
 /// out of turn, or of what comes next where it ends too early.
 pub fn a_list_has_one_answer()
     ensures { OneAnswer }
 {}
 
-/// The history of a core has codes of events that its specification has, so that it can be written.
-pub fn history_has_codes(core: &Core, spec: &Spec)
+/// The specification of a core has each event of its history, so that it can be written.
+pub fn history_is_known(core: &Core, spec: &Spec)
     requires { core.now.spec ≡ spec.now }
-    ensures { AreCodes spec.now core.now.history }
+    ensures { HasEvents spec.now core.now.history }
 {
     // Using a field of a specification shows that it keeps its invariant.
     let _ = &spec.procs;

@@ -1,5 +1,5 @@
-//! A schedule's text is read as exactly the codes of its events, or refused at its first broken line with the least rule
-//! that it breaks; what is written of codes of the specification's events is read back where it is not too long.
+//! A schedule's text is read as exactly its events, or refused at its first broken line with the least rule that it
+//! breaks; what is written of events that the specification has is read back where it is not too long.
 #![tactic(auto)]
 
 pub mod event_lines;

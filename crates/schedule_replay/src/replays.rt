@@ -1,22 +1,20 @@
 //! A schedule flown on one thread.
 
-ghost use Rattle.std.specs.Prelude.{◌≡◌, ◌++◌, ◌∷◌, [], ℕ, List, Err, IfErr, IfOk, IfSome, None, Some, length, slice_get, take, vec_len};
-ghost use Rattle.bank_words.specs.Events.{event_of};
-ghost use Rattle.event_core.specs.Cores.{flown, standing, standing_words};
+ghost use Rattle.std.specs.Prelude.{◌≡◌, ◌++◌, ◌∷◌, [], List, Err, IfErr, IfOk, IfSome, None, Some, length, slice_get, take, vec_len};
+ghost use Rattle.event_core.specs.Cores.{IsNextIn, IsWordIn, flown, standing, standing_words};
 ghost use Rattle.event_core.specs.Flyers.{FlyBy, FlyersFit};
 ghost use Rattle.event_core.specs.Replays.{IsReplay};
-ghost use Rattle.event_core.specs.Stores.{IsEventWord};
 ghost use Rattle.fail_stop.specs.Ends.{IsOver};
-ghost use Rattle.fail_stop.specs.Events.{IsNext, proc_after};
+ghost use Rattle.fail_stop.specs.Events.{next_of_actor, proc_after};
 ghost use Rattle.fault_script.specs.Fits.{Fits};
-ghost use Rattle.scram_types.specs.Specification.{Parts};
 ghost use Rattle.schedule_replay.specs.declared.replays.ReplayError.TheVariants.{NoMemory as WantsMemory};
-ghost use Rattle.schedule_replay.specs.Events.{AreCodes, IsCode};
 ghost use Rattle.schedule_replay.specs.Replaying.{AnswersReplay, first_next, next_below};
+ghost use Rattle.event_core.specs.declared.cores.Illegal.{Illegal};
+ghost use Rattle.bank_words.specs.declared.events.Event.{Event};
 
 use crate::turns::proc_count;
 use app_model::Rack;
-use bank_words::{Event, event_of};
+use bank_words::Event;
 use event_core::Core;
 use event_core::flyers::Flyers;
 use scram_types::{Flown, NoMemory, ProcId, Script, Spec};
@@ -50,7 +48,7 @@ impl From<NoMemory> for ReplayError {
     }
 }
 
-/// Flies a list of codes as a schedule, on one thread. Where it is a schedule at whose end the flight is over, the
+/// Flies a list of events as a schedule, on one thread. Where it is a schedule at whose end the flight is over, the
 /// rows and reports are those of the one-thread trace, whatever the list is. Rack `p` is that of processor `p`, and
 /// spare rack `p` is for its restart. It does not block.
 ///
@@ -64,12 +62,11 @@ pub fn replay(
     script: &Script,
     racks: Vec<Rack>,
     spares: Vec<Rack>,
-    events: &[u32],
+    events: &[Event],
 ) -> Result<Flown, ReplayError>
     requires script { Fits spec.now script.now }
     requires racks { vec_len racks ≡ 8 }
     requires spares { vec_len spares ≡ 8 }
-    requires codes { AreCodes spec.now events.now }
     ensures { AnswersReplay spec.now script.now events.now result }
 {
     let core = Core::open(alloc, spec, script)?;
@@ -83,12 +80,11 @@ fn fly<'a>(
     core: Core<'a>,
     spec: &Spec,
     flyers: Flyers,
-    events: &[u32],
+    events: &[Event],
 ) -> Result<Core<'a>, ReplayError>
     requires spec { core.spec ≡ spec.now }
     requires opening { core.history ≡ [] }
     requires fits { FlyBy core flyers }
-    requires codes { AreCodes spec.now events.now }
     ensures spec { IfOk result (λ after. after.spec ≡ core.entry.spec) }
     ensures script { IfOk result (λ after. after.script ≡ core.entry.script) }
     ensures history { IfOk result (λ after. after.history ≡ events.now) }
@@ -96,8 +92,8 @@ fn fly<'a>(
 {
     let mut core = core;
     let mut flyers = flyers;
-    for code in events {
-        match make(&mut core, spec, &mut flyers, *code) {
+    for event in events {
+        match make(&mut core, spec, &mut flyers, *event) {
             Ok(()) => {}
             Err(error) => return Err(error),
         }
@@ -105,18 +101,17 @@ fn fly<'a>(
     Ok(core)
 }
 
-// Makes the event that has a code, where it is the next of its actor.
-fn make(core: &mut Core, spec: &Spec, flyers: &mut Flyers, code: u32) -> Result<(), ReplayError>
+// Makes an event, where it is the next of its actor.
+fn make(core: &mut Core, spec: &Spec, flyers: &mut Flyers, event: Event) -> Result<(), ReplayError>
     requires spec { core.old.spec ≡ spec.now }
-    requires code { IsCode spec.now code }
     requires fits { FlyBy core.old flyers.old }
     ensures spec { core.new.spec ≡ core.old.spec }
     ensures script { core.new.script ≡ core.old.script }
     ensures fits { IfOk result (λ _. FlyBy core.new flyers.new) }
-    ensures history { IfOk result (λ _. core.new.history ≡ core.old.history ++ code ∷ []) }
-    ensures refused { (list : List ℕ) → take (length core.old.history) list ≡ core.old.history → slice_get list (length core.old.history) ≡ Some code → IfErr result (λ error. AnswersReplay core.old.spec core.old.script list (Err error)) }
+    ensures history { IfOk result (λ _. core.new.history ≡ core.old.history ++ event ∷ []) }
+    ensures refused { (list : List Event) → take (length core.old.history) list ≡ core.old.history → slice_get list (length core.old.history) ≡ Some event
+        → IfErr result (λ error. AnswersReplay core.old.spec core.old.script list (Err error)) }
 {
-    let event = event_at(code);
     let index = events_made(core);
     let word = word_where_next(core, spec, flyers, event);
     match core.step(event, word) {
@@ -126,17 +121,6 @@ fn make(core: &mut Core, spec: &Spec, flyers: &mut Flyers, code: u32) -> Result<
             given: illegal.given,
             next: illegal.next,
         }),
-    }
-}
-
-// Returns the event that has a code; there is one.
-fn event_at(code: u32) -> Event
-    requires { (spec : Parts) × IsCode spec code }
-    ensures { event_of code ≡ Some result }
-{
-    match event_of(code) {
-        Some(event) => event,
-        None => unreachable!(),
     }
 }
 
@@ -152,8 +136,8 @@ fn events_made(core: &Core) -> u32
 fn word_where_next(core: &Core, spec: &Spec, flyers: &mut Flyers, event: Event) -> u64
     requires spec { core.now.spec ≡ spec.now }
     requires fits { FlyBy core.now flyers.old }
-    ensures word { IsNext (flown core.now) (standing core.now) (standing_words core.now) event → IsEventWord (flown core.now) (standing core.now) event result }
-    ensures fits { IsNext (flown core.now) (standing core.now) (standing_words core.now) event → FlyersFit core.now.spec core.now.script (proc_after (flown core.now) (standing core.now) event) flyers.new }
+    ensures word { IsNextIn core.now event → IsWordIn core.now event result }
+    ensures fits { IsNextIn core.now event → FlyersFit core.now.spec core.now.script (proc_after (flown core.now) (standing core.now) event) flyers.new }
 {
     if core.next_of_actor(event) == Some(event) {
         flyers.word(core, spec, event)
@@ -163,7 +147,7 @@ fn word_where_next(core: &Core, spec: &Spec, flyers: &mut Flyers, event: Event) 
 }
 
 // Returns the flight's rows and reports where it is over, else what would come next.
-fn land(core: Core, spec: &Spec, events: &[u32]) -> Result<Flown, ReplayError>
+fn land(core: Core, spec: &Spec, events: &[Event]) -> Result<Flown, ReplayError>
     requires spec { core.spec ≡ spec.now }
     requires history { core.history ≡ events.now }
     ensures { AnswersReplay core.entry.spec core.entry.script events.now result }

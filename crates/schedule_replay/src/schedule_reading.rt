@@ -1,14 +1,15 @@
 //! A schedule read from its bytes.
 
 ghost use Rattle.std.specs.Prelude.{◌≡◌, IfOk};
-ghost use Rattle.schedule_replay.specs.Events.{AreCodes};
+ghost use Rattle.schedule_replay.specs.Events.{HasEvents};
 ghost use Rattle.schedule_replay.specs.Reading.{AnswersSchedule, schedule_fault, schedule_of};
 ghost use Rattle.schedule_replay.specs.declared.schedule_reading.ScheduleError.TheVariants.{Fault};
+ghost use Rattle.bank_words.specs.declared.events.Event.{Event};
 
 use crate::event_lines::read_event;
 use crate::limits::MAX_SCHEDULE_BYTES;
 use crate::rule;
-use bank_words::event_code;
+use bank_words::Event;
 use scram_types::Spec;
 use std::alloc::Global;
 use trace_text::pieces::split_once;
@@ -28,11 +29,11 @@ pub enum ScheduleError {
     NoMemory,
 }
 
-/// Returns the codes of the events that the lines give, in order, or the first line that breaks a rule with the least
-/// rule that it breaks. What is read has codes of events that the specification has.
-pub fn read_schedule(alloc: Global, bytes: &[u8], spec: &Spec) -> Result<Vec<u32>, ScheduleError>
+/// Returns the events that the lines give, in order, or the first line that breaks a rule with the least rule that it
+/// breaks. The specification has each event that is read.
+pub fn read_schedule(alloc: Global, bytes: &[u8], spec: &Spec) -> Result<Vec<Event>, ScheduleError>
     ensures read { AnswersSchedule (schedule_of spec.now bytes.now) result }
-    ensures known { IfOk result (λ list. AreCodes spec.now list.items) }
+    ensures known { IfOk result (λ list. HasEvents spec.now list.items) }
 {
     if bytes.len() > MAX_SCHEDULE_BYTES {
         return Err(schedule_fault(0, rule::TOO_LONG));
@@ -42,7 +43,7 @@ pub fn read_schedule(alloc: Global, bytes: &[u8], spec: &Spec) -> Result<Vec<u32
     let mut rest = bytes;
     while let Some((text, behind)) = split_once(rest, b'\n') {
         match read_event(spec, text) {
-            Ok(event) => match list.push(event_code(event)) {
+            Ok(event) => match list.push(event) {
                 Ok(()) => {}
                 Err(_) => return Err(ScheduleError::NoMemory),
             },

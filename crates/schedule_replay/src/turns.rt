@@ -1,39 +1,39 @@
 //! The round-robin schedule.
 
-ghost use Rattle.std.specs.Prelude.{◌≡◌, ◌*◌, ◌<◌, ◌∷◌, ◌++◌, [], IfOk, None, OnOk, Some, ℕ, length, map, option_map};
-ghost use Rattle.bank_words.specs.Events.{event_code};
+ghost use Rattle.std.specs.Prelude.{◌≡◌, ◌*◌, ◌<◌, ◌∷◌, ◌++◌, [], IfOk, None, OnOk, Some, ℕ, length, option_map};
 ghost use Rattle.bank_words.specs.declared.events.Event.TheVariants.{KNote, KStore, Look, Release, Store};
 ghost use Rattle.fail_stop.specs.Flights.{Flight, stores_by};
-ghost use Rattle.fail_stop.specs.ScriptFlights.{flight_of, halt_step};
+ghost use Rattle.fail_stop.specs.ScriptFlights.{flight_of};
 ghost use Rattle.scram_types.specs.Lookups.{proc_id};
 ghost use Rattle.scram_types.specs.Scripts.{ScriptParts};
 ghost use Rattle.scram_types.specs.Searches.{listed_below};
 ghost use Rattle.scram_types.specs.declared.scripts.HaltAt.{HaltAt};
-ghost use Rattle.schedule_replay.specs.Events.{AreCodes};
+ghost use Rattle.schedule_replay.specs.Events.{HasEvents};
 ghost use Rattle.schedule_replay.specs.Turns.{Adds, ending, in_turns, releasing, steps_by, turn_of_kernel, turn_of_proc, turns_of_procs};
+ghost use Rattle.bank_words.specs.declared.events.Event.{Event};
 
-use bank_words::{Event, event_code};
+use bank_words::Event;
 use fault_script::{halt_in, up_at};
 use scram_types::{HaltAt, NoMemory, ProcId, Script, Spec};
 use std::alloc::Global;
 
-/// Returns the codes of the round-robin schedule: frame by frame, each processor in order makes all its steps, and
+/// Returns the round-robin schedule: frame by frame, each processor in order makes all its steps, and
 /// then the kernel makes its own. A processor that is down makes none; one that restarts does so in its turn.
 ///
 /// # Errors
 ///
 /// Out of memory.
-pub fn in_turns(alloc: Global, spec: &Spec, script: &Script) -> Result<Vec<u32>, NoMemory>
-    ensures turns { IfOk result (λ list. list.items ≡ map event_code (in_turns spec.now script.now)) }
-    ensures known { IfOk result (λ list. AreCodes spec.now list.items) }
+pub fn in_turns(alloc: Global, spec: &Spec, script: &Script) -> Result<Vec<Event>, NoMemory>
+    ensures turns { IfOk result (λ list. list.items ≡ in_turns spec.now script.now) }
+    ensures known { IfOk result (λ list. HasEvents spec.now list.items) }
 {
     // Using a field of a specification shows that it keeps its invariant.
     let _ = &spec.procs;
     add_frames(alloc, spec, script)
 }
 
-fn add_frames(alloc: Global, spec: &Spec, script: &Script) -> Result<Vec<u32>, NoMemory>
-    ensures { IfOk result (λ list. list.items ≡ map event_code (in_turns spec.now script.now)) }
+fn add_frames(alloc: Global, spec: &Spec, script: &Script) -> Result<Vec<Event>, NoMemory>
+    ensures { IfOk result (λ list. list.items ≡ in_turns spec.now script.now) }
 {
     let mut list = Vec::new(alloc);
     for frame in 0..script.frames {
@@ -43,7 +43,7 @@ fn add_frames(alloc: Global, spec: &Spec, script: &Script) -> Result<Vec<u32>, N
     Ok(list)
 }
 
-fn add_procs(list: &mut Vec<u32>, spec: &Spec, script: &Script, frame: u32) -> Result<(), NoMemory>
+fn add_procs(list: &mut Vec<Event>, spec: &Spec, script: &Script, frame: u32) -> Result<(), NoMemory>
     ensures { OnOk result (let m = flight_of spec.now script.now in Adds list.old.items list.new.items (turns_of_procs m frame m.procs)) }
 {
     let procs = proc_count(spec);
@@ -54,7 +54,7 @@ fn add_procs(list: &mut Vec<u32>, spec: &Spec, script: &Script, frame: u32) -> R
 }
 
 fn add_turn(
-    list: &mut Vec<u32>,
+    list: &mut Vec<Event>,
     spec: &Spec,
     script: &Script,
     p: ProcId,
@@ -70,12 +70,13 @@ fn add_turn(
 }
 
 fn add_steps(
-    list: &mut Vec<u32>,
+    list: &mut Vec<Event>,
     spec: &Spec,
     p: ProcId,
     halt: Option<HaltAt>,
 ) -> Result<(), NoMemory>
-    ensures { (script : ScriptParts) → OnOk result (Adds list.old.items list.new.items (steps_by (flight_of spec.now script) p.0 (option_map (λ (halt : HaltAt). halt.step) halt))) }
+    ensures { (script : ScriptParts) → OnOk result (Adds list.old.items list.new.items
+        (steps_by (flight_of spec.now script) p.0 (option_map (λ (halt : HaltAt). halt.step) halt))) }
 {
     let width = image_words(spec);
     add(list, Event::Start(p))?;
@@ -86,16 +87,18 @@ fn add_steps(
     }
 }
 
-fn add_all_stores(list: &mut Vec<u32>, p: ProcId, width: u8) -> Result<(), NoMemory>
-    ensures { (m : Flight) → m.width ≡ width → OnOk result (Adds list.old.items list.new.items (listed_below (λ (i : ℕ). Store (proc_id p.0) i) (stores_by m.width None) ++ ending m p.0 None)) }
+fn add_all_stores(list: &mut Vec<Event>, p: ProcId, width: u8) -> Result<(), NoMemory>
+    ensures { (m : Flight) → m.width ≡ width → OnOk result (Adds list.old.items list.new.items
+        (listed_below (λ (i : ℕ). Store (proc_id p.0) i) (stores_by m.width None) ++ ending m p.0 None)) }
 {
     add_stores(list, p, width)?;
     add(list, Event::Flip(p))?;
     add(list, Event::Done(p))
 }
 
-fn add_until_halt(list: &mut Vec<u32>, p: ProcId, width: u8, step: u8) -> Result<(), NoMemory>
-    ensures { (m : Flight) → m.width ≡ width → OnOk result (Adds list.old.items list.new.items (listed_below (λ (i : ℕ). Store (proc_id p.0) i) (stores_by m.width (Some step)) ++ ending m p.0 (Some step))) }
+fn add_until_halt(list: &mut Vec<Event>, p: ProcId, width: u8, step: u8) -> Result<(), NoMemory>
+    ensures { (m : Flight) → m.width ≡ width → OnOk result (Adds list.old.items list.new.items
+        (listed_below (λ (i : ℕ). Store (proc_id p.0) i) (stores_by m.width (Some step)) ++ ending m p.0 (Some step))) }
 {
     if width < step {
         add_stores(list, p, width)?;
@@ -107,7 +110,7 @@ fn add_until_halt(list: &mut Vec<u32>, p: ProcId, width: u8, step: u8) -> Result
     }
 }
 
-fn add_looks(list: &mut Vec<u32>, p: ProcId, procs: u8) -> Result<(), NoMemory>
+fn add_looks(list: &mut Vec<Event>, p: ProcId, procs: u8) -> Result<(), NoMemory>
     ensures { OnOk result (Adds list.old.items list.new.items (listed_below (λ (q : ℕ). Look (proc_id p.0) (proc_id q)) procs)) }
 {
     for q in 0..procs {
@@ -116,7 +119,7 @@ fn add_looks(list: &mut Vec<u32>, p: ProcId, procs: u8) -> Result<(), NoMemory>
     Ok(())
 }
 
-fn add_stores(list: &mut Vec<u32>, p: ProcId, stores: u8) -> Result<(), NoMemory>
+fn add_stores(list: &mut Vec<Event>, p: ProcId, stores: u8) -> Result<(), NoMemory>
     ensures { OnOk result (Adds list.old.items list.new.items (listed_below (λ (i : ℕ). Store (proc_id p.0) i) stores)) }
 {
     for i in 0..stores {
@@ -125,7 +128,7 @@ fn add_stores(list: &mut Vec<u32>, p: ProcId, stores: u8) -> Result<(), NoMemory
     Ok(())
 }
 
-fn add_kernel(list: &mut Vec<u32>, spec: &Spec, script: &Script, frame: u32) -> Result<(), NoMemory>
+fn add_kernel(list: &mut Vec<Event>, spec: &Spec, script: &Script, frame: u32) -> Result<(), NoMemory>
     requires { frame < script.now.frames }
     ensures { OnOk result (Adds list.old.items list.new.items (turn_of_kernel (flight_of spec.now script.now) frame)) }
 {
@@ -133,7 +136,7 @@ fn add_kernel(list: &mut Vec<u32>, spec: &Spec, script: &Script, frame: u32) -> 
     add_releasing(list, script, frame)
 }
 
-fn add_releasing(list: &mut Vec<u32>, script: &Script, frame: u32) -> Result<(), NoMemory>
+fn add_releasing(list: &mut Vec<Event>, script: &Script, frame: u32) -> Result<(), NoMemory>
     requires { frame < script.now.frames }
     ensures { (m : Flight) → m.frames ≡ script.now.frames → OnOk result (Adds list.old.items list.new.items (releasing m frame)) }
 {
@@ -145,14 +148,14 @@ fn add_releasing(list: &mut Vec<u32>, script: &Script, frame: u32) -> Result<(),
     }
 }
 
-fn add_release(list: &mut Vec<u32>) -> Result<(), NoMemory>
+fn add_release(list: &mut Vec<Event>) -> Result<(), NoMemory>
     ensures { OnOk result (Adds list.old.items list.new.items (listed_below KStore 20 ++ Release ∷ [])) }
 {
     add_kernel_stores(list)?;
     add(list, Event::Release)
 }
 
-fn add_notes(list: &mut Vec<u32>, procs: u8) -> Result<(), NoMemory>
+fn add_notes(list: &mut Vec<Event>, procs: u8) -> Result<(), NoMemory>
     ensures { OnOk result (Adds list.old.items list.new.items (listed_below (λ (p : ℕ). KNote (proc_id p)) procs)) }
 {
     for p in 0..procs {
@@ -161,7 +164,7 @@ fn add_notes(list: &mut Vec<u32>, procs: u8) -> Result<(), NoMemory>
     Ok(())
 }
 
-fn add_kernel_stores(list: &mut Vec<u32>) -> Result<(), NoMemory>
+fn add_kernel_stores(list: &mut Vec<Event>) -> Result<(), NoMemory>
     ensures { OnOk result (Adds list.old.items list.new.items (listed_below KStore 20)) }
 {
     for i in 0..20 {
@@ -170,10 +173,10 @@ fn add_kernel_stores(list: &mut Vec<u32>) -> Result<(), NoMemory>
     Ok(())
 }
 
-fn add(list: &mut Vec<u32>, event: Event) -> Result<(), NoMemory>
+fn add(list: &mut Vec<Event>, event: Event) -> Result<(), NoMemory>
     ensures { OnOk result (Adds list.old.items list.new.items (event ∷ [])) }
 {
-    list.push(event_code(event))?;
+    list.push(event)?;
     Ok(())
 }
 

@@ -1,13 +1,13 @@
 //! Flights over a lock, flown again by their histories.
 
 ghost use Rattle.std.specs.Prelude.{◌≡◌};
-ghost use Rattle.schedule_replay.specs.Events.{AreCodes};
 
 use crate::decks::fly_over_lock;
 use app_model::racks::empty_racks;
+use bank_words::Event;
 use coverage_check::Mission;
 use event_core::Core;
-use schedule_replay::laws::history_has_codes;
+use schedule_replay::laws::history_is_known;
 use schedule_replay::{read_schedule, replay, write_schedule};
 use scram_types::Flown;
 use std::alloc::{AllocGlobal, Global};
@@ -31,7 +31,7 @@ pub fn fly_and_write<R: AllocGlobal + Threads + Wait + Sync>(
 fn write_history(alloc: Global, mission: &Mission, core: &Core) -> io::Result<Vec<u8>>
     requires { core.now.spec ≡ mission.now.spec }
 {
-    history_has_codes(core, mission.spec());
+    history_is_known(core, mission.spec());
     match write_schedule(alloc, core.history(), mission.spec()) {
         Ok(text) => Ok(text),
         Err(_) => Err(ErrorKind::OutOfMemory.into()),
@@ -42,19 +42,17 @@ fn write_history(alloc: Global, mission: &Mission, core: &Core) -> io::Result<Ve
 /// where it is a schedule at whose end the flight is over.
 pub fn fly_again<R: AllocGlobal>(rt: &R, mission: &Mission, text: &[u8]) -> io::Result<Flown> {
     match read_schedule(rt.alloc(), text, mission.spec()) {
-        Ok(codes) => replay_codes(rt, mission, &codes),
+        Ok(events) => replay_events(rt, mission, &events),
         Err(_) => Err(ErrorKind::InvalidData.into()),
     }
 }
 
-fn replay_codes<R: AllocGlobal>(rt: &R, mission: &Mission, codes: &[u32]) -> io::Result<Flown>
-    requires { AreCodes mission.now.spec codes.now }
-{
+fn replay_events<R: AllocGlobal>(rt: &R, mission: &Mission, events: &[Event]) -> io::Result<Flown> {
     let racks = empty_racks(rt.alloc())?;
     let spares = empty_racks(rt.alloc())?;
     mission.holds();
     let (spec, script) = (mission.spec(), mission.script());
-    match replay(rt.alloc(), spec, script, racks, spares, codes) {
+    match replay(rt.alloc(), spec, script, racks, spares, events) {
         Ok(flown) => Ok(flown),
         Err(_) => Err(ErrorKind::InvalidData.into()),
     }

@@ -12,12 +12,12 @@
 
 mod decks;
 mod documents;
-mod flights;
+mod comparisons;
 mod histories;
 mod meetings;
 mod repeats;
 
-use crate::flights::{fly, fly_steps};
+use crate::comparisons::{fly, fly_steps};
 use crate::meetings::meet;
 use crate::repeats::repeat;
 use std::alloc::AllocGlobal;

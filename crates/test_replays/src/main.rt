@@ -8,10 +8,10 @@
 #![tactic(auto)]
 
 mod answers;
-mod flights;
+mod schedule_flights;
 mod schedules;
 
-use crate::flights::answer_row;
+use crate::schedule_flights::answer_row;
 use std::io;
 use test_kit::{each_row, spec_of_row};
 

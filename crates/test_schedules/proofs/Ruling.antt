@@ -1,10 +1,9 @@
 -- A history by a rule goes on with the event that the rule chooses.
 use Rattle.std.proofs.Common.{◌≡◌, ◌∙◌, ℕ, ◌-◌, Bool, refl, ap, sym, subst, List, [], ◌∷◌, ◌++◌}
-use Rattle.std.specs.Prelude.{Option, Some, None, IfSome, map, nat_eq, option_map, if◌then◌else◌}
+use Rattle.std.specs.Prelude.{Option, Some, None, IfSome, nat_eq, option_map, if◌then◌else◌}
 use Rattle.std.proofs.Math.Path.{fun_ext}
 use Rattle.scram_types.specs.Scripts.{ScriptParts}
 use Rattle.scram_types.specs.Specification.{Parts}
-use Rattle.bank_words.specs.Events.{event_code}
 use Rattle.bank_words.specs.declared.events.Event.{Event}
 use Rattle.fail_stop.specs.Events.{Happens, IsNext, IsStored, Places, Word, next_kernel, next_of}
 use Rattle.fail_stop.specs.Flights.{Flight}
@@ -19,17 +18,17 @@ use Rattle.test_schedules.specs.declared.choices.Chooser.{Chooser}
 use Rattle.test_schedules.specs.declared.choices.Rule.{Rule}
 
 -- the rule has come to this chooser
-abbrev pub IsRuledTo : Flight → Rule → Chooser → List ℕ → Places → (Word → ℕ) → Type 0
-IsRuledTo m rule chooser codes at words = (b : IsByRule m rule codes at words) × (b.chooser ≡ chooser)
+abbrev pub IsRuledTo : Flight → Rule → Chooser → List Event → Places → (Word → ℕ) → Type 0
+IsRuledTo m rule chooser events at words = (b : IsByRule m rule events at words) × (b.chooser ≡ chooser)
 
-none_before : (m : Flight) (rule : Rule) (events : List Event) (state : Machine) → [] ≡ map event_code events → IsSchedule m (opening m) events state
+none_before : (m : Flight) (rule : Rule) (events : List Event) (state : Machine) → [] ≡ events → IsSchedule m (opening m) events state
     → AreChosen m (first_chooser rule) (opening m) events (first_chooser rule) state
 none_before m rule [] state is schedule = (refl, schedule)
 none_before m rule (e ∷ es) state is schedule = cc
 
-pub ruled_opening : (m : Flight) (rule : Rule) (codes : List ℕ) (at : Places) (words : Word → ℕ) (chooser : Chooser) → codes ≡ [] → chooser ≡ first_chooser rule → IsReplay m codes at words
-    → IsRuledTo m rule chooser codes at words
-ruled_opening m rule codes at words chooser none is replay =
+pub ruled_opening : (m : Flight) (rule : Rule) (events : List Event) (at : Places) (words : Word → ℕ) (chooser : Chooser) → events ≡ [] → chooser ≡ first_chooser rule → IsReplay m events at words
+    → IsRuledTo m rule chooser events at words
+ruled_opening m rule events at words chooser none is replay =
     (record { replay = replay; chooser = first_chooser rule; chosen_are = none_before m rule replay.events replay.state (sym none ∙ replay.codes_are) replay.schedule }, sym is)
 
 chosen_more : (m : Flight) (chooser : Chooser) (s : Machine) (es : List Event) (last : Chooser) (t : Machine) (place : ℕ) (e : Event)
@@ -50,23 +49,21 @@ module _ (m : Flight) (at : Places) (v w : Word → ℕ) (same : (x : Word) → 
   chosen_same : (chooser : Chooser) → chosen m at v chooser ≡ chosen m at w chooser
   chosen_same chooser = ap (λ (next : ℕ → Option Event). first_from next m.procs (begin_of m.procs chooser)) (fun_ext (order_same (is_backwards chooser.rule)))
 
-ruled_more : (m : Flight) (rule : Rule) (chooser : Chooser) (codes : List ℕ) (at at2 : Places) (words words2 : Word → ℕ) (e : Event) (place : ℕ) → IsRuledTo m rule chooser codes at words
-    → chosen m at words chooser ≡ Some (place, e) → IsNext m at words e → Happens m at words e at2 words2 → IsRuledTo m rule (chooser_after chooser place) (codes ++ event_code e ∷ []) at2 words2
-ruled_more m rule chooser codes at at2 words words2 e place ruled is next happens =
+ruled_more : (m : Flight) (rule : Rule) (chooser : Chooser) (events : List Event) (at at2 : Places) (words words2 : Word → ℕ) (e : Event) (place : ℕ) → IsRuledTo m rule chooser events at words
+    → chosen m at words chooser ≡ Some (place, e) → IsNext m at words e → Happens m at words e at2 words2 → IsRuledTo m rule (chooser_after chooser place) (events ++ e ∷ []) at2 words2
+ruled_more m rule chooser events at at2 words words2 e place ruled is next happens =
     let b = ruled.0 in
     let here : chosen m at b.replay.state.words chooser ≡ Some (place, e) = sym (chosen_same m at words b.replay.state.words b.replay.words_are chooser) ∙ is in
     let there : chosen m b.replay.state.at b.replay.state.words chooser ≡ Some (place, e) =
     subst (λ (a : Places). chosen m a b.replay.state.words chooser ≡ Some (place, e)) b.replay.places_are here in
     let by_last : chosen m b.replay.state.at b.replay.state.words b.chooser ≡ Some (place, e) =
     subst (λ (c : Chooser). chosen m b.replay.state.at b.replay.state.words c ≡ Some (place, e)) (sym ruled.1) there in
-    let more = replay_on m codes at at2 words words2 e b.replay next (record { proc = happens.proc; frame = happens.frame; step = happens.step }) happens.words_are in
-    let longer = chosen_more m (first_chooser rule) (opening m) b.replay.events b.chooser b.replay.state place e b.chosen_are by_last in
-    let of_events : AreChosen m (first_chooser rule) (opening m) more.0.events (chooser_after b.chooser place) (happened m b.replay.state e) =
-    subst (λ (es : List Event). AreChosen m (first_chooser rule) (opening m) es (chooser_after b.chooser place) (happened m b.replay.state e)) (sym more.1) longer in (
+    let more = replay_on m events at at2 words words2 e b.replay next (record { proc = happens.proc; frame = happens.frame; step = happens.step }) happens.words_are in
+    let longer = chosen_more m (first_chooser rule) (opening m) events b.chooser b.replay.state place e b.chosen_are by_last in (
       record {
         replay = more.0;
         chooser = chooser_after b.chooser place;
-        chosen_are = subst (λ (t : Machine). AreChosen m (first_chooser rule) (opening m) more.0.events (chooser_after b.chooser place) t) (sym more.2) of_events;
+        chosen_are = subst (λ (t : Machine). AreChosen m (first_chooser rule) (opening m) (events ++ e ∷ []) (chooser_after b.chooser place) t) (sym more.1) longer;
       },
       ap (λ (c : Chooser). chooser_after c place) ruled.1,
     )
@@ -77,13 +74,13 @@ place_of : (o : Option (ℕ × Event)) (e : Event) (chooser later : Chooser) →
 place_of None e chooser later is after = cc
 place_of (Some found) e chooser later is after = let same : found.1 ≡ e = cc in (found.0, ap (λ x. Some (found.0, x)) same, after)
 
-ruled_by : (m : Flight) (rule : Rule) (chooser later : Chooser) (codes codes2 : List ℕ) (at at2 : Places) (words words2 : Word → ℕ) (e : Event) → IsRuledTo m rule chooser codes at words
+ruled_by : (m : Flight) (rule : Rule) (chooser later : Chooser) (events events2 : List Event) (at at2 : Places) (words words2 : Word → ℕ) (e : Event) → IsRuledTo m rule chooser events at words
     → Some e ≡ option_map (λ found. found.1) (chosen m at words chooser) → IfSome (chosen m at words chooser) (λ found. later ≡ chooser_after chooser found.0)
-    → IsNext m at words e → Happens m at words e at2 words2 → codes2 ≡ codes ++ event_code e ∷ [] → IsRuledTo m rule later codes2 at2 words2
-ruled_by m rule chooser later codes codes2 at at2 words words2 e ruled is after next happens longer =
+    → IsNext m at words e → Happens m at words e at2 words2 → events2 ≡ events ++ e ∷ [] → IsRuledTo m rule later events2 at2 words2
+ruled_by m rule chooser later events events2 at at2 words words2 e ruled is after next happens longer =
     let who = place_of (chosen m at words chooser) e chooser later is after in
-    subst (λ (c : Chooser). IsRuledTo m rule c codes2 at2 words2) (sym who.2)
-    (subst (λ (l : List ℕ). IsRuledTo m rule (chooser_after chooser who.0) l at2 words2) (sym longer) (ruled_more m rule chooser codes at at2 words words2 e who.0 ruled who.1 next happens))
+    subst (λ (c : Chooser). IsRuledTo m rule c events2 at2 words2) (sym who.2)
+    (subst (λ (l : List Event). IsRuledTo m rule (chooser_after chooser who.0) l at2 words2) (sym longer) (ruled_more m rule chooser events at at2 words words2 e who.0 ruled who.1 next happens))
 
 flown_same : (core core2 : CoreParts) → core2.spec ≡ core.spec → core2.script ≡ core.script → flown core ≡ flown core2
 flown_same core core2 spec script = ap (λ (spec : Parts). flight_of spec core.script) (sym spec) ∙ ap (λ (script : ScriptParts). flight_of core2.spec script) (sym script)
@@ -94,7 +91,7 @@ pub ruled_on : (core core2 : CoreParts) (rule : Rule) (chooser later : Chooser) 
     → Some e ≡ option_map (λ found. found.1) (chosen (flown core) (standing core) (standing_words core) chooser)
     → IfSome (chosen (flown core) (standing core) (standing_words core) chooser) (λ found. later ≡ chooser_after chooser found.0)
     → IsNext (flown core) (standing core) (standing_words core) e → Happens (flown core) (standing core) (standing_words core) e (standing core2) (standing_words core2)
-    → core2.history ≡ core.history ++ event_code e ∷ [] → IsRuledTo (flown core2) rule later core2.history (standing core2) (standing_words core2)
+    → core2.history ≡ core.history ++ e ∷ [] → IsRuledTo (flown core2) rule later core2.history (standing core2) (standing_words core2)
 ruled_on core core2 rule chooser later e ruled spec script is after next happens longer =
     subst (λ (m : Flight). IsRuledTo m rule later core2.history (standing core2) (standing_words core2)) (flown_same core core2 spec script)
     (ruled_by (flown core) rule chooser later core.history core2.history (standing core) (standing core2) (standing_words core) (standing_words core2) e ruled is after next happens longer)

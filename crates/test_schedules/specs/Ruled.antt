@@ -15,8 +15,8 @@ AreChosen m chooser s [] last t = (last ≡ chooser) × (t ≡ s)
 AreChosen m chooser s (e ∷ es) last t =
     (place : ℕ) × (chosen m s.at s.words chooser ≡ Some (place, e)) × AreChosen m (chooser_after chooser place) (happened m s e) es last t
 
--- The codes are those of a schedule from the opening that leads to these places and words, and the rule chose each event of it.
-pub record IsByRule (m : Flight) (rule : Rule) (codes : List ℕ) (at : Places) (words : Word → ℕ) : Type 0 where
-  pub replay : IsReplay m codes at words
+-- The events are a schedule from the opening that leads to these places and words, and the rule chose each event of it.
+pub record IsByRule (m : Flight) (rule : Rule) (events : List Event) (at : Places) (words : Word → ℕ) : Type 0 where
+  pub replay : IsReplay m events at words
   pub chooser : Chooser
-  pub chosen_are : AreChosen m (first_chooser rule) (opening m) replay.events chooser replay.state
+  pub chosen_are : AreChosen m (first_chooser rule) (opening m) events chooser replay.state

@@ -1,9 +1,8 @@
 //! Which actor makes the next event.
 
-ghost use Rattle.std.specs.Prelude.{◌≡◌, ℕ, ◌+◌, ◌-◌, ◌≤◌, ◌<◌, IfSome, None, nat_eq, if◌then◌else◌, length, option_map};
-ghost use Rattle.event_core.specs.Cores.{flown, standing, standing_words};
+ghost use Rattle.std.specs.Prelude.{◌≡◌, ℕ, ◌+◌, ◌-◌, ◌≤◌, ◌<◌, IfSome, None, if◌then◌else◌, length, option_map};
+ghost use Rattle.event_core.specs.Cores.{IsNextIn, flown, standing, standing_words};
 ghost use Rattle.fail_stop.specs.Ends.{IsOver};
-ghost use Rattle.fail_stop.specs.Events.{IsNext};
 ghost use Rattle.test_schedules.specs.Choices.{begin_of, chooser_after, chosen, first_chooser, first_from, first_in, generator_after, is_backwards, next_in_order, place_behind, seed_of};
 
 use bank_words::Event;
@@ -70,8 +69,9 @@ impl Chooser {
         requires procs { procs ≡ length core.now.spec.procs }
         requires few { procs ≤ 8 }
         ensures event { result ≡ option_map (λ found. found.1) (chosen (flown core.now) (standing core.now) (standing_words core.now) self.old) }
-        ensures after { IfSome (chosen (flown core.now) (standing core.now) (standing_words core.now) self.old) (λ found. self.new ≡ chooser_after self.old found.0) }
-        ensures next { IfSome result (IsNext (flown core.now) (standing core.now) (standing_words core.now)) }
+        ensures after { IfSome (chosen (flown core.now) (standing core.now) (standing_words core.now) self.old)
+            (λ found. self.new ≡ chooser_after self.old found.0) }
+        ensures next { IfSome result (IsNextIn core.now) }
         ensures over { result ≡ None → IsOver (flown core.now) (standing core.now) }
     {
         let backwards = is_backwards(self.rule);
@@ -131,7 +131,7 @@ fn next_in_order(core: &Core, procs: usize, backwards: bool, place: usize) -> Op
     requires few { procs ≤ 8 }
     requires place { place ≤ procs }
     ensures same { result ≡ next_in_order (flown core.now) (standing core.now) (standing_words core.now) backwards place }
-    ensures next { IfSome result (IsNext (flown core.now) (standing core.now) (standing_words core.now)) }
+    ensures next { IfSome result (IsNextIn core.now) }
 {
     if place == procs {
         core.next_kernel()
@@ -149,7 +149,7 @@ fn first_from(core: &Core, procs: usize, backwards: bool, begin: usize) -> Optio
     requires few { procs ≤ 8 }
     requires begin { begin ≤ procs }
     ensures same { result ≡ first_from (next_in_order (flown core.now) (standing core.now) (standing_words core.now) backwards) procs begin }
-    ensures next { IfSome result (λ found. IsNext (flown core.now) (standing core.now) (standing_words core.now) found.1) }
+    ensures next { IfSome result (λ found. IsNextIn core.now found.1) }
     ensures over { result ≡ None → IsOver (flown core.now) (standing core.now) }
 {
     core.goes_on();
@@ -171,8 +171,9 @@ fn first_in(
     requires few { procs ≤ 8 }
     requires end { end ≤ procs + 1 }
     ensures same { result ≡ first_in (next_in_order (flown core.now) (standing core.now) (standing_words core.now) backwards) begin (end - begin) }
-    ensures next { IfSome result (λ found. IsNext (flown core.now) (standing core.now) (standing_words core.now) found.1) }
-    ensures none { result ≡ None → (place : ℕ) → begin ≤ place → place < end → next_in_order (flown core.now) (standing core.now) (standing_words core.now) backwards place ≡ None }
+    ensures next { IfSome result (λ found. IsNextIn core.now found.1) }
+    ensures none { result ≡ None → (place : ℕ) → begin ≤ place → place < end
+        → next_in_order (flown core.now) (standing core.now) (standing_words core.now) backwards place ≡ None }
 {
     for place in begin..end {
         match next_in_order(core, procs, backwards, place) {

@@ -3,7 +3,7 @@
 ghost use Rattle.fault_script.specs.Fits.{Fits};
 
 use crate::choices::Rule;
-use crate::flights::fly;
+use crate::ruled::fly;
 use crate::halts::{Halt, Halts};
 use crate::scripts::{rule_named, script_of};
 use app_model::racks::empty_racks;

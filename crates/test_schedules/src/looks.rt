@@ -2,7 +2,7 @@
 
 ghost use Rattle.fault_script.specs.Fits.{Fits};
 
-use crate::flights::fly_some;
+use crate::ruled::fly_some;
 use crate::halts::Halts;
 use crate::scripts::{rule_named, script_of};
 use app_model::racks::empty_racks;

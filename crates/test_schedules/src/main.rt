@@ -9,7 +9,7 @@
 
 mod choices;
 mod comparisons;
-mod flights;
+mod ruled;
 mod halts;
 mod looks;
 mod scripts;

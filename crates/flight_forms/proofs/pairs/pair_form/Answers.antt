@@ -1,5 +1,5 @@
 use Rattle.form_base.proofs.Endings.{found_ends, refusal_ends}
-use Rattle.flight_forms.specs.declared.flights.FlightText.TheVariants.{Trace}
+use Rattle.flight_forms.specs.declared.runs.FlightText.TheVariants.{Trace}
 use Rattle.flight_forms.specs.Texts.{flight_text}
 use Rattle.flight_forms.proofs.pairs.pair_form.Goals as goal
 

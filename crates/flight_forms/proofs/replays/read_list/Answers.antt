@@ -7,16 +7,16 @@ use Rattle.flight_forms.proofs.FileReading.{schedule_reads, schedule_unread}
 use Rattle.flight_forms.proofs.MissionReading.{replay_settles}
 use Rattle.flight_forms.proofs.replays.read_list.Goals as goal
 
-pub returns-in-Ok-clause-reads : goal.returns-in-Ok-clause-reads
-returns-in-Ok-clause-reads g c =
+pub returns-in-Ok : goal.returns-in-Ok
+returns-in-Ok g c =
     let spec = c.args.parts.0 in
     let script = c.args.parts.1 in
     let list = c.in-Ok.list in
     schedule_reads spec c.args.schedule.now [] (ListAnswers spec script) TellsReplay list _ _ _ c.make_replay.result c.in-Ok.ensures.loads c.load.ensures.steady
     (settled (UnlessRefused (mission_refusal spec script) (IsReplayAnswer spec script list)) TellsReplay _ c.make_replay.result (g.met.F.Files.steady_below _)
-    (replay_settles spec script list c.make_replay.result c.make_replay.ensures.makes))
+    (replay_settles spec script list c.make_replay.result c.make_replay.ensures))
 
-pub returns-in-Err-clause-reads : goal.returns-in-Err-clause-reads
-returns-in-Err-clause-reads g c =
+pub returns-in-Err : goal.returns-in-Err
+returns-in-Err g c =
     schedule_unread c.args.parts.0 c.args.schedule.now [] (ListAnswers c.args.parts.0 c.args.parts.1) _ _
     c.in-Err.refusal c.in-Err.ensures.loads c.load.ensures.steady c.in-Err.ensures.unread

@@ -6,14 +6,14 @@ use Rattle.flight_forms.specs.Documents.{AsksScript}
 use Rattle.flight_forms.specs.Replays.{TellsReplay}
 use Rattle.flight_forms.proofs.replays.read_replay.Goals as goal
 
-pub returns-in-Ok-clause-reads : goal.returns-in-Ok-clause-reads
-returns-in-Ok-clause-reads g c =
+pub returns-in-Ok : goal.returns-in-Ok
+returns-in-Ok g c =
     let named = c.args.named in
     specification_reads named.specification.now (named.script.now ∷ named.schedule.now ∷ []) (λ (spec : Parts). AsksScript spec named.script.now (ScheduleAnswers named.schedule.now spec)) TellsReplay
-    c.in-Ok.spec _ _ _ c.read_scheduled.result c.in-Ok.ensures.loads c.load.ensures.steady c.read_scheduled.ensures.reads
+    c.in-Ok.spec _ _ _ c.read_scheduled.result c.in-Ok.ensures.loads c.load.ensures.steady c.read_scheduled.ensures
 
-pub returns-in-Err-clause-reads : goal.returns-in-Err-clause-reads
-returns-in-Err-clause-reads g c =
+pub returns-in-Err : goal.returns-in-Err
+returns-in-Err g c =
     let named = c.args.named in
     specification_unread named.specification.now (named.script.now ∷ named.schedule.now ∷ []) (λ (spec : Parts). AsksScript spec named.script.now (ScheduleAnswers named.schedule.now spec)) _ _
     c.in-Err.refusal c.in-Err.ensures.loads c.load.ensures.steady c.in-Err.ensures.unread

@@ -4,13 +4,8 @@ use Rattle.bank_words.specs.declared.events.Event.{Event}
 use Rattle.event_core.specs.Cores.{flown, standing, standing_words}
 use Rattle.event_core.specs.Replays.{IsReplay}
 use Rattle.fail_stop.specs.Events.{next_of_actor}
-use Rattle.schedule_replay.proofs.Codes.{code_back}
 use Rattle.event_core.proofs.Following.{fly_on}
 use Rattle.schedule_replay.proofs.replays.make.Goals as goal
-
-pub returns-in-Ok-clause-history : goal.returns-in-Ok-clause-history
-returns-in-Ok-clause-history g c =
-    c.in-Ok.ensures.history ∙ ap (λ (code : ℕ). c.args.core.now.history ++ code ∷ []) (code_back c.args.code c.event_at-event.result c.event_at-event.ensures)
 
 pub returns-in-Err-clause-refused : goal.returns-in-Err-clause-refused
 returns-in-Err-clause-refused g c = λ list before there.
@@ -20,15 +15,13 @@ returns-in-Err-clause-refused g c = λ list before there.
     record {
       at = standing core;
       words = standing_words core;
-      before = subst (λ (codes : List ℕ). IsReplay (flown core) codes (standing core) (standing_words core)) (sym (ap (λ (n : ℕ). take n list) count ∙ before)) c.events_made-index.ensures.schedule;
-      code = c.args.code;
-      there = ap (λ (n : ℕ). slice_get list n) count ∙ there;
-      given_is = c.event_at-event.ensures ∙ ap (λ (e : Event). Some e) (sym refused.1);
+      before = subst (λ (events : List Event). IsReplay (flown core) events (standing core) (standing_words core)) (sym (ap (λ (n : ℕ). take n list) count ∙ before)) c.events_made-index.ensures.schedule;
+      there = ap (λ (n : ℕ). slice_get list n) count ∙ there ∙ ap (λ (e : Event). Some e) (sym refused.1);
       next_is = refused.2 ∙ ap (λ (e : Event). next_of_actor (flown core) (standing core) (standing_words core) e) (sym refused.1);
       not_next = λ same. refused.0 (sym refused.2 ∙ same ∙ ap (λ (e : Event). Some e) refused.1);
     }
 
 pub returns-in-Ok-clause-fits : goal.returns-in-Ok-clause-fits
 returns-in-Ok-clause-fits g c =
-    fly_on c.args.core.now c.step.new.self (standing_words c.args.core.now) (standing_words c.step.new.self) c.event_at-event.result c.word_where_next-word.new.flyers c.step.ensures.spec c.step.ensures.script
+    fly_on c.args.core.now c.step.new.self (standing_words c.args.core.now) (standing_words c.step.new.self) c.args.event c.word_where_next-word.new.flyers c.step.ensures.spec c.step.ensures.script
     c.in-Ok.ensures.happens (c.word_where_next-word.ensures.fits c.in-Ok.ensures.next)

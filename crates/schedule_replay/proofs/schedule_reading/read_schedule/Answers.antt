@@ -1,8 +1,7 @@
 use Rattle.fault_script.proofs.Ends.{each_end}
 use Rattle.std.proofs.Common.{◌≡◌, arith, rules, sym}
-use Rattle.bank_words.specs.Events.{event_code}
 use Rattle.std.specs.Prelude.{◌++◌, ◌∷◌, []}
-use Rattle.schedule_replay.specs.Events.{IsCode}
+use Rattle.schedule_replay.specs.Events.{HasEvent}
 use Rattle.schedule_replay.proofs.Walk.{refused, taken}
 use Rattle.schedule_replay.proofs.schedule_reading.read_schedule.Goals as goal
 
@@ -14,11 +13,10 @@ returns-in-Err-clause-read c =
 
 pub loop-text-preserved : goal.loop-text-preserved
 loop-text-preserved c =
-    let items : c.push.new.self.items ≡ c.loop-text.list.items ++ event_code c.in-Ok.event ∷ [] = search rules in
+    let items : c.push.new.self.items ≡ c.loop-text.list.items ++ c.in-Ok.event ∷ [] = search rules in
     record {
       rest = rw items (taken c.args.spec.now c.loop-text.line c.loop-text.list.items c.in-Some.text.now c.loop-text.rest.now c.in-Some.behind.now c.in-Ok.event _
           c.in-Some.ensures.pieces (sym c.in-Ok.ensures.event) c.loop-text.invariant.rest);
-      known = rw items (each_end (IsCode c.args.spec.now) c.loop-text.list.items (event_code c.in-Ok.event) c.loop-text.invariant.known
-          (record { event = c.in-Ok.event; of_code = (let b = c.event_code.ensures.back in let e = c.event_code.ensures.code in rw e at b); has = c.in-Ok.ensures.known }));
+      known = rw items (each_end (HasEvent c.args.spec.now) c.loop-text.list.items c.in-Ok.event c.loop-text.invariant.known c.in-Ok.ensures.known);
       place = omega (arith, c.in-Some.ensures.shorter, c.loop-text.invariant.place);
     }

@@ -1,8 +1,7 @@
-use Rattle.std.proofs.Common.{◌≡◌, map}
-use Rattle.bank_words.specs.Events.{event_code}
+use Rattle.std.proofs.Common.{◌≡◌}
 use Rattle.fail_stop.specs.ScriptFlights.{flight_of}
 use Rattle.schedule_replay.specs.Turns.{frames_in_turns}
 use Rattle.schedule_replay.proofs.turns.add_frames.Given as goal
 
 abbrev pub invariant-loop-frame : goal.invariant-loop-frame
-invariant-loop-frame l = l.list.items ≡ map event_code (frames_in_turns (flight_of l.spec l.script) l.frame)
+invariant-loop-frame l = l.list.items ≡ frames_in_turns (flight_of l.spec l.script) l.frame

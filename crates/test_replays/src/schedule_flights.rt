@@ -1,11 +1,12 @@
 //! The flight of a row's schedule.
 
 ghost use Rattle.fault_script.specs.Fits.{Fits};
-ghost use Rattle.schedule_replay.specs.Events.{AreCodes};
+ghost use Rattle.schedule_replay.specs.Events.{HasEvents};
 
 use crate::answers::{print_answer, print_line};
 use crate::schedules::bytes_of;
 use app_model::racks::empty_racks;
+use bank_words::Event;
 use schedule_replay::refusals::make_fault_line;
 use schedule_replay::{ScheduleError, read_schedule, replay, write_schedule};
 use scram_types::{Script, Spec};
@@ -41,11 +42,11 @@ fn answer_list(
     rt: &HostRuntime,
     spec: &Spec,
     script: &Script,
-    list: &[u32],
+    list: &[Event],
     row: &str,
 ) -> io::Result<()>
     requires script { Fits spec.now script.now }
-    requires codes { AreCodes spec.now list.now }
+    requires known { HasEvents spec.now list.now }
 {
     let read = if is_read_back(rt.alloc(), spec, list)? {
         "read back"
@@ -57,8 +58,8 @@ fn answer_list(
 }
 
 /// Returns whether what is written of a list is read back to it.
-fn is_read_back(alloc: Global, spec: &Spec, list: &[u32]) -> io::Result<bool>
-    requires { AreCodes spec.now list.now }
+fn is_read_back(alloc: Global, spec: &Spec, list: &[Event]) -> io::Result<bool>
+    requires { HasEvents spec.now list.now }
 {
     let Ok(text) = write_schedule(alloc, list, spec) else {
         return Err(ErrorKind::OutOfMemory.into());
@@ -70,9 +71,8 @@ fn is_read_back(alloc: Global, spec: &Spec, list: &[u32]) -> io::Result<bool>
     }
 }
 
-fn fly(rt: &HostRuntime, spec: &Spec, script: &Script, list: &[u32], row: &str) -> io::Result<()>
-    requires script { Fits spec.now script.now }
-    requires codes { AreCodes spec.now list.now }
+fn fly(rt: &HostRuntime, spec: &Spec, script: &Script, list: &[Event], row: &str) -> io::Result<()>
+    requires { Fits spec.now script.now }
 {
     let racks = empty_racks(rt.alloc())?;
     let spares = empty_racks(rt.alloc())?;

@@ -1,8 +1,7 @@
-use Rattle.std.proofs.Common.{rules, ◌+◌, ◌∙◌, ap, length, refl, sym}
-use Rattle.std.proofs.lemmas.List.{length-append}
+use Rattle.std.proofs.Common.{rules, ◌∙◌, refl, sym}
 use Rattle.event_core.specs.Cores.{flown, standing, standing_words}
 use Rattle.test_schedules.proofs.Ruling.{ruled_on, ruled_opening}
-use Rattle.test_schedules.proofs.flights.fly_events.Goals as goal
+use Rattle.test_schedules.proofs.ruled.fly_on.Goals as goal
 
 pub make-requires-clause-fits : goal.make-requires-clause-fits
 make-requires-clause-fits g c = c.loop-event.invariant.fits
@@ -12,7 +11,6 @@ loop-event-init g c = record {
   spec = refl;
   script = refl;
   ruled = ruled_opening (flown c.args.core) c.args.rule c.args.core.history (standing c.args.core) (standing_words c.args.core) _ c.requires.opened (search rules) (search rules);
-  count = ap length c.requires.opened;
   fits = c.requires.fits;
 }
 
@@ -21,6 +19,5 @@ loop-event-preserved g c = record {
   spec = c.make.ensures.spec ∙ c.loop-event.invariant.spec;
   script = c.make.ensures.script ∙ c.loop-event.invariant.script;
   ruled = ruled_on c.loop-event.core _ _ c.loop-event.chooser _ _ c.loop-event.invariant.ruled c.make.ensures.spec c.make.ensures.script (search rules) c.choose.ensures.after (search rules) c.make.ensures.happens c.make.ensures.history;
-  count = ap length c.make.ensures.history ∙ length-append c.loop-event.core.history _ ∙ ap (λ n. n + 1) c.loop-event.invariant.count;
   fits = c.make.ensures.fits;
 }

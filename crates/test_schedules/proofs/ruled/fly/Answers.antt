@@ -1,5 +1,5 @@
 use Rattle.event_core.proofs.Following.{fly_first}
-use Rattle.test_schedules.proofs.flights.fly.Goals as goal
+use Rattle.test_schedules.proofs.ruled.fly.Goals as goal
 
 pub fly_on-requires-clause-fits : goal.fly_on-requires-clause-fits
 fly_on-requires-clause-fits g c =

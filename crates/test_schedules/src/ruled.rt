@@ -2,13 +2,10 @@
 //! core that comes out is that of the specification and the script, and is over.
 
 ghost use Rattle.std.specs.Prelude.{◌≡◌, ◌<◌, ◌≤◌, ◌⊎◌, ◌++◌, [], ◌∷◌, IfOk, length, vec_len};
-ghost use Rattle.bank_words.specs.Events.{event_code};
-ghost use Rattle.event_core.specs.Cores.{flown, standing, standing_words};
+ghost use Rattle.event_core.specs.Cores.{HappensIn, IsNextIn, IsWordIn, flown, standing, standing_words};
 ghost use Rattle.event_core.specs.Flyers.{FlyBy};
 ghost use Rattle.event_core.specs.Rooms.{events_left};
-ghost use Rattle.event_core.specs.Stores.{IsEventWord};
 ghost use Rattle.fail_stop.specs.Ends.{IsOver};
-ghost use Rattle.fail_stop.specs.Events.{Happens, IsNext};
 ghost use Rattle.fault_script.specs.Fits.{Fits};
 ghost use Rattle.test_schedules.specs.Ruled.{IsByRule};
 
@@ -127,12 +124,12 @@ fn fly_events<'a>(
 // Makes the next event of its actor, with its word where it is a store.
 fn make(core: &mut Core, spec: &Spec, flyers: &mut Flyers, event: Event)
     requires spec { core.old.spec ≡ spec.now }
-    requires next { IsNext (flown core.old) (standing core.old) (standing_words core.old) event }
+    requires next { IsNextIn core.old event }
     requires fits { FlyBy core.old flyers.old }
     ensures spec { core.new.spec ≡ core.old.spec }
     ensures script { core.new.script ≡ core.old.script }
-    ensures happens { Happens (flown core.old) (standing core.old) (standing_words core.old) event (standing core.new) (standing_words core.new) }
-    ensures history { core.new.history ≡ core.old.history ++ event_code event ∷ [] }
+    ensures happens { HappensIn core.old event core.new }
+    ensures history { core.new.history ≡ core.old.history ++ event ∷ [] }
     ensures fewer { events_left (flown core.new) (standing core.new) < events_left (flown core.old) (standing core.old) }
     ensures fits { FlyBy core.new flyers.new }
 {
@@ -142,12 +139,12 @@ fn make(core: &mut Core, spec: &Spec, flyers: &mut Flyers, event: Event)
 
 // Makes the next event of its actor with this word.
 fn step(core: &mut Core, event: Event, word: u64)
-    requires next { IsNext (flown core.old) (standing core.old) (standing_words core.old) event }
-    requires word { IsEventWord (flown core.old) (standing core.old) event word }
+    requires next { IsNextIn core.old event }
+    requires word { IsWordIn core.old event word }
     ensures spec { core.new.spec ≡ core.old.spec }
     ensures script { core.new.script ≡ core.old.script }
-    ensures happens { Happens (flown core.old) (standing core.old) (standing_words core.old) event (standing core.new) (standing_words core.new) }
-    ensures history { core.new.history ≡ core.old.history ++ event_code event ∷ [] }
+    ensures happens { HappensIn core.old event core.new }
+    ensures history { core.new.history ≡ core.old.history ++ event ∷ [] }
     ensures fewer { events_left (flown core.new) (standing core.new) < events_left (flown core.old) (standing core.old) }
 {
     match core.step(event, word) {

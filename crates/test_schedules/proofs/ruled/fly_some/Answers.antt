@@ -1,5 +1,5 @@
 use Rattle.event_core.proofs.Following.{fly_first}
-use Rattle.test_schedules.proofs.flights.fly_some.Goals as goal
+use Rattle.test_schedules.proofs.ruled.fly_some.Goals as goal
 
 pub fly_events-requires-clause-fits : goal.fly_events-requires-clause-fits
 fly_events-requires-clause-fits g c =

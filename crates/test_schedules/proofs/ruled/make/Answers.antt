@@ -1,6 +1,6 @@
 use Rattle.event_core.specs.Cores.{standing_words}
 use Rattle.event_core.proofs.Following.{fly_on}
-use Rattle.test_schedules.proofs.flights.make.Goals as goal
+use Rattle.test_schedules.proofs.ruled.make.Goals as goal
 
 pub returns-clause-fits : goal.returns-clause-fits
 returns-clause-fits g c =

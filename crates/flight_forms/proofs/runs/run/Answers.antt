@@ -1,7 +1,7 @@
 use Rattle.form_base.proofs.Endings.{found_ends, refusal_ends}
-use Rattle.flight_forms.specs.declared.flights.FlightText.TheVariants.{Trace}
+use Rattle.flight_forms.specs.declared.runs.FlightText.TheVariants.{Trace}
 use Rattle.flight_forms.specs.Texts.{flight_text}
-use Rattle.flight_forms.proofs.flights.run.Goals as goal
+use Rattle.flight_forms.proofs.runs.run.Goals as goal
 
 pub returns-in-Ok : goal.returns-in-Ok
 returns-in-Ok g c = found_ends _ _ _ _ _ _ _ _ (c.in-Ok.ensures (flight_text Trace)) c.fly-status.ensures

@@ -2,7 +2,7 @@ use Rattle.std.proofs.Common.{◌≡◌, length}
 use Rattle.event_core.specs.Cores.{flown, standing, standing_words}
 use Rattle.event_core.specs.Flyers.{FlyBy}
 use Rattle.test_schedules.proofs.Ruling.{IsRuledTo}
-use Rattle.test_schedules.proofs.flights.fly_events.Given as goal
+use Rattle.test_schedules.proofs.ruled.fly_events.Given as goal
 
 abbrev pub invariant-loop-event : goal.invariant-loop-event
 invariant-loop-event g l = record {

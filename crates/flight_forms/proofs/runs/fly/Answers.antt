@@ -1,7 +1,7 @@
 use Rattle.std.proofs.Common.{ℕ, List, subst}
 use Rattle.form_base.specs.Endings.{IsTaken}
 use Rattle.form_base.proofs.Endings.{memory_tells}
-use Rattle.flight_forms.proofs.flights.fly.Goals as goal
+use Rattle.flight_forms.proofs.runs.fly.Goals as goal
 
 pub returns-in-Err : goal.returns-in-Err
 returns-in-Err g c =

@@ -2,7 +2,7 @@ use Rattle.std.proofs.Common.{ap, arith, length}
 use Rattle.form_base.proofs.Endings.{answered_tells, put_taken}
 use Rattle.flight_forms.specs.Texts.{flight_text}
 use Rattle.flight_forms.proofs.FlightSizes.{few_reports_flown, few_rows_flown}
-use Rattle.flight_forms.proofs.flights.tell_flown.Goals as goal
+use Rattle.flight_forms.proofs.runs.tell_flown.Goals as goal
 
 pub put_flown-requires-clause-rows : goal.put_flown-requires-clause-rows
 put_flown-requires-clause-rows g c =
