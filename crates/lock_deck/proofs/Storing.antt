@@ -13,7 +13,7 @@ use Rattle.coverage_check.specs.Missions.{MissionParts}
 use Rattle.fail_stop.proofs.OpeningLists.{encoded_at}
 use Rattle.fail_stop.specs.declared.snapshots.Draft.{Draft}
 use Rattle.frame_model.specs.Flights.{draft}
-use Rattle.lock_deck.specs.Desks.{IsDraftOf, IsDraftWord}
+use Rattle.lock_deck.specs.SharedCores.{IsDraftOf, IsDraftWord}
 use Rattle.event_core.specs.Places.{HasLooked}
 
 step_looked : (m : Flight) (p n : ℕ) (q : ProcId) (i : ℕ) → plan_step m p n ≡ Some (Store q i) → (m.procs < n) × (n < m.procs + m.width + 2)

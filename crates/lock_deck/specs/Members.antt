@@ -3,7 +3,7 @@ use Rattle.std.specs.Prelude.{◌<◌, length, IfSome}
 use Rattle.coverage_check.specs.Missions.{MissionParts}
 use Rattle.fail_stop.specs.Flyers.{unit_proc}
 use Rattle.lock_deck.specs.declared.members.Member.{Member}
-use Rattle.lock_deck.specs.Desks.{IsDraftOf}
+use Rattle.lock_deck.specs.SharedCores.{IsDraftOf}
 
 -- The processor exists in the mission, and what it drafted last is its draft.
 pub record MemberFits {X : Type 0} {Y : X → Type 0} (mission : MissionParts) (member : Member X Y) : Type 0 where

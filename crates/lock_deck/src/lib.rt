@@ -3,12 +3,12 @@
 //! and is over.
 #![tactic(auto)]
 
-mod desks;
-pub mod flights;
+mod shared_cores;
+pub mod lock_flights;
 pub mod made;
 pub mod members;
 mod steps;
 mod turns;
 
-pub use flights::LockFlight;
+pub use lock_flights::LockFlight;
 pub use members::Member;

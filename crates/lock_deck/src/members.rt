@@ -4,7 +4,7 @@ ghost use Rattle.std.specs.Prelude.{◌≡◌, ◌<◌, false, length, true, Non
 ghost use Rattle.fail_stop.specs.declared.flyers.Unit.TheVariants.{Up};
 ghost use Rattle.fail_stop.specs.Flyers.{flyer_halted, flyer_started, is_down, unit_proc};
 ghost use Rattle.lock_deck.specs.declared.made.Made.TheVariants.{Halted as HaltMade};
-ghost use Rattle.lock_deck.specs.Desks.{IfSaw, IsDraftOf, IsSnapshotOf, is_start};
+ghost use Rattle.lock_deck.specs.SharedCores.{IfSaw, IsDraftOf, IsSnapshotOf, is_start};
 ghost use Rattle.lock_deck.specs.Members.{MemberFits};
 
 use crate::made::Made;

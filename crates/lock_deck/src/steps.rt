@@ -3,12 +3,12 @@
 ghost use Rattle.std.specs.Prelude.{◌≡◌, ◌<◌, IfSome, IsTrue, Some, length, ℕ};
 ghost use Rattle.bank_words.specs.declared.events.Event.TheVariants.{KStore};
 ghost use Rattle.coverage_check.specs.Missions.{MissionParts, mission_of};
-ghost use Rattle.event_core.specs.Cores.{flown, standing, standing_words};
+ghost use Rattle.event_core.specs.Cores.{IsNextIn, IsWordIn, flown, standing};
 ghost use Rattle.event_core.specs.Places.{HasLooked};
 ghost use Rattle.event_core.specs.Stores.{IsEventWord};
-ghost use Rattle.fail_stop.specs.Events.{Places, IsNext, next_kernel};
+ghost use Rattle.fail_stop.specs.Events.{Places, next_kernel};
 ghost use Rattle.fail_stop.specs.Flights.{Flight};
-ghost use Rattle.lock_deck.specs.Desks.{IfSaw, IsDraftOf, IsDraftWord, IsSnapshotOf};
+ghost use Rattle.lock_deck.specs.SharedCores.{IfSaw, IsDraftOf, IsDraftWord, IsSnapshotOf};
 
 use crate::made::Made;
 use bank_words::{Event, encode};
@@ -18,7 +18,7 @@ use scram_types::ProcId;
 
 // Makes an event, with its word, where it is next of its actor, and returns whether it was.
 fn make(core: &mut Core, event: Event, word: u64) -> bool
-    requires { IsNext (flown core.old) (standing core.old) (standing_words core.old) event → IsEventWord (flown core.old) (standing core.old) event word }
+    requires { IsNextIn core.old event → IsWordIn core.old event word }
     ensures spec { core.new.spec ≡ core.old.spec }
     ensures script { core.new.script ≡ core.old.script }
 {
@@ -136,7 +136,8 @@ fn make_other(core: &mut Core, p: ProcId, event: Event) -> Made
 
 // Word `i` of a draft of this frame, if there is one.
 fn word_of(drafted: Option<&Draft>, frame: u32, i: u8) -> Option<u64>
-    ensures { (mission : MissionParts) (p : ℕ) → IfSome drafted.entry (λ draft. IsDraftOf mission p draft.now) → IfSome result (λ word. IsDraftWord mission p frame i word) }
+    ensures { (mission : MissionParts) (p : ℕ) → IfSome drafted.entry (λ draft. IsDraftOf mission p draft.now)
+        → IfSome result (λ word. IsDraftWord mission p frame i word) }
 {
     let draft = drafted?;
     if draft.frame == frame {

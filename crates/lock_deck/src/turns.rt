@@ -3,7 +3,7 @@
 ghost use Rattle.std.specs.Prelude.{◌≡◌, All, Some};
 ghost use Rattle.lock_deck.specs.Members.{MemberFits};
 
-use crate::desks::{Desk, FlightOf};
+use crate::shared_cores::{SharedCore, FlightOf};
 use crate::made::Made;
 use crate::members::Member;
 use bank_words::Event;
@@ -14,7 +14,7 @@ use std::sync::{Condvar, Mutex, MutexGuard, Wait};
 pub(crate) fn fly_processor<'a, J: FlightOf, R: Wait>(
     rt: &R,
     mission: &Mission,
-    desk: &Mutex<Desk<'a, J>>,
+    shared: &Mutex<SharedCore<'a, J>>,
     moved: &Condvar,
     member: Member,
 )
@@ -24,8 +24,8 @@ pub(crate) fn fly_processor<'a, J: FlightOf, R: Wait>(
     let mut member = member;
     for _ in rt.forever() {
         let p = member.proc();
-        let desk = moved.wait_while(rt, desk.lock(rt), |desk| desk.waits(p));
-        if !make_turn(mission, desk, moved, &mut member) {
+        let shared = moved.wait_while(rt, shared.lock(rt), |shared| shared.waits(p));
+        if !make_turn(mission, shared, moved, &mut member) {
             return;
         }
     }
@@ -35,7 +35,7 @@ pub(crate) fn fly_processor<'a, J: FlightOf, R: Wait>(
 pub(crate) fn fly_kernel<'a, J: FlightOf, R: Wait>(
     rt: &R,
     mission: &Mission,
-    desk: &Mutex<Desk<'a, J>>,
+    shared: &Mutex<SharedCore<'a, J>>,
     moved: &Condvar,
     members: Vec<Member>,
 )
@@ -44,25 +44,25 @@ pub(crate) fn fly_kernel<'a, J: FlightOf, R: Wait>(
 {
     let mut members = members;
     for _ in rt.forever() {
-        let desk_now = moved.wait_while(rt, desk.lock(rt), |desk| desk.all_wait(&members));
-        if !make_turn_of_kernel(desk_now, moved) {
+        let shared_now = moved.wait_while(rt, shared.lock(rt), |shared| shared.all_wait(&members));
+        if !make_turn_of_kernel(shared_now, moved) {
             return;
         }
-        make_turn_of_each(rt, mission, desk, moved, &mut members);
+        make_turn_of_each(rt, mission, shared, moved, &mut members);
     }
 }
 
 // Makes a step of the kernel, if one is next; wakes those that wait for it; and returns whether the flight goes on.
 fn make_turn_of_kernel<'a, J: FlightOf>(
-    desk: MutexGuard<'_, Desk<'a, J>>,
+    shared: MutexGuard<'_, SharedCore<'a, J>>,
     moved: &Condvar,
 ) -> bool {
-    let mut desk = desk;
-    if desk.is_over() {
+    let mut shared = shared;
+    if shared.is_over() {
         moved.notify_all();
         return false;
     }
-    if desk.make_kernel() == Some(Event::Release) {
+    if shared.make_kernel() == Some(Event::Release) {
         moved.notify_all();
     }
     true
@@ -72,7 +72,7 @@ fn make_turn_of_kernel<'a, J: FlightOf>(
 fn make_turn_of_each<'a, J: FlightOf, R: Wait>(
     rt: &R,
     mission: &Mission,
-    desk: &Mutex<Desk<'a, J>>,
+    shared: &Mutex<SharedCore<'a, J>>,
     moved: &Condvar,
     members: &mut [Member],
 )
@@ -81,7 +81,7 @@ fn make_turn_of_each<'a, J: FlightOf, R: Wait>(
     ensures fits { All (MemberFits mission.now) members.new }
 {
     for place in 0..members.len() {
-        make_turn(mission, desk.lock(rt), moved, &mut members[place]);
+        make_turn(mission, shared.lock(rt), moved, &mut members[place]);
     }
 }
 
@@ -89,7 +89,7 @@ fn make_turn_of_each<'a, J: FlightOf, R: Wait>(
 // there was anything to do.
 fn make_turn<'a, J: FlightOf>(
     mission: &Mission,
-    desk: MutexGuard<'_, Desk<'a, J>>,
+    shared: MutexGuard<'_, SharedCore<'a, J>>,
     moved: &Condvar,
     member: &mut Member,
 ) -> bool
@@ -97,9 +97,9 @@ fn make_turn<'a, J: FlightOf>(
     requires fits { MemberFits mission.now member.old }
     ensures fits { MemberFits mission.now member.new }
 {
-    let mut desk = desk;
-    let made = desk.make_step(member.proc(), member.drafted.as_ref());
-    drop(desk);
+    let mut shared = shared;
+    let made = shared.make_step(member.proc(), member.drafted.as_ref());
+    drop(shared);
     if is_awaited(&made) {
         moved.notify_all();
     }

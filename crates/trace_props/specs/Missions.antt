@@ -1,5 +1,5 @@
 -- What missions keep: an accepted specification, and a script that fits it and keeps to its assumption.
-use Rattle.std.specs.Prelude.{◌≡◌, ℕ, suc, ◌+◌, ◌-◌, ◌*◌, ◌≤◌, true, Option}
+use Rattle.std.specs.Prelude.{◌≡◌, ℕ, suc, ◌+◌, ◌-◌, ◌*◌, ◌≤◌, true, length, Option}
 use Rattle.scram_types.specs.declared.ids.ConfId.{ConfId}
 use Rattle.scram_types.specs.declared.orders.KMode.{KMode}
 use Rattle.scram_types.specs.declared.orders.KMode.TheVariants.{Stable, Moving}
@@ -11,7 +11,7 @@ use Rattle.choice_table.specs.Choices.{choose, is_runnable}
 use Rattle.dep_order.specs.Timetables.{halting_time, initialising_time, preparing_time}
 use Rattle.fault_script.specs.Assumption.{changes_upto}
 use Rattle.fault_script.specs.Environments.{env_at}
-use Rattle.coverage_check.specs.Missions.{IsMission, mission_of}
+use Rattle.coverage_check.specs.Missions.{IsMission, MissionParts, mission_of}
 use Rattle.coverage_check.specs.Timing.{further, slowest}
 use Rattle.frame_model.specs.declared.readings.Reading.{Reading}
 use Rattle.frame_model.specs.declared.readings.Reading.TheVariants.{Steady, Leaving}
@@ -19,6 +19,7 @@ use Rattle.frame_model.specs.Flights.{decided, reports_of, row_at, rows_of}
 use Rattle.frame_model.specs.Phases.{halting_frames}
 use Rattle.frame_model.specs.Readings.{reading_of}
 use Rattle.trace_props.specs.Properties.{HoldsAll}
+use Rattle.scram_types.specs.declared.flights.Flown.{Flown}
 
 -- All five properties hold of a mission's rows and reports.
 abbrev pub ReconfigurationsAreAssured : Type 0
@@ -90,3 +91,12 @@ SeesFewChanges spec script f from halting to since = changes_since spec script f
 -- In each frame of a reconfiguration of a mission the environment has changed at most as often as assumed.
 abbrev pub FurtherChangesAreFew : Type 0
 FurtherChangesAreFew = InMovingFrames SeesFewChanges
+
+-- What comes of flying a mission: the one-thread trace, a row for each frame and no more reconfigurations than rows; all properties
+-- hold of it.
+pub record IsTraceOf (mission : MissionParts) (flown : Flown) : Type 0 where
+  pub rows : flown.rows ≡ rows_of mission.spec mission.script
+  pub reports : flown.reports ≡ reports_of mission.spec mission.script
+  pub assured : HoldsAll mission.spec flown.rows flown.reports
+  pub count : length flown.rows ≡ mission.script.frames
+  pub few : length flown.reports ≤ length flown.rows

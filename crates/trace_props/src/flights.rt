@@ -1,8 +1,7 @@
 //! The trace of a mission, flown on one thread.
 
-ghost use Rattle.std.specs.Prelude.{◌≡◌, ◌≤◌, IfOk, length};
-ghost use Rattle.frame_model.specs.Flights.{reports_of, rows_of};
-ghost use Rattle.trace_props.specs.Properties.{HoldsAll};
+ghost use Rattle.std.specs.Prelude.{IfOk};
+ghost use Rattle.trace_props.specs.Missions.{IsTraceOf};
 
 use crate::missions::reconfigurations_are_assured;
 use app_model::Rack;
@@ -15,11 +14,7 @@ use std::alloc::Global;
 /// that are read off them. SP1 to SP5 hold of both. The only error is out of memory.
 #[tactic(auto, using(crate::proofs::Sizes::few_reports))]
 pub fn one_thread(alloc: Global, mission: &Mission, racks: Vec<Rack>) -> Result<Flown, NoMemory>
-    ensures rows { IfOk result (λ flown. flown.rows ≡ rows_of mission.now.spec mission.now.script) }
-    ensures reports { IfOk result (λ flown. flown.reports ≡ reports_of mission.now.spec mission.now.script) }
-    ensures assured { IfOk result (λ flown. HoldsAll mission.now.spec flown.rows flown.reports) }
-    ensures count { IfOk result (λ flown. length flown.rows ≡ mission.now.script.frames) }
-    ensures few { IfOk result (λ flown. length flown.reports ≤ length flown.rows) }
+    ensures { IfOk result (IsTraceOf mission.now) }
 {
     mission.holds();
     reconfigurations_are_assured();

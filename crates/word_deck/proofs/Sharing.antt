@@ -8,8 +8,8 @@ use Rattle.std.proofs.Crossing.{crosses, dyn_box_send}
 use Rattle.atomic_table.proofs.shared.Seat.TheSendSync as shared_seat
 use Rattle.app_model.specs.contracts.racks.Rack as rack
 use Rattle.word_table.specs.contracts.seats.Seat as seat
-use Rattle.word_deck.specs.contracts.landings.Kit as kit
-use Rattle.word_deck.specs.contracts.landings.Shelf as shelf
+use Rattle.word_deck.specs.contracts.landings.RackPair as pair
+use Rattle.word_deck.specs.contracts.landings.RackCell as cell
 use Rattle.atomic_table.proofs.shared.Shared.TheSendSync as shared
 use Rattle.atomic_table.proofs.send_lease.SendLease.TheSendSync as lease
 use Rattle.scram_types.specs.contracts.scripts.Script as script
@@ -38,11 +38,11 @@ module _ (D : RattleType) (g : Ghosts D.Denot) (s : Sends (table_of D.Denot g)) 
   rack_fields : IsSend (rack.the_field D g).row
   rack_fields = let box = dyn_box_send D g s d in struct_send (shape (rack.the_type D g)) (search (box, sendable, crosses) depth 40 fits 5000, tt)
 
-  kit_fields : IsSend (kit.the_field D g).row
-  kit_fields = struct_send (shape (kit.the_type D g)) (search (rack_fields, sendable, crosses), (search (rack_fields, sendable, crosses), tt))
+  kit_fields : IsSend (pair.the_field D g).row
+  kit_fields = struct_send (shape (pair.the_type D g)) (search (rack_fields, sendable, crosses), (search (rack_fields, sendable, crosses), tt))
 
-  kit_send : IsSend (kit.the_row D g)
-  kit_send = recorded_send (kit.the_field D g).row _ _ (kit.the_type D g).to_one kit_fields
+  kit_send : IsSend (pair.the_row D g)
+  kit_send = recorded_send (pair.the_field D g).row _ _ (pair.the_type D g).to_one kit_fields
 
-  pub shelf_sync : IsSync (shelf.the_row D g)
+  pub shelf_sync : IsSync (cell.the_row D g)
   shelf_sync = search (kit_send, sendable, crosses) depth 40 fits 5000

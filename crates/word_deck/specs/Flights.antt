@@ -18,7 +18,8 @@ AreOpen words seats = (p : ℕ) (seat : Seat) → slice_get seats p ≡ Some sea
 -- The same, whatever the table's mission.
 abbrev pub AreAtTable : WordTable → List Seat → Type 0
 AreAtTable words seats = (p : ℕ) (seat : Seat) → slice_get seats p ≡ Some seat
-    → (seat.inner.table_id ≡ words.table.shared.table_id) × (seat.inner.me.0.mission ≡ Some (mission_in words)) × (proc_of seat ≡ p) × (seat_place seat ≡ At 0 0)
+    → (seat.inner.table_id ≡ words.table.shared.table_id) × (seat.inner.me.0.mission ≡ Some (mission_in words))
+    × (proc_of seat ≡ p) × (seat_place seat ≡ At 0 0)
 
 -- Each crew is one of this table between two turns.
 abbrev pub AllCrewsFit : {X : Type 0} {Y : X → Type 0} → WordTable → List (Crew X Y) → Type 0

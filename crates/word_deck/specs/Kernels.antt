@@ -40,7 +40,8 @@ pub record KernelCrewKeeps (mission : MissionParts) (kseat : KSeat) (kernel : Ke
 -- How a turn moves the kernel: it stays and has tried once more, or is as it was where nothing was left; it has noted more
 -- processors of its frame, the last ones of the last frame too; or it stands at the begin of the next frame.
 abbrev pub IsKernelMoved : Turn → ℕ → ℕ → KSeat → KSeat → Type 0
-IsKernelMoved NotYet procs frames before after = (kernel_frame after ≡ kernel_frame before) × (kernel_steps after ≡ kernel_steps before) × (kernel_tries after ≡ suc (kernel_tries before))
+IsKernelMoved NotYet procs frames before after =
+    (kernel_frame after ≡ kernel_frame before) × (kernel_steps after ≡ kernel_steps before) × (kernel_tries after ≡ suc (kernel_tries before))
 IsKernelMoved Worked procs frames before after =
     ((kernel_frame after ≡ kernel_frame before) × (kernel_steps before < kernel_steps after) × (kernel_steps after < procs))
     ⊎ ((kernel_frame after ≡ suc (kernel_frame before)) × (kernel_steps after ≡ 0) × (kernel_frame after < frames))

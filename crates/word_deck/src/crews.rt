@@ -3,7 +3,7 @@
 
 ghost use Rattle.std.specs.Prelude.{◌≡◌, ◌<◌, IfSome, Some, false};
 ghost use Rattle.fail_stop.specs.Flyers.{IsUnitAt};
-ghost use Rattle.word_table.specs.Tables.{seat_place, proc_of};
+ghost use Rattle.word_table.specs.Tables.{IsAwaitedImage, frame_end, proc_of, seat_place, started_place};
 
 use crate::frames::{commit, halt_after, look_at_all};
 use crate::turns::Turn;
@@ -32,8 +32,8 @@ impl Crew {
     ghost use Rattle.fail_stop.specs.Drafts.{IsSnapshot};
     ghost use Rattle.fail_stop.specs.Ends.{IsDone};
     ghost use Rattle.fail_stop.specs.declared.flyers.Unit.TheVariants.{Up};
-    ghost use Rattle.fail_stop.specs.Events.{At, after_frame, frame_of, is_halted};
-    ghost use Rattle.word_table.specs.Actors.{Waits, frame_awaited, mission_flight};
+    ghost use Rattle.fail_stop.specs.Events.{At, frame_of, is_halted};
+    ghost use Rattle.word_table.specs.Actors.{Waits, mission_flight};
     ghost use Rattle.word_table.specs.Tables.{IsSeatOf, flight_in, mission_in, tries_of};
     ghost use Rattle.word_deck.specs.Crews.{CrewFits, CrewFlies, is_done, place_after, tries_after};
     ghost use Rattle.word_table.specs.declared.tables.WordTable as word_tables;
@@ -110,9 +110,10 @@ impl Crew {
         requires waits { Waits (flight_in words.now) (proc_of self.old.seat) (seat_place self.old.seat) }
         ensures proc { proc_of self.new.seat ≡ proc_of self.old.seat }
         ensures fits { MatchOption result (CrewFits words.now self.new) (λ image. CrewFlies words.now 1 self.new) }
-        ensures place { MatchOption result (seat_place self.new.seat ≡ seat_place self.old.seat) (λ image. seat_place self.new.seat ≡ At (frame_awaited (flight_in words.now) (proc_of self.old.seat) (seat_place self.old.seat)) 1) }
+        ensures place { MatchOption result (seat_place self.new.seat ≡ seat_place self.old.seat)
+            (λ image. seat_place self.new.seat ≡ started_place words.now self.old.seat) }
         ensures tries { MatchOption result (tries_of self.new.seat ≡ tries_of self.old.seat + 1) (λ image. tries_of self.new.seat ≡ tries_of self.old.seat) }
-        ensures image { IfSome result (λ image. image ≡ kernel_image (mission_in words.now).spec (mission_in words.now).script (frame_awaited (flight_in words.now) (proc_of self.old.seat) (seat_place self.old.seat))) }
+        ensures image { IfSome result (IsAwaitedImage words.now self.old.seat) }
     {
         let image = words.started(&mut self.seat)?;
         self.flyer.start();
@@ -126,7 +127,7 @@ impl Crew {
         requires kernel { kernel ≡ kernel_image mission.now.spec mission.now.script (frame_of (seat_place self.old.seat)) }
         ensures fits { CrewFits words.now self.new }
         ensures proc { proc_of self.new.seat ≡ proc_of self.old.seat }
-        ensures place { seat_place self.new.seat ≡ after_frame (frame_of (seat_place self.old.seat)) ((flight_in words.now).halt (proc_of self.old.seat) (frame_of (seat_place self.old.seat))) }
+        ensures place { seat_place self.new.seat ≡ frame_end words.now self.old.seat }
         ensures tries { tries_of self.new.seat ≡ tries_of self.old.seat }
     {
         mission.holds();
@@ -157,7 +158,7 @@ impl Crew {
         requires image { image.now ≡ draft mission.now.spec mission.now.script (proc_of self.old.seat) (frame_of (seat_place self.old.seat)) }
         ensures fits { CrewFits words.now self.new }
         ensures proc { proc_of self.new.seat ≡ proc_of self.old.seat }
-        ensures place { seat_place self.new.seat ≡ after_frame (frame_of (seat_place self.old.seat)) ((flight_in words.now).halt (proc_of self.old.seat) (frame_of (seat_place self.old.seat))) }
+        ensures place { seat_place self.new.seat ≡ frame_end words.now self.old.seat }
         ensures tries { tries_of self.new.seat ≡ tries_of self.old.seat }
     {
         mission.holds();

@@ -2,9 +2,9 @@
 
 ghost use Rattle.std.specs.Prelude.{◌≡◌, ◌+◌, ◌<◌, ◌≤◌, ℕ, None, Some, length};
 ghost use Rattle.fault_script.specs.Times.{words as words_of};
-ghost use Rattle.frame_model.specs.Flights.{draft, image_after, image_in};
+ghost use Rattle.frame_model.specs.Flights.{draft, image_in};
 ghost use Rattle.fail_stop.specs.Events.{At, Halted, frame_of};
-ghost use Rattle.word_table.specs.Tables.{IsSeatOf, flight_in, mission_in, seat_place, proc_of, tries_of};
+ghost use Rattle.word_table.specs.Tables.{IsSeatOf, committed_image, flight_in, mission_in, proc_of, seat_place, tries_of};
 ghost use Rattle.word_deck.specs.Frames.{HaltsLate, IsAfter};
 
 use bank_words::encode;
@@ -22,7 +22,7 @@ pub(crate) fn look_at_all(words: &WordTable, procs: u8, seat: &mut Seat) -> [Ima
     ensures proc { proc_of seat.new ≡ proc_of seat.old }
     ensures place { seat_place seat.new ≡ At (frame_of (seat_place seat.old)) (procs + 1) }
     ensures tries { tries_of seat.new ≡ tries_of seat.old }
-    ensures images { (q : ℕ) → q < procs → image_in result q ≡ image_after (mission_in words.now).spec (mission_in words.now).script q (frame_of (seat_place seat.old)) }
+    ensures images { (q : ℕ) → q < procs → image_in result q ≡ committed_image words.now q (frame_of (seat_place seat.old)) }
 {
     let mut images = [[0; 64]; 8];
     for q in 0..procs {

@@ -3,7 +3,7 @@
 ghost use Rattle.std.specs.Prelude.{◌≡◌, ◌↔◌, ◌+◌, ◌<◌, ◌≤◌, length};
 ghost use Rattle.frame_model.specs.Storage.{kernel_image};
 ghost use Rattle.scram_kernel.specs.Kernels.{kernel_after, rows_below};
-ghost use Rattle.word_table.specs.Tables.{IsKernelSeatOf, mission_in, kernel_frame, kernel_steps, kernel_tries};
+ghost use Rattle.word_table.specs.Tables.{IsKernelSeatOf, kernel_frame, kernel_image_of, kernel_steps, kernel_tries, mission_in};
 ghost use Rattle.word_deck.specs.Kernels.{AreNoted, IsKernelDone, IsKernelMoved, KernelCrewKeeps, frames_noted};
 ghost use Rattle.word_deck.specs.declared.turns.Turn.TheVariants.{Finished};
 
@@ -102,7 +102,8 @@ impl<'a> KernelCrew<'a> {
     #[tactic(auto, using(crate::proofs::Noting::done_log))]
     pub(crate) fn into_parts(self) -> (KSeat, Kernel<'a>)
         ensures seat { result.0 ≡ self.entry.kseat }
-        ensures kernel { let m = self.entry.mission.now in IsKernelDone (length m.spec.procs) m.script.frames self.entry.kseat → result.1 ≡ kernel_after m.spec m.script m.script.frames }
+        ensures kernel { let m = self.entry.mission.now in IsKernelDone (length m.spec.procs) m.script.frames self.entry.kseat
+            → result.1 ≡ kernel_after m.spec m.script m.script.frames }
     {
         let KernelCrew {
             mission: _,
@@ -160,7 +161,7 @@ fn say(words: &WordTable, procs: u32, kseat: &mut KSeat, image: &KernelImage)
     requires procs { procs ≡ length (mission_in words.now).spec.procs }
     requires steps { kernel_steps kseat.old ≡ procs }
     requires frame { kernel_frame kseat.old + 1 < (mission_in words.now).script.frames }
-    requires image { image.now ≡ kernel_image (mission_in words.now).spec (mission_in words.now).script (kernel_frame kseat.old + 1) }
+    requires image { image.now ≡ kernel_image_of words.now (kernel_frame kseat.old + 1) }
     ensures seat { IsKernelSeatOf words.now kseat.new }
     ensures frame { kernel_frame kseat.new ≡ kernel_frame kseat.old + 1 }
     ensures steps { kernel_steps kseat.new ≡ 0 }

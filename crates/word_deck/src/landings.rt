@@ -1,5 +1,5 @@
 //! Processors that fly on threads of their own. A thread gives back the seat alone, since no handle of a thread is
-//! taken that gives back boxes. So the boxes of each processor lie on a shelf, from which they are taken by its
+//! taken that gives back boxes. So the boxes of each processor lie on a cell, from which they are taken by its
 //! thread, or the caller where no thread can be made.
 
 ghost use Rattle.std.specs.Prelude.{◌≡◌, IfErr, IfOk};
@@ -21,35 +21,35 @@ use word_table::{Seat, WordTable};
 
 /// The boxes of a processor, and those for its restart.
 #[derive(Drop)]
-pub(crate) struct Kit {
+pub(crate) struct RackPair {
     pub(crate) rack: Rack,
     pub(crate) spare: Rack,
 }
 
-/// Where the kit of a processor lies until it flies.
+/// Where the pair of a processor lies until it flies.
 #[derive(Drop)]
-pub(crate) struct Shelf {
-    kit: Mutex<Option<Kit>>,
+pub(crate) struct RackCell {
+    pair: Mutex<Option<RackPair>>,
     alloc: Global,
 }
 
-impl Shelf {
-    /// Returns a shelf with this kit, if there is one.
-    pub(crate) fn new(alloc: Global, kit: Option<Kit>) -> Shelf {
-        Shelf {
-            kit: Mutex::new(kit),
+impl RackCell {
+    /// Returns a cell with this pair, if there is one.
+    pub(crate) fn new(alloc: Global, pair: Option<RackPair>) -> RackCell {
+        RackCell {
+            pair: Mutex::new(pair),
             alloc,
         }
     }
 
-    // Takes the kit, where it lies there still.
-    fn take<R: Wait>(&self, rt: &R) -> Option<Kit> {
-        self.kit.lock(rt).take()
+    // Takes the pair, where it lies there still.
+    fn take<R: Wait>(&self, rt: &R) -> Option<RackPair> {
+        self.pair.lock(rt).take()
     }
 
-    // Lays a kit there.
-    fn put<R: Wait>(&self, rt: &R, kit: Option<Kit>) {
-        *self.kit.lock(rt) = kit;
+    // Lays a pair there.
+    fn put<R: Wait>(&self, rt: &R, pair: Option<RackPair>) {
+        *self.pair.lock(rt) = pair;
     }
 }
 
@@ -68,12 +68,12 @@ impl Promise<Landing> for Lander {
     ghost kept_by = { λ promise landing. Lands promise.0.value promise.1.value landing };
 }
 
-/// What the actors of a flight share: the words, a shelf for each processor, and the processors for which a thread is
+/// What the actors of a flight share: the words, a cell for each processor, and the processors for which a thread is
 /// asked.
 #[derive(Drop)]
-pub(crate) struct Deck {
+pub(crate) struct Resources {
     pub(crate) words: WordTable,
-    pub(crate) shelves: [Shelf; 8],
+    pub(crate) cells: [RackCell; 8],
     pub(crate) asked: [bool; 8],
 }
 
@@ -102,13 +102,13 @@ pub(crate) fn fly_crew<R: Wait>(
 }
 
 /// Starts a thread for a processor. Where none can be made the landing says what has come of it: it has not flown, and
-/// its kit lies on the shelf.
+/// its pair lies on the cell.
 pub(crate) fn start<'s, E, R: Wait + Threads + Sync>(
     scope: &Scope<'s, E>,
     rt: &'s R,
     mission: &'s Mission,
     words: &'s WordTable,
-    shelf: &'s Shelf,
+    cell: &'s RackCell,
     seat: Seat,
 ) -> Result<PromisedHandle<Landing, Lander>, Landing>
     requires mission { mission_in words.now ≡ mission.now }
@@ -125,27 +125,27 @@ pub(crate) fn start<'s, E, R: Wait + Threads + Sync>(
             requires seat { IsSeatOf words.now seat }
             requires opening { seat_place seat ≡ At 0 0 }
             ensures { Lands words.entry.now seat result }
-        { fly_seat(rt, mission, words, shelf, seat) },
+        { fly_seat(rt, mission, words, cell, seat) },
     );
     match spawned {
         Ok(handle) => Ok(handle),
         Err(refused) => {
-            // The call gives back the seat and flies nothing, since it finds no kit.
-            let kit = shelf.take(rt);
+            // The call gives back the seat and flies nothing, since it finds no pair.
+            let pair = cell.take(rt);
             let landing = (refused.value)();
-            shelf.put(rt, kit);
+            cell.put(rt, pair);
             Err(landing)
         }
     }
 }
 
-// Flies a processor with the kit from its shelf; one whose kit has been taken from there is not flown.
+// Flies a processor with the pair from its cell; one whose pair has been taken from there is not flown.
 #[tactic(auto, using(crate::proofs::Units::few))]
 fn fly_seat<R: Wait>(
     rt: &R,
     mission: &Mission,
     words: &WordTable,
-    shelf: &Shelf,
+    cell: &RackCell,
     seat: Seat,
 ) -> Landing
     requires mission { mission_in words.now ≡ mission.now }
@@ -153,9 +153,9 @@ fn fly_seat<R: Wait>(
     requires opening { seat_place seat ≡ At 0 0 }
     ensures { Lands words.now seat result }
 {
-    match shelf.take(rt) {
-        Some(kit) => {
-            let Kit { rack, spare } = kit;
+    match cell.take(rt) {
+        Some(pair) => {
+            let RackPair { rack, spare } = pair;
             let crew = Crew::processor(seat, rack, spare);
             Landing {
                 seat: fly_crew(rt, mission, words, crew),
@@ -166,31 +166,31 @@ fn fly_seat<R: Wait>(
     }
 }
 
-/// Returns the processor that has this seat, with the kit from its shelf. No proof says that it lies there: where it
+/// Returns the processor that has this seat, with the pair from its cell. No proof says that it lies there: where it
 /// does not, the processor flies with racks without boxes.
 #[tactic(auto, using(crate::proofs::Units::few))]
-pub(crate) fn crew_from<R: Wait>(rt: &R, words: &WordTable, shelf: &Shelf, seat: Seat) -> Crew
+pub(crate) fn crew_from<R: Wait>(rt: &R, words: &WordTable, cell: &RackCell, seat: Seat) -> Crew
     requires seat { IsSeatOf words.now seat }
     requires opening { seat_place seat ≡ At 0 0 }
     ensures fits { CrewFits words.now result }
     ensures proc { proc_of result.seat ≡ proc_of seat }
 {
-    match shelf.take(rt) {
-        Some(kit) => {
-            let Kit { rack, spare } = kit;
+    match cell.take(rt) {
+        Some(pair) => {
+            let RackPair { rack, spare } = pair;
             Crew::processor(seat, rack, spare)
         }
-        None => Crew::processor(seat, empty_rack(shelf.alloc), empty_rack(shelf.alloc)),
+        None => Crew::processor(seat, empty_rack(cell.alloc), empty_rack(cell.alloc)),
     }
 }
 
-/// Returns the seat of a processor that has landed; one that has not flown is flown by the caller, with the kit from
-/// the shelf.
+/// Returns the seat of a processor that has landed; one that has not flown is flown by the caller, with the pair from
+/// the cell.
 pub(crate) fn land<R: Wait>(
     rt: &R,
     mission: &Mission,
     words: &WordTable,
-    shelf: &Shelf,
+    cell: &RackCell,
     landing: Landing,
     was: Snapshot<Seat>,
 ) -> Seat
@@ -203,6 +203,6 @@ pub(crate) fn land<R: Wait>(
     if landing.flown {
         return landing.seat;
     }
-    let crew = crew_from(rt, words, shelf, landing.seat);
+    let crew = crew_from(rt, words, cell, landing.seat);
     fly_crew(rt, mission, words, crew)
 }

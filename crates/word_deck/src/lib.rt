@@ -4,9 +4,9 @@
 //! a flight is the one-thread trace.
 #![tactic(auto)]
 
-mod conductors;
+mod kernel_actors;
 pub mod crews;
-pub mod flights;
+pub mod word_flights;
 mod frames;
 pub mod kernels;
 pub mod landings;
@@ -15,6 +15,6 @@ pub mod turns;
 mod watched;
 
 pub use crews::Crew;
-pub use flights::{Landed, WordFlight};
+pub use word_flights::{Landed, WordFlight};
 pub use kernels::KernelCrew;
 pub use turns::Turn;

@@ -6,9 +6,9 @@ ghost use Rattle.word_table.specs.Tables.{IsSeatOf, mission_in, proc_of, seat_pl
 ghost use Rattle.word_deck.specs.Landing.{IsLanded};
 ghost use Rattle.word_deck.specs.Flights.{AllCrewsFit, AreLanded, AreOpen, IsBoarded, IsBoardedLast, numbers_boarded, numbers_in};
 
-use crate::conductors::Conductor;
+use crate::kernel_actors::KernelActor;
 use crate::crews::Crew;
-use crate::landings::{Deck, Lander, Landing, Shelf, crew_from, fly_crew, land, start};
+use crate::landings::{Resources, Lander, Landing, RackCell, crew_from, fly_crew, land, start};
 use crate::turns::Turn;
 use coverage_check::Mission;
 use std::snapshot::Snapshot;
@@ -20,7 +20,7 @@ use word_table::{Seat, WordTable};
 /// The processors of a flight: the seats of those that have not started, those that fly in the caller's turns, and the
 /// seats of those that have landed.
 #[derive(Drop)]
-pub(crate) struct Hangar {
+pub(crate) struct Roster {
     pub(crate) waiting: Vec<Seat>,
     pub(crate) own: Vec<Crew>,
     pub(crate) landed: Vec<Seat>,
@@ -41,104 +41,104 @@ pub(crate) enum Boarding {
 }
 
 /// Flies all processors and the kernel, which comes back with its last note made.
-pub(crate) fn fly<K: Conductor, R: Threads + Wait + Sync>(
+pub(crate) fn fly<K: KernelActor, R: Threads + Wait + Sync>(
     rt: &R,
     mission: &Mission,
-    deck: &Deck,
+    resources: &Resources,
     kernel: K,
-    hangar: Hangar,
+    roster: Roster,
 ) -> (K, Vec<Seat>)
-    requires mission { mission_in deck.now.words ≡ mission.now }
+    requires mission { mission_in resources.now.words ≡ mission.now }
     requires kernel { K.mission_of kernel ≡ mission.now }
-    requires seated { K.seated deck.now.words kernel }
-    requires waiting { AreOpen deck.now.words hangar.waiting.items }
-    requires own { vec_len hangar.own ≡ 0 }
-    requires landed { vec_len hangar.landed ≡ 0 }
-    requires own_room { vec_len hangar.waiting ≤ vec_capacity hangar.own }
-    requires room { vec_len hangar.waiting ≤ vec_capacity hangar.landed }
+    requires seated { K.seated resources.now.words kernel }
+    requires waiting { AreOpen resources.now.words roster.waiting.items }
+    requires own { vec_len roster.own ≡ 0 }
+    requires landed { vec_len roster.landed ≡ 0 }
+    requires own_room { vec_len roster.waiting ≤ vec_capacity roster.own }
+    requires room { vec_len roster.waiting ≤ vec_capacity roster.landed }
     ensures mission { K.mission_of result.0 ≡ mission.now }
-    ensures seated { K.seated deck.now.words result.0 }
-    ensures done { K.done deck.now.words result.0 }
+    ensures seated { K.seated resources.now.words result.0 }
+    ensures done { K.done resources.now.words result.0 }
     ensures lent { K.lent result.0 ≡ K.lent kernel }
-    ensures seats { AreLanded deck.now.words result.1.items }
-    ensures count { vec_len result.1 ≡ vec_len hangar.waiting }
+    ensures seats { AreLanded resources.now.words result.1.items }
+    ensures count { vec_len result.1 ≡ vec_len roster.waiting }
 {
     thread::scope(
         thread::scope_env(),
         rt,
         |scope| -> (K, Vec<Seat>)
-            requires mission { mission_in deck.now.words ≡ mission.now }
+            requires mission { mission_in resources.now.words ≡ mission.now }
             requires kernel { K.mission_of kernel ≡ mission.now }
-            requires seated { K.seated deck.now.words kernel }
-            requires waiting { AreOpen deck.now.words hangar.waiting.items }
-            requires own { vec_len hangar.own ≡ 0 }
-            requires landed { vec_len hangar.landed ≡ 0 }
-            requires own_room { vec_len hangar.waiting ≤ vec_capacity hangar.own }
-            requires room { vec_len hangar.waiting ≤ vec_capacity hangar.landed }
+            requires seated { K.seated resources.now.words kernel }
+            requires waiting { AreOpen resources.now.words roster.waiting.items }
+            requires own { vec_len roster.own ≡ 0 }
+            requires landed { vec_len roster.landed ≡ 0 }
+            requires own_room { vec_len roster.waiting ≤ vec_capacity roster.own }
+            requires room { vec_len roster.waiting ≤ vec_capacity roster.landed }
             ensures mission { K.mission_of result.0 ≡ mission.entry.now }
-            ensures seated { K.seated deck.entry.now.words result.0 }
-            ensures done { K.done deck.entry.now.words result.0 }
+            ensures seated { K.seated resources.entry.now.words result.0 }
+            ensures done { K.done resources.entry.now.words result.0 }
             ensures lent { K.lent result.0 ≡ K.lent kernel }
-            ensures seats { AreLanded deck.entry.now.words result.1.items }
-            ensures count { vec_len result.1 ≡ vec_len hangar.waiting }
+            ensures seats { AreLanded resources.entry.now.words result.1.items }
+            ensures count { vec_len result.1 ≡ vec_len roster.waiting }
         {
-            let mut hangar = hangar;
-            let kernel = fly_rest(scope, rt, mission, deck, kernel, &mut hangar);
-            let Hangar {
+            let mut roster = roster;
+            let kernel = fly_rest(scope, rt, mission, resources, kernel, &mut roster);
+            let Roster {
                 waiting: _,
                 own: _,
                 landed,
-            } = hangar;
+            } = roster;
             (kernel, landed)
         },
     )
 }
 
 // Flies the processors that have not started, the last one first, and between their starts and their ends the kernel.
-fn fly_rest<'s, E, K: Conductor, R: Threads + Wait + Sync>(
+fn fly_rest<'s, E, K: KernelActor, R: Threads + Wait + Sync>(
     scope: &Scope<'s, E>,
     rt: &'s R,
     mission: &'s Mission,
-    deck: &'s Deck,
+    resources: &'s Resources,
     kernel: K,
-    hangar: &mut Hangar,
+    roster: &mut Roster,
 ) -> K
-    requires mission { mission_in deck.now.words ≡ mission.now }
+    requires mission { mission_in resources.now.words ≡ mission.now }
     requires kernel { K.mission_of kernel ≡ mission.now }
-    requires seated { K.seated deck.now.words kernel }
-    requires waiting { AreOpen deck.now.words hangar.old.waiting.items }
-    requires own { AllCrewsFit deck.now.words hangar.old.own.items }
-    requires landed { vec_len hangar.old.landed ≡ 0 }
-    requires own_room { vec_len hangar.old.own + vec_len hangar.old.waiting ≤ vec_capacity hangar.old.own }
-    requires room { vec_len hangar.old.waiting ≤ vec_capacity hangar.old.landed }
+    requires seated { K.seated resources.now.words kernel }
+    requires waiting { AreOpen resources.now.words roster.old.waiting.items }
+    requires own { AllCrewsFit resources.now.words roster.old.own.items }
+    requires landed { vec_len roster.old.landed ≡ 0 }
+    requires own_room { vec_len roster.old.own + vec_len roster.old.waiting ≤ vec_capacity roster.old.own }
+    requires room { vec_len roster.old.waiting ≤ vec_capacity roster.old.landed }
     ensures mission { K.mission_of result ≡ mission.now }
-    ensures seated { K.seated deck.now.words result }
-    ensures done { K.done deck.now.words result }
+    ensures seated { K.seated resources.now.words result }
+    ensures done { K.done resources.now.words result }
     ensures lent { K.lent result ≡ K.lent kernel }
-    ensures own { AllCrewsFit deck.now.words hangar.new.own.items }
-    ensures numbers { numbers_in hangar.new.own.items ≡ numbers_in hangar.old.own.items }
-    ensures seats { AreLanded deck.now.words hangar.new.landed.items }
-    ensures count { vec_len hangar.new.landed ≡ vec_len hangar.old.waiting }
-    ensures capacity { vec_capacity hangar.new.landed ≡ vec_capacity hangar.old.landed }
+    ensures own { AllCrewsFit resources.now.words roster.new.own.items }
+    ensures numbers { numbers_in roster.new.own.items ≡ numbers_in roster.old.own.items }
+    ensures seats { AreLanded resources.now.words roster.new.landed.items }
+    ensures count { vec_len roster.new.landed ≡ vec_len roster.old.waiting }
+    ensures capacity { vec_capacity roster.new.landed ≡ vec_capacity roster.old.landed }
 {
-    let seat = match hangar.waiting.pop() {
+    let seat = match roster.waiting.pop() {
         Some(seat) => seat,
-        None => return fly_kernel(rt, mission, &deck.words, kernel, &mut hangar.own),
+        None => return fly_kernel(rt, mission, &resources.words, kernel, &mut roster.own),
     };
-    let p = hangar.waiting.len() % 8;
+    let p = roster.waiting.len() % 8;
     let was = Snapshot::of(&seat);
-    let boarding = board(scope, rt, mission, deck, p, &mut hangar.own, seat);
-    let kernel = fly_rest(scope, rt, mission, deck, kernel, hangar);
+    let boarding = board(scope, rt, mission, resources, p, &mut roster.own, seat);
+    let kernel = fly_rest(scope, rt, mission, resources, kernel, roster);
     let seat = land_boarded(
         rt,
         mission,
-        &deck.words,
-        &deck.shelves[p],
+        &resources.words,
+        &resources.cells[p],
         boarding,
         was,
-        &mut hangar.own,
+        &mut roster.own,
     );
-    hangar.landed.push_reserved(seat);
+    roster.landed.push_reserved(seat);
     kernel
 }
 
@@ -148,7 +148,7 @@ fn land_boarded<R: Threads + Wait>(
     rt: &R,
     mission: &Mission,
     words: &WordTable,
-    shelf: &Shelf,
+    cell: &RackCell,
     boarding: Boarding,
     was: Snapshot<Seat>,
     own: &mut Vec<Crew>,
@@ -166,7 +166,7 @@ fn land_boarded<R: Threads + Wait>(
     match boarding {
         Boarding::Threaded(flying) => {
             let landing = flying.handle.join(rt);
-            land(rt, mission, words, shelf, landing, was)
+            land(rt, mission, words, cell, landing, was)
         }
         Boarding::Own => match own.pop() {
             Some(crew) => fly_crew(rt, mission, words, crew),
@@ -178,7 +178,7 @@ fn land_boarded<R: Threads + Wait>(
 
 // Makes the kernel's turns and those of the processors that fly in the caller's, until the kernel is done. It sleeps only
 // where no processor waits for a turn of the caller.
-fn fly_kernel<K: Conductor, R: Wait>(
+fn fly_kernel<K: KernelActor, R: Wait>(
     rt: &R,
     mission: &Mission,
     words: &WordTable,
@@ -228,34 +228,34 @@ fn board<'s, E, R: Threads + Wait + Sync>(
     scope: &Scope<'s, E>,
     rt: &'s R,
     mission: &'s Mission,
-    deck: &'s Deck,
+    resources: &'s Resources,
     p: usize,
     own: &mut Vec<Crew>,
     seat: Seat,
 ) -> Boarding
-    requires mission { mission_in deck.now.words ≡ mission.now }
+    requires mission { mission_in resources.now.words ≡ mission.now }
     requires p { p < 8 }
-    requires seat { IsSeatOf deck.now.words seat }
+    requires seat { IsSeatOf resources.now.words seat }
     requires opening { seat_place seat ≡ At 0 0 }
-    requires own { AllCrewsFit deck.now.words own.old.items }
+    requires own { AllCrewsFit resources.now.words own.old.items }
     requires room { vec_len own.old < vec_capacity own.old }
-    ensures boarded { IsBoarded deck.now.words seat result }
-    ensures own { AllCrewsFit deck.now.words own.new.items }
+    ensures boarded { IsBoarded resources.now.words seat result }
+    ensures own { AllCrewsFit resources.now.words own.new.items }
     ensures numbers { numbers_in own.new.items ≡ numbers_boarded result (proc_of seat) (numbers_in own.old.items) }
     ensures capacity { vec_capacity own.new ≡ vec_capacity own.old }
     ensures len { vec_len own.new ≤ vec_len own.old + 1 }
 {
-    if !deck.asked[p] {
-        own.push_reserved(crew_from(rt, &deck.words, &deck.shelves[p], seat));
+    if !resources.asked[p] {
+        own.push_reserved(crew_from(rt, &resources.words, &resources.cells[p], seat));
         return Boarding::Own;
     }
-    match start(scope, rt, mission, &deck.words, &deck.shelves[p], seat) {
+    match start(scope, rt, mission, &resources.words, &resources.cells[p], seat) {
         Ok(handle) => Boarding::Threaded(Flying { handle }),
         Err(landing) => {
             if landing.flown {
                 return Boarding::Landed(landing.seat);
             }
-            own.push_reserved(crew_from(rt, &deck.words, &deck.shelves[p], landing.seat));
+            own.push_reserved(crew_from(rt, &resources.words, &resources.cells[p], landing.seat));
             Boarding::Own
         }
     }

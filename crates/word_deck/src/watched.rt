@@ -3,7 +3,7 @@
 ghost use Rattle.std.specs.Prelude.{◌≡◌, ◌≤◌, ◌+◌, length};
 ghost use Rattle.scram_kernel.specs.Kernels.{rows_below};
 
-use crate::conductors::Conductor;
+use crate::kernel_actors::KernelActor;
 use crate::kernels::KernelCrew;
 use crate::turns::Turn;
 use coverage_check::Mission;
@@ -19,7 +19,7 @@ pub(crate) struct WatchedKernel<'a, 'w, W: Watch> {
     pub(crate) watch: &'w mut W,
 }
 
-impl<'a, 'w, W: Watch> Conductor for WatchedKernel<'a, 'w, W> {
+impl<'a, 'w, W: Watch> KernelActor for WatchedKernel<'a, 'w, W> {
     ghost use Rattle.std.specs.Prelude.{length, ◌≡◌};
     ghost use Rattle.word_table.specs.Tables.{IsKernelSeatOf, mission_in};
     ghost use Rattle.word_deck.specs.Kernels.{IsKernelDone, frames_noted};

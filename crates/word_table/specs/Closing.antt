@@ -1,5 +1,5 @@
 -- What the last words hold.
-use Rattle.std.specs.Prelude.{◌≡◌, ◌+◌, ◌%◌, ◌<◌, ◌≤◌, ℕ, ℤ, pos, List, length, replicate, slice_index, slice_index_or}
+use Rattle.std.specs.Prelude.{◌≡◌, ◌+◌, ◌%◌, ◌<◌, ◌≤◌, ℕ, ℤ, pos, List, [], length, replicate, slice_index, slice_index_or}
 use Rattle.bank_words.specs.Numbers.{decode}
 use Rattle.fail_stop.specs.Events.{BankWord, MarkWord}
 use Rattle.fail_stop.specs.Listed.{index_of, stored_in}
@@ -18,3 +18,7 @@ pub record AreLast (list : List ℕ) (width p mark : ℕ) (image : List ℤ) : T
 -- No processor has left this mark and this image: they are zero.
 abbrev pub AreNobodys : ℕ → List ℤ → Type 0
 AreNobodys mark image = (mark ≡ 0) × (image ≡ replicate 64 (pos 0))
+
+-- No processor from n on has left a mark or an image.
+abbrev pub AreNobodysFrom : ℕ → List ℕ → List (List ℤ) → Type 0
+AreNobodysFrom n marks images = (p : ℕ) → n ≤ p → p < 8 → AreNobodys (slice_index marks p) (slice_index_or images p [])

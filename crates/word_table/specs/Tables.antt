@@ -1,15 +1,20 @@
 -- Tables, and the seats that are theirs.
-use Rattle.std.specs.Prelude.{◌≡◌, ◌<◌, ℕ, Bool, not, ◌&&◌, List, length, slice_get, Some, is_none}
+use Rattle.std.specs.Prelude.{◌≡◌, ◌<◌, ℕ, ℤ, Bool, not, ◌&&◌, List, [], length, slice_get, slice_index, slice_index_or, Option, Some, is_none}
+use Rattle.bank_words.specs.declared.events.Event.{Event}
+use Rattle.bank_words.specs.declared.images.KernelImage.{KernelImage}
+use Rattle.frame_model.specs.Flights.{image_after}
+use Rattle.frame_model.specs.Storage.{kernel_image, mark_after}
 use Rattle.coverage_check.specs.Missions.{MissionParts}
 use Rattle.fail_stop.specs.Consistency.{marked}
-use Rattle.fail_stop.specs.Events.{At, Place}
+use Rattle.fail_stop.specs.Events.{At, Place, after_frame, frame_of}
 use Rattle.fail_stop.specs.Flights.{Flight}
+use Rattle.fail_stop.specs.ScriptFlights.{draft_words, kernel_words}
 use Rattle.word_table.specs.declared.actors.Actor.{Actor}
 use Rattle.word_table.specs.declared.seats.KSeat.{KSeat}
 use Rattle.word_table.specs.declared.seats.Seat.{Seat}
 use Rattle.word_table.specs.declared.tables.WordTable.{WordTable}
 use Rattle.word_table.specs.Keeping.{IsFlown}
-use Rattle.word_table.specs.Actors.{IsInFlight, actor_at, mission_flight, place_at}
+use Rattle.word_table.specs.Actors.{IsInFlight, actor_at, frame_awaited, mission_flight, place_at, step_at}
 
 -- The mission whose words a table has.
 abbrev pub mission_in : WordTable → MissionParts
@@ -77,3 +82,53 @@ frames_marked mission place = marked (mission_flight mission) place
 -- The actor of a seat.
 abbrev pub actor_of : Seat → Actor
 actor_of seat = actor_at (proc_of seat) (seat_place seat)
+
+-- The frame for whose release a seat's processor waits.
+abbrev pub awaited_by : WordTable → Seat → ℕ
+awaited_by words seat = frame_awaited (flight_in words) (proc_of seat) (seat_place seat)
+
+-- The next step of a seat's processor in the frame in which it stands; none before the frame is started.
+abbrev pub next_step : WordTable → Seat → Option Event
+next_step words seat = step_at (flight_in words) (proc_of seat) (seat_place seat)
+
+-- Where a seat's processor stands after its frame: at the next frame, or halted.
+abbrev pub frame_end : WordTable → Seat → Place
+frame_end words seat = after_frame (frame_of (seat_place seat)) ((flight_in words).halt (proc_of seat) (frame_of (seat_place seat)))
+
+-- What the kernel says of frame f of a table's mission.
+abbrev pub kernel_image_of : WordTable → ℕ → KernelImage
+kernel_image_of words f = kernel_image (mission_in words).spec (mission_in words).script f
+
+-- An image is what the kernel says of the frame for whose release a seat's processor waits.
+abbrev pub IsAwaitedImage : WordTable → Seat → KernelImage → Type 0
+IsAwaitedImage words seat image = image ≡ kernel_image_of words (awaited_by words seat)
+
+-- Where a seat's processor stands once it has started that frame.
+abbrev pub started_place : WordTable → Seat → Place
+started_place words seat = At (awaited_by words seat) 1
+
+-- What the kernel says of frame f of a table's mission, as words.
+abbrev pub kernel_words_of : WordTable → ℕ → List ℕ
+kernel_words_of words f = kernel_words (mission_in words).spec (mission_in words).script f
+
+-- The words of what processor p drafts in frame f.
+abbrev pub drafted_words : WordTable → ℕ → ℕ → List ℕ
+drafted_words words p f = draft_words (mission_in words).spec (mission_in words).script p f
+
+-- The mark of processor p after its first n frames.
+abbrev pub committed_mark : WordTable → ℕ → ℕ → ℕ
+committed_mark words p n = mark_after (mission_in words).spec (mission_in words).script p n
+
+-- The image that processor p has committed after the first n frames.
+abbrev pub committed_image : WordTable → ℕ → ℕ → List ℤ
+committed_image words p n = image_after (mission_in words).spec (mission_in words).script p n
+
+-- The mark of each seat's processor is that of the frames that it has committed where it stands.
+abbrev pub AreMarksOf : WordTable → List Seat → List ℕ → Type 0
+AreMarksOf words seats marks = (p : ℕ) (seat : Seat) → slice_get seats p ≡ Some seat
+    → slice_index marks p ≡ committed_mark words p (frames_marked (mission_in words) (seat_place seat))
+
+-- The image of each seat's processor is the one that it has committed where it stands.
+abbrev pub AreImagesOf : WordTable → List Seat → List (List ℤ) → Type 0
+AreImagesOf words seats images = (p : ℕ) (seat : Seat) → slice_get seats p ≡ Some seat
+    → slice_index_or images p [] ≡ committed_image words p (frames_marked (mission_in words) (seat_place seat))

@@ -1,12 +1,10 @@
 //! The end of a table.
 
-ghost use Rattle.std.specs.Prelude.{◌≡◌, ◌+◌, ◌≤◌, ◌<◌, ◌∷◌, Some, [], length, map, slice_get, slice_index, slice_index_or, ℕ};
+ghost use Rattle.std.specs.Prelude.{◌≡◌, ◌+◌, ◌≤◌, ◌<◌, ◌∷◌, [], length, map, slice_index, slice_index_or, ℕ};
 ghost use Rattle.std.specs.Mem.Slots.{IsFull, slots_items, slots_len};
-ghost use Rattle.frame_model.specs.Flights.{image_after};
-ghost use Rattle.frame_model.specs.Storage.{mark_after};
 ghost use Rattle.fail_stop.specs.Listed.{places_of_words};
-ghost use Rattle.word_table.specs.Closing.{AreLast, AreNobodys, IsStoredImage};
-ghost use Rattle.word_table.specs.Tables.{AreSeatsOf, IsKernelSeatOf, actor_of, mission_in, frames_marked, kernel_frame, kernel_steps, seat_place};
+ghost use Rattle.word_table.specs.Closing.{AreLast, AreNobodysFrom, IsStoredImage};
+ghost use Rattle.word_table.specs.Tables.{AreImagesOf, AreMarksOf, AreSeatsOf, IsKernelSeatOf, actor_of, kernel_frame, kernel_steps, mission_in};
 ghost use Rattle.word_table.specs.declared.actors.Actor.TheVariants.{Kernel};
 ghost use Rattle.word_table.specs.declared.seats.Seat as seat_types;
 
@@ -33,9 +31,9 @@ impl WordTable {
     pub fn close(self, kseat: KSeat, seats: Vec<Seat>) -> LastWords
         requires kernel { IsKernelSeatOf self kseat }
         requires seats { AreSeatsOf self seats.items }
-        ensures marks { (p : ℕ) (seat : seat_types.Seat) → slice_get seats.items p ≡ Some seat → slice_index result.marks p ≡ mark_after (mission_in self).spec (mission_in self).script p (frames_marked (mission_in self) (seat_place seat)) }
-        ensures images { (p : ℕ) (seat : seat_types.Seat) → slice_get seats.items p ≡ Some seat → slice_index_or result.images p [] ≡ image_after (mission_in self).spec (mission_in self).script p (frames_marked (mission_in self) (seat_place seat)) }
-        ensures past { (p : ℕ) → length (mission_in self).spec.procs ≤ p → p < 8 → AreNobodys (slice_index result.marks p) (slice_index_or result.images p []) }
+        ensures marks { AreMarksOf self seats.items result.marks }
+        ensures images { AreImagesOf self seats.items result.images }
+        ensures past { AreNobodysFrom (length (mission_in self).spec.procs) result.marks result.images }
     {
         let all = self.gather(kseat, seats);
         let procs = self.procs as usize;
@@ -46,7 +44,7 @@ impl WordTable {
             procs: _,
             width: _,
             restarts: _,
-            turns: _,
+            spins: _,
         } = self;
         let closed = table.close_with(all);
         let last = last_words(&closed, procs, width);
@@ -87,7 +85,7 @@ fn last_words(closed: &Closed<(), Global>, procs: usize, width: usize) -> LastWo
     requires procs { procs ≤ 8 }
     requires width { width ≤ 64 }
     ensures last { (p : ℕ) → p < procs → AreLast (slots_items closed.now.words) width p (slice_index result.marks p) (slice_index_or result.images p []) }
-    ensures past { (p : ℕ) → procs ≤ p → p < 8 → AreNobodys (slice_index result.marks p) (slice_index_or result.images p []) }
+    ensures past { AreNobodysFrom procs result.marks result.images }
 {
     let mut marks = [0; 8];
     let mut images = [[0; 64]; 8];

@@ -1,12 +1,9 @@
 //! The steps of the kernel.
 
 ghost use Rattle.std.specs.Prelude.{◌≡◌, ◌+◌, ◌<◌, IfSome, MatchOption, length};
-ghost use Rattle.frame_model.specs.Flights.{image_after};
-ghost use Rattle.frame_model.specs.Storage.{mark_after};
 ghost use Rattle.fail_stop.specs.Events.{may_note};
 ghost use Rattle.fail_stop.specs.Flights.{word_in};
-ghost use Rattle.fail_stop.specs.ScriptFlights.{kernel_words};
-ghost use Rattle.word_table.specs.Tables.{IsKernelSeatOf, flight_in, mission_in, has_halted_by, kernel_frame, kernel_steps, kernel_tries};
+ghost use Rattle.word_table.specs.Tables.{IsKernelSeatOf, committed_image, committed_mark, flight_in, has_halted_by, kernel_frame, kernel_steps, kernel_tries, kernel_words_of, mission_in};
 
 use crate::actors::{Notes, Publishes, Releases};
 use crate::seats::KSeat;
@@ -37,8 +34,8 @@ impl WordTable {
         ensures steps { MatchOption result (kernel_steps kseat.new ≡ kernel_steps kseat.old) (λ marked. kernel_steps kseat.new ≡ kernel_steps kseat.old + 1) }
         ensures tries { MatchOption result (kernel_tries kseat.new ≡ kernel_tries kseat.old + 1) (λ marked. kernel_tries kseat.new ≡ kernel_tries kseat.old) }
         ensures halted { IfSome result (λ marked. marked.halted ≡ has_halted_by (flight_in self.now) p.0 (kernel_frame kseat.old)) }
-        ensures mark { IfSome result (λ marked. marked.mark ≡ mark_after (mission_in self.now).spec (mission_in self.now).script p.0 (kernel_frame kseat.old + 1)) }
-        ensures image { IfSome result (λ marked. marked.image ≡ image_after (mission_in self.now).spec (mission_in self.now).script p.0 (kernel_frame kseat.old + 1)) }
+        ensures mark { IfSome result (λ marked. marked.mark ≡ committed_mark self.now p.0 (kernel_frame kseat.old + 1)) }
+        ensures image { IfSome result (λ marked. marked.image ≡ committed_image self.now p.0 (kernel_frame kseat.old + 1)) }
     {
         let end = self
             .table
@@ -72,7 +69,7 @@ impl WordTable {
         requires i { i < 20 }
         requires next { kernel_steps kseat.old ≡ length (mission_in self.now).spec.procs + i }
         requires frame { kernel_frame kseat.old + 1 < (mission_in self.now).script.frames }
-        requires word { word ≡ word_in (kernel_words (mission_in self.now).spec (mission_in self.now).script (kernel_frame kseat.old + 1)) i }
+        requires word { word ≡ word_in (kernel_words_of self.now (kernel_frame kseat.old + 1)) i }
         ensures seat { IsKernelSeatOf self.now kseat.new }
         ensures frame { kernel_frame kseat.new ≡ kernel_frame kseat.old }
         ensures steps { kernel_steps kseat.new ≡ kernel_steps kseat.old + 1 }

@@ -69,7 +69,7 @@ impl WordTable {
             procs: spec.procs.items().len() as u32,
             width: words(spec),
             restarts: restarts_of(script),
-            turns: 0,
+            spins: 0,
         };
         Ok((words, seat))
     }

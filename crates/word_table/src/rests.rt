@@ -18,7 +18,7 @@ impl WordTable {
         requires { IsSeatOf self.now seat.now }
     {
         let frame = u64::from(self.frame_awaited(seat));
-        for _ in 0..self.turns {
+        for _ in 0..self.spins {
             if self.table.shared.peek(0) > frame {
                 return;
             }
@@ -38,7 +38,7 @@ impl WordTable {
         }
         let p = ProcId(kseat.step as u8);
         let at = end_index(p);
-        for _ in 0..self.turns {
+        for _ in 0..self.spins {
             if self.may_note(p, kseat.frame, self.table.shared.peek(at)) {
                 return;
             }

@@ -3,13 +3,10 @@
 ghost use Rattle.std.specs.Prelude.{◌≡◌, ◌+◌, ◌<◌, ◌^◌, MatchOption, Some, length};
 ghost use Rattle.scram_types.specs.Lookups.{proc_id};
 ghost use Rattle.bank_words.specs.declared.events.Event.TheVariants.{Done, Flip, Halt, Look, Store};
-ghost use Rattle.frame_model.specs.Flights.{image_after};
-ghost use Rattle.frame_model.specs.Storage.{kernel_image};
-ghost use Rattle.fail_stop.specs.Events.{At, frame_of, frame_on, halted_there, one_on};
+ghost use Rattle.fail_stop.specs.Events.{frame_of, frame_on, halted_there, one_on};
 ghost use Rattle.fail_stop.specs.Flights.{word_in};
-ghost use Rattle.fail_stop.specs.ScriptFlights.{draft_words};
-ghost use Rattle.word_table.specs.Actors.{Waits, frame_awaited, step_at};
-ghost use Rattle.word_table.specs.Tables.{IsSeatOf, flight_in, mission_in, seat_place, proc_of, tries_of};
+ghost use Rattle.word_table.specs.Actors.{Waits, frame_awaited};
+ghost use Rattle.word_table.specs.Tables.{IsAwaitedImage, IsSeatOf, awaited_by, committed_image, drafted_words, flight_in, mission_in, next_step, proc_of, seat_place, started_place, tries_of};
 
 use crate::actors::{Ends, Halts, Looks, Starts, Stores};
 use crate::seats::Seat;
@@ -28,8 +25,8 @@ impl WordTable {
         requires waits { Waits (flight_in self.now) (proc_of seat.old) (seat_place seat.old) }
         ensures seat { IsSeatOf self.now seat.new }
         ensures proc { proc_of seat.new ≡ proc_of seat.old }
-        ensures image { MatchOption result (seat_place seat.new ≡ seat_place seat.old) (λ image. image ≡ kernel_image (mission_in self.now).spec (mission_in self.now).script (frame_awaited (flight_in self.now) (proc_of seat.old) (seat_place seat.old))) }
-        ensures place { MatchOption result (seat_place seat.new ≡ seat_place seat.old) (λ image. seat_place seat.new ≡ At (frame_awaited (flight_in self.now) (proc_of seat.old) (seat_place seat.old)) 1) }
+        ensures image { MatchOption result (seat_place seat.new ≡ seat_place seat.old) (IsAwaitedImage self.now seat.old) }
+        ensures place { MatchOption result (seat_place seat.new ≡ seat_place seat.old) (λ image. seat_place seat.new ≡ started_place self.now seat.old) }
         ensures tries { MatchOption result (tries_of seat.new ≡ tries_of seat.old + 1) (λ image. tries_of seat.new ≡ tries_of seat.old) }
     {
         let frame = self.frame_awaited(seat);
@@ -47,7 +44,7 @@ impl WordTable {
     /// Returns the frame for whose release a seat waits.
     pub(crate) fn frame_awaited(&self, seat: &Seat) -> u32
         requires { proc_of seat.now < 8 }
-        ensures { result ≡ frame_awaited (flight_in self.now) (proc_of seat.now) (seat_place seat.now) }
+        ensures { result ≡ awaited_by self.now seat.now }
     {
         if !seat.halted {
             return seat.frame;
@@ -62,12 +59,12 @@ impl WordTable {
     pub fn look(&self, seat: &mut Seat, q: ProcId) -> Image
         requires seat { IsSeatOf self.now seat.old }
         requires q { q.0 < length (mission_in self.now).spec.procs }
-        requires next { step_at (flight_in self.now) (proc_of seat.old) (seat_place seat.old) ≡ Some (Look (proc_id (proc_of seat.old)) q) }
+        requires next { next_step self.now seat.old ≡ Some (Look (proc_id (proc_of seat.old)) q) }
         ensures seat { IsSeatOf self.now seat.new }
         ensures proc { proc_of seat.new ≡ proc_of seat.old }
         ensures place { seat_place seat.new ≡ one_on (seat_place seat.old) }
         ensures tries { tries_of seat.new ≡ tries_of seat.old }
-        ensures image { result ≡ image_after (mission_in self.now).spec (mission_in self.now).script q.0 (frame_of (seat_place seat.old)) }
+        ensures image { result ≡ committed_image self.now q.0 (frame_of (seat_place seat.old)) }
     {
         let bank = self.bank_picked(&mut seat.inner, seat.frame, q);
         let at = bank_index(q, bank);
@@ -80,8 +77,8 @@ impl WordTable {
     /// Stores word `i` of the draft of the seat's frame in the bank that the mark does not name. It does not block.
     pub fn store(&self, seat: &mut Seat, i: u32, word: u64)
         requires seat { IsSeatOf self.now seat.old }
-        requires next { step_at (flight_in self.now) (proc_of seat.old) (seat_place seat.old) ≡ Some (Store (proc_id (proc_of seat.old)) i) }
-        requires word { word ≡ word_in (draft_words (mission_in self.now).spec (mission_in self.now).script (proc_of seat.old) (frame_of (seat_place seat.old))) i }
+        requires next { next_step self.now seat.old ≡ Some (Store (proc_id (proc_of seat.old)) i) }
+        requires word { word ≡ word_in (drafted_words self.now (proc_of seat.old) (frame_of (seat_place seat.old))) i }
         ensures seat { IsSeatOf self.now seat.new }
         ensures proc { proc_of seat.new ≡ proc_of seat.old }
         ensures place { seat_place seat.new ≡ one_on (seat_place seat.old) }
@@ -97,7 +94,7 @@ impl WordTable {
     /// block.
     pub fn flip(&self, seat: &mut Seat)
         requires seat { IsSeatOf self.now seat.old }
-        requires next { step_at (flight_in self.now) (proc_of seat.old) (seat_place seat.old) ≡ Some (Flip (proc_id (proc_of seat.old))) }
+        requires next { next_step self.now seat.old ≡ Some (Flip (proc_id (proc_of seat.old))) }
         ensures seat { IsSeatOf self.now seat.new }
         ensures proc { proc_of seat.new ≡ proc_of seat.old }
         ensures place { seat_place seat.new ≡ one_on (seat_place seat.old) }
@@ -113,7 +110,7 @@ impl WordTable {
     /// Ends the frame of the seat, and wakes the kernel if it is parked on that. It does not block.
     pub fn done(&self, seat: &mut Seat)
         requires seat { IsSeatOf self.now seat.old }
-        requires next { step_at (flight_in self.now) (proc_of seat.old) (seat_place seat.old) ≡ Some (Done (proc_id (proc_of seat.old))) }
+        requires next { next_step self.now seat.old ≡ Some (Done (proc_id (proc_of seat.old))) }
         ensures seat { IsSeatOf self.now seat.new }
         ensures proc { proc_of seat.new ≡ proc_of seat.old }
         ensures place { seat_place seat.new ≡ frame_on (seat_place seat.old) }
@@ -130,7 +127,7 @@ impl WordTable {
     /// Halts the seat's processor in its frame, and wakes the kernel if it is parked on that. It does not block.
     pub fn halt(&self, seat: &mut Seat)
         requires seat { IsSeatOf self.now seat.old }
-        requires next { step_at (flight_in self.now) (proc_of seat.old) (seat_place seat.old) ≡ Some (Halt (proc_id (proc_of seat.old))) }
+        requires next { next_step self.now seat.old ≡ Some (Halt (proc_id (proc_of seat.old))) }
         ensures seat { IsSeatOf self.now seat.new }
         ensures proc { proc_of seat.new ≡ proc_of seat.old }
         ensures place { seat_place seat.new ≡ halted_there (seat_place seat.old) }

@@ -15,7 +15,7 @@ pub struct WordTable {
     pub(crate) procs: u32,
     pub(crate) width: u32,
     pub(crate) restarts: [Option<u32>; 8],
-    pub(crate) turns: u32,
+    pub(crate) spins: u32,
     pub(crate) ghost keeps: { TableKeeps table.shared.key table.shared.table_id frames procs width restarts },
 }
 
@@ -23,9 +23,9 @@ impl WordTable {
     ghost use Rattle.std.specs.Prelude.{◌≡◌};
 
     /// Sets how many times a wait spins before it parks; 0 unless it is set.
-    pub fn set_turns(&mut self, turns: u32)
+    pub fn set_spins(&mut self, spins: u32)
         ensures { self.new.table ≡ self.old.table }
     {
-        self.turns = turns;
+        self.spins = spins;
     }
 }

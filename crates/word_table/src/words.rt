@@ -22,17 +22,14 @@ pub struct Words<'a> {
 }
 
 impl<'a> Words<'a> {
-    ghost use Rattle.std.specs.Prelude.{◌+◌, ◌<◌, ◌≤◌, ℕ, [], IfOk, IfSome, MatchOption, Some, length, slice_get, slice_index, slice_index_or};
+    ghost use Rattle.std.specs.Prelude.{◌+◌, ◌<◌, ◌≤◌, [], IfOk, IfSome, MatchOption, Some, length};
     ghost use Rattle.scram_types.specs.Lookups.{proc_id};
     ghost use Rattle.bank_words.specs.declared.events.Event.TheVariants.{Done, Flip, Halt, Look, Store};
-    ghost use Rattle.frame_model.specs.Flights.{image_after};
-    ghost use Rattle.frame_model.specs.Storage.{kernel_image, mark_after};
-    ghost use Rattle.fail_stop.specs.Events.{At, frame_of, frame_on, halted_there, one_on};
+    ghost use Rattle.fail_stop.specs.Events.{frame_of, frame_on, halted_there, one_on};
     ghost use Rattle.fail_stop.specs.Flights.{word_in};
-    ghost use Rattle.fail_stop.specs.ScriptFlights.{draft_words, kernel_words};
-    ghost use Rattle.word_table.specs.Actors.{Waits, frame_awaited, step_at};
-    ghost use Rattle.word_table.specs.Closing.{AreNobodys};
-    ghost use Rattle.word_table.specs.Tables.{AreOpening, AreSeatsOf, IsKernelSeatOf, IsSeatOf, flight_in, mission_in, frames_marked, has_halted_by, kernel_frame, kernel_steps, kernel_tries, seat_place, proc_of, tries_of};
+    ghost use Rattle.word_table.specs.Actors.{Waits};
+    ghost use Rattle.word_table.specs.Closing.{AreNobodysFrom};
+    ghost use Rattle.word_table.specs.Tables.{AreImagesOf, AreMarksOf, AreOpening, AreSeatsOf, IsAwaitedImage, IsKernelSeatOf, IsSeatOf, committed_image, committed_mark, drafted_words, flight_in, has_halted_by, kernel_frame, kernel_steps, kernel_tries, kernel_words_of, mission_in, next_step, proc_of, seat_place, started_place, tries_of};
     ghost use Rattle.word_table.specs.declared.seats.Seat as seat_types;
 
     /// Returns the words of a mission before its first frame, the kernel's seat, and the seats of the processors in
@@ -66,8 +63,8 @@ impl<'a> Words<'a> {
         requires waits { Waits (flight_in self.now.table) (proc_of seat.old) (seat_place seat.old) }
         ensures seat { IsSeatOf self.now.table seat.new }
         ensures proc { proc_of seat.new ≡ proc_of seat.old }
-        ensures image { MatchOption result (seat_place seat.new ≡ seat_place seat.old) (λ image. image ≡ kernel_image (mission_in self.now.table).spec (mission_in self.now.table).script (frame_awaited (flight_in self.now.table) (proc_of seat.old) (seat_place seat.old))) }
-        ensures place { MatchOption result (seat_place seat.new ≡ seat_place seat.old) (λ image. seat_place seat.new ≡ At (frame_awaited (flight_in self.now.table) (proc_of seat.old) (seat_place seat.old)) 1) }
+        ensures image { MatchOption result (seat_place seat.new ≡ seat_place seat.old) (IsAwaitedImage self.now.table seat.old) }
+        ensures place { MatchOption result (seat_place seat.new ≡ seat_place seat.old) (λ image. seat_place seat.new ≡ started_place self.now.table seat.old) }
         ensures tries { MatchOption result (tries_of seat.new ≡ tries_of seat.old + 1) (λ image. tries_of seat.new ≡ tries_of seat.old) }
     {
         self.table.started(seat)
@@ -77,12 +74,12 @@ impl<'a> Words<'a> {
     pub fn look(&self, seat: &mut Seat, q: ProcId) -> Image
         requires seat { IsSeatOf self.now.table seat.old }
         requires q { q.0 < length (mission_in self.now.table).spec.procs }
-        requires next { step_at (flight_in self.now.table) (proc_of seat.old) (seat_place seat.old) ≡ Some (Look (proc_id (proc_of seat.old)) q) }
+        requires next { next_step self.now.table seat.old ≡ Some (Look (proc_id (proc_of seat.old)) q) }
         ensures seat { IsSeatOf self.now.table seat.new }
         ensures proc { proc_of seat.new ≡ proc_of seat.old }
         ensures place { seat_place seat.new ≡ one_on (seat_place seat.old) }
         ensures tries { tries_of seat.new ≡ tries_of seat.old }
-        ensures image { result ≡ image_after (mission_in self.now.table).spec (mission_in self.now.table).script q.0 (frame_of (seat_place seat.old)) }
+        ensures image { result ≡ committed_image self.now.table q.0 (frame_of (seat_place seat.old)) }
     {
         self.table.look(seat, q)
     }
@@ -90,8 +87,8 @@ impl<'a> Words<'a> {
     /// Stores word `i` of the draft of the seat's frame in the bank that the mark does not name. It does not block.
     pub fn store(&self, seat: &mut Seat, i: u32, word: u64)
         requires seat { IsSeatOf self.now.table seat.old }
-        requires next { step_at (flight_in self.now.table) (proc_of seat.old) (seat_place seat.old) ≡ Some (Store (proc_id (proc_of seat.old)) i) }
-        requires word { word ≡ word_in (draft_words (mission_in self.now.table).spec (mission_in self.now.table).script (proc_of seat.old) (frame_of (seat_place seat.old))) i }
+        requires next { next_step self.now.table seat.old ≡ Some (Store (proc_id (proc_of seat.old)) i) }
+        requires word { word ≡ word_in (drafted_words self.now.table (proc_of seat.old) (frame_of (seat_place seat.old))) i }
         ensures seat { IsSeatOf self.now.table seat.new }
         ensures proc { proc_of seat.new ≡ proc_of seat.old }
         ensures place { seat_place seat.new ≡ one_on (seat_place seat.old) }
@@ -104,7 +101,7 @@ impl<'a> Words<'a> {
     /// block.
     pub fn flip(&self, seat: &mut Seat)
         requires seat { IsSeatOf self.now.table seat.old }
-        requires next { step_at (flight_in self.now.table) (proc_of seat.old) (seat_place seat.old) ≡ Some (Flip (proc_id (proc_of seat.old))) }
+        requires next { next_step self.now.table seat.old ≡ Some (Flip (proc_id (proc_of seat.old))) }
         ensures seat { IsSeatOf self.now.table seat.new }
         ensures proc { proc_of seat.new ≡ proc_of seat.old }
         ensures place { seat_place seat.new ≡ one_on (seat_place seat.old) }
@@ -116,7 +113,7 @@ impl<'a> Words<'a> {
     /// Ends the frame of the seat, and wakes the kernel if it is parked on that. It does not block.
     pub fn done(&self, seat: &mut Seat)
         requires seat { IsSeatOf self.now.table seat.old }
-        requires next { step_at (flight_in self.now.table) (proc_of seat.old) (seat_place seat.old) ≡ Some (Done (proc_id (proc_of seat.old))) }
+        requires next { next_step self.now.table seat.old ≡ Some (Done (proc_id (proc_of seat.old))) }
         ensures seat { IsSeatOf self.now.table seat.new }
         ensures proc { proc_of seat.new ≡ proc_of seat.old }
         ensures place { seat_place seat.new ≡ frame_on (seat_place seat.old) }
@@ -128,7 +125,7 @@ impl<'a> Words<'a> {
     /// Halts the seat's processor in its frame, and wakes the kernel if it is parked on that. It does not block.
     pub fn halt(&self, seat: &mut Seat)
         requires seat { IsSeatOf self.now.table seat.old }
-        requires next { step_at (flight_in self.now.table) (proc_of seat.old) (seat_place seat.old) ≡ Some (Halt (proc_id (proc_of seat.old))) }
+        requires next { next_step self.now.table seat.old ≡ Some (Halt (proc_id (proc_of seat.old))) }
         ensures seat { IsSeatOf self.now.table seat.new }
         ensures proc { proc_of seat.new ≡ proc_of seat.old }
         ensures place { seat_place seat.new ≡ halted_there (seat_place seat.old) }
@@ -150,8 +147,8 @@ impl<'a> Words<'a> {
         ensures steps { MatchOption result (kernel_steps kseat.new ≡ kernel_steps kseat.old) (λ marked. kernel_steps kseat.new ≡ kernel_steps kseat.old + 1) }
         ensures tries { MatchOption result (kernel_tries kseat.new ≡ kernel_tries kseat.old + 1) (λ marked. kernel_tries kseat.new ≡ kernel_tries kseat.old) }
         ensures halted { IfSome result (λ marked. marked.halted ≡ has_halted_by (flight_in self.now.table) p.0 (kernel_frame kseat.old)) }
-        ensures mark { IfSome result (λ marked. marked.mark ≡ mark_after (mission_in self.now.table).spec (mission_in self.now.table).script p.0 (kernel_frame kseat.old + 1)) }
-        ensures image { IfSome result (λ marked. marked.image ≡ image_after (mission_in self.now.table).spec (mission_in self.now.table).script p.0 (kernel_frame kseat.old + 1)) }
+        ensures mark { IfSome result (λ marked. marked.mark ≡ committed_mark self.now.table p.0 (kernel_frame kseat.old + 1)) }
+        ensures image { IfSome result (λ marked. marked.image ≡ committed_image self.now.table p.0 (kernel_frame kseat.old + 1)) }
     {
         self.table.gone(kseat, p)
     }
@@ -162,7 +159,7 @@ impl<'a> Words<'a> {
         requires i { i < 20 }
         requires next { kernel_steps kseat.old ≡ length (mission_in self.now.table).spec.procs + i }
         requires frame { kernel_frame kseat.old + 1 < (mission_in self.now.table).script.frames }
-        requires word { word ≡ word_in (kernel_words (mission_in self.now.table).spec (mission_in self.now.table).script (kernel_frame kseat.old + 1)) i }
+        requires word { word ≡ word_in (kernel_words_of self.now.table (kernel_frame kseat.old + 1)) i }
         ensures seat { IsKernelSeatOf self.now.table kseat.new }
         ensures frame { kernel_frame kseat.new ≡ kernel_frame kseat.old }
         ensures steps { kernel_steps kseat.new ≡ kernel_steps kseat.old + 1 }
@@ -202,9 +199,9 @@ impl<'a> Words<'a> {
     pub fn close(self, kseat: KSeat, seats: Vec<Seat>) -> LastWords
         requires kernel { IsKernelSeatOf self.table kseat }
         requires seats { AreSeatsOf self.table seats.items }
-        ensures marks { (p : ℕ) (seat : seat_types.Seat) → slice_get seats.items p ≡ Some seat → slice_index result.marks p ≡ mark_after (mission_in self.entry.table).spec (mission_in self.entry.table).script p (frames_marked (mission_in self.entry.table) (seat_place seat)) }
-        ensures images { (p : ℕ) (seat : seat_types.Seat) → slice_get seats.items p ≡ Some seat → slice_index_or result.images p [] ≡ image_after (mission_in self.entry.table).spec (mission_in self.entry.table).script p (frames_marked (mission_in self.entry.table) (seat_place seat)) }
-        ensures past { (p : ℕ) → length (mission_in self.entry.table).spec.procs ≤ p → p < 8 → AreNobodys (slice_index result.marks p) (slice_index_or result.images p []) }
+        ensures marks { AreMarksOf self.entry.table seats.items result.marks }
+        ensures images { AreImagesOf self.entry.table seats.items result.images }
+        ensures past { AreNobodysFrom (length (mission_in self.entry.table).spec.procs) result.marks result.images }
     {
         self.table.close(kseat, seats)
     }

@@ -1,7 +1,7 @@
 use Rattle.std.proofs.Common.{rules, ◌≡◌, pos, subst}
 use Rattle.bank_words.specs.Numbers.{encode}
 use Rattle.std.specs.Prelude.{IfSome, Some, slice_index_or}
-use Rattle.lock_deck.specs.Desks.{IsDraftOf}
+use Rattle.lock_deck.specs.SharedCores.{IsDraftOf}
 use Rattle.lock_deck.proofs.Storing.{draft_word}
 use Rattle.lock_deck.proofs.steps.word_of.Goals as goal
 

@@ -14,16 +14,18 @@ reports-requires g c =
     let flown : length c.deref.result.now ≡ c.args.mission.now.script.frames = ap length c.deref.ensures.value ∙ c.in_ok-rows.ensures.count ∙ ap (λ (s : ScriptParts). s.frames) c.script.ensures in
     omega arith
 
-pub returns-clause-assured : goal.returns-clause-assured
-returns-clause-assured g c =
+pub returns : goal.returns
+returns g c =
     let flown : c.of.result ≡ rows_of c.args.mission.now.spec c.args.mission.now.script = c.of.ensures ∙ c.in_ok-rows.ensures.rows ∙ rw (c.spec.ensures, c.script.ensures) refl in
-    let read : c.of-2.result ≡ reports_of c.args.mission.now.spec c.args.mission.now.script =
+    let told : c.of-2.result ≡ reports_of c.args.mission.now.spec c.args.mission.now.script =
     c.of-2.ensures ∙ c.in_ok-reports.ensures ∙ rw (c.spec-2.ensures, c.deref.ensures.value, c.in_ok-rows.ensures.rows, c.spec.ensures, c.script.ensures) refl in
-    rw (flown, read) (c.reconfigurations_are_assured.ensures c.args.mission.now.spec c.args.mission.now.script c.holds.ensures.spec c.holds.ensures.mission)
-
-pub returns-clause-few : goal.returns-clause-few
-returns-clause-few g c =
-    let flown : length c.of.result ≡ length c.deref.result.now = ap length (c.of.ensures ∙ sym c.deref.ensures.value) in
-    let read : length c.of-2.result ≡ length (reports c.spec-2.result.now c.deref.result.now) = ap length (c.of-2.ensures ∙ c.in_ok-reports.ensures) in
+    let rows : length c.of.result ≡ length c.deref.result.now = ap length (c.of.ensures ∙ sym c.deref.ensures.value) in
+    let reported : length c.of-2.result ≡ length (reports c.spec-2.result.now c.deref.result.now) = ap length (c.of-2.ensures ∙ c.in_ok-reports.ensures) in
     let few = few_reports c.spec-2.result.now c.deref.result.now in
-    omega arith
+    record {
+      rows = flown;
+      reports = told;
+      assured = rw (flown, told) (c.reconfigurations_are_assured.ensures c.args.mission.now.spec c.args.mission.now.script c.holds.ensures.spec c.holds.ensures.mission);
+      count = ap length c.of.ensures ∙ c.in_ok-rows.ensures.count ∙ ap (λ (s : ScriptParts). s.frames) c.script.ensures;
+      few = omega (arith, rows, reported, few);
+    }

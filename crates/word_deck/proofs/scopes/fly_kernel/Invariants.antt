@@ -5,5 +5,5 @@ use Rattle.word_deck.proofs.scopes.fly_kernel.Given as goal
 abbrev pub invariant-loop : goal.invariant-loop
 invariant-loop g l =
     (goal.iterator-loop g).can_next l.iterator' × (goal.iterator-loop g).is_finite l.iterator'
-    × (g.K.Conductor.mission_of l.kernel ≡ l.mission) × g.K.Conductor.seated l.words l.kernel × (g.K.Conductor.lent l.kernel ≡ g.K.Conductor.lent l.fn.kernel)
+    × (g.K.KernelActor.mission_of l.kernel ≡ l.mission) × g.K.KernelActor.seated l.words l.kernel × (g.K.KernelActor.lent l.kernel ≡ g.K.KernelActor.lent l.fn.kernel)
     × AllCrewsFit l.words l.own.items × (numbers_in l.own.items ≡ numbers_in l.fn.own.items)

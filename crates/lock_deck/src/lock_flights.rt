@@ -1,0 +1,344 @@
+//! A flight with a thread for each processor.
+
+ghost use Rattle.std.specs.Prelude.{◌≡◌, ◌≤◌, ◌<◌, ◌+◌, [], All, IfOk, IfSome, OnOk, Some, length, vec_capacity, vec_len};
+ghost use Rattle.coverage_check.specs.Missions.{MissionParts, mission_of};
+ghost use Rattle.event_core.specs.Cores.{flown, standing};
+ghost use Rattle.fail_stop.specs.Ends.{IsOver};
+ghost use Rattle.frame_model.specs.Flights.{reports_of, rows_of};
+ghost use Rattle.lock_deck.specs.Members.{MemberFits};
+ghost use Rattle.trace_props.specs.Properties.{HoldsAll};
+
+use crate::shared_cores::{SharedCore, FlightOf};
+use crate::members::Member;
+use crate::steps::make_any;
+use crate::turns::{fly_kernel, fly_processor};
+use app_model::Rack;
+use coverage_check::Mission;
+use crossbeam_utils::CachePadded;
+use event_core::Core;
+use scram_types::{NoMemory, ProcId};
+use std::alloc::Global;
+use std::marker::Brand;
+use std::sync::atomic::{AtomicBool, Ordering};
+use std::sync::{Condvar, Mutex, Wait};
+use std::thread;
+use std::thread::{Scope, Threads};
+use trace_props::missions::reconfigurations_are_assured;
+
+/// A flight of a mission before its first step, with all memory that it needs. That its processors are those of the
+/// mission is stated by clauses; two fields are public so that clauses can name them.
+#[derive(Drop)]
+pub struct LockFlight<'a> {
+    pub mission: &'a Mission,
+    pub members: Vec<CachePadded<Member>>,
+    core: Core<'a>,
+    back: Vec<Member>,
+    ghost own: { mission_of core.spec core.script ≡ mission.now },
+    ghost none_back: { back.items ≡ [] },
+    ghost room: { vec_len members ≤ vec_capacity back },
+}
+
+impl<'a> LockFlight<'a> {
+    /// Returns a flight of this mission, before its first step. Rack `p` is that of processor `p`, and spare rack `p`
+    /// is for its restart. It allocates all memory that the flight needs; the only error is out of memory.
+    pub fn open(
+        alloc: Global,
+        mission: &'a Mission,
+        racks: Vec<Rack>,
+        spares: Vec<Rack>,
+    ) -> Result<LockFlight<'a>, NoMemory>
+        requires racks { vec_len racks ≡ 8 }
+        requires spares { vec_len spares ≡ 8 }
+        ensures mission { IfOk result (λ flight. flight.mission.now ≡ mission.now) }
+        ensures fits { IfOk result (λ flight. All (λ member. MemberFits flight.mission.now member.value) flight.members.items) }
+    {
+        mission.holds();
+        let core = Core::open(alloc, mission.spec(), mission.script())?;
+        let members = make_members(alloc, mission, racks, spares)?;
+        let back = Vec::with_capacity(alloc, members.len())?;
+        Ok(LockFlight {
+            mission,
+            members,
+            core,
+            back,
+        })
+    }
+
+    /// Flies the mission with a thread for each processor and the kernel on the caller's, until the flight is over. A
+    /// processor whose thread cannot be started is flown round-robin by the caller. It may block.
+    pub fn run<R: Threads + Wait + Sync>(self, rt: &R) -> Core<'a>
+        requires fits { All (λ member. MemberFits self.mission.now member.value) self.members.items }
+        ensures spec { result.spec ≡ self.entry.mission.now.spec }
+        ensures script { result.script ≡ self.entry.mission.now.script }
+        ensures over { IsOver (flown result) (standing result) }
+        ensures assured { let m = self.entry.mission.now in HoldsAll m.spec (rows_of m.spec m.script) (reports_of m.spec m.script) }
+    {
+        self.run_on(rt, [true; 8])
+    }
+
+    /// As `run`, with threads for the processors that are asked for alone; the others are flown round-robin by the
+    /// caller.
+    pub fn run_on<R: Threads + Wait + Sync>(self, rt: &R, asked: [bool; 8]) -> Core<'a>
+        requires fits { All (λ member. MemberFits self.mission.now member.value) self.members.items }
+        ensures spec { result.spec ≡ self.entry.mission.now.spec }
+        ensures script { result.script ≡ self.entry.mission.now.script }
+        ensures over { IsOver (flown result) (standing result) }
+        ensures assured { let m = self.entry.mission.now in HoldsAll m.spec (rows_of m.spec m.script) (reports_of m.spec m.script) }
+    {
+        self.mission.holds();
+        reconfigurations_are_assured();
+        let roster = Roster {
+            members: self.members,
+            back: self.back,
+            asked,
+        };
+        fly::<Brand, R>(rt, self.mission, self.core, roster)
+    }
+}
+
+// Where processors fly: those that wait for a thread, those that the caller flies, and those for which threads are
+// asked.
+#[derive(Drop)]
+struct Roster {
+    members: Vec<CachePadded<Member>>,
+    back: Vec<Member>,
+    asked: [bool; 8],
+}
+
+// Returns the processors of a mission with their racks, from the last one down.
+fn make_members(
+    alloc: Global,
+    mission: &Mission,
+    racks: Vec<Rack>,
+    spares: Vec<Rack>,
+) -> Result<Vec<CachePadded<Member>>, NoMemory>
+    requires { vec_len racks ≡ 8 }
+    ensures fits { IfOk result (λ members. All (λ member. MemberFits mission.now member.value) members.items) }
+{
+    let mut racks = racks;
+    let mut spares = spares;
+    let mut members = Vec::with_capacity(alloc, racks.len())?;
+    for _ in 0..8u8 {
+        add_next(mission, &mut racks, &mut spares, &mut members)?;
+    }
+    Ok(members)
+}
+
+// Adds the processor that has the last of these racks, if there is one of its number.
+fn add_next(
+    mission: &Mission,
+    racks: &mut Vec<Rack>,
+    spares: &mut Vec<Rack>,
+    members: &mut Vec<CachePadded<Member>>,
+) -> Result<(), NoMemory>
+    requires few { vec_len racks.old ≤ 8 }
+    requires members { All (λ member. MemberFits mission.now member.value) members.old.items }
+    ensures few { vec_len racks.new ≤ 8 }
+    ensures members { OnOk result (All (λ member. MemberFits mission.now member.value) members.new.items) }
+{
+    match next_member(mission, racks, spares) {
+        Some(member) => add_member(members, member),
+        None => Ok(()),
+    }
+}
+
+// Returns the processor that has the last of these racks, if there is one of its number.
+fn next_member(mission: &Mission, racks: &mut Vec<Rack>, spares: &mut Vec<Rack>) -> Option<Member>
+    requires few { vec_len racks.old ≤ 8 }
+    ensures few { vec_len racks.new ≤ 8 }
+    ensures fits { IfSome result (MemberFits mission.now) }
+{
+    let rack = take_rack(racks)?;
+    let spare = take_rack(spares)?;
+    let p = racks.len();
+    if p < mission.spec().procs.items().len() {
+        Some(Member::new(mission, ProcId(p as u8), rack, spare))
+    } else {
+        None
+    }
+}
+
+// Returns the last of these racks, if there is one.
+fn take_rack(racks: &mut Vec<Rack>) -> Option<Rack>
+    ensures fewer { vec_len racks.new ≤ vec_len racks.old }
+    ensures one { IfSome result (λ _. vec_len racks.new < vec_len racks.old) }
+{
+    racks.pop()
+}
+
+// Adds a processor to those that wait for a thread.
+fn add_member(members: &mut Vec<CachePadded<Member>>, member: Member) -> Result<(), NoMemory>
+    ensures { OnOk result ((mission : MissionParts) → MemberFits mission member → All (λ member. MemberFits mission member.value) members.old.items
+        → All (λ member. MemberFits mission member.value) members.new.items) }
+{
+    members.push(CachePadded::new(member))?;
+    Ok(())
+}
+
+fn fly<'a, J: FlightOf + Send + Sync, R: Threads + Wait + Sync>(
+    rt: &R,
+    mission: &Mission,
+    core: Core<'a>,
+    roster: Roster,
+) -> Core<'a>
+    requires own { J.mission ≡ Some mission.now }
+    requires core { mission_of core.spec core.script ≡ mission.now }
+    requires fits { All (λ member. MemberFits mission.now member.value) roster.members.items }
+    requires back { (roster.back.items ≡ []) × (vec_len roster.members ≤ vec_capacity roster.back) }
+    ensures core { mission_of result.spec result.script ≡ mission.now }
+    ensures over { IsOver (flown result) (standing result) }
+{
+    let shared: Mutex<SharedCore<'a, J>> = Mutex::new(SharedCore::new(core));
+    let moved = Condvar::new();
+    fly_shared(rt, mission, &shared, &moved, roster);
+    finish(rt, shared.into_inner().into_core())
+}
+
+// Returns the steps that are left, which are none where all threads have come to the end.
+fn finish<'a, R: Wait>(rt: &R, core: Core<'a>) -> Core<'a>
+    ensures spec { result.spec ≡ core.entry.spec }
+    ensures script { result.script ≡ core.entry.script }
+    ensures over { IsOver (flown result) (standing result) }
+{
+    let mut core = core;
+    for _ in rt.forever() {
+        if core.over() {
+            return core;
+        }
+        make_any(&mut core);
+    }
+    unreachable!()
+}
+
+fn fly_shared<'a, J: FlightOf + Send + Sync, R: Threads + Wait + Sync>(
+    rt: &R,
+    mission: &Mission,
+    shared: &Mutex<SharedCore<'a, J>>,
+    moved: &Condvar,
+    roster: Roster,
+)
+    requires own { J.mission ≡ Some mission.now }
+    requires fits { All (λ member. MemberFits mission.now member.value) roster.members.items }
+    requires back { (roster.back.items ≡ []) × (vec_len roster.members ≤ vec_capacity roster.back) }
+{
+    let flags = flown_by_caller(roster.asked);
+    let by_caller = &flags;
+    thread::scope(
+        thread::scope_env(),
+        rt,
+        |scope|
+            requires own { J.mission ≡ Some mission.now }
+            requires fits { All (λ member. MemberFits mission.now member.value) roster.members.items }
+            requires back { (roster.back.items ≡ []) × (vec_len roster.members ≤ vec_capacity roster.back) }
+        {
+            let back = start_all(scope, rt, mission, shared, moved, by_caller, roster);
+            fly_kernel(rt, mission, shared, moved, back);
+        },
+    );
+}
+
+// Starts the threads that are asked for. The processors that the caller flies come back, and those whose threads cannot be
+// started.
+fn start_all<'s, 'a, E, J: FlightOf + Send + Sync, R: Threads + Wait + Sync>(
+    scope: &Scope<'s, E>,
+    rt: &'s R,
+    mission: &'s Mission,
+    shared: &'s Mutex<SharedCore<'a, J>>,
+    moved: &'s Condvar,
+    by_caller: &'s [AtomicBool; 8],
+    roster: Roster,
+) -> Vec<Member>
+    requires own { J.mission ≡ Some mission.now }
+    requires fits { All (λ member. MemberFits mission.now member.value) roster.members.items }
+    requires back { (roster.back.items ≡ []) × (vec_len roster.members ≤ vec_capacity roster.back) }
+    ensures { All (MemberFits mission.now) result.items }
+{
+    let mut members = roster.members;
+    let mut back = roster.back;
+    while let Some(member) = take_member(&mut members) {
+        let own = &by_caller[usize::from(member.proc().0 % 8)];
+        let fly = move |member: Member|
+            requires { (J.mission ≡ Some mission.now) × MemberFits mission.now member }
+        {
+            fly_processor(rt, mission, shared, moved, member);
+        };
+        keep_member(&mut back, start(scope, own, fly, member));
+    }
+    back
+}
+
+// Starts a thread that flies a processor, unless the caller flies it. Where none can be started, the caller is to fly it,
+// and it comes back.
+fn start<'s, E, M: Send + Drop + 's, F: FnOnce(M) + Send + Drop + 's>(
+    scope: &Scope<'s, E>,
+    by_caller: &'s AtomicBool,
+    fly: F,
+    member: M,
+) -> Option<M>
+    requires fly { F.pre fly member }
+    ensures { IfSome result (λ kept. kept ≡ member) }
+{
+    if by_caller.load(Ordering::SeqCst) {
+        return Some(member);
+    }
+    let spawned = scope.spawn(
+        move || -> Option<M>
+            requires { F.pre fly member }
+            ensures { IfSome result (λ kept. kept ≡ member) }
+        {
+            if by_caller.load(Ordering::SeqCst) {
+                return Some(member);
+            }
+            fly(member);
+            None
+        },
+    );
+    match spawned {
+        Ok(_) => None,
+        Err(refused) => {
+            by_caller.store(true, Ordering::SeqCst);
+            (refused.value)()
+        }
+    }
+}
+
+// Returns the last of these processors, if there is one.
+fn take_member(members: &mut Vec<CachePadded<Member>>) -> Option<Member>
+    ensures fits { (mission : MissionParts) → All (λ member. MemberFits mission member.value) members.old.items → IfSome result (MemberFits mission) }
+    ensures rest { (mission : MissionParts) → All (λ member. MemberFits mission member.value) members.old.items
+        → All (λ member. MemberFits mission member.value) members.new.items }
+    ensures fewer { IfSome result (λ member. vec_len members.new + 1 ≡ vec_len members.old) }
+{
+    match members.pop() {
+        Some(member) => Some(member.into_inner()),
+        None => None,
+    }
+}
+
+// Adds a processor, if there is one, to those that the caller flies.
+fn keep_member(back: &mut Vec<Member>, member: Option<Member>)
+    requires room { vec_len back.old < vec_capacity back.old }
+    ensures fits { (mission : MissionParts) → IfSome member (MemberFits mission) → All (MemberFits mission) back.old.items
+        → All (MemberFits mission) back.new.items }
+    ensures more { vec_len back.new ≤ vec_len back.old + 1 }
+    ensures room { vec_capacity back.new ≡ vec_capacity back.old }
+{
+    match member {
+        Some(member) => back.push_reserved(member),
+        None => {}
+    }
+}
+
+// Returns the processors that the caller flies: those for which no threads are asked.
+fn flown_by_caller(asked: [bool; 8]) -> [AtomicBool; 8] {
+    [
+        AtomicBool::new(!asked[0]),
+        AtomicBool::new(!asked[1]),
+        AtomicBool::new(!asked[2]),
+        AtomicBool::new(!asked[3]),
+        AtomicBool::new(!asked[4]),
+        AtomicBool::new(!asked[5]),
+        AtomicBool::new(!asked[6]),
+        AtomicBool::new(!asked[7]),
+    ]
+}

@@ -1,0 +1,88 @@
+//! The core of a flight under its lock. What is taken out of a lock is known by its type alone, so the type says whose
+//! flight it is.
+
+ghost use Rattle.std.specs.Prelude.{◌≡◌, IfSome, None, Option, Some};
+ghost use Rattle.coverage_check.specs.Missions.{MissionParts, mission_of};
+ghost use Rattle.lock_deck.specs.SharedCores.{IfSaw, IsDraftOf, IsSnapshotOf};
+
+use crate::made::Made;
+use crate::members::Member;
+use crate::steps::{make_kernel, make_step};
+use bank_words::Event;
+use event_core::Core;
+use fail_stop::Draft;
+use scram_types::ProcId;
+use std::marker::{Brand, PhantomData};
+
+/// Which mission is flown. Each call that flies picks it.
+pub(crate) trait FlightOf {
+    ghost mission: { Option MissionParts };
+}
+
+impl FlightOf for Brand {
+    ghost mission = { None };
+}
+
+/// The core of a flight of the mission that `J` names.
+#[derive(Drop)]
+pub(crate) struct SharedCore<'a, J: FlightOf> {
+    core: Core<'a>,
+    flight: PhantomData<J>,
+    ghost own: { J.mission ≡ Some (mission_of core.spec core.script) },
+}
+
+impl<'a, J: FlightOf> SharedCore<'a, J> {
+    /// Returns the shared of this core.
+    pub(crate) fn new(core: Core<'a>) -> SharedCore<'a, J>
+        requires { J.mission ≡ Some (mission_of core.spec core.script) }
+    {
+        SharedCore {
+            core,
+            flight: PhantomData,
+        }
+    }
+
+    /// Returns the core.
+    pub(crate) fn into_core(self) -> Core<'a>
+        ensures { J.mission ≡ Some (mission_of result.spec result.script) }
+    {
+        self.core
+    }
+
+    /// Returns whether no event can come any more.
+    pub(crate) fn is_over(&self) -> bool {
+        self.core.over()
+    }
+
+    /// Returns whether a processor has to wait.
+    pub(crate) fn waits(&self, p: ProcId) -> bool {
+        self.core.next_of(p).is_none() && !self.core.over()
+    }
+
+    /// Returns whether the kernel and these processors have to wait.
+    pub(crate) fn all_wait(&self, members: &[Member]) -> bool {
+        if self.core.next_kernel().is_some() || self.core.over() {
+            return false;
+        }
+        for member in members {
+            if self.core.next_of(member.proc()).is_some() {
+                return false;
+            }
+        }
+        true
+    }
+
+    /// Makes the next step of the kernel, if there is one, and returns it.
+    pub(crate) fn make_kernel(&mut self) -> Option<Event> {
+        make_kernel(&mut self.core)
+    }
+
+    /// Makes the next step of a processor, if there is one. A store is made where there is a draft of the frame in
+    /// which the processor stands; else what the processor sees is returned.
+    pub(crate) fn make_step(&mut self, p: ProcId, drafted: Option<&Draft>) -> Made
+        requires { (mission : MissionParts) → J.mission ≡ Some mission → IfSome drafted (λ draft. IsDraftOf mission p.0 draft.now) }
+        ensures { (mission : MissionParts) → J.mission ≡ Some mission → IfSaw result (IsSnapshotOf mission) }
+    {
+        make_step(&mut self.core, p, drafted)
+    }
+}

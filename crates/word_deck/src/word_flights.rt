@@ -1,0 +1,255 @@
+//! Flights on words.
+
+ghost use Rattle.std.specs.Prelude.{◌≡◌, ◌≤◌, IfOk, length, vec_capacity, vec_len};
+ghost use Rattle.trace_props.specs.Missions.{IsTraceOf};
+ghost use Rattle.word_table.specs.Tables.{AreSeatsOf, IsKernelSeatOf, mission_in};
+ghost use Rattle.word_deck.specs.Flights.{AreAtTable, AreLanded, AreOpen, IsAtTable};
+ghost use Rattle.word_deck.specs.Kernels.{IsKernelDone, frames_noted};
+
+use crate::kernels::KernelCrew;
+use crate::landings::{Resources, RackPair, RackCell};
+use crate::scopes::{Roster, fly};
+use crate::watched::WatchedKernel;
+use app_model::Rack;
+use coverage_check::Mission;
+use scram_kernel::Kernel;
+use scram_types::{Flown, NoMemory};
+use std::alloc::Global;
+use std::sync::Wait;
+use std::thread;
+use std::thread::Threads;
+use std::vec::IntoIter;
+use telemetry_tap::Watch;
+use trace_props::missions::reconfigurations_are_assured;
+use word_table::{KSeat, Seat, WordTable, Words};
+
+/// A flight of a mission that is ready to start, with all memory that it takes: the words, the kernel, the seats of all
+/// processors, their boxes, and room for what comes back.
+#[derive(Drop)]
+pub struct WordFlight<'a> {
+    mission: &'a Mission,
+    words: WordTable,
+    kernel: KernelCrew<'a>,
+    roster: Roster,
+    cells: [RackCell; 8],
+    ghost of: { mission_in words ≡ mission.now },
+    ghost same: { kernel.mission.now ≡ mission.now },
+    ghost seated: { IsAtTable words kernel.kseat },
+    ghost fresh: { frames_noted (length mission.now.spec.procs) kernel.kseat ≡ 0 },
+    ghost waiting: { AreAtTable words roster.waiting.items },
+    ghost all: { vec_len roster.waiting ≡ length mission.now.spec.procs },
+    ghost none_own: { vec_len roster.own ≡ 0 },
+    ghost none_landed: { vec_len roster.landed ≡ 0 },
+    ghost own_room: { vec_len roster.waiting ≤ vec_capacity roster.own },
+    ghost room: { vec_len roster.waiting ≤ vec_capacity roster.landed },
+}
+
+/// The result of a flight: the trace, and the words with all their seats, each where nothing is left to do. The seats
+/// of the processors stand in the order of their numbers.
+#[derive(Drop)]
+pub struct Landed<'a> {
+    pub flown: Flown,
+    pub words: Words<'a>,
+    pub kseat: KSeat,
+    pub seats: Vec<Seat>,
+}
+
+impl<'a> WordFlight<'a> {
+    /// Returns a flight of a mission with these boxes, and these for restarts: rack `p` is that of processor `p`. All
+    /// memory of the flight is allocated here; the only error is out of memory.
+    #[tactic(auto, using(crate::proofs::Outcomes::at_table))]
+    pub fn open(
+        alloc: Global,
+        mission: &'a Mission,
+        racks: Vec<Rack>,
+        spares: Vec<Rack>,
+    ) -> Result<WordFlight<'a>, NoMemory>
+        requires racks { vec_len racks ≡ 8 }
+        requires spares { vec_len spares ≡ 8 }
+        ensures mission { IfOk result (λ flight. flight.mission ≡ mission.entry) }
+    {
+        mission.holds();
+        let (words, kseat, seats) = WordTable::open(alloc, mission)?;
+        let kernel = Kernel::new(alloc, mission.spec(), mission.script())?;
+        let procs = seats.len();
+        let own = Vec::with_capacity(alloc, procs)?;
+        let landed = Vec::with_capacity(alloc, procs)?;
+        Ok(WordFlight {
+            mission,
+            words,
+            kernel: KernelCrew::kernel(mission, kseat, kernel),
+            roster: Roster {
+                waiting: seats,
+                own,
+                landed,
+            },
+            cells: cells(alloc, racks, spares),
+        })
+    }
+
+    /// Flies the mission with a thread for each processor and the kernel on the caller's. A processor for which no
+    /// thread can be made flies in the caller's turns. The result is the one-thread trace, of which SP1 to SP5 hold,
+    /// and the words with all seats, each where nothing is left to do. It blocks until the threads have ended, and
+    /// has no error.
+    pub fn run<R: Threads + Wait + Sync>(self, rt: &R) -> Landed<'a>
+        ensures flown { IsTraceOf self.entry.mission.now result.flown }
+        ensures mission { result.words.mission ≡ self.entry.mission }
+        ensures table { result.words.table.table ≡ self.entry.words.table }
+        ensures kernel { IsKernelSeatOf result.words.table result.kseat }
+        ensures kernel_done { IsKernelDone (length self.entry.mission.now.spec.procs) self.entry.mission.now.script.frames result.kseat }
+        ensures seats { AreSeatsOf result.words.table result.seats.items }
+        ensures landed { AreLanded result.words.table result.seats.items }
+    {
+        self.run_on(rt, [true; 8])
+    }
+
+    /// The same where threads are asked for these processors alone.
+    pub fn run_on<R: Threads + Wait + Sync>(self, rt: &R, asked: [bool; 8]) -> Landed<'a>
+        ensures flown { IsTraceOf self.entry.mission.now result.flown }
+        ensures mission { result.words.mission ≡ self.entry.mission }
+        ensures table { result.words.table.table ≡ self.entry.words.table }
+        ensures kernel { IsKernelSeatOf result.words.table result.kseat }
+        ensures kernel_done { IsKernelDone (length self.entry.mission.now.spec.procs) self.entry.mission.now.script.frames result.kseat }
+        ensures seats { AreSeatsOf result.words.table result.seats.items }
+        ensures landed { AreLanded result.words.table result.seats.items }
+    {
+        let mission = self.mission;
+        let (resources, kernel, roster) = self.prepare(rt, asked);
+        let (kernel, seats) = fly(rt, mission, &resources, kernel, roster);
+        land_all(mission, resources, kernel, seats)
+    }
+
+    /// Flies as `run` does, and hands each row to a watch as the kernel writes it. The watch has then taken all rows.
+    pub fn run_watched<W: Watch, R: Threads + Wait + Sync>(
+        self,
+        rt: &R,
+        watch: &mut W,
+    ) -> Landed<'a>
+        requires watched { W.watched watch.old ≡ self.mission.now }
+        requires taken { W.taken watch.old ≡ 0 }
+        ensures flown { IsTraceOf self.entry.mission.now result.flown }
+        ensures mission { result.words.mission ≡ self.entry.mission }
+        ensures table { result.words.table.table ≡ self.entry.words.table }
+        ensures kernel { IsKernelSeatOf result.words.table result.kseat }
+        ensures kernel_done { IsKernelDone (length self.entry.mission.now.spec.procs) self.entry.mission.now.script.frames result.kseat }
+        ensures seats { AreSeatsOf result.words.table result.seats.items }
+        ensures landed { AreLanded result.words.table result.seats.items }
+        ensures watched { W.watched watch.new ≡ self.entry.mission.now }
+        ensures taken { W.taken watch.new ≡ self.entry.mission.now.script.frames }
+    {
+        let mission = self.mission;
+        let (resources, kernel, roster) = self.prepare(rt, [true; 8]);
+        let kernel = WatchedKernel { kernel, watch };
+        let (kernel, seats) = fly(rt, mission, &resources, kernel, roster);
+        // A name for the reference, since the proof else does not learn what stands behind it.
+        let WatchedKernel {
+            kernel,
+            watch: _last,
+        } = kernel;
+        land_all(mission, resources, kernel, seats)
+    }
+
+    // Returns what a flight starts with, where threads are asked for these processors.
+    fn prepare<R: Threads>(self, rt: &R, asked: [bool; 8]) -> (Resources, KernelCrew<'a>, Roster)
+        ensures table { result.0.words.table ≡ self.entry.words.table }
+        ensures mission { mission_in result.0.words ≡ self.entry.mission.now }
+        ensures same { result.1.mission.now ≡ self.entry.mission.now }
+        ensures seated { IsKernelSeatOf result.0.words result.1.kseat }
+        ensures fresh { frames_noted (length self.entry.mission.now.spec.procs) result.1.kseat ≡ 0 }
+        ensures waiting { AreOpen result.0.words result.2.waiting.items }
+        ensures all { vec_len result.2.waiting ≡ length self.entry.mission.now.spec.procs }
+        ensures own { vec_len result.2.own ≡ 0 }
+        ensures landed { vec_len result.2.landed ≡ 0 }
+        ensures own_room { vec_len result.2.waiting ≤ vec_capacity result.2.own }
+        ensures room { vec_len result.2.waiting ≤ vec_capacity result.2.landed }
+    {
+        let WordFlight {
+            mission,
+            mut words,
+            kernel,
+            roster,
+            cells,
+        } = self;
+        mission.holds();
+        words.set_spins(spins_of(rt));
+        let resources = Resources {
+            words,
+            cells,
+            asked,
+        };
+        (resources, kernel, roster)
+    }
+}
+
+// Returns what has come of a flight whose kernel has made its last note and whose processors have landed.
+fn land_all<'a>(
+    mission: &'a Mission,
+    resources: Resources,
+    kernel: KernelCrew<'a>,
+    seats: Vec<Seat>,
+) -> Landed<'a>
+    requires mission { mission_in resources.words ≡ mission.now }
+    requires same { kernel.mission.now ≡ mission.now }
+    requires seated { IsKernelSeatOf resources.words kernel.kseat }
+    requires done { IsKernelDone (length mission.now.spec.procs) mission.now.script.frames kernel.kseat }
+    requires seats { AreLanded resources.words seats.items }
+    requires all { vec_len seats ≡ length mission.now.spec.procs }
+    ensures flown { IsTraceOf mission.entry.now result.flown }
+    ensures mission { result.words.mission ≡ mission.entry }
+    ensures table { result.words.table.table ≡ resources.words.table }
+    ensures kernel { IsKernelSeatOf result.words.table result.kseat }
+    ensures kernel_done { IsKernelDone (length mission.entry.now.spec.procs) mission.entry.now.script.frames result.kseat }
+    ensures seats { AreSeatsOf result.words.table result.seats.items }
+    ensures landed { AreLanded result.words.table result.seats.items }
+{
+    let Resources {
+        words: table,
+        cells: _,
+        asked: _,
+    } = resources;
+    let (kseat, kernel) = kernel.into_parts();
+    mission.holds();
+    reconfigurations_are_assured();
+    Landed {
+        flown: kernel.finish(),
+        words: Words { mission, table },
+        kseat,
+        seats,
+    }
+}
+
+// The least of the numbers that were measured (docs/PERFORMANCE.md) at which no thread parks while each has a
+// processor.
+const SPINS: u32 = 10_000;
+
+// Returns how many times a wait spins before it parks: 0 on a machine with one processor.
+fn spins_of<R: Threads>(rt: &R) -> u32 {
+    match thread::available_parallelism(rt) {
+        Ok(count) if count.get() > 1 => SPINS,
+        _ => 0,
+    }
+}
+
+// Returns a cell for each processor, with its racks.
+fn cells(alloc: Global, racks: Vec<Rack>, spares: Vec<Rack>) -> [RackCell; 8] {
+    let mut racks = racks.into_iter();
+    let mut spares = spares.into_iter();
+    [
+        next_cell(alloc, &mut racks, &mut spares),
+        next_cell(alloc, &mut racks, &mut spares),
+        next_cell(alloc, &mut racks, &mut spares),
+        next_cell(alloc, &mut racks, &mut spares),
+        next_cell(alloc, &mut racks, &mut spares),
+        next_cell(alloc, &mut racks, &mut spares),
+        next_cell(alloc, &mut racks, &mut spares),
+        next_cell(alloc, &mut racks, &mut spares),
+    ]
+}
+
+fn next_cell(alloc: Global, racks: &mut IntoIter<Rack>, spares: &mut IntoIter<Rack>) -> RackCell {
+    let pair = match (racks.next(), spares.next()) {
+        (Some(rack), Some(spare)) => Some(RackPair { rack, spare }),
+        _ => None,
+    };
+    RackCell::new(alloc, pair)
+}
