@@ -34,4 +34,5 @@ roll_after seen = if seen.mode.0 == NAVIGATE then clamp_in (limit 150 150) (part
 
 -- The autopilot's area after a frame in which it ran.
 unfoldable pub autopilot_ran : Seen → List ℤ
-autopilot_ran seen = pos 1 ∷ pitch_after seen ∷ roll_after seen ∷ target_alt seen ∷ target_heading seen ∷ integral_after seen ∷ ticks_after KIND seen ∷ pos 0 ∷ []
+autopilot_ran seen = pos 1 ∷ pitch_after seen ∷ roll_after seen ∷ target_alt seen ∷ target_heading seen ∷ integral_after seen ∷ ticks_after KIND seen
+    ∷ pos 0 ∷ []

@@ -18,12 +18,17 @@ closer x target step = x +ℤ clamp_in (limit step step) (target -ℤ x)
 
 -- In augmented the surfaces move toward the command, in direct they stand at twice the command.
 unfoldable pub elevator_after : Seen → ℤ
-elevator_after seen = if seen.mode.0 == AUGMENTED then clamp_in (limit 100 100) (closer (own_word KIND seen ELEVATOR) (command seen autopilot.PITCH) 40) else pos 2 *ℤ command seen autopilot.PITCH
+elevator_after seen =
+    if seen.mode.0 == AUGMENTED then clamp_in (limit 100 100) (closer (own_word KIND seen ELEVATOR) (command seen autopilot.PITCH) 40)
+    else pos 2 *ℤ command seen autopilot.PITCH
 
 -- The aileron: moved towards the roll command when augmented, else twice that command.
 unfoldable pub aileron_after : Seen → ℤ
-aileron_after seen = if seen.mode.0 == AUGMENTED then clamp_in (limit 150 150) (closer (own_word KIND seen AILERON) (command seen autopilot.ROLL) 60) else pos 2 *ℤ command seen autopilot.ROLL
+aileron_after seen =
+    if seen.mode.0 == AUGMENTED then clamp_in (limit 150 150) (closer (own_word KIND seen AILERON) (command seen autopilot.ROLL) 60)
+    else pos 2 *ℤ command seen autopilot.ROLL
 
 -- The flight control's area after a frame in which it ran.
 unfoldable pub flight_control_ran : Seen → List ℤ
-flight_control_ran seen = pos 1 ∷ elevator_after seen ∷ aileron_after seen ∷ command seen autopilot.PITCH ∷ command seen autopilot.ROLL ∷ pos 0 ∷ ticks_after KIND seen ∷ pos 0 ∷ []
+flight_control_ran seen = pos 1 ∷ elevator_after seen ∷ aileron_after seen ∷ command seen autopilot.PITCH ∷ command seen autopilot.ROLL ∷ pos 0
+    ∷ ticks_after KIND seen ∷ pos 0 ∷ []

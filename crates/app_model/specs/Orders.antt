@@ -9,7 +9,8 @@ use Rattle.app_model.specs.Reads.{own_word, altitude, heading}
 
 -- a status, and the other words as read
 unfoldable pub kept_area : ℕ → ℤ → Seen → List ℤ
-kept_area kind status seen = status ∷ own_word kind seen 1 ∷ own_word kind seen 2 ∷ own_word kind seen 3 ∷ own_word kind seen 4 ∷ own_word kind seen 5 ∷ own_word kind seen 6 ∷ own_word kind seen 7 ∷ []
+kept_area kind status seen = status ∷ own_word kind seen 1 ∷ own_word kind seen 2 ∷ own_word kind seen 3 ∷ own_word kind seen 4 ∷ own_word kind seen 5
+    ∷ own_word kind seen 6 ∷ own_word kind seen 7 ∷ []
 
 -- a moving variable, where the halt has some frames left, this one included
 unfoldable pub faded : ℤ → ℕ → ℤ
@@ -21,7 +22,8 @@ halted_word kind left seen i = if is_moving kind i then faded (own_word kind see
 
 -- The area after a frame of its halt phase.
 unfoldable pub halted : ℕ → ℕ → Seen → List ℤ
-halted kind left seen = pos 2 ∷ halted_word kind left seen 1 ∷ halted_word kind left seen 2 ∷ halted_word kind left seen 3 ∷ halted_word kind left seen 4 ∷ halted_word kind left seen 5 ∷ halted_word kind left seen 6 ∷ halted_word kind left seen 7 ∷ []
+halted kind left seen = pos 2 ∷ halted_word kind left seen 1 ∷ halted_word kind left seen 2 ∷ halted_word kind left seen 3 ∷ halted_word kind left seen 4
+    ∷ halted_word kind left seen 5 ∷ halted_word kind left seen 6 ∷ halted_word kind left seen 7 ∷ []
 
 -- at the end of the init phase; the autopilot's targets become the aircraft's altitude and heading
 unfoldable pub initialised_word : ℕ → Seen → ℕ → ℤ
@@ -31,7 +33,8 @@ initialised_word kind seen i =
 
 -- The area after a frame of its init phase.
 unfoldable pub initialised : ℕ → Seen → List ℤ
-initialised kind seen = pos 4 ∷ initialised_word kind seen 1 ∷ initialised_word kind seen 2 ∷ initialised_word kind seen 3 ∷ initialised_word kind seen 4 ∷ initialised_word kind seen 5 ∷ initialised_word kind seen 6 ∷ initialised_word kind seen 7 ∷ []
+initialised kind seen = pos 4 ∷ initialised_word kind seen 1 ∷ initialised_word kind seen 2 ∷ initialised_word kind seen 3 ∷ initialised_word kind seen 4
+    ∷ initialised_word kind seen 5 ∷ initialised_word kind seen 6 ∷ initialised_word kind seen 7 ∷ []
 
 -- in a frame of the init phase
 abbrev pub initialising : ℕ → Bool → Seen → List ℤ

@@ -66,7 +66,9 @@ fn offsets_in(spec: &Spec, phase: Phase, times: &[u8; 8]) -> [u16; 8]
 fn offsets_after(spec: &Spec, phase: Phase, times: &[u8; 8], before: &[u16; 8]) -> [u16; 8]
     requires times { AtMost 16 (length spec.now.apps) times.now }
     requires before { AtMost 112 (length spec.now.apps) before.now }
-    ensures { Holds (λ a. greatest_below (time_added (timed_chart spec.now phase times.now) (slice_index before.now) a) (length spec.now.apps)) (length spec.now.apps) result }
+    ensures { Holds
+        (λ a. greatest_below (time_added (timed_chart spec.now phase times.now) (slice_index before.now) a) (length spec.now.apps))
+        (length spec.now.apps) result }
 {
     let mut offsets = [0; 8];
     for a in 0..count_apps(spec) {

@@ -26,10 +26,14 @@ NoRestart m p h k = (r : ℕ) → m.restart p ≡ Some r → h < r → k < r
 -- processors and the kernel stand, what a note says, the kernel's words, and what a reader sees.
 pub record IsConsistent (m : Flight) (at : Places) (words : Word → ℕ) : Type 0 where
   pub mark : (p : ℕ) → p < m.procs → words (MarkWord p) ≡ mark_word (last_commit m p (marked m (at.proc p))) (commit_count m p (marked m (at.proc p)) % 2)
-  pub marked_bank : (p i : ℕ) → p < m.procs → i < m.width → words (BankWord p (commit_count m p (marked m (at.proc p)) % 2) i) ≡ word_in (image_before m p (last_commit m p (marked m (at.proc p)))) i
-  pub drafted : (p f n i : ℕ) → p < m.procs → i < m.width → at.proc p ≡ At f n → n ≤ m.procs + 1 + m.width → i < stores_made m n → words (BankWord p (other m at p) i) ≡ word_in (m.draft p f) i
-  pub not_drafted : (p f n i : ℕ) → p < m.procs → i < m.width → at.proc p ≡ At f n → n ≤ m.procs + 1 + m.width → stores_made m n ≤ i → words (BankWord p (other m at p) i) ≡ bank_before m p f (other m at p) i
-  pub after_flip : (p i : ℕ) → p < m.procs → i < m.width → ((f n : ℕ) → at.proc p ≡ At f n → m.procs + 1 + m.width < n) → words (BankWord p (other m at p) i) ≡ bank_before m p (marked m (at.proc p)) (other m at p) i
+  pub marked_bank : (p i : ℕ) → p < m.procs → i < m.width → words (BankWord p (commit_count m p (marked m (at.proc p)) % 2) i)
+      ≡ word_in (image_before m p (last_commit m p (marked m (at.proc p)))) i
+  pub drafted : (p f n i : ℕ) → p < m.procs → i < m.width → at.proc p ≡ At f n → n ≤ m.procs + 1 + m.width → i < stores_made m n
+      → words (BankWord p (other m at p) i) ≡ word_in (m.draft p f) i
+  pub not_drafted : (p f n i : ℕ) → p < m.procs → i < m.width → at.proc p ≡ At f n → n ≤ m.procs + 1 + m.width → stores_made m n ≤ i
+      → words (BankWord p (other m at p) i) ≡ bank_before m p f (other m at p) i
+  pub after_flip : (p i : ℕ) → p < m.procs → i < m.width → ((f n : ℕ) → at.proc p ≡ At f n → m.procs + 1 + m.width < n)
+      → words (BankWord p (other m at p) i) ≡ bank_before m p (marked m (at.proc p)) (other m at p) i
   pub running : (p f n : ℕ) → p < m.procs → at.proc p ≡ At f n → (f ≡ at.frame) ⊎ ((f ≡ suc at.frame) × (n ≡ 0))
   pub halted : (p h : ℕ) → p < m.procs → at.proc p ≡ Halted h → (h ≤ at.frame) × ((r : ℕ) → m.restart p ≡ Some r → h < r → at.frame ≤ r)
   pub release : 0 < m.frames → words ReleaseWord ≡ suc at.frame
@@ -37,5 +41,6 @@ pub record IsConsistent (m : Flight) (at : Places) (words : Word → ℕ) : Type
   pub noted_halted : (p h : ℕ) → p < m.procs → p < at.step → at.proc p ≡ Halted h → NoRestart m p h at.frame
   pub kernel_new : (i : ℕ) → i < 20 → i < at.step - m.procs → words (KernelWord i) ≡ word_in (m.kernel_image (suc at.frame)) i
   pub kernel_old : (i : ℕ) → i < 20 → at.step - m.procs ≤ i → words (KernelWord i) ≡ word_in (m.kernel_image at.frame) i
-  pub reads : (p f n : ℕ) → p < m.procs → Reads at p f n → (q i : ℕ) → q < m.procs → i < m.width → words (BankWord q (pick (words (MarkWord q)) f) i) ≡ word_in (image_before m q f) i
+  pub reads : (p f n : ℕ) → p < m.procs → Reads at p f n → (q i : ℕ) → q < m.procs → i < m.width
+      → words (BankWord q (pick (words (MarkWord q)) f) i) ≡ word_in (image_before m q f) i
   pub reads_kernel : (p f n : ℕ) → p < m.procs → Reads at p f n → (i : ℕ) → i < 20 → words (KernelWord i) ≡ word_in (m.kernel_image f) i

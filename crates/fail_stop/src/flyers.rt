@@ -95,7 +95,8 @@ impl Flyer {
         requires few { unit_proc self.old.unit < 8 }
         ensures frame { result.frame ≡ snap.now.kernel.frame }
         ensures image { result.image ≡ draft_made spec.now snap.now (unit_proc self.old.unit) }
-        ensures trace { (script : ScriptParts) (f : ℕ) → IsSpec spec.now → unit_proc self.old.unit < length spec.now.procs → IsSnapshot spec.now script f snap.now → result.image ≡ draft spec.now script (unit_proc self.old.unit) f }
+        ensures trace { (script : ScriptParts) (f : ℕ) → IsSpec spec.now → unit_proc self.old.unit < length spec.now.procs
+            → IsSnapshot spec.now script f snap.now → result.image ≡ draft spec.now script (unit_proc self.old.unit) f }
         ensures lives { is_down self.new.unit ≡ false }
         ensures proc { unit_proc self.new.unit ≡ unit_proc self.old.unit }
         ensures spare { self.new.spare ≡ self.old.spare }

@@ -54,7 +54,8 @@ impl Live {
         requires proc { self.old.proc.0 < 8 }
         ensures frame { result.frame ≡ snap.now.kernel.frame }
         ensures image { result.image ≡ draft_made spec.now snap.now self.old.proc.0 }
-        ensures trace { (script : ScriptParts) (f : ℕ) → IsSpec spec.now → self.old.proc.0 < length spec.now.procs → IsSnapshot spec.now script f snap.now → result.image ≡ draft spec.now script self.old.proc.0 f }
+        ensures trace { (script : ScriptParts) (f : ℕ) → IsSpec spec.now → self.old.proc.0 < length spec.now.procs → IsSnapshot spec.now script f snap.now
+            → result.image ≡ draft spec.now script self.old.proc.0 f }
         ensures proc { self.new.proc ≡ self.old.proc }
     {
         let kernel = snap.kernel;

@@ -19,7 +19,8 @@ factor_at script x f = value_after script.changes x f 0
 
 -- The six factor values of frame f.
 abbrev pub factors_at : ScriptParts → ℕ → List ℕ
-factors_at script f = factor_at script 0 f ∷ factor_at script 1 f ∷ factor_at script 2 f ∷ factor_at script 3 f ∷ factor_at script 4 f ∷ factor_at script 5 f ∷ []
+factors_at script f = factor_at script 0 f ∷ factor_at script 1 f ∷ factor_at script 2 f ∷ factor_at script 3 f ∷ factor_at script 4 f
+    ∷ factor_at script 5 f ∷ []
 
 -- A halt is of processor p.
 abbrev pub is_halt_of : ℕ → HaltAt → Bool

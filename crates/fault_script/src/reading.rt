@@ -319,7 +319,9 @@ fn need_restarts(version: Version, v: &Value) -> Result<Option<&Value>, ScriptFa
 }
 
 fn find_members(version: Version, v: &Value) -> Result<Members<'_>, ScriptFault>
-    ensures { ok_map (λ m. make_members (view m.scram.now) (view m.frames.now) (view m.changes.now) (view m.halts.now) (option_map (λ d. view d.now) m.restarts)) result ≡ find_members version (view v.now) }
+    ensures { ok_map
+        (λ m. make_members (view m.scram.now) (view m.frames.now) (view m.changes.now) (view m.halts.now) (option_map (λ d. view d.now) m.restarts)) result
+        ≡ find_members version (view v.now) }
 {
     let at = Path::root();
     object(v, &at)?;
@@ -352,7 +354,10 @@ fn read_values(
     version: Version,
     m: &Members<'_>,
 ) -> Result<Script, ScriptError>
-    ensures { Answers (read_values spec.now version (make_members (view m.now.scram.now) (view m.now.frames.now) (view m.now.changes.now) (view m.now.halts.now) (option_map (λ d. view d.now) m.now.restarts))) (λ script. script) result }
+    ensures { Answers (read_values spec.now version
+        (make_members (view m.now.scram.now) (view m.now.frames.now) (view m.now.changes.now) (view m.now.halts.now)
+            (option_map (λ d. view d.now) m.now.restarts)))
+        (λ script. script) result }
 {
     let at = Path::root();
     let frames = read_frames(m.scram, m.frames)?;

@@ -18,7 +18,8 @@ WithoutFiles Answers before after reads status text = (reads ≡ []) × Answers 
 
 -- The file of this name was read first and has no more bytes than the limit, and this is answered of them and of what
 -- was read after it.
-pub record AnswersBytes (limit : ℕ) (name : List ℕ) (Answers : List ℕ → Answer) (before after : FilesState) (reads : History) (status : ℕ) (text : List ℕ) : Type 0 where
+pub record AnswersBytes (limit : ℕ) (name : List ℕ) (Answers : List ℕ → Answer) (before after : FilesState)
+    (reads : History) (status : ℕ) (text : List ℕ) : Type 0 where
   pub bytes : List ℕ
   pub rest : History
   pub first : reads ≡ (name, bytes) ∷ rest
@@ -29,7 +30,8 @@ pub record AnswersBytes (limit : ℕ) (name : List ℕ) (Answers : List ℕ → 
 
 -- The file of this name alone was read, it has more bytes than the limit, and this is answered. Where the files have
 -- no known map, their count of faults rose.
-pub record AnswersLonger (limit : ℕ) (long : ℕ × List ℕ) (name : List ℕ) (before after : FilesState) (reads : History) (status : ℕ) (text : List ℕ) : Type 0 where
+pub record AnswersLonger (limit : ℕ) (long : ℕ × List ℕ) (name : List ℕ) (before after : FilesState)
+    (reads : History) (status : ℕ) (text : List ℕ) : Type 0 where
   pub bytes : List ℕ
   pub read : reads ≡ (name, bytes) ∷ []
   pub longer : limit < length bytes

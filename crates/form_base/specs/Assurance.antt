@@ -19,7 +19,8 @@ pub record Assured (Assures : History → List ℕ → Type 0) (before after : F
   pub shown : Shown text
 
 -- The file of this name was read first, its bytes say something, and of that this is assured.
-pub record OfDocument {T : Type 0} (Says : T → List ℕ → Type 0) (name : List ℕ) (Assures : T → History → List ℕ → Type 0) (reads : History) (text : List ℕ) : Type 0 where
+pub record OfDocument {T : Type 0} (Says : T → List ℕ → Type 0) (name : List ℕ) (Assures : T → History → List ℕ → Type 0)
+    (reads : History) (text : List ℕ) : Type 0 where
   pub bytes : List ℕ
   pub rest : History
   pub read : reads ≡ (name, bytes) ∷ rest

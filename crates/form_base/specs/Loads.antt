@@ -31,6 +31,7 @@ IsUnloaded Breaks limit long name before after refusal =
     ⊎ ((Grew before after [] ⊎ HasRead limit name (λ (bytes : List ℕ). ⊤) before after) × IsOutOfMemory refusal)
 
 -- What became of loading a file.
-abbrev pub Loads : {T : Type 0} → (T → List ℕ → Type 0) → (ℕ × List ℕ → List ℕ → Type 0) → ℕ → ℕ × List ℕ → List ℕ → FilesState → FilesState → Result T Refusal → Type 0
+abbrev pub Loads : {T : Type 0} → (T → List ℕ → Type 0) → (ℕ × List ℕ → List ℕ → Type 0) → ℕ → ℕ × List ℕ → List ℕ
+    → FilesState → FilesState → Result T Refusal → Type 0
 Loads Says Breaks limit long name before after (Ok value) = HasRead limit name (Says value) before after
 Loads Says Breaks limit long name before after (Err refusal) = IsUnloaded Breaks limit long name before after (told refusal)

@@ -42,7 +42,8 @@ pub fn load<T, D: Document<T>, F: Files>(
     name: &str,
     files: &mut F,
 ) -> Result<T, Refusal>
-    ensures loads { Loads (D.Says document.now) (D.Breaks document.now) (D.limit document.now) (D.long document.now) name.now (F.state files.old) (F.state files.new) result }
+    ensures loads { Loads (D.Says document.now) (D.Breaks document.now) (D.limit document.now) (D.long document.now) name.now
+        (F.state files.old) (F.state files.new) result }
     ensures steady { StaysSteady (F.state files.old) (F.state files.new) name.now }
     ensures unread { IfErr result (λ refusal. (told refusal).0 ≡ UNREAD_FILE → Rose (F.state files.old).faults (F.state files.new).faults) }
 {

@@ -29,7 +29,8 @@ BothHaveNoted m s = (u k : ℕ) → u < 2 → suc k < (s.unit u).release
 pub record FindsBy (spec : Parts) (script : ScriptParts) (s : Pair) (u f : ℕ) : Type 0 where
   pub kernel : (i : ℕ) → i < 20 → (s.unit u).kernel i ≡ word_in (kernel_words spec script f) i
   pub picked : (q : ℕ) → q < length spec.procs → pick (s.proc q).mark f ≡ image_bank_after spec script q f
-  pub held : (q i : ℕ) → q < length spec.procs → i < width_of spec → (s.proc q).bank (image_bank_after spec script q f) i ≡ word_in (image_words_after spec script q f) i
+  pub held : (q i : ℕ) → q < length spec.procs → i < width_of spec
+    → (s.proc q).bank (image_bank_after spec script q f) i ≡ word_in (image_words_after spec script q f) i
 
 -- A processor that may make a frame by the words of a unit finds what is of that frame.
 abbrev pub ProcessorsFind : Parts → ScriptParts → Option UnitHalt → Pair → Type 0
@@ -63,7 +64,8 @@ pub record PairHolds (spec : Parts) (script : ScriptParts) (halt : Option UnitHa
 
 -- It holds in each state of each schedule from each opening, for every halt of one unit.
 abbrev pub PairsHold : Type 0
-PairsHold = (spec : Parts) (script : ScriptParts) → IsSpec spec → Fits spec script → (halt : Option UnitHalt) (first : Pair) (events : List PairEvent) (state : Pair)
+PairsHold = (spec : Parts) (script : ScriptParts) → IsSpec spec → Fits spec script
+    → (halt : Option UnitHalt) (first : Pair) (events : List PairEvent) (state : Pair)
     → IsPairOpening (flight_of spec script) first → IsPairSchedule (flight_of spec script) halt first events state → PairHolds spec script halt state
 
 -- Each state of each schedule has the invariant.

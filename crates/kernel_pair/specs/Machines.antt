@@ -33,9 +33,14 @@ pair_flight k = flight_of k.spec k.script
 abbrev pub pair_in : PairParts → Pair
 pair_in k = pair_of k.state
 
+-- The state of a pair after an event.
+abbrev pub pair_with : PairParts → PairEvent → Pair
+pair_with k event = pair_after (pair_flight k) k.halt (pair_in k) event
+
 -- What a pair keeps: its events are a schedule from the opening that leads to its state, and there is room for every event that can
 -- still come.
-pub record PairKeeps (spec : Parts) (script : ScriptParts) (halt : Option UnitHalt) (state : PairState) (events : List PairEvent) (room count : ℕ) : Type 0 where
+pub record PairKeeps (spec : Parts) (script : ScriptParts) (halt : Option UnitHalt) (state : PairState) (events : List PairEvent)
+    (room count : ℕ) : Type 0 where
   pub facts : IsSpec spec
   pub fits : Fits spec script
   pub replay : IsPairReplay (flight_of spec script) halt events (pair_of state)
@@ -43,7 +48,8 @@ pub record PairKeeps (spec : Parts) (script : ScriptParts) (halt : Option UnitHa
 
 -- A frame comes with the words of its draft, and a store with its word.
 abbrev pub AreEventWords : Flight → Pair → PairEvent → List ℕ → ℕ → Type 0
-AreEventWords m s (Fly p u) draft word = (f : ℕ) → to_make (m.restart p.0) (s.proc p.0).place ≡ Some f → (i : ℕ) → slice_index_or draft i 0 ≡ word_in (m.draft p.0 f) i
+AreEventWords m s (Fly p u) draft word =
+    (f : ℕ) → to_make (m.restart p.0) (s.proc p.0).place ≡ Some f → (i : ℕ) → slice_index_or draft i 0 ≡ word_in (m.draft p.0 f) i
 AreEventWords m s (Store u i) draft word = word ≡ word_in (m.kernel_image (suc (s.unit u).frame)) i
 AreEventWords m s (Note u p) draft word = Unit {0}
 AreEventWords m s (Ready u) draft word = Unit {0}
@@ -56,6 +62,6 @@ pub record IsPairStep (old : PairParts) (event : PairEvent) (new : PairParts) : 
   pub spec : new.spec ≡ old.spec
   pub script : new.script ≡ old.script
   pub halt : new.halt ≡ old.halt
-  pub state : pair_in new ≡ pair_after (pair_flight old) old.halt (pair_in old) event
+  pub state : pair_in new ≡ pair_with old event
   pub events : new.events ≡ old.events ++ event ∷ []
   pub fewer : suc (pair_left (pair_flight new) new.halt (pair_in new)) ≤ pair_left (pair_flight old) old.halt (pair_in old)

@@ -46,6 +46,10 @@ abbrev pub to_make : Option ℕ → Place → Option ℕ
 to_make restart (At f n) = Some f
 to_make restart (Halted h) = restart_past h restart
 
+-- The frame that a processor makes next is one of those below a release word.
+abbrev pub MakesReleased : Option ℕ → Place → ℕ → Type 0
+MakesReleased restart place release = (f : ℕ) × (to_make restart place ≡ Some f) × (f < release)
+
 -- A halt in frame f is one of the flight where it comes after fewer steps than this: all steps of a frame may come before it, but
 -- for the last frame, which ends with the last note.
 abbrev pub halts_below : Flight → ℕ → ℕ
@@ -99,7 +103,7 @@ next_unit m halt s u = next_by m halt u (s.unit u) (s.unit (other_unit u)).ready
 
 -- An event is next of its actor. Of one processor two can be: its frame by the words of either unit.
 abbrev pub IsPairNext : Flight → Option UnitHalt → Pair → PairEvent → Type 0
-IsPairNext m halt s (Fly p u) = (p.0 < m.procs) × (u < 2) × ((f : ℕ) × (to_make (m.restart p.0) (s.proc p.0).place ≡ Some f) × (f < (s.unit u).release))
+IsPairNext m halt s (Fly p u) = (p.0 < m.procs) × (u < 2) × MakesReleased (m.restart p.0) (s.proc p.0).place (s.unit u).release
 IsPairNext m halt s (Note u p) = (u < 2) × (next_unit m halt s u ≡ Some (Note u p))
 IsPairNext m halt s (Store u i) = (u < 2) × (next_unit m halt s u ≡ Some (Store u i))
 IsPairNext m halt s (Ready u) = (u < 2) × (next_unit m halt s u ≡ Some (Ready u))
@@ -123,7 +127,16 @@ next_made m p (Some f) x = frame_made m p f x
 
 -- A unit after a step that changes no word.
 abbrev pub stepped : KernelUnit → KernelUnit
-stepped x = record { frame = x.frame; step = suc x.step; stopped = x.stopped; release = x.release; ready = x.ready; kernel = x.kernel; marks = x.marks; images = x.images }
+stepped x = record {
+  frame = x.frame;
+  step = suc x.step;
+  stopped = x.stopped;
+  release = x.release;
+  ready = x.ready;
+  kernel = x.kernel;
+  marks = x.marks;
+  images = x.images;
+}
 
 -- A unit after its note of processor p, which is y: it has the mark, and the words of the bank that this names.
 abbrev pub noted : ℕ → Processor → KernelUnit → KernelUnit
@@ -153,15 +166,42 @@ stored m i x = record {
 
 -- A unit that says that it is ready.
 abbrev pub readied : KernelUnit → KernelUnit
-readied x = record { frame = x.frame; step = suc x.step; stopped = x.stopped; release = x.release; ready = 2 * suc x.frame; kernel = x.kernel; marks = x.marks; images = x.images }
+readied x = record {
+  frame = x.frame;
+  step = suc x.step;
+  stopped = x.stopped;
+  release = x.release;
+  ready = 2 * suc x.frame;
+  kernel = x.kernel;
+  marks = x.marks;
+  images = x.images;
+}
 
 -- A unit that has released the next frame, at whose begin it then stands.
 abbrev pub released : KernelUnit → KernelUnit
-released x = record { frame = suc x.frame; step = 0; stopped = x.stopped; release = suc (suc x.frame); ready = x.ready; kernel = x.kernel; marks = x.marks; images = x.images }
+released x = record {
+  frame = suc x.frame;
+  step = 0;
+  stopped = x.stopped;
+  release = suc (suc x.frame);
+  ready = x.ready;
+  kernel = x.kernel;
+  marks = x.marks;
+  images = x.images;
+}
 
 -- A unit that has halted, by a halt in frame t.
 abbrev pub halted_unit : ℕ → KernelUnit → KernelUnit
-halted_unit t x = record { frame = x.frame; step = x.step; stopped = Some t; release = x.release; ready = 2 * t + 1; kernel = x.kernel; marks = x.marks; images = x.images }
+halted_unit t x = record {
+  frame = x.frame;
+  step = x.step;
+  stopped = Some t;
+  release = x.release;
+  ready = 2 * t + 1;
+  kernel = x.kernel;
+  marks = x.marks;
+  images = x.images;
+}
 
 -- A family with another member at place i.
 abbrev pub with_at : {A : Type 0} → (ℕ → A) → ℕ → A → ℕ → A

@@ -10,15 +10,23 @@ use Rattle.kernel_pair.specs.declared.processors.ProcessorState.{ProcessorState}
 use Rattle.kernel_pair.specs.declared.units.UnitState.{UnitState}
 use Rattle.kernel_pair.specs.declared.states.PairState.{PairState}
 use Rattle.kernel_pair.specs.Pairs.{Processor, KernelUnit, Pair}
+use Rattle.kernel_pair.specs.declared.setups.Setup.{Setup}
+use Rattle.fail_stop.specs.ScriptFlights.{flight_of}
+use Rattle.fail_stop.specs.Flights.{Flight}
+use Rattle.bank_words.specs.Marks.{pick}
 
 -- The place where a processor stands.
 abbrev pub stand_place : Stand → Place
 stand_place (stand.Before f) = At f 0
 stand_place (stand.Halted h) = Halted h
 
+-- Word i of bank b.
+abbrev pub bank_word : List (List ℕ) → ℕ → ℕ → ℕ
+bank_word banks b i = slice_index_or (slice_index_or banks b []) i 0
+
 -- The processor of the machine.
 abbrev pub processor_of : ProcessorState → Processor
-processor_of x = record { place = stand_place x.stand; mark = x.mark; end = x.end; bank = λ b i. slice_index_or (slice_index_or x.banks b []) i 0 }
+processor_of x = record { place = stand_place x.stand; mark = x.mark; end = x.end; bank = λ b i. bank_word x.banks b i }
 
 -- The unit of the machine.
 abbrev pub unit_of : UnitState → KernelUnit
@@ -48,3 +56,16 @@ pair_of s = record { proc = λ p. processor_of (slice_index_or s.procs p blank_p
 -- Word i of the image that these words hold; 0 past the words of the specification.
 abbrev pub word_decoded : Parts → List ℕ → ℕ → ℤ
 word_decoded spec words i = if nat_lt i (width_of spec) then decode (slice_index_or words i 0) else pos 0
+
+-- The flight of a setup.
+abbrev pub flight_by : Setup → Flight
+flight_by setup = flight_of setup.spec.now setup.script.now
+
+-- The end word of processor p.
+abbrev pub end_word_in : List ProcessorState → ℕ → ℕ
+end_word_in procs p = (processor_of (slice_index_or procs p blank_processor)).end
+
+-- Word i of the image of processor q that is seen as a frame begins.
+abbrev pub word_seen : Parts → List ProcessorState → ℕ → ℕ → ℕ → ℤ
+word_seen spec procs q frame i =
+    let x = slice_index_or procs q blank_processor in word_decoded spec (slice_index_or x.banks (pick x.mark frame) []) i

@@ -4,7 +4,7 @@
 
 mod cores;
 pub mod events;
-mod flights;
+mod drafts;
 pub mod law;
 mod logs;
 mod machines;

@@ -1,14 +1,15 @@
 //! An event that is next of its actor is made; a pair is over.
 
-ghost use Rattle.std.specs.Prelude.{◌≡◌, ℕ, suc, ◌<◌, ◌≤◌, ◌+◌, ◌*◌, ◌^◌, length, slice_index_or, Some, None, IsTrue, ◌↔◌};
+ghost use Rattle.std.specs.Prelude.{◌≡◌, ◌<◌, ◌≤◌, ◌+◌, ◌*◌, ◌^◌, Some, None, IsTrue, ◌↔◌};
 ghost use Rattle.scram_types.specs.Specification.{IsSpec};
 ghost use Rattle.fault_script.specs.Fits.{Fits};
 ghost use Rattle.fail_stop.specs.ScriptFlights.{flight_of};
 ghost use Rattle.kernel_pair.specs.Kept.{PairKept};
 ghost use Rattle.kernel_pair.specs.Machines.{AreEventWords};
 ghost use Rattle.kernel_pair.specs.Pairs.{IsAtEnd, IsPairNext, halt_frame, pair_after};
-ghost use Rattle.kernel_pair.specs.States.{pair_of, unit_of};
+ghost use Rattle.kernel_pair.specs.States.{flight_by, pair_of, unit_of};
 ghost use Rattle.kernel_pair.specs.declared.events.PairEvent.TheVariants.{Fly};
+ghost use Rattle.kernel_pair.specs.declared.setups.Setup.{Setup};
 
 use crate::events::{PairEvent, UnitHalt};
 use crate::nexts::frame_of;
@@ -27,10 +28,10 @@ pub(crate) fn make(
 )
     requires facts { IsSpec setup.now.spec.now }
     requires fits { Fits setup.now.spec.now setup.now.script.now }
-    requires kept { PairKept (flight_of setup.now.spec.now setup.now.script.now) setup.now.halt (pair_of state.old) }
-    requires next { IsPairNext (flight_of setup.now.spec.now setup.now.script.now) setup.now.halt (pair_of state.old) event }
-    requires words { AreEventWords (flight_of setup.now.spec.now setup.now.script.now) (pair_of state.old) event draft.now word }
-    ensures { pair_of state.new ≡ pair_after (flight_of setup.now.spec.now setup.now.script.now) setup.now.halt (pair_of state.old) event }
+    requires kept { PairKept (flight_by setup.now) setup.now.halt (pair_of state.old) }
+    requires next { IsPairNext (flight_by setup.now) setup.now.halt (pair_of state.old) event }
+    requires words { AreEventWords (flight_by setup.now) (pair_of state.old) event draft.now word }
+    ensures { pair_of state.new ≡ pair_after (flight_by setup.now) setup.now.halt (pair_of state.old) event }
 {
     match event {
         PairEvent::Fly(p, u) => make_frame(setup, state, p, u, draft),
@@ -47,10 +48,10 @@ pub(crate) fn make(
 fn make_frame(setup: &Setup, state: &mut PairState, p: ProcId, u: u8, draft: &[u64; 64])
     requires facts { IsSpec setup.now.spec.now }
     requires fits { Fits setup.now.spec.now setup.now.script.now }
-    requires kept { PairKept (flight_of setup.now.spec.now setup.now.script.now) setup.now.halt (pair_of state.old) }
-    requires next { IsPairNext (flight_of setup.now.spec.now setup.now.script.now) setup.now.halt (pair_of state.old) (Fly p u) }
-    requires words { AreEventWords (flight_of setup.now.spec.now setup.now.script.now) (pair_of state.old) (Fly p u) draft.now 0 }
-    ensures { pair_of state.new ≡ pair_after (flight_of setup.now.spec.now setup.now.script.now) setup.now.halt (pair_of state.old) (Fly p u) }
+    requires kept { PairKept (flight_by setup.now) setup.now.halt (pair_of state.old) }
+    requires next { IsPairNext (flight_by setup.now) setup.now.halt (pair_of state.old) (Fly p u) }
+    requires words { AreEventWords (flight_by setup.now) (pair_of state.old) (Fly p u) draft.now 0 }
+    ensures { pair_of state.new ≡ pair_after (flight_by setup.now) setup.now.halt (pair_of state.old) (Fly p u) }
 {
     let _unit = u;
     if let Some(frame) = frame_of(setup.script, state, p) {

@@ -1,13 +1,13 @@
 //! Which events are next.
 
-ghost use Rattle.std.specs.Prelude.{◌≡◌, ℕ, ◌<◌, ◌≤◌, ◌+◌, ◌^◌, length, List, [], nat_lt, ◌&&◌, if◌then◌else◌, Some, None, IsTrue, ◌↔◌};
+ghost use Rattle.std.specs.Prelude.{◌≡◌, ℕ, ◌<◌, ◌≤◌, ◌+◌, ◌^◌, length, [], nat_lt, ◌&&◌, if◌then◌else◌, Some, None, IsTrue, ◌↔◌};
 ghost use Rattle.scram_types.specs.Lookups.{proc_id};
 ghost use Rattle.fault_script.specs.Times.{restart_of};
 ghost use Rattle.fail_stop.specs.Events.{may_note};
-ghost use Rattle.fail_stop.specs.ScriptFlights.{flight_of};
-ghost use Rattle.kernel_pair.specs.Pairs.{IsPairNext, halts_below, is_at_halt, may_meet, next_unit, plan_noted, plan_unit, restart_past, stops_at, to_make};
-ghost use Rattle.kernel_pair.specs.States.{pair_of, stand_place};
+ghost use Rattle.kernel_pair.specs.Pairs.{IsPairNext, MakesReleased, halts_below, is_at_halt, may_meet, next_unit, plan_noted, plan_unit, restart_past, stops_at, to_make};
+ghost use Rattle.kernel_pair.specs.States.{end_word_in, flight_by, pair_of, stand_place};
 ghost use Rattle.kernel_pair.specs.declared.events.PairEvent.TheVariants.{Fly, Note};
+ghost use Rattle.kernel_pair.specs.declared.setups.Setup.{Setup};
 
 use crate::events::{PairEvent, UnitHalt};
 use crate::processors::{ProcessorState, Stand};
@@ -20,7 +20,7 @@ use scram_types::{ProcId, Script};
 
 /// Returns whether an event is next of its actor, whatever numbers it has.
 pub(crate) fn is_next(setup: &Setup, state: &PairState, event: PairEvent) -> bool
-    ensures { IsTrue result ↔ IsPairNext (flight_of setup.now.spec.now setup.now.script.now) setup.now.halt (pair_of state.now) event }
+    ensures { IsTrue result ↔ IsPairNext (flight_by setup.now) setup.now.halt (pair_of state.now) event }
 {
     match event {
         PairEvent::Fly(p, u) => is_fly_next(setup, state, p, u),
@@ -34,7 +34,7 @@ pub(crate) fn is_next(setup: &Setup, state: &PairState, event: PairEvent) -> boo
 }
 
 fn is_fly_next(setup: &Setup, state: &PairState, p: ProcId, u: u8) -> bool
-    ensures { IsTrue result ↔ IsPairNext (flight_of setup.now.spec.now setup.now.script.now) setup.now.halt (pair_of state.now) (Fly p u) }
+    ensures { IsTrue result ↔ IsPairNext (flight_by setup.now) setup.now.halt (pair_of state.now) (Fly p u) }
 {
     let spec = setup.spec;
     let procs = spec.procs.items().len();
@@ -44,7 +44,7 @@ fn is_fly_next(setup: &Setup, state: &PairState, p: ProcId, u: u8) -> bool
 fn may_fly(script: &Script, state: &PairState, p: ProcId, u: u8) -> bool
     requires p { p.0 < 8 }
     requires u { u < 2 }
-    ensures { IsTrue result ↔ ((f : ℕ) × (to_make (restart_of script.now p.0) ((pair_of state.now).proc p.0).place ≡ Some f) × (f < ((pair_of state.now).unit u).release)) }
+    ensures { IsTrue result ↔ MakesReleased (restart_of script.now p.0) ((pair_of state.now).proc p.0).place ((pair_of state.now).unit u).release }
 {
     is_below(frame_of(script, state, p), release_of(state, u))
 }
@@ -92,7 +92,7 @@ fn is_below(frame: Option<u32>, release: u64) -> bool
 }
 
 fn is_unit_next(setup: &Setup, state: &PairState, u: u8, event: PairEvent) -> bool
-    ensures { IsTrue result ↔ ((u < 2) × (next_unit (flight_of setup.now.spec.now setup.now.script.now) setup.now.halt (pair_of state.now) u ≡ Some event)) }
+    ensures { IsTrue result ↔ ((u < 2) × (next_unit (flight_by setup.now) setup.now.halt (pair_of state.now) u ≡ Some event)) }
 {
     u < 2 && is_event(next_unit(setup, state, u), event)
 }
@@ -106,7 +106,7 @@ fn is_event(next: Option<PairEvent>, event: PairEvent) -> bool
 /// Returns the next event of a unit.
 pub(crate) fn next_unit(setup: &Setup, state: &PairState, u: u8) -> Option<PairEvent>
     requires { u < 2 }
-    ensures { result ≡ next_unit (flight_of setup.now.spec.now setup.now.script.now) setup.now.halt (pair_of state.now) u }
+    ensures { result ≡ next_unit (flight_by setup.now) setup.now.halt (pair_of state.now) u }
 {
     let x = &state.units[usize::from(u)];
     let ready = state.units[usize::from(1 - u)].ready;
@@ -123,7 +123,7 @@ pub(crate) fn next_unit(setup: &Setup, state: &PairState, u: u8) -> Option<PairE
 }
 
 fn stops_at(setup: &Setup, u: u8, frame: u32, step: u8) -> bool
-    ensures { result ≡ stops_at (flight_of setup.now.spec.now setup.now.script.now) setup.now.halt u frame step }
+    ensures { result ≡ stops_at (flight_by setup.now) setup.now.halt u frame step }
 {
     let script = setup.script;
     match setup.halt {
@@ -136,13 +136,13 @@ fn stops_at(setup: &Setup, u: u8, frame: u32, step: u8) -> bool
 
 // Returns whether the halt is one of the flight, and the unit has made just its steps.
 fn is_halt_here(setup: &Setup, halt: UnitHalt, frame: u32, step: u8) -> bool
-    ensures { result ≡ (nat_lt halt.step (halts_below (flight_of setup.now.spec.now setup.now.script.now) halt.frame) && is_at_halt (flight_of setup.now.spec.now setup.now.script.now) halt frame step) }
+    ensures { result ≡ (nat_lt halt.step (halts_below (flight_by setup.now) halt.frame) && is_at_halt (flight_by setup.now) halt frame step) }
 {
     u64::from(halt.step) < halts_below(setup, halt.frame) && is_at_halt(setup, halt, frame, step)
 }
 
 fn halts_below(setup: &Setup, frame: u32) -> u64
-    ensures { result ≡ halts_below (flight_of setup.now.spec.now setup.now.script.now) frame }
+    ensures { result ≡ halts_below (flight_by setup.now) frame }
 {
     let Setup { spec, script, .. } = *setup;
     let procs = spec.procs.items().len() as u64;
@@ -154,7 +154,7 @@ fn halts_below(setup: &Setup, frame: u32) -> u64
 }
 
 fn is_at_halt(setup: &Setup, halt: UnitHalt, frame: u32, step: u8) -> bool
-    ensures { result ≡ is_at_halt (flight_of setup.now.spec.now setup.now.script.now) halt frame step }
+    ensures { result ≡ is_at_halt (flight_by setup.now) halt frame step }
 {
     let spec = setup.spec;
     let whole = spec.procs.items().len() as u64 + 23;
@@ -170,7 +170,7 @@ fn plan_unit(
     x: &UnitState,
     ready: u64,
 ) -> Option<PairEvent>
-    ensures { result ≡ plan_unit (flight_of setup.now.spec.now setup.now.script.now) u x.now.frame x.now.step ready (λ p. ((pair_of record { procs = procs.now; units = [] }).proc p).end) }
+    ensures { result ≡ plan_unit (flight_by setup.now) u x.now.frame x.now.step ready (λ p. end_word_in procs.now p) }
 {
     let Setup { spec, script, .. } = *setup;
     let count = spec.procs.items().len();
@@ -185,7 +185,8 @@ fn plan_unit(
 
 fn next_note(setup: &Setup, procs: &[ProcessorState; 8], u: u8, x: &UnitState) -> Option<PairEvent>
     requires { x.now.step < 8 }
-    ensures { result ≡ (if may_note (flight_of setup.now.spec.now setup.now.script.now) x.now.step x.now.frame ((pair_of record { procs = procs.now; units = [] }).proc x.now.step).end then Some (Note u (proc_id x.now.step)) else None) }
+    ensures { result ≡ (if may_note (flight_by setup.now) x.now.step x.now.frame (end_word_in procs.now x.now.step)
+        then Some (Note u (proc_id x.now.step)) else None) }
 {
     if may_note(setup, x.step, x.frame, end_of(procs, x.step)) {
         Some(PairEvent::Note(u, ProcId(x.step)))
@@ -195,21 +196,21 @@ fn next_note(setup: &Setup, procs: &[ProcessorState; 8], u: u8, x: &UnitState) -
 }
 
 fn may_note(setup: &Setup, p: u8, frame: u32, end: u64) -> bool
-    ensures { result ≡ may_note (flight_of setup.now.spec.now setup.now.script.now) p frame end }
+    ensures { result ≡ may_note (flight_by setup.now) p frame end }
 {
     notes::may_note(restart_of(setup.script, ProcId(p)), frame, end)
 }
 
 fn end_of(procs: &[ProcessorState; 8], p: u8) -> u64
     requires { p < 8 }
-    ensures { result ≡ ((pair_of record { procs = procs.now; units = [] }).proc p).end }
+    ensures { result ≡ end_word_in procs.now p }
 {
     procs[usize::from(p)].end
 }
 
 fn plan_noted(setup: &Setup, u: u8, frame: u32, step: u8, ready: u64) -> Option<PairEvent>
     requires { length setup.now.spec.now.procs ≤ step }
-    ensures { result ≡ plan_noted (flight_of setup.now.spec.now setup.now.script.now) u frame step ready }
+    ensures { result ≡ plan_noted (flight_by setup.now) u frame step ready }
 {
     let spec = setup.spec;
     let procs = spec.procs.items().len() as u64;

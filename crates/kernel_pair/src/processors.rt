@@ -1,12 +1,13 @@
 //! A processor between its frames, and what a frame does to it.
 
-ghost use Rattle.std.specs.Prelude.{◌≡◌, ℕ, suc, ◌<◌, ◌≤◌, ◌+◌, ◌-◌, ◌*◌, ◌%◌, ◌^◌, length, option_map, if◌then◌else◌, nat_eq, nat_lt, slice_index_or, List, [], ◌∷◌, ◌&&◌};
+ghost use Rattle.std.specs.Prelude.{◌≡◌, ℕ, suc, ◌<◌, ◌≤◌, ◌+◌, ◌-◌, ◌*◌, ◌%◌, ◌^◌, length, option_map, if◌then◌else◌, nat_eq, nat_lt, slice_index_or, [], ◌∷◌, ◌&&◌};
 ghost use Rattle.scram_types.specs.declared.scripts.HaltAt.{HaltAt};
 ghost use Rattle.fail_stop.specs.Events.{after_frame};
 ghost use Rattle.fail_stop.specs.Flights.{end_word_after, reaches_mark, stores_by, word_in};
-ghost use Rattle.fail_stop.specs.ScriptFlights.{draft_words, flight_of};
+ghost use Rattle.fail_stop.specs.ScriptFlights.{draft_words};
 ghost use Rattle.kernel_pair.specs.Pairs.{frame_made};
-ghost use Rattle.kernel_pair.specs.States.{stand_place, processor_of};
+ghost use Rattle.kernel_pair.specs.States.{bank_word, flight_by, processor_of, stand_place};
+ghost use Rattle.kernel_pair.specs.declared.setups.Setup.{Setup};
 
 use crate::setups::Setup;
 use bank_words::words;
@@ -36,7 +37,7 @@ impl ProcessorState {
         requires narrow { 8 * length setup.now.spec.now.apps ≤ 64 }
         requires frame { frame + 1 < 2 ^ 32 }
         requires draft { (i : ℕ) → slice_index_or draft.now i 0 ≡ word_in (draft_words setup.now.spec.now setup.now.script.now p.0 frame) i }
-        ensures { processor_of self.new ≡ frame_made (flight_of setup.now.spec.now setup.now.script.now) p.0 frame (processor_of self.old) }
+        ensures { processor_of self.new ≡ frame_made (flight_by setup.now) p.0 frame (processor_of self.old) }
     {
         let halt = halt_in(setup.script, p, frame);
         let width = words(setup.spec);
@@ -105,7 +106,7 @@ fn mark_made(width: u32, frame: u32, halt: Option<HaltAt>, mark: u64) -> u64
 fn lay_on(banks: &mut [[u64; 64]; 2], side: usize, draft: &[u64; 64], count: u32)
     requires count { count ≤ 64 }
     requires side { side < 2 }
-    ensures { (b i : ℕ) → slice_index_or (slice_index_or banks.new b []) i 0 ≡ (if nat_eq b side && nat_lt i count then slice_index_or draft.now i 0 else slice_index_or (slice_index_or banks.old b []) i 0) }
+    ensures { (b i : ℕ) → bank_word banks.new b i ≡ (if nat_eq b side && nat_lt i count then slice_index_or draft.now i 0 else bank_word banks.old b i) }
 {
     lay(&mut banks[side], draft, count);
 }

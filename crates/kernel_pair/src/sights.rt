@@ -1,6 +1,6 @@
 //! What is read of the words: the snapshot of a processor that makes a frame, and what a unit has noted.
 
-ghost use Rattle.std.specs.Prelude.{◌≡◌, ℕ, ◌<◌, ◌≤◌, length, Some, List, [], pos, slice_index_or};
+ghost use Rattle.std.specs.Prelude.{◌≡◌, ℕ, ◌<◌, ◌≤◌, length, [], pos, slice_index_or};
 ghost use Rattle.scram_types.specs.Specification.{IsSpec};
 ghost use Rattle.bank_words.specs.Marks.{pick};
 ghost use Rattle.fault_script.specs.Fits.{Fits};
@@ -9,7 +9,7 @@ ghost use Rattle.fail_stop.specs.Drafts.{IsSnapshot};
 ghost use Rattle.fail_stop.specs.Flights.{word_in};
 ghost use Rattle.fail_stop.specs.ScriptFlights.{image_words};
 ghost use Rattle.kernel_pair.specs.Laws.{FindsBy};
-ghost use Rattle.kernel_pair.specs.States.{blank_processor, blank_unit, pair_of, word_decoded};
+ghost use Rattle.kernel_pair.specs.States.{blank_unit, pair_of, word_decoded, word_seen};
 
 use crate::processors::ProcessorState;
 use crate::states::PairState;
@@ -66,7 +66,7 @@ fn copied(words: &[u64; 20]) -> [u64; 20]
 
 // Returns the images of the processors that a reader in a frame finds.
 fn images_picked(spec: &Spec, procs: &[ProcessorState; 8], frame: u32) -> [Image; 8]
-    ensures words { (q : ℕ) → q < 8 → (i : ℕ) → i < 64 → slice_index_or (image_in result q) i (pos 0) ≡ word_decoded spec.now (slice_index_or (slice_index_or procs.now q blank_processor).banks (pick (slice_index_or procs.now q blank_processor).mark frame) []) i }
+    ensures words { (q : ℕ) → q < 8 → (i : ℕ) → i < 64 → slice_index_or (image_in result q) i (pos 0) ≡ word_seen spec.now procs.now q frame i }
     ensures long { (q : ℕ) → q < 8 → length (image_in result q) ≡ 64 }
 {
     [
@@ -83,7 +83,7 @@ fn images_picked(spec: &Spec, procs: &[ProcessorState; 8], frame: u32) -> [Image
 
 fn image_picked(spec: &Spec, procs: &[ProcessorState; 8], q: usize, frame: u32) -> Image
     requires { q < 8 }
-    ensures words { (i : ℕ) → i < 64 → slice_index_or result i (pos 0) ≡ word_decoded spec.now (slice_index_or (slice_index_or procs.now q blank_processor).banks (pick (slice_index_or procs.now q blank_processor).mark frame) []) i }
+    ensures words { (i : ℕ) → i < 64 → slice_index_or result i (pos 0) ≡ word_seen spec.now procs.now q frame i }
     ensures long { length result ≡ 64 }
 {
     let y = &procs[q];
@@ -92,7 +92,8 @@ fn image_picked(spec: &Spec, procs: &[ProcessorState; 8], q: usize, frame: u32) 
 
 /// Returns the images of which a unit has noted these words.
 pub(crate) fn images_decoded(spec: &Spec, images: &[[u64; 64]; 8]) -> [Image; 8]
-    ensures words { (p : ℕ) → p < 8 → (i : ℕ) → i < 64 → slice_index_or (image_in result p) i (pos 0) ≡ word_decoded spec.now (slice_index_or images.now p []) i }
+    ensures words { (p : ℕ) → p < 8 → (i : ℕ) → i < 64
+        → slice_index_or (image_in result p) i (pos 0) ≡ word_decoded spec.now (slice_index_or images.now p []) i }
     ensures long { (p : ℕ) → p < 8 → length (image_in result p) ≡ 64 }
 {
     [

@@ -15,9 +15,10 @@ pub struct PairState {
 impl PairState {
     ghost use Rattle.std.specs.Prelude.{◌≡◌, ℕ, suc, ◌<◌, ◌≤◌, ◌+◌, ◌*◌, ◌^◌, length, slice_index_or};
     ghost use Rattle.fail_stop.specs.Flights.{Flight, word_in};
-    ghost use Rattle.fail_stop.specs.ScriptFlights.{draft_words, flight_of};
+    ghost use Rattle.fail_stop.specs.ScriptFlights.{draft_words};
     ghost use Rattle.kernel_pair.specs.Pairs.{frame_made, noted, readied, released, stepped, stored, halted_unit, with_proc, with_unit};
-    ghost use Rattle.kernel_pair.specs.States.{pair_of};
+    ghost use Rattle.kernel_pair.specs.States.{flight_by, pair_of};
+    ghost use Rattle.kernel_pair.specs.declared.setups.Setup.{Setup};
 
     /// Processor `p` makes this frame, with the words of this draft.
     #[tactic(auto, using(crate::proofs::Setting::processor_with))]
@@ -26,7 +27,7 @@ impl PairState {
         requires narrow { 8 * length setup.now.spec.now.apps ≤ 64 }
         requires frame { frame + 1 < 2 ^ 32 }
         requires draft { (i : ℕ) → slice_index_or draft.now i 0 ≡ word_in (draft_words setup.now.spec.now setup.now.script.now p.0 frame) i }
-        ensures { pair_of self.new ≡ with_proc (pair_of self.old) p.0 (frame_made (flight_of setup.now.spec.now setup.now.script.now) p.0 frame ((pair_of self.old).proc p.0)) }
+        ensures { pair_of self.new ≡ with_proc (pair_of self.old) p.0 (frame_made (flight_by setup.now) p.0 frame ((pair_of self.old).proc p.0)) }
     {
         self.procs[usize::from(p.0)].fly(setup, p, frame, draft);
     }
@@ -46,7 +47,8 @@ impl PairState {
         requires u { u < 2 }
         requires step { ((pair_of self.old).unit u).step < 255 }
         requires i { i < 20 }
-        ensures { (m : Flight) → word ≡ word_in (m.kernel_image (suc ((pair_of self.old).unit u).frame)) i → pair_of self.new ≡ with_unit (pair_of self.old) u (stored m i ((pair_of self.old).unit u)) }
+        ensures { (m : Flight) → word ≡ word_in (m.kernel_image (suc ((pair_of self.old).unit u).frame)) i
+            → pair_of self.new ≡ with_unit (pair_of self.old) u (stored m i ((pair_of self.old).unit u)) }
     {
         self.units[usize::from(u)].store(i, word);
     }

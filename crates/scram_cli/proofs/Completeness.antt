@@ -20,7 +20,7 @@ use Rattle.form_base.specs.declared.status.TheConstants.{ANSWERED, UNWRITTEN_OUT
 use Rattle.form_base.specs.Answers.{Answer, AnswersBytes, AnswersDocument, AnswersFile, AnswersLonger, AnswersUnread, Gives, WithoutFiles}
 use Rattle.form_base.specs.Endings.{AreInTurn, AreThere, HasRoom, IsMemoryRefusal, StoppedIn, WentOut}
 use Rattle.form_base.specs.Specifications.{BreaksSpecification, SaysSpecification, long_specification}
-use Rattle.flight_forms.specs.declared.flights.FlightText.TheVariants.{Trace}
+use Rattle.flight_forms.specs.declared.runs.FlightText.TheVariants.{Trace}
 use Rattle.flight_forms.specs.Answers.{RunAnswers, ScriptAnswers}
 use Rattle.flight_forms.specs.Documents.{AsksScript, BreaksScript, SaysScript, long_script}
 use Rattle.flight_forms.specs.Missions.{UnlessRefused, mission_refusal, refusal_by, script_refusal}

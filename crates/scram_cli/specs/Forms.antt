@@ -43,7 +43,11 @@ form_of_four command specification script schedule = if bytes_eq command (codes 
 -- The halt of unit 0 or 1 in a frame up to 19,999 after up to 31 steps, which three words have in decimal.
 abbrev pub unit_halt : List ℕ → List ℕ → List ℕ → Option UnitHalt
 unit_halt unit frame step =
-    option_and_then (λ (unit : ℕ). option_and_then (λ (frame : ℕ). option_map (λ (step : ℕ). record { unit = unit; frame = frame; step = step }) (spelled_number 32 step)) (spelled_number 20000 frame)) (spelled_number 2 unit)
+    option_and_then
+    (λ (unit : ℕ). option_and_then
+        (λ (frame : ℕ). option_map (λ (step : ℕ). record { unit = unit; frame = frame; step = step }) (spelled_number 32 step))
+        (spelled_number 20000 frame))
+    (spelled_number 2 unit)
 
 -- The form of six words, if they have one.
 abbrev pub form_of_six : List ℕ → List ℕ → List ℕ → List ℕ → List ℕ → List ℕ → Option (Form (List ℕ))

@@ -11,7 +11,7 @@ use Rattle.frame_model.specs.Flights.{reports_of, rows_of}
 use Rattle.trace_text.specs.Text.{text_of}
 use Rattle.trace_text.specs.TraceReading.{trace_of}
 use Rattle.form_base.specs.declared.status.TheConstants.{ANSWERED, OUT_OF_MEMORY}
-use Rattle.flight_forms.specs.declared.flights.FlightText.TheVariants.{Trace}
+use Rattle.flight_forms.specs.declared.runs.FlightText.TheVariants.{Trace}
 use Rattle.form_base.specs.Refusals.{memory_line}
 use Rattle.flight_forms.specs.Texts.{flight_text}
 use Rattle.scram_cli.specs.Answers.{FormAnswers}

@@ -198,7 +198,8 @@ fn form_of_six<'a>(
     files: (&'a str, &'a str),
     halt: (&str, &str, &str),
 ) -> Option<Form<&'a str>>
-    ensures { option_map (with_names (λ name. name.now)) result ≡ form_of_six command.now files.entry.0.now files.entry.1.now halt.entry.0.now halt.entry.1.now halt.entry.2.now }
+    ensures { option_map (with_names (λ name. name.now)) result
+        ≡ form_of_six command.now files.entry.0.now files.entry.1.now halt.entry.0.now halt.entry.1.now halt.entry.2.now }
 {
     if command == "pair" {
         let halt = unit_halt(halt.0, halt.1, halt.2)?;

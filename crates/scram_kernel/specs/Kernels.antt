@@ -30,7 +30,8 @@ rows_below spec script f = listed_below (row_at spec script) f
 
 -- What stands in a kernel after f frames is what the script makes of them: the image of frame f, the areas, the reading
 -- of the rows so far, these rows, and the reports of reconfigurations that ended in them.
-pub record Stands (spec : Parts) (script : ScriptParts) (f : ℕ) (image : KernelImage) (areas : List (List ℤ)) (reading : Reading) (rows : List Row) (reports : List Report) : Type 0 where
+pub record Stands (spec : Parts) (script : ScriptParts) (f : ℕ) (image : KernelImage) (areas : List (List ℤ))
+    (reading : Reading) (rows : List Row) (reports : List Report) : Type 0 where
   pub image_is : image ≡ kernel_image spec script f
   pub areas_are : areas ≡ (state_after spec script f).areas
   pub rows_are : rows ≡ rows_below spec script f
@@ -47,7 +48,8 @@ pub record HasRoomForFlight (frames f room_of_rows room_of_reports count_of_rows
 
 -- What a kernel keeps. Its image is that of the frame that is running, at which its walk stands, so it gives how many
 -- frames have ended.
-pub record KernelKeeps (spec : Parts) (script : ScriptParts) (walk : Walk) (image : KernelImage) (areas : List (List ℤ)) (reading : Reading) (rows : List Row) (reports : List Report) (room_of_rows room_of_reports count_of_rows count_of_reports : ℕ) : Type 0 where
+pub record KernelKeeps (spec : Parts) (script : ScriptParts) (walk : Walk) (image : KernelImage) (areas : List (List ℤ))
+    (reading : Reading) (rows : List Row) (reports : List Report) (room_of_rows room_of_reports count_of_rows count_of_reports : ℕ) : Type 0 where
   pub facts : IsSpec spec
   pub fits : Fits spec script
   pub walk_is : IsWalk spec script walk.frame walk

@@ -32,7 +32,8 @@ impl<'a> std::marker::Model for Kernel<'a> {
 
     ghost view = { λ k. kernel_after k.spec.now k.script.now k.image.frame };
 
-    ghost invariant = { λ k. KernelKeeps k.spec.now k.script.now k.walk k.image k.areas k.reading k.rows.items k.reports.items (vec_capacity k.rows) (vec_capacity k.reports) (vec_len k.rows) (vec_len k.reports) };
+    ghost invariant = { λ k. KernelKeeps k.spec.now k.script.now k.walk k.image k.areas k.reading
+        k.rows.items k.reports.items (vec_capacity k.rows) (vec_capacity k.reports) (vec_len k.rows) (vec_len k.reports) };
 }
 
 impl<'a> Kernel<'a> {

@@ -27,7 +27,8 @@ pub fn check<F: Files, K: Sink>(
     files: &mut F,
     out: &mut K,
 ) -> Status
-    ensures { Ends (CheckAnswers specification.now) (specification.now ∷ []) (F.state files.old) (F.state files.new) (IsTaken (K.state out.old) (K.state out.new) result.code) }
+    ensures { Ends (CheckAnswers specification.now) (specification.now ∷ [])
+        (F.state files.old) (F.state files.new) (IsTaken (K.state out.old) (K.state out.new) result.code) }
 {
     match read_line(alloc, specification, files) {
         Ok(line) => tell(out, ANSWERED, line.as_bytes()),
@@ -37,7 +38,8 @@ pub fn check<F: Files, K: Sink>(
 
 /// Reads the specification; the line says that it is accepted.
 fn read_line<F: Files>(alloc: Global, specification: &str, files: &mut F) -> Result<Line, Refusal>
-    ensures { Prepares (CheckAnswers specification.now) (λ (line : List ℕ). Gives (ANSWERED, line)) (specification.now ∷ []) (F.state files.old) (F.state files.new) result }
+    ensures { Prepares (CheckAnswers specification.now) (λ (line : List ℕ). Gives (ANSWERED, line)) (specification.now ∷ [])
+        (F.state files.old) (F.state files.new) result }
 {
     match load(alloc, &Specification, specification, files) {
         Ok(spec) => accepted_line_of(alloc, spec),

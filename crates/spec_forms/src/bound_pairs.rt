@@ -38,7 +38,8 @@ pub fn bounds<F: Files, K: Sink>(
     files: &mut F,
     out: &mut K,
 ) -> Status
-    ensures { Ends (BoundsAnswers specification.now) (specification.now ∷ []) (F.state files.old) (F.state files.new) (IsTaken (K.state out.old) (K.state out.new) result.code) }
+    ensures { Ends (BoundsAnswers specification.now) (specification.now ∷ [])
+        (F.state files.old) (F.state files.new) (IsTaken (K.state out.old) (K.state out.new) result.code) }
 {
     match read_asked(alloc, specification, files) {
         Ok(asked) => {

@@ -5,9 +5,9 @@
 //! autopilots' places were called.
 #![tactic(auto)]
 
-mod flights;
+mod beside;
 
-use crate::flights::start;
+use crate::beside::start;
 use racks::{Autopilot, rack};
 use std::io;
 use test_kit::{Counted, Counters};

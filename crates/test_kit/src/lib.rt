@@ -6,7 +6,7 @@
 
 pub mod boxes;
 pub mod calls;
-pub mod flights;
+pub mod one_thread;
 pub mod images;
 pub mod lines;
 pub mod macros;
@@ -15,7 +15,7 @@ pub mod texts;
 
 pub use crate::boxes::Counted;
 pub use crate::calls::{Calls, Counters};
-pub use crate::flights::{fly_alone, fly_frames, given, is_same};
+pub use crate::one_thread::{fly_alone, fly_frames, given, is_same};
 pub use crate::images::print_image;
 pub use crate::lines::{change_piece, fill, line_after, number, number_after, split_word};
 pub use crate::rows::each_row;

@@ -3,7 +3,7 @@
 ghost use Rattle.std.specs.Prelude.{IfOk};
 ghost use Rattle.fault_script.specs.Fits.{Fits};
 
-use crate::flights::given;
+use crate::one_thread::given;
 use crate::lines::line_after;
 use coverage_check::{Accepted, Mission, accept};
 use fault_script::read_script;

@@ -5,11 +5,11 @@
 #![tactic(auto)]
 
 mod covers;
-mod flights;
+mod missions;
 mod judgements;
 
 use crate::covers::print_covers;
-use crate::flights::fly;
+use crate::missions::fly;
 use crate::judgements::judge;
 use std::fs;
 use std::io::{self, ErrorKind};

@@ -2,10 +2,10 @@
 //! the trace. The spare racks have no boxes: what flies with them computes the laws itself.
 #![tactic(auto)]
 
-mod flights;
+mod own_flight;
 mod own_box;
 
-use crate::flights::fly;
+use crate::own_flight::fly;
 use crate::own_box::OwnFlightControl;
 use racks::{Autopilot, Datalink, Navigator, PowerMonitor, boxed, rack_of};
 use std::io;

@@ -6,11 +6,11 @@
 //! from the rules, worked out by hand.
 #![tactic(auto)]
 
-mod flights;
+mod rows;
 mod halts;
 mod tries;
 
-use crate::flights::fly_row;
+use crate::rows::fly_row;
 use crate::tries::try_row;
 use coverage_check::Mission;
 use std::io;

@@ -9,11 +9,11 @@
 #![tactic(auto)]
 
 mod crews;
-mod flights;
+mod rows;
 mod looks;
 mod rounds;
 
-use crate::flights::fly_row;
+use crate::rows::fly_row;
 use std::alloc::Global;
 use std::{fs, io};
 use test_kit::{change_piece, each_row, line_after, uav_text};

@@ -57,8 +57,8 @@ fn read_judgement<F: Files>(
     named: TraceFiles<'_>,
     files: &mut F,
 ) -> Result<Judgement, Refusal>
-    ensures reads { Prepares (PropsAnswers named.entry.specification.now named.entry.trace.now) TellsJudgement (named.entry.specification.now ∷ named.entry.trace.now ∷ [])
-        (F.state files.old) (F.state files.new) result }
+    ensures reads { Prepares (PropsAnswers named.entry.specification.now named.entry.trace.now) TellsJudgement
+        (named.entry.specification.now ∷ named.entry.trace.now ∷ []) (F.state files.old) (F.state files.new) result }
     ensures verdict { IfOk result HasVerdict }
 {
     match load(alloc, &Specification, named.specification, files) {

@@ -5,13 +5,15 @@ ghost use Rattle.fail_stop.specs.Drafts.{IsSnapshot};
 ghost use Rattle.fail_stop.specs.Events.{Place, after_frame};
 ghost use Rattle.fail_stop.specs.Flights.{word_in};
 ghost use Rattle.fail_stop.specs.Flyers.{AreFlyersAt, IsFlyerAt, unit_proc};
-ghost use Rattle.fail_stop.specs.ScriptFlights.{draft_words, flight_of};
+ghost use Rattle.fail_stop.specs.ScriptFlights.{draft_words};
 ghost use Rattle.scram_types.specs.Specification.{IsSpec};
 ghost use Rattle.scram_types.specs.declared.scripts.HaltAt.{HaltAt};
 ghost use Rattle.kernel_pair.specs.Cores.{flyer_after, places_in};
-ghost use Rattle.kernel_pair.specs.Machines.{AreEventWords, pair_flight, pair_in};
-ghost use Rattle.kernel_pair.specs.Pairs.{IsPairNext, pair_after, to_make};
+ghost use Rattle.kernel_pair.specs.Machines.{AreEventWords, pair_flight, pair_in, pair_with};
+ghost use Rattle.kernel_pair.specs.Pairs.{IsPairNext, to_make};
 ghost use Rattle.kernel_pair.specs.declared.events.PairEvent.TheVariants.{Fly};
+ghost use Rattle.kernel_pair.specs.States.{flight_by};
+ghost use Rattle.kernel_pair.specs.declared.setups.Setup.{Setup};
 
 use crate::machines::PairMachine;
 use crate::setups::Setup;
@@ -26,7 +28,7 @@ pub(crate) fn draft(flyers: &mut [Flyer], machine: &PairMachine, p: ProcId, u: u
     requires next { IsPairNext (pair_flight machine.now) machine.now.halt (pair_in machine.now) (Fly p u) }
     requires flyers { AreFlyersAt (pair_flight machine.now) (places_in (pair_in machine.now)) flyers.old }
     ensures words { AreEventWords (pair_flight machine.now) (pair_in machine.now) (Fly p u) result 0 }
-    ensures flyers { AreFlyersAt (pair_flight machine.now) (places_in (pair_after (pair_flight machine.now) machine.now.halt (pair_in machine.now) (Fly p u))) flyers.new }
+    ensures flyers { AreFlyersAt (pair_flight machine.now) (places_in (pair_with machine.now (Fly p u))) flyers.new }
 {
     machine.holds();
     let setup = machine.setup();
@@ -50,10 +52,10 @@ fn draft_frame(
     requires facts { IsSpec setup.now.spec.now }
     requires known { p.0 < length setup.now.spec.now.procs }
     requires few { p.0 < 8 }
-    requires stands { (place : Place) × IsFlyerAt (flight_of setup.now.spec.now setup.now.script.now) p.0 place flyer.old × (to_make ((flight_of setup.now.spec.now setup.now.script.now).restart p.0) place ≡ Some frame) }
+    requires stands { (place : Place) × IsFlyerAt (flight_by setup.now) p.0 place flyer.old × (to_make ((flight_by setup.now).restart p.0) place ≡ Some frame) }
     requires snap { IsSnapshot setup.now.spec.now setup.now.script.now frame snap.now }
     ensures words { (i : ℕ) → slice_index_or result i 0 ≡ word_in (draft_words setup.now.spec.now setup.now.script.now p.0 frame) i }
-    ensures flyer { IsFlyerAt (flight_of setup.now.spec.now setup.now.script.now) p.0 (after_frame frame ((flight_of setup.now.spec.now setup.now.script.now).halt p.0 frame)) flyer.new }
+    ensures flyer { IsFlyerAt (flight_by setup.now) p.0 (after_frame frame ((flight_by setup.now).halt p.0 frame)) flyer.new }
 {
     flyer.start();
     let draft = flyer.draft(setup.spec, snap);

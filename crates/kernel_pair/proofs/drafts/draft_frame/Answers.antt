@@ -7,7 +7,7 @@ use Rattle.fail_stop.specs.Flyers.{unit_proc}
 use Rattle.fail_stop.specs.ScriptFlights.{flight_of, image_words}
 use Rattle.kernel_pair.specs.Cores.{flyer_after}
 use Rattle.kernel_pair.proofs.Flown.{begun_at, flown}
-use Rattle.kernel_pair.proofs.flights.draft_frame.Goals as goal
+use Rattle.kernel_pair.proofs.drafts.draft_frame.Goals as goal
 
 pub start-requires : goal.start-requires
 start-requires g c = let stands = c.requires.stands in record { few = subst (λ (n : ℕ). n < 8) (sym stands.1.unit.number) c.requires.few }

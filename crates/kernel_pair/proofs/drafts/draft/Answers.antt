@@ -13,7 +13,7 @@ use Rattle.kernel_pair.specs.Pairs.{pair_after, to_make}
 use Rattle.kernel_pair.specs.declared.events.PairEvent.TheVariants.{Fly}
 use Rattle.fail_stop.proofs.ProcessorEvents.{some_same}
 use Rattle.kernel_pair.proofs.Flown.{flyers_after}
-use Rattle.kernel_pair.proofs.flights.draft.Goals as goal
+use Rattle.kernel_pair.proofs.drafts.draft.Goals as goal
 
 pub returns-in-Some-clause-flyers : goal.returns-in-Some-clause-flyers
 returns-in-Some-clause-flyers g c =
