@@ -26,6 +26,9 @@ no_bit set n p few past =
     let small : set < 2 ^ p = omega arith in
     rw (div-eq_of_lt small) refl
 
+pub no_bit_past : (set n p : ℕ) → set < 2 ^ n → n ≤ p → has_bit set p ≡ false
+no_bit_past set n p few past = rw (no_bit set n p few past) refl
+
 pub no_high_bit : (set p : ℕ) → set < 256 → 8 ≤ p → has_bit set p ≡ false
 no_high_bit set p few high = rw (no_bit set 8 p few high) refl
 

@@ -1,0 +1,17 @@
+-- Up to three modes, kept in an array.
+use Rattle.std.specs.Prelude.{◌≡◌, ℕ, ◌-◌, ◌≤◌, List, ◌++◌, length, replicate, take}
+use Rattle.scram_types.specs.declared.ids.Mode.{Mode}
+
+-- what stands in the places that are not used
+abbrev pub unused : Mode
+unused = record { 0 = 0 }
+
+-- modes, and what fills the array behind them
+abbrev pub padded : List Mode → List Mode
+padded modes = modes ++ replicate (3 - length modes) unused
+
+-- The first `count` items of an array of three are modes, and the others are unused.
+pub record IsPadded (count : ℕ) (items : List Mode) : Type 0 where
+  pub few : count ≤ 3
+  pub counted : length (take count items) ≡ count
+  pub padded : padded (take count items) ≡ items
