@@ -6,7 +6,6 @@ pub mod Equality
 pub mod FoundByName
 pub mod Integers
 pub mod Items
-pub mod ModeLists
 pub mod Naturals
 pub mod Options
 pub mod Placed
