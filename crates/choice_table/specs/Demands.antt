@@ -1,5 +1,5 @@
 -- What demands ask of the choice table.
-use Rattle.std.specs.Prelude.{ℕ, Bool, true, false, not, ◌&&◌, ◌||◌, ◌==◌, List, [], ◌∷◌, Option, Some, None, bit_and}
+use Rattle.std.specs.Prelude.{ℕ, Bool, true, false, not, ◌&&◌, ◌||◌, ◌==◌, List, length, Option, Some, None, bit_and}
 use Rattle.std.specs.List.{list_all, list_any}
 use Rattle.scram_types.specs.Bits.{has_bit}
 use Rattle.scram_types.specs.declared.ids.ConfId.{ConfId}
@@ -8,6 +8,7 @@ use Rattle.scram_types.specs.declared.flights.Env.{Env}
 use Rattle.scram_types.specs.declared.specification.Demand.{Demand}
 use Rattle.scram_types.specs.declared.specification.Place.{Place}
 use Rattle.scram_types.specs.Lookups.{is_on, place_of}
+use Rattle.scram_types.specs.ModeLists.{is_among}
 use Rattle.scram_types.specs.Searches.{all_below}
 use Rattle.scram_types.specs.Specification.{Parts, modes_on}
 use Rattle.choice_table.specs.Choices.{all_up, has_wanted}
@@ -29,10 +30,9 @@ is_empty_or_holds set c = set == 0 || has_bit set c.0
 abbrev pub asks_of : Demand → ConfId → Bool
 asks_of demand c = is_empty_or_holds demand.from c
 
--- Modes allow a mode: it is one of them, or there are none.
+-- Modes allow a mode: there are none, or it is one of them.
 abbrev pub allows : List Mode → Mode → Bool
-allows [] mode = true
-allows (first ∷ rest) mode = list_any (λ (listed : Mode). listed.0 == mode.0) (first ∷ rest)
+allows modes mode = length modes == 0 || is_among modes mode.0
 
 -- An application that has to be on is, in a mode that is allowed; one that need not be on may be anywhere.
 abbrev pub is_placed : Option (List Mode) → Option Place → Bool

@@ -56,14 +56,14 @@ fn is_placed(modes: Option<Modes>, place: Option<Place>) -> bool
     match (modes, place) {
         (None, _) => true,
         (Some(_), None) => false,
-        (Some(modes), Some(place)) => allows(modes.as_slice(), place.mode),
+        (Some(modes), Some(place)) => allows(&modes, place.mode),
     }
 }
 
-fn allows(modes: &[Mode], mode: Mode) -> bool
+fn allows(modes: &Modes, mode: Mode) -> bool
     ensures { result ≡ allows modes.now mode }
 {
-    modes.is_empty() || modes.iter().any(|listed| listed.0 == mode.0)
+    modes.as_slice().is_empty() || modes.has(mode)
 }
 
 // Returns whether each processor of a set is down.

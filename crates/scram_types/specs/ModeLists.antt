@@ -1,6 +1,11 @@
--- Up to three modes, kept in an array.
-use Rattle.std.specs.Prelude.{◌≡◌, ℕ, ◌-◌, ◌≤◌, List, ◌++◌, length, replicate, take}
+-- Lists of modes, and up to three modes kept in an array.
+use Rattle.std.specs.Prelude.{◌≡◌, ℕ, ◌-◌, ◌≤◌, ◌==◌, Bool, List, ◌++◌, length, replicate, take}
+use Rattle.std.specs.List.{list_any}
 use Rattle.scram_types.specs.declared.ids.Mode.{Mode}
+
+-- A mode stands among modes.
+abbrev pub is_among : List Mode → ℕ → Bool
+is_among modes mode = list_any (λ (listed : Mode). listed.0 == mode) modes
 
 -- what stands in the places that are not used
 abbrev pub unused : Mode

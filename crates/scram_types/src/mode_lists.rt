@@ -1,6 +1,7 @@
 //! A few modes of an application, in their order.
 
 ghost use Rattle.std.specs.Prelude.{◌≡◌, ◌<◌, ◌≤◌, ◌++◌, List, [], ◌∷◌, length};
+ghost use Rattle.scram_types.specs.ModeLists.{is_among};
 
 use crate::ids::Mode;
 
@@ -45,6 +46,13 @@ impl Modes {
     {
         self.items[usize::from(self.count)] = mode;
         self.count += 1;
+    }
+
+    /// Returns whether a mode is one of them.
+    pub fn has(&self, mode: Mode) -> bool
+        ensures { result ≡ is_among self.now mode.0 }
+    {
+        self.as_slice().iter().any(|listed| listed.0 == mode.0)
     }
 
     /// Returns the modes, in their order.
