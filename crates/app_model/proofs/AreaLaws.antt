@@ -63,11 +63,11 @@ unfolding initialised word
 begins kind seen e = let at : (i : ℕ) → IsInRange (initialised_range kind seen.mode.0 i) (initialised_word kind seen i) = λ i. in_initialised kind seen i e in
     each (λ i. IsInRange (initialised_range kind seen.mode.0 i) (word (initialised kind seen) i)) (at 1) (at 2) (at 3) (at 4) (at 5) (at 6) (at 7)
 
-initialised_within : (kind : ℕ) → kind < 5 → (seen : Seen) → Within (initialised_range kind seen.mode.0) (initialised kind seen)
+initialised_within : (kind : ℕ) → kind < 6 → (seen : Seen) → Within (initialised_range kind seen.mode.0) (initialised kind seen)
 initialised_within = each_kind (λ kind. (seen : Seen) → Within (initialised_range kind seen.mode.0) (initialised kind seen))
-    autopilot_begins (λ seen. begins 1 seen refl) (λ seen. begins 2 seen refl) (λ seen. begins 3 seen refl) (λ seen. begins 4 seen refl)
+    autopilot_begins (λ seen. begins 1 seen refl) (λ seen. begins 2 seen refl) (λ seen. begins 3 seen refl) (λ seen. begins 4 seen refl) (λ seen. begins 5 seen refl)
 
-initialising_within : (kind : ℕ) (last : Bool) (seen : Seen) → kind < 5 → Within (mode_range kind seen.mode.0) (initialising kind last seen)
+initialising_within : (kind : ℕ) (last : Bool) (seen : Seen) → kind < 6 → Within (mode_range kind seen.mode.0) (initialising kind last seen)
 initialising_within kind true seen k = λ i l h. wider _ _ _ (init_narrows kind k seen.mode.0 i l h) (initialised_within kind k seen i l h)
 initialising_within kind false seen k = kept_within kind (pos 4) seen
 
@@ -105,7 +105,7 @@ law_lies_during kind status (Init j n) seen k e =
     lies_during kind status seen.mode.0 (initialising kind (j + 1 == n) seen) (cc) (initialising_within kind (j + 1 == n) seen k)
 law_lies_during kind status Off seen k e = cc
 
-after_halt_status : (kind mode : ℕ) → kind < 5 → after_halt kind mode 0 ≡ (pos 2, pos 2)
+after_halt_status : (kind mode : ℕ) → kind < 6 → after_halt kind mode 0 ≡ (pos 2, pos 2)
 unfolding after_halt during
 after_halt_status kind mode k = rw (status_stays kind k) refl
 
@@ -117,7 +117,7 @@ after_halt_is : (kind mode i : ℕ) → 0 < i → i < 8 → after_halt kind mode
 unfolding after_halt
 after_halt_is kind mode i l h = after_halt_choice (is_moving kind i) (during kind 2 mode i) (mode_range kind mode i) (during_is kind 2 mode i l h)
 
-halted_lies : (kind : ℕ) (seen : Seen) → kind < 5 → AreaLies (after_halt kind seen.mode.0) (halted kind 1 seen)
+halted_lies : (kind : ℕ) (seen : Seen) → kind < 6 → AreaLies (after_halt kind seen.mode.0) (halted kind 1 seen)
 unfolding halted word
 halted_lies kind seen k = area_lies (after_halt kind seen.mode.0) (rest kind seen.mode.0) (halted kind 1 seen) 2 (after_halt_status kind seen.mode.0 k) refl (after_halt_is kind seen.mode.0) (halted_last kind seen)
 
@@ -137,7 +137,7 @@ unfolding initialised word
 law_lies_after_init kind j n seen k e = rw (eq-eqb (j + 1) n e) (lies_after_init kind seen.mode.0 (initialised kind seen) refl (initialised_within kind k seen))
 
 -- the areas that applications begin with
-start_within : (kind : ℕ) → kind < 5 → (mode : ℕ) → Within (initialised_range kind mode) (start_of kind)
+start_within : (kind : ℕ) → kind < 6 → (mode : ℕ) → Within (initialised_range kind mode) (start_of kind)
 unfolding word initialised_range mode_range kind_variable
 start_within = each_kind (λ kind. (mode : ℕ) → Within (initialised_range kind mode) (start_of kind))
     (λ mode. each (λ i. IsInRange (initialised_range 0 mode i) (word (start_of 0) i))
@@ -150,10 +150,12 @@ start_within = each_kind (λ kind. (mode : ℕ) → Within (initialised_range ki
     (in_zero _) (in_zero _) (in_zero _) (in_zero _) (in_zero _) (in_zero _) (in_zero _))
     (λ mode. each (λ i. IsInRange (initialised_range 4 mode i) (word (start_of 4) i))
     (in_zero _) (in_zero _) (in_zero _) (in_zero _) (in_zero _) (in_zero _) (in_zero _))
+    (λ mode. each (λ i. IsInRange (initialised_range 5 mode i) (word (start_of 5) i))
+    (in_zero _) (in_zero _) (in_zero _) (in_zero _) (in_zero _) (in_zero _) (in_zero _))
 
-start_status : (kind : ℕ) → kind < 5 → word (start_of kind) 0 ≡ pos 4
+start_status : (kind : ℕ) → kind < 6 → word (start_of kind) 0 ≡ pos 4
 unfolding word kind_variable
-start_status = each_kind (λ kind. word (start_of kind) 0 ≡ pos 4) refl refl refl refl refl
+start_status = each_kind (λ kind. word (start_of kind) 0 ≡ pos 4) refl refl refl refl refl refl
 
 pub start_lies_after_init : StartLiesAfterInit
 start_lies_after_init kind mode k = lies_after_init kind mode (start_of kind) (start_status kind k) (start_within kind k mode)

@@ -11,6 +11,7 @@ use Rattle.app_model.specs.Law.{law, ran}
 use Rattle.app_model.specs.Navigator.{navigator_ran}
 use Rattle.app_model.specs.Orders.{halted, initialised, kept_area}
 use Rattle.app_model.specs.PowerMonitor.{power_monitor_ran}
+use Rattle.app_model.specs.Tasks.{task_ran}
 
 -- of two lists of eight words one is chosen
 pub either_eight : (x y : List ℤ) (b : Bool) → length x ≡ 8 → length y ≡ 8 → length (if b then x else y) ≡ 8
@@ -18,13 +19,14 @@ either_eight x y true is_x is_y = is_x
 either_eight x y false is_x is_y = is_y
 
 ran_eight : (kind : ℕ) (seen : Seen) → length (ran kind seen) ≡ 8
-unfolding autopilot_ran flight_control_ran power_monitor_ran navigator_ran data_link_ran
+unfolding autopilot_ran flight_control_ran power_monitor_ran navigator_ran data_link_ran task_ran
 ran_eight zero seen = refl
 ran_eight (suc zero) seen = refl
 ran_eight (suc (suc zero)) seen = refl
 ran_eight (suc (suc (suc zero))) seen = refl
 ran_eight (suc (suc (suc (suc zero)))) seen = refl
-ran_eight (suc (suc (suc (suc (suc kind))))) seen = refl
+ran_eight (suc (suc (suc (suc (suc zero))))) seen = refl
+ran_eight (suc (suc (suc (suc (suc (suc kind)))))) seen = refl
 
 pub law_eight : (kind : ℕ) (order : Order) (seen : Seen) → length seen.own ≡ 8 → length (law kind order seen) ≡ 8
 unfolding halted kept_area initialised

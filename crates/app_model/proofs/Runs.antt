@@ -14,6 +14,7 @@ use Rattle.app_model.specs.FlightControl.{command, elevator_after, aileron_after
 use Rattle.app_model.specs.PowerMonitor.{supply_after, demand_after, charge_after, shed_after, power_monitor_ran, alternator_gives}
 use Rattle.app_model.specs.Navigator.{on_course, navigator_ran, climb_left_after, bearing_error_after}
 use Rattle.app_model.specs.DataLink.{fresh_of, fresh, rate_after, waiting, going, queued_after, sent_after, left_over, dropped_after, data_link_ran}
+use Rattle.app_model.specs.Tasks.{task_ran}
 use Rattle.app_model.specs.Law.{ran}
 use Rattle.app_model.proofs.Within.{Within, each, each_kind, in_choice, in_either, in_zero, in_one, in_number, in_sum, in_twice, in_ticks}
 
@@ -113,10 +114,21 @@ data_link_within seen = each (λ i. IsInRange (mode_range 4 seen.mode.0 i) (word
     (in_ticks 4 seen (in_clamp _ _))
     (in_zero _)
 
-pub ran_within : (kind : ℕ) → kind < 5 → (seen : Seen) → Within (mode_range kind seen.mode.0) (ran kind seen)
-ran_within = each_kind (λ kind. (seen : Seen) → Within (mode_range kind seen.mode.0) (ran kind seen)) autopilot_within flight_control_within power_monitor_within navigator_within data_link_within
+task_within : (seen : Seen) → Within (mode_range 5 seen.mode.0) (task_ran seen)
+unfolding task_ran word mode_range own_word kind_variable
+task_within seen = each (λ i. IsInRange (mode_range 5 seen.mode.0 i) (word (task_ran seen) i))
+    (in_zero _)
+    (in_zero _)
+    (in_zero _)
+    (in_zero _)
+    (in_zero _)
+    (in_ticks 5 seen (in_clamp _ _))
+    (in_zero _)
+
+pub ran_within : (kind : ℕ) → kind < 6 → (seen : Seen) → Within (mode_range kind seen.mode.0) (ran kind seen)
+ran_within = each_kind (λ kind. (seen : Seen) → Within (mode_range kind seen.mode.0) (ran kind seen)) autopilot_within flight_control_within power_monitor_within navigator_within data_link_within task_within
 
 -- an application that ran has status 1
-pub ran_status : (kind : ℕ) → kind < 5 → (seen : Seen) → word (ran kind seen) 0 ≡ pos 1
-unfolding word autopilot_ran flight_control_ran power_monitor_ran navigator_ran data_link_ran
-ran_status = each_kind (λ kind. (seen : Seen) → word (ran kind seen) 0 ≡ pos 1) (λ seen. refl) (λ seen. refl) (λ seen. refl) (λ seen. refl) (λ seen. refl)
+pub ran_status : (kind : ℕ) → kind < 6 → (seen : Seen) → word (ran kind seen) 0 ≡ pos 1
+unfolding word autopilot_ran flight_control_ran power_monitor_ran navigator_ran data_link_ran task_ran
+ran_status = each_kind (λ kind. (seen : Seen) → word (ran kind seen) 0 ≡ pos 1) (λ seen. refl) (λ seen. refl) (λ seen. refl) (λ seen. refl) (λ seen. refl) (λ seen. refl)

@@ -22,7 +22,8 @@ mode_names_short (suc zero) = (omega arith, (omega arith, tt))
 mode_names_short (suc (suc zero)) = (omega arith, (omega arith, (omega arith, tt)))
 mode_names_short (suc (suc (suc zero))) = (omega arith, (omega arith, tt))
 mode_names_short (suc (suc (suc (suc zero)))) = (omega arith, (omega arith, tt))
-mode_names_short (suc (suc (suc (suc (suc kind))))) = tt
+mode_names_short (suc (suc (suc (suc (suc zero))))) = (omega arith, (omega arith, (omega arith, tt)))
+mode_names_short (suc (suc (suc (suc (suc (suc kind)))))) = tt
 
 pub variable_names_short : (kind : ℕ) → AreShort (variable_names kind)
 variable_names_short zero = (omega arith, (omega arith, (omega arith, (omega arith, (omega arith, (omega arith, (omega arith, tt)))))))
@@ -30,7 +31,8 @@ variable_names_short (suc zero) = (omega arith, (omega arith, (omega arith, (ome
 variable_names_short (suc (suc zero)) = (omega arith, (omega arith, (omega arith, (omega arith, (omega arith, (omega arith, tt))))))
 variable_names_short (suc (suc (suc zero))) = (omega arith, (omega arith, (omega arith, (omega arith, (omega arith, tt)))))
 variable_names_short (suc (suc (suc (suc zero)))) = (omega arith, (omega arith, (omega arith, (omega arith, (omega arith, (omega arith, tt))))))
-variable_names_short (suc (suc (suc (suc (suc kind))))) = tt
+variable_names_short (suc (suc (suc (suc (suc zero))))) = (omega arith, (omega arith, tt))
+variable_names_short (suc (suc (suc (suc (suc (suc kind)))))) = tt
 
 pub mode_short : (kind mode : ℕ) → length (mode_text kind mode) ≤ 16
 mode_short kind mode = name_short (mode_names kind) mode (mode_names_short kind)

@@ -129,7 +129,8 @@ few_variables (suc zero) = omega arith
 few_variables (suc (suc zero)) = omega arith
 few_variables (suc (suc (suc zero))) = omega arith
 few_variables (suc (suc (suc (suc zero)))) = omega arith
-few_variables (suc (suc (suc (suc (suc kind))))) = omega arith
+few_variables (suc (suc (suc (suc (suc zero))))) = omega arith
+few_variables (suc (suc (suc (suc (suc (suc kind)))))) = omega arith
 
 -- What is named a variable is one of the eight words.
 pub variable_number_below : (kind : ℕ) (text : List ℕ) (i : ℕ) → number_in (variable_names kind) text ≡ Some i → i < 8
@@ -170,7 +171,7 @@ with_three_modes kind a b c three names named modes variables few = record {
   variable_number = words_counted (variable_names kind) few;
 }
 
-pub each_is_named : (kind : ℕ) → kind < 5 → KindIsNamed kind
+pub each_is_named : (kind : ℕ) → kind < 6 → KindIsNamed kind
 unfolding modes_of_kind
 each_is_named = each_kind KindIsNamed
     (with_two_modes 0 (codes "navigate") (codes "hold") refl refl refl (agree (mode_names 0) refl) (agree (variable_names 0) refl) (omega arith))
@@ -178,6 +179,7 @@ each_is_named = each_kind KindIsNamed
     (with_three_modes 2 (codes "normal") (codes "saver") (codes "essential") refl refl refl (agree (mode_names 2) refl) (agree (variable_names 2) refl) (omega arith))
     (with_two_modes 3 (codes "route") (codes "coarse") refl refl refl (agree (mode_names 3) refl) (agree (variable_names 3) refl) (omega arith))
     (with_two_modes 4 (codes "fast") (codes "slow") refl refl refl (agree (mode_names 4) refl) (agree (variable_names 4) refl) (omega arith))
+    (with_three_modes 5 (codes "full") (codes "reduced") (codes "minimal") refl refl refl (agree (mode_names 5) refl) (agree (variable_names 5) refl) (omega arith))
 
 pub all_names_agree : AllNamesAgree
 all_names_agree = record {

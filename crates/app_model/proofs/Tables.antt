@@ -69,8 +69,13 @@ unfolding initialised_range mode_range kind_variable
 data_link_init mode = each (λ i. Narrower (initialised_range 4 mode i) (mode_range 4 mode i))
     (same _) (same _) (same _) (same _) (same _) (same _) (same _)
 
-pub init_narrows : (kind : ℕ) → kind < 5 → InitNarrows kind
-init_narrows = each_kind InitNarrows autopilot_init flight_control_init power_monitor_init navigator_init data_link_init
+task_init : InitNarrows 5
+unfolding initialised_range mode_range kind_variable
+task_init mode = each (λ i. Narrower (initialised_range 5 mode i) (mode_range 5 mode i))
+    (same _) (same _) (same _) (same _) (same _) (same _) (same _)
+
+pub init_narrows : (kind : ℕ) → kind < 6 → InitNarrows kind
+init_narrows = each_kind InitNarrows autopilot_init flight_control_init power_monitor_init navigator_init data_link_init task_init
 
 -- the widest of the modes' ranges
 abbrev WidestHolds : ℕ → Type 0
@@ -111,8 +116,13 @@ data_link_widest mode = each (λ i. Narrower (mode_range 4 mode i) (mode_range 4
     (from (mode == 1) _ _ _ (same _) (numbers 0 1 0 4 (omega arith) (omega arith)))
     (same _) (same _) (same _) (same _)
 
-widest_holds : (kind : ℕ) → kind < 5 → WidestHolds kind
-widest_holds = each_kind WidestHolds autopilot_widest flight_control_widest power_monitor_widest navigator_widest data_link_widest
+task_widest : WidestHolds 5
+unfolding mode_range widest_mode kind_variable
+task_widest mode = each (λ i. Narrower (mode_range 5 mode i) (mode_range 5 (widest_mode 5) i))
+    (same _) (same _) (same _) (same _) (same _) (same _) (same _)
+
+widest_holds : (kind : ℕ) → kind < 6 → WidestHolds kind
+widest_holds = each_kind WidestHolds autopilot_widest flight_control_widest power_monitor_widest navigator_widest data_link_widest task_widest
 
 -- the same of least and greatest numbers
 inside : (r s : Range) → Narrower r s → Inside (ends r) (ends s)
@@ -138,25 +148,25 @@ unfolding sane sane_range
 sane_is kind = each (λ i. sane kind i ≡ ends (mode_range kind (widest_mode kind) i)) refl refl refl refl refl refl refl
 
 -- the status does not move
-pub status_stays : (kind : ℕ) → kind < 5 → is_moving kind 0 ≡ false
+pub status_stays : (kind : ℕ) → kind < 6 → is_moving kind 0 ≡ false
 unfolding is_moving kind_variable
-status_stays = each_kind (λ kind. is_moving kind 0 ≡ false) refl refl refl refl refl
+status_stays = each_kind (λ kind. is_moving kind 0 ≡ false) refl refl refl refl refl refl
 
-halt_inside : (kind mode i : ℕ) → kind < 5 → i < 8 → Inside (after_halt kind mode i) (during kind 2 mode i)
+halt_inside : (kind mode i : ℕ) → kind < 6 → i < 8 → Inside (after_halt kind mode i) (during kind 2 mode i)
 unfolding after_halt
 halt_inside kind mode zero k l = rw (status_stays kind k) (inside_same (during kind 2 mode 0))
 halt_inside kind mode (suc i) k l = inside_choice (is_moving kind (suc i)) (during kind 2 mode (suc i)) (mode_range kind mode (suc i)) (during_is kind 2 mode (suc i) (omega arith) l)
 
-init_inside : (kind mode i : ℕ) → kind < 5 → i < 8 → Inside (after_init kind mode i) (during kind 4 mode i)
+init_inside : (kind mode i : ℕ) → kind < 6 → i < 8 → Inside (after_init kind mode i) (during kind 4 mode i)
 unfolding after_init during
 init_inside kind mode zero k l = record { least = omega (arith, ints); greatest = omega (arith, ints) }
 init_inside kind mode (suc i) k l = rw (after_init_is kind mode (suc i) (omega arith) l, during_is kind 4 mode (suc i) (omega arith) l) (inside _ _ (init_narrows kind k mode (suc i) (omega arith) l))
 
-sane_status : (kind : ℕ) → kind < 5 → sane kind 0 ≡ (pos 0, pos 4)
+sane_status : (kind : ℕ) → kind < 6 → sane kind 0 ≡ (pos 0, pos 4)
 unfolding sane sane_range mode_range widest_mode kind_variable
-sane_status = each_kind (λ kind. sane kind 0 ≡ (pos 0, pos 4)) refl refl refl refl refl
+sane_status = each_kind (λ kind. sane kind 0 ≡ (pos 0, pos 4)) refl refl refl refl refl refl
 
-sane_inside : (kind mode i status : ℕ) → kind < 5 → i < 8 → status ≤ 4 → Inside (during kind status mode i) (sane kind i)
+sane_inside : (kind mode i status : ℕ) → kind < 6 → i < 8 → status ≤ 4 → Inside (during kind status mode i) (sane kind i)
 unfolding during
 sane_inside kind mode zero status k l a = rw (sane_status kind k) (record { least = omega (arith, ints); greatest = omega (arith, ints) })
 sane_inside kind mode (suc i) status k l a = rw (during_is kind status mode (suc i) (omega arith) l, sane_is kind (suc i) (omega arith) l) (inside _ _ (widest_holds kind k mode (suc i) (omega arith) l))

@@ -29,22 +29,22 @@ status_of Off = None
 -- For every kind, order and mode, whatever is seen: the area that the law gives lies in the ranges while
 -- an application has that status; after the last frame of a halt and of an init phase it lies in theirs.
 abbrev pub LawLiesDuring : Type 0
-LawLiesDuring = (kind status : ℕ) (order : Order) (seen : Seen) → kind < 5 → status_of order ≡ Some status
+LawLiesDuring = (kind status : ℕ) (order : Order) (seen : Seen) → kind < 6 → status_of order ≡ Some status
     → AreaLies (during kind status seen.mode.0) (law kind order seen)
 
 -- The last step of a halt phase leaves an area that lies in its ranges after halting.
 abbrev pub LawLiesAfterHalt : Type 0
-LawLiesAfterHalt = (kind k n : ℕ) (seen : Seen) → kind < 5 → k + 1 ≡ n
+LawLiesAfterHalt = (kind k n : ℕ) (seen : Seen) → kind < 6 → k + 1 ≡ n
     → AreaLies (after_halt kind seen.mode.0) (law kind (Halt k n) seen)
 
 -- The last step of an init phase leaves an area that lies in its ranges after initialising.
 abbrev pub LawLiesAfterInit : Type 0
-LawLiesAfterInit = (kind k n : ℕ) (seen : Seen) → kind < 5 → k + 1 ≡ n
+LawLiesAfterInit = (kind k n : ℕ) (seen : Seen) → kind < 6 → k + 1 ≡ n
     → AreaLies (after_init kind seen.mode.0) (law kind (Init k n) seen)
 
 -- An application begins as after an init phase, in whatever mode.
 abbrev pub StartLiesAfterInit : Type 0
-StartLiesAfterInit = (kind mode : ℕ) → kind < 5 → AreaLies (after_init kind mode) (start_of kind)
+StartLiesAfterInit = (kind mode : ℕ) → kind < 6 → AreaLies (after_init kind mode) (start_of kind)
 
 -- One range lies in another.
 pub record Inside (inner outer : ℤ × ℤ) : Type 0 where
@@ -60,4 +60,4 @@ pub record TablesNarrow (kind mode i : ℕ) : Type 0 where
 
 -- The tables of every kind, mode and word narrow from its widest range to that of a mode.
 abbrev pub AllTablesNarrow : Type 0
-AllTablesNarrow = (kind mode i : ℕ) → kind < 5 → i < 8 → TablesNarrow kind mode i
+AllTablesNarrow = (kind mode i : ℕ) → kind < 6 → i < 8 → TablesNarrow kind mode i

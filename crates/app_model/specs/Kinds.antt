@@ -10,6 +10,7 @@ use Rattle.app_model.specs.declared.kinds.flight_control.TheConstants.{DIRECT}
 use Rattle.app_model.specs.declared.kinds.power_monitor.TheConstants.{NORMAL}
 use Rattle.app_model.specs.declared.kinds.navigator.TheConstants.{ROUTE}
 use Rattle.app_model.specs.declared.kinds.data_link.TheConstants.{FAST}
+use Rattle.app_model.specs.declared.kinds.task.TheConstants.{FULL}
 
 -- A word of a kind's area: its name, or None where the kind does not use it; its range in each mode; the same after the
 -- last frame of an init phase; whether a halt brings it to 0; and what it begins with.
@@ -158,17 +159,26 @@ data_link = record {
       [];
 }
 
+-- The kind of which only the status and the count of frames are known.
+abbrev pub task : Kind
+task = record {
+  name = codes "task";
+  modes = None ∷ Some (codes "full") ∷ Some (codes "reduced") ∷ Some (codes "minimal") ∷ [];
+  widest = FULL;
+  variables = status ∷ unused ∷ unused ∷ unused ∷ unused ∷ unused ∷ ticks ∷ unused ∷ [];
+}
+
 -- Kind n stands at place n.
 abbrev pub kinds : List Kind
-kinds = autopilot ∷ flight_control ∷ power_monitor ∷ navigator ∷ data_link ∷ []
+kinds = autopilot ∷ flight_control ∷ power_monitor ∷ navigator ∷ data_link ∷ task ∷ []
 
 -- The kind of this number; nothing where none has it.
 abbrev pub find_kind : ℕ → Option Kind
 find_kind kind = slice_get kinds kind
 
--- Numbers past the last kind stand for the data link.
+-- Numbers past the last kind stand for the task.
 abbrev pub kind_or_last : ℕ → Kind
-kind_or_last kind = slice_index_or kinds kind data_link
+kind_or_last kind = slice_index_or kinds kind task
 
 -- Word i of a kind's area.
 unfoldable pub kind_variable : ℕ → ℕ → Variable

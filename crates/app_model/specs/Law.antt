@@ -9,14 +9,15 @@ use Rattle.app_model.specs.FlightControl.{flight_control_ran}
 use Rattle.app_model.specs.PowerMonitor.{power_monitor_ran}
 use Rattle.app_model.specs.Navigator.{navigator_ran}
 use Rattle.app_model.specs.DataLink.{data_link_ran}
+use Rattle.app_model.specs.Tasks.{task_ran}
 
 -- What a run leaves, kind n at place n.
 abbrev pub runs_of_kinds : List (Seen → List ℤ)
-runs_of_kinds = autopilot_ran ∷ flight_control_ran ∷ power_monitor_ran ∷ navigator_ran ∷ data_link_ran ∷ []
+runs_of_kinds = autopilot_ran ∷ flight_control_ran ∷ power_monitor_ran ∷ navigator_ran ∷ data_link_ran ∷ task_ran ∷ []
 
--- Numbers past the last kind have the data link's run.
+-- Numbers past the last kind have the task's run.
 abbrev pub ran : ℕ → Seen → List ℤ
-ran kind seen = slice_index_or runs_of_kinds kind data_link_ran seen
+ran kind seen = slice_index_or runs_of_kinds kind task_ran seen
 
 -- In frame k of n frames of a halt, n - k frames are left; the init phase ends where k + 1 is n.
 abbrev pub law : ℕ → Order → Seen → List ℤ

@@ -8,6 +8,7 @@ pub mod FlightControl
 pub mod PowerMonitor
 pub mod Navigator
 pub mod DataLink
+pub mod Tasks
 pub mod Law
 pub mod Starts
 pub mod Bounds

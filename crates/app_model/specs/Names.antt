@@ -62,5 +62,5 @@ pub record KindIsNamed (kind : ℕ) : Type 0 where
 -- Names and numbers of kinds, modes and variables lead to one another.
 pub record AllNamesAgree : Type 0 where
   pub kinds : NamesAgree kind_names
-  pub kind_number : (text : List ℕ) (kind : ℕ) → number_in kind_names text ≡ Some kind → kind < 5
-  pub each : (kind : ℕ) → kind < 5 → KindIsNamed kind
+  pub kind_number : (text : List ℕ) (kind : ℕ) → number_in kind_names text ≡ Some kind → kind < 6
+  pub each : (kind : ℕ) → kind < 6 → KindIsNamed kind

@@ -3,10 +3,12 @@
 ghost use Rattle.std.specs.Prelude.{◌≡◌};
 ghost use Rattle.app_model.specs.Law.{law, ran};
 
-use crate::kinds::{autopilot, flight_control, navigator, power_monitor};
+use crate::kinds::{autopilot, data_link, flight_control, navigator, power_monitor};
 use crate::orders::area_after;
 use crate::seen::Seen;
-use crate::{autopilot_law, data_link_law, flight_control_law, navigator_law, power_monitor_law};
+use crate::{
+    autopilot_law, data_link_law, flight_control_law, navigator_law, power_monitor_law, task_law,
+};
 use scram_types::{Area, KindId, Order};
 
 fn run_of(kind: KindId, seen: &Seen) -> Area
@@ -17,7 +19,8 @@ fn run_of(kind: KindId, seen: &Seen) -> Area
         flight_control::KIND => flight_control_law::run(seen),
         power_monitor::KIND => power_monitor_law::run(seen),
         navigator::KIND => navigator_law::run(seen),
-        _ => data_link_law::run(seen),
+        data_link::KIND => data_link_law::run(seen),
+        _ => task_law::run(seen),
     }
 }
 

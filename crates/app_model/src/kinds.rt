@@ -107,3 +107,15 @@ pub mod data_link {
     /// Messages dropped so far: 0 to 1,000,000, where the count stays.
     pub const DROPPED: usize = 4;
 }
+
+/// The task: whatever is placed, started, stopped and timed, and whose inside is no matter of the reconfiguration.
+pub mod task {
+    /// The kind's number.
+    pub const KIND: u8 = 5;
+    /// The mode of a whole task.
+    pub const FULL: u8 = 1;
+    /// The mode of a task that does less.
+    pub const REDUCED: u8 = 2;
+    /// The mode of a task that does the least.
+    pub const MINIMAL: u8 = 3;
+}

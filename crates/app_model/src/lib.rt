@@ -25,6 +25,7 @@ pub mod reads;
 pub mod seen;
 pub mod starts;
 pub mod table;
+mod task_law;
 
 pub use all_laws::law_area;
 pub use app::App;

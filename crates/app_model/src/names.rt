@@ -6,11 +6,11 @@ ghost use Rattle.app_model.specs.Kinds.{variable_read};
 ghost use Rattle.app_model.specs.Names.{kind_names, mode_names, variable_names, is_spelled, IsModeNumber, AllNamesAgree, number_in, name_in};
 
 use crate::table::{
-    AUTOPILOT, DATA_LINK, FLIGHT_CONTROL, NAVIGATOR, POWER_MONITOR, Variable, find_kind,
+    AUTOPILOT, DATA_LINK, FLIGHT_CONTROL, NAVIGATOR, POWER_MONITOR, TASK, Variable, find_kind,
 };
 use scram_types::{KindId, Mode};
 
-fn names_of_kinds() -> [Option<&'static str>; 5]
+fn names_of_kinds() -> [Option<&'static str>; 6]
     ensures { map (option_map (λ s. s.now)) result ≡ kind_names }
 {
     [
@@ -19,6 +19,7 @@ fn names_of_kinds() -> [Option<&'static str>; 5]
         Some(POWER_MONITOR.name),
         Some(NAVIGATOR.name),
         Some(DATA_LINK.name),
+        Some(TASK.name),
     ]
 }
 
@@ -84,7 +85,7 @@ fn number_in(names: &[Option<&str>], text: &str) -> Option<u8>
 /// Returns the kind of this name, or `None` where no kind has it.
 pub fn kind_named(name: &str) -> Option<KindId>
     ensures kind { option_map (λ kind. kind.0) result ≡ number_in kind_names name.now }
-    ensures built { IfSome result (λ kind. kind.0 < 5) }
+    ensures built { IfSome result (λ kind. kind.0 < 6) }
 {
     match number_in(&names_of_kinds(), name) {
         Some(number) => Some(KindId(number)),
@@ -95,7 +96,7 @@ pub fn kind_named(name: &str) -> Option<KindId>
 /// Returns the mode of this name of a kind, or `None` where the kind has no such mode.
 pub fn mode_named(kind: KindId, name: &str) -> Option<Mode>
     ensures mode { option_map (λ mode. mode.0) result ≡ number_in (mode_names kind.0) name.now }
-    ensures of_kind { kind.0 < 5 → IfSome result (λ mode. IsModeNumber mode.0 (modes_of_kind kind.0)) }
+    ensures of_kind { kind.0 < 6 → IfSome result (λ mode. IsModeNumber mode.0 (modes_of_kind kind.0)) }
 {
     match number_in(names_of_modes(kind), name) {
         Some(number) => Some(Mode(number)),

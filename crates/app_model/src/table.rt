@@ -6,7 +6,7 @@ ghost use Rattle.std.specs.Prelude.{◌≡◌, ◌≤◌, IfSome, length, option
 ghost use Rattle.app_model.specs.Kinds.{find_kind, kind_or_last, kind_read, kind_variable, range_in, variable_read};
 
 use crate::kinds::every_kind::MOST_TICKS;
-use crate::kinds::{autopilot, data_link, flight_control, navigator, power_monitor};
+use crate::kinds::{autopilot, data_link, flight_control, navigator, power_monitor, task};
 use scram_types::Range;
 
 /// A word of a kind's area.
@@ -187,6 +187,16 @@ pub const DATA_LINK: Kind = Kind {
     ],
 };
 
+/// The record of kind `task`.
+pub const TASK: Kind = Kind {
+    name: "task",
+    modes: &[None, Some("full"), Some("reduced"), Some("minimal")],
+    widest: task::FULL,
+    variables: &[
+        STATUS, UNUSED, UNUSED, UNUSED, UNUSED, UNUSED, TICKS, UNUSED,
+    ],
+};
+
 /// Returns a kind by its number, or `None` where there is no such kind.
 pub fn find_kind(kind: u8) -> Option<Kind>
     ensures kind { option_map kind_read result ≡ find_kind kind }
@@ -199,17 +209,18 @@ pub fn find_kind(kind: u8) -> Option<Kind>
         power_monitor::KIND => Some(POWER_MONITOR),
         navigator::KIND => Some(NAVIGATOR),
         data_link::KIND => Some(DATA_LINK),
+        task::KIND => Some(TASK),
         _ => None,
     }
 }
 
-/// Returns a kind by its number, where numbers past the last kind stand for the data link.
+/// Returns a kind by its number, where numbers past the last kind stand for the task.
 pub fn kind_or_last(kind: u8) -> Kind
     ensures { kind_read result ≡ kind_or_last kind }
 {
     match find_kind(kind) {
         Some(found) => found,
-        None => DATA_LINK,
+        None => TASK,
     }
 }
 

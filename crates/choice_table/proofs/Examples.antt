@@ -40,6 +40,7 @@ made procs factors confs rules halts = record {
   invariants = [];
   preconditions = [];
   policy = policy.Retarget;
+  demands = [];
   halts = halts;
   changes = 0;
   window = 1;

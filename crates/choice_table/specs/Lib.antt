@@ -1,4 +1,5 @@
 pub mod Environments
 pub mod Choices
+pub mod Demands
 pub mod Numbering
 pub mod Laws

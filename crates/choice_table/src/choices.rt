@@ -49,7 +49,7 @@ fn has_processor(place: &Option<Place>, env: &Env) -> bool
 fn fits(rule: &Choice, c: ConfId, env: &Env) -> bool
     ensures { result ≡ rule_fits c env.now rule.now }
 {
-    is_source(rule.from, c) && are_met(rule.wants.items(), env) && are_up(rule.up, env)
+    is_source(rule.from, c) && have_wanted(rule.wants.items(), env) && are_up(rule.up, env)
 }
 
 fn is_source(from: Option<ConfId>, c: ConfId) -> bool
@@ -61,13 +61,14 @@ fn is_source(from: Option<ConfId>, c: ConfId) -> bool
     }
 }
 
-fn are_met(wants: &[Want], env: &Env) -> bool
+// Returns whether an environment has each value that is required.
+pub(crate) fn have_wanted(wants: &[Want], env: &Env) -> bool
     ensures { result ≡ list_all (has_wanted env.now) wants.now }
 {
-    wants.iter().all(|want| is_met(want, env))
+    wants.iter().all(|want| has_wanted(want, env))
 }
 
-fn is_met(want: &Want, env: &Env) -> bool
+fn has_wanted(want: &Want, env: &Env) -> bool
     ensures { result ≡ has_wanted env.now want.now }
 {
     let x = usize::from(want.factor.0);
@@ -75,7 +76,8 @@ fn is_met(want: &Want, env: &Env) -> bool
     value == want.value
 }
 
-fn are_up(set: u8, env: &Env) -> bool
+// Returns whether each processor of a set is up.
+pub(crate) fn are_up(set: u8, env: &Env) -> bool
     ensures { result ≡ all_up set env.now }
 {
     set & env.up == set

@@ -1,12 +1,14 @@
 //! What is chosen where: the configuration that the choice table chooses in an environment, exactly; what
-//! can run; which environments are in scope; and a number for each environment, both ways.
+//! can run; which environments are in scope; what demands ask; and a number for each environment, both ways.
 #![tactic(auto)]
 
 pub mod choices;
+pub mod demands;
 pub mod environments;
 pub mod laws;
 pub mod numbering;
 
 pub use choices::{choose, has_rule, runnable};
+pub use demands::{asks_of, is_met, speaks_of};
 pub use environments::in_scope;
 pub use numbering::{Numbered, env_of, next_in_scope, number_of, states};

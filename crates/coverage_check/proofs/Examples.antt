@@ -54,6 +54,7 @@ made capacity rules frames which invariants = record {
   invariants = invariants;
   preconditions = [];
   policy = which;
+  demands = [];
   halts = 0;
   changes = 1;
   window = 40;

@@ -31,6 +31,7 @@ made apps confs = record {
   invariants = [];
   preconditions = [];
   policy = policy.Retarget;
+  demands = [];
   halts = 0;
   changes = 0;
   window = 1;

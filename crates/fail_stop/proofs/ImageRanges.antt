@@ -50,7 +50,7 @@ is_small r = nat_le r.below 4294967296 && nat_le r.above 4294967296
 abbrev SaneSmall : ℕ → Type 0
 SaneSmall kind = (i : ℕ) → i < 8 → is_small (sane_range kind i) ≡ true
 
-sane_small : (kind : ℕ) → kind < 5 → SaneSmall kind
+sane_small : (kind : ℕ) → kind < 6 → SaneSmall kind
 unfolding sane_range mode_range widest_mode kind_variable
 sane_small = each_kind SaneSmall
     (each_word (λ i. is_small (sane_range 0 i) ≡ true) refl refl refl refl refl refl refl refl)
@@ -58,11 +58,12 @@ sane_small = each_kind SaneSmall
     (each_word (λ i. is_small (sane_range 2 i) ≡ true) refl refl refl refl refl refl refl refl)
     (each_word (λ i. is_small (sane_range 3 i) ≡ true) refl refl refl refl refl refl refl refl)
     (each_word (λ i. is_small (sane_range 4 i) ≡ true) refl refl refl refl refl refl refl refl)
+    (each_word (λ i. is_small (sane_range 5 i) ≡ true) refl refl refl refl refl refl refl refl)
 
 small_ends : (r : Range) → is_small r ≡ true → (r.below ≤ 4294967296) × (r.above ≤ 4294967296)
 small_ends r is = (grind (arith, nat_tests, is), grind (arith, nat_tests, is))
 
-in_during : (kind status mode i : ℕ) (x : ℤ) → kind < 5 → status ≤ 4 → i < 8 → Between (during kind status mode i) x → IsWord x
+in_during : (kind status mode i : ℕ) (x : ℤ) → kind < 6 → status ≤ 4 → i < 8 → Between (during kind status mode i) x → IsWord x
 unfolding sane
 in_during kind status mode i x low few small b =
     let inside = (tables_narrow kind mode i low small).sane status few in
@@ -71,7 +72,7 @@ in_during kind status mode i x low few small b =
     let above = ends.1 in
     record { low = omega (arith, ints, inside.least, b.least, below); high = omega (arith, ints, inside.greatest, b.greatest, above) }
 
-in_start : (kind mode i : ℕ) (x : ℤ) → kind < 5 → i < 8 → Between (after_init kind mode i) x → IsWord x
+in_start : (kind mode i : ℕ) (x : ℤ) → kind < 6 → i < 8 → Between (after_init kind mode i) x → IsWord x
 in_start kind mode i x low small b =
     let inside = (tables_narrow kind mode i low small).init in
     in_during kind 4 mode i x low (omega arith) small (record { least = omega (arith, ints, inside.least, b.least); greatest = omega (arith, ints, inside.greatest, b.greatest) })
@@ -90,11 +91,11 @@ either_words : (b : Bool) (x y : List ℤ) → AreWords x → AreWords y → Are
 either_words true x y is_x is_y = is_x
 either_words false x y is_x is_y = is_y
 
-by_status : (kind status : ℕ) (order : Order) (seen : Seen) → kind < 5 → status ≤ 4 → status_of order ≡ Some status → AreWords (law kind order seen)
+by_status : (kind status : ℕ) (order : Order) (seen : Seen) → kind < 6 → status ≤ 4 → status_of order ≡ Some status → AreWords (law kind order seen)
 unfolding word
 by_status kind status order seen low few is i small = in_during kind status seen.mode.0 i _ low few small (law_lies_during kind status order seen low is i small)
 
-law_words : (kind : ℕ) (order : Order) (seen : Seen) → kind < 5 → AreWords seen.own → AreWords (law kind order seen)
+law_words : (kind : ℕ) (order : Order) (seen : Seen) → kind < 6 → AreWords seen.own → AreWords (law kind order seen)
 law_words kind Run seen low own = by_status kind 1 Run seen low (omega arith) refl
 law_words kind (Halt k n) seen low own = by_status kind 2 (Halt k n) seen low (omega arith) refl
 law_words kind Hold seen low own = own
@@ -102,11 +103,11 @@ law_words kind (Prepare k n) seen low own = by_status kind 3 (Prepare k n) seen 
 law_words kind (Init k n) seen low own = by_status kind 4 (Init k n) seen low (omega arith) refl
 law_words kind Off seen low own = zeros_words
 
-start_words : (kind : ℕ) → kind < 5 → AreWords (start_of kind)
+start_words : (kind : ℕ) → kind < 6 → AreWords (start_of kind)
 unfolding word
 start_words kind low i small = in_start kind 0 i _ low small (start_lies_after_init kind 0 low i small)
 
-kind_low : (spec : Parts) → IsSpec spec → (a : ℕ) (app : Option AppSpec) → slice_get spec.apps a ≡ app → kind_of_app spec a < 5
+kind_low : (spec : Parts) → IsSpec spec → (a : ℕ) (app : Option AppSpec) → slice_get spec.apps a ≡ app → kind_of_app spec a < 6
 kind_low spec facts a None is = rw is (omega arith)
 kind_low spec facts a (Some app) is = rw is (facts.apps a app is).kind
 

@@ -24,6 +24,7 @@ assumed halts window = record {
   invariants = [];
   preconditions = [];
   policy = policy.Retarget;
+  demands = [];
   halts = halts;
   changes = 1;
   window = window;

@@ -21,6 +21,9 @@ pub each_two : {A : Type 0} (P : A → Type 0) (x y : A) → P x → P y → Eac
 each_two P x y first second zero z there = subst P (same_Some x z there) first
 each_two P x y first second (suc i) z there = each_one P y second i z there
 
+pub differ_none : {A : Type 0} (name : A → List ℕ) → NamesDiffer name []
+differ_none name i j x y first second same = absurd cc
+
 pub differ_one : {A : Type 0} (name : A → List ℕ) (x : A) → NamesDiffer name (x ∷ [])
 differ_one name x zero zero y z first second same = refl
 differ_one name x zero (suc j) y z first second same = absurd cc
@@ -49,6 +52,7 @@ small p0 p1 app conf x0 x1 = record {
   invariants = [];
   preconditions = [];
   policy = Retarget;
+  demands = [];
   halts = 2;
   changes = 1;
   window = 40;
@@ -63,6 +67,7 @@ small_names p0 p1 app conf x0 x1 named0 named1 named_app named_conf named_x0 nam
   confs = each_one (λ (c : Conf). IsTrue (is_name c.name)) conf named_conf;
   factors = each_two (λ (x : Factor). IsTrue (is_name x.name)) x0 x1 named_x0 named_x1;
   values = each_two HasValueNames x0 x1 values0 values1;
+  demands = each_none _;
 }
 
 -- they keep the specification's invariant
@@ -93,6 +98,9 @@ small_kept p0 p1 app conf x0 x1 name0 name1 kept0 kept1 kept_app kept_conf name_
   invariants = each_none _;
   preconditions_count = omega arith;
   preconditions = each_none _;
+  demands_count = omega arith;
+  demands_differ = differ_none _;
+  demands = each_none _;
   halts = omega arith;
   changes = omega arith;
   window_least = omega arith;

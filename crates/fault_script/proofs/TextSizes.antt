@@ -2,7 +2,6 @@
 use Rattle.std.proofs.Common.{◌≡◌, ◌≤◌, ℕ, true, List, [], ◌∷◌, length, map, arith, refl}
 use Rattle.std.specs.Prelude.{Option, Some, None, codes, slice_get}
 use Rattle.std.specs.Option.{option_map_or}
-use Rattle.json.specs.Print.{quoted}
 use Rattle.serde_json.specs.View.{items_of}
 use Rattle.scram_types.specs.declared.limits.TheConstants.{MAX_FRAMES, MAX_SCRIPT_BYTES}
 use Rattle.scram_types.specs.declared.scripts.Change.{Change}
@@ -11,24 +10,14 @@ use Rattle.scram_types.specs.declared.scripts.RestartAt.{RestartAt}
 use Rattle.scram_types.specs.declared.specification.Factor.{Factor}
 use Rattle.scram_types.specs.declared.specification.Proc.{Proc}
 use Rattle.scram_types.specs.Lookups.{value_name}
-use Rattle.scram_types.specs.Names.{is_name}
 use Rattle.scram_types.specs.Scripts.{ScriptParts}
 use Rattle.scram_types.specs.Specification.{HasNames, HasValueNames, IsSpec, Parts}
 use Rattle.fault_script.specs.Fits.{Fits, IsChange, IsHalt, IsRestart}
 use Rattle.fault_script.specs.Texts.{change_data, halt_data, restart_data, script_data, script_data_by, script_text}
-use Rattle.scram_doc.proofs.TextLengths.{items_weight, list_weight, name_length, no_longer, number_weight, quoted_length, weight}
-
--- the length of a text between its quotes, as it is written
-abbrev exact : List ℕ → ℕ
-exact text = length (quoted text)
-
--- what is not there has no name, and so two quotes alone
-found_length : {A : Type 0} (name : A → List ℕ) (found : Option A) → ((x : A) → found ≡ Some x → is_name (name x) ≡ true) → length (quoted (option_map_or name found [])) ≤ 18
-found_length name None named = omega arith
-found_length name (Some x) named = name_length (name x) (named x refl)
+use Rattle.scram_doc.proofs.TextLengths.{exact, found_length, items_weight, list_weight, no_longer, number_weight, quoted_length, weight}
 
 value_length : (found : Option Factor) (value : ℕ) → ((factor : Factor) → found ≡ Some factor → HasValueNames factor)
-    → length (quoted (option_map_or (λ (factor : Factor). value_name factor value) found [])) ≤ 18
+    → exact (option_map_or (λ (factor : Factor). value_name factor value) found []) ≤ 18
 value_length None value named = omega arith
 value_length (Some factor) value named = found_length (λ (name : List ℕ). name) (slice_get factor.values value) (named factor refl value)
 

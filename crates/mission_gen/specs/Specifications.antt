@@ -45,6 +45,7 @@ with_further_factors spec = record {
   invariants = spec.invariants;
   preconditions = spec.preconditions;
   policy = spec.policy;
+  demands = spec.demands;
   halts = spec.halts;
   changes = spec.changes;
   window = spec.window;

@@ -1,4 +1,4 @@
-//! Racks that hold the boxes of all five kinds, made where the macro stands. A rack has the boxes that it is made of, in
+//! Racks that hold the boxes of kinds 0 to 4, made where the macro stands. A rack has the boxes that it is made of, in
 //! their order; nothing is promised of their kinds: `racks_fit` tests them where they are made.
 #![tactic(auto)]
 

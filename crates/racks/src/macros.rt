@@ -19,7 +19,7 @@ macro_rules! rack {
     }};
 }
 
-/// Eight racks, one for each processor, each with the boxes of all five kinds. Where a processor is given, as
+/// Eight racks, one for each processor, each with the boxes of kinds 0 to 4. Where a processor is given, as
 /// `Some(number)`, and a box, its rack has that box in the autopilot's place.
 #[macro_export]
 macro_rules! racks {

@@ -49,19 +49,19 @@ spelled_there : (name : Option (List ℕ)) → IsSome name → name ≡ Some (na
 spelled_there None is = absurd (let wrong : false ≡ true = is in cc)
 spelled_there (Some name) is = refl
 
-pub mode_spelled : (kind mode : ℕ) → kind < 5 → 1 ≤ mode → mode ≤ modes_of_kind kind → number_in (mode_names kind) (name_of_mode kind mode) ≡ Some mode
+pub mode_spelled : (kind mode : ℕ) → kind < 6 → 1 ≤ mode → mode ≤ modes_of_kind kind → number_in (mode_names kind) (name_of_mode kind mode) ≡ Some mode
 mode_spelled kind mode below first last =
     let agree = all_names_agree.each kind below in
     agree.modes.named mode (name_of_mode kind mode) (spelled_there (name_in (mode_names kind) mode) (agree.mode_named mode (record { first = first; last = last })))
 
-kind_spelled : (kind : ℕ) → kind < 5 → number_in kind_names (name_of_kind kind) ≡ Some kind
+kind_spelled : (kind : ℕ) → kind < 6 → number_in kind_names (name_of_kind kind) ≡ Some kind
 kind_spelled kind below = all_names_agree.kinds.named kind (name_of_kind kind) (spelled_there (name_in kind_names kind) (all_names_agree.each kind below).name)
 
 record NewMode (kind : ℕ) (done : List ModeSpec) (listed : ModeSpec) : Type 0 where
   new : is_some (mode_in done listed.mode.0) ≡ false
   is : IsModeSpec kind listed
 
-mode_back : (kind : ℕ) → kind < 5 → (at : List ℕ) (done : List ModeSpec) (listed : ModeSpec) → NewMode kind done listed → read_mode kind at done (mode_data kind listed) ≡ Ok listed
+mode_back : (kind : ℕ) → kind < 6 → (at : List ℕ) (done : List ModeSpec) (listed : ModeSpec) → NewMode kind done listed → read_mode kind at done (mode_data kind listed) ≡ Ok listed
 mode_back kind below at done listed fits =
     let is = fits.is in
     let load = is.load in
@@ -77,7 +77,7 @@ mode_back kind below at done listed fits =
       whole_back 1 17 listed.init is.init.least (omega (arith, init)),
     ) refl
 
-modes_back : (kind : ℕ) → kind < 5 → (at : List ℕ) (modes : List ModeSpec) → HasLength 1 3 modes → Each (IsModeSpec kind) modes → AllAfter (λ (done : List ModeSpec) (listed : ModeSpec). lists_mode done listed ≡ false) modes
+modes_back : (kind : ℕ) → kind < 6 → (at : List ℕ) (modes : List ModeSpec) → HasLength 1 3 modes → Each (IsModeSpec kind) modes → AllAfter (λ (done : List ModeSpec) (listed : ModeSpec). lists_mode done listed ≡ false) modes
     → read_modes kind at (list_data (mode_data kind) modes) ≡ Ok modes
 modes_back kind below at modes count each new =
     list_back (NewMode kind) (read_mode kind) (mode_data kind) (mode_back kind below) 1 3 at modes count.enough count.few (λ i x e. record { new = new i x e; is = each i x e })

@@ -157,7 +157,7 @@ goal_back at goal is =
 some_same : (x y : AppSpec) → Some x ≡ Some y → x ≡ y
 some_same x y e = cc
 
-variable_back : (apps : List AppSpec) (app : AppSpec) (a variable : ℕ) → slice_get apps a ≡ Some app → app.kind.0 < 5 → IsVariable (slice_get apps a) variable
+variable_back : (apps : List AppSpec) (app : AppSpec) (a variable : ℕ) → slice_get apps a ≡ Some app → app.kind.0 < 6 → IsVariable (slice_get apps a) variable
     → number_in (variable_names app.kind.0) (name_of_kind_variable app.kind.0 variable) ≡ Some variable
 variable_back apps app a variable there below is =
     let agree = (all_names_agree.each app.kind.0 below).variables in

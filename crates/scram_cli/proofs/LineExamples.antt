@@ -43,6 +43,7 @@ named factors bounds = record {
   invariants = [];
   preconditions = [];
   policy = policy.Retarget;
+  demands = [];
   halts = 1;
   changes = 1;
   window = 40;

@@ -67,16 +67,16 @@ wider low high least most x a b c d = (omega (arith, ints), omega (arith, ints))
 abbrev is_small : ℕ → ℕ → Bool
 is_small kind i = int_le (minus 1000000) (sane kind i).0 && int_le (sane kind i).1 (pos 1000000)
 
-small_ranges : (kind : ℕ) → kind < 5 → all_below (is_small kind) 8 ≡ true
+small_ranges : (kind : ℕ) → kind < 6 → all_below (is_small kind) 8 ≡ true
 unfolding sane sane_range mode_range kind_variable widest_mode
-small_ranges = each_kind (λ kind. all_below (is_small kind) 8 ≡ true) refl refl refl refl refl
+small_ranges = each_kind (λ kind. all_below (is_small kind) 8 ≡ true) refl refl refl refl refl refl
 
-small_range : (kind i : ℕ) → kind < 5 → i < 8 → (minus 1000000 ≤ℤ (sane kind i).0) × ((sane kind i).1 ≤ℤ pos 1000000)
+small_range : (kind i : ℕ) → kind < 6 → i < 8 → (minus 1000000 ≤ℤ (sane kind i).0) × ((sane kind i).1 ≤ℤ pos 1000000)
 small_range kind i k below =
     let e = all_each (is_small kind) 8 i (small_ranges kind k) below in
     (int_of (minus 1000000) (sane kind i).0 (and_left _ _ e), int_of (sane kind i).1 (pos 1000000) (and_right _ _ e))
 
-during_shown : (kind status mode i : ℕ) (x : ℤ) → kind < 5 → status ≤ 4 → i < 8 → Between (during kind status mode i) x → IsShown x
+during_shown : (kind status mode i : ℕ) (x : ℤ) → kind < 6 → status ≤ 4 → i < 8 → Between (during kind status mode i) x → IsShown x
 during_shown kind status mode i x k s below lies =
     let inside = (tables_narrow kind mode i k below).sane status s in
     let small = small_range kind i k below in
@@ -103,14 +103,14 @@ zeros_shown = record { width = refl; words = λ i x there. zero_shown 8 i x ther
     zero_shown (suc n) zero x there = let e : pos 0 ≡ x = cc in rw (← e) (omega arith)
     zero_shown (suc n) (suc i) x there = zero_shown n i x there
 
-told_area : (kind status : ℕ) (o : Order) (seen : Seen) → kind < 5 → status ≤ 4 → status_of o ≡ Some status → IsAreaShown seen.own → IsAreaShown (law kind o seen)
+told_area : (kind status : ℕ) (o : Order) (seen : Seen) → kind < 6 → status ≤ 4 → status_of o ≡ Some status → IsAreaShown seen.own → IsAreaShown (law kind o seen)
 told_area kind status o seen k s is own = record {
   width = law_eight kind o seen own.width;
   words = each_word (law kind o seen) (law_eight kind o seen own.width)
       (λ i below. during_shown kind status seen.mode.0 i (word (law kind o seen) i) k s below (law_lies_during kind status o seen k is i below));
 }
 
-law_shown : (kind : ℕ) (o : Order) (seen : Seen) → kind < 5 → IsAreaShown seen.own → IsAreaShown (law kind o seen)
+law_shown : (kind : ℕ) (o : Order) (seen : Seen) → kind < 6 → IsAreaShown seen.own → IsAreaShown (law kind o seen)
 law_shown kind order.Run seen k own = told_area kind 1 order.Run seen k (omega arith) refl own
 law_shown kind (order.Halt j n) seen k own = told_area kind 2 (order.Halt j n) seen k (omega arith) refl own
 law_shown kind order.Hold seen k own = own
@@ -189,16 +189,16 @@ start_by : (spec : Parts) (a : ℕ) → IsSpec spec → (place : Option Place) �
 start_by spec a sound None = zeros_shown
 start_by spec a sound (Some place) = start_shown (kind_of_app spec a) (kind_known spec sound a)
   where
-    start_lies : (kind : ℕ) → kind < 5 → AreaLies (after_init kind 1) (start_of kind)
+    start_lies : (kind : ℕ) → kind < 6 → AreaLies (after_init kind 1) (start_of kind)
     start_lies kind k = start_lies_after_init kind 1 k
 
-    narrow : (kind i : ℕ) (x : ℤ) → kind < 5 → i < 8 → Between (after_init kind 1 i) x → IsShown x
+    narrow : (kind i : ℕ) (x : ℤ) → kind < 6 → i < 8 → Between (after_init kind 1 i) x → IsShown x
     narrow kind i x k below lies =
         let inside = (tables_narrow kind 1 i k below).init in
         let one = wider (during kind 4 1 i).0 (during kind 4 1 i).1 (after_init kind 1 i).0 (after_init kind 1 i).1 x inside.least inside.greatest lies.least lies.greatest in
         during_shown kind 4 1 i x k (omega arith) below (record { least = one.0; greatest = one.1 })
 
-    start_shown : (kind : ℕ) → kind < 5 → IsAreaShown (start_of kind)
+    start_shown : (kind : ℕ) → kind < 6 → IsAreaShown (start_of kind)
     start_shown kind k = record { width = refl; words = each_word (start_of kind) refl (λ i below. narrow kind i (word (start_of kind) i) k below (start_lies kind k i below)) }
 
 starts_shown : (spec : Parts) → IsSpec spec → IsStateShown spec (start_state spec)

@@ -1,7 +1,8 @@
 -- How long the text of a value may be. Each byte of a text takes at most six, and a text that spells a name stands as it is,
 -- between two quotes.
 use Rattle.std.proofs.Common.{◌≡◌, ◌+◌, ◌*◌, ◌≤◌, ◌<◌, ◌^◌, ◌/◌, ◌%◌, ℕ, suc, Bool, true, false, cond, List, [], ◌∷◌, ◌++◌, length, map, arith, refl}
-use Rattle.std.specs.Prelude.{◌&&◌, nat_le, nat_lt, slice_get, Some}
+use Rattle.std.specs.Prelude.{◌&&◌, nat_le, nat_lt, slice_get, Option, Some, None}
+use Rattle.std.specs.Option.{option_map_or}
 use Rattle.std.specs.Char.{digit_char, is_ascii_lowercase}
 use Rattle.std.specs.List.{list_all}
 use Rattle.std.proofs.lemmas.Bool.{and_parts, leb-true}
@@ -43,6 +44,11 @@ name_length (x ∷ xs) named =
     let spelled : list_all is_letter_of_name (x ∷ xs) ≡ true = rw (first_byte x bytes.0) bytes.1 in
     omega (arith, quoted_length (x ∷ xs) spelled, short)
 
+-- what is not there has no name, and so two quotes alone
+pub found_length : {A : Type 0} (name : A → List ℕ) (found : Option A) → ((x : A) → found ≡ Some x → is_spelled_name (name x) ≡ true) → length (quoted (option_map_or name found [])) ≤ 18
+found_length name None named = omega arith
+found_length name (Some x) named = name_length (name x) (named x refl)
+
 choice_short : (a b : Bool) (xs ys zs : List ℕ) → length xs ≤ 6 → length ys ≤ 6 → length zs ≤ 6 → length (cond a xs (cond b ys zs)) ≤ 6
 choice_short true b xs ys zs p q r = p
 choice_short false true xs ys zs p q r = q
@@ -64,6 +70,10 @@ escape_length (x ∷ xs) =
 -- any text, between two quotes
 pub escaped_length : (xs : List ℕ) → length (quoted xs) ≤ 6 * length xs + 2
 escaped_length xs = let inside = escape_length xs in omega (arith, inside, length-append (escape xs) (34 ∷ []))
+
+-- the length of a text between its quotes, as it is written
+abbrev pub exact : List ℕ → ℕ
+exact text = length (quoted text)
 
 -- a bound on the length of a value's text, where a text has at most the length that `measure` gives
 abbrev mutual

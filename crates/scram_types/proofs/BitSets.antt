@@ -5,9 +5,9 @@ use Rattle.std.specs.Prelude.{◌==◌, max, min, bit_and, bit_or, if◌then◌e
 use Rattle.std.specs.Int.{bit_at, bit_not, w8}
 use Rattle.std.proofs.Math.Nat.{div-eq_of_lt, pow-le-pow_right, pow-suc}
 use Rattle.std.proofs.lemmas.Nat.{and_le_l, mod-pow-add, mod_below, one_shl, or_comm, or_lt, or_shifted}
-use Rattle.std.proofs.lemmas.Nat.Bits.{bit_at_and, bit_at_cat_high, bit_at_cat_low, bit_at_not, bit_at_or, same_from_bits_below}
+use Rattle.std.proofs.lemmas.Nat.Bits.{bit_at-pow_other, bit_at_and, bit_at_cat_high, bit_at_cat_low, bit_at_not, bit_at_or, same_from_bits_below}
 use Rattle.scram_types.specs.Bits.{bits_below, count_below, has_bit}
-use Rattle.scram_types.proofs.Naturals.{below_or_at, differ_test, equal_test}
+use Rattle.scram_types.proofs.Naturals.{below_or_at, differ_test, equal_test, same_or_not}
 
 pub twice : (n : ℕ) → 2 ^ suc n ≡ 2 ^ n + 2 ^ n
 twice n = pow-suc 2 n ∙ omega arith
@@ -25,6 +25,9 @@ no_bit set n p few past =
     let wide : 2 ^ n ≤ 2 ^ p = pow-le-pow_right (omega arith) past in
     let small : set < 2 ^ p = omega arith in
     rw (div-eq_of_lt small) refl
+
+pub no_bit_past : (set n p : ℕ) → set < 2 ^ n → n ≤ p → has_bit set p ≡ false
+no_bit_past set n p few past = rw (no_bit set n p few past) refl
 
 pub no_high_bit : (set p : ℕ) → set < 256 → 8 ≤ p → has_bit set p ≡ false
 no_high_bit set p few high = rw (no_bit set 8 p few high) refl
@@ -115,6 +118,15 @@ all_ones (suc n) = let before = all_ones n in rw (twice n) (omega arith)
 
 pub bits_all : (n : ℕ) → 2 ^ n - 1 ≡ bits_below (λ i. true) n
 bits_all n = let all = all_ones n in omega arith
+
+-- a number of a set with one more number
+pub has_more : (set k n : ℕ) → has_bit (bit_or set (2 ^ k)) n ≡ true → (has_bit set n ≡ true) ⊎ (n ≡ k)
+has_more set k n is = elim (same_or_not n k) [
+  | inl same ↦ inr same
+  | inr other ↦ inl (
+      let beside : bit_at (bit_or set (2 ^ k)) n ≡ bit_at set n = bit_at_or set (2 ^ k) n ∙ rw (bit_at-pow_other k n other) (omega arith) in
+      sym (ap (λ (b : ℕ). b == 1) beside) ∙ is)
+]
 
 -- how many numbers pass
 

@@ -1,6 +1,7 @@
 pub mod Bits
 pub mod Eights
 pub mod Lookups
+pub mod ModeLists
 pub mod Names
 pub mod Numbers
 pub mod Ranges

@@ -1,9 +1,11 @@
 -- A specification as plain data, and what every specification keeps.
-use Rattle.std.specs.Prelude.{◌≡◌, ℕ, ℤ, pos, ◌==◌, ◌&&◌, ◌^◌, ◌<◌, ◌≤◌, ◌≤ℤ◌, nat_lt, List, [], ◌∷◌, length, slice_get, slice_index_or, Option, Some, None, IsSome, IfSome, IsTrue, option_and_then, if◌then◌else◌}
+use Rattle.std.specs.Prelude.{◌≡◌, ℕ, ℤ, pos, true, false, ◌==◌, ◌&&◌, ◌^◌, ◌<◌, ◌≤◌, ◌≤ℤ◌, nat_lt, List, [], ◌∷◌, length, slice_get, slice_index_or, Option, Some, None, IsSome, IfSome, IsTrue, option_and_then, if◌then◌else◌}
+use Rattle.scram_types.specs.Bits.{has_bit}
 use Rattle.scram_types.specs.Names.{is_name}
 use Rattle.scram_types.specs.Numbers.{minus}
 use Rattle.scram_types.specs.declared.ids.AppId.{AppId}
 use Rattle.scram_types.specs.declared.ids.ConfId.{ConfId}
+use Rattle.scram_types.specs.declared.ids.Mode.{Mode}
 use Rattle.scram_types.specs.declared.flights.Goal.{Goal}
 use Rattle.scram_types.specs.declared.specification.Proc.{Proc}
 use Rattle.scram_types.specs.declared.specification.ModeSpec.{ModeSpec}
@@ -17,6 +19,7 @@ use Rattle.scram_types.specs.declared.specification.Bound.{Bound}
 use Rattle.scram_types.specs.declared.specification.Invariant.{Invariant}
 use Rattle.scram_types.specs.declared.specification.Precondition.{Precondition}
 use Rattle.scram_types.specs.declared.specification.Policy.{Policy}
+use Rattle.scram_types.specs.declared.specification.Demand.{Demand}
 
 -- A specification, as contracts see it.
 pub record Parts : Type 0 where
@@ -31,6 +34,7 @@ pub record Parts : Type 0 where
   pub invariants : List Invariant
   pub preconditions : List Precondition
   pub policy : Policy
+  pub demands : List Demand
   pub halts : ℕ
   pub changes : ℕ
   pub window : ℕ
@@ -38,6 +42,11 @@ pub record Parts : Type 0 where
 -- Where a configuration places application a: nowhere where it is off, or past the last.
 abbrev pub place_in : Conf → ℕ → Option Place
 place_in conf a = option_and_then (λ (place : Option Place). place) (slice_get conf.places a)
+
+-- The modes of which a demand has application a on in one, any mode where there are none; nothing where the application
+-- need not be on, or past the last.
+abbrev pub modes_on : Demand → ℕ → Option (List Mode)
+modes_on demand a = option_and_then (λ (modes : Option (List Mode)). modes) (slice_get demand.on a)
 
 -- What a mode costs: the first of the listed modes that has this number.
 abbrev pub mode_in : List ModeSpec → ℕ → Option ModeSpec
@@ -67,7 +76,7 @@ greatest_bound_in bounds from = greatest_bound_from None bounds from
 
 -- How many modes a kind has, kind n at place n; they are numbered from 1.
 unfoldable pub modes_of_kind : ℕ → ℕ
-modes_of_kind kind = slice_index_or (2 ∷ 2 ∷ 3 ∷ 2 ∷ 2 ∷ []) kind 0
+modes_of_kind kind = slice_index_or (2 ∷ 2 ∷ 3 ∷ 2 ∷ 2 ∷ 3 ∷ []) kind 0
 
 -- A list has at least `low` and at most `high` items.
 pub record HasLength {A : Type 0} (low high : ℕ) (xs : List A) : Type 0 where
@@ -98,6 +107,7 @@ pub record HasNames (spec : Parts) : Type 0 where
   pub confs : AreSpelled (λ (conf : Conf). conf.name) spec.confs
   pub factors : AreSpelled (λ (factor : Factor). factor.name) spec.factors
   pub values : Each HasValueNames spec.factors
+  pub demands : AreSpelled (λ (demand : Demand). demand.name) spec.demands
 
 -- What a processor keeps: its capacity in load units.
 pub record IsProc (proc : Proc) : Type 0 where
@@ -125,7 +135,7 @@ pub record IsNeeded (apps : List AppSpec) (app : AppSpec) (needed : AppId) : Typ
 
 -- An application is of a kind that is built, needs only what has a lower rank, and lists one to three modes.
 pub record IsAppSpec (apps : List AppSpec) (app : AppSpec) : Type 0 where
-  pub kind : app.kind.0 < 5
+  pub kind : app.kind.0 < 6
   pub rank : app.rank < 8
   pub few_needs : length app.needs ≤ 8
   pub needs : Each (IsNeeded apps app) app.needs
@@ -204,6 +214,29 @@ pub record IsPrecondition (apps : List AppSpec) (confs : List Conf) (pre : Preco
   pub conf : IsIn confs pre.conf
   pub interval : IsInterval apps pre.app pre.variable pre.least pre.greatest
 
+-- An application that has to be on exists, and it lists each mode of which it has to be in one; no mode stands twice.
+pub record IsOn (apps : List AppSpec) (a : ℕ) (modes : List Mode) : Type 0 where
+  pub app : AppSpec
+  pub there : slice_get apps a ≡ Some app
+  pub few : length modes ≤ 3
+  pub listed : Each (λ (mode : Mode). IsSome (mode_in app.modes mode.0)) modes
+  pub differ : (i j : ℕ) (m n : Mode) → slice_get modes i ≡ Some m → slice_get modes j ≡ Some n → m.0 ≡ n.0 → i ≡ j
+
+-- A demand names configurations, values, processors and applications that exist; no processor has to be both up and
+-- down, and no application both on and off.
+pub record IsDemand (procs : List Proc) (apps : List AppSpec) (confs : List Conf) (factors : List Factor) (demand : Demand) : Type 0 where
+  pub from : demand.from < 2 ^ length confs
+  pub few : length demand.wants ≤ 6
+  pub wants : Each (IsWant factors) demand.wants
+  pub up : demand.up < 2 ^ length procs
+  pub down : demand.down < 2 ^ length procs
+  pub apart : (p : ℕ) → has_bit demand.up p ≡ true → has_bit demand.down p ≡ false
+  pub to : demand.to < 2 ^ length confs
+  pub width : length demand.on ≡ 8
+  pub on : (a : ℕ) (modes : List Mode) → modes_on demand a ≡ Some modes → IsOn apps a modes
+  pub off : demand.off < 2 ^ length apps
+  pub one : (a : ℕ) → has_bit demand.off a ≡ true → modes_on demand a ≡ None
+
 -- The specification's invariant.
 pub record IsSpec (spec : Parts) : Type 0 where
   pub names : HasNames spec
@@ -229,6 +262,9 @@ pub record IsSpec (spec : Parts) : Type 0 where
   pub invariants : Each (IsInvariant spec.apps spec.confs) spec.invariants
   pub preconditions_count : length spec.preconditions ≤ 64
   pub preconditions : Each (IsPrecondition spec.apps spec.confs) spec.preconditions
+  pub demands_count : length spec.demands ≤ 64
+  pub demands_differ : NamesDiffer (λ (demand : Demand). demand.name) spec.demands
+  pub demands : Each (IsDemand spec.procs spec.apps spec.confs spec.factors) spec.demands
   pub halts : spec.halts ≤ 8
   pub changes : spec.changes ≤ 16
   pub window_least : 1 ≤ spec.window

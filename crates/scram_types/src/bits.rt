@@ -1,11 +1,18 @@
-//! Sets of numbers below 8 that are kept as bits.
+//! Sets of numbers that are kept as bits.
 
 ghost use Rattle.std.specs.Prelude.{◌≡◌};
 ghost use Rattle.scram_types.specs.Bits.{has_bit};
 
-/// Returns whether number `p` is in a set: whether bit `p` of it is set.
+/// Returns whether number `p` is in a set of numbers below 8: whether bit `p` of it is set.
 pub fn has_bit(set: u8, p: u8) -> bool
     ensures { result ≡ has_bit set p }
 {
     p < 8 && set >> p & 1 == 1
+}
+
+/// Returns whether number `n` is in a set of numbers below 16: whether bit `n` of it is set.
+pub fn is_in(set: u16, n: u8) -> bool
+    ensures { result ≡ has_bit set n }
+{
+    n < 16 && set >> n & 1 == 1
 }

@@ -16,7 +16,7 @@ pub struct ConfId(pub u8);
 #[derive(Clone, Copy, Debug, PartialEq, Eq)]
 pub struct FactorId(pub u8);
 
-/// A kind of application: 0 autopilot, 1 flight control, 2 power monitor, 3 navigator, 4 data link.
+/// A kind of application: 0 autopilot, 1 flight control, 2 power monitor, 3 navigator, 4 data link, 5 task.
 #[derive(Clone, Copy, Debug, PartialEq, Eq)]
 pub struct KindId(pub u8);
 

@@ -9,6 +9,7 @@ pub mod limits;
 pub mod lists;
 pub mod lookups;
 pub mod memory;
+pub mod mode_lists;
 pub mod names;
 pub mod numbers;
 pub mod orders;
@@ -20,11 +21,12 @@ pub use flights::{Area, Env, Flown, Goal, Image, Report, Row, World};
 pub use ids::{AppId, ConfId, FactorId, KindId, Mode, ProcId};
 pub use lists::List;
 pub use memory::NoMemory;
+pub use mode_lists::Modes;
 pub use names::Name;
 pub use orders::{Act, KMode, Order};
 pub use ranges::Range;
 pub use scripts::{Change, HaltAt, RestartAt, Script};
 pub use specification::{
-    AppSpec, Bound, Choice, Conf, Factor, Invariant, ModeSpec, Place, Policy, Precondition, Proc,
-    Spec, Want,
+    AppSpec, Bound, Choice, Conf, Demand, Factor, Invariant, ModeSpec, Place, Policy, Precondition,
+    Proc, Spec, Want,
 };

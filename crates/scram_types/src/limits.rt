@@ -20,6 +20,8 @@ pub const MAX_RULES: usize = 64;
 pub const MAX_BOUNDS: usize = 144;
 /// Invariants, and also preconditions, from none.
 pub const MAX_INTERVALS: usize = 64;
+/// Demands of a specification, from none.
+pub const MAX_DEMANDS: usize = 64;
 /// The greatest capacity of a processor and the greatest load of a mode, in load units.
 pub const MAX_LOAD: u32 = 1_000_000;
 /// The longest halt, prepare or init phase of a mode, in frames; the shortest is 1.
@@ -39,7 +41,7 @@ pub const MAX_ALTITUDE: i64 = 40_000;
 /// The greatest goal heading, in tenths of a degree; the least is 0.
 pub const MAX_HEADING: i64 = 3_599;
 /// Kinds of application that are built; their numbers are those below this.
-pub const KINDS: u8 = 5;
+pub const KINDS: u8 = 6;
 /// The most frames that a script flies.
 pub const MAX_FRAMES: u32 = 20_000;
 /// The most changes that a script lists.

@@ -108,7 +108,7 @@ impl Spec {
     /// Returns the kind of an application; 0 where it does not exist.
     pub fn kind_of_app(&self, app: AppId) -> KindId
         ensures kind { result.0 ≡ kind_of_app self.now app.0 }
-        ensures built { result.0 < 5 }
+        ensures built { result.0 < 6 }
     {
         match self.apps.items().get(usize::from(app.0)) {
             Some(app) => app.kind,

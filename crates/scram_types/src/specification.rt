@@ -7,6 +7,7 @@ ghost use Rattle.scram_types.specs.Specification.{greater_of};
 use crate::flights::Goal;
 use crate::ids::{AppId, ConfId, FactorId, KindId, Mode, ProcId};
 use crate::lists::List;
+use crate::mode_lists::Modes;
 use crate::names::Name;
 
 /// A processor and the load that it can carry, 0 to 1,000,000 load units.
@@ -114,6 +115,24 @@ pub enum Policy {
     Settle,
 }
 
+/// What has to run where: where the environment has each value of `wants`, each processor of `up` is up and each of
+/// `down` is down, a choice from a configuration of `from` has to be one of `to` in which each application of `on` is on
+/// and each of `off` is off. An empty `from` or `to` stands for every configuration. Sets are bits by number.
+///
+/// `on` has for each application `None` where it need not be on, and else the modes of which it has to be in one, any
+/// mode where there are none.
+#[derive(Drop)]
+pub struct Demand {
+    pub name: Name,
+    pub from: u16,
+    pub wants: List<Want>,
+    pub up: u8,
+    pub down: u8,
+    pub to: u16,
+    pub on: [Option<Modes>; 8],
+    pub off: u8,
+}
+
 /// A specification. Its maker proves `IsSpec` of it: names differ within their class, indexes are in range, the
 /// limits hold, a needed application has a lower rank, modes are modes of their kind, and a placed mode is one that
 /// its application lists.
@@ -134,6 +153,7 @@ pub struct Spec {
     pub invariants: List<Invariant>,
     pub preconditions: List<Precondition>,
     pub policy: Policy,
+    pub demands: List<Demand>,
     pub halts: u8,
     pub changes: u8,
     pub window: u32,
@@ -156,6 +176,7 @@ impl std::marker::Model for Spec {
       invariants = s.invariants;
       preconditions = s.preconditions;
       policy = s.policy;
+      demands = s.demands;
       halts = s.halts;
       changes = s.changes;
       window = s.window;
@@ -173,6 +194,7 @@ impl std::marker::Model for Spec {
       invariants = s.invariants;
       preconditions = s.preconditions;
       policy = s.policy;
+      demands = s.demands;
       halts = s.halts;
       changes = s.changes;
       window = s.window;
@@ -188,6 +210,21 @@ impl Conf {
     {
         match self.places.get(usize::from(app.0)) {
             Some(place) => *place,
+            None => None,
+        }
+    }
+}
+
+impl Demand {
+    ghost use Rattle.scram_types.specs.Specification.{modes_on};
+
+    /// Returns the modes of which an application has to be on in one, any mode where there are none; `None` where it
+    /// need not be on.
+    pub fn modes_on(&self, app: AppId) -> Option<Modes>
+        ensures { result ≡ modes_on self.now app.0 }
+    {
+        match self.on.get(usize::from(app.0)) {
+            Some(modes) => *modes,
             None => None,
         }
     }

@@ -12,12 +12,12 @@ use Rattle.spec_members.specs.Facts.{IsFresh}
 -- A mode is listed for the first time, and is one of the kind where the kind exists.
 pub record IsNewMode (kind : ℕ) (done : List ModeSpec) (mode : ModeSpec) : Type 0 where
   pub new : mode_in done mode.mode.0 ≡ None
-  pub is : kind < 5 → IsModeSpec kind mode
+  pub is : kind < 6 → IsModeSpec kind mode
 
 -- an application, before its needs are looked up, whose name none before it has
 pub record IsNewApp (done : List AppSpec) (app : AppSpec) : Type 0 where
   pub name : IsFresh name_of_app done app.name
-  pub kind : app.kind.0 < 5
+  pub kind : app.kind.0 < 6
   pub count : HasLength 1 3 app.modes
   pub modes : AllAfter (IsNewMode app.kind.0) app.modes
 

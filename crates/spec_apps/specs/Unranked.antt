@@ -9,7 +9,7 @@ use Rattle.spec_members.specs.Kept.{IsWritableApp}
 
 -- an application whose needs are not ranked yet, among this number of applications
 pub record IsUnranked (count : ℕ) (app : AppSpec) : Type 0 where
-  pub kind : app.kind.0 < 5
+  pub kind : app.kind.0 < 6
   pub few_needs : length app.needs ≤ 8
   pub needs : Each (λ (need : AppId). need.0 < count) app.needs
   pub modes_count : HasLength 1 3 app.modes

@@ -99,7 +99,7 @@ impl Elements<ModeSpec> for Modes {
 
 fn read_kind(v: &Value, at: &Path) -> Result<KindId, DocFault>
     ensures value { ok_map (λ kind. kind.0) result ≡ read_kind at.now (view v.now) }
-    ensures built { IfOk result (λ kind. kind.0 < 5) }
+    ensures built { IfOk result (λ kind. kind.0 < 6) }
 {
     match kind_named(text(v, at)?) {
         Some(kind) => Ok(kind),

@@ -14,7 +14,7 @@ use Rattle.scram_doc.specs.Lists.{AllAfter}
 pub each_of : {A : Type 0} → (Fact : List A → A → Type 0) → (Kept : A → Type 0) → (xs : List A) → ((done : List A) (x : A) → Fact done x → Kept x) → AllAfter Fact xs → Each Kept xs
 each_of Fact Kept xs weaker all = λ i x e. weaker (take i xs) x (all i x e)
 
-early : (i j : ℕ) (A : Type 0) (xs : List A) (x : A) → i < j → slice_get xs i ≡ Some x → slice_get (take j xs) i ≡ Some x
+pub early : (i j : ℕ) (A : Type 0) (xs : List A) (x : A) → i < j → slice_get xs i ≡ Some x → slice_get (take j xs) i ≡ Some x
 early i zero A xs x below e = absurd (omega (arith, below))
 early i (suc j) A [] x below e = absurd (let none : None ≡ Some x = e in cc)
 early zero (suc j) A (y ∷ ys) x below e = e
@@ -38,7 +38,7 @@ nowhere name k (y ∷ ys) zero x text e same none =
 nowhere name k (y ∷ ys) (suc i) x text e same none =
     nowhere name (suc k) ys i x text e same (later (bytes_eq (name y) text) k (number_from name (suc k) ys text) none)
 
-compare : (i j : ℕ) → (i < j) ⊎ ((i ≡ j) ⊎ (j < i))
+pub compare : (i j : ℕ) → (i < j) ⊎ ((i ≡ j) ⊎ (j < i))
 compare zero zero = inr (inl refl)
 compare zero (suc j) = inl (omega arith)
 compare (suc i) zero = inr (inr (omega arith))

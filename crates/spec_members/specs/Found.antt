@@ -6,7 +6,7 @@ use Rattle.serde_json.specs.Data.{Data}
 use Rattle.spec_members.specs.declared.members.Members.{Members}
 use Rattle.spec_members.specs.declared.members.NamingMembers.{NamingMembers}
 use Rattle.spec_members.specs.declared.members.MembersBehindNames.{MembersBehindNames}
-use Rattle.spec_members.specs.Versions.{IsPolicy}
+use Rattle.spec_members.specs.Versions.{AreDemands, IsPolicy}
 
 -- Each value is that of its member.
 pub record AreNamingMembers (d : Data) (m : NamingMembers) : Type 0 where
@@ -41,3 +41,4 @@ pub record AreMembers (m : Members) : Type 0 where
   pub preconditions : needed (codes "preconditions") [] (view m.document.now) ≡ Ok (view m.preconditions.now)
   pub assumption : needed (codes "assumption") [] (view m.document.now) ≡ Ok (view m.assumption.now)
   pub policy : IsPolicy (view m.document.now) (option_map (λ d. view d.now) m.policy)
+  pub demands : AreDemands (view m.document.now) (option_map (λ d. view d.now) m.demands)

@@ -5,6 +5,7 @@ use Rattle.scram_types.specs.declared.specification.Proc.{Proc}
 use Rattle.scram_types.specs.declared.specification.AppSpec.{AppSpec}
 use Rattle.scram_types.specs.declared.specification.Conf.{Conf}
 use Rattle.scram_types.specs.declared.specification.Factor.{Factor}
+use Rattle.scram_types.specs.declared.specification.Demand.{Demand}
 use Rattle.scram_types.specs.Lookups.{number_named}
 use Rattle.scram_types.specs.Names.{name_of}
 use Rattle.scram_doc.specs.declared.fault.DocFault.{DocFault}
@@ -28,6 +29,10 @@ name_of_conf conf = conf.name
 -- The name of an environment factor.
 abbrev pub name_of_factor : Factor → List ℕ
 name_of_factor factor = factor.name
+
+-- The name of a demand.
+abbrev pub name_of_demand : Demand → List ℕ
+name_of_demand demand = demand.name
 
 -- a text that is a name
 abbrev pub read_name : List ℕ → Data → Result (List ℕ) DocFault

@@ -1,16 +1,16 @@
 //! The members of a document, each of which is looked up once.
 
-ghost use Rattle.std.specs.Prelude.{◌≡◌, [], Ok, Some, codes, length, option_map, IfOk};
+ghost use Rattle.std.specs.Prelude.{◌≡◌, [], Ok, Some, codes, option_map, IfOk};
 ghost use Rattle.serde_json.specs.View.{view};
-ghost use Rattle.scram_doc.specs.Chain.{chain, ok_map};
+ghost use Rattle.scram_doc.specs.Chain.{ok_map};
 ghost use Rattle.scram_doc.specs.Members.{needed, no_more_than};
 ghost use Rattle.spec_members.specs.Found.{AreMembers, AreMembersBehindNames, AreNamingMembers};
-ghost use Rattle.spec_members.specs.Versions.{IsPolicy, each_needed, is_two_in, members_behind_names, members_of, members_tested, naming_members, policy_tested};
+ghost use Rattle.spec_members.specs.Versions.{AreDemands, IsPolicy, demands_tested, each_needed, is_version_in, members_behind_names, members_count, members_tested, naming_members, policy_tested};
 
 use scram_doc::{DocFault, Path, need, no_more, object};
 use serde_json::Value;
 
-/// The values of a document's members. A document of version 1 has no policy.
+/// The values of a document's members. A document of version 1 has no policy, and only one of version 3 has demands.
 #[derive(Clone, Copy)]
 pub struct Members<'a> {
     pub document: &'a Value,
@@ -27,30 +27,55 @@ pub struct Members<'a> {
     pub preconditions: &'a Value,
     pub assumption: &'a Value,
     pub policy: Option<&'a Value>,
+    pub demands: Option<&'a Value>,
 }
 
-/// Returns whether the value of a member `scram` is version 2.
-fn is_second_version(scram: &Value) -> bool
-    ensures { result ≡ is_two_in (Some (view scram.now)) }
+/// Returns whether the value of a member `scram` is the number of a version.
+fn is_version(scram: &Value, number: u64) -> bool
+    ensures { result ≡ is_version_in number (Some (view scram.now)) }
 {
-    scram.as_u64() == Some(2)
+    scram.as_u64() == Some(number)
 }
 
-/// Returns the policy of a document of version 2, where the document has no other members than those of its version.
+/// Returns the policy of a document, where its version has one.
 fn find_policy<'a>(document: &'a Value, scram: &Value) -> Result<Option<&'a Value>, DocFault>
     requires scram { needed (codes "scram") [] (view document.now) ≡ Ok (view scram.now) }
-    ensures tested { ok_map (λ _. tt) result ≡ chain (policy_tested (view document.now)) (λ _. no_more_than (length (members_of (view document.now))) [] (view document.now)) }
+    ensures tested { ok_map (λ _. tt) result ≡ policy_tested (view document.now) }
     ensures policy { IfOk result (λ policy. IsPolicy (view document.now) (option_map (λ d. view d.now) policy)) }
 {
-    let root = Path::root();
-    if is_second_version(scram) {
-        let policy = need(document, "policy", &root)?;
-        no_more(document, 13, &root)?;
-        Ok(Some(policy))
+    if is_version(scram, 2) || is_version(scram, 3) {
+        Ok(Some(need(document, "policy", &Path::root())?))
     } else {
-        no_more(document, 12, &root)?;
         Ok(None)
     }
+}
+
+/// Returns the demands of a document, where its version has them.
+fn find_demands<'a>(document: &'a Value, scram: &Value) -> Result<Option<&'a Value>, DocFault>
+    requires scram { needed (codes "scram") [] (view document.now) ≡ Ok (view scram.now) }
+    ensures tested { ok_map (λ _. tt) result ≡ demands_tested (view document.now) }
+    ensures demands { IfOk result (λ demands. AreDemands (view document.now) (option_map (λ d. view d.now) demands)) }
+{
+    if is_version(scram, 3) {
+        Ok(Some(need(document, "demands", &Path::root())?))
+    } else {
+        Ok(None)
+    }
+}
+
+/// Tests that a document has no other members than those of its version.
+fn check_count(document: &Value, scram: &Value) -> Result<(), DocFault>
+    requires scram { needed (codes "scram") [] (view document.now) ≡ Ok (view scram.now) }
+    ensures { result ≡ no_more_than (members_count (view document.now)) [] (view document.now) }
+{
+    let count = if is_version(scram, 3) {
+        14
+    } else if is_version(scram, 2) {
+        13
+    } else {
+        12
+    };
+    no_more(document, count, &Path::root())
 }
 
 /// The version, and the members that name things.
@@ -82,7 +107,7 @@ fn find_naming(document: &Value) -> Result<NamingMembers<'_>, DocFault>
     })
 }
 
-/// The members that stand behind the names in both versions.
+/// The members that stand behind the names in every version.
 #[derive(Clone, Copy)]
 struct MembersBehindNames<'a> {
     rules: &'a Value,
@@ -127,6 +152,8 @@ pub fn find_members(document: &Value) -> Result<Members<'_>, DocFault>
     let naming = find_naming(document)?;
     let behind = find_behind_names(document)?;
     let policy = find_policy(document, naming.scram)?;
+    let demands = find_demands(document, naming.scram)?;
+    check_count(document, naming.scram)?;
     Ok(Members {
         document,
         scram: naming.scram,
@@ -142,5 +169,6 @@ pub fn find_members(document: &Value) -> Result<Members<'_>, DocFault>
         preconditions: behind.preconditions,
         assumption: behind.assumption,
         policy,
+        demands,
     })
 }

@@ -4,12 +4,12 @@ ghost use Rattle.std.specs.Prelude.{◌≡◌, ◌<◌, ◌≤◌, length, IfOk,
 ghost use Rattle.serde_json.specs.View.{view};
 ghost use Rattle.scram_types.specs.Names.{is_name};
 ghost use Rattle.scram_doc.specs.Numbering.{itself};
-ghost use Rattle.spec_members.specs.Names.{read_name, read_new_name, read_named, name_of_proc, name_of_app, name_of_conf, name_of_factor};
+ghost use Rattle.spec_members.specs.Names.{read_name, read_new_name, read_named, name_of_proc, name_of_app, name_of_conf, name_of_factor, name_of_demand};
 ghost use Rattle.spec_members.specs.Facts.{IsFresh};
 
 use crate::rule;
 use scram_doc::{DocFault, Naming, Numbered, Path, text};
-use scram_types::{AppSpec, Conf, Factor, Name, Proc};
+use scram_types::{AppSpec, Conf, Demand, Factor, Name, Proc};
 use serde_json::Value;
 
 /// The things of a specification are named by their names, and a name by itself.
@@ -44,6 +44,14 @@ impl Naming<Factor> for ByName {
 
     fn name(factor: &Factor) -> &str {
         factor.name.as_str()
+    }
+}
+
+impl Naming<Demand> for ByName {
+    ghost spelling = { name_of_demand };
+
+    fn name(demand: &Demand) -> &str {
+        demand.name.as_str()
     }
 }
 

@@ -1,7 +1,7 @@
 //! The numbers of the rules of specification documents, which follow those of every document. A fault shows its
 //! number, so they never change.
 
-/// The version is neither 1 nor 2.
+/// The version is none of 1, 2 and 3.
 pub const UNKNOWN_VERSION: u8 = 9;
 
 /// A text that gives a name is no name.
@@ -16,7 +16,7 @@ pub const UNKNOWN_KIND: u8 = 12;
 /// The kind has no mode of this name.
 pub const UNKNOWN_MODE: u8 = 13;
 
-/// An application lists a mode twice.
+/// A mode is given twice in one list.
 pub const MODE_TWICE: u8 = 14;
 
 /// No processor has this name.
@@ -34,7 +34,8 @@ pub const UNKNOWN_FACTOR_OR_VALUE: u8 = 18;
 /// The application's kind has no variable of this name.
 pub const UNKNOWN_VARIABLE: u8 = 19;
 
-/// The same application, processor, factor or pair of configurations stands twice in one list.
+/// The same application, processor, configuration, factor or pair of configurations stands twice in one list, or an
+/// application or a processor in two lists of a demand that exclude each other.
 pub const TWICE_IN_LIST: u8 = 20;
 
 /// The needs have a cycle.

@@ -1,1 +1,2 @@
+pub mod OnSets
 pub mod Placed

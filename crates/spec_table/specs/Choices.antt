@@ -1,26 +1,26 @@
 -- How the rules of the choice table are read.
-use Rattle.std.specs.Prelude.{ℕ, ◌^◌, bit_or, ◌==◌, Bool, List, codes, Option, Some, None, slice_get, Result, Ok, ⊤, if◌then◌else◌}
+use Rattle.std.specs.Prelude.{ℕ, ◌==◌, Bool, List, codes, Option, Some, None, slice_get, Result, Ok, ⊤, if◌then◌else◌}
 use Rattle.std.specs.List.{list_any}
 use Rattle.std.specs.Str.{bytes_eq}
-use Rattle.serde_json.specs.Data.{Data, Items}
+use Rattle.serde_json.specs.Data.{Data}
 use Rattle.scram_types.specs.declared.ids.ConfId.{ConfId}
 use Rattle.scram_types.specs.declared.specification.Proc.{Proc}
 use Rattle.scram_types.specs.declared.specification.Conf.{Conf}
 use Rattle.scram_types.specs.declared.specification.Factor.{Factor}
 use Rattle.scram_types.specs.declared.specification.Want.{Want}
 use Rattle.scram_types.specs.declared.specification.Choice.{Choice}
-use Rattle.scram_types.specs.Bits.{has_bit}
 use Rattle.scram_doc.specs.declared.fault.DocFault.{DocFault}
 use Rattle.scram_doc.specs.Chain.{chain, ok_map}
 use Rattle.scram_doc.specs.Faults.{broken, or_broken}
 use Rattle.scram_doc.specs.Paths.{member_path}
 use Rattle.scram_doc.specs.Members.{object_at, needed, no_more_than}
-use Rattle.scram_doc.specs.Values.{list_at, text_at}
-use Rattle.spec_members.specs.declared.rule.TheConstants.{UNKNOWN_PROCESSOR, UNKNOWN_CONFIGURATION, UNKNOWN_FACTOR_OR_VALUE, TWICE_IN_LIST}
-use Rattle.scram_doc.specs.Lists.{elements_at, folded_from}
+use Rattle.scram_doc.specs.Values.{text_at}
+use Rattle.spec_members.specs.declared.rule.TheConstants.{UNKNOWN_CONFIGURATION, UNKNOWN_FACTOR_OR_VALUE, TWICE_IN_LIST}
+use Rattle.scram_doc.specs.Lists.{elements_at}
 use Rattle.scram_types.specs.Lookups.{number_named}
-use Rattle.spec_members.specs.Names.{read_named, name_of_proc, name_of_conf, name_of_factor}
+use Rattle.spec_members.specs.Names.{read_named, name_of_conf, name_of_factor}
 use Rattle.scram_doc.specs.Numbering.{itself}
+use Rattle.spec_table.specs.Sets.{read_procs_set}
 
 -- the configuration that a text names
 abbrev pub read_conf_id : List Conf → List ℕ → Data → Result ConfId DocFault
@@ -62,16 +62,6 @@ read_want factors at done d =
     chain (read_value_of (slice_get factors f) (member_path at (codes "value")) value) (λ (value : ℕ).
     Ok (record { factor = record { 0 = f }; value = value })))))))
 
--- the set with a processor that is not yet in it
-abbrev pub read_up : List Proc → List ℕ → ℕ → Data → Result ℕ DocFault
-read_up procs at set d =
-    chain (read_named name_of_proc procs UNKNOWN_PROCESSOR at d) (λ (p : ℕ).
-    if has_bit set p then broken TWICE_IN_LIST at else Ok (bit_or set (2 ^ p)))
-
--- the set of the processors that are named: 0 to 8
-abbrev pub read_up_list : List Proc → List ℕ → Data → Result ℕ DocFault
-read_up_list procs at d = chain (list_at 0 8 at d) (λ (ds : Items). folded_from (read_up procs) at 0 0 ds)
-
 -- a rule of the choice table
 abbrev pub read_choice : List Proc → List Conf → List Factor → List ℕ → List Choice → Data → Result Choice DocFault
 read_choice procs confs factors at done d =
@@ -83,7 +73,7 @@ read_choice procs confs factors at done d =
     chain (no_more_than 4 at d) (λ (_ : ⊤).
     chain (read_source confs (member_path at (codes "from")) from) (λ (from : Option ConfId).
     chain (elements_at (read_want factors) 0 6 (member_path at (codes "when")) wants) (λ (wants : List Want).
-    chain (read_up_list procs (member_path at (codes "up")) up) (λ (up : ℕ).
+    chain (read_procs_set procs 0 (member_path at (codes "up")) up) (λ (up : ℕ).
     chain (read_conf_id confs (member_path at (codes "to")) to) (λ (to : ConfId).
     Ok (record { from = from; wants = wants; up = up; to = to })))))))))))
 

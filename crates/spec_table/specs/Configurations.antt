@@ -1,5 +1,5 @@
 -- How the configurations are read.
-use Rattle.std.specs.Prelude.{ℕ, List, codes, Option, Some, None, is_some, replicate, set, slice_get, option_and_then, Result, Ok, ⊤, Bool, if◌then◌else◌}
+use Rattle.std.specs.Prelude.{ℕ, List, codes, Option, Some, None, is_some, replicate, set, slice_get, option_and_then, Result, Ok, ⊤, if◌then◌else◌}
 use Rattle.serde_json.specs.Data.{Data, Items}
 use Rattle.scram_types.specs.declared.specification.Proc.{Proc}
 use Rattle.scram_types.specs.declared.specification.AppSpec.{AppSpec}
@@ -17,15 +17,15 @@ use Rattle.scram_doc.specs.Lists.{elements_at, folded_from}
 use Rattle.spec_members.specs.Names.{read_new_name, read_named, name_of_proc, name_of_app, name_of_conf}
 use Rattle.spec_members.specs.Modes.{read_kind_mode}
 
--- an application has its place
-abbrev pub has_place : List (Option Place) → ℕ → Bool
-has_place places a = is_some (option_and_then (λ (place : Option Place). place) (slice_get places a))
+-- what a list has for application a
+abbrev pub given : {A : Type 0} → List (Option A) → ℕ → Option A
+given {A} xs a = option_and_then (λ (x : Option A). x) (slice_get xs a)
 
--- an application that has no place yet
-abbrev pub read_unplaced : List AppSpec → List (Option Place) → List ℕ → Data → Result ℕ DocFault
-read_unplaced apps places at d =
+-- an application for which a list has nothing yet
+abbrev pub read_new_app : {A : Type 0} → List AppSpec → List (Option A) → List ℕ → Data → Result ℕ DocFault
+read_new_app apps xs at d =
     chain (read_named name_of_app apps UNKNOWN_APPLICATION at d) (λ (a : ℕ).
-    if has_place places a then broken TWICE_IN_LIST at else Ok a)
+    if is_some (given xs a) then broken TWICE_IN_LIST at else Ok a)
 
 -- a mode of the application's kind, which the application lists
 abbrev pub read_listed_mode : Option AppSpec → List ℕ → Data → Result ℕ DocFault
@@ -42,7 +42,7 @@ read_place procs apps at places d =
     chain (needed (codes "mode") at d) (λ (mode : Data).
     chain (needed (codes "on") at d) (λ (on : Data).
     chain (no_more_than 3 at d) (λ (_ : ⊤).
-    chain (read_unplaced apps places (member_path at (codes "app")) app) (λ (a : ℕ).
+    chain (read_new_app apps places (member_path at (codes "app")) app) (λ (a : ℕ).
     chain (read_listed_mode (slice_get apps a) (member_path at (codes "mode")) mode) (λ (mode : ℕ).
     chain (read_named name_of_proc procs UNKNOWN_PROCESSOR (member_path at (codes "on")) on) (λ (proc : ℕ).
     Ok (set places a (Some (record { mode = record { 0 = mode }; proc = record { 0 = proc } })))))))))))

@@ -1,5 +1,5 @@
 -- What configurations, rules, bounds and intervals keep as they are read.
-use Rattle.std.specs.Prelude.{◌≡◌, ◌<◌, ◌≤◌, ◌≤ℤ◌, ◌^◌, ℕ, pos, false, List, length, set, slice_get, Option, Some, None, IsSome, option_and_then}
+use Rattle.std.specs.Prelude.{◌≡◌, ◌<◌, ◌≤◌, ◌≤ℤ◌, ◌^◌, ℕ, pos, false, true, List, [], ◌∷◌, ◌++◌, length, set, slice_get, Option, Some, None, IsSome}
 use Rattle.scram_types.specs.declared.specification.Proc.{Proc}
 use Rattle.scram_types.specs.declared.specification.AppSpec.{AppSpec}
 use Rattle.scram_types.specs.declared.specification.Place.{Place}
@@ -10,14 +10,20 @@ use Rattle.scram_types.specs.declared.specification.Choice.{Choice}
 use Rattle.scram_types.specs.declared.specification.Bound.{Bound}
 use Rattle.scram_types.specs.declared.specification.Invariant.{Invariant}
 use Rattle.scram_types.specs.declared.specification.Precondition.{Precondition}
-use Rattle.scram_types.specs.Specification.{IsPlace, IsWant, IsBound, IsIn, IsInIfNamed, mode_in, bound_in}
+use Rattle.scram_types.specs.declared.ids.Mode.{Mode}
+use Rattle.scram_types.specs.declared.specification.Demand.{Demand}
+use Rattle.scram_types.specs.Bits.{has_bit}
+use Rattle.scram_types.specs.ModeLists.{is_among}
+use Rattle.scram_types.specs.Specification.{IsOn, IsPlace, IsWant, IsBound, IsIn, IsInIfNamed, mode_in, bound_in}
 use Rattle.scram_types.specs.Numbers.{minus}
 use Rattle.app_model.specs.Names.{variable_names, number_in}
+use Rattle.spec_table.specs.declared.demands.Asked.{Asked}
 use Rattle.spec_table.specs.declared.intervals.Ends.{Ends}
 use Rattle.spec_table.specs.declared.intervals.Interval.{Interval}
 use Rattle.scram_doc.specs.Lists.{AllAfter}
-use Rattle.spec_members.specs.Names.{name_of_conf}
+use Rattle.spec_members.specs.Names.{name_of_conf, name_of_demand}
 use Rattle.spec_table.specs.Choices.{wants_factor}
+use Rattle.spec_table.specs.Configurations.{given}
 use Rattle.spec_members.specs.Facts.{IsFresh}
 
 -- There is an application, which lists the mode.
@@ -33,13 +39,9 @@ pub record IsPlacedAfter (procs : List Proc) (apps : List AppSpec) (places more 
   pub is : IsPlace procs apps app place
   pub set : more ≡ set places app (Some place)
 
--- the place of application a, if it has one
-abbrev pub placed : List (Option Place) → ℕ → Option Place
-placed places a = option_and_then (λ (place : Option Place). place) (slice_get places a)
-
 -- Each place is on a processor, in a mode that its application lists.
 abbrev pub ArePlaces : List Proc → List AppSpec → List (Option Place) → Type 0
-ArePlaces procs apps places = (a : ℕ) (place : Place) → placed places a ≡ Some place → IsPlace procs apps a place
+ArePlaces procs apps places = (a : ℕ) (place : Place) → given places a ≡ Some place → IsPlace procs apps a place
 
 -- a configuration whose name none before it has
 pub record IsNewConf (procs : List Proc) (apps : List AppSpec) (done : List Conf) (conf : Conf) : Type 0 where
@@ -99,3 +101,55 @@ pub record FitsInvariant (apps : List AppSpec) (confs : List Conf) (inv : Invari
 pub record FitsPrecondition (apps : List AppSpec) (confs : List Conf) (pre : Precondition) : Type 0 where
   pub conf : IsIn confs pre.conf
   pub interval : FitsInterval apps (record { app = pre.app; variable = pre.variable; ends = record { least = pre.least; greatest = pre.greatest } })
+
+-- No number is in both of two sets.
+abbrev pub IsApart : ℕ → ℕ → Type 0
+IsApart set other = (n : ℕ) → has_bit set n ≡ true → has_bit other n ≡ false
+
+-- a mode that the application lists and that does not stand before it
+pub record IsNewOn (found : Option AppSpec) (done : List Mode) (mode : Mode) : Type 0 where
+  pub listed : ListsMode found mode.0
+  pub new : is_among done mode.0 ≡ false
+
+-- One more mode stands behind the others.
+pub record HasMoreModes (found : Option AppSpec) (modes more : List Mode) : Type 0 where
+  pub mode : Mode
+  pub new : IsNewOn found modes mode
+  pub behind : more ≡ modes ++ mode ∷ []
+
+-- There is an application, which lists each of a few modes, none of which stands twice.
+pub record ListsModes (found : Option AppSpec) (modes : List Mode) : Type 0 where
+  pub app : AppSpec
+  pub there : found ≡ Some app
+  pub few : length modes ≤ 3
+  pub each : AllAfter (IsNewOn found) modes
+
+-- Each application that has to be on exists and lists the modes.
+abbrev pub AreOn : List AppSpec → List (Option (List Mode)) → Type 0
+AreOn apps on = (a : ℕ) (modes : List Mode) → given on a ≡ Some modes → ListsModes (slice_get apps a) modes
+
+-- One more application has to be on.
+pub record IsOnAfter (apps : List AppSpec) (on more : List (Option (List Mode))) : Type 0 where
+  pub app : ℕ
+  pub modes : List Mode
+  pub lists : ListsModes (slice_get apps app) modes
+  pub set : more ≡ set on app (Some modes)
+
+-- what a demand asks of an environment's processors and of a configuration names what exists
+pub record FitsAsked (procs : List Proc) (apps : List AppSpec) (confs : List Conf) (asked : Asked) : Type 0 where
+  pub up : asked.up < 2 ^ length procs
+  pub down : asked.down < 2 ^ length procs
+  pub down_apart : IsApart asked.down asked.up
+  pub to : asked.to < 2 ^ length confs
+  pub width : length asked.on ≡ 8
+  pub on : AreOn apps asked.on
+  pub off : asked.off < 2 ^ length apps
+  pub off_apart : (a : ℕ) → has_bit asked.off a ≡ true → given asked.on a ≡ None
+
+-- a demand whose name none before it has
+pub record IsNewDemand (procs : List Proc) (apps : List AppSpec) (confs : List Conf) (factors : List Factor) (done : List Demand) (demand : Demand) : Type 0 where
+  pub name : IsFresh name_of_demand done demand.name
+  pub from : demand.from < 2 ^ length confs
+  pub few : length demand.wants ≤ 6
+  pub wants : AllAfter (IsNewWant factors) demand.wants
+  pub asked : FitsAsked procs apps confs (record { up = demand.up; down = demand.down; to = demand.to; on = demand.on; off = demand.off })

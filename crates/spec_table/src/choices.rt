@@ -8,19 +8,19 @@ ghost use Rattle.scram_doc.specs.Chain.{ok_map};
 ghost use Rattle.scram_doc.specs.Faults.{Answers};
 ghost use Rattle.scram_doc.specs.Lists.{AllAfter};
 ghost use Rattle.scram_doc.specs.Numbering.{itself};
-ghost use Rattle.spec_table.specs.Choices.{read_conf_id, read_source, wants_factor, read_new_factor, read_value_of, read_want, read_up, read_up_list, read_choice, read_choices};
+ghost use Rattle.spec_table.specs.Choices.{read_conf_id, read_source, wants_factor, read_new_factor, read_value_of, read_want, read_choice, read_choices};
 ghost use Rattle.spec_members.specs.Members.{member_in};
 ghost use Rattle.spec_table.specs.Facts.{IsNewWant, FitsChoice, HasValue};
 ghost use Rattle.spec_members.specs.Facts.{FewValues};
 ghost use Rattle.spec_members.specs.Found.{AreMembers};
 
+use crate::sets::read_procs_set;
 use crate::vocabulary::Vocabulary;
 use scram_doc::{
-    DocError, DocFault, Elements, Numbered, Path, list, need, no_more, object, read_list, text,
+    DocError, DocFault, Elements, Numbered, Path, need, no_more, object, read_list, text,
 };
-use scram_types::bits::has_bit;
-use scram_types::limits::{MAX_FACTORS, MAX_PROCESSORS, MAX_RULES};
-use scram_types::{Choice, Conf, ConfId, Factor, FactorId, List, Proc, Want};
+use scram_types::limits::{MAX_FACTORS, MAX_RULES};
+use scram_types::{Choice, Conf, ConfId, Factor, FactorId, List, Want};
 use serde_json::Value;
 use spec_members::members::Members;
 use spec_members::names::{ByName, read_named};
@@ -111,8 +111,8 @@ fn read_value_of(
 }
 
 #[derive(Clone, Copy)]
-struct Wants<'a> {
-    vocabulary: &'a Vocabulary,
+pub(crate) struct Wants<'a> {
+    pub(crate) vocabulary: &'a Vocabulary,
 }
 
 impl Elements<Want> for Wants<'_> {
@@ -133,36 +133,6 @@ impl Elements<Want> for Wants<'_> {
         let value = read_value_of(factors, factor, value, &at.member("value"))?;
         Ok(Want { factor, value })
     }
-}
-
-/// Returns the set with the processor that the value names.
-fn read_up(procs: &Numbered<Proc, ByName>, set: u8, v: &Value, at: &Path) -> Result<u8, DocFault>
-    requires few { length procs.now ≤ 8 }
-    requires set { set < 2 ^ length procs.now }
-    ensures value { result ≡ read_up procs.now at.now set (view v.now) }
-    ensures below { IfOk result (λ up. up < 2 ^ length procs.now) }
-{
-    let proc = read_named(procs, rule::UNKNOWN_PROCESSOR, v, at)?;
-    if has_bit(set, proc) {
-        Err(DocFault::new(rule::TWICE_IN_LIST, at))
-    } else {
-        Ok(set | 1 << proc)
-    }
-}
-
-/// Returns the set of the processors that the value lists, 0 to 8 of them.
-fn read_up_list(procs: &Numbered<Proc, ByName>, v: &Value, at: &Path) -> Result<u8, DocFault>
-    requires room { length at.now ≤ 40 }
-    requires few { length procs.now ≤ 8 }
-    ensures value { result ≡ read_up_list procs.now at.now (view v.now) }
-    ensures below { IfOk result (λ up. up < 2 ^ length procs.now) }
-{
-    let items = list(v, 0, MAX_PROCESSORS, at)?;
-    let mut set = 0;
-    for (i, v) in items.iter().enumerate() {
-        set = read_up(procs, set, v, &at.item(i))?;
-    }
-    Ok(set)
 }
 
 #[derive(Clone, Copy)]
@@ -196,7 +166,7 @@ impl Elements<Choice> for Choices<'_> {
         let known = Wants { vocabulary };
         let wants = read_list(alloc, &known, wants, 0, MAX_FACTORS, &at.member("when"))?;
         let procs = &vocabulary.procs;
-        let up = read_up_list(procs, up, &at.member("up"))?;
+        let up = read_procs_set(procs, 0, up, &at.member("up"))?;
         let to = read_conf_id(confs, to, &at.member("to"))?;
         Ok(Choice {
             from,

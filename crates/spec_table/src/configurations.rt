@@ -1,12 +1,12 @@
 //! Configurations and the places of applications in them.
 
-ghost use Rattle.std.specs.Prelude.{◌≡◌, ◌≤◌, ◌<◌, None, codes, length, replicate, IfOk};
+ghost use Rattle.std.specs.Prelude.{◌≡◌, ◌≤◌, ◌<◌, None, codes, is_some, length, replicate, IfOk};
 ghost use Rattle.std.specs.Option.{option_copied};
 ghost use Rattle.serde_json.specs.View.{view, items_view};
 ghost use Rattle.scram_doc.specs.Chain.{ok_map};
 ghost use Rattle.scram_doc.specs.Faults.{Answers};
 ghost use Rattle.scram_doc.specs.Lists.{folded_from, AllAfter};
-ghost use Rattle.spec_table.specs.Configurations.{has_place, read_unplaced, read_listed_mode, read_place, read_conf, read_confs};
+ghost use Rattle.spec_table.specs.Configurations.{given, read_new_app, read_listed_mode, read_place, read_conf, read_confs};
 ghost use Rattle.spec_members.specs.Members.{member_in};
 ghost use Rattle.spec_table.specs.Facts.{ListsMode, IsPlacedAfter, ArePlaces, IsNewConf};
 ghost use Rattle.spec_members.specs.Found.{AreMembers};
@@ -26,7 +26,7 @@ use std::alloc::Global;
 type Places = [Option<Place>; 8];
 
 fn has_place(places: &Places, app: AppId) -> bool
-    ensures { result ≡ has_place places.now app.0 }
+    ensures { result ≡ is_some (given places.now app.0) }
 {
     match places.get(usize::from(app.0)) {
         Some(Some(_)) => true,
@@ -34,14 +34,14 @@ fn has_place(places: &Places, app: AppId) -> bool
     }
 }
 
-fn read_unplaced(
+fn read_new_app(
     apps: &Numbered<AppSpec, ByName>,
     places: &Places,
     v: &Value,
     at: &Path,
 ) -> Result<AppId, DocFault>
     requires few { length apps.now ≤ 8 }
-    ensures value { ok_map (λ app. app.0) result ≡ read_unplaced apps.now places.now at.now (view v.now) }
+    ensures value { ok_map (λ app. app.0) result ≡ read_new_app apps.now places.now at.now (view v.now) }
     ensures there { IfOk result (λ app. app.0 < length apps.now) }
 {
     let app = AppId(read_named(apps, rule::UNKNOWN_APPLICATION, v, at)?);
@@ -52,7 +52,12 @@ fn read_unplaced(
     }
 }
 
-fn read_listed_mode(app: Option<&AppSpec>, v: &Value, at: &Path) -> Result<Mode, DocFault>
+/// Returns the mode that the value names, which is one of the application's kind and which it lists.
+pub(crate) fn read_listed_mode(
+    app: Option<&AppSpec>,
+    v: &Value,
+    at: &Path,
+) -> Result<Mode, DocFault>
     ensures value { ok_map (λ mode. mode.0) result ≡ read_listed_mode (option_copied app.entry) at.now (view v.now) }
     ensures listed { IfOk result (λ mode. ListsMode (option_copied app.entry) mode.0) }
 {
@@ -85,7 +90,7 @@ fn read_place(
     let mode = need(v, "mode", at)?;
     let on = need(v, "on", at)?;
     no_more(v, 3, at)?;
-    let app = read_unplaced(apps, &places, app, &at.member("app"))?;
+    let app = read_new_app(apps, &places, app, &at.member("app"))?;
     let mode = read_listed_mode(
         apps.items().get(usize::from(app.0)),
         mode,

@@ -48,7 +48,7 @@ spelled_short (None ∷ names) (suc n) short = spelled_short names n short
 spelled_short (Some text ∷ names) (suc n) short = spelled_short names n short.1
 
 pub kind_short : (kind : ℕ) → length (name_of_kind kind) ≤ 16
-kind_short kind = spelled_short kind_names kind (omega arith, (omega arith, (omega arith, (omega arith, (omega arith, tt)))))
+kind_short kind = spelled_short kind_names kind (omega arith, (omega arith, (omega arith, (omega arith, (omega arith, (omega arith, tt))))))
 
 pub mode_short : (kind mode : ℕ) → length (name_of_mode kind mode) ≤ 16
 mode_short kind mode = spelled_short (mode_names kind) mode (mode_names_short kind)

@@ -19,6 +19,8 @@ use Rattle.scram_types.specs.declared.specification.Choice.{Choice}
 use Rattle.scram_types.specs.declared.specification.Bound.{Bound}
 use Rattle.scram_types.specs.declared.specification.Invariant.{Invariant}
 use Rattle.scram_types.specs.declared.specification.Precondition.{Precondition}
+use Rattle.scram_types.specs.declared.specification.Demand.{Demand}
+use Rattle.scram_types.specs.declared.ids.Mode.{Mode}
 use Rattle.scram_types.specs.declared.specification.Policy.{Policy}
 use Rattle.scram_types.specs.declared.specification.Policy.TheVariants.{Retarget, Settle}
 use Rattle.scram_types.specs.Specification.{Parts}
@@ -121,17 +123,21 @@ want_data factors want = object (
     member (codes "factor") (string (name_of_item name_of_factor factors want.factor.0)) (
     member (codes "value") (string (name_of_value factors want.factor.0 want.value)) no_members))
 
--- the names of the processors of a set, in order
-abbrev pub up_data : ℕ → ℕ → List Proc → List Data
-up_data set p [] = []
-up_data set p (proc ∷ procs) = if has_bit set p then string proc.name ∷ up_data set (suc p) procs else up_data set (suc p) procs
+-- the names of the items whose numbers are in a set, in order, the first item having number n
+abbrev pub names_data : {A : Type 0} → (A → List ℕ) → ℕ → ℕ → List A → List Data
+names_data name set n [] = []
+names_data name set n (x ∷ xs) = if has_bit set n then string (name x) ∷ names_data name set (suc n) xs else names_data name set (suc n) xs
+
+-- The canonical value of a set of items: their names, in order.
+abbrev pub set_data : {A : Type 0} → (A → List ℕ) → List A → ℕ → Data
+set_data name xs set = array (items_of (names_data name set 0 xs))
 
 -- The canonical value of a rule of the choice table.
 abbrev pub choice_data : Parts → Choice → Data
 choice_data spec rule = object (
     member (codes "from") (string (source_name spec.confs rule.from)) (
     member (codes "to") (string (name_of_item name_of_conf spec.confs rule.to.0)) (
-    member (codes "up") (array (items_of (up_data rule.up 0 spec.procs))) (
+    member (codes "up") (set_data name_of_proc spec.procs rule.up) (
     member (codes "when") (list_data (want_data spec.factors) rule.wants) no_members))))
 
 -- The canonical value of a bound on a reconfiguration.
@@ -162,6 +168,35 @@ precondition_data spec pre = object (
     member (codes "greatest") (integer_data pre.greatest) (
     member (codes "least") (integer_data pre.least) (
     member (codes "variable") (string (name_of_variable spec.apps pre.app.0 pre.variable)) no_members)))))
+
+-- The canonical value of an application that has to be on, and of the modes of which it has to be in one.
+abbrev pub on_app_data : Parts → ℕ → List Mode → Data
+on_app_data spec a modes = object (
+    member (codes "app") (string (name_of_item name_of_app spec.apps a)) (
+    member (codes "modes") (list_data (λ (mode : Mode). string (name_of_app_mode spec.apps a mode.0)) modes) no_members))
+
+-- the applications that have to be on, in their order, the first of the list having number a
+abbrev pub on_data : Parts → ℕ → List (Option (List Mode)) → List Data
+on_data spec a [] = []
+on_data spec a (None ∷ on) = on_data spec (suc a) on
+on_data spec a (Some modes ∷ on) = on_app_data spec a modes ∷ on_data spec (suc a) on
+
+-- The canonical value of a demand.
+abbrev pub demand_data : Parts → Demand → Data
+demand_data spec demand = object (
+    member (codes "down") (set_data name_of_proc spec.procs demand.down) (
+    member (codes "from") (set_data name_of_conf spec.confs demand.from) (
+    member (codes "name") (string demand.name) (
+    member (codes "off") (set_data name_of_app spec.apps demand.off) (
+    member (codes "on") (array (items_of (on_data spec 0 demand.on))) (
+    member (codes "to") (set_data name_of_conf spec.confs demand.to) (
+    member (codes "up") (set_data name_of_proc spec.procs demand.up) (
+    member (codes "when") (list_data (want_data spec.factors) demand.wants) no_members))))))))
+
+-- The name of a policy.
+abbrev pub policy_name : Policy → List ℕ
+policy_name Retarget = codes "retarget"
+policy_name Settle = codes "settle"
 
 -- The canonical value of the failure assumption.
 abbrev pub assumption_data : Parts → Data
@@ -207,14 +242,38 @@ settle_data spec = object (
     member (codes "scram") (count_data 2) (
     member (codes "start") (start_data spec) no_members)))))))))))))
 
--- the first version where the policy is to retarget, and else the second
-abbrev pub data_by : Policy → Parts → Data
-data_by Retarget spec = retarget_data spec
-data_by Settle spec = settle_data spec
+-- the members of a specification of version 3, with this policy and these demands
+abbrev pub demanding_members : Policy → List Demand → Parts → Members
+demanding_members policy demands spec =
+    member (codes "apps") (list_data (app_data spec.apps) spec.apps) (
+    member (codes "assumption") (assumption_data spec) (
+    member (codes "bounds") (list_data (bound_data spec.confs) spec.bounds) (
+    member (codes "configurations") (list_data (conf_data spec) spec.confs) (
+    member (codes "demands") (list_data (demand_data spec) demands) (
+    member (codes "factors") (list_data factor_data spec.factors) (
+    member (codes "goal") (goal_data spec.goal) (
+    member (codes "invariants") (list_data (invariant_data spec) spec.invariants) (
+    member (codes "policy") (string (policy_name policy)) (
+    member (codes "preconditions") (list_data (precondition_data spec) spec.preconditions) (
+    member (codes "processors") (list_data proc_data spec.procs) (
+    member (codes "rules") (list_data (choice_data spec) spec.rules) (
+    member (codes "scram") (count_data 3) (
+    member (codes "start") (start_data spec) no_members)))))))))))))
+
+-- a specification of version 3, with this policy and these demands
+abbrev pub demanding_data : Policy → List Demand → Parts → Data
+demanding_data policy demands spec = object (demanding_members policy demands spec)
+
+-- The third version where there are demands; else the first where the policy is to retarget, and the second where it is
+-- to settle.
+abbrev pub data_by : List Demand → Policy → Parts → Data
+data_by [] Retarget spec = retarget_data spec
+data_by [] Settle spec = settle_data spec
+data_by (demand ∷ demands) policy spec = demanding_data policy (demand ∷ demands) spec
 
 -- the canonical value of a specification
 abbrev pub spec_data : Parts → Data
-spec_data spec = data_by spec.policy spec
+spec_data spec = data_by spec.demands spec.policy spec
 
 -- the canonical text
 abbrev pub spec_text : Parts → List ℕ
@@ -243,7 +302,30 @@ with_limits spec ms =
     put (codes "preconditions") (list_data (precondition_data spec) spec.preconditions) (
     put (codes "invariants") (list_data (invariant_data spec) spec.invariants) ms))
 
--- the version, and the policy where it is not to retarget
-abbrev pub with_version : Policy → Members → Members
-with_version Retarget ms = put (codes "scram") (count_data 1) ms
-with_version Settle ms = put (codes "scram") (count_data 2) (put (codes "policy") (string (codes "settle")) ms)
+-- the third version, with its policy and its demands
+abbrev pub with_demands : List Demand → Policy → Parts → Members → Members
+with_demands demands policy spec ms =
+    put (codes "scram") (count_data 3) (
+    put (codes "policy") (string (policy_name policy)) (
+    put (codes "demands") (list_data (demand_data spec) demands) ms))
+
+-- the version, and the policy and the demands where it has them
+abbrev pub with_version : List Demand → Policy → Parts → Members → Members
+with_version [] Retarget spec ms = put (codes "scram") (count_data 1) ms
+with_version [] Settle spec ms = put (codes "scram") (count_data 2) (put (codes "policy") (string (codes "settle")) ms)
+with_version (demand ∷ demands) policy spec ms = with_demands (demand ∷ demands) policy spec ms
+
+-- of which environments a demand speaks, and of which configurations it asks something
+abbrev pub with_condition : Parts → Demand → Members → Members
+with_condition spec demand ms =
+    put (codes "down") (set_data name_of_proc spec.procs demand.down) (
+    put (codes "up") (set_data name_of_proc spec.procs demand.up) (
+    put (codes "when") (list_data (want_data spec.factors) demand.wants) (
+    put (codes "from") (set_data name_of_conf spec.confs demand.from) ms)))
+
+-- what a demand asks of the configuration that is chosen
+abbrev pub with_asked : Parts → Demand → Members → Members
+with_asked spec demand ms =
+    put (codes "off") (set_data name_of_app spec.apps demand.off) (
+    put (codes "on") (array (items_of (on_data spec 0 demand.on))) (
+    put (codes "to") (set_data name_of_conf spec.confs demand.to) ms))

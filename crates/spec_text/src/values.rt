@@ -1,10 +1,10 @@
 //! The names of what the items of a specification refer to.
 
 ghost use Rattle.std.specs.Prelude.{◌≡◌};
-ghost use Rattle.spec_text.specs.Texts.{name_of_app_mode, name_of_value, name_of_variable, source_name};
+ghost use Rattle.spec_text.specs.Texts.{name_of_app_mode, name_of_value, name_of_variable, policy_name, source_name};
 
 use app_model::{mode_name, variable_name};
-use scram_types::{AppId, AppSpec, ConfId, Mode, Spec, Want};
+use scram_types::{AppId, AppSpec, ConfId, Mode, Policy, Spec, Want};
 
 /// Returns the name of a configuration, or `*` for any.
 pub fn source_name(spec: &Spec, from: Option<ConfId>) -> &str
@@ -49,5 +49,15 @@ pub fn name_of_variable(apps: &[AppSpec], app: AppId, variable: u8) -> &'static 
             None => "",
         },
         None => "",
+    }
+}
+
+/// Returns the name of a policy.
+pub fn policy_name(policy: Policy) -> &'static str
+    ensures { result.now ≡ policy_name policy }
+{
+    match policy {
+        Policy::Retarget => "retarget",
+        Policy::Settle => "settle",
     }
 }

@@ -1,21 +1,22 @@
 //! Specifications, as they are written.
 
-ghost use Rattle.std.specs.Prelude.{◌≡◌, ◌≤◌, Ok, Some, length, map, IfOk, OnOk};
+ghost use Rattle.std.specs.Prelude.{◌≡◌, ◌≤◌, [], Ok, Some, length, map, IfOk, OnOk};
 ghost use Rattle.serde_json.specs.Data.{put};
 ghost use Rattle.std.specs.Str.{IsUtf8};
 ghost use Rattle.serde_json.specs.Read.{read};
 ghost use Rattle.serde_json.specs.View.{members_view, view};
-ghost use Rattle.spec_text.specs.Texts.{app_data, assumption_data, bound_data, choice_data, conf_data, factor_data, goal_data, invariant_data, mode_data, need_data, place_data, places_data, precondition_data, proc_data, spec_data, spec_text, up_data, want_data, with_limits, with_named, with_table, with_version};
+ghost use Rattle.spec_text.specs.Texts.{app_data, assumption_data, bound_data, choice_data, conf_data, demand_data, factor_data, goal_data, invariant_data, mode_data, name_of_app_mode, names_data, need_data, on_app_data, on_data, place_data, places_data, precondition_data, proc_data, set_data, spec_data, spec_text, want_data, with_asked, with_condition, with_demands, with_limits, with_named, with_table, with_version};
 
-use crate::values::{name_of_app_mode, name_of_value, name_of_variable, source_name};
+use crate::values::{name_of_app_mode, name_of_value, name_of_variable, policy_name, source_name};
 use app_model::{kind_name, mode_name};
-use scram_doc::{Writes, put_list, write_list};
-use scram_types::bits::has_bit;
+use scram_doc::{Naming, Writes, put_list, write_list};
+use scram_types::bits::is_in;
 use scram_types::{
-    AppId, AppSpec, Bound, Choice, Conf, Factor, Goal, Invariant, KindId, ModeSpec, Name, NoMemory,
-    Place, Policy, Precondition, Proc, Spec, Want,
+    AppId, AppSpec, Bound, Choice, Conf, Demand, Factor, Goal, Invariant, KindId, Mode, ModeSpec,
+    Modes, Name, NoMemory, Place, Policy, Precondition, Proc, Spec, Want,
 };
 use serde_json::{Map, Value, json};
+use spec_members::names::ByName;
 use std::alloc::{AllocError, Global};
 
 /// Writes the items of the lists of a specification.
@@ -145,20 +146,40 @@ impl Writes<Want> for Writer<'_> {
     }
 }
 
-/// Returns the names of the processors of a set, in order.
-fn make_up(alloc: Global, procs: &[Proc], set: u8) -> Result<Vec<Value>, AllocError>
-    requires { length procs.now ≤ 8 }
-    ensures { IfOk result (λ vs. map view vs.items ≡ up_data set 0 procs.now) }
+/// Returns the names of the items whose numbers are in a set, in order.
+fn make_names<T, N: Naming<T>>(
+    alloc: Global,
+    items: &[T],
+    set: u16,
+) -> Result<Vec<Value>, AllocError>
+    requires { length items.now ≤ 12 }
+    ensures { IfOk result (λ vs. map view vs.items ≡ names_data N.spelling set 0 items.now) }
 {
     let mut values = Vec::new(alloc);
-    for (p, proc) in procs.iter().enumerate() {
-        if has_bit(set, p as u8) {
-            let name = proc.name.as_str();
+    for (n, item) in items.iter().enumerate() {
+        if is_in(set, n as u8) {
+            let name = N::name(item);
             let value = json!(in alloc; name)?;
             serde_json::push(&mut values, value)?;
         }
     }
     Ok(values)
+}
+
+/// Puts a member of this name into an object: the names of the items whose numbers are in a set.
+fn put_set<T, N: Naming<T>>(
+    members: &mut Map<String, Value>,
+    alloc: Global,
+    name: &str,
+    items: &[T],
+    set: u16,
+) -> Result<(), AllocError>
+    requires { length items.now ≤ 12 }
+    ensures { OnOk result (members_view members.new.entries ≡ put name.now (set_data N.spelling items.now set) (members_view members.old.entries)) }
+{
+    let values = make_names::<T, N>(alloc, items, set)?;
+    serde_json::put(members, alloc, name, Value::Array(values))?;
+    Ok(())
 }
 
 impl Writes<Choice> for Writer<'_> {
@@ -168,7 +189,8 @@ impl Writes<Choice> for Writer<'_> {
         let spec = self.spec;
         let from = source_name(spec, rule.from);
         let to = spec.conf_name(rule.to);
-        let up = make_up(alloc, spec.procs.items(), rule.up)?;
+        let procs = spec.procs.items();
+        let up = make_names::<Proc, ByName>(alloc, procs, u16::from(rule.up))?;
         let wants = write_list(alloc, self, rule.wants.items())?;
         json!(in alloc; {"from": from, "to": to, "up": up, "when": wants})
     }
@@ -220,6 +242,97 @@ impl Writes<Precondition> for Writer<'_> {
             "least": pre.least,
             "variable": variable
         })
+    }
+}
+
+/// Writes the modes of an application, by its number.
+#[derive(Clone, Copy)]
+struct OnWriter<'a> {
+    spec: &'a Spec,
+    app: AppId,
+}
+
+impl Writes<Mode> for OnWriter<'_> {
+    ghost use Rattle.serde_json.specs.Data.{string};
+
+    ghost written = { λ w mode. string (name_of_app_mode w.spec.now.apps w.app.0 mode.0) };
+
+    fn value(&self, alloc: Global, mode: &Mode) -> Result<Value, AllocError> {
+        let spec = self.spec;
+        let name = name_of_app_mode(spec.apps.items(), self.app, *mode);
+        json!(in alloc; name)
+    }
+}
+
+fn make_on_app(alloc: Global, spec: &Spec, app: AppId, modes: &Modes) -> Result<Value, AllocError>
+    ensures { IfOk result (λ v. view v ≡ on_app_data spec.now app.0 modes.now) }
+{
+    let name = spec.app_name(app);
+    let modes = write_list(alloc, &OnWriter { spec, app }, modes.as_slice())?;
+    json!(in alloc; {"app": name, "modes": modes})
+}
+
+fn make_on(alloc: Global, spec: &Spec, on: &[Option<Modes>; 8]) -> Result<Vec<Value>, AllocError>
+    ensures { IfOk result (λ vs. map view vs.items ≡ on_data spec.now 0 on.now) }
+{
+    let mut values = Vec::new(alloc);
+    for (app, modes) in on.iter().enumerate() {
+        if let Some(modes) = modes {
+            let value = make_on_app(alloc, spec, AppId(app as u8), modes)?;
+            serde_json::push(&mut values, value)?;
+        }
+    }
+    Ok(values)
+}
+
+/// Puts of which environments a demand speaks, and of which configurations it asks something.
+fn put_condition(
+    members: &mut Map<String, Value>,
+    alloc: Global,
+    spec: &Spec,
+    demand: &Demand,
+) -> Result<(), AllocError>
+    ensures { OnOk result (members_view members.new.entries ≡ with_condition spec.now demand.now (members_view members.old.entries)) }
+{
+    let confs = spec.confs.items();
+    put_set::<Conf, ByName>(members, alloc, "from", confs, demand.from)?;
+    let writer = Writer { spec };
+    put_list(members, alloc, "when", &writer, demand.wants.items())?;
+    let procs = spec.procs.items();
+    put_set::<Proc, ByName>(members, alloc, "up", procs, u16::from(demand.up))?;
+    put_set::<Proc, ByName>(members, alloc, "down", procs, u16::from(demand.down))?;
+    Ok(())
+}
+
+/// Puts what a demand asks of the configuration that is chosen.
+fn put_asked(
+    members: &mut Map<String, Value>,
+    alloc: Global,
+    spec: &Spec,
+    demand: &Demand,
+) -> Result<(), AllocError>
+    ensures { OnOk result (members_view members.new.entries ≡ with_asked spec.now demand.now (members_view members.old.entries)) }
+{
+    let confs = spec.confs.items();
+    put_set::<Conf, ByName>(members, alloc, "to", confs, demand.to)?;
+    let on = make_on(alloc, spec, &demand.on)?;
+    serde_json::put(members, alloc, "on", Value::Array(on))?;
+    let apps = spec.apps.items();
+    put_set::<AppSpec, ByName>(members, alloc, "off", apps, u16::from(demand.off))?;
+    Ok(())
+}
+
+impl Writes<Demand> for Writer<'_> {
+    ghost written = { λ w. demand_data w.spec.now };
+
+    fn value(&self, alloc: Global, demand: &Demand) -> Result<Value, AllocError> {
+        let spec = self.spec;
+        let name = demand.name.as_str();
+        let mut members = Map::new(alloc);
+        put_condition(&mut members, alloc, spec, demand)?;
+        put_asked(&mut members, alloc, spec, demand)?;
+        serde_json::put(&mut members, alloc, "name", json!(in alloc; name)?)?;
+        Ok(Value::Object(members))
     }
 }
 
@@ -293,20 +406,49 @@ fn put_limits(
     Ok(())
 }
 
-/// Puts the version, and the policy where it is not to retarget.
-fn put_version(
+/// Puts the version of a specification without demands, and its policy where it is not to retarget.
+fn put_policy(
     members: &mut Map<String, Value>,
     alloc: Global,
-    policy: Policy,
+    spec: &Spec,
 ) -> Result<(), AllocError>
-    ensures { OnOk result (members_view members.new.entries ≡ with_version policy (members_view members.old.entries)) }
+    ensures { OnOk result (members_view members.new.entries ≡ with_version [] spec.now.policy spec.now (members_view members.old.entries)) }
 {
-    match policy {
+    match spec.policy {
         Policy::Retarget => serde_json::put(members, alloc, "scram", json!(in alloc; 1)?),
         Policy::Settle => {
             serde_json::put(members, alloc, "policy", json!(in alloc; "settle")?)?;
             serde_json::put(members, alloc, "scram", json!(in alloc; 2)?)
         }
+    }
+}
+
+/// Puts the demands, the policy and the version of a specification with demands.
+fn put_demands(
+    members: &mut Map<String, Value>,
+    alloc: Global,
+    spec: &Spec,
+) -> Result<(), AllocError>
+    ensures { OnOk result (members_view members.new.entries ≡ with_demands spec.now.demands spec.now.policy spec.now (members_view members.old.entries)) }
+{
+    let writer = Writer { spec };
+    put_list(members, alloc, "demands", &writer, spec.demands.items())?;
+    let policy = policy_name(spec.policy);
+    serde_json::put(members, alloc, "policy", json!(in alloc; policy)?)?;
+    serde_json::put(members, alloc, "scram", json!(in alloc; 3)?)
+}
+
+/// Puts the version, and the policy and the demands where it has them.
+fn put_version(
+    members: &mut Map<String, Value>,
+    alloc: Global,
+    spec: &Spec,
+) -> Result<(), AllocError>
+    ensures { OnOk result (members_view members.new.entries ≡ with_version spec.now.demands spec.now.policy spec.now (members_view members.old.entries)) }
+{
+    match spec.demands.items() {
+        [] => put_policy(members, alloc, spec),
+        [_first, _rest @ ..] => put_demands(members, alloc, spec),
     }
 }
 
@@ -317,13 +459,14 @@ fn make_spec(alloc: Global, spec: &Spec) -> Result<Value, AllocError>
     put_named(&mut members, alloc, spec)?;
     put_table(&mut members, alloc, spec)?;
     put_limits(&mut members, alloc, spec)?;
-    put_version(&mut members, alloc, spec.policy)?;
+    put_version(&mut members, alloc, spec)?;
     Ok(Value::Object(members))
 }
 
-/// Returns the canonical text of a specification: compact JSON, in version 1 where the policy is to retarget and else
-/// in version 2. The places of a configuration stand in the order of applications, the processors that a rule
-/// requires up in the order of processors, and every other list as it is kept.
+/// Returns the canonical text of a specification: compact JSON, in version 3 where there are demands, else in version 1
+/// where the policy is to retarget and in version 2 where it is to settle. The places of a configuration and the
+/// applications of a demand stand in the order of applications, sets of processors, applications and configurations in
+/// their orders, and every other list as it is kept.
 pub fn write_text(alloc: Global, spec: &Spec) -> Result<Vec<u8>, NoMemory>
     ensures text { IfOk result (λ text. text.items ≡ spec_text spec.now) }
     ensures value { IfOk result (λ text. read text.items ≡ Some (spec_data spec.now)) }

@@ -1,6 +1,6 @@
 //! Names, ranges and first areas of applications, by the tables.
 
-use app_model::kinds::{autopilot, data_link, flight_control, navigator, power_monitor};
+use app_model::kinds::{autopilot, data_link, flight_control, navigator, power_monitor, task};
 use app_model::{
     Rack, after_halt, after_init, during, kind_name, kind_named, mode_name, mode_named, rack_fits,
     racks_fit, sane, start_area, variable_name, variable_named,
@@ -15,6 +15,7 @@ fn names_are_those_of_the_tables(rt: HostRuntime) {
         (2, 3, 4, ("power_monitor", "essential", "shed")),
         (3, 1, 1, ("navigator", "route", "bearing_error")),
         (4, 2, 6, ("datalink", "slow", "ticks")),
+        (5, 3, 6, ("task", "minimal", "ticks")),
     ] {
         let id = KindId(kind);
         assert_eq!(rt; kind_named(names.0), Some(id));
@@ -28,7 +29,7 @@ fn names_are_those_of_the_tables(rt: HostRuntime) {
     assert_eq!(rt; kind_named("pilot"), None);
     assert_eq!(rt; mode_named(kind, "augmented"), None);
     assert_eq!(rt; variable_named(kind, "elevator"), None);
-    assert_eq!(rt; kind_name(KindId(5)), None);
+    assert_eq!(rt; kind_name(KindId(6)), None);
     assert_eq!(rt; mode_name(kind, Mode(0)), None);
     assert_eq!(rt; mode_name(kind, Mode(3)), None);
     assert_eq!(rt; variable_name(kind, 7), None);
@@ -49,6 +50,11 @@ fn ranges_are_those_of_the_tables(rt: HostRuntime) {
         (-1_800, 1_799)
     );
     assert_eq!(rt; during(KindId(data_link::KIND), 1, Mode(1), 1), (0, 64));
+    assert_eq!(rt;
+        during(KindId(task::KIND), 1, Mode(task::REDUCED), 6),
+        (0, 1_000_000)
+    );
+    assert_eq!(rt; sane(KindId(task::KIND), 1), (0, 0));
     assert_eq!(rt; after_halt(control, augmented, 1), (0, 0));
     assert_eq!(rt; after_halt(control, augmented, 0), (2, 2));
     assert_eq!(rt; after_init(control, augmented, 1), (-50, 50));
@@ -66,6 +72,7 @@ fn applications_begin_as_the_tables_say(rt: HostRuntime) {
     assert_eq!(rt; start_area(KindId(0)), [4, 0, 0, 5_000, 900, 0, 0, 0]);
     assert_eq!(rt; start_area(KindId(1)), [4, 0, 0, 0, 0, 0, 0, 0]);
     assert_eq!(rt; start_area(KindId(2)), [4, 8_000, 0, 0, 0, 0, 0, 0]);
+    assert_eq!(rt; start_area(KindId(5)), [4, 0, 0, 0, 0, 0, 0, 0]);
 }
 
 #[test]

@@ -1,7 +1,7 @@
 //! Values that were worked out, on the boxes of the five kinds.
 
 use airframe::step;
-use app_model::kinds::{autopilot, data_link, navigator, power_monitor};
+use app_model::kinds::{autopilot, data_link, navigator, power_monitor, task};
 use app_model::racks::{empty_racks, rack_frame, racks_frame};
 use app_model::{App, Rack, Seen, rack_fits, start_area};
 use more_apps::PlainAutopilot;
@@ -304,6 +304,24 @@ fn racks_answer_with_boxes_and_without(rt: HostRuntime) -> Result<(), Fail> {
         (charged, NONE)
     );
     assert_eq!(rt; racks_answer(Vec::new(rt.alloc()), &seen), (charged, NONE));
+    Ok(())
+}
+
+#[test]
+fn tasks_are_answered_without_a_box(rt: HostRuntime) -> Result<(), Fail> {
+    let mut rack = rack!(rt, PlainAutopilot::new());
+    let kind = KindId(task::KIND);
+    let seen = seen_in(task::REDUCED, [1, 9, 0, 0, 0, 0, 41, 7], LEVEL, LEVEL);
+    for (order, want) in [
+        (Order::Run, [1, 0, 0, 0, 0, 0, 42, 0]),
+        (Order::Halt(0, 2), [2, 0, 0, 0, 0, 0, 41, 0]),
+        (Order::Hold, [1, 9, 0, 0, 0, 0, 41, 7]),
+        (Order::Prepare(0, 1), [3, 0, 0, 0, 0, 0, 41, 0]),
+        (Order::Init(0, 1), [4, 0, 0, 0, 0, 0, 41, 0]),
+        (Order::Off, NONE),
+    ] {
+        assert_eq!(rt; rack_frame(&mut rack, kind, order, &seen), want);
+    }
     Ok(())
 }
 

@@ -48,6 +48,7 @@ spec_of bounds policy invariants preconditions = record {
   invariants = invariants;
   preconditions = preconditions;
   policy = policy;
+  demands = [];
   halts = 0;
   changes = 1;
   window = 40;

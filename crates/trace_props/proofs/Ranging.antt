@@ -94,11 +94,11 @@ word_zero (suc (suc (suc (suc (suc (suc (suc (suc i)))))))) h = absurd (omega ar
 zeros_lie : area_test (λ i. (pos 0, pos 0)) zeros ≡ true
 zeros_lie = area_is (λ i. (pos 0, pos 0)) zeros (λ i below. rw (word_zero i below) (record { least = omega (arith, ints); greatest = omega (arith, ints) }))
 
-kind_by : (spec : Parts) (a : ℕ) → IsSpec spec → (o : Option AppSpec) → slice_get spec.apps a ≡ o → option_map_or (λ (app : AppSpec). app.kind.0) o 0 < 5
+kind_by : (spec : Parts) (a : ℕ) → IsSpec spec → (o : Option AppSpec) → slice_get spec.apps a ≡ o → option_map_or (λ (app : AppSpec). app.kind.0) o 0 < 6
 kind_by spec a sound None e = omega arith
 kind_by spec a sound (Some app) e = (sound.apps a app e).kind
 
-pub kind_known : (spec : Parts) → IsSpec spec → (a : ℕ) → kind_of_app spec a < 5
+pub kind_known : (spec : Parts) → IsSpec spec → (a : ℕ) → kind_of_app spec a < 6
 kind_known spec sound a = kind_by spec a sound (slice_get spec.apps a) refl
 
 pub eight_or : {A : Type 0} (value : ℕ → A) (d : A) (a : ℕ) → a < 8 → slice_index_or (eight value) a d ≡ value a

@@ -14,7 +14,7 @@ use Rattle.scram_types.specs.Scripts.{ScriptParts}
 use Rattle.scram_types.specs.Specification.{Each, HasValueNames, IsAppSpec, IsBound, IsChoice, IsConf, IsFactor, IsModeSpec, IsPlace, IsProc, IsSpec, IsWant, mode_in, modes_of_kind, place_in}
 use Rattle.fault_script.specs.Fits.{Fits, IsChange}
 use Rattle.fault_script.proofs.Assuming.{leaves_nowhere}
-use Rattle.fault_script.proofs.SmallSpec.{differ_one, differ_two, each_none, each_one, each_two}
+use Rattle.fault_script.proofs.SmallSpec.{differ_none, differ_one, differ_two, each_none, each_one, each_two}
 use Rattle.coverage_check.specs.Missions.{IsMission, mission_of}
 use Rattle.coverage_check.proofs.Accepting.{accepts_where_unrefused}
 use Rattle.frame_model.specs.Flights.{reports_of}
@@ -64,6 +64,7 @@ sound = record {
     confs = each_two (λ (c : Conf). is_name c.name ≡ true) (placed 1) (placed 2) refl refl;
     factors = each_one (λ (x : Factor). is_name x.name ≡ true) _ refl;
     values = each_one HasValueNames _ (each_two (λ (name : List ℕ). is_name name ≡ true) (97 ∷ []) (98 ∷ []) refl refl);
+    demands = each_none _;
   };
   procs_count = record { enough = omega arith; few = omega arith };
   procs_differ = differ_one (λ (p : Proc). p.name) _;
@@ -97,6 +98,9 @@ sound = record {
   invariants = each_none _;
   preconditions_count = omega arith;
   preconditions = each_none _;
+  demands_count = omega arith;
+  demands_differ = differ_none _;
+  demands = each_none _;
   halts = omega arith;
   changes = omega arith;
   window_least = omega arith;

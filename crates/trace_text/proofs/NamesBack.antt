@@ -71,12 +71,12 @@ mode_named_is : (names : List (Option (List ℕ))) (m : ℕ) (o : Option (List �
 mode_named_is names m None e h = absurd (let x = h in cc)
 mode_named_is names m (Some text) e h = e
 
-numbered : (kind m : ℕ) → kind < 5 → IsModeNumber m (modes_of_kind kind) → number_in (mode_names kind) (mode_text kind m) ≡ Some m
+numbered : (kind m : ℕ) → kind < 6 → IsModeNumber m (modes_of_kind kind) → number_in (mode_names kind) (mode_text kind m) ≡ Some m
 numbered kind m small valid =
     let k = all_names_agree.each kind small in
     (k.modes).named m (mode_text kind m) (mode_named_is (mode_names kind) m (name_in (mode_names kind) m) refl (k.mode_named m valid))
 
-modes_differ : (kind m n : ℕ) → kind < 5 → IsModeNumber m (modes_of_kind kind) → IsModeNumber n (modes_of_kind kind) → mode_text kind m ≡ mode_text kind n → m ≡ n
+modes_differ : (kind m n : ℕ) → kind < 6 → IsModeNumber m (modes_of_kind kind) → IsModeNumber n (modes_of_kind kind) → mode_text kind m ≡ mode_text kind n → m ≡ n
 modes_differ kind m n small first second same =
     same_some m n (sym (numbered kind m small first) ∙ ap (number_in (mode_names kind)) same ∙ numbered kind n small second)
 
@@ -97,7 +97,7 @@ mode_valid kind (listed ∷ modes) m valid h =
 same_mode : (m n : Mode) → m.0 ≡ n.0 → m ≡ n
 same_mode m n e = ap (λ (k : ℕ). record { 0 = k }) e
 
-mode_by : (t : Bool) (kind : ℕ) (listed : ModeSpec) (modes : List ModeSpec) (m : Mode) → (listed.mode.0 == m.0) ≡ t → kind < 5 → IsModeSpec kind listed → IsModeNumber m.0 (modes_of_kind kind) →
+mode_by : (t : Bool) (kind : ℕ) (listed : ModeSpec) (modes : List ModeSpec) (m : Mode) → (listed.mode.0 == m.0) ≡ t → kind < 6 → IsModeSpec kind listed → IsModeNumber m.0 (modes_of_kind kind) →
     (IsSome (mode_in modes m.0) → mode_from kind (mode_text kind m.0) modes ≡ Some m) → IsSome (cond t (Some listed) (mode_in modes m.0)) →
     mode_from kind (mode_text kind m.0) (listed ∷ modes) ≡ Some m
 mode_by true kind listed modes m e small valid known more h =
@@ -110,7 +110,7 @@ mode_by false kind listed modes m e small valid known more h =
     let no : (m.0 == m.0) ≡ false = rw same at e in absurd (let y : (m.0 == m.0) ≡ true = eq-eqb m.0 m.0 refl in cc)) in
     rw other (more h)
 
-pub mode_back : (kind : ℕ) (modes : List ModeSpec) (m : Mode) → kind < 5 → Each (IsModeSpec kind) modes → IsModeNumber m.0 (modes_of_kind kind) → IsSome (mode_in modes m.0) →
+pub mode_back : (kind : ℕ) (modes : List ModeSpec) (m : Mode) → kind < 6 → Each (IsModeSpec kind) modes → IsModeNumber m.0 (modes_of_kind kind) → IsSome (mode_in modes m.0) →
     mode_from kind (mode_text kind m.0) modes ≡ Some m
 mode_back kind [] m small valid known h = absurd (let x = h in cc)
 mode_back kind (listed ∷ modes) m small valid known h =
@@ -128,15 +128,18 @@ two_spelled a b (suc zero) e f p = e
 two_spelled a b (suc (suc zero)) e f p = f
 two_spelled a b (suc (suc (suc n))) e f p = absurd (let x = p.last in omega (arith, x))
 
-three_spelled : (mode : ℕ) → IsModeNumber mode 3 → is_name (mode_text 2 mode) ≡ true
-three_spelled zero p = absurd (let x = p.first in omega (arith, x))
-three_spelled (suc zero) p = refl
-three_spelled (suc (suc zero)) p = refl
-three_spelled (suc (suc (suc zero))) p = refl
-three_spelled (suc (suc (suc (suc n)))) p = absurd (let x = p.last in omega (arith, x))
+three_spelled : (a b c : List ℕ) (mode : ℕ) → is_name a ≡ true → is_name b ≡ true → is_name c ≡ true → IsModeNumber mode 3
+    → is_name (option_map_or (λ (name : List ℕ). name) (name_in (None ∷ Some a ∷ Some b ∷ Some c ∷ []) mode) []) ≡ true
+three_spelled a b c zero e f g p = absurd (let x = p.first in omega (arith, x))
+three_spelled a b c (suc zero) e f g p = e
+three_spelled a b c (suc (suc zero)) e f g p = f
+three_spelled a b c (suc (suc (suc zero))) e f g p = g
+three_spelled a b c (suc (suc (suc (suc n)))) e f g p = absurd (let x = p.last in omega (arith, x))
 
-pub mode_spelled : (kind : ℕ) → kind < 5 → (mode : ℕ) → IsModeNumber mode (modes_of_kind kind) → is_name (mode_text kind mode) ≡ true
+pub mode_spelled : (kind : ℕ) → kind < 6 → (mode : ℕ) → IsModeNumber mode (modes_of_kind kind) → is_name (mode_text kind mode) ≡ true
 unfolding modes_of_kind
 mode_spelled = each_kind (λ kind. (mode : ℕ) → IsModeNumber mode (modes_of_kind kind) → is_name (mode_text kind mode) ≡ true)
-    (λ mode p. two_spelled (codes "navigate") (codes "hold") mode refl refl p) (λ mode p. two_spelled (codes "augmented") (codes "direct") mode refl refl p) three_spelled
+    (λ mode p. two_spelled (codes "navigate") (codes "hold") mode refl refl p) (λ mode p. two_spelled (codes "augmented") (codes "direct") mode refl refl p)
+    (λ mode p. three_spelled (codes "normal") (codes "saver") (codes "essential") mode refl refl refl p)
     (λ mode p. two_spelled (codes "route") (codes "coarse") mode refl refl p) (λ mode p. two_spelled (codes "fast") (codes "slow") mode refl refl p)
+    (λ mode p. three_spelled (codes "full") (codes "reduced") (codes "minimal") mode refl refl refl p)

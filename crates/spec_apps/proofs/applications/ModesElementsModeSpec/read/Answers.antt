@@ -7,7 +7,7 @@ pub returns-clause-fits : goal.returns-clause-fits
 returns-clause-fits c =
     let listed = c.in_ok-mode-2.ensures.of_kind in
     let load = c.in_ok-load-2.ensures.end in
-    let of_kind = λ (below : c.args.self.now.kind.0 < 5). (all_names_agree.each c.args.self.now.kind.0 below).mode_number listed.text c.in_ok-mode-2.mode.0 listed.there in
+    let of_kind = λ (below : c.args.self.now.kind.0 < 6). (all_names_agree.each c.args.self.now.kind.0 below).mode_number listed.text c.in_ok-mode-2.mode.0 listed.there in
     record {
       new = c.in_ok-mode-2.ensures.new;
       is = λ below. record {

@@ -1,0 +1,17 @@
+//! The task's law.
+#![tactic(auto, unfolding(crate::specs::Tasks::task_ran))]
+
+ghost use Rattle.std.specs.Prelude.{◌≡◌};
+ghost use Rattle.app_model.specs.Tasks.{task_ran};
+
+use crate::kinds::task::KIND;
+use crate::reads::next_ticks;
+use crate::seen::Seen;
+use scram_types::Area;
+
+/// Returns what a run leaves: the count of frames alone.
+pub fn run(seen: &Seen) -> Area
+    ensures { result ≡ task_ran seen.now }
+{
+    [1, 0, 0, 0, 0, 0, next_ticks(KIND, seen), 0]
+}

@@ -1,0 +1,80 @@
+//! What demands ask of the choice table: of which environments they speak, and which configurations meet them.
+
+ghost use Rattle.std.specs.Prelude.{◌≡◌};
+ghost use Rattle.scram_types.specs.Searches.{all_below};
+ghost use Rattle.choice_table.specs.Demands.{all_down, allows, asks_of, is_empty_or_holds, is_met, is_met_by, is_placed, speaks_of};
+
+use crate::choices::{are_up, have_wanted};
+use scram_types::bits::{has_bit, is_in};
+use scram_types::{AppId, ConfId, Demand, Env, Mode, Modes, Place, Spec};
+
+/// Returns whether a demand speaks of an environment: whether each factor has the value that it requires, each
+/// processor of `up` is up and each of `down` is down.
+pub fn speaks_of(demand: &Demand, env: &Env) -> bool
+    ensures { result ≡ speaks_of demand.now env.now }
+{
+    have_wanted(demand.wants.items(), env) && are_up(demand.up, env) && are_down(demand.down, env)
+}
+
+/// Returns whether a demand asks something of a choice from configuration `c`.
+pub fn asks_of(demand: &Demand, c: ConfId) -> bool
+    ensures { result ≡ asks_of demand.now c }
+{
+    is_empty_or_holds(demand.from, c)
+}
+
+/// Returns whether configuration `c` meets a demand: whether it is one of `to`, where there are any, each application
+/// of `on` is on there in one of its modes, where it has any, and each of `off` is off.
+pub fn is_met(spec: &Spec, demand: &Demand, c: ConfId) -> bool
+    ensures { result ≡ is_met spec.now demand.now c }
+{
+    is_empty_or_holds(demand.to, c) && is_met_by_each(spec, demand, c)
+}
+
+fn is_met_by_each(spec: &Spec, demand: &Demand, c: ConfId) -> bool
+    ensures { result ≡ all_below (is_met_by spec.now demand.now c) 8 }
+{
+    for a in 0..8 {
+        if !is_met_by(spec, demand, c, a) {
+            return false;
+        }
+    }
+    true
+}
+
+fn is_met_by(spec: &Spec, demand: &Demand, c: ConfId, a: u8) -> bool
+    ensures { result ≡ is_met_by spec.now demand.now c a }
+{
+    let app = AppId(a);
+    is_placed(demand.modes_on(app), spec.place_of(c, app))
+        && (!has_bit(demand.off, a) || !spec.is_on(c, app))
+}
+
+fn is_placed(modes: Option<Modes>, place: Option<Place>) -> bool
+    ensures { result ≡ is_placed modes place }
+{
+    match (modes, place) {
+        (None, _) => true,
+        (Some(_), None) => false,
+        (Some(modes), Some(place)) => allows(&modes, place.mode),
+    }
+}
+
+fn allows(modes: &Modes, mode: Mode) -> bool
+    ensures { result ≡ allows modes.now mode }
+{
+    modes.as_slice().is_empty() || modes.has(mode)
+}
+
+// Returns whether each processor of a set is down.
+fn are_down(set: u8, env: &Env) -> bool
+    ensures { result ≡ all_down set env.now }
+{
+    set & env.up == 0
+}
+
+fn is_empty_or_holds(set: u16, c: ConfId) -> bool
+    ensures { result ≡ is_empty_or_holds set c }
+{
+    set == 0 || is_in(set, c.0)
+}

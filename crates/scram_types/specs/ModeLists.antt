@@ -1,0 +1,22 @@
+-- Lists of modes, and up to three modes kept in an array.
+use Rattle.std.specs.Prelude.{◌≡◌, ℕ, ◌-◌, ◌≤◌, ◌==◌, Bool, List, ◌++◌, length, replicate, take}
+use Rattle.std.specs.List.{list_any}
+use Rattle.scram_types.specs.declared.ids.Mode.{Mode}
+
+-- A mode stands among modes.
+abbrev pub is_among : List Mode → ℕ → Bool
+is_among modes mode = list_any (λ (listed : Mode). listed.0 == mode) modes
+
+-- what stands in the places that are not used
+abbrev pub unused : Mode
+unused = record { 0 = 0 }
+
+-- modes, and what fills the array behind them
+abbrev pub padded : List Mode → List Mode
+padded modes = modes ++ replicate (3 - length modes) unused
+
+-- The first `count` items of an array of three are modes, and the others are unused.
+pub record IsPadded (count : ℕ) (items : List Mode) : Type 0 where
+  pub few : count ≤ 3
+  pub counted : length (take count items) ≡ count
+  pub padded : padded (take count items) ≡ items

@@ -1,0 +1,11 @@
+use Rattle.std.proofs.Common.{rules}
+use Rattle.spec_table.proofs.demands.DemandsNamedElementsDemandByName.read.Goals as goal
+
+pub returns-clause-fits : goal.returns-clause-fits
+returns-clause-fits c = rw (c.of.ensures) (record {
+  name = c.in_ok-name-2.ensures.fresh;
+  from = search rules;
+  few = c.in_ok-wants-2.ensures.most;
+  wants = c.in_ok-wants-2.ensures.fits;
+  asked = c.in_ok-up-2.ensures.fits;
+})

@@ -1,0 +1,87 @@
+-- How the demands are read.
+use Rattle.std.specs.Prelude.{ℕ, ◌++◌, List, [], ◌∷◌, codes, Option, Some, None, is_some, replicate, set, slice_get, Result, Ok, ⊤, if◌then◌else◌}
+use Rattle.serde_json.specs.Data.{Data, Items}
+use Rattle.scram_types.specs.declared.ids.Mode.{Mode}
+use Rattle.scram_types.specs.declared.specification.Proc.{Proc}
+use Rattle.scram_types.specs.declared.specification.AppSpec.{AppSpec}
+use Rattle.scram_types.specs.declared.specification.Conf.{Conf}
+use Rattle.scram_types.specs.declared.specification.Demand.{Demand}
+use Rattle.scram_types.specs.declared.specification.Factor.{Factor}
+use Rattle.scram_types.specs.declared.specification.Want.{Want}
+use Rattle.scram_types.specs.Bits.{bits_below}
+use Rattle.scram_types.specs.ModeLists.{is_among}
+use Rattle.scram_doc.specs.declared.fault.DocFault.{DocFault}
+use Rattle.scram_doc.specs.Chain.{chain}
+use Rattle.scram_doc.specs.Faults.{broken}
+use Rattle.scram_doc.specs.Lists.{elements_at, folded_from}
+use Rattle.scram_doc.specs.Members.{object_at, needed, no_more_than}
+use Rattle.scram_doc.specs.Paths.{member_path}
+use Rattle.scram_doc.specs.Values.{list_at}
+use Rattle.spec_members.specs.declared.rule.TheConstants.{MODE_TWICE}
+use Rattle.spec_members.specs.Names.{name_of_demand, read_new_name}
+use Rattle.spec_table.specs.declared.demands.Asked.{Asked}
+use Rattle.spec_table.specs.Choices.{read_want}
+use Rattle.spec_table.specs.Configurations.{given, read_listed_mode, read_new_app}
+use Rattle.spec_table.specs.Sets.{read_apps_set, read_confs_set, read_procs_set}
+
+-- the modes with one that the application lists and that does not yet stand among them
+abbrev pub read_on_mode : Option AppSpec → List ℕ → List Mode → Data → Result (List Mode) DocFault
+read_on_mode found at modes d =
+    chain (read_listed_mode found at d) (λ (mode : ℕ).
+    if is_among modes mode then broken MODE_TWICE at else Ok (modes ++ record { 0 = mode } ∷ []))
+
+-- modes of an application: 0 to 3
+abbrev pub read_on_modes : Option AppSpec → List ℕ → Data → Result (List Mode) DocFault
+read_on_modes found at d = chain (list_at 0 3 at d) (λ (ds : Items). folded_from (read_on_mode found) at 0 [] ds)
+
+-- the applications that have to be on, with one more
+abbrev pub read_on_app : List AppSpec → List ℕ → List (Option (List Mode)) → Data → Result (List (Option (List Mode))) DocFault
+read_on_app apps at on d =
+    chain (object_at at d) (λ (_ : ⊤).
+    chain (needed (codes "app") at d) (λ (app : Data).
+    chain (needed (codes "modes") at d) (λ (modes : Data).
+    chain (no_more_than 2 at d) (λ (_ : ⊤).
+    chain (read_new_app apps on (member_path at (codes "app")) app) (λ (a : ℕ).
+    chain (read_on_modes (slice_get apps a) (member_path at (codes "modes")) modes) (λ (modes : List Mode).
+    Ok (set on a (Some modes))))))))
+
+-- the applications that have to be on: 0 to 8
+abbrev pub read_on : List AppSpec → List ℕ → Data → Result (List (Option (List Mode))) DocFault
+read_on apps at d = chain (list_at 0 8 at d) (λ (ds : Items). folded_from (read_on_app apps) at 0 (replicate 8 None) ds)
+
+-- the applications that have to be on, as a set
+abbrev pub on_set : List (Option (List Mode)) → ℕ
+on_set on = bits_below (λ a. is_some (given on a)) 8
+
+-- What a demand of an object says of processors and applications, and to what it leads, by its members.
+abbrev pub read_asked : List Proc → List AppSpec → List Conf → List ℕ → Data → Data → Data → Data → Data → Result Asked DocFault
+read_asked procs apps confs at up down to on off =
+    chain (read_procs_set procs 0 (member_path at (codes "up")) up) (λ (up : ℕ).
+    chain (read_procs_set procs up (member_path at (codes "down")) down) (λ (down : ℕ).
+    chain (read_confs_set confs (member_path at (codes "to")) to) (λ (to : ℕ).
+    chain (read_on apps (member_path at (codes "on")) on) (λ (on : List (Option (List Mode))).
+    chain (read_apps_set apps (on_set on) (member_path at (codes "off")) off) (λ (off : ℕ).
+    Ok (record { up = up; down = down; to = to; on = on; off = off }))))))
+
+-- a demand, whose name is new
+abbrev pub read_demand : List Proc → List AppSpec → List Conf → List Factor → List ℕ → List Demand → Data → Result Demand DocFault
+read_demand procs apps confs factors at done d =
+    chain (object_at at d) (λ (_ : ⊤).
+    chain (needed (codes "name") at d) (λ (name : Data).
+    chain (needed (codes "from") at d) (λ (from : Data).
+    chain (needed (codes "when") at d) (λ (wants : Data).
+    chain (needed (codes "up") at d) (λ (up : Data).
+    chain (needed (codes "down") at d) (λ (down : Data).
+    chain (needed (codes "to") at d) (λ (to : Data).
+    chain (needed (codes "on") at d) (λ (on : Data).
+    chain (needed (codes "off") at d) (λ (off : Data).
+    chain (no_more_than 8 at d) (λ (_ : ⊤).
+    chain (read_new_name name_of_demand done (member_path at (codes "name")) name) (λ (name : List ℕ).
+    chain (read_confs_set confs (member_path at (codes "from")) from) (λ (from : ℕ).
+    chain (elements_at (read_want factors) 0 6 (member_path at (codes "when")) wants) (λ (wants : List Want).
+    chain (read_asked procs apps confs at up down to on off) (λ (asked : Asked).
+    Ok (record { name = name; from = from; wants = wants; up = asked.up; down = asked.down; to = asked.to; on = asked.on; off = asked.off })))))))))))))))
+
+-- the demands of a document: 0 to 64
+abbrev pub read_demands : List Proc → List AppSpec → List Conf → List Factor → List ℕ → Data → Result (List Demand) DocFault
+read_demands procs apps confs factors at d = elements_at (read_demand procs apps confs factors) 0 64 at d

@@ -1,0 +1,273 @@
+//! Demands: what has to run in which environment.
+
+ghost use Rattle.std.specs.Prelude.{◌≡◌, ◌≤◌, ◌<◌, None, [], codes, is_some, length, replicate, slice_get, IfOk};
+ghost use Rattle.std.specs.Option.{option_copied};
+ghost use Rattle.serde_json.specs.View.{view, items_view};
+ghost use Rattle.scram_doc.specs.Chain.{ok_map};
+ghost use Rattle.scram_doc.specs.Faults.{Answers};
+ghost use Rattle.scram_doc.specs.Lists.{AllAfter, folded_from};
+ghost use Rattle.spec_members.specs.Found.{AreMembers};
+ghost use Rattle.spec_table.specs.Configurations.{given, read_new_app};
+ghost use Rattle.spec_table.specs.Demands.{on_set, read_asked, read_demand, read_demands, read_on, read_on_app, read_on_mode, read_on_modes};
+ghost use Rattle.spec_table.specs.Facts.{AreOn, FitsAsked, HasMoreModes, IsNewDemand, IsNewOn, IsOnAfter};
+
+use crate::choices::Wants;
+use crate::configurations::read_listed_mode;
+use crate::sets::{read_apps_set, read_confs_set, read_procs_set};
+use crate::vocabulary::Vocabulary;
+use scram_doc::{
+    DocError, DocFault, NamedElements, Numbered, Path, list, need, no_more, object, read_list,
+    read_named_list,
+};
+use scram_types::limits::{MAX_APPLICATIONS, MAX_DEMANDS, MAX_FACTORS, MAX_MODES};
+use scram_types::{AppId, AppSpec, Demand, List, Mode, Modes};
+use serde_json::Value;
+use spec_members::names::{ByName, read_named, read_new_name};
+use spec_members::rule;
+use std::alloc::Global;
+
+type On = [Option<Modes>; 8];
+
+/// Returns the modes with the one that the value names.
+fn read_on_mode(
+    app: Option<&AppSpec>,
+    modes: Modes,
+    v: &Value,
+    at: &Path,
+) -> Result<Modes, DocFault>
+    requires room { length modes < 3 }
+    ensures value { result ≡ read_on_mode (option_copied app.entry) at.now modes (view v.now) }
+    ensures more { IfOk result (HasMoreModes (option_copied app.entry) modes) }
+{
+    let mode = read_listed_mode(app, v, at)?;
+    if modes.has(mode) {
+        return Err(DocFault::new(rule::MODE_TWICE, at));
+    }
+    let mut modes = modes;
+    modes.push(mode);
+    Ok(modes)
+}
+
+/// Returns the modes that the value lists, 0 to 3 of them, each of which the application lists.
+fn read_on_modes(app: Option<&AppSpec>, v: &Value, at: &Path) -> Result<Modes, DocFault>
+    requires room { length at.now ≤ 46 }
+    ensures value { result ≡ read_on_modes (option_copied app.entry) at.now (view v.now) }
+    ensures few { IfOk result (λ modes. length modes ≤ 3) }
+    ensures each { IfOk result (λ modes. AllAfter (IsNewOn (option_copied app.entry)) modes) }
+{
+    let items = list(v, 0, MAX_MODES, at)?;
+    let mut modes = Modes::new();
+    for (i, v) in items.iter().enumerate() {
+        modes = read_on_mode(app, modes, v, &at.item(i))?;
+    }
+    Ok(modes)
+}
+
+fn is_on(on: &On, app: AppId) -> bool
+    ensures { result ≡ is_some (given on.now app.0) }
+{
+    match on.get(usize::from(app.0)) {
+        Some(Some(_)) => true,
+        Some(None) | None => false,
+    }
+}
+
+fn read_new_app(
+    apps: &Numbered<AppSpec, ByName>,
+    on: &On,
+    v: &Value,
+    at: &Path,
+) -> Result<AppId, DocFault>
+    requires few { length apps.now ≤ 8 }
+    ensures value { ok_map (λ app. app.0) result ≡ read_new_app apps.now on.now at.now (view v.now) }
+    ensures there { IfOk result (λ app. app.0 < length apps.now) }
+{
+    let app = AppId(read_named(apps, rule::UNKNOWN_APPLICATION, v, at)?);
+    if is_on(on, app) {
+        Err(DocFault::new(rule::TWICE_IN_LIST, at))
+    } else {
+        Ok(app)
+    }
+}
+
+fn find_app(apps: &Numbered<AppSpec, ByName>, app: AppId) -> Option<&AppSpec>
+    ensures { option_copied result ≡ slice_get apps.now app.0 }
+{
+    apps.items().get(usize::from(app.0))
+}
+
+/// Returns the applications that have to be on, with the one that the value adds.
+fn read_on_app(
+    apps: &Numbered<AppSpec, ByName>,
+    on: On,
+    v: &Value,
+    at: &Path,
+) -> Result<On, DocFault>
+    requires room { length at.now ≤ 40 }
+    requires few { length apps.now ≤ 8 }
+    ensures value { result ≡ read_on_app apps.now at.now on (view v.now) }
+    ensures fits { IfOk result (λ more. IsOnAfter apps.now on more) }
+{
+    object(v, at)?;
+    let app = need(v, "app", at)?;
+    let modes = need(v, "modes", at)?;
+    no_more(v, 2, at)?;
+    let app = read_new_app(apps, &on, app, &at.member("app"))?;
+    let modes = read_on_modes(find_app(apps, app), modes, &at.member("modes"))?;
+    let mut on = on;
+    on[usize::from(app.0)] = Some(modes);
+    Ok(on)
+}
+
+/// Returns the applications that have to be on, 0 to 8 of them.
+fn read_on(apps: &Numbered<AppSpec, ByName>, v: &Value, at: &Path) -> Result<On, DocFault>
+    requires room { length at.now ≤ 34 }
+    requires few { length apps.now ≤ 8 }
+    ensures value { result ≡ read_on apps.now at.now (view v.now) }
+    ensures fits { IfOk result (λ on. AreOn apps.now on) }
+{
+    let items = list(v, 0, MAX_APPLICATIONS, at)?;
+    let mut on = [None; 8];
+    for (i, v) in items.iter().enumerate() {
+        on = read_on_app(apps, on, v, &at.item(i))?;
+    }
+    Ok(on)
+}
+
+/// Returns the applications that have to be on, as a set.
+fn on_set(on: &On) -> u8
+    ensures { result ≡ on_set on.now }
+{
+    let mut set = 0;
+    for a in 0..8 {
+        if is_on(on, AppId(a)) {
+            set += 1 << a;
+        }
+    }
+    set
+}
+
+/// What a demand asks of the processors of an environment and of the configuration that is chosen.
+#[derive(Clone, Copy)]
+struct Asked {
+    up: u8,
+    down: u8,
+    to: u16,
+    on: On,
+    off: u8,
+}
+
+/// The values of the members of a demand that say what it asks.
+#[derive(Clone, Copy)]
+struct AskedMembers<'a> {
+    up: &'a Value,
+    down: &'a Value,
+    to: &'a Value,
+    on: &'a Value,
+    off: &'a Value,
+}
+
+/// Returns what the demand at this path asks, by its members.
+fn read_asked(
+    vocabulary: &Vocabulary,
+    members: &AskedMembers<'_>,
+    at: &Path,
+) -> Result<Asked, DocFault>
+    requires room { length at.now ≤ 24 }
+    ensures value { result ≡ read_asked vocabulary.now.procs vocabulary.now.apps vocabulary.now.confs at.now (view members.now.up.now) (view members.now.down.now) (view members.now.to.now) (view members.now.on.now) (view members.now.off.now) }
+    ensures fits { IfOk result (FitsAsked vocabulary.now.procs vocabulary.now.apps vocabulary.now.confs) }
+{
+    let procs = &vocabulary.procs;
+    let up = read_procs_set(procs, 0, members.up, &at.member("up"))?;
+    let down = read_procs_set(procs, up, members.down, &at.member("down"))?;
+    let to = read_confs_set(&vocabulary.confs, members.to, &at.member("to"))?;
+    let apps = &vocabulary.apps;
+    let on = read_on(apps, members.on, &at.member("on"))?;
+    let off = read_apps_set(apps, on_set(&on), members.off, &at.member("off"))?;
+    Ok(Asked {
+        up,
+        down,
+        to,
+        on,
+        off,
+    })
+}
+
+#[derive(Clone, Copy)]
+struct Demands<'a> {
+    vocabulary: &'a Vocabulary,
+}
+
+impl NamedElements<Demand, ByName> for Demands<'_> {
+    ghost room = { 24 };
+
+    ghost reading = { λ demands. read_demand demands.vocabulary.now.procs demands.vocabulary.now.apps demands.vocabulary.now.confs demands.vocabulary.now.factors };
+
+    ghost Fits = { λ demands. IsNewDemand demands.vocabulary.now.procs demands.vocabulary.now.apps demands.vocabulary.now.confs demands.vocabulary.now.factors };
+
+    ghost is_new = { λ e done x fits. fits.name.new };
+
+    fn read(
+        &self,
+        alloc: Global,
+        done: &Numbered<Demand, ByName>,
+        v: &Value,
+        at: &Path,
+    ) -> Result<Demand, DocError> {
+        object(v, at)?;
+        let name = need(v, "name", at)?;
+        let from = need(v, "from", at)?;
+        let wants = need(v, "when", at)?;
+        let up = need(v, "up", at)?;
+        let down = need(v, "down", at)?;
+        let to = need(v, "to", at)?;
+        let on = need(v, "on", at)?;
+        let off = need(v, "off", at)?;
+        no_more(v, 8, at)?;
+        let vocabulary = self.vocabulary;
+        let name = read_new_name(done, name, &at.member("name"))?;
+        let from = read_confs_set(&vocabulary.confs, from, &at.member("from"))?;
+        let known = Wants { vocabulary };
+        let wants = read_list(alloc, &known, wants, 0, MAX_FACTORS, &at.member("when"))?;
+        let members = AskedMembers {
+            up,
+            down,
+            to,
+            on,
+            off,
+        };
+        let Asked {
+            up,
+            down,
+            to,
+            on,
+            off,
+        } = read_asked(vocabulary, &members, at)?;
+        Ok(Demand {
+            name,
+            from,
+            wants: List::of(wants),
+            up,
+            down,
+            to,
+            on,
+            off,
+        })
+    }
+}
+
+/// Returns the demands that the value lists, 0 to 64 of them.
+pub fn read_demands(
+    alloc: Global,
+    vocabulary: &Vocabulary,
+    v: &Value,
+    at: &Path,
+) -> Result<Vec<Demand>, DocError>
+    requires room { length at.now ≤ 18 }
+    ensures value { Answers (read_demands vocabulary.now.procs vocabulary.now.apps vocabulary.now.confs vocabulary.now.factors at.now (view v.now)) (λ l. l.items) result }
+    ensures few { IfOk result (λ l. length l.items ≤ 64) }
+    ensures fits { IfOk result (λ l. AllAfter (IsNewDemand vocabulary.now.procs vocabulary.now.apps vocabulary.now.confs vocabulary.now.factors) l.items) }
+{
+    let demands = read_named_list(alloc, &Demands { vocabulary }, v, 0, MAX_DEMANDS, at)?;
+    Ok(demands.into_items())
+}
