@@ -3,19 +3,20 @@ use Rattle.frame_model.specs.Flights.{reports_of, rows_of}
 use Rattle.word_deck.proofs.Outcomes.{all_hold, few_told, landed_seats}
 use Rattle.word_deck.proofs.word_flights.land_all.Goals as goal
 
-pub returns-clause-assured : goal.returns-clause-assured
-returns-clause-assured g c =
+pub returns-clause-flown : goal.returns-clause-flown
+returns-clause-flown g c =
     let mission = c.args.mission.now in
+    let flown = c.finish.result in
     let rows : c.finish.result.rows ≡ rows_of mission.spec mission.script = search rules in
     let told : c.finish.result.reports ≡ reports_of mission.spec mission.script = search rules in
-    all_hold mission.spec mission.script c.finish.result.rows c.finish.result.reports c.reconfigurations_are_assured.ensures c.holds.ensures.spec c.holds.ensures.mission rows told
-
-pub returns-clause-few : goal.returns-clause-few
-returns-clause-few g c =
-    let mission = c.args.mission.now in
-    let rows : c.finish.result.rows ≡ rows_of mission.spec mission.script = search rules in
-    let told : c.finish.result.reports ≡ reports_of mission.spec mission.script = search rules in
-    few_told mission.spec mission.script c.finish.result.rows c.finish.result.reports rows told
+    let count : length c.finish.result.rows ≡ mission.script.frames = search rules in
+    record {
+      rows = rows;
+      reports = told;
+      assured = all_hold mission.spec mission.script flown.rows flown.reports c.reconfigurations_are_assured.ensures c.holds.ensures.spec c.holds.ensures.mission rows told;
+      count = count;
+      few = few_told mission.spec mission.script flown.rows flown.reports rows told;
+    }
 
 pub returns-clause-seats : goal.returns-clause-seats
 returns-clause-seats g c =
