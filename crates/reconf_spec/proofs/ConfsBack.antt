@@ -29,9 +29,9 @@ use Rattle.scram_types.proofs.Items.{next_part}
 use Rattle.scram_doc.proofs.ReadBack.{list_back, within_back}
 
 -- a mode that an application lists is one of its kind
-record OfKind (kind mode : ℕ) : Type 0 where
-  first : 1 ≤ mode
-  last : mode ≤ modes_of_kind kind
+pub record OfKind (kind mode : ℕ) : Type 0 where
+  pub first : 1 ≤ mode
+  pub last : mode ≤ modes_of_kind kind
 
 of_kind_by : (b : Bool) (listed : ModeSpec) (mode kind : ℕ) (rest : Option ModeSpec) → (b ≡ true → listed.mode.0 ≡ mode) → IsModeSpec kind listed → (is_some rest ≡ true → OfKind kind mode)
     → is_some (cond b (Some listed) rest) ≡ true → OfKind kind mode
@@ -40,7 +40,7 @@ of_kind_by true listed mode kind rest here is later some =
     record { first = subst (λ (m : ℕ). 1 ≤ m) same is.on; last = subst (λ (m : ℕ). m ≤ modes_of_kind kind) same is.of_kind }
 of_kind_by false listed mode kind rest here is later some = later some
 
-listed_of_kind : (kind mode : ℕ) (modes : List ModeSpec) → Each (IsModeSpec kind) modes → IsSome (mode_in modes mode) → OfKind kind mode
+pub listed_of_kind : (kind mode : ℕ) (modes : List ModeSpec) → Each (IsModeSpec kind) modes → IsSome (mode_in modes mode) → OfKind kind mode
 listed_of_kind kind mode [] each some = absurd (let wrong : false ≡ true = some in cc)
 listed_of_kind kind mode (listed ∷ modes) each some =
     of_kind_by (listed.mode.0 == mode) listed mode kind (mode_in modes mode) (λ e. eqb-true listed.mode.0 mode e) (each zero listed refl)

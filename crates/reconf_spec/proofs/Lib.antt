@@ -1,5 +1,7 @@
 pub mod AppsBack
 pub mod ConfsBack
+pub mod Cycles
+pub mod DemandsBack
 pub mod Lookups
 pub mod RestBack
 pub mod Sets

@@ -1,15 +1,13 @@
 -- Rules, bounds and intervals are read back as they were written.
-use Rattle.std.proofs.Common.{◌≡◌, ◌≤◌, ◌<◌, ◌^◌, ◌%◌, ℕ, suc, Bool, true, false, cond, List, [], ◌∷◌, length, arith, refl, ◌∙◌, sym, subst}
+use Rattle.std.proofs.Common.{◌≡◌, ◌<◌, ◌^◌, ℕ, Bool, true, false, List, [], ◌∷◌, arith, refl, ◌∙◌, sym, subst}
 use Rattle.std.specs.Prelude.{Option, Some, None, Ok, ℤ, pos, negsuc, ◌≤ℤ◌, codes, slice_get, is_some}
 use Rattle.std.specs.Str.{bytes_eq}
 use Rattle.std.proofs.lemmas.Bool.{lt-ltb}
 use Rattle.std.proofs.lemmas.Int.{ints}
 use Rattle.std.proofs.lemmas.Option.{slice_get_within}
 use Rattle.std.proofs.lemmas.Slice.Eq.{bytes_eq-Decides}
-use Rattle.serde_json.specs.Data.{Data, array, string}
-use Rattle.serde_json.specs.Events.{items_len}
+use Rattle.serde_json.specs.Data.{string}
 use Rattle.serde_json.specs.Find.{as_i64, of_integer}
-use Rattle.serde_json.specs.View.{items_of}
 use Rattle.scram_doc.specs.Paths.{member_path}
 use Rattle.scram_doc.specs.Values.{int_within}
 use Rattle.scram_types.specs.declared.flights.Goal.{Goal}
@@ -29,23 +27,23 @@ use Rattle.scram_types.specs.Numbers.{minus}
 use Rattle.scram_types.specs.Specification.{Each, IsBound, IsChoice, IsFactor, IsGoal, IsInIfNamed, IsInterval, IsInvariant, IsPrecondition, IsSpec, IsWant, NamesDiffer, Parts, bound_in}
 use Rattle.app_model.specs.Names.{variable_names, number_in}
 use Rattle.app_model.proofs.Spelling.{all_names_agree}
+use Rattle.spec_members.specs.declared.rule.TheConstants.{UNKNOWN_PROCESSOR}
 use Rattle.spec_members.specs.Names.{name_of_app, name_of_conf, name_of_factor, name_of_proc}
 use Rattle.spec_table.specs.Bounds.{read_bound, read_bounds}
-use Rattle.spec_table.specs.Choices.{read_choice, read_choices, wants_factor, source_named, read_up, read_up_list, read_want}
-use Rattle.scram_types.specs.Bits.{has_bit}
+use Rattle.spec_table.specs.Choices.{read_choice, read_choices, wants_factor, source_named, read_want}
 use Rattle.reconf_spec.specs.Documents.{read_goal}
-use Rattle.scram_doc.specs.Lists.{AllAfter, folded_from}
+use Rattle.scram_doc.specs.Lists.{AllAfter}
 use Rattle.spec_table.specs.Facts.{IsVariable}
 use Rattle.scram_doc.specs.Numbering.{itself}
 use Rattle.spec_table.specs.Intervals.{read_interval, read_invariant, read_invariants, read_precondition, read_preconditions}
-use Rattle.spec_text.specs.Texts.{bound_data, choice_data, goal_data, invariant_data, name_of_item, precondition_data, source_name, up_data, name_of_kind_variable, name_of_variable, want_data}
+use Rattle.spec_text.specs.Texts.{bound_data, choice_data, goal_data, invariant_data, name_of_item, precondition_data, source_name, name_of_kind_variable, name_of_variable, want_data}
 use Rattle.scram_doc.specs.Canonical.{integer_data, list_data}
 use Rattle.reconf_spec.specs.Writable.{IsWritableInterval, lists_pair, lists_want}
 use Rattle.reconf_spec.proofs.Lookups.{number_back}
 use Rattle.scram_types.proofs.Integers.{int_is}
 use Rattle.scram_types.proofs.Items.{some_item}
-use Rattle.scram_doc.proofs.ReadBack.{list_back, whole_back, within_back}
-use Rattle.reconf_spec.proofs.Sets.{up_back}
+use Rattle.scram_doc.proofs.ReadBack.{list_back, whole_back}
+use Rattle.reconf_spec.proofs.Sets.{all_free, set_back}
 
 -- the name of a configuration is not `*`
 no_star_by : (b : Bool) (text : List ℕ) → (b ≡ true → text ≡ codes "*") → is_name text ≡ true → b ≡ false
@@ -66,32 +64,17 @@ source_back confs at (Some c) differ named there = some_item confs c.0 there (λ
     let other : bytes_eq (name_of_item name_of_conf confs c.0) (codes "*") ≡ false = rw (text) (no_star conf.name (named c.0 conf is)) in
     rw (other, found) refl)
 
-record NewWant (factors : List Factor) (done : List Want) (want : Want) : Type 0 where
-  new : wants_factor done want.factor.0 ≡ false
-  is : IsWant factors want
+pub record NewWant (factors : List Factor) (done : List Want) (want : Want) : Type 0 where
+  pub new : wants_factor done want.factor.0 ≡ false
+  pub is : IsWant factors want
 
-want_back : (factors : List Factor) → NamesDiffer name_of_factor factors → Each IsFactor factors → (at : List ℕ) (done : List Want) (want : Want) → NewWant factors done want
+pub want_back : (factors : List Factor) → NamesDiffer name_of_factor factors → Each IsFactor factors → (at : List ℕ) (done : List Want) (want : Want) → NewWant factors done want
     → read_want factors at done (want_data factors want) ≡ Ok want
 want_back factors differ each at done want fits =
     let is = fits.is in
     let found = number_back name_of_factor factors want.factor.0 differ (slice_get_within factors want.factor.0 is.factor is.there) in
     let value = number_back itself is.factor.values want.value (each want.factor.0 is.factor is.there).differ is.value in
     rw (found, fits.new, is.there, value) refl
-
-few_up_by : (b : Bool) (name : List ℕ) (rest : List Data) (most : ℕ) → items_len (items_of rest) ≤ most → items_len (items_of (cond b (string name ∷ rest) rest)) ≤ suc most
-few_up_by true name rest most few = omega (arith, few)
-few_up_by false name rest most few = omega (arith, few)
-
-few_up : (set p : ℕ) (procs : List Proc) → items_len (items_of (up_data set p procs)) ≤ length procs
-few_up set p [] = omega arith
-few_up set p (proc ∷ procs) = few_up_by (has_bit set p) proc.name (up_data set (suc p) procs) (length procs) (few_up set (suc p) procs)
-
-ups_back : (procs : List Proc) (at : List ℕ) (set : ℕ) → length procs ≤ 8 → NamesDiffer name_of_proc procs → set < 2 ^ length procs → read_up_list procs at (array (items_of (up_data set 0 procs))) ≡ Ok set
-ups_back procs at set few differ below =
-    let count = few_up set 0 procs in
-    let none : set % 2 ^ 0 ≡ 0 = omega arith in
-    rw (within_back 0 8 at (items_of (up_data set 0 procs)) (omega arith) (omega (arith, count, few)))
-    (subst (λ (n : ℕ). folded_from (read_up procs) at 0 n (items_of (up_data set 0 procs)) ≡ Ok set) none (up_back procs [] procs at 0 set differ refl below))
 
 record WritableChoice (spec : Parts) (rule : Choice) : Type 0 where
   is : IsChoice spec.procs spec.confs spec.factors rule
@@ -105,7 +88,7 @@ choice_back spec is named at done rule fits =
     rw (
       source_back spec.confs (member_path at (codes "from")) rule.from is.confs_differ named fits.is.from,
       wants,
-      ups_back spec.procs (member_path at (codes "up")) rule.up is.procs_count.few is.procs_differ fits.is.up,
+      set_back name_of_proc spec.procs UNKNOWN_PROCESSOR 0 8 (member_path at (codes "up")) rule.up is.procs_count.few is.procs_differ fits.is.up (all_free rule.up),
       number_back name_of_conf spec.confs rule.to.0 is.confs_differ fits.is.to,
     ) refl
 

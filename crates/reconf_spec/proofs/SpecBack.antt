@@ -1,5 +1,5 @@
 -- The value of a specification that can be written is read back to it.
-use Rattle.std.proofs.Common.{◌≡◌, ◌≤◌, ℕ, List, [], length, map, arith, refl}
+use Rattle.std.proofs.Common.{◌≡◌, ◌≤◌, ℕ, List, [], ◌∷◌, length, map, arith, refl}
 use Rattle.std.specs.Prelude.{Ok, Some, IsUtf8, codes}
 use Rattle.std.proofs.lemmas.Bool.{le-leb}
 use Rattle.serde_json.specs.Read.{read}
@@ -7,12 +7,14 @@ use Rattle.scram_doc.specs.Canonical.{list_data}
 use Rattle.scram_doc.specs.Paths.{member_path}
 use Rattle.scram_doc.proofs.Parsed.{parsed-some}
 use Rattle.scram_types.specs.declared.limits.TheConstants.{MAX_SPECIFICATION_BYTES}
+use Rattle.scram_types.specs.declared.specification.Demand.{Demand}
 use Rattle.scram_types.specs.declared.specification.Policy.{Policy}
 use Rattle.scram_types.specs.declared.specification.Policy.TheVariants.{Retarget, Settle}
 use Rattle.scram_types.specs.Specification.{IsSpec, Parts}
 use Rattle.reconf_spec.specs.declared.documents.Assumption.{Assumption}
 use Rattle.spec_table.specs.Bounds.{read_bounds}
 use Rattle.spec_table.specs.Choices.{read_choices, read_conf_id}
+use Rattle.spec_table.specs.Demands.{read_demands}
 use Rattle.spec_members.specs.Names.{name_of_conf}
 use Rattle.spec_table.specs.Configurations.{read_confs}
 use Rattle.spec_table.specs.Vocabulary.{Names}
@@ -21,10 +23,11 @@ use Rattle.spec_members.specs.Factors.{read_factors}
 use Rattle.spec_table.specs.Intervals.{read_invariants, read_preconditions}
 use Rattle.spec_apps.specs.Needs.{ranked_at, read_unranked}
 use Rattle.spec_members.specs.Processors.{read_procs}
-use Rattle.spec_text.specs.Texts.{app_data, assumption_data, bound_data, choice_data, conf_data, data_by, factor_data, goal_data, invariant_data, precondition_data, proc_data, spec_data, start_data}
+use Rattle.spec_text.specs.Texts.{app_data, assumption_data, bound_data, choice_data, conf_data, data_by, demand_data, factor_data, goal_data, invariant_data, precondition_data, proc_data, spec_data, start_data}
 use Rattle.reconf_spec.specs.Writable.{IsWritable}
 use Rattle.reconf_spec.proofs.AppsBack.{procs_back, ranks_back, unranked, unranked_back}
 use Rattle.reconf_spec.proofs.ConfsBack.{confs_back, factors_back}
+use Rattle.reconf_spec.proofs.DemandsBack.{demands_back}
 use Rattle.scram_doc.proofs.ReadBack.{whole_back}
 use Rattle.reconf_spec.proofs.Lookups.{number_back}
 use Rattle.reconf_spec.proofs.RestBack.{bounds_back, choices_back, goal_back, invariants_back, preconditions_back}
@@ -62,13 +65,14 @@ names_are_back spec is writable = record {
   factors = factors_back _ spec.factors is.factors_count is.factors_differ is.factors is.names.factors is.names.values;
 }
 
-names_back : (policy : Policy) (spec : Parts) → NamesAreBack spec → names_in (data_by policy spec) ≡ Ok (names_of spec)
-names_back Retarget spec back = rw (back.procs, back.apps, back.ranks, back.confs, back.factors) refl
-names_back Settle spec back = rw (back.procs, back.apps, back.ranks, back.confs, back.factors) refl
+names_back : (demands : List Demand) (policy : Policy) (spec : Parts) → NamesAreBack spec → names_in (data_by demands policy spec) ≡ Ok (names_of spec)
+names_back [] Retarget spec back = rw (back.procs, back.apps, back.ranks, back.confs, back.factors) refl
+names_back [] Settle spec back = rw (back.procs, back.apps, back.ranks, back.confs, back.factors) refl
+names_back (demand ∷ demands) policy spec back = rw (back.procs, back.apps, back.ranks, back.confs, back.factors) refl
 
--- the specification with this policy
-abbrev with_policy : Policy → Parts → Parts
-with_policy policy spec = record {
+-- the specification with these demands and this policy
+abbrev with_choice : List Demand → Policy → Parts → Parts
+with_choice demands policy spec = record {
   procs = spec.procs;
   apps = spec.apps;
   confs = spec.confs;
@@ -80,12 +84,13 @@ with_policy policy spec = record {
   invariants = spec.invariants;
   preconditions = spec.preconditions;
   policy = policy;
+  demands = demands;
   halts = spec.halts;
   changes = spec.changes;
   window = spec.window;
 }
 
--- what is read back of the rest of a document, but its policy
+-- what is read back of the rest of a document, but its policy and its demands
 record RestIsBack (spec : Parts) : Type 0 where
   rules : read_choices spec.procs spec.confs spec.factors (member_path [] (codes "rules")) (list_data (choice_data spec) spec.rules) ≡ Ok spec.rules
   bounds : read_bounds spec.confs (member_path [] (codes "bounds")) (list_data (bound_data spec.confs) spec.bounds) ≡ Ok spec.bounds
@@ -106,16 +111,25 @@ rest_is_back spec is writable = record {
   assumption = assumption_back spec is (member_path [] (codes "assumption"));
 }
 
-rest_back : (policy : Policy) (spec : Parts) → RestIsBack spec → rest_in (names_of spec) (data_by policy spec) ≡ Ok (with_policy policy spec)
-rest_back Retarget spec back = rw (back.rules, back.bounds, back.start, back.goal, back.invariants, back.preconditions, back.assumption) refl
-rest_back Settle spec back = rw (back.rules, back.bounds, back.start, back.goal, back.invariants, back.preconditions, back.assumption) refl
+-- what is read back of demands
+abbrev AreBack : Parts → List Demand → Type 0
+AreBack spec demands =
+    read_demands spec.procs spec.apps spec.confs spec.factors (member_path [] (codes "demands")) (list_data (demand_data spec) demands) ≡ Ok demands
 
-document_back : (policy : Policy) (spec : Parts) → NamesAreBack spec → RestIsBack spec → spec_in (data_by policy spec) ≡ Ok (with_policy policy spec)
-document_back Retarget spec names rest = rw (names_back Retarget spec names, rest_back Retarget spec rest) refl
-document_back Settle spec names rest = rw (names_back Settle spec names, rest_back Settle spec rest) refl
+rest_back : (demands : List Demand) (policy : Policy) (spec : Parts) → RestIsBack spec → AreBack spec demands → rest_in (names_of spec) (data_by demands policy spec) ≡ Ok (with_choice demands policy spec)
+rest_back [] Retarget spec back are = rw (back.rules, back.bounds, back.start, back.goal, back.invariants, back.preconditions, back.assumption) refl
+rest_back [] Settle spec back are = rw (back.rules, back.bounds, back.start, back.goal, back.invariants, back.preconditions, back.assumption) refl
+rest_back (demand ∷ demands) Retarget spec back are = rw (back.rules, back.bounds, back.start, back.goal, back.invariants, back.preconditions, back.assumption, are) refl
+rest_back (demand ∷ demands) Settle spec back are = rw (back.rules, back.bounds, back.start, back.goal, back.invariants, back.preconditions, back.assumption, are) refl
+
+document_back : (demands : List Demand) (policy : Policy) (spec : Parts) → NamesAreBack spec → RestIsBack spec → AreBack spec demands → spec_in (data_by demands policy spec) ≡ Ok (with_choice demands policy spec)
+document_back [] Retarget spec names rest are = rw (names_back [] Retarget spec names, rest_back [] Retarget spec rest are) refl
+document_back [] Settle spec names rest are = rw (names_back [] Settle spec names, rest_back [] Settle spec rest are) refl
+document_back (demand ∷ demands) policy spec names rest are = rw (names_back (demand ∷ demands) policy spec names, rest_back (demand ∷ demands) policy spec rest are) refl
 
 pub spec_back : (spec : Parts) → IsSpec spec → IsWritable spec → spec_in (spec_data spec) ≡ Ok spec
-spec_back spec is writable = document_back spec.policy spec (names_are_back spec is writable) (rest_is_back spec is writable)
+spec_back spec is writable =
+    document_back spec.demands spec.policy spec (names_are_back spec is writable) (rest_is_back spec is writable) (demands_back spec is writable.demands (member_path [] (codes "demands")))
 
 pub text_back : (spec : Parts) (bytes : List ℕ) → IsSpec spec → IsUtf8 bytes → read bytes ≡ Some (spec_data spec) → IsWritable spec → length bytes ≤ MAX_SPECIFICATION_BYTES
     → spec_of bytes ≡ Ok spec

@@ -1,5 +1,5 @@
 -- What specification some bytes are: the first broken rule with its path, or the specification.
-use Rattle.std.specs.Prelude.{ℕ, ℤ, pos, ◌==◌, List, [], codes, nat_le, Result, Ok, length, ⊤, if◌then◌else◌}
+use Rattle.std.specs.Prelude.{ℕ, ℤ, pos, ◌&&◌, List, [], codes, nat_le, Result, Ok, length, ⊤, if◌then◌else◌}
 use Rattle.std.specs.Str.{bytes_eq}
 use Rattle.serde_json.specs.Data.{Data}
 use Rattle.scram_types.specs.declared.limits.TheConstants.{MAX_SPECIFICATION_BYTES}
@@ -10,6 +10,7 @@ use Rattle.scram_types.specs.declared.specification.AppSpec.{AppSpec}
 use Rattle.scram_types.specs.declared.specification.Conf.{Conf}
 use Rattle.scram_types.specs.declared.specification.Factor.{Factor}
 use Rattle.scram_types.specs.declared.specification.Choice.{Choice}
+use Rattle.scram_types.specs.declared.specification.Demand.{Demand}
 use Rattle.scram_types.specs.declared.specification.Bound.{Bound}
 use Rattle.scram_types.specs.declared.specification.Invariant.{Invariant}
 use Rattle.scram_types.specs.declared.specification.Precondition.{Precondition}
@@ -27,13 +28,14 @@ use Rattle.reconf_spec.specs.declared.documents.Assumption.{Assumption}
 use Rattle.reconf_spec.specs.declared.documents.Rest.{Rest}
 use Rattle.spec_members.specs.declared.rule.TheConstants.{UNKNOWN_VERSION, TOO_LONG, UNKNOWN_POLICY}
 use Rattle.spec_members.specs.Members.{member_in}
-use Rattle.spec_members.specs.Versions.{is_second, members_tested}
+use Rattle.spec_members.specs.Versions.{has_demands, has_policy, members_tested}
 use Rattle.spec_members.specs.Processors.{read_procs}
 use Rattle.spec_apps.specs.Needs.{apps_in, read_unranked}
 use Rattle.spec_table.specs.Configurations.{read_confs}
 use Rattle.spec_members.specs.Factors.{read_factors}
 use Rattle.spec_table.specs.Choices.{read_conf_id, read_choices}
 use Rattle.spec_table.specs.Bounds.{read_bounds}
+use Rattle.spec_table.specs.Demands.{read_demands}
 use Rattle.spec_table.specs.Intervals.{read_invariants, read_preconditions}
 use Rattle.spec_table.specs.Vocabulary.{Names}
 
@@ -75,11 +77,16 @@ read_policy at d = chain (text_at at d) (λ (text : List ℕ). policy_named at t
 abbrev pub check_version : List ℕ → Data → Result ⊤ DocFault
 check_version at d =
     chain (whole_at 0 1001 at d) (λ (version : ℕ).
-    if version == 1 then Ok tt else (if version == 2 then Ok tt else broken UNKNOWN_VERSION at))
+    if nat_le 1 version && nat_le version 3 then Ok tt else broken UNKNOWN_VERSION at)
 
--- the policy of version 2; a document of version 1 has none, and retargets
+-- the policy, where the document has one; a document of version 1 has none, and retargets
 abbrev pub policy_in : Data → Result Policy DocFault
-policy_in d = if is_second d then member_in (codes "policy") read_policy d else Ok Retarget
+policy_in d = if has_policy d then member_in (codes "policy") read_policy d else Ok Retarget
+
+-- the demands, where the document has them
+abbrev pub demands_in : Names → Data → Result (List Demand) DocFault
+demands_in names d =
+    if has_demands d then member_in (codes "demands") (read_demands names.procs names.apps names.confs names.factors) d else Ok []
 
 -- the configurations and factors, once the processors and applications are known
 abbrev pub names_with : List Proc → List AppSpec → Data → Result Names DocFault
@@ -109,6 +116,7 @@ with_rest names rest = record {
   invariants = rest.invariants;
   preconditions = rest.preconditions;
   policy = rest.policy;
+  demands = rest.demands;
   halts = rest.assumed.halts;
   changes = rest.assumed.changes;
   window = rest.assumed.window;
@@ -125,6 +133,7 @@ rest_in names d =
     chain (member_in (codes "preconditions") (read_preconditions names.apps names.confs) d) (λ (preconditions : List Precondition).
     chain (member_in (codes "assumption") read_assumption d) (λ (assumed : Assumption).
     chain (policy_in d) (λ (policy : Policy).
+    chain (demands_in names d) (λ (demands : List Demand).
     Ok (record {
       procs = names.procs;
       apps = names.apps;
@@ -137,10 +146,11 @@ rest_in names d =
       invariants = invariants;
       preconditions = preconditions;
       policy = policy;
+      demands = demands;
       halts = assumed.halts;
       changes = assumed.changes;
       window = assumed.window;
-    })))))))))
+    }))))))))))
 
 -- the specification that a document is
 abbrev pub spec_in : Data → Result Parts DocFault

@@ -8,7 +8,7 @@ use Rattle.scram_types.specs.Specification.{IsGoal, IsIn}
 use Rattle.reconf_spec.specs.declared.documents.Assumption.{Assumption}
 use Rattle.reconf_spec.specs.declared.documents.Rest.{Rest}
 use Rattle.scram_doc.specs.Lists.{AllAfter}
-use Rattle.spec_table.specs.Facts.{FitsChoice, IsNewBound, FitsInvariant, FitsPrecondition}
+use Rattle.spec_table.specs.Facts.{FitsChoice, IsNewBound, FitsInvariant, FitsPrecondition, IsNewDemand}
 
 -- a failure assumption in its limits
 pub record FitsAssumption (assumed : Assumption) : Type 0 where
@@ -30,3 +30,5 @@ pub record FitsRest (procs : List Proc) (apps : List AppSpec) (confs : List Conf
   pub few_preconditions : length rest.preconditions ≤ 64
   pub preconditions : AllAfter (λ _. FitsPrecondition apps confs) rest.preconditions
   pub assumed : FitsAssumption rest.assumed
+  pub few_demands : length rest.demands ≤ 64
+  pub demands : AllAfter (IsNewDemand procs apps confs factors) rest.demands

@@ -5,6 +5,7 @@ use Rattle.scram_types.specs.declared.specification.AppSpec.{AppSpec}
 use Rattle.scram_types.specs.declared.specification.Want.{Want}
 use Rattle.scram_types.specs.declared.specification.Choice.{Choice}
 use Rattle.scram_types.specs.declared.specification.Bound.{Bound}
+use Rattle.scram_types.specs.declared.specification.Demand.{Demand}
 use Rattle.scram_types.specs.declared.specification.Invariant.{Invariant}
 use Rattle.scram_types.specs.declared.specification.Precondition.{Precondition}
 use Rattle.scram_types.specs.Specification.{Parts, Each, bound_in}
@@ -35,3 +36,4 @@ pub record IsWritable (spec : Parts) : Type 0 where
   pub bounds : NoneAgain lists_pair spec.bounds
   pub invariants : Each (λ (inv : Invariant). IsWritableInterval spec.apps inv.app inv.variable inv.least inv.greatest) spec.invariants
   pub preconditions : Each (λ (pre : Precondition). IsWritableInterval spec.apps pre.app pre.variable pre.least pre.greatest) spec.preconditions
+  pub demands : Each (λ (demand : Demand). NoneAgain lists_want demand.wants) spec.demands

@@ -6,19 +6,24 @@ ghost use Rattle.scram_types.specs.Specification.{IsGoal};
 ghost use Rattle.reconf_spec.specs.Kept.{FitsAssumption, FitsRest};
 ghost use Rattle.reconf_spec.specs.Writable.{IsWritable};
 ghost use Rattle.scram_doc.specs.Faults.{Answers};
-ghost use Rattle.reconf_spec.specs.Documents.{read_goal, read_assumption, read_policy, policy_in, check_version, rest_in, with_rest};
+ghost use Rattle.reconf_spec.specs.Documents.{read_goal, read_assumption, read_policy, policy_in, demands_in, check_version, rest_in, with_rest};
+ghost use Rattle.scram_doc.specs.Lists.{AllAfter};
 ghost use Rattle.spec_members.specs.Found.{AreMembers};
+ghost use Rattle.spec_table.specs.Facts.{IsNewDemand};
 
 use scram_doc::{DocError, DocFault, Path, int_in, need, no_more, object, text, whole_in};
 use scram_types::limits::{
     MAX_ALTITUDE, MAX_ASSUMED_CHANGES, MAX_ASSUMED_HALTS, MAX_HEADING, MAX_WINDOW,
 };
-use scram_types::{Bound, Choice, ConfId, Goal, Invariant, List, Policy, Precondition, Spec};
+use scram_types::{
+    Bound, Choice, ConfId, Demand, Goal, Invariant, List, Policy, Precondition, Spec,
+};
 use serde_json::Value;
 use spec_members::members::Members;
 use spec_members::rule;
 use spec_table::bounds::read_bounds;
 use spec_table::choices::{read_choices, read_conf_id};
+use spec_table::demands::read_demands;
 use spec_table::intervals::{read_invariants, read_preconditions};
 use spec_table::vocabulary::Vocabulary;
 use std::alloc::Global;
@@ -89,7 +94,7 @@ pub(crate) fn check_version(v: &Value, at: &Path) -> Result<(), DocFault>
     ensures { result ≡ check_version at.now (view v.now) }
 {
     let version = whole_in(v, 0, 1001, at)?;
-    if version == 1 || version == 2 {
+    if 1 <= version && version <= 3 {
         Ok(())
     } else {
         Err(DocFault::new(rule::UNKNOWN_VERSION, at))
@@ -106,6 +111,23 @@ fn read_policy_of(members: &Members<'_>) -> Result<Policy, DocFault>
     }
 }
 
+/// Returns the demands of a document; one of a version without demands has none.
+fn read_demands_of(
+    alloc: Global,
+    vocabulary: &Vocabulary,
+    members: &Members<'_>,
+) -> Result<Vec<Demand>, DocError>
+    requires members { AreMembers members.now }
+    ensures value { Answers (demands_in vocabulary.now (view members.now.document.now)) (λ l. l.items) result }
+    ensures few { IfOk result (λ l. length l.items ≤ 64) }
+    ensures fits { IfOk result (λ l. AllAfter (IsNewDemand vocabulary.now.procs vocabulary.now.apps vocabulary.now.confs vocabulary.now.factors) l.items) }
+{
+    match members.demands {
+        Some(demands) => read_demands(alloc, vocabulary, demands, &Path::root().member("demands")),
+        None => Ok(Vec::new(alloc)),
+    }
+}
+
 /// What a document says behind its names.
 #[derive(Drop)]
 struct Rest {
@@ -117,6 +139,7 @@ struct Rest {
     preconditions: List<Precondition>,
     assumed: Assumption,
     policy: Policy,
+    demands: List<Demand>,
 }
 
 fn read_behind_names(
@@ -137,6 +160,7 @@ fn read_behind_names(
     let preconditions = read_preconditions(alloc, vocabulary, members)?;
     let assumed = read_assumption(members.assumption, &root.member("assumption"))?;
     let policy = read_policy_of(members)?;
+    let demands = read_demands_of(alloc, vocabulary, members)?;
     Ok(Rest {
         rules: List::of(rules),
         bounds: List::of(bounds),
@@ -146,6 +170,7 @@ fn read_behind_names(
         preconditions: List::of(preconditions),
         assumed,
         policy,
+        demands: List::of(demands),
     })
 }
 
@@ -167,6 +192,7 @@ fn join(vocabulary: Vocabulary, rest: Rest) -> Spec
         invariants: rest.invariants,
         preconditions: rest.preconditions,
         policy: rest.policy,
+        demands: rest.demands,
         halts: rest.assumed.halts,
         changes: rest.assumed.changes,
         window: rest.assumed.window,

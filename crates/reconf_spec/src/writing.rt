@@ -10,9 +10,10 @@ use scram_types::{NoMemory, Spec};
 use spec_text::write_text;
 use std::alloc::Global;
 
-/// Returns the canonical text of a specification: compact JSON, in version 1 where the policy is to retarget and else
-/// in version 2. The places of a configuration stand in the order of applications, the processors that a rule
-/// requires up in the order of processors, and every other list as it is kept.
+/// Returns the canonical text of a specification: compact JSON, in version 3 where there are demands, else in version 1
+/// where the policy is to retarget and in version 2 where it is to settle. The places of a configuration and the
+/// applications of a demand stand in the order of applications, sets of processors, applications and configurations in
+/// their orders, and every other list as it is kept.
 pub fn write_spec(alloc: Global, spec: &Spec) -> Result<Vec<u8>, NoMemory>
     ensures text { IfOk result (λ text. text.items ≡ spec_text spec.now) }
     ensures value { IfOk result (λ text. read text.items ≡ Some (spec_data spec.now)) }

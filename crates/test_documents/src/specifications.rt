@@ -111,3 +111,19 @@ fn the_second_version_is_written_as_it_was_read(rt: HostRuntime) -> Result<(), F
     assert!(rt; written.as_slice() == settle.as_str().as_bytes());
     Ok(())
 }
+
+/// A demand on the example, in its canonical text.
+const DEMAND: &str =
+    r#""demands":[{"down":[],"from":["full"],"name":"stay","off":[],"on":[{"app":"link","modes":["fast"]}],"to":["full"],"up":["p0"],"when":[]}],"factors""#;
+
+#[test]
+fn the_third_version_is_written_as_it_was_read(rt: HostRuntime) -> Result<(), Fail> {
+    let alloc = rt.alloc();
+    let third = changed(alloc, CANONICAL, r#""scram":1"#, r#""scram":3"#)?;
+    let policy = r#""policy":"retarget","preconditions""#;
+    let retarget = changed(alloc, third.as_str(), r#""preconditions""#, policy)?;
+    let demands = changed(alloc, retarget.as_str(), r#""factors""#, DEMAND)?;
+    let written = rewritten(alloc, demands.as_str().as_bytes())?;
+    assert!(rt; written.as_slice() == demands.as_str().as_bytes());
+    Ok(())
+}
