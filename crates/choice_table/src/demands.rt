@@ -2,7 +2,7 @@
 
 ghost use Rattle.std.specs.Prelude.{◌≡◌};
 ghost use Rattle.scram_types.specs.Searches.{all_below};
-ghost use Rattle.choice_table.specs.Demands.{all_down, allows, asks_of, is_empty_or_holds, is_met, is_met_by, is_placed, speaks_of};
+ghost use Rattle.choice_table.specs.Demands.{all_down, allows, asks_of, is_empty_or_holds, is_met, is_met_by, is_placed, is_spoken_of, meets, meets_all, speaks_of};
 
 use crate::choices::{are_up, have_wanted};
 use scram_types::bits::{has_bit, is_in};
@@ -64,6 +64,33 @@ fn allows(modes: &Modes, mode: Mode) -> bool
     ensures { result ≡ allows modes.now mode }
 {
     modes.as_slice().is_empty() || modes.has(mode)
+}
+
+/// Returns whether configuration `c` meets each demand that speaks of an environment and asks something of a choice
+/// from `c`.
+pub fn meets_all(spec: &Spec, c: ConfId, env: &Env) -> bool
+    ensures { result ≡ meets_all spec.now c env.now }
+{
+    spec.demands
+        .items()
+        .iter()
+        .all(|demand| meets(spec, c, env, demand))
+}
+
+fn meets(spec: &Spec, c: ConfId, env: &Env, demand: &Demand) -> bool
+    ensures { result ≡ meets spec.now c env.now demand.now }
+{
+    !(speaks_of(demand, env) && asks_of(demand, c)) || is_met(spec, demand, c)
+}
+
+/// Returns whether some demand speaks of an environment.
+pub fn is_spoken_of(spec: &Spec, env: &Env) -> bool
+    ensures { result ≡ is_spoken_of spec.now env.now }
+{
+    spec.demands
+        .items()
+        .iter()
+        .any(|demand| speaks_of(demand, env))
 }
 
 // Returns whether each processor of a set is down.
