@@ -22,10 +22,10 @@ use Rattle.choice_table.specs.Environments.{IsEnv, in_scope}
 use Rattle.choice_table.specs.Choices.{IsTarget, choose, has_rule, has_source, is_runnable}
 use Rattle.choice_table.specs.Numbering.{environments, is_number_in_scope, number_of, numbered, states}
 use Rattle.cube_cover.proofs.Targets.{choose_inside}
-use Rattle.coverage_check.specs.declared.choosing.Demand.{Demand}
-use Rattle.coverage_check.specs.declared.choosing.Demand.TheVariants as demand
+use Rattle.coverage_check.specs.declared.choosing.Requirement.{Requirement}
+use Rattle.coverage_check.specs.declared.choosing.Requirement.TheVariants as requirement
 use Rattle.coverage_check.specs.Form.{is_empty, is_overloaded, is_same, lacks_need, load_refusal, load_refusal_in, need_refusal, need_refusal_in, shape_refusal, shape_refusal_of, state_refusal, twin_refusal_of}
-use Rattle.coverage_check.specs.Choosing.{demand_refusal, demand_refusal_of, first_unmet_env, is_unmet, leaves_start, start_refusal, unmet_env_at}
+use Rattle.coverage_check.specs.Choosing.{requirement_refusal, requirement_refusal_of, first_unmet_env, is_unmet, leaves_start, start_refusal, unmet_env_at}
 use Rattle.coverage_check.specs.Timing.{bound_refusal, bound_refusal_of, can_return, further, greatest_bound, has_short_window, is_bound_asked, is_bounded, is_target, lacks_bound, least, window_refusal}
 use Rattle.coverage_check.specs.Holding.{breaks_entering, breaks_from, holds_entering, holds_from, holds_leaving, holds_on_way, holds_reached, invariant_refusal, invariant_refusal_at, invariant_refusal_of, precondition_refusal, precondition_refusal_at, precondition_refusal_of}
 use Rattle.coverage_check.specs.Acceptance.{Accepts, AcceptsWhereUnrefused, IsKept, IsServed, IsShaped, choice_refusal, first_refusal, form_refusal, range_refusal, time_refusal}
@@ -81,11 +81,11 @@ module _ (spec : Parts) (made : IsSpec spec) where
       let tests = if_none (is_empty spec c) _ (twin_refusal_of spec c.0) (below_none (shape_refusal_of spec) (length spec.confs) c.0 e known) in
       record { something_on = tests.0; differs = λ d less. not_shown (is_same spec c d) _ (below_none _ c.0 d.0 tests.1 less) }
 
-  met : (asked : Demand) → demand_refusal spec asked ≡ None → (c : ConfId) (v : Env) → c.0 < length spec.confs → IsEnv spec v → in_scope spec v ≡ true → is_unmet spec asked c v ≡ false
+  met : (asked : Requirement) → requirement_refusal spec asked ≡ None → (c : ConfId) (v : Env) → c.0 < length spec.confs → IsEnv spec v → in_scope spec v ≡ true → is_unmet spec asked c v ≡ false
   met asked e c v known belongs scope =
       let n = number_of spec v in
       let same = numbered_number spec made v belongs in
-      let nowhere = map_none _ (first_unmet_env spec asked c) (below_none (demand_refusal_of spec asked) (length spec.confs) c.0 e known) in
+      let nowhere = map_none _ (first_unmet_env spec asked c) (below_none (requirement_refusal_of spec asked) (length spec.confs) c.0 e known) in
       let here = not_shown (is_number_in_scope spec n && is_unmet spec asked c (numbered spec n)) _
       (below_none (unmet_env_at spec asked c) (environments spec) n nowhere (number_inside spec made v belongs)) in
       ap (is_unmet spec asked c) (sym same) ∙ and_false (is_number_in_scope spec n) _ here (ap (in_scope spec) same ∙ scope)
@@ -143,12 +143,12 @@ module _ (spec : Parts) (made : IsSpec spec) where
       let form_3 = none_right (state_refusal spec) (option_or (shape_refusal spec) (load_refusal spec)) form_2 in
       let shape = none_left (shape_refusal spec) _ form_3 in
       let load = none_right (shape_refusal spec) (load_refusal spec) form_3 in
-      let rule = none_left (demand_refusal spec demand.HasRule) _ choice in
-      let choice_2 = none_right (demand_refusal spec demand.HasRule) (option_or (demand_refusal spec demand.CanRun) (option_or (demand_refusal spec demand.Stays) (start_refusal spec))) choice in
-      let run = none_left (demand_refusal spec demand.CanRun) _ choice_2 in
-      let choice_3 = none_right (demand_refusal spec demand.CanRun) (option_or (demand_refusal spec demand.Stays) (start_refusal spec)) choice_2 in
-      let stay = none_left (demand_refusal spec demand.Stays) _ choice_3 in
-      let start = none_right (demand_refusal spec demand.Stays) (start_refusal spec) choice_3 in
+      let rule = none_left (requirement_refusal spec requirement.HasRule) _ choice in
+      let choice_2 = none_right (requirement_refusal spec requirement.HasRule) (option_or (requirement_refusal spec requirement.CanRun) (option_or (requirement_refusal spec requirement.Stays) (start_refusal spec))) choice in
+      let run = none_left (requirement_refusal spec requirement.CanRun) _ choice_2 in
+      let choice_3 = none_right (requirement_refusal spec requirement.CanRun) (option_or (requirement_refusal spec requirement.Stays) (start_refusal spec)) choice_2 in
+      let stay = none_left (requirement_refusal spec requirement.Stays) _ choice_3 in
+      let start = none_right (requirement_refusal spec requirement.Stays) (start_refusal spec) choice_3 in
       let bound = none_left (bound_refusal spec) _ time in
       let window = none_right (bound_refusal spec) (window_refusal spec) time in
       let invariant = none_left (invariant_refusal spec) _ range in
@@ -158,10 +158,10 @@ module _ (spec : Parts) (made : IsSpec spec) where
         few_states = not_below MAX_ENVIRONMENTS (states spec) (not_shown _ _ state);
         shaped = shaped shape;
         carried = λ c p known there. not_shown (is_overloaded spec c p) _ (below_none _ (length spec.procs) p (below_none (load_refusal_in spec) (length spec.confs) c.0 load known) there);
-        ruled = λ c v known belongs scope. not-false (has_rule spec c v) (met demand.HasRule rule c v known belongs scope);
-        runs = λ c v known belongs scope. not-false (is_runnable spec (choose spec c v) v) (met demand.CanRun run c v known belongs scope);
+        ruled = λ c v known belongs scope. not-false (has_rule spec c v) (met requirement.HasRule rule c v known belongs scope);
+        runs = λ c v known belongs scope. not-false (is_runnable spec (choose spec c v) v) (met requirement.CanRun run c v known belongs scope);
         stays = λ c v known belongs scope. same_conf (choose spec (choose spec c v) v) (choose spec c v)
-            (equal _ _ (not-false ((choose spec (choose spec c v) v).0 == (choose spec c v).0) (met demand.Stays stay c v known belongs scope)));
+            (equal _ _ (not-false ((choose spec (choose spec c v) v).0 == (choose spec c v).0) (met requirement.Stays stay c v known belongs scope)));
         starts = same_conf (choose spec spec.start (opening_env spec)) spec.start
             (equal _ _ (not-false ((choose spec spec.start (opening_env spec)).0 == spec.start.0) (not_shown (leaves_start spec) _ start)));
         bounded = bounded bound;
@@ -191,13 +191,13 @@ module _ (spec : Parts) (made : IsSpec spec) where
     no_load = none_below (load_refusal_in spec) (length spec.confs) (λ c known.
         none_below _ (length spec.procs) (λ p there. none_shown (is_overloaded spec (conf_id c) p) _ (accepts.carried (conf_id c) p known there)))
 
-    all_met : (asked : Demand) (c : ConfId) (v : Env) → c.0 < length spec.confs → IsEnv spec v → in_scope spec v ≡ true → is_unmet spec asked c v ≡ false
-    all_met demand.HasRule c v known belongs scope = not_from_true (has_rule spec c v) (accepts.ruled c v known belongs scope)
-    all_met demand.CanRun c v known belongs scope = not_from_true (is_runnable spec (choose spec c v) v) (accepts.runs c v known belongs scope)
-    all_met demand.Stays c v known belongs scope = not_from_true _ (equal_test _ _ (ap (λ (k : ConfId). k.0) (accepts.stays c v known belongs scope)))
+    all_met : (asked : Requirement) (c : ConfId) (v : Env) → c.0 < length spec.confs → IsEnv spec v → in_scope spec v ≡ true → is_unmet spec asked c v ≡ false
+    all_met requirement.HasRule c v known belongs scope = not_from_true (has_rule spec c v) (accepts.ruled c v known belongs scope)
+    all_met requirement.CanRun c v known belongs scope = not_from_true (is_runnable spec (choose spec c v) v) (accepts.runs c v known belongs scope)
+    all_met requirement.Stays c v known belongs scope = not_from_true _ (equal_test _ _ (ap (λ (k : ConfId). k.0) (accepts.stays c v known belongs scope)))
 
-    no_demand : (asked : Demand) → demand_refusal spec asked ≡ None
-    no_demand asked = none_below (demand_refusal_of spec asked) (length spec.confs) (λ c known.
+    no_requirement : (asked : Requirement) → requirement_refusal spec asked ≡ None
+    no_requirement asked = none_below (requirement_refusal_of spec asked) (length spec.confs) (λ c known.
         none_map _ (first_unmet_env spec asked (conf_id c)) (none_below (unmet_env_at spec asked (conf_id c)) (environments spec) (λ n inside.
         none_shown (is_number_in_scope spec n && is_unmet spec asked (conf_id c) (numbered spec n)) _
         (either_false (is_number_in_scope spec n) _ (λ scope. all_met asked (conf_id c) (numbered spec n) known (belongs_numbered spec made n inside) scope)))))
@@ -248,8 +248,8 @@ module _ (spec : Parts) (made : IsSpec spec) where
     unrefused = none_both (form_refusal spec) _
         (none_both (need_refusal spec) _ no_need (none_both (state_refusal spec) _ no_state (none_both (shape_refusal spec) _ no_shape no_load)))
         (none_both (choice_refusal spec) _
-        (none_both (demand_refusal spec demand.HasRule) _ (no_demand demand.HasRule) (none_both (demand_refusal spec demand.CanRun) _ (no_demand demand.CanRun)
-        (none_both (demand_refusal spec demand.Stays) _ (no_demand demand.Stays) no_start)))
+        (none_both (requirement_refusal spec requirement.HasRule) _ (no_requirement requirement.HasRule) (none_both (requirement_refusal spec requirement.CanRun) _ (no_requirement requirement.CanRun)
+        (none_both (requirement_refusal spec requirement.Stays) _ (no_requirement requirement.Stays) no_start)))
         (none_both (time_refusal spec) _ (none_both (bound_refusal spec) _ no_bound no_window) (none_both (invariant_refusal spec) _ no_invariant no_precondition)))
 
 pub accepts_where_unrefused : AcceptsWhereUnrefused

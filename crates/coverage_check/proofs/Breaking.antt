@@ -9,11 +9,11 @@ use Rattle.scram_types.proofs.Booleans.{and_left, and_right}
 use Rattle.scram_types.proofs.Searches.{found_below}
 use Rattle.scram_types.proofs.Options.{same_some, some_either, some_none}
 use Rattle.choice_table.specs.Numbering.{environments, is_number_in_scope, numbered}
-use Rattle.coverage_check.specs.declared.choosing.Demand.{Demand}
-use Rattle.coverage_check.specs.declared.choosing.Demand.TheVariants as demand
+use Rattle.coverage_check.specs.declared.choosing.Requirement.{Requirement}
+use Rattle.coverage_check.specs.declared.choosing.Requirement.TheVariants as requirement
 use Rattle.coverage_check.specs.declared.shown.Shown.{Shown}
 use Rattle.coverage_check.specs.Form.{has_too_many_states, is_empty, is_overloaded, is_same, lacks_need, load_refusal, load_refusal_in, need_refusal, need_refusal_in, shape_refusal, shape_refusal_of, state_refusal, twin_refusal_of}
-use Rattle.coverage_check.specs.Choosing.{demand_refusal, demand_refusal_of, first_unmet_env, is_unmet, leaves_start, start_refusal, unmet_env_at}
+use Rattle.coverage_check.specs.Choosing.{requirement_refusal, requirement_refusal_of, first_unmet_env, is_unmet, leaves_start, start_refusal, unmet_env_at}
 use Rattle.coverage_check.specs.Timing.{bound_refusal, bound_refusal_of, has_short_window, lacks_bound, window_refusal}
 use Rattle.coverage_check.specs.Holding.{breaks_entering, breaks_from, invariant_refusal, invariant_refusal_at, invariant_refusal_of, precondition_refusal, precondition_refusal_at, precondition_refusal_of}
 use Rattle.coverage_check.specs.Acceptance.{IsBroken, IsBroken.NeedOff, IsBroken.ManyStates, IsBroken.NothingOn, IsBroken.SameAgain, IsBroken.Overloaded, IsBroken.Unmet, IsBroken.StartLeft, IsBroken.BoundWanting, IsBroken.WindowShort, IsBroken.InvariantBroken, IsBroken.PreconditionBroken, ShownIsBroken, choice_refusal, form_refusal, range_refusal, time_refusal}
@@ -60,9 +60,9 @@ module _ (spec : Parts) (shown : Shown) where
       let is = shown_where (is_overloaded spec (conf_id c.0) p.0) _ shown p.2 in
       Overloaded c.0 p.0 c.1 p.1 is.0 is.1
 
-  demand_broken : (asked : Demand) → demand_refusal spec asked ≡ Some shown → IsBroken spec shown
-  demand_broken asked e =
-      let c = found_below (demand_refusal_of spec asked) (length spec.confs) shown e in
+  requirement_broken : (asked : Requirement) → requirement_refusal spec asked ≡ Some shown → IsBroken spec shown
+  requirement_broken asked e =
+      let c = found_below (requirement_refusal_of spec asked) (length spec.confs) shown e in
       let v = mapped _ (first_unmet_env spec asked (conf_id c.0)) shown c.2 in
       let n = found_below (unmet_env_at spec asked (conf_id c.0)) (environments spec) v.0 v.1 in
       let is = shown_where (is_number_in_scope spec n.0 && is_unmet spec asked (conf_id c.0) (numbered spec n.0)) (numbered spec n.0) v.0 n.2 in
@@ -106,11 +106,11 @@ module _ (spec : Parts) (shown : Shown) where
   ]
 
   choice_broken : choice_refusal spec ≡ Some shown → IsBroken spec shown
-  choice_broken e = elim (some_either (demand_refusal spec demand.HasRule) _ shown e) [
-    | inl here ↦ demand_broken demand.HasRule here
-    | inr later ↦ elim (some_either (demand_refusal spec demand.CanRun) (option_or (demand_refusal spec demand.Stays) (start_refusal spec)) shown later) [
-      | inl here ↦ demand_broken demand.CanRun here
-      | inr last ↦ elim (some_either (demand_refusal spec demand.Stays) (start_refusal spec) shown last) [ inl here ↦ demand_broken demand.Stays here | inr start ↦ start_broken start ]
+  choice_broken e = elim (some_either (requirement_refusal spec requirement.HasRule) _ shown e) [
+    | inl here ↦ requirement_broken requirement.HasRule here
+    | inr later ↦ elim (some_either (requirement_refusal spec requirement.CanRun) (option_or (requirement_refusal spec requirement.Stays) (start_refusal spec)) shown later) [
+      | inl here ↦ requirement_broken requirement.CanRun here
+      | inr last ↦ elim (some_either (requirement_refusal spec requirement.Stays) (start_refusal spec) shown last) [ inl here ↦ requirement_broken requirement.Stays here | inr start ↦ start_broken start ]
     ]
   ]
 

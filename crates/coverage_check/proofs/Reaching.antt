@@ -24,8 +24,8 @@ use Rattle.choice_table.proofs.Inverses.{env_of-number_of, is_env, number_below,
 use Rattle.cube_cover.specs.declared.answers.Cover.{Cover}
 use Rattle.cube_cover.specs.Covers.{IsCover, IsLeastEnv}
 use Rattle.cube_cover.proofs.Targets.{choose_inside}
-use Rattle.coverage_check.specs.declared.choosing.Demand.{Demand}
-use Rattle.coverage_check.specs.declared.choosing.Demand.TheVariants as demand
+use Rattle.coverage_check.specs.declared.choosing.Requirement.{Requirement}
+use Rattle.coverage_check.specs.declared.choosing.Requirement.TheVariants as requirement
 use Rattle.coverage_check.specs.Choosing.{first_unmet_env, is_unmet, unmet_env_at, unmet_of_cover}
 use Rattle.coverage_check.specs.Timing.{is_chosen_in, is_target, targets}
 use Rattle.coverage_check.specs.TargetSets.{AreTargets, HasCovers}
@@ -96,9 +96,9 @@ module _ (spec : Parts) (made : IsSpec spec) where
   pub cover_members : (i : ConfId) (cover : Cover) → IsCover spec i cover → AreTargets spec i cover.targets
   cover_members i cover is = record { only = λ j inside bit. is.only j bit; all = is.all; few = is.few }
 
-  -- the least environment that breaks a demand is the first one
+  -- the least environment that breaks a requirement is the first one
 
-  first_is_least : (asked : Demand) (c : ConfId) (o : Option Env) → IsLeastEnv spec (is_unmet spec asked c) o → o ≡ first_unmet_env spec asked c
+  first_is_least : (asked : Requirement) (c : ConfId) (o : Option Env) → IsLeastEnv spec (is_unmet spec asked c) o → o ≡ first_unmet_env spec asked c
   first_is_least asked c None none = sym (none_below (unmet_env_at spec asked c) (environments spec) (λ n inside.
       none_shown (is_number_in_scope spec n && is_unmet spec asked c (numbered spec n)) (numbered spec n)
       (either_false (is_number_in_scope spec n) (is_unmet spec asked c (numbered spec n)) (λ scope. none (numbered spec n) (belongs_numbered n inside) scope))))
@@ -116,10 +116,10 @@ module _ (spec : Parts) (made : IsSpec spec) where
       let here : unmet_env_at spec asked c (number_of spec v) ≡ Some v = is_shown _ (numbered spec (number_of spec v)) unmet ∙ ap Some same in
       sym (first_found (unmet_env_at spec asked c) (environments spec) (number_of spec v) v before here inside)
 
-  pub cover_unmet : (asked : Demand) (c : ConfId) (cover : Cover) → IsCover spec c cover → unmet_of_cover cover asked ≡ first_unmet_env spec asked c
-  cover_unmet demand.HasRule c cover is = first_is_least demand.HasRule c cover.unfit is.unfit
-  cover_unmet demand.CanRun c cover is = first_is_least demand.CanRun c cover.not_runnable is.not_runnable
-  cover_unmet demand.Stays c cover is = first_is_least demand.Stays c cover.unsettled is.unsettled
+  pub cover_unmet : (asked : Requirement) (c : ConfId) (cover : Cover) → IsCover spec c cover → unmet_of_cover cover asked ≡ first_unmet_env spec asked c
+  cover_unmet requirement.HasRule c cover is = first_is_least requirement.HasRule c cover.unfit is.unfit
+  cover_unmet requirement.CanRun c cover is = first_is_least requirement.CanRun c cover.not_runnable is.not_runnable
+  cover_unmet requirement.Stays c cover is = first_is_least requirement.Stays c cover.unsettled is.unsettled
 
 -- covers in their places
 

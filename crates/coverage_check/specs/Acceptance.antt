@@ -14,11 +14,11 @@ use Rattle.choice_table.specs.Choices.{IsTarget, choose, has_rule, has_source, i
 use Rattle.choice_table.specs.Numbering.{environments, is_number_in_scope, numbered, states}
 use Rattle.coverage_check.specs.declared.shown.Shown.{Shown}
 use Rattle.coverage_check.specs.declared.shown.Other.TheVariants as other
-use Rattle.coverage_check.specs.declared.choosing.Demand.{Demand}
-use Rattle.coverage_check.specs.declared.choosing.Demand.TheVariants as demand
+use Rattle.coverage_check.specs.declared.choosing.Requirement.{Requirement}
+use Rattle.coverage_check.specs.declared.choosing.Requirement.TheVariants as requirement
 use Rattle.coverage_check.specs.Showing.{shown_at, shown_in, shown_nowhere}
 use Rattle.coverage_check.specs.Form.{has_too_many_states, is_empty, is_overloaded, is_same, lacks_need, load_refusal, need_refusal, shape_refusal, state_refusal}
-use Rattle.coverage_check.specs.Choosing.{demand_refusal, is_unmet, leaves_start, number_of_demand, start_refusal, target_shown}
+use Rattle.coverage_check.specs.Choosing.{requirement_refusal, is_unmet, leaves_start, number_of_requirement, start_refusal, target_shown}
 use Rattle.coverage_check.specs.Timing.{bound_refusal, further, greatest_bound, has_short_window, lacks_bound, least, window_refusal}
 use Rattle.coverage_check.specs.Holding.{breaks_entering, breaks_from, holds_entering, holds_leaving, holds_reaching, invariant_refusal, precondition_refusal}
 
@@ -29,8 +29,8 @@ form_refusal spec = option_or (need_refusal spec) (option_or (state_refusal spec
 -- The first refusal for what the table chooses.
 abbrev pub choice_refusal : Parts → Option Shown
 choice_refusal spec =
-    option_or (demand_refusal spec demand.HasRule) (option_or (demand_refusal spec demand.CanRun)
-    (option_or (demand_refusal spec demand.Stays) (start_refusal spec)))
+    option_or (requirement_refusal spec requirement.HasRule) (option_or (requirement_refusal spec requirement.CanRun)
+    (option_or (requirement_refusal spec requirement.Stays) (start_refusal spec)))
 
 -- The first refusal for bounds and the window.
 abbrev pub time_refusal : Parts → Option Shown
@@ -94,9 +94,9 @@ pub data IsBroken (spec : Parts) (shown : Shown) : Type 0 where
       → shown ≡ shown_at 3 c (other.Conf (conf_id d)) → IsBroken spec shown
   Overloaded : (c p : ℕ) → c < length spec.confs → p < length spec.procs → is_overloaded spec (conf_id c) p ≡ true
       → shown ≡ shown_at 4 c (other.Proc (proc_id p)) → IsBroken spec shown
-  Unmet : (asked : Demand) (c n : ℕ) → c < length spec.confs → n < environments spec → is_number_in_scope spec n ≡ true
+  Unmet : (asked : Requirement) (c n : ℕ) → c < length spec.confs → n < environments spec → is_number_in_scope spec n ≡ true
       → is_unmet spec asked (conf_id c) (numbered spec n) ≡ true
-      → shown ≡ shown_in (number_of_demand asked) c (numbered spec n) (target_shown spec asked (conf_id c) (numbered spec n)) → IsBroken spec shown
+      → shown ≡ shown_in (number_of_requirement asked) c (numbered spec n) (target_shown spec asked (conf_id c) (numbered spec n)) → IsBroken spec shown
   StartLeft : leaves_start spec ≡ true
       → shown ≡ shown_in 8 spec.start.0 (opening_env spec) (other.Conf (choose spec spec.start (opening_env spec))) → IsBroken spec shown
   BoundWanting : (i j : ℕ) → i < length spec.confs → j < length spec.confs → lacks_bound spec (conf_id i) j ≡ true

@@ -11,51 +11,51 @@ use Rattle.cube_cover.specs.declared.answers.Cover.{Cover}
 use Rattle.coverage_check.specs.declared.shown.Shown.{Shown}
 use Rattle.coverage_check.specs.declared.shown.Other.{Other}
 use Rattle.coverage_check.specs.declared.shown.Other.TheVariants as other
-use Rattle.coverage_check.specs.declared.choosing.Demand.{Demand}
-use Rattle.coverage_check.specs.declared.choosing.Demand.TheVariants as demand
+use Rattle.coverage_check.specs.declared.choosing.Requirement.{Requirement}
+use Rattle.coverage_check.specs.declared.choosing.Requirement.TheVariants as requirement
 use Rattle.coverage_check.specs.Search.{shown_if}
 use Rattle.coverage_check.specs.Showing.{shown_in}
 
 -- A5: no rule fits. A6: the target cannot run. A7: another target is chosen from the target.
-abbrev pub is_unmet : Parts → Demand → ConfId → Env → Bool
-is_unmet spec demand.HasRule c v = not (has_rule spec c v)
-is_unmet spec demand.CanRun c v = not (is_runnable spec (choose spec c v) v)
-is_unmet spec demand.Stays c v = not ((choose spec (choose spec c v) v).0 == (choose spec c v).0)
+abbrev pub is_unmet : Parts → Requirement → ConfId → Env → Bool
+is_unmet spec requirement.HasRule c v = not (has_rule spec c v)
+is_unmet spec requirement.CanRun c v = not (is_runnable spec (choose spec c v) v)
+is_unmet spec requirement.Stays c v = not ((choose spec (choose spec c v) v).0 == (choose spec c v).0)
 
--- The number of the condition that a demand belongs to.
-abbrev pub number_of_demand : Demand → ℕ
-number_of_demand demand.HasRule = 5
-number_of_demand demand.CanRun = 6
-number_of_demand demand.Stays = 7
+-- The number of the condition that a requirement belongs to.
+abbrev pub number_of_requirement : Requirement → ℕ
+number_of_requirement requirement.HasRule = 5
+number_of_requirement requirement.CanRun = 6
+number_of_requirement requirement.Stays = 7
 
 -- The target, where there is one to show.
-abbrev pub target_shown : Parts → Demand → ConfId → Env → Other
-target_shown spec demand.HasRule c v = other.Nothing
-target_shown spec demand.CanRun c v = other.Conf (choose spec c v)
-target_shown spec demand.Stays c v = other.Conf (choose spec c v)
+abbrev pub target_shown : Parts → Requirement → ConfId → Env → Other
+target_shown spec requirement.HasRule c v = other.Nothing
+target_shown spec requirement.CanRun c v = other.Conf (choose spec c v)
+target_shown spec requirement.Stays c v = other.Conf (choose spec c v)
 
--- Environment number n, where it is in scope and configuration c does not meet a demand there.
-abbrev pub unmet_env_at : Parts → Demand → ConfId → ℕ → Option Env
+-- Environment number n, where it is in scope and configuration c does not meet a requirement there.
+abbrev pub unmet_env_at : Parts → Requirement → ConfId → ℕ → Option Env
 unmet_env_at spec asked c n = shown_if (is_number_in_scope spec n && is_unmet spec asked c (numbered spec n)) (numbered spec n)
 
--- The first environment in scope in which configuration c does not meet a demand.
-abbrev pub first_unmet_env : Parts → Demand → ConfId → Option Env
+-- The first environment in scope in which configuration c does not meet a requirement.
+abbrev pub first_unmet_env : Parts → Requirement → ConfId → Option Env
 first_unmet_env spec asked c = first_below (unmet_env_at spec asked c) (environments spec)
 
--- The finding of a cover on a demand.
-abbrev pub unmet_of_cover : Cover → Demand → Option Env
-unmet_of_cover cover demand.HasRule = cover.unfit
-unmet_of_cover cover demand.CanRun = cover.not_runnable
-unmet_of_cover cover demand.Stays = cover.unsettled
+-- The finding of a cover on a requirement.
+abbrev pub unmet_of_cover : Cover → Requirement → Option Env
+unmet_of_cover cover requirement.HasRule = cover.unfit
+unmet_of_cover cover requirement.CanRun = cover.not_runnable
+unmet_of_cover cover requirement.Stays = cover.unsettled
 
--- The refusal for the first environment in which configuration c does not meet a demand.
-abbrev pub demand_refusal_of : Parts → Demand → ℕ → Option Shown
-demand_refusal_of spec asked c =
-    option_map (λ (v : Env). shown_in (number_of_demand asked) c v (target_shown spec asked (conf_id c) v)) (first_unmet_env spec asked (conf_id c))
+-- The refusal for the first environment in which configuration c does not meet a requirement.
+abbrev pub requirement_refusal_of : Parts → Requirement → ℕ → Option Shown
+requirement_refusal_of spec asked c =
+    option_map (λ (v : Env). shown_in (number_of_requirement asked) c v (target_shown spec asked (conf_id c) v)) (first_unmet_env spec asked (conf_id c))
 
--- The refusal for the first configuration that does not meet a demand.
-abbrev pub demand_refusal : Parts → Demand → Option Shown
-demand_refusal spec asked = first_below (demand_refusal_of spec asked) (length spec.confs)
+-- The refusal for the first configuration that does not meet a requirement.
+abbrev pub requirement_refusal : Parts → Requirement → Option Shown
+requirement_refusal spec asked = first_below (requirement_refusal_of spec asked) (length spec.confs)
 
 -- The start configuration is left at once.
 abbrev pub leaves_start : Parts → Bool

@@ -5,7 +5,7 @@ ghost use Rattle.coverage_check.specs.Acceptance.{AcceptsWhereUnrefused, ShownIs
 ghost use Rattle.coverage_check.specs.Answers.{IsRefusal};
 ghost use Rattle.coverage_check.specs.TargetSets.{HasCovers};
 
-use crate::choosing::{Demand, refuse_demand, refuse_start};
+use crate::choosing::{Requirement, refuse_requirement, refuse_start};
 use crate::form::{refuse_load, refuse_need, refuse_shape, refuse_states};
 use crate::holding::{refuse_invariant, refuse_precondition};
 use crate::shown::Shown;
@@ -106,13 +106,13 @@ fn refuse_choice(spec: &Spec, covers: &[Cover; 12]) -> Option<Shown>
     requires { HasCovers spec.now covers.now }
     ensures { result ≡ choice_refusal spec.now }
 {
-    if let Some(shown) = refuse_demand(spec, covers, Demand::HasRule) {
+    if let Some(shown) = refuse_requirement(spec, covers, Requirement::HasRule) {
         return Some(shown);
     }
-    if let Some(shown) = refuse_demand(spec, covers, Demand::CanRun) {
+    if let Some(shown) = refuse_requirement(spec, covers, Requirement::CanRun) {
         return Some(shown);
     }
-    if let Some(shown) = refuse_demand(spec, covers, Demand::Stays) {
+    if let Some(shown) = refuse_requirement(spec, covers, Requirement::Stays) {
         return Some(shown);
     }
     refuse_start(spec)

@@ -4,7 +4,7 @@ ghost use Rattle.std.specs.Prelude.{◌≡◌};
 ghost use Rattle.scram_types.specs.Lookups.{conf_id};
 ghost use Rattle.scram_types.specs.Specification.{IsSpec};
 ghost use Rattle.cube_cover.specs.Covers.{IsCover};
-ghost use Rattle.coverage_check.specs.Choosing.{demand_refusal, demand_refusal_of, number_of_demand, start_refusal, target_shown, unmet_of_cover};
+ghost use Rattle.coverage_check.specs.Choosing.{requirement_refusal, requirement_refusal_of, number_of_requirement, start_refusal, target_shown, unmet_of_cover};
 ghost use Rattle.coverage_check.specs.TargetSets.{HasCovers};
 
 use crate::places::count_confs;
@@ -16,19 +16,19 @@ use scram_types::{ConfId, Env, Spec};
 /// A condition on a configuration in each environment in scope: A5, that a rule fits it; A6, that the target which
 /// the table chooses can run; A7, that from this target the table chooses no other.
 #[derive(Clone, Copy, Debug, PartialEq, Eq)]
-pub enum Demand {
+pub enum Requirement {
     HasRule,
     CanRun,
     Stays,
 }
 
-// A5 to A7: returns the refusal for the least configuration and environment in which a demand is not met.
-pub(crate) fn refuse_demand(spec: &Spec, covers: &[Cover; 12], demand: Demand) -> Option<Shown>
+// A5 to A7: returns the refusal for the least configuration and environment in which a requirement is not met.
+pub(crate) fn refuse_requirement(spec: &Spec, covers: &[Cover; 12], requirement: Requirement) -> Option<Shown>
     requires { HasCovers spec.now covers.now }
-    ensures { result ≡ demand_refusal spec.now demand }
+    ensures { result ≡ requirement_refusal spec.now requirement }
 {
     for c in 0..count_confs(spec) {
-        let shown = refuse_demand_of(spec, &covers[usize::from(c)], demand, c);
+        let shown = refuse_requirement_of(spec, &covers[usize::from(c)], requirement, c);
         if shown.is_some() {
             return shown;
         }
@@ -36,47 +36,47 @@ pub(crate) fn refuse_demand(spec: &Spec, covers: &[Cover; 12], demand: Demand) -
     None
 }
 
-fn refuse_demand_of(spec: &Spec, cover: &Cover, demand: Demand, c: u8) -> Option<Shown>
+fn refuse_requirement_of(spec: &Spec, cover: &Cover, requirement: Requirement, c: u8) -> Option<Shown>
     requires known { IsSpec spec.now }
     requires cover { IsCover spec.now (conf_id c) cover.now }
-    ensures { result ≡ demand_refusal_of spec.now demand c }
+    ensures { result ≡ requirement_refusal_of spec.now requirement c }
 {
-    match unmet_of_cover(cover, demand) {
+    match unmet_of_cover(cover, requirement) {
         Some(env) => {
-            let target = target_shown(spec, demand, ConfId(c), &env);
-            Some(Shown::within(number_of(demand), c, env, target))
+            let target = target_shown(spec, requirement, ConfId(c), &env);
+            Some(Shown::within(number_of(requirement), c, env, target))
         }
         None => None,
     }
 }
 
-// Returns the finding of a cover on a demand: the first environment in scope in which it is not met.
-fn unmet_of_cover(cover: &Cover, demand: Demand) -> Option<Env>
-    ensures { result ≡ unmet_of_cover cover.now demand }
+// Returns the finding of a cover on a requirement: the first environment in scope in which it is not met.
+fn unmet_of_cover(cover: &Cover, requirement: Requirement) -> Option<Env>
+    ensures { result ≡ unmet_of_cover cover.now requirement }
 {
-    match demand {
-        Demand::HasRule => cover.unfit,
-        Demand::CanRun => cover.not_runnable,
-        Demand::Stays => cover.unsettled,
+    match requirement {
+        Requirement::HasRule => cover.unfit,
+        Requirement::CanRun => cover.not_runnable,
+        Requirement::Stays => cover.unsettled,
     }
 }
 
-fn number_of(demand: Demand) -> u8
-    ensures { result ≡ number_of_demand demand }
+fn number_of(requirement: Requirement) -> u8
+    ensures { result ≡ number_of_requirement requirement }
 {
-    match demand {
-        Demand::HasRule => 5,
-        Demand::CanRun => 6,
-        Demand::Stays => 7,
+    match requirement {
+        Requirement::HasRule => 5,
+        Requirement::CanRun => 6,
+        Requirement::Stays => 7,
     }
 }
 
-fn target_shown(spec: &Spec, demand: Demand, c: ConfId, env: &Env) -> Other
-    ensures { result ≡ target_shown spec.now demand c env.now }
+fn target_shown(spec: &Spec, requirement: Requirement, c: ConfId, env: &Env) -> Other
+    ensures { result ≡ target_shown spec.now requirement c env.now }
 {
-    match demand {
-        Demand::HasRule => Other::Nothing,
-        Demand::CanRun | Demand::Stays => Other::Conf(choose(spec, c, env)),
+    match requirement {
+        Requirement::HasRule => Other::Nothing,
+        Requirement::CanRun | Requirement::Stays => Other::Conf(choose(spec, c, env)),
     }
 }
 

@@ -40,7 +40,7 @@ cannot_run spec i v = not (is_runnable spec (choose spec i v) v)
 abbrev pub is_left_again : Parts → ConfId → Env → Bool
 is_left_again spec i v = not ((choose spec (choose spec i v) v).0 == (choose spec i v).0)
 
--- Its possible targets and no others, and the least environments that break a demand on the table there.
+-- Its possible targets and no others, and the least environments that break a requirement on the table there.
 pub record IsCover (spec : Parts) (i : ConfId) (cover : Cover) : Type 0 where
   pub few : cover.targets < 2 ^ length spec.confs
   pub only : (j : ConfId) → has_bit cover.targets j.0 ≡ true → IsTarget spec i j
