@@ -2,12 +2,14 @@
 use Rattle.std.proofs.Common.{◌≡◌, ◌∙◌, ℕ, ◌+◌, ◌*◌, ◌-◌, ◌^◌, ◌<◌, ◌≤◌, ◌%◌, refl, ap, sym, arith, Bool, true, false, not, ◌&&◌, ◌||◌}
 use mathlib.Core.Logic.{inl, inr}
 use Rattle.std.specs.Prelude.{◌==◌, bit_and, if◌then◌else◌}
-use Rattle.std.proofs.lemmas.Nat.{one_shl}
+use Rattle.std.specs.Int.{bit_at}
+use Rattle.std.proofs.lemmas.Nat.{and_le_r, one_shl}
 use Rattle.scram_types.specs.declared.flights.Env.{Env}
 use Rattle.scram_types.proofs.Booleans.{and_true, by_bool, same_test, true_false}
-use Rattle.scram_types.proofs.BitSets.{no_high_bit}
+use Rattle.scram_types.proofs.BitSets.{bit_cases, bits_are, no_high_bit}
 use Rattle.scram_types.specs.Searches.{all_below}
 use Rattle.choice_table.specs.Choices.{all_up}
+use Rattle.choice_table.specs.Demands.{all_down}
 use Rattle.choice_table.specs.Environments.{factor_in, is_up_in}
 use Rattle.choice_table.proofs.Members.{sets_by_members}
 use Rattle.scram_types.proofs.Naturals.{below_test, differ_test, equal, equal_test, low_or_high, not_below_test}
@@ -16,6 +18,7 @@ use Rattle.scram_types.specs.Bits.{has_bit}
 use Rattle.cube_cover.specs.declared.cubes.Cube.{Cube}
 use Rattle.cube_cover.specs.Cubes.{HasDigits, allows, digit_in, field_of, holds}
 use Rattle.cube_cover.proofs.Bits.{digit_bits, field_bits, has_and, has_each, has_none}
+use Rattle.cube_cover.proofs.Holds.{all_same}
 
 pub holds_all : (v : Env) → HasDigits v → holds (record { bits = 18446744073709551615 }) v ≡ true
 unfolding holds
@@ -51,6 +54,13 @@ digit_processor v p = let same : 6 + p - 6 ≡ p = omega arith in rw (not_below_
 pub digit_up : (v : Env) (p : ℕ) → (digit_in v (6 + p) == 0) ≡ is_up_in v p
 digit_up v p = ap (λ (n : ℕ). n == 0) (digit_processor v p) ∙ up_test (is_up_in v p)
 
+down_test : (b : Bool) → ((if b then 0 else 1) == 1) ≡ not b
+down_test true = refl
+down_test false = refl
+
+digit_down : (v : Env) (p : ℕ) → (digit_in v (6 + p) == 1) ≡ not (is_up_in v p)
+digit_down v p = ap (λ (n : ℕ). n == 1) (digit_processor v p) ∙ down_test (is_up_in v p)
+
 -- one digit at a place
 
 pub one_digit : (v : Env) (x d : ℕ) → 4 * x + d < 64 → allows (record { bits = (1 * 2 ^ (4 * x + d)) % 2 ^ 64 }) v x ≡ (digit_in v x == d)
@@ -58,7 +68,7 @@ one_digit v x d low = ap (λ (n : ℕ). has_bit n (4 * x + digit_in v x)) (one_s
 
 -- each processor of a set
 
-pub up_by_members : (set : ℕ) (v : Env) → set < 256 → all_below (λ p. not (has_bit set p) || is_up_in v p) 8 ≡ all_up set v
+up_by_members : (set : ℕ) (v : Env) → set < 256 → all_below (λ p. not (has_bit set p) || is_up_in v p) 8 ≡ all_up set v
 up_by_members set v few = same_test _ _
     (λ each. (sets_by_members set v).1 (λ p bit. elim (low_or_high p 8) [
       | inl low ↦ member (has_bit set p) (is_up_in v p) (all_each (λ q. not (has_bit set q) || is_up_in v q) 8 p each low) bit
@@ -73,6 +83,38 @@ up_by_members set v few = same_test _ _
     known : (a b : Bool) → (a ≡ true → b ≡ true) → (not a || b) ≡ true
     known true b f = f refl
     known false b f = refl
+
+pub up_by_digits : (set : ℕ) (v : Env) → set < 256 → all_below (λ p. not (has_bit set p) || (digit_in v (6 + p) == 0)) 8 ≡ all_up set v
+up_by_digits set v few =
+    all_same (λ p. not (has_bit set p) || is_up_in v p) (λ p. not (has_bit set p) || (digit_in v (6 + p) == 0)) 8
+    (λ p low. ap (λ (b : Bool). not (has_bit set p) || b) (digit_up v p))
+    ∙ up_by_members set v few
+
+apart : (a b : Bool) → (not a || not b) ≡ true → (a && b) ≡ false
+apart true true h = absurd (cc)
+apart true false h = refl
+apart false b h = refl
+
+apart_is : (a b : Bool) → (a && b) ≡ false → (not a || not b) ≡ true
+apart_is true true h = absurd (cc)
+apart_is true false h = refl
+apart_is false b h = refl
+
+no_one : (set p : ℕ) → has_bit set p ≡ false → bit_at set p ≡ 0
+no_one set p e = elim (bit_cases set p) [ inl none ↦ none | inr one ↦ true_false (has_bit set p) (equal_test (bit_at set p) 1 one) e ]
+
+down_by_members : (set : ℕ) (v : Env) → v.up < 256 → all_below (λ p. not (has_bit set p) || not (is_up_in v p)) 8 ≡ all_down set v
+down_by_members set v few = same_test _ _
+    (λ each. equal_test (bit_and set v.up) 0 (bits_are (bit_and set v.up) (λ p. false) 8 (let less = and_le_r set v.up in omega arith)
+    (λ p low. no_one (bit_and set v.up) p (has_and set v.up p ∙ apart (has_bit set p) (is_up_in v p) (all_each (λ q. not (has_bit set q) || not (is_up_in v q)) 8 p each low)))))
+    (λ none. each_all (λ q. not (has_bit set q) || not (is_up_in v q)) 8
+    (λ p low. apart_is (has_bit set p) (is_up_in v p) (sym (has_and set v.up p) ∙ ap (λ (n : ℕ). has_bit n p) (equal (bit_and set v.up) 0 none) ∙ has_none p)))
+
+pub down_by_digits : (set : ℕ) (v : Env) → v.up < 256 → all_below (λ p. not (has_bit set p) || (digit_in v (6 + p) == 1)) 8 ≡ all_down set v
+down_by_digits set v few =
+    all_same (λ p. not (has_bit set p) || not (is_up_in v p)) (λ p. not (has_bit set p) || (digit_in v (6 + p) == 1)) 8
+    (λ p low. ap (λ (b : Bool). not (has_bit set p) || b) (digit_down v p))
+    ∙ down_by_members set v few
 
 pub is_open_where_held : (cube : Cube) (x field : ℕ) (v : Env) → x < 14 → HasDigits v → holds cube v ≡ true → field ≡ field_of x → not (bit_and cube.bits field == 0) ≡ true
 is_open_where_held cube x field v low digits held is = by_bool (bit_and cube.bits field == 0)

@@ -12,7 +12,7 @@ use Rattle.cube_cover.specs.declared.cubes.Cube.{Cube}
 use Rattle.cube_cover.specs.Cubes.{HasDigits, allows, digit_in, field_of, holds}
 use Rattle.cube_cover.proofs.Bits.{field_bits, field_few, has_and, has_not, has_or}
 
-all_same : (f g : ℕ → Bool) (n : ℕ) → ((y : ℕ) → y < n → g y ≡ f y) → all_below g n ≡ all_below f n
+pub all_same : (f g : ℕ → Bool) (n : ℕ) → ((y : ℕ) → y < n → g y ≡ f y) → all_below g n ≡ all_below f n
 all_same f g zero same = refl
 all_same f g (suc n) same = rw (all_same f g n (λ y low. same y (omega arith)), same n (omega arith)) refl
 
@@ -26,6 +26,21 @@ and_between true true false = refl
 and_between true false true = refl
 and_between true false false = refl
 and_between false b c = refl
+
+-- a test that is both of two others
+all_both : (f g h : ℕ → Bool) (n : ℕ) → ((y : ℕ) → h y ≡ (f y && g y)) → all_below h n ≡ (all_below f n && all_below g n)
+all_both f g h zero same = refl
+all_both f g h (suc n) same = rw (all_both f g h n same, same n) (paired (all_below f n) (all_below g n) (f n) (g n))
+  where
+    paired : (a b c d : Bool) → ((a && b) && (c && d)) ≡ ((a && c) && (b && d))
+    paired true true c d = refl
+    paired true false true d = refl
+    paired true false false d = refl
+    paired false b c d = refl
+
+pub both_holds : (one other : Cube) (v : Env) → holds (record { bits = bit_and one.bits other.bits }) v ≡ (holds one v && holds other v)
+unfolding holds
+both_holds one other v = all_both (allows one v) (allows other v) (allows (record { bits = bit_and one.bits other.bits }) v) 14 (λ y. has_and one.bits other.bits (4 * y + digit_in v y))
 
 -- a test that is narrowed at one number
 pub narrowed : (f g : ℕ → Bool) (b : Bool) (x n : ℕ) → x < n → ((y : ℕ) → y < n → y ≢ x → g y ≡ f y) → g x ≡ (f x && b) → all_below g n ≡ (all_below f n && b)

@@ -9,3 +9,4 @@ pub mod Tests
 pub mod Splitting
 pub mod Marking
 pub mod Targets
+pub mod Missing

@@ -61,7 +61,7 @@ fn count_confs(spec: &Spec) -> u8
 }
 
 // Returns the one cube of all environments.
-fn all_cubes(alloc: Global, spec: &Spec) -> Result<Vec<Cube>, NoMemory>
+pub(crate) fn all_cubes(alloc: Global, spec: &Spec) -> Result<Vec<Cube>, NoMemory>
     requires { IsSpec spec.now }
     ensures { IfOk result (λ cubes. Agree spec.now (is_in cubes.items) (λ v. true)) }
 {
@@ -71,7 +71,7 @@ fn all_cubes(alloc: Global, spec: &Spec) -> Result<Vec<Cube>, NoMemory>
 }
 
 // Returns the regions with what no rule fits as a region more: there the configuration itself is the target.
-fn all_regions(found: Regions, i: ConfId) -> Result<Vec<Region>, NoMemory>
+pub(crate) fn all_regions(found: Regions, i: ConfId) -> Result<Vec<Region>, NoMemory>
     ensures { IfOk result (λ regions. MarksMore found.ruled.items regions.items found.unruled.items i) }
 {
     let mut regions = found.ruled;

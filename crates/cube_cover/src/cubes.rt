@@ -5,12 +5,14 @@ ghost use Rattle.std.specs.List.{list_all};
 ghost use Rattle.scram_types.specs.Bits.{has_bit};
 ghost use Rattle.scram_types.specs.Specification.{IsSpec};
 ghost use Rattle.choice_table.specs.Choices.{all_up, has_wanted, is_place_up, is_runnable};
-ghost use Rattle.choice_table.specs.Environments.{IsEnv, is_up_in};
+ghost use Rattle.choice_table.specs.Demands.{all_down, speaks_of};
+ghost use Rattle.choice_table.specs.Environments.{IsEnv};
 ghost use Rattle.choice_table.specs.Numbering.{value_count};
+ghost use Rattle.scram_types.specs.Searches.{all_below};
 ghost use Rattle.cube_cover.specs.Cubes.{HasDigits, allows, digit_in, holds, is_digit, field_of};
 
 use scram_types::bits::has_bit;
-use scram_types::{Choice, ConfId, Env, Place, Spec, Want};
+use scram_types::{Choice, ConfId, Demand, Env, Place, Spec, Want};
 
 /// A set of environments: for each factor a set of its values, and for each processor up, down or either.
 /// Bit `4 * x + d` says whether digit `d` is open at place `x`. Places 0 to 5 are the factors, whose digits are
@@ -65,6 +67,14 @@ pub(crate) fn rule_cube(rule: &Choice) -> Cube
     with_up(with_wants(rule.wants.items()), rule.up)
 }
 
+// Returns the environments that a demand speaks of.
+pub(crate) fn demand_cube(demand: &Demand) -> Cube
+    ensures { (v : Env) → HasDigits v → holds result v ≡ speaks_of demand.now v }
+{
+    let up = with_up(with_wants(demand.wants.items()), demand.up);
+    with_down(up, demand.down)
+}
+
 fn with_wants(wants: &[Want]) -> Cube
     ensures { (v : Env) → HasDigits v → holds result v ≡ list_all (has_wanted v) wants.now }
 {
@@ -92,19 +102,33 @@ fn with_wanted(cube: Cube, want: &Want) -> Cube
 fn with_up(cube: Cube, set: u8) -> Cube
     ensures { (v : Env) → HasDigits v → holds result v ≡ (holds cube v && all_up set v) }
 {
+    with_processors(cube, set, 0)
+}
+
+// Returns the environments of the cube in which each processor of the set is down.
+fn with_down(cube: Cube, set: u8) -> Cube
+    ensures { (v : Env) → HasDigits v → holds result v ≡ (holds cube v && all_down set v) }
+{
+    with_processors(cube, set, 1)
+}
+
+// Returns the environments of the cube that have digit `d` at the place of each processor of the set.
+fn with_processors(cube: Cube, set: u8, d: u8) -> Cube
+    ensures { (v : Env) → HasDigits v → holds result v ≡ (holds cube v && all_below (λ p. not (has_bit set p) || (digit_in v (6 + p) == d)) 8) }
+{
     let mut narrow = cube;
     for p in 0..8 {
-        narrow = with_member(narrow, set, p);
+        narrow = with_member(narrow, set, p, d);
     }
     narrow
 }
 
-fn with_member(cube: Cube, set: u8, p: u8) -> Cube
+fn with_member(cube: Cube, set: u8, p: u8, d: u8) -> Cube
     requires { p < 8 }
-    ensures { (v : Env) → HasDigits v → holds result v ≡ (holds cube v && (not (has_bit set p) || is_up_in v p)) }
+    ensures { (v : Env) → HasDigits v → holds result v ≡ (holds cube v && (not (has_bit set p) || (digit_in v (6 + p) == d))) }
 {
     if has_bit(set, p) {
-        with_digit(cube, 6 + p, 0)
+        with_digit(cube, 6 + p, d)
     } else {
         cube
     }
@@ -194,6 +218,15 @@ fn field(x: u8) -> u64
     ensures { result ≡ field_of x }
 {
     15 << (4 * x)
+}
+
+// Returns the environments that both cubes hold.
+pub(crate) fn both(one: Cube, other: Cube) -> Cube
+    ensures { (v : Env) → holds result v ≡ (holds one v && holds other v) }
+{
+    Cube {
+        bits: one.bits & other.bits,
+    }
 }
 
 // Returns whether each place has a digit open in both; where one has none, no environment is held by both.

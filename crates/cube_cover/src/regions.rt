@@ -14,8 +14,8 @@ use std::alloc::Global;
 // A cube in all of whose environments the same target is chosen.
 #[derive(Clone, Copy)]
 pub(crate) struct Region {
-    cube: Cube,
-    target: ConfId,
+    pub(crate) cube: Cube,
+    pub(crate) target: ConfId,
 }
 
 // Regions of the cubes of a configuration: those in which some rule fits, with its target, and the rest.

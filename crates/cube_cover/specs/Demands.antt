@@ -1,0 +1,25 @@
+-- The demands that the choice table misses.
+use Rattle.std.specs.Prelude.{◌≡◌, ℕ, Bool, not, ◌&&◌, List, length, slice_get, Option, Some}
+use Rattle.scram_types.specs.declared.ids.ConfId.{ConfId}
+use Rattle.scram_types.specs.declared.flights.Env.{Env}
+use Rattle.scram_types.specs.declared.specification.Demand.{Demand}
+use Rattle.scram_types.specs.Bits.{has_bit}
+use Rattle.scram_types.specs.Specification.{Parts}
+use Rattle.choice_table.specs.Choices.{choose}
+use Rattle.choice_table.specs.Demands.{asks_of, is_met, speaks_of}
+use Rattle.cube_cover.specs.Covers.{IsLeastEnv}
+
+-- The table misses a demand from configuration i: it speaks of the environment and asks of i, and what is chosen does
+-- not meet it.
+abbrev pub misses : Parts → Demand → ConfId → Env → Bool
+misses spec demand i v = asks_of demand i && speaks_of demand v && not (is_met spec demand (choose spec i v))
+
+-- For each demand the least environment in which the table misses it from configuration i.
+pub record AreMisses (spec : Parts) (i : ConfId) (found : List (Option Env)) : Type 0 where
+  pub all : length found ≡ length spec.demands
+  pub least : (k : ℕ) (demand : Demand) (env : Option Env) → slice_get spec.demands k ≡ Some demand → slice_get found k ≡ Some env
+      → IsLeastEnv spec (misses spec demand i) env
+
+-- A configuration is not in a set that is kept as bits.
+abbrev pub is_outside : ℕ → ℕ → Bool
+is_outside set c = not (has_bit set c)
