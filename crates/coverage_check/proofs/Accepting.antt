@@ -10,6 +10,7 @@ use Rattle.scram_types.specs.declared.limits.TheConstants.{MAX_ENVIRONMENTS}
 use Rattle.scram_types.specs.declared.ids.ConfId.{ConfId}
 use Rattle.scram_types.specs.declared.flights.Env.{Env}
 use Rattle.scram_types.specs.declared.specification.Bound.{Bound}
+use Rattle.scram_types.specs.declared.specification.Demand.{Demand}
 use Rattle.scram_types.specs.declared.specification.Invariant.{Invariant}
 use Rattle.scram_types.specs.declared.specification.Precondition.{Precondition}
 use Rattle.scram_types.specs.Specification.{IsSpec, Parts, bound_in}
@@ -20,17 +21,20 @@ use Rattle.scram_types.proofs.Options.{none_both, none_left, none_right, some_no
 use Rattle.scram_types.proofs.Equality.{same_conf}
 use Rattle.choice_table.specs.Environments.{IsEnv, in_scope}
 use Rattle.choice_table.specs.Choices.{IsTarget, choose, has_rule, has_source, is_runnable}
-use Rattle.choice_table.specs.Numbering.{environments, is_number_in_scope, number_of, numbered, states}
+use Rattle.choice_table.specs.Demands.{asks_of, is_met, speaks_of}
+use Rattle.choice_table.specs.Numbering.{states}
+use Rattle.cube_cover.specs.Demands.{misses}
 use Rattle.cube_cover.proofs.Targets.{choose_inside}
 use Rattle.coverage_check.specs.declared.choosing.Requirement.{Requirement}
 use Rattle.coverage_check.specs.declared.choosing.Requirement.TheVariants as requirement
 use Rattle.coverage_check.specs.Form.{is_empty, is_overloaded, is_same, lacks_need, load_refusal, load_refusal_in, need_refusal, need_refusal_in, shape_refusal, shape_refusal_of, state_refusal, twin_refusal_of}
-use Rattle.coverage_check.specs.Choosing.{requirement_refusal, requirement_refusal_of, first_unmet_env, is_unmet, leaves_start, start_refusal, unmet_env_at}
+use Rattle.coverage_check.specs.Choosing.{first_unmet_env, is_unmet, leaves_start, requirement_refusal, requirement_refusal_of, start_refusal}
 use Rattle.coverage_check.specs.Timing.{bound_refusal, bound_refusal_of, can_return, further, greatest_bound, has_short_window, is_bound_asked, is_bounded, is_target, lacks_bound, least, window_refusal}
 use Rattle.coverage_check.specs.Holding.{breaks_entering, breaks_from, holds_entering, holds_from, holds_leaving, holds_on_way, holds_reached, invariant_refusal, invariant_refusal_at, invariant_refusal_of, precondition_refusal, precondition_refusal_at, precondition_refusal_of}
+use Rattle.coverage_check.specs.Demands.{demand_refusal, demand_refusal_at, demand_refusal_in, demand_refusal_of, first_missed_env}
 use Rattle.coverage_check.specs.Acceptance.{Accepts, AcceptsWhereUnrefused, IsKept, IsServed, IsShaped, choice_refusal, first_refusal, form_refusal, range_refusal, time_refusal}
 use Rattle.coverage_check.proofs.Showing.{none_shown, not_shown}
-use Rattle.coverage_check.proofs.Reaching.{belongs_numbered, either_false, number_inside, numbered_number, target_test, target_tested}
+use Rattle.coverage_check.proofs.Reaching.{either_false, first_is_least, passes_nowhere, target_test, target_tested}
 
 if_none : {A : Type 0} (b : Bool) (x : A) (o : Option A) → (if b then Some x else o) ≡ None → (b ≡ false) × (o ≡ None)
 if_none true x o e = some_none x e
@@ -83,12 +87,17 @@ module _ (spec : Parts) (made : IsSpec spec) where
 
   met : (asked : Requirement) → requirement_refusal spec asked ≡ None → (c : ConfId) (v : Env) → c.0 < length spec.confs → IsEnv spec v → in_scope spec v ≡ true → is_unmet spec asked c v ≡ false
   met asked e c v known belongs scope =
-      let n = number_of spec v in
-      let same = numbered_number spec made v belongs in
-      let nowhere = map_none _ (first_unmet_env spec asked c) (below_none (requirement_refusal_of spec asked) (length spec.confs) c.0 e known) in
-      let here = not_shown (is_number_in_scope spec n && is_unmet spec asked c (numbered spec n)) _
-      (below_none (unmet_env_at spec asked c) (environments spec) n nowhere (number_inside spec made v belongs)) in
-      ap (is_unmet spec asked c) (sym same) ∙ and_false (is_number_in_scope spec n) _ here (ap (in_scope spec) same ∙ scope)
+      passes_nowhere spec made (is_unmet spec asked c)
+      (map_none _ (first_unmet_env spec asked c) (below_none (requirement_refusal_of spec asked) (length spec.confs) c.0 e known)) v belongs scope
+
+  demand_met : demand_refusal spec ≡ None → (c : ConfId) (v : Env) → c.0 < length spec.confs → IsEnv spec v → in_scope spec v ≡ true → (k : ℕ) (demand : Demand) → slice_get spec.demands k ≡ Some demand
+      → asks_of demand c ≡ true → speaks_of demand v ≡ true → is_met spec demand (choose spec c v) ≡ true
+  demand_met e c v known belongs scope k demand there asks speaks =
+      let none = below_none (demand_refusal_at spec c.0) (length spec.demands) k (below_none (demand_refusal_in spec) (length spec.confs) c.0 e known)
+      (slice_get_within spec.demands k demand there) in
+      let here : demand_refusal_of spec c.0 k demand ≡ None = rw there at none in
+      let missed = passes_nowhere spec made (misses spec demand c) (map_none _ (first_missed_env spec demand c) here) v belongs scope in
+      not-false (is_met spec demand (choose spec c v)) (and_false (asks_of demand c && speaks_of demand v) _ missed (and_true (asks_of demand c) (speaks_of demand v) asks speaks))
 
   served : (i j : ConfId) (o : Option ℕ) → bound_in spec.bounds i.0 j.0 ≡ o → option_map_or (λ (t : ℕ). nat_le (least spec i j) t) o false ≡ true → IsServed spec i j
   served i j None given test = absurd (cc)
@@ -132,11 +141,13 @@ module _ (spec : Parts) (made : IsSpec spec) where
   pub accepted : first_refusal spec ≡ None → Accepts spec
   accepted e =
       let form = none_left (form_refusal spec) _ e in
-      let later = none_right (form_refusal spec) (option_or (choice_refusal spec) (option_or (time_refusal spec) (range_refusal spec))) e in
+      let later = none_right (form_refusal spec) (option_or (choice_refusal spec) (option_or (time_refusal spec) (option_or (range_refusal spec) (demand_refusal spec)))) e in
       let choice = none_left (choice_refusal spec) _ later in
-      let last = none_right (choice_refusal spec) (option_or (time_refusal spec) (range_refusal spec)) later in
+      let last = none_right (choice_refusal spec) (option_or (time_refusal spec) (option_or (range_refusal spec) (demand_refusal spec))) later in
       let time = none_left (time_refusal spec) _ last in
-      let range = none_right (time_refusal spec) (range_refusal spec) last in
+      let last_2 = none_right (time_refusal spec) (option_or (range_refusal spec) (demand_refusal spec)) last in
+      let range = none_left (range_refusal spec) _ last_2 in
+      let demand = none_right (range_refusal spec) (demand_refusal spec) last_2 in
       let need = none_left (need_refusal spec) _ form in
       let form_2 = none_right (need_refusal spec) (option_or (state_refusal spec) (option_or (shape_refusal spec) (load_refusal spec))) form in
       let state = none_left (state_refusal spec) _ form_2 in
@@ -170,6 +181,7 @@ module _ (spec : Parts) (made : IsSpec spec) where
             (not-false (holds_from spec inv i) (and_false (has_source inv.from i) _ (not_shown (breaks_from spec inv i) _ (below_none _ (length spec.confs) i.0 (invariant_none invariant k inv there) known)) speaks));
         entered = λ k pre there. not-false (holds_entering spec pre (place_of spec pre.conf pre.app.0))
             (not_shown (breaks_entering spec pre) _ (precondition_none precondition k pre there));
+        demanded = demand_met demand;
       }
 
   -- to no refusal
@@ -198,9 +210,8 @@ module _ (spec : Parts) (made : IsSpec spec) where
 
     no_requirement : (asked : Requirement) → requirement_refusal spec asked ≡ None
     no_requirement asked = none_below (requirement_refusal_of spec asked) (length spec.confs) (λ c known.
-        none_map _ (first_unmet_env spec asked (conf_id c)) (none_below (unmet_env_at spec asked (conf_id c)) (environments spec) (λ n inside.
-        none_shown (is_number_in_scope spec n && is_unmet spec asked (conf_id c) (numbered spec n)) _
-        (either_false (is_number_in_scope spec n) _ (λ scope. all_met asked (conf_id c) (numbered spec n) known (belongs_numbered spec made n inside) scope)))))
+        none_map _ (first_unmet_env spec asked (conf_id c)) (sym (first_is_least spec made (is_unmet spec asked (conf_id c)) None
+        (λ v belongs scope. all_met asked (conf_id c) v known belongs scope))))
 
     no_start : start_refusal spec ≡ None
     no_start = none_shown (leaves_start spec) _ (not_from_true _ (equal_test _ _ (ap (λ (k : ConfId). k.0) accepts.starts)))
@@ -244,13 +255,23 @@ module _ (spec : Parts) (made : IsSpec spec) where
         at_none (slice_get spec.preconditions k) (precondition_refusal_of spec k) (λ pre there.
         none_shown (breaks_entering spec pre) _ (not_from_true _ (accepts.entered k pre there))))
 
+    no_demand : demand_refusal spec ≡ None
+    no_demand = none_below (demand_refusal_in spec) (length spec.confs) (λ c known.
+        none_below (demand_refusal_at spec c) (length spec.demands) (λ k inside.
+        at_none (slice_get spec.demands k) (demand_refusal_of spec c k) (λ demand there.
+        none_map _ (first_missed_env spec demand (conf_id c)) (sym (first_is_least spec made (misses spec demand (conf_id c)) None (λ v belongs scope.
+        either_false (asks_of demand (conf_id c) && speaks_of demand v) _ (λ both.
+        not_from_true (is_met spec demand (choose spec (conf_id c) v)) (accepts.demanded (conf_id c) v known belongs scope k demand there
+        (and_left (asks_of demand (conf_id c)) _ both) (and_right (asks_of demand (conf_id c)) _ both)))))))))
+
     pub unrefused : first_refusal spec ≡ None
     unrefused = none_both (form_refusal spec) _
         (none_both (need_refusal spec) _ no_need (none_both (state_refusal spec) _ no_state (none_both (shape_refusal spec) _ no_shape no_load)))
         (none_both (choice_refusal spec) _
         (none_both (requirement_refusal spec requirement.HasRule) _ (no_requirement requirement.HasRule) (none_both (requirement_refusal spec requirement.CanRun) _ (no_requirement requirement.CanRun)
         (none_both (requirement_refusal spec requirement.Stays) _ (no_requirement requirement.Stays) no_start)))
-        (none_both (time_refusal spec) _ (none_both (bound_refusal spec) _ no_bound no_window) (none_both (invariant_refusal spec) _ no_invariant no_precondition)))
+        (none_both (time_refusal spec) _ (none_both (bound_refusal spec) _ no_bound no_window)
+        (none_both (range_refusal spec) _ (none_both (invariant_refusal spec) _ no_invariant no_precondition) no_demand)))
 
 pub accepts_where_unrefused : AcceptsWhereUnrefused
 accepts_where_unrefused spec made = record { accepted = accepted spec made; unrefused = unrefused spec made }

@@ -8,15 +8,18 @@ use Rattle.scram_types.specs.Lookups.{conf_id}
 use Rattle.scram_types.proofs.Booleans.{and_left, and_right}
 use Rattle.scram_types.proofs.Searches.{found_below}
 use Rattle.scram_types.proofs.Options.{same_some, some_either, some_none}
+use Rattle.cube_cover.specs.Demands.{misses}
 use Rattle.choice_table.specs.Numbering.{environments, is_number_in_scope, numbered}
 use Rattle.coverage_check.specs.declared.choosing.Requirement.{Requirement}
 use Rattle.coverage_check.specs.declared.choosing.Requirement.TheVariants as requirement
 use Rattle.coverage_check.specs.declared.shown.Shown.{Shown}
 use Rattle.coverage_check.specs.Form.{has_too_many_states, is_empty, is_overloaded, is_same, lacks_need, load_refusal, load_refusal_in, need_refusal, need_refusal_in, shape_refusal, shape_refusal_of, state_refusal, twin_refusal_of}
-use Rattle.coverage_check.specs.Choosing.{requirement_refusal, requirement_refusal_of, first_unmet_env, is_unmet, leaves_start, start_refusal, unmet_env_at}
+use Rattle.coverage_check.specs.Choosing.{first_unmet_env, is_unmet, leaves_start, requirement_refusal, requirement_refusal_of, start_refusal}
 use Rattle.coverage_check.specs.Timing.{bound_refusal, bound_refusal_of, has_short_window, lacks_bound, window_refusal}
 use Rattle.coverage_check.specs.Holding.{breaks_entering, breaks_from, invariant_refusal, invariant_refusal_at, invariant_refusal_of, precondition_refusal, precondition_refusal_at, precondition_refusal_of}
-use Rattle.coverage_check.specs.Acceptance.{IsBroken, IsBroken.NeedOff, IsBroken.ManyStates, IsBroken.NothingOn, IsBroken.SameAgain, IsBroken.Overloaded, IsBroken.Unmet, IsBroken.StartLeft, IsBroken.BoundWanting, IsBroken.WindowShort, IsBroken.InvariantBroken, IsBroken.PreconditionBroken, ShownIsBroken, choice_refusal, form_refusal, range_refusal, time_refusal}
+use Rattle.coverage_check.specs.Search.{passing_env_at}
+use Rattle.coverage_check.specs.Demands.{demand_refusal, demand_refusal_at, demand_refusal_in, demand_refusal_of, first_missed_env}
+use Rattle.coverage_check.specs.Acceptance.{IsBroken, IsBroken.NeedOff, IsBroken.ManyStates, IsBroken.NothingOn, IsBroken.SameAgain, IsBroken.Overloaded, IsBroken.Unmet, IsBroken.StartLeft, IsBroken.BoundWanting, IsBroken.WindowShort, IsBroken.InvariantBroken, IsBroken.PreconditionBroken, IsBroken.DemandMissed, ShownIsBroken, choice_refusal, form_refusal, range_refusal, time_refusal}
 use Rattle.coverage_check.proofs.Showing.{shown_where}
 
 at_some : {A B : Type 0} (o : Option A) (f : A → Option B) (y : B) → option_map_or f o None ≡ Some y → (x : A) × (o ≡ Some x) × (f x ≡ Some y)
@@ -64,7 +67,7 @@ module _ (spec : Parts) (shown : Shown) where
   requirement_broken asked e =
       let c = found_below (requirement_refusal_of spec asked) (length spec.confs) shown e in
       let v = mapped _ (first_unmet_env spec asked (conf_id c.0)) shown c.2 in
-      let n = found_below (unmet_env_at spec asked (conf_id c.0)) (environments spec) v.0 v.1 in
+      let n = found_below (passing_env_at spec (is_unmet spec asked (conf_id c.0))) (environments spec) v.0 v.1 in
       let is = shown_where (is_number_in_scope spec n.0 && is_unmet spec asked (conf_id c.0) (numbered spec n.0)) (numbered spec n.0) v.0 n.2 in
       Unmet asked c.0 n.0 c.1 n.1 (and_left (is_number_in_scope spec n.0) _ is.0) (and_right (is_number_in_scope spec n.0) _ is.0) (rw (is.1) at v.2)
 
@@ -96,6 +99,16 @@ module _ (spec : Parts) (shown : Shown) where
       let is = shown_where (breaks_entering spec pre.0) _ shown pre.2 in
       PreconditionBroken k.0 pre.0 pre.1 is.0 is.1
 
+  demand_broken : demand_refusal spec ≡ Some shown → IsBroken spec shown
+  demand_broken e =
+      let c = found_below (demand_refusal_in spec) (length spec.confs) shown e in
+      let k = found_below (demand_refusal_at spec c.0) (length spec.demands) shown c.2 in
+      let demand = at_some (slice_get spec.demands k.0) (demand_refusal_of spec c.0 k.0) shown k.2 in
+      let v = mapped _ (first_missed_env spec demand.0 (conf_id c.0)) shown demand.2 in
+      let n = found_below (passing_env_at spec (misses spec demand.0 (conf_id c.0))) (environments spec) v.0 v.1 in
+      let is = shown_where (is_number_in_scope spec n.0 && misses spec demand.0 (conf_id c.0) (numbered spec n.0)) (numbered spec n.0) v.0 n.2 in
+      DemandMissed c.0 k.0 n.0 demand.0 c.1 demand.1 n.1 (and_left (is_number_in_scope spec n.0) _ is.0) (and_right (is_number_in_scope spec n.0) _ is.0) (rw (is.1) at v.2)
+
   form_broken : form_refusal spec ≡ Some shown → IsBroken spec shown
   form_broken e = elim (some_either (need_refusal spec) _ shown e) [
     | inl here ↦ need_broken here
@@ -123,8 +136,11 @@ module _ (spec : Parts) (shown : Shown) where
 pub shown_is_broken : ShownIsBroken
 shown_is_broken spec shown e = elim (some_either (form_refusal spec) _ shown e) [
   | inl here ↦ form_broken spec shown here
-  | inr later ↦ elim (some_either (choice_refusal spec) (option_or (time_refusal spec) (range_refusal spec)) shown later) [
+  | inr later ↦ elim (some_either (choice_refusal spec) (option_or (time_refusal spec) (option_or (range_refusal spec) (demand_refusal spec))) shown later) [
     | inl here ↦ choice_broken spec shown here
-    | inr last ↦ elim (some_either (time_refusal spec) (range_refusal spec) shown last) [ inl here ↦ time_broken spec shown here | inr ranges ↦ range_broken spec shown ranges ]
+    | inr last ↦ elim (some_either (time_refusal spec) (option_or (range_refusal spec) (demand_refusal spec)) shown last) [
+      | inl here ↦ time_broken spec shown here
+      | inr rest ↦ elim (some_either (range_refusal spec) (demand_refusal spec) shown rest) [ inl ranges ↦ range_broken spec shown ranges | inr demand ↦ demand_broken spec shown demand ]
+    ]
   ]
 ]

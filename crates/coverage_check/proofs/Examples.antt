@@ -5,6 +5,7 @@ use Rattle.scram_types.specs.declared.specification.AppSpec.{AppSpec}
 use Rattle.scram_types.specs.declared.specification.Bound.{Bound}
 use Rattle.scram_types.specs.declared.specification.Choice.{Choice}
 use Rattle.scram_types.specs.declared.specification.Conf.{Conf}
+use Rattle.scram_types.specs.declared.specification.Demand.{Demand}
 use Rattle.scram_types.specs.declared.specification.Invariant.{Invariant}
 use Rattle.scram_types.specs.declared.specification.ModeSpec.{ModeSpec}
 use Rattle.scram_types.specs.declared.specification.Policy.{Policy}
@@ -41,8 +42,8 @@ abbrev bounds : ℕ → List Bound
 bounds frames = bound 0 0 8 ∷ bound 0 1 frames ∷ bound 1 0 8 ∷ bound 1 1 8 ∷ []
 
 -- one processor, one application, two configurations, one factor of two values
-abbrev made : ℕ → List Choice → ℕ → Policy → List Invariant → Parts
-made capacity rules frames which invariants = record {
+abbrev made_with : ℕ → List Choice → ℕ → Policy → List Invariant → List Demand → Parts
+made_with capacity rules frames which invariants demands = record {
   procs = record { name = []; capacity = capacity } ∷ [];
   apps = monitor ∷ [];
   confs = placed 1 ∷ placed 2 ∷ [];
@@ -54,11 +55,14 @@ made capacity rules frames which invariants = record {
   invariants = invariants;
   preconditions = [];
   policy = which;
-  demands = [];
+  demands = demands;
   halts = 0;
   changes = 1;
   window = 40;
 }
+
+abbrev made : ℕ → List Choice → ℕ → Policy → List Invariant → Parts
+made capacity rules frames which invariants = made_with capacity rules frames which invariants []
 
 abbrev rules : List Choice
 rules = first_rule ∷ other_rule ∷ []
@@ -86,3 +90,29 @@ both_targets = refl
 short_status : first_refusal (made 100 rules 8 policy.Retarget (record { from = Some (conf_id 1); app = app_id 0; variable = 0; least = pos 1; greatest = pos 3 } ∷ [])) ≡ Some (shown_at 11 1 (other.Item 0))
 unfolding during
 short_status = refl
+
+-- the monitor in its second mode, wherever the factor has its second value; and never the second from the second
+abbrev saving : Demand
+saving = record {
+  name = [];
+  from = 0;
+  wants = record { factor = record { 0 = 0 }; value = 1 } ∷ [];
+  up = 1;
+  down = 0;
+  to = 0;
+  on = Some (record { 0 = 2 } ∷ []) ∷ replicate 7 None;
+  off = 0;
+}
+
+abbrev going_back : Demand
+going_back = record { name = []; from = 2; wants = []; up = 0; down = 0; to = 1; on = replicate 8 None; off = 0 }
+
+abbrev off_when_down : Demand
+off_when_down = record { name = []; from = 0; wants = []; up = 0; down = 1; to = 0; on = replicate 8 None; off = 1 }
+
+demands_met : first_refusal (made_with 100 rules 8 policy.Retarget [] (saving ∷ off_when_down ∷ [])) ≡ None
+demands_met = refl
+
+second_demand : first_refusal (made_with 100 rules 8 policy.Retarget [] (saving ∷ going_back ∷ []))
+    ≡ Some (shown_in 13 1 (record { up = 1; factors = 1 ∷ replicate 5 0 }) (other.Demand 1))
+second_demand = refl

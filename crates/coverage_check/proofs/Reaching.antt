@@ -3,19 +3,22 @@ use Rattle.std.proofs.Common.{◌≡◌, ℕ, ◌+◌, ◌<◌, Bool, true, fals
 use mathlib.Core.Logic.{inl, inr}
 use Rattle.std.specs.Int.{bit_at}
 use Rattle.scram_types.specs.Bits.{has_bit}
-use Rattle.std.specs.Prelude.{Option, ◌&&◌, ◌==◌, Some, None, slice_get}
+use Rattle.std.specs.Prelude.{Option, ◌&&◌, ◌==◌, Some, None, option_and_then, option_map, slice_get}
+use Rattle.std.specs.Option.{option_map_or}
 use Rattle.scram_types.proofs.Equality.{same_conf}
 use Rattle.std.proofs.lemmas.Option.{slice_get-get_or}
 use Rattle.dep_order.proofs.Assigned.{get_set_other, get_set_same}
 use Rattle.scram_types.proofs.Naturals.{same_or_not, below_test, equal_test, equal}
 use Rattle.scram_types.specs.declared.ids.ConfId.{ConfId}
 use Rattle.scram_types.specs.declared.flights.Env.{Env}
+use Rattle.scram_types.specs.declared.specification.Demand.{Demand}
 use Rattle.scram_types.specs.Specification.{IsSpec, Parts}
 use Rattle.scram_types.specs.Searches.{first_below}
 use Rattle.scram_types.specs.Lookups.{conf_id}
 use Rattle.scram_types.proofs.BitSets.{bit_cases, bit_of, bits_are, bits_lt, has_bits}
-use Rattle.scram_types.proofs.Booleans.{and_left, and_right, and_true, by_bool, same_test, true_false}
-use Rattle.scram_types.proofs.Searches.{any_below_found, any_below_is, first_found, none_below}
+use Rattle.scram_types.proofs.Booleans.{and_false, and_left, and_right, and_true, by_bool, same_test, true_false}
+use Rattle.scram_types.proofs.Items.{some_item}
+use Rattle.scram_types.proofs.Searches.{any_below_found, any_below_is, below_none, first_found, none_below}
 use Rattle.scram_types.proofs.Options.{same_some}
 use Rattle.choice_table.specs.Environments.{IsEnv, in_scope}
 use Rattle.choice_table.specs.Choices.{IsTarget, choose}
@@ -23,13 +26,18 @@ use Rattle.choice_table.specs.Numbering.{environments, is_number_in_scope, numbe
 use Rattle.choice_table.proofs.Inverses.{env_of-number_of, is_env, number_below, number_of-numbered}
 use Rattle.cube_cover.specs.declared.answers.Cover.{Cover}
 use Rattle.cube_cover.specs.Covers.{IsCover, IsLeastEnv}
+use Rattle.cube_cover.specs.Demands.{AreMisses, misses}
 use Rattle.cube_cover.proofs.Targets.{choose_inside}
+use Rattle.coverage_check.specs.declared.shown.Other.TheVariants as other
 use Rattle.coverage_check.specs.declared.choosing.Requirement.{Requirement}
 use Rattle.coverage_check.specs.declared.choosing.Requirement.TheVariants as requirement
-use Rattle.coverage_check.specs.Choosing.{first_unmet_env, is_unmet, unmet_env_at, unmet_of_cover}
+use Rattle.coverage_check.specs.Choosing.{first_unmet_env, is_unmet, unmet_of_cover}
+use Rattle.coverage_check.specs.Search.{first_passing_env, passing_env_at}
+use Rattle.coverage_check.specs.Demands.{demand_refusal_at, demand_refusal_of, miss_shown}
+use Rattle.coverage_check.specs.Showing.{shown_in}
 use Rattle.coverage_check.specs.Timing.{is_chosen_in, is_target, targets}
 use Rattle.coverage_check.specs.TargetSets.{AreTargets, HasCovers}
-use Rattle.coverage_check.proofs.Showing.{is_shown, none_shown}
+use Rattle.coverage_check.proofs.Showing.{is_shown, none_shown, not_shown}
 
 pub either_false : (a b : Bool) → (a ≡ true → b ≡ false) → (a && b) ≡ false
 either_false true b f = f refl
@@ -96,30 +104,47 @@ module _ (spec : Parts) (made : IsSpec spec) where
   pub cover_members : (i : ConfId) (cover : Cover) → IsCover spec i cover → AreTargets spec i cover.targets
   cover_members i cover is = record { only = λ j inside bit. is.only j bit; all = is.all; few = is.few }
 
-  -- the least environment that breaks a requirement is the first one
+  -- the least environment that passes a test is the first one
 
-  first_is_least : (asked : Requirement) (c : ConfId) (o : Option Env) → IsLeastEnv spec (is_unmet spec asked c) o → o ≡ first_unmet_env spec asked c
-  first_is_least asked c None none = sym (none_below (unmet_env_at spec asked c) (environments spec) (λ n inside.
-      none_shown (is_number_in_scope spec n && is_unmet spec asked c (numbered spec n)) (numbered spec n)
-      (either_false (is_number_in_scope spec n) (is_unmet spec asked c (numbered spec n)) (λ scope. none (numbered spec n) (belongs_numbered n inside) scope))))
-  first_is_least asked c (Some v) least =
+  pub first_is_least : (test : Env → Bool) (o : Option Env) → IsLeastEnv spec test o → o ≡ first_passing_env spec test
+  first_is_least test None none = sym (none_below (passing_env_at spec test) (environments spec) (λ n inside.
+      none_shown (is_number_in_scope spec n && test (numbered spec n)) (numbered spec n)
+      (either_false (is_number_in_scope spec n) (test (numbered spec n)) (λ scope. none (numbered spec n) (belongs_numbered n inside) scope))))
+  first_is_least test (Some v) least =
       let same = numbered_number v least.belongs in
       let inside = number_inside v least.belongs in
-      let before : first_below (unmet_env_at spec asked c) (number_of spec v) ≡ None = none_below (unmet_env_at spec asked c) (number_of spec v) (λ n less.
-      none_shown (is_number_in_scope spec n && is_unmet spec asked c (numbered spec n)) (numbered spec n)
-      (either_false (is_number_in_scope spec n) (is_unmet spec asked c (numbered spec n)) (λ scope. by_bool (is_unmet spec asked c (numbered spec n))
-      (λ unmet. absurd (let low : n < environments spec = omega arith in
-      let first = least.least (numbered spec n) (belongs_numbered n low) scope unmet in
+      let before : first_below (passing_env_at spec test) (number_of spec v) ≡ None = none_below (passing_env_at spec test) (number_of spec v) (λ n less.
+      none_shown (is_number_in_scope spec n && test (numbered spec n)) (numbered spec n)
+      (either_false (is_number_in_scope spec n) (test (numbered spec n)) (λ scope. by_bool (test (numbered spec n))
+      (λ passes. absurd (let low : n < environments spec = omega arith in
+      let first = least.least (numbered spec n) (belongs_numbered n low) scope passes in
       let here = number_of-numbered spec made.factors made.factors_count n low in omega arith))
-      (λ met. met)))) in
-      let unmet = and_true (is_number_in_scope spec (number_of spec v)) _ (ap (in_scope spec) same ∙ least.scope) (ap (is_unmet spec asked c) same ∙ least.passes) in
-      let here : unmet_env_at spec asked c (number_of spec v) ≡ Some v = is_shown _ (numbered spec (number_of spec v)) unmet ∙ ap Some same in
-      sym (first_found (unmet_env_at spec asked c) (environments spec) (number_of spec v) v before here inside)
+      (λ fails. fails)))) in
+      let passes = and_true (is_number_in_scope spec (number_of spec v)) _ (ap (in_scope spec) same ∙ least.scope) (ap test same ∙ least.passes) in
+      let here : passing_env_at spec test (number_of spec v) ≡ Some v = is_shown _ (numbered spec (number_of spec v)) passes ∙ ap Some same in
+      sym (first_found (passing_env_at spec test) (environments spec) (number_of spec v) v before here inside)
 
   pub cover_unmet : (asked : Requirement) (c : ConfId) (cover : Cover) → IsCover spec c cover → unmet_of_cover cover asked ≡ first_unmet_env spec asked c
-  cover_unmet requirement.HasRule c cover is = first_is_least requirement.HasRule c cover.unfit is.unfit
-  cover_unmet requirement.CanRun c cover is = first_is_least requirement.CanRun c cover.not_runnable is.not_runnable
-  cover_unmet requirement.Stays c cover is = first_is_least requirement.Stays c cover.unsettled is.unsettled
+  cover_unmet requirement.HasRule c cover is = first_is_least (is_unmet spec requirement.HasRule c) cover.unfit is.unfit
+  cover_unmet requirement.CanRun c cover is = first_is_least (is_unmet spec requirement.CanRun c) cover.not_runnable is.not_runnable
+  cover_unmet requirement.Stays c cover is = first_is_least (is_unmet spec requirement.Stays c) cover.unsettled is.unsettled
+
+  -- where no environment passes a test first, none in scope passes it
+  pub passes_nowhere : (test : Env → Bool) → first_passing_env spec test ≡ None → (v : Env) → IsEnv spec v → in_scope spec v ≡ true → test v ≡ false
+  passes_nowhere test none v belongs scope =
+      let same = numbered_number v belongs in
+      let here = not_shown (is_number_in_scope spec (number_of spec v) && test (numbered spec (number_of spec v))) _
+      (below_none (passing_env_at spec test) (environments spec) (number_of spec v) none (number_inside v belongs)) in
+      ap test (sym same) ∙ and_false (is_number_in_scope spec (number_of spec v)) _ here (ap (in_scope spec) same ∙ scope)
+
+  -- what is found of a demand shows its refusal
+  pub miss_is : (c : ℕ) (found : List (Option Env)) → AreMisses spec (conf_id c) found → (k : ℕ) → k < length spec.demands → miss_shown found c k ≡ demand_refusal_at spec c k
+  miss_is c found are k low =
+      some_item spec.demands k low (λ demand there.
+      some_item found k (let all = are.all in omega arith) (λ least at.
+      ap (option_and_then (λ (o : Option Env). option_map (λ (v : Env). shown_in 13 c v (other.Demand k)) o)) at
+      ∙ ap (option_map (λ (v : Env). shown_in 13 c v (other.Demand k))) (first_is_least (misses spec demand (conf_id c)) least (are.least k demand least there at))
+      ∙ sym (ap (λ (o : Option Demand). option_map_or (demand_refusal_of spec c k) o None) there)))
 
 -- covers in their places
 

@@ -1,17 +1,20 @@
--- When a specification is accepted (A1 to A12), and what is shown where it is not.
+-- When a specification is accepted (A1 to A13), and what is shown where it is not.
 use Rattle.std.specs.Prelude.{◌≡◌, ◌≢◌, ◌⊎◌, ℕ, ◌+◌, ◌<◌, ◌≤◌, true, false, length, slice_get, Option, Some, None}
 use Rattle.std.specs.Option.{option_or}
 use Rattle.scram_types.specs.declared.limits.TheConstants.{MAX_ENVIRONMENTS}
 use Rattle.scram_types.specs.declared.ids.ConfId.{ConfId}
 use Rattle.scram_types.specs.declared.flights.Env.{Env}
 use Rattle.scram_types.specs.declared.specification.Bound.{Bound}
+use Rattle.scram_types.specs.declared.specification.Demand.{Demand}
 use Rattle.scram_types.specs.declared.specification.Invariant.{Invariant}
 use Rattle.scram_types.specs.declared.specification.Precondition.{Precondition}
 use Rattle.scram_types.specs.Specification.{Each, IsSpec, Parts, bound_in}
 use Rattle.scram_types.specs.Lookups.{place_of, conf_id, app_id, proc_id, opening_env}
 use Rattle.choice_table.specs.Environments.{IsEnv, in_scope}
 use Rattle.choice_table.specs.Choices.{IsTarget, choose, has_rule, has_source, is_runnable}
+use Rattle.choice_table.specs.Demands.{asks_of, is_met, speaks_of}
 use Rattle.choice_table.specs.Numbering.{environments, is_number_in_scope, numbered, states}
+use Rattle.cube_cover.specs.Demands.{misses}
 use Rattle.coverage_check.specs.declared.shown.Shown.{Shown}
 use Rattle.coverage_check.specs.declared.shown.Other.TheVariants as other
 use Rattle.coverage_check.specs.declared.choosing.Requirement.{Requirement}
@@ -21,6 +24,7 @@ use Rattle.coverage_check.specs.Form.{has_too_many_states, is_empty, is_overload
 use Rattle.coverage_check.specs.Choosing.{requirement_refusal, is_unmet, leaves_start, number_of_requirement, start_refusal, target_shown}
 use Rattle.coverage_check.specs.Timing.{bound_refusal, further, greatest_bound, has_short_window, lacks_bound, least, window_refusal}
 use Rattle.coverage_check.specs.Holding.{breaks_entering, breaks_from, holds_entering, holds_leaving, holds_reaching, invariant_refusal, precondition_refusal}
+use Rattle.coverage_check.specs.Demands.{demand_refusal}
 
 -- The first refusal, condition by condition.
 abbrev pub form_refusal : Parts → Option Shown
@@ -42,7 +46,9 @@ range_refusal spec = option_or (invariant_refusal spec) (precondition_refusal sp
 
 -- The refusal of the least condition that a specification breaks, at its first place.
 abbrev pub first_refusal : Parts → Option Shown
-first_refusal spec = option_or (form_refusal spec) (option_or (choice_refusal spec) (option_or (time_refusal spec) (range_refusal spec)))
+first_refusal spec =
+    option_or (form_refusal spec) (option_or (choice_refusal spec)
+    (option_or (time_refusal spec) (option_or (range_refusal spec) (demand_refusal spec))))
 
 -- Something is on, and no configuration before this one is the same.
 pub record IsShaped (spec : Parts) (c : ConfId) : Type 0 where
@@ -74,6 +80,8 @@ pub record Accepts (spec : Parts) : Type 0 where
   pub windowed : Each (λ (bound : Bound). bound.frames + 1 ≤ spec.window) spec.bounds
   pub kept : Each (λ (inv : Invariant). (i : ConfId) → i.0 < length spec.confs → has_source inv.from i ≡ true → IsKept spec inv i) spec.invariants
   pub entered : Each (λ (pre : Precondition). holds_entering spec pre (place_of spec pre.conf pre.app.0) ≡ true) spec.preconditions
+  pub demanded : (c : ConfId) (v : Env) → c.0 < length spec.confs → IsEnv spec v → in_scope spec v ≡ true
+      → Each (λ (demand : Demand). asks_of demand c ≡ true → speaks_of demand v ≡ true → is_met spec demand (choose spec c v) ≡ true) spec.demands
 
 -- A specification has no refusal exactly where it is accepted.
 pub record RefusesTheRest (spec : Parts) : Type 0 where
@@ -106,6 +114,9 @@ pub data IsBroken (spec : Parts) (shown : Shown) : Type 0 where
       → shown ≡ shown_at 11 i (other.Item k) → IsBroken spec shown
   PreconditionBroken : (k : ℕ) (pre : Precondition) → slice_get spec.preconditions k ≡ Some pre → breaks_entering spec pre ≡ true
       → shown ≡ shown_at 12 pre.conf.0 (other.Item k) → IsBroken spec shown
+  DemandMissed : (c k n : ℕ) (demand : Demand) → c < length spec.confs → slice_get spec.demands k ≡ Some demand
+      → n < environments spec → is_number_in_scope spec n ≡ true → misses spec demand (conf_id c) (numbered spec n) ≡ true
+      → shown ≡ shown_in 13 c (numbered spec n) (other.Demand k) → IsBroken spec shown
 
 -- What a refusal shows is broken in the specification.
 abbrev pub ShownIsBroken : Type 0

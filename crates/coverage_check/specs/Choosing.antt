@@ -1,19 +1,18 @@
 -- The conditions A5 to A8: what the choice table has to give in each environment in scope.
-use Rattle.std.specs.Prelude.{ℕ, Bool, not, ◌&&◌, ◌==◌, length, Option, option_map}
+use Rattle.std.specs.Prelude.{ℕ, Bool, not, ◌==◌, length, Option, option_map}
 use Rattle.scram_types.specs.Lookups.{opening_env, conf_id}
 use Rattle.scram_types.specs.declared.ids.ConfId.{ConfId}
 use Rattle.scram_types.specs.declared.flights.Env.{Env}
 use Rattle.scram_types.specs.Specification.{Parts}
 use Rattle.scram_types.specs.Searches.{first_below}
 use Rattle.choice_table.specs.Choices.{choose, has_rule, is_runnable}
-use Rattle.choice_table.specs.Numbering.{environments, is_number_in_scope, numbered}
 use Rattle.cube_cover.specs.declared.answers.Cover.{Cover}
 use Rattle.coverage_check.specs.declared.shown.Shown.{Shown}
 use Rattle.coverage_check.specs.declared.shown.Other.{Other}
 use Rattle.coverage_check.specs.declared.shown.Other.TheVariants as other
 use Rattle.coverage_check.specs.declared.choosing.Requirement.{Requirement}
 use Rattle.coverage_check.specs.declared.choosing.Requirement.TheVariants as requirement
-use Rattle.coverage_check.specs.Search.{shown_if}
+use Rattle.coverage_check.specs.Search.{first_passing_env, shown_if}
 use Rattle.coverage_check.specs.Showing.{shown_in}
 
 -- A5: no rule fits. A6: the target cannot run. A7: another target is chosen from the target.
@@ -34,13 +33,9 @@ target_shown spec requirement.HasRule c v = other.Nothing
 target_shown spec requirement.CanRun c v = other.Conf (choose spec c v)
 target_shown spec requirement.Stays c v = other.Conf (choose spec c v)
 
--- Environment number n, where it is in scope and configuration c does not meet a requirement there.
-abbrev pub unmet_env_at : Parts → Requirement → ConfId → ℕ → Option Env
-unmet_env_at spec asked c n = shown_if (is_number_in_scope spec n && is_unmet spec asked c (numbered spec n)) (numbered spec n)
-
 -- The first environment in scope in which configuration c does not meet a requirement.
 abbrev pub first_unmet_env : Parts → Requirement → ConfId → Option Env
-first_unmet_env spec asked c = first_below (unmet_env_at spec asked c) (environments spec)
+first_unmet_env spec asked c = first_passing_env spec (is_unmet spec asked c)
 
 -- The finding of a cover on a requirement.
 abbrev pub unmet_of_cover : Cover → Requirement → Option Env

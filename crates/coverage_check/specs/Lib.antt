@@ -5,6 +5,7 @@ pub mod Choosing
 pub mod Timing
 pub mod TargetSets
 pub mod Holding
+pub mod Demands
 pub mod Acceptance
 pub mod Answers
 pub mod Missions

@@ -1,4 +1,4 @@
-//! Acceptance: the conditions A1 to A12 in their order.
+//! Acceptance: the conditions A1 to A13 in their order.
 
 ghost use Rattle.std.specs.Prelude.{◌≡◌, IfErr, IfOk, None, OnOk};
 ghost use Rattle.coverage_check.specs.Acceptance.{AcceptsWhereUnrefused, ShownIsBroken, choice_refusal, first_refusal, form_refusal, range_refusal, time_refusal};
@@ -6,6 +6,7 @@ ghost use Rattle.coverage_check.specs.Answers.{IsRefusal};
 ghost use Rattle.coverage_check.specs.TargetSets.{HasCovers};
 
 use crate::choosing::{Requirement, refuse_requirement, refuse_start};
+use crate::demands::refuse_demand;
 use crate::form::{refuse_load, refuse_need, refuse_shape, refuse_states};
 use crate::holding::{refuse_invariant, refuse_precondition};
 use crate::shown::Shown;
@@ -15,7 +16,7 @@ use cube_cover::Cover;
 use scram_types::{NoMemory, Spec};
 use std::alloc::Global;
 
-/// A specification that is accepted: all twelve conditions hold of it.
+/// A specification that is accepted: all thirteen conditions hold of it.
 #[derive(Drop)]
 pub struct Accepted {
     spec: Spec,
@@ -51,13 +52,13 @@ pub enum AcceptError {
     NoMemory(Spec),
 }
 
-/// Accepts a specification if all conditions, A1 to A12, hold.
+/// Accepts a specification if all conditions, A1 to A13, hold.
 ///
 /// # Errors
 ///
 /// The first condition that does not hold, at its least configuration, then its least environment by number, then its
-/// least other value; of invariants and preconditions the first one, and then the least configuration; or out of
-/// memory. The specification is given back in both cases.
+/// least other value; of invariants and preconditions the first one, and then the least configuration; of demands
+/// the least configuration, then the first demand and its least environment; or out of memory. The specification is given back in both cases.
 #[tactic(auto, using(crate::proofs::Accepting::accepted))]
 pub fn accept(alloc: Global, spec: Spec) -> Result<Accepted, AcceptError>
     ensures accepted { IfOk result (λ accepted. accepted ≡ spec) }
@@ -84,7 +85,10 @@ fn first_refusal(alloc: Global, spec: &Spec) -> Result<Option<Shown>, NoMemory>
     if let Some(shown) = refuse_time(spec, &covers) {
         return Ok(Some(shown));
     }
-    Ok(refuse_ranges(spec, &covers))
+    if let Some(shown) = refuse_ranges(spec, &covers) {
+        return Ok(Some(shown));
+    }
+    refuse_demand(alloc, spec)
 }
 
 fn refuse_form(spec: &Spec) -> Option<Shown>

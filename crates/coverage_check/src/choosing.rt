@@ -23,7 +23,11 @@ pub enum Requirement {
 }
 
 // A5 to A7: returns the refusal for the least configuration and environment in which a requirement is not met.
-pub(crate) fn refuse_requirement(spec: &Spec, covers: &[Cover; 12], requirement: Requirement) -> Option<Shown>
+pub(crate) fn refuse_requirement(
+    spec: &Spec,
+    covers: &[Cover; 12],
+    requirement: Requirement,
+) -> Option<Shown>
     requires { HasCovers spec.now covers.now }
     ensures { result ≡ requirement_refusal spec.now requirement }
 {
@@ -36,7 +40,12 @@ pub(crate) fn refuse_requirement(spec: &Spec, covers: &[Cover; 12], requirement:
     None
 }
 
-fn refuse_requirement_of(spec: &Spec, cover: &Cover, requirement: Requirement, c: u8) -> Option<Shown>
+fn refuse_requirement_of(
+    spec: &Spec,
+    cover: &Cover,
+    requirement: Requirement,
+    c: u8,
+) -> Option<Shown>
     requires known { IsSpec spec.now }
     requires cover { IsCover spec.now (conf_id c) cover.now }
     ensures { result ≡ requirement_refusal_of spec.now requirement c }

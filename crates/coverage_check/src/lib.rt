@@ -1,10 +1,11 @@
-//! The static check of a specification, the conditions A1 to A12: `accept` gives an accepted specification, of which
+//! The static check of a specification, the conditions A1 to A13: `accept` gives an accepted specification, of which
 //! every reconfiguration is assured, or the first condition that does not hold and its least place. A mission is an
 //! accepted specification with a script that keeps to its failure assumption.
 #![tactic(auto)]
 
 pub mod acceptance;
 pub mod choosing;
+mod demands;
 mod form;
 mod holding;
 pub mod missions;
@@ -18,4 +19,4 @@ pub use form::refuse_states;
 pub use missions::{Mission, NotWithin};
 pub use shown::{Other, Shown};
 pub use target_sets::targets;
-pub use timing::{asked_bounds, least};
+pub use timing::{asked_bounds, greatest_bound, least};

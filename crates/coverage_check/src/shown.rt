@@ -2,7 +2,7 @@
 
 use scram_types::{AppId, ConfId, Env, ProcId};
 
-/// Why a specification is not accepted: the number of the first condition that does not hold, 1 to 12,
+/// Why a specification is not accepted: the number of the first condition that does not hold, 1 to 13,
 /// and the place at which it does not.
 #[derive(Clone, Copy, Debug, PartialEq, Eq)]
 pub struct Shown {
@@ -25,6 +25,8 @@ pub enum Other {
     Least(ConfId, u32),
     /// The place of an invariant among the invariants, or of a precondition among the preconditions.
     Item(u32),
+    /// The place of a demand among the demands.
+    Demand(u32),
 }
 
 impl Shown {

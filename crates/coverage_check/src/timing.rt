@@ -153,7 +153,7 @@ fn is_bounded(spec: &Spec, i: ConfId, j: ConfId) -> bool
 pub(crate) fn refuse_window(spec: &Spec) -> Option<Shown>
     ensures { result ≡ window_refusal spec.now }
 {
-    let greatest = greatest_bound(spec.bounds.items());
+    let greatest = greatest_bound(spec);
     if u64::from(spec.window) < u64::from(greatest) + 1 {
         Some(Shown::nowhere(10, Other::Count(greatest)))
     } else {
@@ -161,7 +161,14 @@ pub(crate) fn refuse_window(spec: &Spec) -> Option<Shown>
     }
 }
 
-fn greatest_bound(bounds: &[Bound]) -> u32
+/// Returns the greatest bound that is given, in frames, and 0 where none is.
+pub fn greatest_bound(spec: &Spec) -> u32
+    ensures { result ≡ greatest_bound spec.now.bounds }
+{
+    greatest_of(spec.bounds.items())
+}
+
+fn greatest_of(bounds: &[Bound]) -> u32
     ensures { result ≡ greatest_bound bounds.now }
 {
     let mut greatest = 0;
