@@ -41,7 +41,7 @@ target_known n c v (rule ∷ rules) to known =
     by_test (λ (t : ConfId). t.0 < n) (rule_fits c v rule) _ _ (λ e. to 0 rule refl) (λ e. target_known n c v rules (λ k other there. to (suc k) other there) known)
 
 -- a fact of each bound is one of the bound that is given
-bound_each : (P : ℕ → Type 0) (i j t : ℕ) (bounds : List Bound) → ((k : ℕ) (bound : Bound) → slice_get bounds k ≡ Some bound → P bound.frames) → bound_in bounds i j ≡ Some t → P t
+pub bound_each : (P : ℕ → Type 0) (i j t : ℕ) (bounds : List Bound) → ((k : ℕ) (bound : Bound) → slice_get bounds k ≡ Some bound → P bound.frames) → bound_in bounds i j ≡ Some t → P t
 bound_each P i j t [] each is = cc
 bound_each P i j t (bound ∷ bounds) each is =
     by_test (λ o. o ≡ Some t → P t) (bound.from.0 == i && bound.to.0 == j) (Some bound.frames) (bound_in bounds i j)

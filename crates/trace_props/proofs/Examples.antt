@@ -11,6 +11,7 @@ use Rattle.scram_types.specs.declared.orders.KMode.TheVariants as kmode
 use Rattle.scram_types.specs.declared.specification.AppSpec.{AppSpec}
 use Rattle.scram_types.specs.declared.specification.Bound.{Bound}
 use Rattle.scram_types.specs.declared.specification.Conf.{Conf}
+use Rattle.scram_types.specs.declared.specification.Demand.{Demand}
 use Rattle.scram_types.specs.declared.specification.Invariant.{Invariant}
 use Rattle.scram_types.specs.declared.specification.ModeSpec.{ModeSpec}
 use Rattle.scram_types.specs.declared.specification.Policy.{Policy}
@@ -22,7 +23,7 @@ use Rattle.scram_types.specs.Lookups.{conf_id}
 use Rattle.coverage_check.proofs.Examples.{bound, first_rule, other_rule}
 use Rattle.trace_props.specs.declared.breaks.Broken.{Broken}
 use Rattle.trace_props.specs.declared.breaks.Property.{Property}
-use Rattle.trace_props.specs.declared.breaks.Property.TheVariants.{Sp1, Sp2, Sp3, Sp4, Sp5}
+use Rattle.trace_props.specs.declared.breaks.Property.TheVariants.{Sp1, Sp2, Sp3, Sp4, Sp5, Sp6}
 use Rattle.trace_props.specs.Judging.{first_break}
 
 abbrev pub mode : ℕ → ModeSpec
@@ -35,8 +36,8 @@ monitor = record { name = 109 ∷ []; kind = record { 0 = 2 }; needs = []; modes
 abbrev pub placed : ℕ → Conf
 placed m = record { name = (96 + m) ∷ []; places = Some (record { mode = record { 0 = m }; proc = record { 0 = 0 } }) ∷ replicate 7 None }
 
-abbrev spec_of : List Bound → Policy → List Invariant → List Precondition → Parts
-spec_of bounds policy invariants preconditions = record {
+abbrev spec_with_demands : List Bound → Policy → List Invariant → List Precondition → List Demand → Parts
+spec_with_demands bounds policy invariants preconditions demands = record {
   procs = record { name = 112 ∷ []; capacity = 100 } ∷ [];
   apps = monitor ∷ [];
   confs = placed 1 ∷ placed 2 ∷ [];
@@ -48,11 +49,14 @@ spec_of bounds policy invariants preconditions = record {
   invariants = invariants;
   preconditions = preconditions;
   policy = policy;
-  demands = [];
+  demands = demands;
   halts = 0;
   changes = 1;
   window = 40;
 }
+
+abbrev spec_of : List Bound → Policy → List Invariant → List Precondition → Parts
+spec_of bounds policy invariants preconditions = spec_with_demands bounds policy invariants preconditions []
 
 abbrev pub spec : Parts
 spec = spec_of (bound 0 0 8 ∷ bound 0 1 8 ∷ bound 1 0 8 ∷ bound 1 1 8 ∷ []) Retarget [] []
@@ -211,6 +215,41 @@ settled = refl
 
 chosen_anew : first_break (spec_of (bound 0 1 8 ∷ bound 1 0 8 ∷ []) Retarget [] []) followed (moved 1 1 3 ∷ back ∷ []) ≡ broken Sp5 4
 chosen_anew = refl
+
+-- SP6, in a calm row: everywhere the second configuration is demanded, whatever was chosen from
+abbrev second_wanted : Demand
+second_wanted = record { name = []; from = 0; wants = []; up = 0; down = 0; to = 2; on = replicate 8 None; off = 0 }
+
+abbrev demanding : List Bound → Demand → Parts
+demanding bounds demand = spec_with_demands bounds Retarget [] [] (demand ∷ [])
+
+abbrev steady : Env → Row
+steady v = row v (ran 1) 1 10
+
+unsatisfied : first_break (demanding (bound 0 1 2 ∷ []) second_wanted) (steady before ∷ steady before ∷ steady before ∷ []) [] ≡ broken Sp6 2
+unsatisfied = refl
+
+not_yet_calm : first_break (demanding (bound 0 1 2 ∷ []) second_wanted) (steady before ∷ steady after ∷ steady after ∷ []) [] ≡ None
+not_yet_calm = refl
+
+calm_again : first_break (demanding (bound 0 1 2 ∷ []) second_wanted) (steady before ∷ steady after ∷ steady after ∷ steady after ∷ []) [] ≡ broken Sp6 3
+calm_again = refl
+
+at_once_calm : first_break (demanding [] second_wanted) (steady before ∷ []) [] ≡ broken Sp6 0
+at_once_calm = refl
+
+satisfied : first_break (demanding (bound 0 1 2 ∷ []) second_wanted) good (moved 1 2 4 ∷ []) ≡ None
+satisfied = refl
+
+nothing_runs : first_break (demanding (bound 0 1 2 ∷ []) second_wanted) (steady before ∷ steady before ∷ row before act.Held 1 10 ∷ []) (cut_off 2 3 ∷ []) ≡ broken Sp6 2
+nothing_runs = refl
+
+nothing_asked : first_break (demanding (bound 0 1 2 ∷ []) (record { name = []; from = 2; wants = []; up = 0; down = 0; to = 2; on = replicate 8 None; off = 0 }))
+    (steady before ∷ steady before ∷ steady before ∷ []) [] ≡ None
+nothing_asked = refl
+
+lost_not_calm : first_break (demanding (bound 0 1 2 ∷ []) second_wanted) (steady before ∷ steady before ∷ row before act.Lost 1 10 ∷ []) (cut_off 2 3 ∷ []) ≡ None
+lost_not_calm = refl
 
 -- the least frame comes first, and in one frame the least number
 earlier_frame : first_break spec (row before (ran 1) 1 10 ∷ row before act.Held 1 10 ∷ row before act.Held 4 10 ∷ row before (ran 2) 1 10 ∷ []) (moved 1 1 3 ∷ []) ≡ broken Sp5 1

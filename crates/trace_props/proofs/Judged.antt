@@ -1,4 +1,4 @@
--- What is found of all reconfigurations is the first break, or that all five properties hold.
+-- What is found of all reconfigurations is the first break, or that all six properties hold.
 use Rattle.std.proofs.Common.{◌≡◌, ℕ, suc, ◌+◌, ◌<◌, ◌≤◌, refl, arith, ap, sym, ◌∙◌, List, [], ◌∷◌, ◌⊎◌, subst}
 use mathlib.Core.Logic.{inl, inr}
 use Rattle.std.specs.Prelude.{Option, Some, None, slice_get, ◌↔◌}
@@ -6,21 +6,23 @@ use Rattle.std.proofs.lemmas.Option.{slice_get_past}
 use Rattle.scram_types.specs.declared.flights.Report.{Report}
 use Rattle.scram_types.specs.declared.flights.Row.{Row}
 use Rattle.scram_types.specs.Specification.{Parts}
+use Rattle.scram_types.proofs.Booleans.{not_false, true_false}
 use Rattle.scram_types.proofs.Naturals.{below_or_at}
 use Rattle.scram_types.proofs.Options.{same_some}
 use Rattle.frame_model.specs.Readings.{reports}
 use Rattle.trace_props.specs.declared.breaks.Broken.{Broken}
 use Rattle.trace_props.specs.declared.breaks.Property.{Property}
-use Rattle.trace_props.specs.declared.breaks.Property.TheVariants.{Sp1, Sp2, Sp3, Sp4, Sp5}
+use Rattle.trace_props.specs.declared.breaks.Property.TheVariants.{Sp1, Sp2, Sp3, Sp4, Sp5, Sp6}
 use Rattle.trace_props.specs.declared.judging.Judgement.{Judgement}
-use Rattle.trace_props.specs.Breaks.{BreaksAt, BreaksIn, BreaksSomewhere, BreaksSp1, Fails, HoldsWhereUnbroken, IsFirstBreak, last_frame}
-use Rattle.trace_props.specs.Judging.{broken_at, broken_in, causeless_at, difference, earlier, first_break, judge, judge_all, late_at, opening_judgement, unchosen_at, unkept_at}
-use Rattle.trace_props.specs.Properties.{HoldsAll, KeepsSp2, KeepsSp3, KeepsSp4, KeepsSp5}
+use Rattle.trace_props.specs.Breaks.{BreaksAt, BreaksIn, BreaksSomewhere, BreaksSp1, BreaksSp6, Fails, HoldsWhereUnbroken, IsFirstBreak, last_frame}
+use Rattle.trace_props.specs.Judging.{broken_at, broken_in, causeless_at, difference, earlier, first_break, first_in_reports, judge, judge_all, late_at, opening_judgement, unchosen_at, unkept_at, unsatisfied_at}
+use Rattle.trace_props.specs.Properties.{HoldsAll, HoldsSp6, KeepsSp2, KeepsSp3, KeepsSp4, KeepsSp5, is_satisfied}
 use Rattle.trace_props.proofs.Differing.{agrees_all, told_least, low_or_past}
 use Rattle.trace_props.proofs.Firsts.{IsFirstOf, IsLeastOf, first_earlier, first_moved, first_one, none_at, none_left, none_right}
 use Rattle.trace_props.proofs.Ordering.{Ordered, ends_after, ordered_reports}
 use Rattle.trace_props.proofs.TargetsJudged.{Judges, least_judged, sp2_judged, sp3_judged}
 use Rattle.trace_props.proofs.AreasJudged.{sp4_kept, sp4_least}
+use Rattle.trace_props.proofs.CalmJudged.{sp6_least}
 use Rattle.trace_props.proofs.CausesJudged.{IsJustBefore, sp5_judged}
 
 -- a reconfiguration keeps what SP2 to SP5 ask of it
@@ -56,6 +58,7 @@ module _ (spec : Parts) (rows : List Row) (before : Option Report) (r : Report) 
   some_in Sp3 g b = inl (inr (refl, b))
   some_in Sp4 g b = inr (inl (refl, b))
   some_in Sp5 g b = inr (inr (refl, b))
+  some_in Sp6 g b = absurd b
 
   first_in : IsFirstOf (BreaksIn spec rows r) (broken_in spec rows before r)
   first_in = first_moved InSome (BreaksIn spec rows r) in_some some_in (broken_in spec rows before r)
@@ -180,10 +183,16 @@ module _ (spec : Parts) (rows : List Row) (told : List Report) where
   abbrev Either : Property → ℕ → Type 0
   Either p g = Alone Sp1 (BreaksSp1 told Read) p g ⊎ BreaksBelow spec rows Read judged.0 p g
 
-  at_of : (p : Property) (g : ℕ) → Either p g → BreaksAt spec rows told p g
+  abbrev OneOf : Property → ℕ → Type 0
+  OneOf p g = Either p g ⊎ Alone Sp6 (BreaksSp6 spec rows) p g
+
+  at_of : (p : Property) (g : ℕ) → OneOf p g → BreaksAt spec rows told p g
   at_of p g e = elim e [
-    | inl b ↦ subst (λ (q : Property). BreaksAt spec rows told q g) (sym b.0) b.1
-    | inr b ↦ below_of p g b
+    | inl read ↦ elim read [
+      | inl b ↦ subst (λ (q : Property). BreaksAt spec rows told q g) (sym b.0) b.1
+      | inr b ↦ below_of p g b
+    ]
+    | inr b ↦ subst (λ (q : Property). BreaksAt spec rows told q g) (sym b.0) b.1
   ]
     where
       below_of : (q : Property) (f : ℕ) → BreaksBelow spec rows Read judged.0 q f → BreaksAt spec rows told q f
@@ -192,24 +201,36 @@ module _ (spec : Parts) (rows : List Row) (told : List Report) where
       below_of Sp3 f b = record { place = b.place; reconfiguration = b.r; there = b.there; broken = b.broken }
       below_of Sp4 f b = record { place = b.place; reconfiguration = b.r; there = b.there; broken = b.broken }
       below_of Sp5 f b = record { place = b.place; reconfiguration = b.r; there = b.there; broken = b.broken }
+      below_of Sp6 f b = absurd b.broken
 
   below_at : (p : Property) (g : ℕ) → BreaksSomewhere spec rows p g → BreaksBelow spec rows Read judged.0 p g
   below_at p g b = record { place = b.place; below = below_all judged.0 judged.2 b.place b.reconfiguration b.there; r = b.reconfiguration; there = b.there; broken = b.broken }
 
-  at_is : (p : Property) (g : ℕ) → BreaksAt spec rows told p g → Either p g
-  at_is Sp1 g b = inl (refl, b)
-  at_is Sp2 g b = inr (below_at Sp2 g b)
-  at_is Sp3 g b = inr (below_at Sp3 g b)
-  at_is Sp4 g b = inr (below_at Sp4 g b)
-  at_is Sp5 g b = inr (below_at Sp5 g b)
+  at_is : (p : Property) (g : ℕ) → BreaksAt spec rows told p g → OneOf p g
+  at_is Sp1 g b = inl (inl (refl, b))
+  at_is Sp2 g b = inl (inr (below_at Sp2 g b))
+  at_is Sp3 g b = inl (inr (below_at Sp3 g b))
+  at_is Sp4 g b = inl (inr (below_at Sp4 g b))
+  at_is Sp5 g b = inl (inr (below_at Sp5 g b))
+  at_is Sp6 g b = inr (refl, b)
+
+  reports_first : IsFirstOf Either (first_in_reports spec rows told)
+  reports_first =
+      first_earlier (Alone Sp1 (BreaksSp1 told Read)) (BreaksBelow spec rows Read judged.0) (broken_at Sp1 (difference told Final.agreement)) Final.broken
+      (first_one Sp1 (BreaksSp1 told Read) (difference told Final.agreement) agreed.0) judged.3.first
 
   pub first_is : IsFirstOf (BreaksAt spec rows told) (first_break spec rows told)
-  first_is = first_moved Either (BreaksAt spec rows told) at_of at_is (first_break spec rows told)
-      (first_earlier (Alone Sp1 (BreaksSp1 told Read)) (BreaksBelow spec rows Read judged.0) (broken_at Sp1 (difference told Final.agreement)) Final.broken
-      (first_one Sp1 (BreaksSp1 told Read) (difference told Final.agreement) agreed.0) judged.3.first)
+  first_is = first_moved OneOf (BreaksAt spec rows told) at_of at_is (first_break spec rows told)
+      (first_earlier Either (Alone Sp6 (BreaksSp6 spec rows)) (first_in_reports spec rows told) (broken_at Sp6 (unsatisfied_at spec rows)) reports_first
+      (first_one Sp6 (BreaksSp6 spec rows) (unsatisfied_at spec rows) (sp6_least spec rows)))
+
+  satisfied_if : (o : Option ℕ) → IsLeastOf (BreaksSp6 spec rows) o → o ≡ None → HoldsSp6 spec rows
+  satisfied_if None h e t row calm = not_false (is_satisfied spec row) (λ b. h t (record { row = row; calm = calm; broken = b }))
+  satisfied_if (Some f) h e t row calm = absurd (let no : ◌≡◌ {A = Option ℕ} (Some f) None = e in cc)
 
   pub holds_if : first_break spec rows told ≡ None → HoldsAll spec rows told
-  holds_if e =
+  holds_if all =
+      let e = none_left (first_in_reports spec rows told) (broken_at Sp6 (unsatisfied_at spec rows)) all in
       let told_none = none_at Sp1 (difference told Final.agreement) (none_left (broken_at Sp1 (difference told Final.agreement)) Final.broken e) in
       let none = none_right (broken_at Sp1 (difference told Final.agreement)) Final.broken e in
       let kept : (k : ℕ) (x : Report) → slice_get Read k ≡ Some x → Keeps spec rows x = λ k x there. judged.3.kept none k x (below_all judged.0 judged.2 k x there) there in
@@ -219,6 +240,8 @@ module _ (spec : Parts) (rows : List Row) (told : List Report) where
         sp3 = λ k x there. (kept k x there).sp3;
         sp4 = λ k x there. (kept k x there).sp4;
         sp5 = λ k x there. (kept k x there).sp5;
+        sp6 = satisfied_if (unsatisfied_at spec rows) (sp6_least spec rows)
+            (none_at Sp6 (unsatisfied_at spec rows) (none_right (first_in_reports spec rows told) (broken_at Sp6 (unsatisfied_at spec rows)) all));
       }
 
   -- where all hold nothing is broken
@@ -231,6 +254,7 @@ module _ (spec : Parts) (rows : List Row) (told : List Report) where
     | inr p ↦ p.broken ((h.sp4 b.place b.reconfiguration b.there).ready p.place p.pre p.there p.aimed g p.row p.before_end p.stands)
   ]
   unbroken_of h Sp5 g b = b.broken.0 (h.sp5 b.place b.reconfiguration b.there)
+  unbroken_of h Sp6 g b = true_false (is_satisfied spec b.row) (h.sp6 g b.row b.calm) b.broken
 
   pub first_broken : (x : Broken) → first_break spec rows told ≡ Some x → IsFirstBreak spec rows told x.property x.frame
   first_broken x e = first_of_some (first_break spec rows told) e first_is

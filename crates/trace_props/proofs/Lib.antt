@@ -9,6 +9,7 @@ pub mod Counting
 pub mod Deadlines
 pub mod Coupling
 pub mod Assurances
+pub mod Calms
 pub mod Builds
 pub mod Areas
 pub mod Products
@@ -26,6 +27,8 @@ mod Differing
 mod TargetsJudged
 mod AreasJudged
 mod CausesJudged
+mod CalmJudged
+mod HeldSteps
 mod Ordering
 mod JudgeSteps
 mod Judged
@@ -33,6 +36,7 @@ mod Examples
 mod Worked
 pub mod GivenBounds
 pub mod TimesKept
+pub mod CalmRows
 pub mod Ranging
 pub mod Intervals
 pub mod AreasHold

@@ -15,6 +15,7 @@ use Rattle.trace_props.proofs.Plans.{IsAcceptedPlan}
 use Rattle.trace_props.proofs.Courses.{IsCourseFlown, IsCourseWithin, CourseReading, CourseReading.Steady, CourseReading.Leaving, course_reading_before}
 use Rattle.trace_props.proofs.Promises as promises
 use Rattle.trace_props.proofs.CourseRows.{IsBuilt, IsRun}
+use Rattle.trace_props.specs.Calms.{CalmSettles}
 use Rattle.trace_props.specs.Known.{IsKnown}
 use Rattle.trace_props.specs.Properties.{HoldsAll}
 use Rattle.trace_props.specs.Missions.{IsTargetChosen, FurtherChangesAreFew, HaltingEndsInTime, HaltsInTime, SeesFewChanges, SettlesInTime, PhasesArePastInTime, ReconfigurationsAreAssured, TargetsAreChosen, begin_at, begin_in, changes_since, first_moving, first_moving_in}
@@ -26,6 +27,7 @@ use Rattle.trace_props.proofs.SameActs.{committed}
 use Rattle.trace_props.proofs.Building.{built_of}
 use Rattle.trace_props.proofs.SameCourses.{counts_same, run_of, within_of}
 use Rattle.trace_props.proofs.AreasHold.{each_holds}
+use Rattle.trace_props.proofs.CalmRows.{satisfied, settled}
 use Rattle.trace_props.proofs.TimesKept.{each_keeps}
 use Rattle.trace_props.proofs.SameModes.{frames_same, same_mode}
 use Rattle.trace_props.proofs.Products.{build_of, course_of, course_mode_of, halting_number, plan_of, settles_under}
@@ -65,6 +67,9 @@ module _ (known : IsKnown) (spec : Parts) (script : ScriptParts) (sound : IsSpec
   assured : promises.IsCourseAllAssured (plan_of spec) (course_of spec script)
   assured = reconfigures_built (plan_of spec) (build_of spec) (course_of spec script) (committed spec script) accepted built within run
 
+  is_flown : IsCourseFlown (plan_of spec) (course_of spec script)
+  is_flown = flown (plan_of spec) (course_of spec script) accepted (build_of spec) (committed spec script) built run
+
   pub holds_all : HoldsAll spec (rows_of spec script) (reports_of spec script)
   holds_all = record {
     sp1 = refl;
@@ -74,10 +79,8 @@ module _ (known : IsKnown) (spec : Parts) (script : ScriptParts) (sound : IsSpec
         (keeps_areas (plan_of spec) (build_of spec) (course_of spec script) (committed spec script) (laws_of spec) (area spec sound kinds script)
         accepted built within run (filled_of spec sound kinds script));
     sp5 = λ k r there. (each_keeps spec script known.by_row assured k r there).sp5;
+    sp6 = λ t row calm. satisfied spec script sound t row calm accepted within is_flown mission.accepts;
   }
-
-  is_flown : IsCourseFlown (plan_of spec) (course_of spec script)
-  is_flown = flown (plan_of spec) (course_of spec script) accepted (build_of spec) (committed spec script) built run
 
   begin_is : (f : ℕ) → begin_at spec script f ≡ promises.course_begin_of (course_reading_before (plan_of spec) (course_of spec script) f) f
   begin_is f = ap (λ rd. begin_in rd f) (reading_same spec script known.by_row f) ∙ begin_same (course_reading_before (plan_of spec) (course_of spec script) f) f
@@ -124,6 +127,10 @@ module _ (known : IsKnown) (spec : Parts) (script : ScriptParts) (sound : IsSpec
 
 pub all_hold : IsKnown → ReconfigurationsAreAssured
 all_hold known spec script sound mission = holds_all known spec script sound mission
+
+pub calm_settles : IsKnown → CalmSettles
+calm_settles known spec script sound mission t row calm =
+    settled spec script sound t row calm (accepted known spec script sound mission) (within known spec script sound mission) (is_flown known spec script sound mission)
 
 pub targets_are_chosen : IsKnown → TargetsAreChosen
 targets_are_chosen known spec script sound mission = target_chosen known spec script sound mission

@@ -41,20 +41,20 @@ policy_settles : (policy : Policy) → settles_under policy ≡ true → policy 
 policy_settles Retarget h = absurd (true_false false h refl)
 policy_settles Settle h = refl
 
-same_self : (v : Env) → is_same_env v v ≡ true
+pub same_self : (v : Env) → is_same_env v v ≡ true
 same_self v = and_true (v.up == v.up) (bytes_eq v.factors v.factors) (equal_test v.up v.up refl) ((bytes_eq-Decides v.factors v.factors).1 refl)
 
 pub not_same : (v w : Env) → not (is_same_env v w) ≡ true → v ≡ w → ⊥
 not_same v w h e = true_false (not (is_same_env v w)) h (rw (e, same_self w) refl)
 
 module _ (spec : Parts) (script : ScriptParts) where
-  row_there : (f : ℕ) → f < script.frames → slice_get (rows_of spec script) f ≡ Some (row_at spec script f)
+  pub row_there : (f : ℕ) → f < script.frames → slice_get (rows_of spec script) f ≡ Some (row_at spec script f)
   row_there f inside = get_listed (row_at spec script) script.frames f inside
 
-  env_there : (f : ℕ) → f < script.frames → env_in (rows_of spec script) f ≡ Some (env_at spec script f)
+  pub env_there : (f : ℕ) → f < script.frames → env_in (rows_of spec script) f ≡ Some (env_at spec script f)
   env_there f inside = ap (option_map (λ (row : Row). row.env)) (row_there f inside)
 
-  row_count : length (rows_of spec script) ≡ script.frames
+  pub row_count : length (rows_of spec script) ≡ script.frames
   row_count = length_listed (row_at spec script) script.frames
 
   change_there : (f : ℕ) → f < script.frames → course_changes_at (plan_of spec) (env_at spec script) f ≡ true → ChangesIn spec (rows_of spec script) f

@@ -3,6 +3,7 @@
 use Rattle.std.proofs.Common.{rules, ◌≡◌, ℕ, true, zero, suc, ◌+◌, ◌<◌, ◌≤◌, List, [], ◌∷◌, refl, ap, arith, subst}
 use Rattle.std.specs.Prelude.{IsSome, Option, Some, None, option_and_then, replicate, slice_get, slice_index_or}
 use Rattle.std.proofs.lemmas.Option.{same_Some, slice_get_within}
+use Rattle.scram_types.specs.declared.orders.Act.TheVariants as act
 use Rattle.scram_types.specs.declared.scripts.Change.{Change}
 use Rattle.scram_types.specs.declared.specification.AppSpec.{AppSpec}
 use Rattle.scram_types.specs.declared.specification.Conf.{Conf}
@@ -17,8 +18,10 @@ use Rattle.fault_script.proofs.Assuming.{leaves_nowhere}
 use Rattle.fault_script.proofs.SmallSpec.{differ_none, differ_one, differ_two, each_none, each_one, each_two}
 use Rattle.coverage_check.specs.Missions.{IsMission, mission_of}
 use Rattle.coverage_check.proofs.Accepting.{accepts_where_unrefused}
-use Rattle.frame_model.specs.Flights.{reports_of}
 use Rattle.coverage_check.proofs.Examples.{bound, first_rule, other_rule}
+use Rattle.frame_model.specs.Flights.{reports_of, row_at, rows_of}
+use Rattle.frame_model.specs.Runs.{act_at, running}
+use Rattle.trace_props.specs.Properties.{IsCalm, env_in}
 use Rattle.trace_props.proofs.Examples.{mode, monitor, moved, placed, spec}
 
 each_more : {A : Type 0} (P : A → Type 0) (x : A) (xs : List A) → P x → Each P xs → Each P (x ∷ xs)
@@ -147,3 +150,36 @@ is_mission = record {
 -- it has a reconfiguration
 moves_once : reports_of spec script ≡ moved 1 3 6 ∷ []
 moves_once = refl
+
+-- its last row is calm, since the greatest bound is 8 and the environment the same from frame 3 on, and runs what is chosen
+settled_last : running spec (row_at spec script 11).acts ≡ Some (record { 0 = 1 })
+settled_last = refl
+
+same_from : (f : ℕ) → 11 ≤ f + 8 → f ≤ 11 → env_in (rows_of spec script) f ≡ Some (row_at spec script 11).env
+same_from zero late early = absurd (omega arith)
+same_from (suc zero) late early = absurd (omega arith)
+same_from (suc (suc zero)) late early = absurd (omega arith)
+same_from (suc (suc (suc zero))) late early = refl
+same_from (suc (suc (suc (suc zero)))) late early = refl
+same_from (suc (suc (suc (suc (suc zero))))) late early = refl
+same_from (suc (suc (suc (suc (suc (suc zero)))))) late early = refl
+same_from (suc (suc (suc (suc (suc (suc (suc zero))))))) late early = refl
+same_from (suc (suc (suc (suc (suc (suc (suc (suc zero)))))))) late early = refl
+same_from (suc (suc (suc (suc (suc (suc (suc (suc (suc zero))))))))) late early = refl
+same_from (suc (suc (suc (suc (suc (suc (suc (suc (suc (suc zero)))))))))) late early = refl
+same_from (suc (suc (suc (suc (suc (suc (suc (suc (suc (suc (suc zero))))))))))) late early = refl
+same_from (suc (suc (suc (suc (suc (suc (suc (suc (suc (suc (suc (suc f)))))))))))) late early = absurd (omega arith)
+
+none_lost : (a : ℕ) → act_at (row_at spec script 11).acts a ≡ act.Lost → ⊥
+none_lost zero e = cc
+none_lost (suc zero) e = cc
+none_lost (suc (suc zero)) e = cc
+none_lost (suc (suc (suc zero))) e = cc
+none_lost (suc (suc (suc (suc zero)))) e = cc
+none_lost (suc (suc (suc (suc (suc zero))))) e = cc
+none_lost (suc (suc (suc (suc (suc (suc zero)))))) e = cc
+none_lost (suc (suc (suc (suc (suc (suc (suc zero))))))) e = cc
+none_lost (suc (suc (suc (suc (suc (suc (suc (suc a)))))))) e = cc
+
+last_is_calm : IsCalm spec (rows_of spec script) 11 (row_at spec script 11)
+last_is_calm = record { there = refl; late = omega arith; still = same_from; whole = none_lost }

@@ -1,5 +1,5 @@
--- Where the five properties are broken.
-use Rattle.std.specs.Prelude.{◌≡◌, ◌≢◌, ◌⊎◌, ◌↔◌, ℕ, suc, ◌<◌, ◌≤◌, ◌-◌, min, true, List, slice_get, Option, Some, None}
+-- Where the six properties are broken.
+use Rattle.std.specs.Prelude.{◌≡◌, ◌≢◌, ◌⊎◌, ◌↔◌, ℕ, suc, ◌<◌, ◌≤◌, ◌-◌, min, true, false, List, slice_get, Option, Some, None}
 use Rattle.scram_types.specs.declared.ids.ConfId.{ConfId}
 use Rattle.scram_types.specs.declared.flights.Report.{Report}
 use Rattle.scram_types.specs.declared.flights.Row.{Row}
@@ -9,8 +9,8 @@ use Rattle.scram_types.specs.Specification.{Parts}
 use Rattle.choice_table.specs.Choices.{has_source}
 use Rattle.frame_model.specs.Readings.{reports}
 use Rattle.trace_props.specs.declared.breaks.Property.{Property}
-use Rattle.trace_props.specs.declared.breaks.Property.TheVariants.{Sp1, Sp2, Sp3, Sp4, Sp5}
-use Rattle.trace_props.specs.Properties.{HoldsAll, InvariantHolds, KeepsSp2, KeepsSp3, KeepsSp5, PreconditionHolds}
+use Rattle.trace_props.specs.declared.breaks.Property.TheVariants.{Sp1, Sp2, Sp3, Sp4, Sp5, Sp6}
+use Rattle.trace_props.specs.Properties.{HoldsAll, InvariantHolds, IsCalm, is_satisfied, KeepsSp2, KeepsSp3, KeepsSp5, PreconditionHolds}
 
 -- The number that is printed of a property.
 abbrev pub property_number : Property → ℕ
@@ -19,6 +19,7 @@ property_number Sp2 = 2
 property_number Sp3 = 3
 property_number Sp4 = 4
 property_number Sp5 = 5
+property_number Sp6 = 6
 
 -- A fact does not hold.
 abbrev pub Fails : Type 0 → Type 0
@@ -73,13 +74,14 @@ pub record BreaksPrecondition (spec : Parts) (rows : List Row) (r : Report) (fra
   pub broken : Fails (PreconditionHolds pre row)
 
 -- A reconfiguration that is read off the rows breaks a property in a frame: SP2 in its end, SP3 in its
--- last frame, SP4 in the row that breaks it, SP5 in its begin. SP1 speaks of no single one.
+-- last frame, SP4 in the row that breaks it, SP5 in its begin. SP1 and SP6 speak of no single one.
 abbrev pub BreaksIn : Parts → List Row → Report → Property → ℕ → Type 0
 BreaksIn spec rows r Sp1 frame = ⊥
 BreaksIn spec rows r Sp2 frame = Fails (KeepsSp2 spec rows r) × (frame ≡ r.end)
 BreaksIn spec rows r Sp3 frame = Fails (KeepsSp3 spec r) × (frame ≡ last_frame r)
 BreaksIn spec rows r Sp4 frame = BreaksInvariant spec rows r frame ⊎ BreaksPrecondition spec rows r frame
 BreaksIn spec rows r Sp5 frame = Fails (KeepsSp5 spec rows r) × (frame ≡ r.begin)
+BreaksIn spec rows r Sp6 frame = ⊥
 
 -- Some reconfiguration that is read off the rows breaks a property in a frame.
 pub record BreaksSomewhere (spec : Parts) (rows : List Row) (property : Property) (frame : ℕ) : Type 0 where
@@ -88,6 +90,12 @@ pub record BreaksSomewhere (spec : Parts) (rows : List Row) (property : Property
   pub there : slice_get (reports spec rows) place ≡ Some reconfiguration
   pub broken : BreaksIn spec rows reconfiguration property frame
 
+-- SP6 is broken in each calm row in which what runs does not satisfy the demands.
+pub record BreaksSp6 (spec : Parts) (rows : List Row) (frame : ℕ) : Type 0 where
+  pub row : Row
+  pub calm : IsCalm spec rows frame row
+  pub broken : is_satisfied spec row ≡ false
+
 -- A property is broken in a frame.
 abbrev pub BreaksAt : Parts → List Row → List Report → Property → ℕ → Type 0
 BreaksAt spec rows told Sp1 frame = BreaksSp1 told (reports spec rows) frame
@@ -95,6 +103,7 @@ BreaksAt spec rows told Sp2 frame = BreaksSomewhere spec rows Sp2 frame
 BreaksAt spec rows told Sp3 frame = BreaksSomewhere spec rows Sp3 frame
 BreaksAt spec rows told Sp4 frame = BreaksSomewhere spec rows Sp4 frame
 BreaksAt spec rows told Sp5 frame = BreaksSomewhere spec rows Sp5 frame
+BreaksAt spec rows told Sp6 frame = BreaksSp6 spec rows frame
 
 -- A break in an earlier frame comes first, and of the breaks in one frame that of the lesser number.
 abbrev pub ComesBefore : Property → ℕ → Property → ℕ → Type 0
@@ -105,7 +114,7 @@ pub record IsFirstBreak (spec : Parts) (rows : List Row) (told : List Report) (p
   pub broken : BreaksAt spec rows told property frame
   pub first : (other : Property) (g : ℕ) → BreaksAt spec rows told other g → ComesBefore property frame other g
 
--- All five properties hold exactly where none is broken in any frame.
+-- All six properties hold exactly where none is broken in any frame.
 abbrev pub HoldsWhereUnbroken : Type 0
 HoldsWhereUnbroken = (spec : Parts) (rows : List Row) (told : List Report)
     → HoldsAll spec rows told ↔ ((property : Property) (frame : ℕ) → Fails (BreaksAt spec rows told property frame))

@@ -5,6 +5,8 @@ use Rattle.scram_types.specs.declared.ids.ConfId.{ConfId}
 use Rattle.scram_types.specs.declared.flights.Env.{Env}
 use Rattle.scram_types.specs.declared.flights.Report.{Report}
 use Rattle.scram_types.specs.declared.flights.Row.{Row}
+use Rattle.scram_types.specs.declared.orders.Act.{Act}
+use Rattle.scram_types.specs.declared.orders.Act.TheVariants as act
 use Rattle.scram_types.specs.declared.specification.Invariant.{Invariant}
 use Rattle.scram_types.specs.declared.specification.Policy.{Policy}
 use Rattle.scram_types.specs.declared.specification.Policy.TheVariants.{Retarget, Settle}
@@ -14,16 +16,17 @@ use Rattle.scram_types.specs.Specification.{Parts}
 use Rattle.scram_types.specs.Searches.{least_from}
 use Rattle.choice_table.specs.Choices.{choose, has_source}
 use Rattle.fault_script.specs.Assumption.{is_same_env}
+use Rattle.coverage_check.specs.Timing.{greatest_bound}
 use Rattle.frame_model.specs.Readings.{reports}
 use Rattle.frame_model.specs.States.{area_at}
 use Rattle.trace_props.specs.declared.breaks.Broken.{Broken}
 use Rattle.trace_props.specs.declared.breaks.Property.{Property}
-use Rattle.trace_props.specs.declared.breaks.Property.TheVariants.{Sp1, Sp2, Sp3, Sp4, Sp5}
+use Rattle.trace_props.specs.declared.breaks.Property.TheVariants.{Sp1, Sp2, Sp3, Sp4, Sp5, Sp6}
 use Rattle.trace_props.specs.declared.comparing.Agreement.{Agreement}
 use Rattle.trace_props.specs.declared.comparing.Agreement.TheVariants.{Alike, Apart}
 use Rattle.trace_props.specs.declared.judging.Judgement.{Judgement}
 use Rattle.trace_props.specs.Breaks.{last_frame, property_number}
-use Rattle.trace_props.specs.Properties.{bound_on, env_before, env_in}
+use Rattle.trace_props.specs.Properties.{bound_on, env_before, env_in, is_satisfied}
 
 -- A break comes before another one: in an earlier frame, or in the same one with a lesser number.
 abbrev pub comes_before : Broken → Broken → Bool
@@ -218,10 +221,59 @@ judge_all spec rows told so_far (r ∷ read) = judge_all spec rows told (judge s
 abbrev pub opening_judgement : Judgement
 opening_judgement = record { agreement = Alike 0; broken = None; before = None }
 
--- The first break of all, once all is judged: SP1 is looked at last.
+-- The first break of SP1 to SP5, once all is judged: SP1 is looked at last.
 abbrev pub conclusion : List Report → Judgement → Option Broken
 conclusion told judgement = earlier (broken_at Sp1 (difference told judgement.agreement)) judgement.broken
 
+-- SP6: the frame since which the environment is that of row f, by the frame since which it is that of the row before.
+abbrev pub held_by : List Row → ℕ → ℕ → ℕ
+held_by rows zero since = 0
+held_by rows (suc f) since = if is_another_env (env_in rows (suc f)) (env_in rows f) then suc f else since
+
+-- The frame since which the environment is that of row f.
+abbrev pub held_since : List Row → ℕ → ℕ
+held_since rows zero = 0
+held_since rows (suc f) = held_by rows (suc f) (held_since rows f)
+
+-- An application was lost.
+abbrev pub is_lost : Act → Bool
+is_lost (act.Ran mode proc) = false
+is_lost (act.Halting k n proc) = false
+is_lost act.Held = false
+is_lost (act.Preparing k n proc) = false
+is_lost (act.Initialising k n proc) = false
+is_lost act.Off = false
+is_lost act.Lost = true
+
+-- Some application is lost in a row.
+abbrev pub loses_some : Row → Bool
+loses_some row = list_any is_lost row.acts
+
+-- A row loses nothing, and what runs in it does not satisfy the demands.
+abbrev pub is_unsatisfied : Parts → Row → Bool
+is_unsatisfied spec row = not (loses_some row) && not (is_satisfied spec row)
+
+-- There is such a row.
+abbrev pub unsatisfied_in : Parts → Option Row → Bool
+unsatisfied_in spec None = false
+unsatisfied_in spec (Some row) = is_unsatisfied spec row
+
+-- Row f is such a row, and at least this number of frames after the one since which its environment is the same.
+abbrev pub breaks_after : Parts → List Row → ℕ → ℕ → ℕ → Bool
+breaks_after spec rows frames f since = nat_le frames (f - since) && unsatisfied_in spec (slice_get rows f)
+
+-- Row f is calm, and what runs in it does not satisfy the demands.
+abbrev pub breaks_calm : Parts → List Row → ℕ → Bool
+breaks_calm spec rows f = breaks_after spec rows (greatest_bound spec.bounds) f (held_since rows f)
+
+-- The least frame in which SP6 is broken.
+abbrev pub unsatisfied_at : Parts → List Row → Option ℕ
+unsatisfied_at spec rows = least_from (breaks_calm spec rows) 0 (length rows)
+
+-- The first break of SP1 to SP5, which speak of reconfigurations.
+abbrev pub first_in_reports : Parts → List Row → List Report → Option Broken
+first_in_reports spec rows told = conclusion told (judge_all spec rows told opening_judgement (reports spec rows))
+
 -- The first break of a trace.
 abbrev pub first_break : Parts → List Row → List Report → Option Broken
-first_break spec rows told = conclusion told (judge_all spec rows told opening_judgement (reports spec rows))
+first_break spec rows told = earlier (first_in_reports spec rows told) (broken_at Sp6 (unsatisfied_at spec rows))

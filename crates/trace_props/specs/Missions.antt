@@ -20,7 +20,7 @@ use Rattle.frame_model.specs.Phases.{halting_frames}
 use Rattle.frame_model.specs.Readings.{reading_of}
 use Rattle.trace_props.specs.Properties.{HoldsAll}
 
--- All five properties hold of a mission's rows and reports.
+-- All six properties hold of a mission's rows and reports.
 abbrev pub ReconfigurationsAreAssured : Type 0
 ReconfigurationsAreAssured = (spec : Parts) (script : ScriptParts) → IsSpec spec → IsMission (mission_of spec script) → HoldsAll spec (rows_of spec script) (reports_of spec script)
 

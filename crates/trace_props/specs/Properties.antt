@@ -1,10 +1,11 @@
--- The five properties of rows, and of what is reported of them. They speak of the reconfigurations that
--- are read off the rows, whatever is reported.
-use Rattle.std.specs.Prelude.{◌≡◌, ◌≢◌, ◌⊎◌, ℕ, zero, suc, ◌<◌, ◌≤◌, ◌+◌, true, List, length, slice_get, Option, Some, None, option_map}
+-- The six properties of rows, and of what is reported of them. SP1 to SP5 speak of the reconfigurations that
+-- are read off the rows, whatever is reported; SP6 speaks of calm rows.
+use Rattle.std.specs.Prelude.{◌≡◌, ◌≢◌, ◌⊎◌, ℕ, zero, suc, ◌<◌, ◌≤◌, ◌+◌, Bool, true, not, List, length, slice_get, Option, Some, None, option_map}
 use Rattle.scram_types.specs.declared.ids.ConfId.{ConfId}
 use Rattle.scram_types.specs.declared.flights.Env.{Env}
 use Rattle.scram_types.specs.declared.flights.Report.{Report}
 use Rattle.scram_types.specs.declared.flights.Row.{Row}
+use Rattle.scram_types.specs.declared.orders.Act.TheVariants as act
 use Rattle.scram_types.specs.declared.specification.Invariant.{Invariant}
 use Rattle.scram_types.specs.declared.specification.Policy.TheVariants.{Settle}
 use Rattle.scram_types.specs.declared.specification.Precondition.{Precondition}
@@ -12,8 +13,11 @@ use Rattle.scram_types.specs.Numbers.{word}
 use Rattle.scram_types.specs.Specification.{Each, Parts, bound_in, greatest_bound_in}
 use Rattle.scram_types.specs.Lookups.{opening_env}
 use Rattle.choice_table.specs.Choices.{choose, has_source}
+use Rattle.choice_table.specs.Demands.{is_spoken_of, meets_all}
 use Rattle.app_model.specs.Areas.{Between}
+use Rattle.coverage_check.specs.Timing.{greatest_bound}
 use Rattle.frame_model.specs.Readings.{reports}
+use Rattle.frame_model.specs.Runs.{act_at, running}
 use Rattle.frame_model.specs.States.{area_at}
 
 -- The environment of row f, if there is such a row.
@@ -105,10 +109,37 @@ HoldsSp4 spec rows = Each (KeepsSp4 spec rows) (reports spec rows)
 abbrev pub HoldsSp5 : Parts → List Row → Type 0
 HoldsSp5 spec rows = Each (KeepsSp5 spec rows) (reports spec rows)
 
--- All five properties hold.
+-- No application is lost in a row.
+abbrev pub LosesNone : Row → Type 0
+LosesNone row = (a : ℕ) → act_at row.acts a ≢ act.Lost
+
+-- Row t is calm: its environment has been the same for as many frames as the greatest bound has, and no
+-- application is lost in it.
+pub record IsCalm (spec : Parts) (rows : List Row) (t : ℕ) (row : Row) : Type 0 where
+  pub there : slice_get rows t ≡ Some row
+  pub late : greatest_bound spec.bounds ≤ t
+  pub still : (f : ℕ) → t ≤ f + greatest_bound spec.bounds → f ≤ t → env_in rows f ≡ Some row.env
+  pub whole : LosesNone row
+
+-- What runs in an environment satisfies the demands: it meets each one that speaks of the environment and asks of it;
+-- where nothing runs, none speaks of the environment.
+abbrev pub satisfies : Parts → Env → Option ConfId → Bool
+satisfies spec v None = not (is_spoken_of spec v)
+satisfies spec v (Some c) = meets_all spec c v
+
+-- What runs in a row satisfies the demands.
+abbrev pub is_satisfied : Parts → Row → Bool
+is_satisfied spec row = satisfies spec row.env (running spec row.acts)
+
+-- SP6: what runs in each calm row satisfies the demands.
+abbrev pub HoldsSp6 : Parts → List Row → Type 0
+HoldsSp6 spec rows = (t : ℕ) (row : Row) → IsCalm spec rows t row → is_satisfied spec row ≡ true
+
+-- All six properties hold.
 pub record HoldsAll (spec : Parts) (rows : List Row) (told : List Report) : Type 0 where
   pub sp1 : HoldsSp1 spec rows told
   pub sp2 : HoldsSp2 spec rows
   pub sp3 : HoldsSp3 spec rows
   pub sp4 : HoldsSp4 spec rows
   pub sp5 : HoldsSp5 spec rows
+  pub sp6 : HoldsSp6 spec rows

@@ -4,7 +4,7 @@ ghost use Rattle.std.specs.Prelude.{◌≡◌};
 ghost use Rattle.trace_props.specs.Breaks.{property_number};
 ghost use Rattle.trace_props.specs.Judging.{broken_at, comes_before, earlier};
 
-/// One of the five properties of reconfigurations.
+/// One of the six properties of a flight.
 #[derive(Clone, Copy, Debug, PartialEq, Eq)]
 pub enum Property {
     /// What is reported is exactly what is read off the rows.
@@ -17,13 +17,15 @@ pub enum Property {
     Sp4,
     /// The reconfiguration begins because the environment changed.
     Sp5,
+    /// What runs in each calm row satisfies the demands.
+    Sp6,
 }
 
 impl Property {
     ghost use Rattle.std.specs.Prelude.{◌≡◌};
     ghost use Rattle.trace_props.specs.Breaks.{property_number};
 
-    /// Returns the property's number, 1 to 5.
+    /// Returns the property's number, 1 to 6.
     pub fn number(self) -> u8
         ensures { result ≡ property_number self }
     {
@@ -33,6 +35,7 @@ impl Property {
             Property::Sp3 => 3,
             Property::Sp4 => 4,
             Property::Sp5 => 5,
+            Property::Sp6 => 6,
         }
     }
 }

@@ -78,7 +78,7 @@ fn changes_in(spec: &Spec, rows: &[Row], frame: usize) -> bool
     is_another_env(env_in(rows, frame), env_before(spec, rows, frame))
 }
 
-fn env_in(rows: &[Row], frame: usize) -> Option<Env>
+pub(crate) fn env_in(rows: &[Row], frame: usize) -> Option<Env>
     ensures { result ≡ env_in rows.now frame }
 {
     match rows.get(frame) {
@@ -96,7 +96,7 @@ fn env_before(spec: &Spec, rows: &[Row], frame: usize) -> Option<Env>
     }
 }
 
-fn is_another_env(env: Option<Env>, before: Option<Env>) -> bool
+pub(crate) fn is_another_env(env: Option<Env>, before: Option<Env>) -> bool
     ensures { result ≡ is_another_env env before }
 {
     match (env, before) {

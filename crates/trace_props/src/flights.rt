@@ -12,7 +12,7 @@ use scram_types::{Flown, List, NoMemory};
 use std::alloc::Global;
 
 /// Flies a mission, one frame after another: its rows, one for each frame of its script, and the reconfigurations
-/// that are read off them. SP1 to SP5 hold of both. The only error is out of memory.
+/// that are read off them. SP1 to SP6 hold of both. The only error is out of memory.
 #[tactic(auto, using(crate::proofs::Sizes::few_reports))]
 pub fn one_thread(alloc: Global, mission: &Mission, racks: Vec<Rack>) -> Result<Flown, NoMemory>
     ensures rows { IfOk result (λ flown. flown.rows ≡ rows_of mission.now.spec mission.now.script) }

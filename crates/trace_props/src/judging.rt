@@ -1,19 +1,20 @@
-//! A finished trace, judged by the five properties.
+//! A finished trace, judged by the six properties.
 
 ghost use Rattle.std.specs.Prelude.{◌≡◌, ◌<◌, ◌^◌, ◌↔◌, IfErr, IsOk, length};
 ghost use Rattle.trace_props.specs.Breaks.{HoldsWhereUnbroken, IsFirstBreak};
-ghost use Rattle.trace_props.specs.Judging.{broken_in, conclusion, first_break, judge};
+ghost use Rattle.trace_props.specs.Judging.{broken_in, conclusion, first_break, first_in_reports, judge};
 ghost use Rattle.trace_props.specs.Properties.{HoldsAll};
 
 use crate::breaks::{Broken, Property, broken_at, earlier};
 use crate::causes::causeless_at;
 use crate::comparing::{Agreement, compare, difference};
+use crate::demanded::unsatisfied_at;
 use crate::kept::unkept_at;
 use crate::targets::{late_at, unchosen_at};
 use frame_model::{Reading, close, read_row};
 use scram_types::{Report, Row, Spec};
 
-/// Judges rows, the first of which is that of frame 0, and what is reported of them, by SP1 to SP5. It judges by any
+/// Judges rows, the first of which is that of frame 0, and what is reported of them, by SP1 to SP6. It judges by any
 /// specification, also by one that is not accepted.
 ///
 /// # Errors
@@ -21,7 +22,7 @@ use scram_types::{Report, Row, Spec};
 /// The first break: the least frame in which a property is broken, and of several that are broken in it
 /// the one with the least number. SP1 is broken in the lesser begin at the first place where what is
 /// reported and what is read differ, SP2 in the end of a reconfiguration, SP3 in the end or the last row,
-/// SP4 in a row, SP5 in the begin.
+/// SP4 in a row, SP5 in the begin, SP6 in a calm row.
 pub fn props(spec: &Spec, rows: &[Row], told: &[Report]) -> Result<(), Broken>
     requires { length rows.now < 2 ^ 32 }
     ensures holds { IsOk result ↔ HoldsAll spec.now rows.now told.now }
@@ -33,7 +34,7 @@ pub fn props(spec: &Spec, rows: &[Row], told: &[Report]) -> Result<(), Broken>
     }
 }
 
-/// SP1 to SP5 hold exactly where none of them is broken in any frame.
+/// SP1 to SP6 hold exactly where none of them is broken in any frame.
 pub fn holds_where_unbroken()
     ensures { HoldsWhereUnbroken }
 {}
@@ -52,6 +53,17 @@ pub(crate) struct Judgement {
 fn first_break(spec: &Spec, rows: &[Row], told: &[Report]) -> Option<Broken>
     requires { length rows.now < 2 ^ 32 }
     ensures { result ≡ first_break spec.now rows.now told.now }
+{
+    earlier(
+        first_in_reports(spec, rows, told),
+        broken_at(Property::Sp6, unsatisfied_at(spec, rows)),
+    )
+}
+
+// Returns the first break of SP1 to SP5.
+fn first_in_reports(spec: &Spec, rows: &[Row], told: &[Report]) -> Option<Broken>
+    requires { length rows.now < 2 ^ 32 }
+    ensures { result ≡ first_in_reports spec.now rows.now told.now }
 {
     let mut judgement = Judgement {
         agreement: Agreement::Alike(0),

@@ -2,14 +2,16 @@
 //! mission is an accepted specification and a script that fits it and keeps to its failure assumption.
 
 ghost use Rattle.trace_props.specs.Missions.{FurtherChangesAreFew, HaltingEndsInTime, PhasesArePastInTime, ReconfigurationsAreAssured, TargetsAreChosen};
+ghost use Rattle.trace_props.specs.Calms.{CalmSettles};
 ghost use Rattle.trace_props.specs.Known.{IsKnown};
 
-/// SP1 to SP5 hold of a mission's rows and reports, with halts and restarts in any frame, failures chained
+/// SP1 to SP6 hold of a mission's rows and reports, with halts and restarts in any frame, failures chained
 /// during a reconfiguration, and under both policies. Each reconfiguration that the rows show is reported,
 /// goes to a target that was chosen in an environment seen meanwhile, ends within the bound that is given,
 /// keeps its invariants throughout, meets its target's preconditions before its end, and begins because
 /// the environment changed, which is not asked of one that begins in the last row. Of one that the script
-/// cuts off no target is claimed.
+/// cuts off no target is claimed. Once the environment has held for the greatest bound, a configuration runs
+/// that meets the demands, in each row in which no application is lost.
 pub fn reconfigurations_are_assured()
     ensures { ReconfigurationsAreAssured }
 {
@@ -42,6 +44,15 @@ pub fn phases_are_past_in_time()
 /// A reconfiguration sees at most as many further changes as its bounds allow for.
 pub fn further_changes_are_few()
     ensures { FurtherChangesAreFew }
+{
+    know();
+}
+
+/// Once the environment has held for the greatest bound, no reconfiguration is under way. In each row whose
+/// environment has been the same for as many frames, and in which no application is lost, a configuration runs that
+/// the table chooses again in this environment. Both policies, halts and restarts are included.
+pub fn calm_settles()
+    ensures { CalmSettles }
 {
     know();
 }

@@ -1,7 +1,7 @@
 use Rattle.std.proofs.Common.{◌∙◌, ap, arith}
 use Rattle.trace_props.specs.Judging.{conclusion, judge}
 use Rattle.trace_props.proofs.JudgeSteps.{judge_last, judge_more}
-use Rattle.trace_props.proofs.judging.first_break.Goals as goal
+use Rattle.trace_props.proofs.judging.first_in_reports.Goals as goal
 
 pub loop-row-preserved : goal.loop-row-preserved
 loop-row-preserved c =

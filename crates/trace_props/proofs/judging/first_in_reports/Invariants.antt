@@ -2,7 +2,7 @@ use Rattle.std.proofs.Common.{◌≡◌, drop, length}
 use Rattle.frame_model.specs.Readings.{reports}
 use Rattle.trace_props.specs.Judging.{judge_all, opening_judgement}
 use Rattle.trace_props.proofs.Ordering.{still_read}
-use Rattle.trace_props.proofs.judging.first_break.Given as goal
+use Rattle.trace_props.proofs.judging.first_in_reports.Given as goal
 
 abbrev pub invariant-loop-row : goal.invariant-loop-row
 invariant-loop-row l = record {
