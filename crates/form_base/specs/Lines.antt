@@ -1,10 +1,12 @@
 -- The lines of refusals that several forms print, and pieces of lines.
-use Rattle.std.specs.Prelude.{ℕ, ◌==◌, ◌+◌, ◌%◌, ◌/◌, List, [], ◌∷◌, ◌++◌, length, slice_index, Option, Some, None, codes, decimal, if◌then◌else◌}
+use Rattle.std.specs.Prelude.{ℕ, ◌==◌, ◌+◌, ◌%◌, ◌/◌, List, [], ◌∷◌, ◌++◌, length, slice_get, slice_index, Option, Some, None, codes, decimal, if◌then◌else◌}
+use Rattle.std.specs.Option.{option_map_or}
 use Rattle.scram_types.specs.Lookups.{app_name, conf_name, proc_name, value_name}
 use Rattle.scram_types.specs.Specification.{Parts}
 use Rattle.scram_types.specs.declared.flights.Env.{Env}
 use Rattle.scram_types.specs.declared.flights.Report.{Report}
 use Rattle.scram_types.specs.declared.flights.Row.{Row}
+use Rattle.scram_types.specs.declared.specification.Demand.{Demand}
 use Rattle.scram_types.specs.declared.specification.Factor.{Factor}
 use Rattle.scram_types.specs.declared.specification.Proc.{Proc}
 use Rattle.scram_doc.specs.Paths.{shown as path_text}
@@ -58,6 +60,10 @@ abbrev pub env_or_dash : Parts → Option Env → List ℕ
 env_or_dash spec None = codes "-"
 env_or_dash spec (Some env) = env_text spec env
 
+-- the name of demand k, no letter where there is none
+abbrev pub demand_name : Parts → ℕ → List ℕ
+demand_name spec k = option_map_or (λ (demand : Demand). demand.name) (slice_get spec.demands k) []
+
 -- what else a condition is broken at
 abbrev pub other_text : Parts → Other → List ℕ
 other_text spec other.Nothing = codes "-"
@@ -67,6 +73,7 @@ other_text spec (other.Conf conf) = conf_name spec conf.0
 other_text spec (other.Count count) = decimal count
 other_text spec (other.Least target frames) = conf_name spec target.0 ++ codes ":" ++ decimal frames
 other_text spec (other.Item place) = decimal place
+other_text spec (other.Demand place) = demand_name spec place
 
 -- why a specification is not accepted
 abbrev pub shown_line : Parts → Shown → List ℕ

@@ -3,7 +3,7 @@
 ghost use Rattle.std.specs.Prelude.{◌≡◌, ◌+◌, ◌*◌, ◌≤◌, ◌++◌, [], ◌<◌, ◌^◌, length, codes, if◌then◌else◌};
 ghost use Rattle.scram_types.specs.declared.limits.TheConstants.{MAX_LINE_BYTES};
 ghost use Rattle.trace_text.specs.Names.{further_joined};
-ghost use Rattle.form_base.specs.Lines.{added, counts_text, cycle_text, env_or_dash, env_text, factors_text, names_down, other_text, rule_text, shown_line, specification_line};
+ghost use Rattle.form_base.specs.Lines.{added, counts_text, cycle_text, demand_name, env_or_dash, env_text, factors_text, names_down, other_text, rule_text, shown_line, specification_line};
 
 use coverage_check::{Other, Shown};
 use reconf_spec::SpecFault;
@@ -176,5 +176,17 @@ fn add_other(line: &mut Line, spec: &Spec, other: &Other)
             line.number(*frames);
         }
         Other::Item(place) => line.number(*place),
+        Other::Demand(place) => line.text(demand_name(spec, *place).as_bytes()),
+    }
+}
+
+/// Returns the name of a demand by its place among the demands, at most 16 bytes; no bytes where it does not exist.
+pub fn demand_name(spec: &Spec, place: u32) -> &str
+    ensures name { result.now ≡ demand_name spec.now place }
+    ensures short { length result.now ≤ 16 }
+{
+    match spec.demands.items().get(place as usize) {
+        Some(demand) => demand.name.as_str(),
+        None => "",
     }
 }
