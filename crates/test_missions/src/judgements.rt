@@ -41,7 +41,7 @@ pub fn print_judgement(
         return Err(ErrorKind::InvalidData.into());
     }
     match props(spec, rows, reports) {
-        Ok(()) => println!(rt; "all five properties hold"),
+        Ok(()) => println!(rt; "all six properties hold"),
         Err(broken) => print_broken(rt, broken),
     }
 }

@@ -10,7 +10,7 @@ use Rattle.form_base.specs.Lines.{counts_text}
 abbrev pub trace_line : TraceFault → List ℕ
 trace_line fault = codes "refused: trace rule " ++ decimal fault.rule ++ codes " at line " ++ decimal fault.line ++ codes "\n"
 
--- the five properties hold of a trace
+-- the six properties hold of a trace
 abbrev pub holds_line : Flown → List ℕ
 holds_line flown = codes "holds:" ++ counts_text flown.rows flown.reports ++ codes "\n"
 

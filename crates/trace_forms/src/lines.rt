@@ -22,7 +22,7 @@ pub fn make_trace_line(fault: TraceFault) -> Line
     line
 }
 
-/// Returns the line for a trace of which the five properties hold: the numbers of its frames and of its
+/// Returns the line for a trace of which the six properties hold: the numbers of its frames and of its
 /// reconfigurations.
 pub fn make_holds_line(flown: &Flown) -> Line
     requires rows { length flown.now.rows < 2 ^ 32 }

@@ -89,7 +89,7 @@ impl<'a> WordFlight<'a> {
     }
 
     /// Flies the mission with a thread for each processor and the kernel on the caller's. A processor for which no
-    /// thread can be made flies in the caller's turns. The result is the one-thread trace, of which SP1 to SP5 hold,
+    /// thread can be made flies in the caller's turns. The result is the one-thread trace, of which SP1 to SP6 hold,
     /// and the words with all seats, each where nothing is left to do. It blocks until the threads have ended, and
     /// has no error.
     pub fn run<R: Threads + Wait + Sync>(self, rt: &R) -> Landed<'a>
