@@ -12,7 +12,7 @@ use Rattle.form_base.specs.Endings.{Decides, Prepares}
 use Rattle.form_base.specs.Loads.{HasRead, IsUnloaded}
 use Rattle.form_base.specs.Refusals.{told}
 use Rattle.form_base.proofs.Reading.{document_reads, refused_reads}
-use Rattle.trace_forms.specs.Answers.{AsksTrace, BreaksTrace, SaysTrace, long_trace}
+use Rattle.trace_files.specs.Traces.{AsksTrace, BreaksTrace, SaysTrace, long_trace}
 
 -- the trace was read, and then what is answered of it
 pub trace_reads : {U : Type 0} (spec : Parts) (name : List ℕ) (names : List (List ℕ)) (Then : Flown → Answer) (Rest : U → ℕ → List ℕ → Type 0) (value : Flown) (before mid after : FilesState) (result : Result U Refusal)

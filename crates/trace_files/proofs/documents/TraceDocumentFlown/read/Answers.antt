@@ -1,5 +1,5 @@
-use Rattle.trace_forms.proofs.Counted.{counted}
-use Rattle.trace_forms.proofs.documents.TraceDocumentFlown.read.Goals as goal
+use Rattle.trace_files.proofs.Counted.{counted}
+use Rattle.trace_files.proofs.documents.TraceDocumentFlown.read.Goals as goal
 
 pub returns-in-Ok-clause-reads : goal.returns-in-Ok-clause-reads
 returns-in-Ok-clause-reads c =

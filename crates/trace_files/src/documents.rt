@@ -4,8 +4,8 @@ ghost use Rattle.std.specs.Prelude.{◌≡◌};
 ghost use Rattle.scram_types.specs.declared.limits.TheConstants.{MAX_TRACE_BYTES};
 ghost use Rattle.form_base.specs.Refusals.{told};
 ghost use Rattle.form_base.specs.declared.status.TheConstants.{BROKEN_TRACE};
-ghost use Rattle.trace_forms.specs.Answers.{BreaksTrace, SaysTrace, long_trace};
-ghost use Rattle.trace_forms.specs.Lines.{trace_line};
+ghost use Rattle.trace_files.specs.Traces.{BreaksTrace, SaysTrace, long_trace};
+ghost use Rattle.trace_files.specs.Lines.{trace_line};
 
 use crate::lines::make_trace_line;
 use form_base::loads::Document;
