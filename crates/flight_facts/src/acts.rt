@@ -3,7 +3,7 @@
 ghost use Rattle.std.specs.Prelude.{◌≡◌, ◌<◌, ◌≤◌, ◌^◌, length};
 ghost use Rattle.flight_facts.specs.Acts.{act_word, count_acts, mode_of_act, proc_of_act, word_number, word_text};
 
-use scram_types::{Act, Mode, ProcId, Row};
+use scram_types::{Act, Mode, ProcId, Row, Spec};
 
 /// The first word of an act: what an application did in a frame.
 #[derive(Clone, Copy, Debug, PartialEq, Eq)]
@@ -94,6 +94,14 @@ pub fn proc_of_act(act: &Act) -> Option<ProcId>
         Act::Off => None,
         Act::Lost => None,
     }
+}
+
+/// Returns the number of applications.
+pub fn count_apps(spec: &Spec) -> usize
+    ensures value { result ≡ length spec.now.apps }
+    ensures few { result ≤ 8 }
+{
+    spec.apps.items().len()
 }
 
 /// Returns the number of rows in which an application did this.

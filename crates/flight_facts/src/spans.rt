@@ -1,15 +1,17 @@
 //! Lanes, in which each row of a flight is shown, and spans of rows that are shown alike.
 
 ghost use Rattle.std.specs.Prelude.{◌≡◌, ◌<◌, ◌≤◌, ◌^◌, length, option_map};
-ghost use Rattle.flight_facts.specs.Spans.{IsLane, alike_rows, are_alike, is_new, row_before, same_bit, same_doing, same_proc, span_at};
+ghost use Rattle.flight_facts.specs.Spans.{IsLane, alike_rows, are_alike, is_new, row_before, same_bit, same_conf, same_doing, same_proc, span_at, stable_conf};
 
 use crate::acts::{act_word, mode_of_act, proc_of_act};
 use scram_types::bits::has_bit;
-use scram_types::{Act, ProcId, Row};
+use scram_types::{Act, ConfId, KMode, ProcId, Row};
 
-/// What is shown of each row: the value of a factor, whether a processor is up, or what an application did.
+/// What is shown of each row: the configuration that is stable, the value of a factor, whether a processor is up, or
+/// what an application did.
 #[derive(Clone, Copy, Debug, PartialEq, Eq)]
 pub enum Lane {
+    Configuration,
     /// The factor of this number, below 6.
     Factor(u8),
     /// The processor of this number, below 8.
@@ -35,7 +37,8 @@ pub fn span_at(lane: Lane, rows: &[Row], k: usize) -> Option<u32>
     }
 }
 
-fn row_before(rows: &[Row], k: usize) -> Option<&Row>
+/// Returns the row before row `k`.
+pub fn row_before(rows: &[Row], k: usize) -> Option<&Row>
     ensures { option_map (λ row. row.now) result ≡ row_before rows.now k }
 {
     if k == 0 { None } else { rows.get(k - 1) }
@@ -73,6 +76,7 @@ fn are_alike(lane: Lane, row: &Row, other: &Row) -> bool
     ensures { result ≡ are_alike lane row.now other.now }
 {
     match lane {
+        Lane::Configuration => same_conf(stable_conf(&row.mode), stable_conf(&other.mode)),
         Lane::Factor(i) => {
             let i = usize::from(i);
             row.env.factors[i] == other.env.factors[i]
@@ -82,6 +86,27 @@ fn are_alike(lane: Lane, row: &Row, other: &Row) -> bool
             let a = usize::from(a);
             same_doing(&row.acts[a], &other.acts[a])
         }
+    }
+}
+
+/// Returns the configuration that is stable, or `None` where a reconfiguration is under way.
+pub fn stable_conf(mode: &KMode) -> Option<ConfId>
+    ensures { result ≡ stable_conf mode.now }
+{
+    match mode {
+        KMode::Stable(conf) => Some(*conf),
+        KMode::Moving { from: _, halting: _, to: _, since: _ } => None,
+    }
+}
+
+fn same_conf(conf: Option<ConfId>, other: Option<ConfId>) -> bool
+    ensures { result ≡ same_conf conf other }
+{
+    match (conf, other) {
+        (None, None) => true,
+        (None, Some(_)) => false,
+        (Some(_), None) => false,
+        (Some(conf), Some(other)) => conf.0 == other.0,
     }
 }
 

@@ -29,3 +29,8 @@ pub cut_below : (text : ℕ → List ℕ) (i n : ℕ) (old mid new : SinkState) 
 cut_below text i n old mid new below first second =
     let rest = texts_rest text (suc i) n (omega (arith, below)) in
     cut_in old mid new (texts_below text n) (texts_below text i) (text i) rest.0 rest.1 first second
+
+-- the texts of the numbers below i were added to a line, and that of i too
+pub added_next : (text : ℕ → List ℕ) (i : ℕ) (line before after : List ℕ) → before ≡ line ++ texts_below text i → after ≡ before ++ text i → after ≡ line ++ texts_below text (i + 1)
+added_next text i line before after first second =
+    second ∙ ap (λ (front : List ℕ). front ++ text i) first ∙ append_assoc line (texts_below text i) (text i) ∙ ap (λ (tail : List ℕ). line ++ tail) (sym (texts_more text i))

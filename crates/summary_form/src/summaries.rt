@@ -10,6 +10,7 @@ ghost use Rattle.summary_form.specs.Summary.{app_text, behind_text, change_text,
 use crate::lines::{
     make_app_line, make_change_line, make_flight_line, make_reconfiguration_line, make_world_line,
 };
+use flight_facts::acts::count_apps;
 use flight_facts::decisions::{decided_in, differ, env_at, env_before};
 use form_base::status::{ANSWERED, Status};
 use form_base::telling::{status_after, tell_refusal};
@@ -187,7 +188,7 @@ fn put_apps<K: Sink>(out: &mut K, spec: &Spec, rows: &[Row]) -> Result<(), SinkF
     requires rows { length rows.now < 2 ^ 32 }
     ensures { Prints result (K.state out.old) (K.state out.new) (texts_below (app_text spec.now rows.now) (length spec.now.apps)) }
 {
-    for a in 0..spec.apps.items().len() {
+    for a in 0..count_apps(spec) {
         match put_app(out, spec, rows, a) {
             Ok(()) => {}
             Err(fault) => return Err(fault),

@@ -1,0 +1,17 @@
+use Rattle.std.proofs.Common.{length, codes}
+use Rattle.scram_io.proofs.Puts.{cut_more, prints_more}
+use Rattle.picture_form.specs.Curves.{curve_names, curve_text}
+use Rattle.std.specs.Prelude.{◌+◌}
+use Rattle.picture_form.specs.Sheets.{curves_y}
+use Rattle.flight_facts.specs.declared.extremes.Quantity.TheVariants.{Heading}
+use Rattle.picture_form.proofs.pictures.put_heading.Goals as goal
+
+pub returns-in-Ok : goal.returns-in-Ok
+returns-in-Ok g c =
+    prints_more c.put_curve.result _ _ _ (curve_names (curves_y c.args.sheet + 64) (codes "heading") (codes "0.1 deg"))
+    (curve_text c.args.sheet c.args.rows.now Heading (curves_y c.args.sheet + 64)) c.in-Ok.ensures c.put_curve.ensures
+
+pub returns-in-Err : goal.returns-in-Err
+returns-in-Err g c =
+    cut_more _ _ (curve_names (curves_y c.args.sheet + 64) (codes "heading") (codes "0.1 deg"))
+    (curve_text c.args.sheet c.args.rows.now Heading (curves_y c.args.sheet + 64)) c.in-Err.ensures
