@@ -5,6 +5,6 @@ use Rattle.columns_form.proofs.tables.columns_form.Goals as goal
 
 pub returns-in-Ok : goal.returns-in-Ok
 returns-in-Ok g c =
-    rw (c.status_after-status.ensures)
+    rw (c.status_after.ensures)
     (found_ends _ _ _ _ _ _ _ _ (c.in-Ok.ensures.reads columns_text)
-    (answered_tells (columns_text c.in-Ok.flight.spec c.in-Ok.flight.flown.rows []) _ _ _ (put_taken c.put_columns.result 0 _ _ _ c.put_columns.ensures)))
+    (answered_tells (columns_text c.in-Ok.flight.spec c.in-Ok.flight.flown.rows []) _ _ _ (put_taken c.put_columns-put.result 0 _ _ _ (rw (c.items.ensures) at c.put_columns-put.ensures))))
