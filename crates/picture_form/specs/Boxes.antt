@@ -1,18 +1,22 @@
 -- Pieces of a picture: boxes, names and labels.
 use Rattle.std.specs.Prelude.{ℕ, zero, suc, ◌+◌, ◌*◌, List, [], ◌++◌, length, nat_le, codes, decimal, if◌then◌else◌}
 
+-- a place
+unfoldable pub place_text : ℕ → ℕ → List ℕ
+place_text x y = codes " x=\"" ++ decimal x ++ codes "\" y=\"" ++ decimal y ++ codes "\""
+
 -- the place and the size of a box
-abbrev pub box_text : ℕ → ℕ → ℕ → List ℕ
-box_text x y width = codes " x=\"" ++ decimal x ++ codes "\" y=\"" ++ decimal y ++ codes "\" width=\"" ++ decimal width ++ codes "\" height=\"16\""
+unfoldable pub box_text : ℕ → ℕ → ℕ → List ℕ
+box_text x y width = place_text x y ++ codes " width=\"" ++ decimal width ++ codes "\" height=\"16\""
 
 -- the name of a lane, which ends before its rows begin
 abbrev pub name_text : ℕ → List ℕ → List ℕ
 name_text y name = codes "<text class=\"name\" x=\"128\" y=\"" ++ decimal y ++ codes "\">" ++ name ++ codes "</text>"
 
 -- a text of a class at a place
-abbrev pub placed_text : List ℕ → ℕ → ℕ → List ℕ → List ℕ
+unfoldable pub placed_text : List ℕ → ℕ → ℕ → List ℕ → List ℕ
 placed_text class x y text =
-    codes "<text class=\"" ++ class ++ codes "\" x=\"" ++ decimal x ++ codes "\" y=\"" ++ decimal y ++ codes "\">" ++ text ++ codes "</text>"
+    codes "<text class=\"" ++ class ++ codes "\"" ++ place_text x y ++ codes ">" ++ text ++ codes "</text>"
 
 -- a label in a box, where there is room for it: no letter is wider than 7 pixels
 abbrev pub label_text : ℕ → ℕ → ℕ → List ℕ → List ℕ

@@ -5,3 +5,4 @@ pub mod Picture
 pub mod Reconfigurations
 pub mod Sheets
 pub mod Spans
+pub mod Styles

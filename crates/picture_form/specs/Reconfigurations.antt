@@ -27,11 +27,14 @@ abbrev pub end_text : Report → Option ConfId → List ℕ
 end_text report None = codes "-"
 end_text report (Some to) = decimal report.end
 
+-- when a reconfiguration began and ended, how long it took, and the bound on that
+unfoldable pub times_text : Parts → Report → List ℕ
+times_text spec report = codes " begin " ++ decimal report.begin ++ codes " end " ++ end_text report report.to ++ length_text report (bound_of spec report)
+
 -- the line of a reconfiguration in the trace, its `>` as a document has to spell it
-abbrev pub report_title : Parts → Report → List ℕ
+unfoldable pub report_title : Parts → Report → List ℕ
 report_title spec report =
-    codes "reconfiguration " ++ conf_name spec report.from.0 ++ codes " &gt; " ++ conf_or_dash spec report.to ++ codes " begin " ++ decimal report.begin
-    ++ codes " end " ++ end_text report report.to ++ length_text report (bound_of spec report)
+    codes "reconfiguration " ++ conf_name spec report.from.0 ++ codes " &gt; " ++ conf_or_dash spec report.to ++ times_text spec report
 
 -- the width of the rows from `begin` to `last` or the last row
 abbrev pub rows_width : Sheet → ℕ → ℕ → ℕ

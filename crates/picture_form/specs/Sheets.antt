@@ -24,6 +24,10 @@ scale_of rows = if nat_lt 8000 rows then 1 else (if nat_lt 4000 rows then 2 else
 abbrev pub rows_of_tick : ℕ → ℕ
 rows_of_tick rows = if nat_lt 8000 rows then 100 else (if nat_lt 4000 rows then 50 else (if nat_lt 2000 rows then 25 else 10))
 
+-- the number of ticks
+abbrev pub ticks_of : Sheet → ℕ
+ticks_of sheet = sheet.rows / rows_of_tick sheet.rows + 1
+
 -- where row k begins
 abbrev pub x_of : Sheet → ℕ → ℕ
 x_of sheet k = 136 + scale_of sheet.rows * k

@@ -2,7 +2,7 @@
 
 ghost use Rattle.std.specs.Prelude.{◌≡◌, ◌<◌, ◌≤◌, ◌+◌, ◌++◌, ◌^◌, length, decimal};
 ghost use Rattle.scram_types.specs.declared.limits.TheConstants.{MAX_LINE_BYTES};
-ghost use Rattle.picture_form.specs.Boxes.{box_text, frames_text, label_text, name_text, placed_text};
+ghost use Rattle.picture_form.specs.Boxes.{box_text, frames_text, label_text, name_text, place_text, placed_text};
 
 use itoa::Buffer;
 use trace_text::lines::Line;
@@ -17,17 +17,28 @@ pub fn add_number(line: &mut Line, number: u64)
     line.text(buffer.format(number).as_bytes());
 }
 
-/// Adds the place and the size of a box.
-pub fn add_box(line: &mut Line, x: u64, y: u64, width: u64)
-    requires { length line.old + 91 ≤ MAX_LINE_BYTES }
-    ensures text { line.new ≡ line.old ++ box_text x y width }
-    ensures short { length line.new ≤ length line.old + 91 }
+#[tactic(auto, unfolding(crate::specs::Boxes::place_text))]
+fn add_place(line: &mut Line, x: u64, y: u64)
+    requires { length line.old + 51 ≤ MAX_LINE_BYTES }
+    ensures text { line.new ≡ line.old ++ place_text x y }
+    ensures short { length line.new ≤ length line.old + 51 }
 {
     line.text(b" x=\"");
     add_number(line, x);
     line.text(b"\" y=\"");
     add_number(line, y);
-    line.text(b"\" width=\"");
+    line.text(b"\"");
+}
+
+/// Adds the place and the size of a box.
+#[tactic(auto, unfolding(crate::specs::Boxes::box_text))]
+pub fn add_box(line: &mut Line, x: u64, y: u64, width: u64)
+    requires { length line.old + 92 ≤ MAX_LINE_BYTES }
+    ensures text { line.new ≡ line.old ++ box_text x y width }
+    ensures short { length line.new ≤ length line.old + 92 }
+{
+    add_place(line, x, y);
+    line.text(b" width=\"");
     add_number(line, width);
     line.text(b"\" height=\"16\"");
 }
@@ -47,6 +58,7 @@ pub fn add_name(line: &mut Line, y: u64, name: &[u8])
 }
 
 /// Adds a text of at most 33 bytes, of a class of at most 10, at a place.
+#[tactic(auto, unfolding(crate::specs::Boxes::placed_text))]
 pub fn add_placed(line: &mut Line, class: &[u8], x: u64, y: u64, text: &[u8])
     requires room { length line.old + 120 ≤ MAX_LINE_BYTES }
     requires class { length class.now ≤ 10 }
@@ -56,11 +68,9 @@ pub fn add_placed(line: &mut Line, class: &[u8], x: u64, y: u64, text: &[u8])
 {
     line.text(b"<text class=\"");
     line.text(class);
-    line.text(b"\" x=\"");
-    add_number(line, x);
-    line.text(b"\" y=\"");
-    add_number(line, y);
-    line.text(b"\">");
+    line.text(b"\"");
+    add_place(line, x, y);
+    line.text(b">");
     line.text(text);
     line.text(b"</text>");
 }
@@ -69,7 +79,7 @@ pub fn add_placed(line: &mut Line, class: &[u8], x: u64, y: u64, text: &[u8])
 pub fn add_label(line: &mut Line, x: u64, y: u64, width: u64, label: &[u8])
     requires room { length line.old + 120 ≤ MAX_LINE_BYTES }
     requires label { length label.now ≤ 33 }
-    requires x { x ≤ 2 ^ 36 }
+    requires x { x ≤ 2 ^ 44 }
     requires y { y ≤ 6000 }
     ensures text { line.new ≡ line.old ++ label_text x y width label.now }
     ensures short { length line.new ≤ length line.old + 120 }

@@ -79,15 +79,15 @@ pub fn make_point(rows: &[Row], curve: Curve, k: usize) -> Line
 }
 
 /// Returns the name and the unit of a quantity, from `y` on.
-pub fn make_curve_names(y: u64, name: &[u8], unit: &[u8]) -> Line
+pub fn make_curve_names(y: u64, name: &str, unit: &str) -> Line
     requires y { y ≤ 6100 }
     requires name { length name.now ≤ 16 }
     requires unit { length unit.now ≤ 16 }
     ensures { result ≡ curve_names y name.now unit.now }
 {
     let mut line = Line::new();
-    add_name(&mut line, y + 20, name);
-    add_placed(&mut line, b"name note", 128, y + 34, unit);
+    add_name(&mut line, y + 20, name.as_bytes());
+    add_placed(&mut line, b"name note", 128, y + 34, unit.as_bytes());
     line.text(b"\n");
     line
 }
@@ -112,7 +112,7 @@ pub fn make_curve_end(sheet: Sheet, y: u64, extremes: &Extremes) -> Line
     requires { y ≤ 6100 }
     ensures { result ≡ curve_end sheet y extremes.now }
 {
-    let x = sheet.x(sheet.rows) + 8;
+    let x = sheet.x(u64::from(sheet.rows)) + 8;
     let mut line = Line::new();
     line.text(b"\"/>\n");
     add_placed(

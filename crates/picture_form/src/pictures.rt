@@ -6,9 +6,10 @@ ghost use Rattle.form_base.specs.Endings.{Ends, IsTaken};
 ghost use Rattle.form_base.specs.Texts.{texts_below};
 ghost use Rattle.trace_files.specs.Looks.{ViewAnswers};
 ghost use Rattle.picture_form.specs.Curves.{curve_text, line_text, point_text, points_text};
-ghost use Rattle.picture_form.specs.Picture.{altitude_text, body_text, curves_text, foot_text, front_text, grid_text, head_text, heading_text, lanes_and_foot, legend_line, legend_text, open_line, picture_text, sheet_text, stable_spans, tick_line, tick_text, ticks_text, top_text};
+ghost use Rattle.picture_form.specs.Picture.{altitude_text, body_text, curves_text, foot_text, front_text, grid_text, head_text, heading_text, lanes_and_foot, legend_line, legend_text, names_text, open_line, picture_text, quantity_name, quantity_text, quantity_unit, sheet_text, stable_spans, tick_line, tick_text, ticks_text, top_text};
 ghost use Rattle.picture_form.specs.Reconfigurations.{begin_text, reconfiguration_text};
-ghost use Rattle.picture_form.specs.Sheets.{IsSheet, rows_of_tick};
+ghost use Rattle.picture_form.specs.Sheets.{IsSheet};
+ghost use Rattle.picture_form.specs.Styles.{part_text};
 
 use crate::boxes::add_number;
 use crate::curves::{Curve, make_curve_begin, make_curve_end, make_curve_names, make_point};
@@ -16,7 +17,7 @@ use crate::lanes::{put_lanes, put_spans};
 use crate::reconfigurations::{make_begin, make_reconfiguration};
 use crate::sheets::{Sheet, sheet_of};
 use crate::spans::Strip;
-use crate::styles::{LEGEND, NAMES, STYLE};
+use crate::styles::{Part, part_text};
 use flight_facts::extremes::{Quantity, extremes_of};
 use flight_facts::spans::Lane;
 use form_base::status::{ANSWERED, Status};
@@ -82,7 +83,7 @@ fn put_head<K: Sink>(out: &mut K, sheet: Sheet) -> Result<(), SinkFault>
     ensures { Prints result (K.state out.old) (K.state out.new) (head_text sheet) }
 {
     match out.put(make_open_line(sheet).as_bytes()) {
-        Ok(()) => out.put(STYLE.as_bytes()),
+        Ok(()) => put_part(out, Part::Style),
         Err(fault) => Err(fault),
     }
 }
@@ -136,7 +137,7 @@ fn put_ticks<K: Sink>(out: &mut K, sheet: Sheet) -> Result<(), SinkFault>
     requires { IsSheet sheet }
     ensures { Prints result (K.state out.old) (K.state out.new) (ticks_text sheet) }
 {
-    for j in 0..sheet.rows / sheet.tick() + 1 {
+    for j in 0..sheet.ticks() {
         match out.put(make_tick(sheet, j).as_bytes()) {
             Ok(()) => {}
             Err(fault) => return Err(fault),
@@ -146,15 +147,15 @@ fn put_ticks<K: Sink>(out: &mut K, sheet: Sheet) -> Result<(), SinkFault>
 }
 
 fn make_tick(sheet: Sheet, j: u32) -> Line
-    requires sheet { IsSheet sheet }
-    requires tick { j * rows_of_tick sheet.rows ≤ sheet.rows }
+    requires { IsSheet sheet }
     ensures { result ≡ tick_text sheet j }
 {
-    make_tick_line(sheet, j * sheet.tick())
+    make_tick_line(sheet, u64::from(j) * u64::from(sheet.tick()))
 }
 
-fn make_tick_line(sheet: Sheet, k: u32) -> Line
-    requires { IsSheet sheet }
+fn make_tick_line(sheet: Sheet, k: u64) -> Line
+    requires sheet { IsSheet sheet }
+    requires row { k ≤ 2 ^ 40 }
     ensures { result ≡ tick_line sheet k }
 {
     let mut line = Line::new();
@@ -167,7 +168,7 @@ fn make_tick_line(sheet: Sheet, k: u32) -> Line
     line.text(b"\" y=\"");
     add_number(&mut line, sheet.bottom() + 14);
     line.text(b"\">");
-    line.number(k);
+    add_number(&mut line, k);
     line.text(b"</text>\n");
     line
 }
@@ -228,7 +229,7 @@ fn put_stable_spans<K: Sink>(
     requires rows { length rows.now < 2 ^ 32 }
     ensures { Prints result (K.state out.old) (K.state out.new) (stable_spans spec.now sheet rows.now) }
 {
-    match out.put(NAMES.as_bytes()) {
+    match put_part(out, Part::Names) {
         Ok(()) => put_spans(
             out,
             spec,
@@ -301,21 +302,67 @@ fn put_altitude<K: Sink>(out: &mut K, sheet: Sheet, rows: &[Row]) -> Result<(), 
     requires { IsSheet sheet }
     ensures { Prints result (K.state out.old) (K.state out.new) (altitude_text sheet rows.now) }
 {
-    match out.put(make_curve_names(sheet.curves_y(), b"altitude", b"ft").as_bytes()) {
-        Ok(()) => put_curve(out, sheet, rows, Quantity::Altitude, sheet.curves_y()),
-        Err(fault) => Err(fault),
-    }
+    put_quantity(out, sheet, rows, Quantity::Altitude, sheet.curves_y())
 }
 
 fn put_heading<K: Sink>(out: &mut K, sheet: Sheet, rows: &[Row]) -> Result<(), SinkFault>
     requires { IsSheet sheet }
     ensures { Prints result (K.state out.old) (K.state out.new) (heading_text sheet rows.now) }
 {
-    let y = sheet.curves_y() + 64;
-    match out.put(make_curve_names(y, b"heading", b"0.1 deg").as_bytes()) {
-        Ok(()) => put_curve(out, sheet, rows, Quantity::Heading, y),
+    put_quantity(out, sheet, rows, Quantity::Heading, sheet.curves_y() + 64)
+}
+
+fn put_quantity<K: Sink>(
+    out: &mut K,
+    sheet: Sheet,
+    rows: &[Row],
+    quantity: Quantity,
+    y: u64,
+) -> Result<(), SinkFault>
+    requires { y ≤ 6100 }
+    ensures { Prints result (K.state out.old) (K.state out.new) (quantity_text sheet rows.now quantity y) }
+{
+    match out.put(make_names(quantity, y).as_bytes()) {
+        Ok(()) => put_curve(out, sheet, rows, quantity, y),
         Err(fault) => Err(fault),
     }
+}
+
+fn make_names(quantity: Quantity, y: u64) -> Line
+    requires { y ≤ 6100 }
+    ensures { result ≡ names_text quantity y }
+{
+    make_curve_names(y, name_of_quantity(quantity), unit_of_quantity(quantity))
+}
+
+fn name_of_quantity(quantity: Quantity) -> &'static str
+    ensures name { result.now ≡ quantity_name quantity }
+    ensures short { length result.now ≤ 16 }
+{
+    match quantity {
+        Quantity::Altitude => "altitude",
+        Quantity::Climb => "climb",
+        Quantity::Heading => "heading",
+        Quantity::Bank => "bank",
+    }
+}
+
+fn unit_of_quantity(quantity: Quantity) -> &'static str
+    ensures unit { result.now ≡ quantity_unit quantity }
+    ensures short { length result.now ≤ 16 }
+{
+    match quantity {
+        Quantity::Altitude => "ft",
+        Quantity::Climb => "0.1 ft",
+        Quantity::Heading => "0.1 deg",
+        Quantity::Bank => "0.1 deg",
+    }
+}
+
+fn put_part<K: Sink>(out: &mut K, part: Part) -> Result<(), SinkFault>
+    ensures { Prints result (K.state out.old) (K.state out.new) (part_text part) }
+{
+    out.put(part_text(part).as_bytes())
 }
 
 fn put_curve<K: Sink>(
@@ -387,7 +434,7 @@ fn put_legend<K: Sink>(out: &mut K, sheet: Sheet) -> Result<(), SinkFault>
     ensures { Prints result (K.state out.old) (K.state out.new) (legend_text sheet) }
 {
     match out.put(make_legend_line(sheet).as_bytes()) {
-        Ok(()) => out.put(LEGEND.as_bytes()),
+        Ok(()) => put_part(out, Part::Legend),
         Err(fault) => Err(fault),
     }
 }

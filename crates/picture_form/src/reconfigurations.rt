@@ -2,7 +2,7 @@
 
 ghost use Rattle.std.specs.Prelude.{◌≡◌, ◌<◌, ◌≤◌, ◌+◌, ◌++◌, length};
 ghost use Rattle.scram_types.specs.declared.limits.TheConstants.{MAX_LINE_BYTES};
-ghost use Rattle.picture_form.specs.Reconfigurations.{begin_line, begin_text, bound_rect, end_text, reconfiguration_text, report_text, report_title, rows_width};
+ghost use Rattle.picture_form.specs.Reconfigurations.{begin_line, begin_text, bound_rect, end_text, reconfiguration_text, report_text, report_title, rows_width, times_text};
 ghost use Rattle.picture_form.specs.Sheets.{IsSheet};
 
 use crate::boxes::{add_box, add_number};
@@ -34,7 +34,7 @@ fn make_begin_line(sheet: Sheet, begin: u32) -> Line
 {
     let mut line = Line::new();
     line.text(b"<path class=\"begin\" d=\"M");
-    add_number(&mut line, sheet.x(begin));
+    add_number(&mut line, sheet.x(u64::from(begin)));
     line.text(b" 44V");
     add_number(&mut line, sheet.bottom());
     line.text(b"\"/>\n");
@@ -64,7 +64,7 @@ fn make_report(spec: &Spec, sheet: Sheet, report: &Report) -> Line
     line.text(b"<rect class=\"reconfiguration\"");
     add_box(
         &mut line,
-        sheet.x(report.begin),
+        sheet.x(u64::from(report.begin)),
         48,
         rows_width(sheet, report.begin, u64::from(report.end)),
     );
@@ -83,7 +83,12 @@ fn add_bound_rect(line: &mut Line, sheet: Sheet, begin: u32, bound: Option<u32>)
     if let Some(bound) = bound {
         line.text(b"<rect class=\"bound\"");
         let last = u64::from(begin) + u64::from(bound);
-        add_box(line, sheet.x(begin), 48, rows_width(sheet, begin, last));
+        add_box(
+            line,
+            sheet.x(u64::from(begin)),
+            48,
+            rows_width(sheet, begin, last),
+        );
         line.text(b"/>\n");
     }
 }
@@ -97,6 +102,7 @@ fn rows_width(sheet: Sheet, begin: u32, last: u64) -> u64
     sheet.width_of((last + 1).saturating_sub(begin))
 }
 
+#[tactic(auto, unfolding(crate::specs::Reconfigurations::report_title))]
 fn add_title(line: &mut Line, spec: &Spec, report: &Report)
     requires { length line.old + 130 ≤ MAX_LINE_BYTES }
     ensures text { line.new ≡ line.old ++ report_title spec.now report.now }
@@ -106,6 +112,15 @@ fn add_title(line: &mut Line, spec: &Spec, report: &Report)
     line.text(spec.conf_name(report.from).as_bytes());
     line.text(b" &gt; ");
     add_conf_or_dash(line, spec, report.to);
+    add_times(line, spec, report);
+}
+
+#[tactic(auto, unfolding(crate::specs::Reconfigurations::times_text))]
+fn add_times(line: &mut Line, spec: &Spec, report: &Report)
+    requires { length line.old + 62 ≤ MAX_LINE_BYTES }
+    ensures text { line.new ≡ line.old ++ times_text spec.now report.now }
+    ensures short { length line.new ≤ length line.old + 62 }
+{
     line.text(b" begin ");
     line.number(report.begin);
     line.text(b" end ");

@@ -2,7 +2,7 @@
 
 ghost use Rattle.std.specs.Prelude.{◌≡◌, ◌<◌, ◌≤◌, ◌^◌, length};
 ghost use Rattle.flight_facts.specs.Spans.{IsLane};
-ghost use Rattle.picture_form.specs.Sheets.{IsSheet, bottom_of, curves_y, lane_of, lane_y, lanes_of, room_above, rows_of_tick, scale_of, sheet_height, sheet_of, sheet_width, width_of, x_of};
+ghost use Rattle.picture_form.specs.Sheets.{IsSheet, bottom_of, curves_y, lane_of, lane_y, lanes_of, room_above, rows_of_tick, scale_of, sheet_height, sheet_of, sheet_width, ticks_of, width_of, x_of};
 
 use flight_facts::spans::Lane;
 use scram_types::{Row, Spec};
@@ -80,11 +80,19 @@ impl Sheet {
     }
 
     /// Returns where row `k` begins.
-    pub fn x(self, k: u32) -> u64
+    pub fn x(self, k: u64) -> u64
+        requires { k ≤ 2 ^ 40 }
         ensures value { result ≡ x_of self k }
-        ensures small { result ≤ 2 ^ 36 }
+        ensures small { result ≤ 2 ^ 44 }
     {
-        136 + self.scale() * u64::from(k)
+        136 + self.scale() * k
+    }
+
+    /// Returns the number of ticks.
+    pub fn ticks(self) -> u32
+        ensures { result ≡ ticks_of self }
+    {
+        self.rows / self.tick() + 1
     }
 
     /// Returns how wide a number of rows is.

@@ -95,7 +95,7 @@ fn make_stable(spec: &Spec, sheet: Sheet, conf: Option<ConfId>, span: Span) -> L
     let mut line = Line::new();
     if let Some(conf) = conf {
         line.text(b"<path class=\"stable\" d=\"M");
-        add_number(&mut line, sheet.x(span.first));
+        add_number(&mut line, sheet.x(u64::from(span.first)));
         line.text(b" 38h");
         add_number(&mut line, sheet.width_of(span.rows));
         line.text(b"\"/>");
@@ -116,7 +116,7 @@ fn make_rect(spec: &Spec, sheet: Sheet, row: &Row, span: Span) -> Line
     line.text(b"\"");
     add_box(
         &mut line,
-        sheet.x(span.first),
+        sheet.x(u64::from(span.first)),
         span.y,
         sheet.width_of(span.rows),
     );
@@ -145,7 +145,7 @@ fn add_span_label(line: &mut Line, sheet: Sheet, span: Span, label: &[u8])
 {
     add_label(
         line,
-        sheet.x(span.first),
+        sheet.x(u64::from(span.first)),
         span.y,
         sheet.width_of(span.rows),
         label,

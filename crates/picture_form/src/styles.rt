@@ -1,5 +1,19 @@
 //! What stands in every picture.
 
+ghost use Rattle.std.specs.Prelude.{◌≡◌};
+ghost use Rattle.picture_form.specs.Styles.{part_text};
+
+/// A part that every picture has.
+#[derive(Clone, Copy, Debug, PartialEq, Eq)]
+pub enum Part {
+    /// The colours of the classes.
+    Style,
+    /// The names of the first two lanes.
+    Names,
+    /// The legend.
+    Legend,
+}
+
 /// The colours of the classes, on a light and on a dark background.
 pub const STYLE: &str = concat!(
     "<style>svg{background:#fff;font:11px ui-monospace,monospace}text{fill:#1f2933}\n",
@@ -43,3 +57,14 @@ pub const LEGEND: &str = concat!(
     "<path class=\"bound\" d=\"M776 20h12v12h-12z\"/><text x=\"794\" y=\"30\">its bound</text>\n",
     "</g>\n</svg>\n",
 );
+
+/// Returns the text of a part.
+pub fn part_text(part: Part) -> &'static str
+    ensures { result.now ≡ part_text part }
+{
+    match part {
+        Part::Style => STYLE,
+        Part::Names => NAMES,
+        Part::Legend => LEGEND,
+    }
+}

@@ -1,8 +1,7 @@
 use Rattle.form_base.specs.Texts.{texts_below}
 use Rattle.scram_io.specs.Outside.{Printed}
-use Rattle.std.specs.Prelude.{◌+◌, ◌/◌}
 use Rattle.picture_form.specs.Picture.{tick_text}
-use Rattle.picture_form.specs.Sheets.{rows_of_tick}
+use Rattle.picture_form.specs.Sheets.{ticks_of}
 use Rattle.picture_form.proofs.pictures.put_ticks.Given as goal
 
 abbrev pub invariant-loop-j : goal.invariant-loop-j
