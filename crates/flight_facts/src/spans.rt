@@ -95,7 +95,12 @@ pub fn stable_conf(mode: &KMode) -> Option<ConfId>
 {
     match mode {
         KMode::Stable(conf) => Some(*conf),
-        KMode::Moving { from: _, halting: _, to: _, since: _ } => None,
+        KMode::Moving {
+            from: _,
+            halting: _,
+            to: _,
+            since: _,
+        } => None,
     }
 }
 

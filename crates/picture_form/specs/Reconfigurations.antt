@@ -31,10 +31,13 @@ end_text report (Some to) = decimal report.end
 unfoldable pub times_text : Parts → Report → List ℕ
 times_text spec report = codes " begin " ++ decimal report.begin ++ codes " end " ++ end_text report report.to ++ length_text report (bound_of spec report)
 
--- the line of a reconfiguration in the trace, its `>` as a document has to spell it
+-- where a reconfiguration led, `>` as a document has to spell it
+unfoldable pub route_text : Parts → ConfId → Option ConfId → List ℕ
+route_text spec from to = codes "reconfiguration " ++ conf_name spec from.0 ++ codes " &gt; " ++ conf_or_dash spec to
+
+-- the line of a reconfiguration in the trace
 unfoldable pub report_title : Parts → Report → List ℕ
-report_title spec report =
-    codes "reconfiguration " ++ conf_name spec report.from.0 ++ codes " &gt; " ++ conf_or_dash spec report.to ++ times_text spec report
+report_title spec report = route_text spec report.from report.to ++ times_text spec report
 
 -- the width of the rows from `begin` to `last` or the last row
 abbrev pub rows_width : Sheet → ℕ → ℕ → ℕ

@@ -2,13 +2,13 @@
 
 ghost use Rattle.std.specs.Prelude.{◌≡◌, ◌<◌, ◌≤◌, ◌+◌, ◌++◌, length};
 ghost use Rattle.scram_types.specs.declared.limits.TheConstants.{MAX_LINE_BYTES};
-ghost use Rattle.picture_form.specs.Reconfigurations.{begin_line, begin_text, bound_rect, end_text, reconfiguration_text, report_text, report_title, rows_width, times_text};
+ghost use Rattle.picture_form.specs.Reconfigurations.{begin_line, begin_text, bound_rect, end_text, reconfiguration_text, report_text, report_title, route_text, rows_width, times_text};
 ghost use Rattle.picture_form.specs.Sheets.{IsSheet};
 
 use crate::boxes::{add_box, add_number};
 use crate::sheets::Sheet;
 use flight_facts::margins::bound_of;
-use scram_types::{Report, Spec};
+use scram_types::{ConfId, Report, Spec};
 use trace_text::lines::Line;
 use trace_text::report_lines::add_length;
 use trace_text::row_lines::add_conf_or_dash;
@@ -108,11 +108,20 @@ fn add_title(line: &mut Line, spec: &Spec, report: &Report)
     ensures text { line.new ≡ line.old ++ report_title spec.now report.now }
     ensures short { length line.new ≤ length line.old + 130 }
 {
-    line.text(b"reconfiguration ");
-    line.text(spec.conf_name(report.from).as_bytes());
-    line.text(b" &gt; ");
-    add_conf_or_dash(line, spec, report.to);
+    add_route(line, spec, report.from, report.to);
     add_times(line, spec, report);
+}
+
+#[tactic(auto, unfolding(crate::specs::Reconfigurations::route_text))]
+fn add_route(line: &mut Line, spec: &Spec, from: ConfId, to: Option<ConfId>)
+    requires { length line.old + 60 ≤ MAX_LINE_BYTES }
+    ensures text { line.new ≡ line.old ++ route_text spec.now from to }
+    ensures short { length line.new ≤ length line.old + 60 }
+{
+    line.text(b"reconfiguration ");
+    line.text(spec.conf_name(from).as_bytes());
+    line.text(b" &gt; ");
+    add_conf_or_dash(line, spec, to);
 }
 
 #[tactic(auto, unfolding(crate::specs::Reconfigurations::times_text))]

@@ -189,11 +189,7 @@ fn form_of_three<'a>(
     }
 }
 
-fn form_of_view<'a>(
-    command: &str,
-    specification: &'a str,
-    trace: &'a str,
-) -> Option<Form<&'a str>>
+fn form_of_view<'a>(command: &str, specification: &'a str, trace: &'a str) -> Option<Form<&'a str>>
     ensures { option_map (with_names (λ name. name.now)) result ≡ form_of_view command.now specification.now trace.now }
 {
     if command == "summary" {

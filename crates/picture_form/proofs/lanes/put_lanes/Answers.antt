@@ -1,4 +1,4 @@
-use Rattle.std.proofs.Common.{arith, length}
+use Rattle.std.proofs.Common.{arith}
 use Rattle.form_base.proofs.TextsBelow.{cut_below, printed_next}
 use Rattle.picture_form.specs.Lanes.{lane_text}
 use Rattle.picture_form.specs.Sheets.{lanes_of}

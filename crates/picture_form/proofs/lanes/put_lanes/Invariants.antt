@@ -1,7 +1,6 @@
 use Rattle.form_base.specs.Texts.{texts_below}
 use Rattle.scram_io.specs.Outside.{Printed}
 use Rattle.picture_form.specs.Lanes.{lane_text}
-use Rattle.picture_form.specs.Sheets.{lanes_of}
 use Rattle.picture_form.proofs.lanes.put_lanes.Given as goal
 
 abbrev pub invariant-loop-n : goal.invariant-loop-n

@@ -1,4 +1,3 @@
-use Rattle.std.proofs.Common.{length, codes}
 use Rattle.scram_io.proofs.Puts.{cut_more, prints_more}
 use Rattle.picture_form.specs.Lanes.{name_line, spans_text}
 use Rattle.picture_form.proofs.lanes.put_strip.Goals as goal

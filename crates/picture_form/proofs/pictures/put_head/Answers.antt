@@ -1,4 +1,3 @@
-use Rattle.std.proofs.Common.{length, codes}
 use Rattle.scram_io.proofs.Puts.{cut_more, prints_more}
 use Rattle.picture_form.specs.Picture.{open_line}
 use Rattle.picture_form.specs.Styles.{part_text}

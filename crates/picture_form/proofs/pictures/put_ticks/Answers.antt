@@ -1,4 +1,4 @@
-use Rattle.std.proofs.Common.{arith, length}
+use Rattle.std.proofs.Common.{arith}
 use Rattle.form_base.proofs.TextsBelow.{cut_below, printed_next}
 use Rattle.picture_form.specs.Picture.{tick_text}
 use Rattle.picture_form.specs.Sheets.{ticks_of}
