@@ -4,7 +4,7 @@ use Rattle.std.specs.Str.{bytes_eq}
 use Rattle.kernel_pair.specs.declared.events.UnitHalt.{UnitHalt}
 use Rattle.trace_text.specs.Spelling.{spelled_number}
 use Rattle.scram_cli.specs.declared.forms.Form.{Form}
-use Rattle.scram_cli.specs.declared.forms.Form.TheVariants.{Run, Watch, Pair, Check, Bounds, Props, Replay, Gen, Fly, Told}
+use Rattle.scram_cli.specs.declared.forms.Form.TheVariants.{Run, Watch, Pair, Check, Bounds, Props, Replay, Summary, Columns, Picture, Gen, Fly, Told}
 use Rattle.scram_cli.specs.declared.pages.Page.TheVariants.{Help, Version}
 
 -- The number of a mission, up to 999,999, which the word has in decimal.
@@ -29,12 +29,19 @@ form_of_two command word =
     if bytes_eq command (codes "check") then Some (Check word)
     else (if bytes_eq command (codes "bounds") then Some (Bounds word) else form_of_number command word)
 
+-- The form of three words that looks at a trace, if they have one.
+abbrev pub form_of_view : List ℕ → List ℕ → List ℕ → Option (Form (List ℕ))
+form_of_view command specification trace =
+    if bytes_eq command (codes "summary") then Some (Summary specification trace)
+    else (if bytes_eq command (codes "columns") then Some (Columns specification trace)
+    else (if bytes_eq command (codes "picture") then Some (Picture specification trace) else None))
+
 -- The form of three words, if they have one.
 abbrev pub form_of_three : List ℕ → List ℕ → List ℕ → Option (Form (List ℕ))
 form_of_three command specification further =
     if bytes_eq command (codes "run") then Some (Run specification further)
     else (if bytes_eq command (codes "watch") then Some (Watch specification further)
-    else (if bytes_eq command (codes "props") then Some (Props specification further) else None))
+    else (if bytes_eq command (codes "props") then Some (Props specification further) else form_of_view command specification further))
 
 -- The form of four words, if they have one.
 abbrev pub form_of_four : List ℕ → List ℕ → List ℕ → List ℕ → Option (Form (List ℕ))
@@ -74,6 +81,9 @@ with_names name (Check specification) = Check (name specification)
 with_names name (Bounds specification) = Bounds (name specification)
 with_names name (Props specification trace) = Props (name specification) (name trace)
 with_names name (Replay specification script schedule) = Replay (name specification) (name script) (name schedule)
+with_names name (Summary specification trace) = Summary (name specification) (name trace)
+with_names name (Columns specification trace) = Columns (name specification) (name trace)
+with_names name (Picture specification trace) = Picture (name specification) (name trace)
 with_names name (Gen number) = Gen number
 with_names name (Fly number) = Fly number
 with_names name (Told page) = Told page
@@ -88,6 +98,9 @@ files_of (Some (Check specification)) = specification ∷ []
 files_of (Some (Bounds specification)) = specification ∷ []
 files_of (Some (Props specification trace)) = specification ∷ trace ∷ []
 files_of (Some (Replay specification script schedule)) = specification ∷ script ∷ schedule ∷ []
+files_of (Some (Summary specification trace)) = specification ∷ trace ∷ []
+files_of (Some (Columns specification trace)) = specification ∷ trace ∷ []
+files_of (Some (Picture specification trace)) = specification ∷ trace ∷ []
 files_of (Some (Gen number)) = []
 files_of (Some (Fly number)) = []
 files_of (Some (Told page)) = []

@@ -15,6 +15,7 @@ ghost use Rattle.scram_cli.specs.Pages.{page_text};
 use crate::forms::{Form, form_of};
 use crate::pages::{Page, page_text};
 use app_model::Rack;
+use columns_form::columns_form;
 use flight_forms::laws::flights_are_assured;
 use flight_forms::{
     Boxes, MissionFiles, PairFiles, ReplayFiles, fly_generated, pair_form, print_generated,
@@ -23,20 +24,24 @@ use flight_forms::{
 use form_base::refusals::{Refusal, Refused};
 use form_base::status::{ANSWERED, Status, UNWRITTEN_OUTPUT};
 use form_base::telling::{tell, tell_refusal};
+use picture_form::picture_form;
 use scram_io::{Files, Sink, SinkFault};
 use spec_forms::{bounds, check};
 use std::alloc::AllocGlobal;
 use std::sync::Wait;
 use std::thread::Threads;
-use trace_forms::{TraceFiles, props_form};
+use summary_form::summary_form;
+use trace_files::TraceFiles;
+use trace_forms::props_form;
 use trace_text::lines::Line;
 
 /// Does what the words after the program's name ask for: `run SPEC SCRIPT` flies a mission, `watch SPEC SCRIPT` flies
 /// it while two readers read its summary, `pair SPEC SCRIPT UNIT FRAME STEP` flies it with the kernel on two units,
 /// of which the one named may halt in that frame after that number of its steps, `check SPEC` prints whether a
 /// specification is accepted, `bounds SPEC` which bounds it has to give, `props SPEC TRACE` judges a trace, by any
-/// specification, `replay SPEC SCRIPT SCHEDULE` flies a mission by a schedule, `gen N` prints the mission of a
-/// number, and `fly N` flies it; `--help` and `--version` describe the program. What is printed has gone out when the
+/// specification, `replay SPEC SCRIPT SCHEDULE` flies a mission by a schedule, `summary SPEC TRACE`,
+/// `columns SPEC TRACE` and `picture SPEC TRACE` print what a trace shows, `gen N` prints the mission of a number,
+/// and `fly N` flies it; `--help` and `--version` describe the program. What is printed has gone out when the
 /// call ends, or the status is 4.
 ///
 /// A mission is flown with a thread for each processor; by a schedule and on two units it is flown without threads.
@@ -213,6 +218,39 @@ fn answer_form<R: AllocGlobal + Threads + Wait + Sync, F: Files, K: Sink>(
             out,
             boxes,
         ),
+        Form::Summary {
+            specification,
+            trace,
+        } => {
+            drop(boxes);
+            let named = TraceFiles {
+                specification,
+                trace,
+            };
+            summary_form(rt.alloc(), named, files, out)
+        }
+        Form::Columns {
+            specification,
+            trace,
+        } => {
+            drop(boxes);
+            let named = TraceFiles {
+                specification,
+                trace,
+            };
+            columns_form(rt.alloc(), named, files, out)
+        }
+        Form::Picture {
+            specification,
+            trace,
+        } => {
+            drop(boxes);
+            let named = TraceFiles {
+                specification,
+                trace,
+            };
+            picture_form(rt.alloc(), named, files, out)
+        }
         Form::Gen { number } => {
             drop(boxes);
             print_generated(rt.alloc(), number, out)

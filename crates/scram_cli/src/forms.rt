@@ -1,7 +1,7 @@
 //! The forms of the command.
 
 ghost use Rattle.std.specs.Prelude.{◌≡◌, map, string_bytes, option_map};
-ghost use Rattle.scram_cli.specs.Forms.{form_of, form_of_four, form_of_number, form_of_one, form_of_six, form_of_three, form_of_two, mission_number, unit_halt, with_names};
+ghost use Rattle.scram_cli.specs.Forms.{form_of, form_of_four, form_of_number, form_of_one, form_of_six, form_of_three, form_of_two, form_of_view, mission_number, unit_halt, with_names};
 
 use crate::pages::Page;
 use kernel_pair::UnitHalt;
@@ -54,6 +54,21 @@ pub enum Form<N> {
         specification: N,
         script: N,
         schedule: N,
+    },
+    /// What a flight came to, by its trace.
+    Summary {
+        specification: N,
+        trace: N,
+    },
+    /// A trace as a table of comma-separated values.
+    Columns {
+        specification: N,
+        trace: N,
+    },
+    /// A trace as a picture, in SVG.
+    Picture {
+        specification: N,
+        trace: N,
     },
     /// To print the mission of a number, 0 to 999,999.
     Gen {
@@ -168,6 +183,29 @@ fn form_of_three<'a>(
         Some(Form::Props {
             specification,
             trace: further,
+        })
+    } else {
+        form_of_view(command, specification, further)
+    }
+}
+
+fn form_of_view<'a>(command: &str, specification: &'a str, trace: &'a str) -> Option<Form<&'a str>>
+    ensures { option_map (with_names (λ name. name.now)) result ≡ form_of_view command.now specification.now trace.now }
+{
+    if command == "summary" {
+        Some(Form::Summary {
+            specification,
+            trace,
+        })
+    } else if command == "columns" {
+        Some(Form::Columns {
+            specification,
+            trace,
+        })
+    } else if command == "picture" {
+        Some(Form::Picture {
+            specification,
+            trace,
         })
     } else {
         None

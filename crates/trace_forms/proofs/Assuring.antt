@@ -10,11 +10,10 @@ use Rattle.form_base.specs.declared.status.TheConstants.{ANSWERED}
 use Rattle.form_base.specs.Answers.{Gives, WithoutFiles}
 use Rattle.form_base.specs.Assurance.{IsAssuring, OfDocument}
 use Rattle.form_base.proofs.Assuring.{document_assures, not_zero, specification_assures, text_of_gives}
-use Rattle.trace_forms.specs.Answers.{AsksTrace, AssuresProps, BreaksTrace, IsJudgement, Judges, PropsAnswers, SaysTrace, judged_answer, long_trace}
+use Rattle.trace_files.specs.Traces.{BreaksTrace, SaysTrace, long_trace}
+use Rattle.trace_files.proofs.Viewing.{no_broken_trace}
+use Rattle.trace_forms.specs.Answers.{AssuresProps, IsJudgement, Judges, PropsAnswers, judged_answer}
 use Rattle.trace_forms.specs.Lines.{holds_line}
-
-no_broken_trace : (spec : Parts) (text bytes : List ℕ) → BreaksTrace spec (ANSWERED, text) bytes → ANSWERED ≢ ANSWERED
-no_broken_trace spec text bytes breaks = not_zero 10 _ text (sym breaks.line)
 
 judged_zero : (spec : Parts) (flown : Flown) (judged : Option Broken) (text : List ℕ) → Judges spec flown judged → Gives (judged_answer flown judged) ANSWERED text
     → HoldsAll spec flown.rows flown.reports × (text ≡ holds_line flown)

@@ -1,4 +1,2 @@
 pub mod Assuring
-pub mod Counted
-pub mod FileReading
 pub mod Judged

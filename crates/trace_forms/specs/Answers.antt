@@ -1,40 +1,17 @@
 -- What is answered of a trace.
-use Rattle.std.specs.Prelude.{◌≡◌, ◌<◌, ◌^◌, ℕ, List, [], Option, Some, None, Ok, Err, length}
+use Rattle.std.specs.Prelude.{◌≡◌, ℕ, List, [], Option, Some, None}
 use Rattle.scram_types.specs.declared.flights.Flown.{Flown}
-use Rattle.scram_types.specs.declared.limits.TheConstants.{MAX_TRACE_BYTES}
 use Rattle.scram_types.specs.Specification.{Parts}
 use Rattle.scram_io.specs.Outside.{History}
 use Rattle.trace_props.specs.declared.breaks.Broken.{Broken}
 use Rattle.trace_props.specs.Breaks.{IsFirstBreak}
 use Rattle.trace_props.specs.Properties.{HoldsAll}
-use Rattle.trace_text.specs.declared.rule.TheConstants.{WRONG_END}
-use Rattle.trace_text.specs.declared.trace_reading.TraceFault.{TraceFault}
-use Rattle.trace_text.specs.TraceReading.{trace_of}
-use Rattle.form_base.specs.declared.status.TheConstants.{ANSWERED, BROKEN_PROPERTY, BROKEN_TRACE}
-use Rattle.form_base.specs.Answers.{Answer, AnswersDocument, AnswersFile, Gives, WithoutFiles}
+use Rattle.form_base.specs.declared.status.TheConstants.{ANSWERED, BROKEN_PROPERTY}
+use Rattle.form_base.specs.Answers.{Answer, Gives, WithoutFiles}
 use Rattle.form_base.specs.Assurance.{OfDocument, OfSpecification}
 use Rattle.form_base.specs.Specifications.{AsksSpecification}
-use Rattle.trace_forms.specs.Lines.{broken_line, holds_line, trace_line}
-
--- The bytes are this trace of a specification's missions; its rows and its reports can be counted with 32 bits.
-pub record SaysTrace (spec : Parts) (flown : Flown) (bytes : List ℕ) : Type 0 where
-  pub is : trace_of spec bytes ≡ Ok flown
-  pub rows : length flown.rows < 2 ^ 32
-  pub reports : length flown.reports < 2 ^ 32
-
--- The bytes are refused as a trace of a specification's missions.
-pub record BreaksTrace (spec : Parts) (refusal : ℕ × List ℕ) (bytes : List ℕ) : Type 0 where
-  pub fault : TraceFault
-  pub is : trace_of spec bytes ≡ Err fault
-  pub line : refusal ≡ (BROKEN_TRACE, trace_line fault)
-
--- What is answered of a trace with too many bytes.
-abbrev pub long_trace : ℕ × List ℕ
-long_trace = (BROKEN_TRACE, trace_line (record { line = 0; rule = WRONG_END }))
-
--- The file of this name is asked for, and this is answered of the trace that it holds.
-abbrev pub AsksTrace : Parts → List ℕ → (Flown → Answer) → Answer
-AsksTrace spec name Then = AnswersFile MAX_TRACE_BYTES long_trace name (AnswersDocument (SaysTrace spec) (BreaksTrace spec) Then)
+use Rattle.trace_files.specs.Traces.{AsksTrace, SaysTrace}
+use Rattle.trace_forms.specs.Lines.{broken_line, holds_line}
 
 -- The first break of a property by a trace, or none where all of them hold of it.
 abbrev pub Judges : Parts → Flown → Option Broken → Type 0

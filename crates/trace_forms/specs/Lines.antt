@@ -3,12 +3,7 @@ use Rattle.std.specs.Prelude.{ℕ, ◌+◌, List, ◌++◌, codes, decimal}
 use Rattle.scram_types.specs.declared.flights.Flown.{Flown}
 use Rattle.trace_props.specs.declared.breaks.Broken.{Broken}
 use Rattle.trace_props.specs.Breaks.{property_number}
-use Rattle.trace_text.specs.declared.trace_reading.TraceFault.{TraceFault}
 use Rattle.form_base.specs.Lines.{counts_text}
-
--- a trace breaks a rule in a line
-abbrev pub trace_line : TraceFault → List ℕ
-trace_line fault = codes "refused: trace rule " ++ decimal fault.rule ++ codes " at line " ++ decimal fault.line ++ codes "\n"
 
 -- the six properties hold of a trace
 abbrev pub holds_line : Flown → List ℕ

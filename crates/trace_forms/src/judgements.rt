@@ -5,10 +5,10 @@ ghost use Rattle.scram_types.specs.declared.flights.Flown.{Flown};
 ghost use Rattle.form_base.specs.Answers.{WithoutFiles};
 ghost use Rattle.form_base.specs.Endings.{Ends, IsTaken, Prepares};
 ghost use Rattle.form_base.specs.declared.status.TheConstants.{ANSWERED, BROKEN_PROPERTY};
-ghost use Rattle.trace_forms.specs.Answers.{AsksTrace, IsJudgement, PropsAnswers};
+ghost use Rattle.trace_files.specs.Traces.{AsksTrace};
+ghost use Rattle.trace_forms.specs.Answers.{IsJudgement, PropsAnswers};
 ghost use Rattle.trace_forms.specs.Verdicts.{HasVerdict, TellsJudgement};
 
-use crate::documents::Trace;
 use crate::lines::{make_broken_line, make_holds_line};
 use form_base::loads::load;
 use form_base::refusals::Refusal;
@@ -18,15 +18,9 @@ use form_base::telling::{tell, tell_refusal};
 use scram_io::{Files, Sink};
 use scram_types::{Flown, Spec};
 use std::alloc::Global;
+use trace_files::{Trace, TraceFiles};
 use trace_props::props;
 use trace_text::lines::Line;
-
-/// The files that the words `props SPEC TRACE` name.
-#[derive(Clone, Copy)]
-pub struct TraceFiles<'a> {
-    pub specification: &'a str,
-    pub trace: &'a str,
-}
 
 /// How a trace is judged: status and line.
 #[derive(Drop)]

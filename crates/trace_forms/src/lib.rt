@@ -2,8 +2,7 @@
 //! words name.
 #![tactic(auto)]
 
-mod documents;
 mod judgements;
 mod lines;
 
-pub use judgements::{TraceFiles, props_form};
+pub use judgements::props_form;

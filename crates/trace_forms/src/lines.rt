@@ -1,26 +1,12 @@
 //! The lines in which a trace is answered, made without memory.
 
 ghost use Rattle.std.specs.Prelude.{◌≡◌, ◌<◌, ◌^◌, length};
-ghost use Rattle.trace_forms.specs.Lines.{broken_line, holds_line, trace_line};
+ghost use Rattle.trace_forms.specs.Lines.{broken_line, holds_line};
 
 use form_base::lines::add_counts;
 use scram_types::Flown;
 use trace_props::Broken;
-use trace_text::TraceFault;
 use trace_text::lines::Line;
-
-/// Returns the line for a trace that breaks a rule.
-pub fn make_trace_line(fault: TraceFault) -> Line
-    ensures { result ≡ trace_line fault }
-{
-    let mut line = Line::new();
-    line.text(b"refused: trace rule ");
-    line.number(u32::from(fault.rule));
-    line.text(b" at line ");
-    line.number(fault.line);
-    line.text(b"\n");
-    line
-}
 
 /// Returns the line for a trace of which the six properties hold: the numbers of its frames and of its
 /// reconfigurations.

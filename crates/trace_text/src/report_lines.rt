@@ -14,10 +14,7 @@ pub fn make_report_line(spec: &Spec, report: &Report) -> Line
     let mut line = Line::new();
     line.text(b"reconfiguration ");
     line.text(spec.conf_name(report.from).as_bytes());
-    match report.to {
-        Some(to) => add_finished(&mut line, spec, report, to),
-        None => add_unfinished(&mut line, spec, report),
-    }
+    add_target(&mut line, spec, report);
     line.text(b"\n");
     line
 }
@@ -33,6 +30,18 @@ pub fn make_end_line(frames: u32, reports: u32) -> Line
     line.number(reports);
     line.text(b"\n");
     line
+}
+
+/// Adds where a reconfiguration led, when it began and ended, how long it took and the bound on it: at most 90 bytes.
+pub fn add_target(line: &mut Line, spec: &Spec, report: &Report)
+    requires { length line.old + 90 ≤ MAX_LINE_BYTES }
+    ensures text { line.new ≡ line.old ++ target_text spec.now report.now report.now.to }
+    ensures short { length line.new ≤ length line.old + 90 }
+{
+    match report.to {
+        Some(to) => add_finished(line, spec, report, to),
+        None => add_unfinished(line, spec, report),
+    }
 }
 
 fn add_finished(line: &mut Line, spec: &Spec, report: &Report, to: ConfId)
@@ -60,7 +69,8 @@ fn add_unfinished(line: &mut Line, spec: &Spec, report: &Report)
     add_length(line, report, spec.greatest_bound(report.from));
 }
 
-fn add_length(line: &mut Line, report: &Report, bound: Option<u32>)
+/// Adds how long a reconfiguration took, and the bound on that.
+pub fn add_length(line: &mut Line, report: &Report, bound: Option<u32>)
     requires { length line.old + 30 ≤ MAX_LINE_BYTES }
     ensures text { line.new ≡ line.old ++ length_text report.now bound }
     ensures short { length line.new ≤ length line.old + 30 }

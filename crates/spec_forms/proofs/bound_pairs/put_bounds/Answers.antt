@@ -1,18 +1,12 @@
-use Rattle.std.proofs.Common.{suc, length, arith}
-use Rattle.spec_forms.specs.Bounds.{bounds_text, bounds_text_from, texts_below}
-use Rattle.scram_io.proofs.Puts.{printed_more, cut_in}
-use Rattle.spec_forms.proofs.TextsBelow.{texts_more, texts_rest}
+use Rattle.std.proofs.Common.{length, arith}
+use Rattle.form_base.proofs.TextsBelow.{cut_below, printed_next}
+use Rattle.spec_forms.specs.Bounds.{bounds_text_from}
 use Rattle.spec_forms.proofs.bound_pairs.put_bounds.Goals as goal
 
 pub returns-in-Err : goal.returns-in-Err
 returns-in-Err g c =
-    let text = bounds_text_from c.args.spec.now in
-    let rest = texts_rest text (suc c.loop-i.i) (length c.args.spec.now.confs) (omega (arith, c.loop-i-test.true, c.count_confs-i-end.ensures.value)) in
-    cut_in _ _ _ (bounds_text c.args.spec.now) (texts_below text c.loop-i.i) (text c.loop-i.i) rest.0 rest.1
-    c.loop-i.invariant c.in-Err.ensures
+    cut_below (bounds_text_from c.args.spec.now) c.loop-i.i (length c.args.spec.now.confs) _ _ _
+    (omega (arith, c.loop-i-test.true, c.count_confs-i-end.ensures.value)) c.loop-i.invariant c.in-Err.ensures
 
 pub loop-i-preserved : goal.loop-i-preserved
-loop-i-preserved g c =
-    let text = bounds_text_from c.args.spec.now in
-    rw (texts_more text c.loop-i.i)
-    (printed_more _ _ _ (texts_below text c.loop-i.i) (text c.loop-i.i) c.loop-i.invariant c.in-Ok.ensures)
+loop-i-preserved g c = printed_next (bounds_text_from c.args.spec.now) c.loop-i.i _ _ _ c.loop-i.invariant c.in-Ok.ensures

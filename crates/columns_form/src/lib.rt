@@ -1,0 +1,9 @@
+//! The form `columns`: a trace as a table of comma-separated values. What it prints is the answer to the bytes of the files
+//! that its words name.
+#![tactic(auto)]
+
+mod fields;
+mod heads;
+mod tables;
+
+pub use tables::columns_form;

@@ -1,0 +1,14 @@
+use Rattle.std.proofs.Common.{length, codes}
+use Rattle.scram_io.proofs.Puts.{cut_more, prints_more}
+use Rattle.picture_form.specs.Picture.{front_text, grid_text}
+use Rattle.picture_form.proofs.pictures.put_body.Goals as goal
+
+pub returns-in-Ok : goal.returns-in-Ok
+returns-in-Ok g c =
+    prints_more c.put_front.result _ _ _ (grid_text c.args.sheet c.args.reports.now)
+    (front_text c.args.spec.now c.args.sheet c.args.rows.now c.args.reports.now) c.in-Ok.ensures c.put_front.ensures
+
+pub returns-in-Err : goal.returns-in-Err
+returns-in-Err g c =
+    cut_more _ _ (grid_text c.args.sheet c.args.reports.now)
+    (front_text c.args.spec.now c.args.sheet c.args.rows.now c.args.reports.now) c.in-Err.ensures

@@ -1,0 +1,8 @@
+pub mod Boxes
+pub mod Curves
+pub mod Lanes
+pub mod Picture
+pub mod Reconfigurations
+pub mod Sheets
+pub mod Spans
+pub mod Styles

@@ -1,0 +1,14 @@
+//! The form `picture`: a trace as a picture, in SVG. What it prints is the answer to the bytes of the files that its words
+//! name.
+#![tactic(auto)]
+
+mod boxes;
+mod curves;
+mod lanes;
+mod pictures;
+mod reconfigurations;
+mod sheets;
+mod spans;
+mod styles;
+
+pub use pictures::picture_form;

@@ -1,0 +1,186 @@
+//! Where things stand in a picture, in pixels.
+
+ghost use Rattle.std.specs.Prelude.{◌≡◌, ◌<◌, ◌≤◌, ◌^◌, length};
+ghost use Rattle.flight_facts.specs.Spans.{IsLane};
+ghost use Rattle.picture_form.specs.Sheets.{IsSheet, bottom_of, curves_y, lane_of, lane_y, lanes_of, room_above, rows_of_tick, scale_of, sheet_height, sheet_of, sheet_width, ticks_of, width_of, x_of};
+
+use flight_facts::spans::Lane;
+use scram_types::{Row, Spec};
+
+/// The numbers of rows and of lanes, by which all places are found.
+#[derive(Clone, Copy, Debug, PartialEq, Eq)]
+pub struct Sheet {
+    pub rows: u32,
+    pub factors: u8,
+    pub procs: u8,
+    pub apps: u8,
+}
+
+/// Returns the numbers of rows and of lanes.
+pub fn sheet_of(spec: &Spec, rows: &[Row]) -> Sheet
+    requires { length rows.now < 2 ^ 32 }
+    ensures value { result ≡ sheet_of spec.now rows.now }
+    ensures sound { IsSheet result }
+{
+    Sheet {
+        rows: rows.len() as u32,
+        factors: spec.factors.items().len() as u8,
+        procs: spec.procs.items().len() as u8,
+        apps: spec.apps.items().len() as u8,
+    }
+}
+
+fn scale_of(rows: u32) -> u64
+    ensures value { result ≡ scale_of rows }
+    ensures small { result ≤ 8 }
+{
+    if rows > 8000 {
+        1
+    } else if rows > 4000 {
+        2
+    } else if rows > 2000 {
+        4
+    } else {
+        8
+    }
+}
+
+fn rows_of_tick(rows: u32) -> u32
+    ensures value { result ≡ rows_of_tick rows }
+    ensures some { 10 ≤ result }
+    ensures small { result ≤ 100 }
+{
+    if rows > 8000 {
+        100
+    } else if rows > 4000 {
+        50
+    } else if rows > 2000 {
+        25
+    } else {
+        10
+    }
+}
+
+impl Sheet {
+    /// Returns how wide a row is.
+    pub fn scale(self) -> u64
+        ensures value { result ≡ scale_of self.rows }
+        ensures small { result ≤ 8 }
+    {
+        scale_of(self.rows)
+    }
+
+    /// Returns how many rows there are from one tick to the next.
+    pub fn tick(self) -> u32
+        ensures value { result ≡ rows_of_tick self.rows }
+        ensures some { 10 ≤ result }
+        ensures small { result ≤ 100 }
+    {
+        rows_of_tick(self.rows)
+    }
+
+    /// Returns where row `k` begins.
+    pub fn x(self, k: u64) -> u64
+        requires { k ≤ 2 ^ 40 }
+        ensures value { result ≡ x_of self k }
+        ensures small { result ≤ 2 ^ 44 }
+    {
+        136 + self.scale() * k
+    }
+
+    /// Returns the number of ticks.
+    pub fn ticks(self) -> u32
+        ensures { result ≡ ticks_of self }
+    {
+        self.rows / self.tick() + 1
+    }
+
+    /// Returns how wide a number of rows is.
+    pub fn width_of(self, rows: u32) -> u64
+        ensures { result ≡ width_of self rows }
+    {
+        self.scale() * u64::from(rows)
+    }
+
+    /// Returns the number of lanes of factors, processors and applications.
+    pub fn lanes(self) -> u8
+        requires { IsSheet self }
+        ensures value { result ≡ lanes_of self }
+        ensures few { result ≤ 22 }
+    {
+        self.factors + self.procs + self.apps
+    }
+
+    /// Returns a lane by its number, 0 to the number of lanes less one.
+    pub fn lane(self, n: u8) -> Lane
+        requires sheet { IsSheet self }
+        requires lane { n < lanes_of self }
+        ensures value { result ≡ lane_of self n }
+        ensures lane { IsLane result }
+    {
+        if n < self.factors {
+            Lane::Factor(n)
+        } else if n < self.factors + self.procs {
+            Lane::Processor(n - self.factors)
+        } else {
+            Lane::Application(n - (self.factors + self.procs))
+        }
+    }
+
+    fn room_above(self, n: u8) -> u64
+        requires { IsSheet self }
+        ensures value { result ≡ room_above self n }
+        ensures small { result ≤ 16 }
+    {
+        if n < self.factors {
+            0
+        } else if n < self.factors + self.procs {
+            8
+        } else {
+            16
+        }
+    }
+
+    /// Returns where a lane begins.
+    pub fn lane_y(self, n: u8) -> u64
+        requires { IsSheet self }
+        ensures value { result ≡ lane_y self n }
+        ensures small { result ≤ 6000 }
+    {
+        72 + 20 * u64::from(n) + self.room_above(n)
+    }
+
+    /// Returns where the curves begin.
+    pub fn curves_y(self) -> u64
+        requires { IsSheet self }
+        ensures value { result ≡ curves_y self }
+        ensures small { result ≤ 6000 }
+    {
+        96 + 20 * u64::from(self.lanes())
+    }
+
+    /// Returns the end of the second curve.
+    pub fn bottom(self) -> u64
+        requires { IsSheet self }
+        ensures value { result ≡ bottom_of self }
+        ensures small { result ≤ 7000 }
+    {
+        self.curves_y() + 120
+    }
+
+    /// Returns the width of the picture.
+    pub fn width(self) -> u64
+        ensures { result ≡ sheet_width self }
+    {
+        let width = 288 + self.scale() * u64::from(self.rows);
+        width.max(912)
+    }
+
+    /// Returns the height of the picture.
+    pub fn height(self) -> u64
+        requires { IsSheet self }
+        ensures { result ≡ sheet_height self }
+    {
+        self.bottom() + 68
+    }
+}

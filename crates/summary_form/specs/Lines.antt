@@ -1,0 +1,62 @@
+-- The lines of a summary.
+use Rattle.std.specs.Prelude.{ℕ, List, ◌++◌, codes, decimal, Option, Some, None}
+use Rattle.std.specs.List.{count_by}
+use Rattle.std.specs.Prelude.{Bool, true, false, length}
+use Rattle.scram_types.specs.Lookups.{conf_name}
+use Rattle.scram_types.specs.Specification.{Parts}
+use Rattle.scram_types.specs.declared.flights.Report.{Report}
+use Rattle.scram_types.specs.declared.flights.Row.{Row}
+use Rattle.scram_types.specs.declared.ids.ConfId.{ConfId}
+use Rattle.scram_types.specs.declared.specification.AppSpec.{AppSpec}
+use Rattle.trace_text.specs.Text.{target_text}
+use Rattle.flight_facts.specs.Acts.{count_acts}
+use Rattle.flight_facts.specs.Decisions.{cause_text, difference_or_dash, env_at, env_before}
+use Rattle.flight_facts.specs.Extremes.{extremes_of, extremes_text}
+use Rattle.flight_facts.specs.Gaps.{gap_text, longest_gap}
+use Rattle.flight_facts.specs.Margins.{margin_of}
+use Rattle.flight_facts.specs.declared.acts.ActWord.TheVariants as word
+use Rattle.flight_facts.specs.declared.extremes.Extremes.{Extremes}
+use Rattle.flight_facts.specs.declared.extremes.Quantity.TheVariants.{Altitude, Climb, Bank}
+use Rattle.form_base.specs.Lines.{counts_text}
+
+-- whether a reconfiguration has no target, being cut off by the end of the flight
+abbrev pub has_no_target : Option ConfId → Bool
+has_no_target None = true
+has_no_target (Some to) = false
+
+-- how many reconfigurations are unfinished
+abbrev pub count_unfinished : List Report → ℕ
+count_unfinished reports = count_by (λ (report : Report). has_no_target report.to) reports
+
+-- the line of the flight
+abbrev pub flight_line : List Row → List Report → List ℕ
+flight_line rows reports = codes "flight" ++ counts_text rows reports ++ codes " unfinished " ++ decimal (count_unfinished reports) ++ codes "\n"
+
+-- the line of a reconfiguration, `earlier` being the one before it
+abbrev pub reconfiguration_line : Parts → List Row → Option Report → Report → List ℕ
+reconfiguration_line spec rows earlier report =
+    codes "reconfiguration " ++ conf_name spec report.from.0 ++ target_text spec report report.to ++ codes " margin " ++ margin_of spec report
+    ++ codes " cause " ++ cause_text spec rows earlier report.begin ++ codes "\n"
+
+-- the line of what changed in row k
+abbrev pub change_line : Parts → List Row → ℕ → List ℕ
+change_line spec rows k =
+    codes "  frame " ++ decimal k ++ codes " " ++ difference_or_dash spec (env_before spec rows k) (env_at rows k) ++ codes "\n"
+
+-- the line of application a
+abbrev pub app_line : List Row → ℕ → AppSpec → List ℕ
+app_line rows a app =
+    codes "app " ++ app.name ++ codes " ran " ++ decimal (count_acts word.Ran a rows) ++ codes " lost " ++ decimal (count_acts word.Lost a rows)
+    ++ codes " off " ++ decimal (count_acts word.Off a rows) ++ gap_text (longest_gap a 0 rows) ++ codes "\n"
+
+-- the ranges of altitude, climb and bank, `-` where there is no row
+abbrev pub ranges_text : Option Extremes → Option Extremes → Option Extremes → List ℕ
+ranges_text None climb bank = codes " -"
+ranges_text (Some altitude) None bank = codes " -"
+ranges_text (Some altitude) (Some climb) None = codes " -"
+ranges_text (Some altitude) (Some climb) (Some bank) =
+    codes " altitude " ++ extremes_text altitude ++ codes " climb " ++ extremes_text climb ++ codes " bank " ++ extremes_text bank
+
+-- the line of the world
+abbrev pub world_line : List Row → List ℕ
+world_line rows = codes "world" ++ ranges_text (extremes_of Altitude rows) (extremes_of Climb rows) (extremes_of Bank rows) ++ codes "\n"

@@ -1,0 +1,7 @@
+//! The form `summary`: what a flight came to. What it prints is the answer to the bytes of the files that its words name.
+#![tactic(auto)]
+
+mod lines;
+mod summaries;
+
+pub use summaries::summary_form;

@@ -1,0 +1,3 @@
+mod Counted
+pub mod FileReading
+pub mod Viewing

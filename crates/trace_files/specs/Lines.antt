@@ -1,0 +1,7 @@
+-- The line in which a trace is refused.
+use Rattle.std.specs.Prelude.{ℕ, List, ◌++◌, codes, decimal}
+use Rattle.trace_text.specs.declared.trace_reading.TraceFault.{TraceFault}
+
+-- a trace breaks a rule in a line
+abbrev pub trace_line : TraceFault → List ℕ
+trace_line fault = codes "refused: trace rule " ++ decimal fault.rule ++ codes " at line " ++ decimal fault.line ++ codes "\n"

@@ -1,0 +1,37 @@
+-- What is answered of a specification and a trace that are only looked at, and not judged.
+use Rattle.std.specs.Prelude.{◌≡◌, ◌<◌, ◌^◌, ℕ, List, [], length}
+use Rattle.scram_types.specs.declared.flights.Flown.{Flown}
+use Rattle.scram_types.specs.declared.flights.Report.{Report}
+use Rattle.scram_types.specs.declared.flights.Row.{Row}
+use Rattle.scram_types.specs.Specification.{Parts}
+use Rattle.scram_io.specs.Outside.{History}
+use Rattle.form_base.specs.declared.status.TheConstants.{ANSWERED}
+use Rattle.form_base.specs.Answers.{Answer, Gives, WithoutFiles}
+use Rattle.form_base.specs.Assurance.{OfDocument, OfSpecification}
+use Rattle.form_base.specs.Specifications.{AsksSpecification}
+use Rattle.trace_files.specs.declared.flights.Flight.{Flight}
+use Rattle.trace_files.specs.Traces.{AsksTrace, SaysTrace}
+
+-- What is printed of the rows and reports of a flight.
+abbrev pub View : Type 0
+View = Parts → List Row → List Report → List ℕ
+
+-- The answer by a view to the names of a specification's file and of a trace's; the specification need not be accepted.
+abbrev pub ViewAnswers : View → List ℕ → List ℕ → Answer
+ViewAnswers view specification trace =
+    AsksSpecification specification (λ (spec : Parts). AsksTrace spec trace (λ (flown : Flown).
+    WithoutFiles (Gives (ANSWERED, view spec flown.rows flown.reports))))
+
+-- Status 0 assures that the text is the view of the trace, and that no further file was read.
+abbrev pub AssuresView : View → List ℕ → List ℕ → History → List ℕ → Type 0
+AssuresView view specification trace =
+    OfSpecification specification (λ (spec : Parts). OfDocument (SaysTrace spec) trace (λ (flown : Flown) (reads : History) (text : List ℕ).
+    (reads ≡ []) × (text ≡ view spec flown.rows flown.reports)))
+
+-- The text is the view of a flight.
+abbrev pub TellsView : View → Flight → ℕ → List ℕ → Type 0
+TellsView view flight = Gives (ANSWERED, view flight.spec flight.flown.rows flight.flown.reports)
+
+-- The rows and the reports of a flight can be counted with 32 bits.
+abbrev pub IsCounted : Flight → Type 0
+IsCounted flight = (length flight.flown.rows < 2 ^ 32) × (length flight.flown.reports < 2 ^ 32)

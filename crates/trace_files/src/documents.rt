@@ -1,0 +1,57 @@
+//! Traces, as files hold them.
+
+ghost use Rattle.std.specs.Prelude.{◌≡◌};
+ghost use Rattle.scram_types.specs.declared.limits.TheConstants.{MAX_TRACE_BYTES};
+ghost use Rattle.form_base.specs.Refusals.{told};
+ghost use Rattle.form_base.specs.declared.status.TheConstants.{BROKEN_TRACE};
+ghost use Rattle.trace_files.specs.Traces.{BreaksTrace, SaysTrace, long_trace};
+ghost use Rattle.trace_files.specs.Lines.{trace_line};
+
+use crate::lines::make_trace_line;
+use form_base::loads::Document;
+use form_base::refusals::{Refusal, Refused};
+use scram_types::limits::MAX_TRACE_BYTES;
+use scram_types::{Flown, Spec};
+use std::alloc::Global;
+use trace_text::{TraceError, TraceFault, read_trace, rule};
+
+/// The document of a trace of a specification's missions.
+#[derive(Clone, Copy)]
+pub struct Trace<'a> {
+    pub spec: &'a Spec,
+}
+
+fn refuse(fault: TraceFault) -> Refusal
+    ensures { told result ≡ (BROKEN_TRACE, trace_line fault) }
+{
+    Refusal::new(Refused::Trace, make_trace_line(fault))
+}
+
+impl Document<Flown> for Trace<'_> {
+    ghost limit = { λ _. MAX_TRACE_BYTES };
+
+    ghost long = { λ _. long_trace };
+
+    ghost Says = { λ trace. SaysTrace trace.spec.now };
+
+    ghost Breaks = { λ trace. BreaksTrace trace.spec.now };
+
+    fn limit(&self) -> usize {
+        MAX_TRACE_BYTES
+    }
+
+    fn read(&self, alloc: Global, bytes: &[u8]) -> Result<Flown, Refusal> {
+        match read_trace(alloc, bytes, self.spec) {
+            Ok(flown) => Ok(flown),
+            Err(TraceError::Fault(fault)) => Err(refuse(fault)),
+            Err(TraceError::NoMemory) => Err(Refusal::out_of_memory()),
+        }
+    }
+
+    fn too_long(&self) -> Refusal {
+        refuse(TraceFault {
+            line: 0,
+            rule: rule::WRONG_END,
+        })
+    }
+}

@@ -1,0 +1,70 @@
+//! A trace with the specification of its missions, as two files hold them.
+
+ghost use Rattle.std.specs.Prelude.{◌∷◌, ◌<◌, ◌^◌, [], IfOk, length};
+ghost use Rattle.scram_types.specs.declared.flights.Flown.{Flown};
+ghost use Rattle.form_base.specs.Answers.{Gives, WithoutFiles};
+ghost use Rattle.form_base.specs.Endings.{Prepares};
+ghost use Rattle.form_base.specs.declared.status.TheConstants.{ANSWERED};
+ghost use Rattle.trace_files.specs.Looks.{IsCounted, TellsView, View, ViewAnswers};
+ghost use Rattle.trace_files.specs.Traces.{AsksTrace};
+
+use crate::documents::Trace;
+use form_base::loads::load;
+use form_base::refusals::Refusal;
+use form_base::specifications::Specification;
+use scram_io::Files;
+use scram_types::{Flown, Spec};
+use std::alloc::Global;
+
+/// The files of a specification and of a trace of its missions.
+#[derive(Clone, Copy)]
+pub struct TraceFiles<'a> {
+    pub specification: &'a str,
+    pub trace: &'a str,
+}
+
+/// A specification, and a trace of its missions.
+#[derive(Drop)]
+pub struct Flight {
+    pub spec: Spec,
+    pub flown: Flown,
+}
+
+/// Reads a specification and a trace, of which a text is to be printed.
+pub fn read_flight<F: Files>(
+    alloc: Global,
+    named: TraceFiles<'_>,
+    files: &mut F,
+) -> Result<Flight, Refusal>
+    ensures reads { (view : View) → Prepares (ViewAnswers view named.entry.specification.now named.entry.trace.now) (TellsView view)
+        (named.entry.specification.now ∷ named.entry.trace.now ∷ []) (F.state files.old) (F.state files.new) result }
+    ensures counted { IfOk result IsCounted }
+{
+    match load(alloc, &Specification, named.specification, files) {
+        Ok(spec) => match read_flown(alloc, &spec, named.trace, files) {
+            Ok(flown) => Ok(Flight { spec, flown }),
+            Err(refusal) => {
+                drop(spec);
+                Err(refusal)
+            }
+        },
+        Err(refusal) => Err(refusal),
+    }
+}
+
+fn read_flown<F: Files>(
+    alloc: Global,
+    spec: &Spec,
+    trace: &str,
+    files: &mut F,
+) -> Result<Flown, Refusal>
+    ensures reads { (view : View) → Prepares (AsksTrace spec.now trace.now (λ (flown : Flown). WithoutFiles (Gives (ANSWERED, view spec.now flown.rows flown.reports))))
+        (λ (flown : Flown). Gives (ANSWERED, view spec.now flown.rows flown.reports)) (trace.now ∷ []) (F.state files.old) (F.state files.new) result }
+    ensures rows { IfOk result (λ flown. length flown.rows < 2 ^ 32) }
+    ensures reports { IfOk result (λ flown. length flown.reports < 2 ^ 32) }
+{
+    match load(alloc, &Trace { spec }, trace, files) {
+        Ok(flown) => Ok(flown),
+        Err(refusal) => Err(refusal),
+    }
+}

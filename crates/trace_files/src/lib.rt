@@ -1,0 +1,9 @@
+//! Traces, as files hold them with the specification of their missions: what each form stands on that looks at a trace.
+#![tactic(auto)]
+
+pub mod documents;
+pub mod flights;
+mod lines;
+
+pub use documents::Trace;
+pub use flights::{Flight, TraceFiles, read_flight};

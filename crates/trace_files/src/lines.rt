@@ -1,0 +1,20 @@
+//! The line in which a trace is refused, made without memory.
+
+ghost use Rattle.std.specs.Prelude.{◌≡◌};
+ghost use Rattle.trace_files.specs.Lines.{trace_line};
+
+use trace_text::TraceFault;
+use trace_text::lines::Line;
+
+/// Returns the line for a trace that breaks a rule.
+pub fn make_trace_line(fault: TraceFault) -> Line
+    ensures { result ≡ trace_line fault }
+{
+    let mut line = Line::new();
+    line.text(b"refused: trace rule ");
+    line.number(u32::from(fault.rule));
+    line.text(b" at line ");
+    line.number(fault.line);
+    line.text(b"\n");
+    line
+}
