@@ -1,0 +1,59 @@
+-- Lanes, in which each row of a flight is shown, and spans of rows that are shown alike.
+use Rattle.std.specs.Prelude.{ℕ, zero, suc, ◌+◌, ◌<◌, ◌==◌, ◌&&◌, Bool, true, false, List, [], ◌∷◌, drop, slice_get, slice_index, Option, Some, None, option_and_then, if◌then◌else◌}
+use Rattle.scram_types.specs.Bits.{has_bit}
+use Rattle.scram_types.specs.declared.flights.Row.{Row}
+use Rattle.scram_types.specs.declared.ids.ProcId.{ProcId}
+use Rattle.scram_types.specs.declared.orders.Act.{Act}
+use Rattle.flight_facts.specs.Acts.{act_at, act_word, word_number, mode_of_act, proc_of_act}
+use Rattle.flight_facts.specs.declared.spans.Lane.{Lane}
+use Rattle.flight_facts.specs.declared.spans.Lane.TheVariants as lane
+
+-- A lane is that of one of up to six factors, eight processors and eight applications.
+abbrev pub IsLane : Lane → Type 0
+IsLane (lane.Factor i) = i < 6
+IsLane (lane.Processor p) = p < 8
+IsLane (lane.Application a) = a < 8
+
+-- the same processor, or none
+abbrev pub same_proc : Option ProcId → Option ProcId → Bool
+same_proc None None = true
+same_proc None (Some p) = false
+same_proc (Some p) None = false
+same_proc (Some p) (Some q) = p.0 == q.0
+
+-- the same word, mode and processor
+abbrev pub same_doing : Act → Act → Bool
+same_doing act other =
+    (word_number (act_word act) == word_number (act_word other)) && (mode_of_act act == mode_of_act other) && same_proc (proc_of_act act) (proc_of_act other)
+
+-- a processor is in both of two sets, or in none
+abbrev pub same_bit : ℕ → ℕ → ℕ → Bool
+same_bit p set other = if has_bit set p then has_bit other p else (if has_bit other p then false else true)
+
+-- Two rows are shown alike in a lane: in that of a factor by its value, in that of a processor by whether it is up, in
+-- that of an application by what it did, in which mode and on which processor.
+abbrev pub are_alike : Lane → Row → Row → Bool
+are_alike (lane.Factor i) row other = slice_index row.env.factors i == slice_index other.env.factors i
+are_alike (lane.Processor p) row other = same_bit p row.env.up other.env.up
+are_alike (lane.Application a) row other = same_doing (act_at row a) (act_at other a)
+
+-- of these rows, how many on end from the first on are shown as a row
+abbrev pub alike_rows : Lane → Row → List Row → ℕ
+alike_rows lane row [] = 0
+alike_rows lane row (next ∷ rows) = if are_alike lane row next then alike_rows lane row rows + 1 else 0
+
+-- a row is not shown as the one before it, or there is none before it
+abbrev pub is_new : Lane → Option Row → Row → Bool
+is_new lane None row = true
+is_new lane (Some before) row = if are_alike lane before row then false else true
+
+-- the row before row k
+abbrev pub row_before : List Row → ℕ → Option Row
+row_before rows zero = None
+row_before rows (suc k) = slice_get rows k
+
+-- The rows of the span that row k begins: it and those on end behind it that are shown as it is; none where it is
+-- shown as the row before it.
+abbrev pub span_at : Lane → List Row → ℕ → Option ℕ
+span_at lane rows k =
+    option_and_then (λ (row : Row). if is_new lane (row_before rows k) row then Some (alike_rows lane row (drop (k + 1) rows) + 1) else None) (slice_get rows k)

@@ -1,0 +1,115 @@
+//! How a reconfiguration came about: the row in which it is decided, and its cause.
+
+ghost use Rattle.std.specs.Prelude.{◌≡◌, ◌≤◌, ◌+◌, ◌++◌, length, option_and_then};
+ghost use Rattle.scram_types.specs.declared.limits.TheConstants.{MAX_LINE_BYTES};
+ghost use Rattle.flight_facts.specs.Decisions.{cause_text, decided_in, differ, difference_or_dash, env_at, env_before, is_moving, put_off_in};
+
+use crate::differences::{add_difference, have_changed};
+use scram_types::{Env, KMode, Report, Row, Spec};
+use trace_text::lines::Line;
+
+/// Returns the row in which a reconfiguration is decided that begins in row `begin`: that one where it moves, else, since
+/// something was lost in it, the next one, which may not exist.
+pub fn decided_in(rows: &[Row], begin: u32) -> usize
+    ensures { result ≡ decided_in rows.now begin }
+{
+    let begin = begin as usize;
+    match rows.get(begin) {
+        Some(row) => if is_moving(&row.mode) {
+            begin
+        } else {
+            begin + 1
+        },
+        None => begin + 1,
+    }
+}
+
+/// Returns the environment of a row, or `None` where there is no such row.
+pub fn env_at(rows: &[Row], k: usize) -> Option<Env>
+    ensures { result ≡ env_at rows.now k }
+{
+    match rows.get(k) {
+        Some(row) => Some(row.env),
+        None => None,
+    }
+}
+
+/// Returns whether anything differs between two environments that are there.
+pub fn differ(spec: &Spec, before: Option<Env>, after: Option<Env>) -> bool
+    ensures { result ≡ differ spec.now before after }
+{
+    match (before, after) {
+        (Some(before), Some(after)) => have_changed(spec, &before, &after),
+        (Some(_), None) => false,
+        (None, Some(_)) => false,
+        (None, None) => false,
+    }
+}
+
+/// Adds the difference between two environments, `-` where one is missing.
+pub fn add_difference_or_dash(line: &mut Line, spec: &Spec, before: Option<Env>, after: Option<Env>)
+    requires { length line.old + 348 ≤ MAX_LINE_BYTES }
+    ensures text { line.new ≡ line.old ++ difference_or_dash spec.now before after }
+    ensures short { length line.new ≤ length line.old + 348 }
+{
+    match (before, after) {
+        (Some(before), Some(after)) => add_difference(line, spec, &before, &after),
+        (Some(_), None) => line.text(b"-"),
+        (None, Some(_)) => line.text(b"-"),
+        (None, None) => line.text(b"-"),
+    }
+}
+
+/// Adds the cause of a reconfiguration that begins in row `begin`: what changed in the row in which it is decided, or,
+/// where nothing did, since the reconfiguration before it was decided, if that one is finished in the row before.
+pub fn add_cause(line: &mut Line, spec: &Spec, rows: &[Row], earlier: Option<Report>, begin: u32)
+    requires { length line.old + 348 ≤ MAX_LINE_BYTES }
+    ensures text { line.new ≡ line.old ++ cause_text spec.now rows.now earlier begin }
+    ensures short { length line.new ≤ length line.old + 348 }
+{
+    let decided = decided_in(rows, begin);
+    let after = env_at(rows, decided);
+    let before = env_before(spec, rows, decided);
+    if differ(spec, before, after) {
+        add_difference_or_dash(line, spec, before, after);
+    } else {
+        add_difference_or_dash(line, spec, put_off_env(rows, earlier, begin), after);
+    }
+}
+
+fn is_moving(mode: &KMode) -> bool
+    ensures { result ≡ is_moving mode.now }
+{
+    match mode {
+        KMode::Stable(_) => false,
+        KMode::Moving {
+            from: _,
+            halting: _,
+            to: _,
+            since: _,
+        } => true,
+    }
+}
+
+/// Returns the environment of the row before row `k`; before the first one that in which a flight opens.
+pub fn env_before(spec: &Spec, rows: &[Row], k: usize) -> Option<Env>
+    ensures { result ≡ env_before spec.now rows.now k }
+{
+    if k == 0 {
+        Some(spec.opening_env())
+    } else {
+        env_at(rows, k - 1)
+    }
+}
+
+// Returns the environment in which the reconfiguration before was decided, where it is finished in the row before `begin`.
+fn put_off_env(rows: &[Row], earlier: Option<Report>, begin: u32) -> Option<Env>
+    ensures { result ≡ option_and_then (env_at rows.now) (put_off_in rows.now earlier begin) }
+{
+    let earlier = earlier?;
+    if earlier.to.is_some() && u64::from(earlier.end) + 1 == u64::from(begin) {
+        env_at(rows, decided_in(rows, earlier.begin))
+    } else {
+        None
+    }
+}

@@ -1,0 +1,79 @@
+//! The least and the greatest of a quantity of the aircraft.
+
+ghost use Rattle.std.specs.Prelude.{◌≡◌, ◌≤◌, ◌+◌, ◌++◌, Some, length};
+ghost use Rattle.scram_types.specs.declared.limits.TheConstants.{MAX_LINE_BYTES};
+ghost use Rattle.flight_facts.specs.Extremes.{extremes_of, extremes_text, quantity_of, widened};
+
+use scram_types::{Row, World};
+use trace_text::lines::Line;
+
+/// What a row says of the aircraft.
+#[derive(Clone, Copy, Debug, PartialEq, Eq)]
+pub enum Quantity {
+    /// In feet.
+    Altitude,
+    /// In tenths of a foot per frame.
+    Climb,
+    /// In tenths of a degree.
+    Heading,
+    /// In tenths of a degree.
+    Bank,
+}
+
+/// The least and the greatest of some numbers.
+#[derive(Clone, Copy, Debug, PartialEq, Eq)]
+pub struct Extremes {
+    pub least: i64,
+    pub greatest: i64,
+}
+
+/// Returns a quantity of the aircraft.
+pub fn quantity_of(quantity: Quantity, world: &World) -> i64
+    ensures { result ≡ quantity_of quantity world.now }
+{
+    match quantity {
+        Quantity::Altitude => world.alt,
+        Quantity::Climb => world.climb,
+        Quantity::Heading => world.heading,
+        Quantity::Bank => world.bank,
+    }
+}
+
+/// Returns the least and the greatest of all rows, or `None` where there is no row.
+pub fn extremes_of(quantity: Quantity, rows: &[Row]) -> Option<Extremes>
+    ensures { result ≡ extremes_of quantity rows.now }
+{
+    let mut so_far = None;
+    let mut k = rows.len();
+    while k > 0 {
+        k -= 1;
+        so_far = Some(widened(quantity_of(quantity, &rows[k].world), so_far));
+    }
+    so_far
+}
+
+fn widened(number: i64, so_far: Option<Extremes>) -> Extremes
+    ensures { result ≡ widened number so_far }
+{
+    match so_far {
+        Some(so_far) => Extremes {
+            least: number.min(so_far.least),
+            greatest: number.max(so_far.greatest),
+        },
+        None => Extremes {
+            least: number,
+            greatest: number,
+        },
+    }
+}
+
+/// Adds the least and the greatest.
+pub fn add_extremes(line: &mut Line, extremes: &Extremes)
+    requires { length line.old + 44 ≤ MAX_LINE_BYTES }
+    ensures text { line.new ≡ line.old ++ extremes_text extremes.now }
+    ensures short { length line.new ≤ length line.old + 44 }
+{
+    line.signed(&extremes.least);
+    line.text(b" to ");
+    line.signed(&extremes.greatest);
+}

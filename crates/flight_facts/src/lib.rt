@@ -1,0 +1,11 @@
+//! What a flight came to, read off its rows and reports: differences between environments, decisions and their
+//! causes, margins, gaps, extremes and spans.
+#![tactic(auto)]
+
+pub mod acts;
+pub mod decisions;
+pub mod differences;
+pub mod extremes;
+pub mod gaps;
+pub mod margins;
+pub mod spans;
