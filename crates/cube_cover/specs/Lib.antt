@@ -3,3 +3,5 @@ pub mod Leasts
 pub mod Regions
 pub mod Covers
 pub mod Findings
+pub mod Sizes
+pub mod Shares

@@ -1,13 +1,18 @@
 //! The outcome of a configuration's choices over all environments in scope, from cubes of environments: the possible
-//! targets, and the least environments in which no rule fits, the target cannot run, or the target is left again.
+//! targets, and the least environments in which no rule fits, the target cannot run, or the target is left again; and
+//! in how many environments each rule is the first that fits.
 #![tactic(auto)]
 
 pub mod answers;
 pub mod covers;
 mod cubes;
+pub mod laws;
 mod leasts;
 mod regions;
+pub mod shares;
+mod sizes;
 mod splits;
 
 pub use answers::Cover;
 pub use covers::cover;
+pub use shares::{Share, first_rule, shares_of};
