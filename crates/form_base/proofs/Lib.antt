@@ -3,3 +3,4 @@ pub mod Endings
 pub mod Pluses
 pub mod Reading
 pub mod SpecReading
+pub mod TextsBelow

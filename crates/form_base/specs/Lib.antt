@@ -6,3 +6,4 @@ pub mod Lines
 pub mod Loads
 pub mod Specifications
 pub mod Telling
+pub mod Texts

@@ -1,2 +1,1 @@
 pub mod Assuring
-pub mod TextsBelow

@@ -1,18 +1,14 @@
 -- The text of the bounds that a specification has to give.
-use Rattle.std.specs.Prelude.{◌≡◌, ℕ, zero, suc, ◌<◌, List, [], ◌++◌, length, slice_get, Some, if◌then◌else◌}
+use Rattle.std.specs.Prelude.{◌≡◌, ℕ, ◌<◌, List, [], length, slice_get, Some, if◌then◌else◌}
 use Rattle.scram_types.specs.Lookups.{conf_id}
 use Rattle.scram_types.specs.Specification.{Parts}
 use Rattle.coverage_check.specs.Timing.{asked_bounds, is_bound_asked}
+use Rattle.form_base.specs.Texts.{texts_below}
 use Rattle.spec_forms.specs.Lines.{bound_line}
 
 -- A line, where a bound from i to j is asked for.
 abbrev pub bound_text_of : Parts → ℕ → ℕ → List ℕ
 bound_text_of spec i j = if is_bound_asked spec (conf_id i) j then bound_line spec (conf_id i) (conf_id j) else []
-
--- The texts of the numbers below n, one after another.
-abbrev pub texts_below : (ℕ → List ℕ) → ℕ → List ℕ
-texts_below text zero = []
-texts_below text (suc n) = texts_below text n ++ text n
 
 -- The lines of the pairs that begin with i.
 abbrev pub bounds_text_from : Parts → ℕ → List ℕ

@@ -1,7 +1,8 @@
 use Rattle.std.proofs.Common.{suc, length, arith}
-use Rattle.spec_forms.specs.Bounds.{bounds_text, bounds_text_from, texts_below}
+use Rattle.spec_forms.specs.Bounds.{bounds_text, bounds_text_from}
 use Rattle.scram_io.proofs.Puts.{printed_more, cut_in}
-use Rattle.spec_forms.proofs.TextsBelow.{texts_more, texts_rest}
+use Rattle.form_base.specs.Texts.{texts_below}
+use Rattle.form_base.proofs.TextsBelow.{texts_more, texts_rest}
 use Rattle.spec_forms.proofs.bound_pairs.put_bounds.Goals as goal
 
 pub returns-in-Err : goal.returns-in-Err

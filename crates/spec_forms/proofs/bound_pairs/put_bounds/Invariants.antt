@@ -1,4 +1,5 @@
-use Rattle.spec_forms.specs.Bounds.{bounds_text_from, texts_below}
+use Rattle.spec_forms.specs.Bounds.{bounds_text_from}
+use Rattle.form_base.specs.Texts.{texts_below}
 use Rattle.scram_io.specs.Outside.{Printed}
 use Rattle.spec_forms.proofs.bound_pairs.put_bounds.Given as goal
 

@@ -1,4 +1,5 @@
-use Rattle.spec_forms.specs.Bounds.{bound_text_of, texts_below}
+use Rattle.spec_forms.specs.Bounds.{bound_text_of}
+use Rattle.form_base.specs.Texts.{texts_below}
 use Rattle.scram_io.specs.Outside.{Printed}
 use Rattle.spec_forms.proofs.bound_pairs.put_bounds_from.Given as goal
 

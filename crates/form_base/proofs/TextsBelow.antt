@@ -2,7 +2,7 @@
 use Rattle.std.proofs.Common.{◌≡◌, ℕ, zero, suc, ◌+◌, ◌≤◌, List, [], ◌++◌, refl, sym, ap, arith, append_assoc, append-nil, ◌∙◌}
 use mathlib.Core.Logic.{inl, inr}
 use Rattle.scram_types.proofs.Naturals.{at_or_below}
-use Rattle.spec_forms.specs.Bounds.{texts_below}
+use Rattle.form_base.specs.Texts.{texts_below}
 
 -- the texts of all numbers below n begin with those of the first i
 pub texts_rest : (text : ℕ → List ℕ) (i n : ℕ) → i ≤ n → (rest : List ℕ) × (texts_below text n ≡ texts_below text i ++ rest)
