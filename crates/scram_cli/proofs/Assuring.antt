@@ -3,11 +3,12 @@ use Rattle.std.proofs.Common.{◌≡◌, ℕ, List}
 use Rattle.std.specs.Prelude.{Option, Some, None}
 use Rattle.form_base.specs.Assurance.{IsAssuring}
 use Rattle.form_base.proofs.Assuring.{not_zero, text_of_gives}
+use Rattle.choice_forms.proofs.Assuring.{choices_assure, choose_assures}
 use Rattle.spec_forms.proofs.Assuring.{bounds_assure, check_assures}
 use Rattle.trace_forms.proofs.Assuring.{props_assure}
 use Rattle.flight_forms.specs.Assurance.{FlightsAreAssured}
 use Rattle.scram_cli.specs.declared.forms.Form.{Form}
-use Rattle.scram_cli.specs.declared.forms.Form.TheVariants.{Run, Watch, Pair, Check, Bounds, Props, Replay, Gen, Fly, Told}
+use Rattle.scram_cli.specs.declared.forms.Form.TheVariants.{Run, Watch, Pair, Check, Bounds, Props, Replay, Choices, Choose, Gen, Fly, Told}
 use Rattle.scram_cli.specs.Answers.{FormAnswers}
 use Rattle.scram_cli.specs.Assurance.{AssuresForm}
 use Rattle.scram_cli.specs.Pages.{page_text}
@@ -21,6 +22,8 @@ form_assures law (Some (Check specification)) before after reads text is = check
 form_assures law (Some (Bounds specification)) before after reads text is = bounds_assure specification before after reads text is
 form_assures law (Some (Props specification trace)) before after reads text is = props_assure specification trace before after reads text is
 form_assures law (Some (Replay specification script schedule)) before after reads text is = law.replay specification script schedule before after reads text is
+form_assures law (Some (Choices specification)) before after reads text is = choices_assure specification before after reads text is
+form_assures law (Some (Choose specification conf state)) before after reads text is = choose_assures specification conf state before after reads text is
 form_assures law (Some (Gen number)) before after reads text is = law.gen number before after reads text is
 form_assures law (Some (Fly number)) before after reads text is = law.fly number before after reads text is
 form_assures law (Some (Told page)) before after reads text is = (is.0, text_of_gives (page_text page) text is.1)

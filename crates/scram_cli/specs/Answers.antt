@@ -3,10 +3,11 @@ use Rattle.std.specs.Prelude.{ℕ, List, Option, Some, None, codes}
 use Rattle.form_base.specs.declared.status.TheConstants.{ANSWERED, BROKEN_USAGE}
 use Rattle.form_base.specs.Answers.{Answer, Gives, WithoutFiles}
 use Rattle.spec_forms.specs.Answers.{BoundsAnswers, CheckAnswers}
+use Rattle.choice_forms.specs.Answers.{ChoicesAnswers, ChooseAnswers}
 use Rattle.trace_forms.specs.Answers.{PropsAnswers}
 use Rattle.flight_forms.specs.Answers.{FlyAnswers, GenAnswers, PairAnswers, ReplayAnswers, RunAnswers, WatchAnswers}
 use Rattle.scram_cli.specs.declared.forms.Form.{Form}
-use Rattle.scram_cli.specs.declared.forms.Form.TheVariants.{Run, Watch, Pair, Check, Bounds, Props, Replay, Gen, Fly, Told}
+use Rattle.scram_cli.specs.declared.forms.Form.TheVariants.{Run, Watch, Pair, Check, Bounds, Props, Replay, Choices, Choose, Gen, Fly, Told}
 use Rattle.scram_cli.specs.Pages.{page_text}
 
 -- The line where the words have no form.
@@ -24,6 +25,8 @@ FormAnswers (Some (Check specification)) = CheckAnswers specification
 FormAnswers (Some (Bounds specification)) = BoundsAnswers specification
 FormAnswers (Some (Props specification trace)) = PropsAnswers specification trace
 FormAnswers (Some (Replay specification script schedule)) = ReplayAnswers specification script schedule
+FormAnswers (Some (Choices specification)) = ChoicesAnswers specification
+FormAnswers (Some (Choose specification conf state)) = ChooseAnswers specification conf state
 FormAnswers (Some (Gen number)) = WithoutFiles (GenAnswers number)
 FormAnswers (Some (Fly number)) = WithoutFiles (FlyAnswers number)
 FormAnswers (Some (Told page)) = WithoutFiles (Gives (ANSWERED, page_text page))

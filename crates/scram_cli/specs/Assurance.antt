@@ -2,10 +2,11 @@
 use Rattle.std.specs.Prelude.{◌≡◌, ℕ, List, [], Option, Some, None}
 use Rattle.scram_io.specs.Outside.{History}
 use Rattle.spec_forms.specs.Answers.{AssuresBounds, AssuresCheck}
+use Rattle.choice_forms.specs.Answers.{AssuresChoices, AssuresChoose}
 use Rattle.trace_forms.specs.Answers.{AssuresProps}
 use Rattle.flight_forms.specs.Assurance.{AssuresFly, AssuresGen, AssuresReplay, AssuresRun, AssuresWatch}
 use Rattle.scram_cli.specs.declared.forms.Form.{Form}
-use Rattle.scram_cli.specs.declared.forms.Form.TheVariants.{Run, Watch, Pair, Check, Bounds, Props, Replay, Gen, Fly, Told}
+use Rattle.scram_cli.specs.declared.forms.Form.TheVariants.{Run, Watch, Pair, Check, Bounds, Props, Replay, Choices, Choose, Gen, Fly, Told}
 use Rattle.scram_cli.specs.Pages.{page_text}
 
 -- What status 0 assures of the words' form; words without a form never end with it.
@@ -18,6 +19,8 @@ AssuresForm (Some (Check specification)) reads text = AssuresCheck specification
 AssuresForm (Some (Bounds specification)) reads text = AssuresBounds specification reads text
 AssuresForm (Some (Props specification trace)) reads text = AssuresProps specification trace reads text
 AssuresForm (Some (Replay specification script schedule)) reads text = AssuresReplay specification script schedule reads text
+AssuresForm (Some (Choices specification)) reads text = AssuresChoices specification reads text
+AssuresForm (Some (Choose specification conf state)) reads text = AssuresChoose specification conf state reads text
 AssuresForm (Some (Gen number)) reads text = AssuresGen number reads text
 AssuresForm (Some (Fly number)) reads text = AssuresFly number reads text
 AssuresForm (Some (Told page)) reads text = (reads ≡ []) × (text ≡ page_text page)
