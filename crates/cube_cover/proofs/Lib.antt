@@ -1,10 +1,15 @@
 pub mod Bits
+pub mod Holders
 pub mod Holds
 pub mod Closed
 pub mod Meeting
 pub mod Scopes
 pub mod LeastDigits
 pub mod Unions
+pub mod Counts
+pub mod Listed
+pub mod CubeSizes
+pub mod RuleShares
 pub mod Tests
 pub mod Splitting
 pub mod Marking

@@ -16,6 +16,7 @@ use Rattle.cube_cover.specs.declared.cubes.Cube.{Cube}
 use Rattle.cube_cover.specs.declared.regions.Region.{Region}
 use Rattle.cube_cover.specs.Cubes.{Agree, IsSplit, holds, is_in}
 use Rattle.cube_cover.specs.Regions.{HoldsMarked, HoldsMore, MarksMore, Rule, is_held, is_marked, is_ruled}
+use Rattle.cube_cover.proofs.Holders.{split_beyond, split_within}
 use Rattle.cube_cover.proofs.Holds.{and_last}
 use Rattle.cube_cover.proofs.Unions.{in_none, taken_more}
 
@@ -144,11 +145,11 @@ none_of_none c rule cubes e v = ap (λ (b : Bool). b && rule_fits c v rule) (ap 
 module _ (spec : Parts) (c : ConfId) (rule : Choice) (cube : Cube) (cubes inside outside : List Cube) (parts : IsSplit spec cubes cube inside outside)
     (is : Agree spec (holds cube) (λ v. rule_fits c v rule)) where
   pub rest_of_rule : Agree spec (is_in outside) (λ v. is_in cubes v && not (rule_fits c v rule))
-  rest_of_rule v scope = parts.beyond v scope ∙ ap (λ (b : Bool). is_in cubes v && not b) (is v scope)
+  rest_of_rule v scope = split_beyond spec cubes cube inside outside parts v scope ∙ ap (λ (b : Bool). is_in cubes v && not b) (is v scope)
 
   pub taken_by_rule : (before after : List Region) → MarksMore before after inside rule.to → Rule spec c rule cubes before after
   taken_by_rule before after more passes v scope =
-      more passes v ∙ ap (λ (b : Bool). is_marked before passes v || (b && passes rule.to.0)) (parts.within v scope ∙ ap (λ (b : Bool). is_in cubes v && b) (is v scope))
+      more passes v ∙ ap (λ (b : Bool). is_marked before passes v || (b && passes rule.to.0)) (split_within spec cubes cube inside outside parts v scope ∙ ap (λ (b : Bool). is_in cubes v && b) (is v scope))
       ∙ ap (λ (b : Bool). is_marked before passes v || b) (sym (and_last (is_in cubes v) (rule_fits c v rule) (passes rule.to.0)))
 
 pub no_items : (cubes : List Cube) → length cubes ≡ 0 → cubes ≡ []

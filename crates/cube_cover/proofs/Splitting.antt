@@ -1,17 +1,16 @@
 -- Splitting cubes, place by place and cube by cube.
-use Rattle.std.proofs.Common.{◌≡◌, ◌∙◌, ℕ, ◌+◌, ◌<◌, refl, ap, sym, Bool, true, false, not, ◌&&◌, ◌||◌, List, [], length, take, get_or}
+use Rattle.std.proofs.Common.{◌≡◌, ◌∙◌, ℕ, ◌+◌, ◌<◌, refl, ap, sym, Bool, true, false, not, ◌&&◌, List, [], length, take, get_or}
+use Rattle.std.specs.Prelude.{if◌then◌else◌}
 use Rattle.scram_types.specs.declared.flights.Env.{Env}
 use Rattle.scram_types.specs.Specification.{IsSpec, Parts}
 use Rattle.scram_types.specs.Searches.{all_below}
 use Rattle.scram_types.proofs.Booleans.{by_bool}
 use Rattle.scram_types.proofs.Naturals.{plus_one}
 use Rattle.cube_cover.specs.declared.cubes.Cube.{Cube}
-use Rattle.cube_cover.specs.Cubes.{Agree, Gain, HasDigits, IsInScope, IsSplit, allows, holds, is_in}
-use Rattle.cube_cover.proofs.Closed.{holds_none}
+use Rattle.cube_cover.specs.Cubes.{Agree, Gain, HasDigits, IsInScope, IsSplit, allows, holders, holds, once}
+use Rattle.cube_cover.proofs.Holders.{cut_more, held_by_none, held_taken, part_more}
 use Rattle.cube_cover.proofs.Holds.{and_last}
 use Rattle.cube_cover.proofs.Scopes.{has_digits}
-use Rattle.cube_cover.proofs.Tests.{cut_more, part_more}
-use Rattle.cube_cover.proofs.Unions.{in_none, taken_more}
 
 pub digits_in_scope : (spec : Parts) → IsSpec spec → (v : Env) → IsInScope spec v → HasDigits v
 digits_in_scope spec made v scope = has_digits spec made v scope.belongs
@@ -31,24 +30,37 @@ module _ (spec : Parts) (cube by rest next : Cube) (x : ℕ) where
       → Gain spec old mid (λ v. holds cube v && not (all_below (allows by v) x)) → Gain spec mid new (λ v. holds rest v && not (allows by v x))
       → Gain spec old new (λ v. holds cube v && not (all_below (allows by v) (x + 1)))
   beyond_more old mid new before first second v scope =
-      second v scope ∙ ap (λ (b : Bool). b || (holds rest v && not (allows by v x))) (first v scope)
-      ∙ ap (λ (b : Bool). (is_in old v || (holds cube v && not (all_below (allows by v) x))) || (b && not (allows by v x))) (before v scope)
-      ∙ cut_more (is_in old v) (holds cube v) (all_below (allows by v) x) (allows by v x)
-      ∙ ap (λ (n : ℕ). is_in old v || (holds cube v && not (all_below (allows by v) n))) (plus_one x)
+      second v scope ∙ ap (λ (n : ℕ). n + once (holds rest v && not (allows by v x))) (first v scope)
+      ∙ ap (λ (b : Bool). (holders old v + once (holds cube v && not (all_below (allows by v) x))) + once (b && not (allows by v x))) (before v scope)
+      ∙ cut_more (holders old v) (holds cube v) (all_below (allows by v) x) (allows by v x)
+      ∙ ap (λ (n : ℕ). holders old v + once (holds cube v && not (all_below (allows by v) n))) (plus_one x)
 
 -- one cube more: of each cube the part that a test names
 pub parts_more : (spec : Parts) (cubes : List Cube) (k : ℕ) (d : Cube) (part : Env → Bool) (old new : List Cube) → k < length cubes
-    → Agree spec (is_in old) (λ v. is_in (take k cubes) v && part v) → Gain spec old new (λ v. holds (get_or cubes k d) v && part v)
-    → Agree spec (is_in new) (λ v. is_in (take (k + 1) cubes) v && part v)
+    → ((v : Env) → IsInScope spec v → holders old v ≡ (if part v then holders (take k cubes) v else 0)) → Gain spec old new (λ v. holds (get_or cubes k d) v && part v)
+    → (v : Env) → IsInScope spec v → holders new v ≡ (if part v then holders (take (k + 1) cubes) v else 0)
 parts_more spec cubes k d part old new low before gain v scope =
-    gain v scope ∙ ap (λ (b : Bool). b || (holds (get_or cubes k d) v && part v)) (before v scope)
-    ∙ part_more (is_in (take k cubes) v) (holds (get_or cubes k d) v) (part v) ∙ ap (λ (b : Bool). b && part v) (sym (taken_more cubes k d v low))
+    gain v scope ∙ ap (λ (n : ℕ). n + once (holds (get_or cubes k d) v && part v)) (before v scope)
+    ∙ part_more (holders (take k cubes) v) (holds (get_or cubes k d) v) (part v) ∙ ap (λ (n : ℕ). if part v then n else 0) (sym (held_taken cubes k d v low))
+
+-- what lies outside of a cube, as what passes the test of not being held
+pub outside_test : (n : ℕ) (b : Bool) → (if not b then n else 0) ≡ (if b then 0 else n)
+outside_test n true = refl
+outside_test n false = refl
 
 pub none_split : (spec : Parts) (by : Cube) (inside outside : List Cube) → inside ≡ [] → outside ≡ [] → IsSplit spec [] by inside outside
 none_split spec by inside outside e f = record {
-  within = λ v scope. rw (e, in_none v) refl;
-  beyond = λ v scope. rw (f, in_none v) refl;
+  within = λ v scope. rw (e) (zero_either (holds by v) (holders [] v) (held_by_none v));
+  beyond = λ v scope. rw (f) (either_zero (holds by v) (holders [] v) (held_by_none v));
 }
+  where
+    zero_either : (b : Bool) (n : ℕ) → n ≡ 0 → n ≡ (if b then n else 0)
+    zero_either true n e = refl
+    zero_either false n e = e
+
+    either_zero : (b : Bool) (n : ℕ) → n ≡ 0 → n ≡ (if b then 0 else n)
+    either_zero true n e = e
+    either_zero false n e = refl
 
 -- a cube that does not meet the other stays whole
 

@@ -25,6 +25,7 @@ use Rattle.cube_cover.specs.Covers.{IsCover, IsLeastEnv, cannot_run, earlier_env
 use Rattle.cube_cover.specs.Cubes.{Agree, IsSplit, holds, is_in}
 use Rattle.cube_cover.specs.Findings.{is_chosen_at, is_left_at, is_stuck_at}
 use Rattle.cube_cover.specs.Regions.{AreAll, AreRegions, HoldsMarked, MarksMore, is_ruled}
+use Rattle.cube_cover.proofs.Holders.{split_beyond}
 use Rattle.cube_cover.proofs.Unions.{least_either, least_same}
 
 -- what is chosen exists
@@ -99,7 +100,7 @@ module _ (spec : Parts) (i : ConfId) (t : ℕ) where
   pub stuck_cubes : (cubes inside outside : List Cube) (by : Cube) → Agree spec (is_in cubes) (is_chosen_at spec i t) → Agree spec (holds by) (is_runnable spec (conf_id t))
       → IsSplit spec cubes by inside outside → Agree spec (is_in outside) (is_stuck_at spec i t)
   stuck_cubes cubes inside outside by at runs parts v scope =
-      parts.beyond v scope ∙ ap (λ (b : Bool). b && not (holds by v)) (at v scope) ∙ ap (λ (b : Bool). is_chosen_at spec i t v && not b) (runs v scope)
+      split_beyond spec cubes by inside outside parts v scope ∙ ap (λ (b : Bool). b && not (holds by v)) (at v scope) ∙ ap (λ (b : Bool). is_chosen_at spec i t v && not b) (runs v scope)
 
   pub left_cubes : (cubes others unruled : List Cube) (ruled : List Region) → Agree spec (is_in cubes) (is_chosen_at spec i t) → AreRegions spec (conf_id t) cubes ruled unruled
       → HoldsMarked ruled (λ j. not (j == t)) others → Agree spec (is_in others) (is_left_at spec i t)

@@ -1,5 +1,5 @@
 -- Cubes of environments, and what they hold.
-use Rattle.std.specs.Prelude.{◌≡◌, ℕ, ◌+◌, ◌-◌, ◌*◌, ◌^◌, ◌<◌, ◌≤◌, Bool, true, not, ◌&&◌, ◌||◌, ◌==◌, nat_lt, List, length, if◌then◌else◌}
+use Rattle.std.specs.Prelude.{◌≡◌, ℕ, ◌+◌, ◌-◌, ◌*◌, ◌^◌, ◌<◌, ◌≤◌, Bool, true, ◌&&◌, ◌||◌, ◌==◌, nat_lt, List, [], ◌∷◌, length, if◌then◌else◌}
 use Rattle.std.specs.List.{list_any}
 use Rattle.scram_types.specs.declared.flights.Env.{Env}
 use Rattle.scram_types.specs.Specification.{Parts}
@@ -36,6 +36,15 @@ may_be_up cube p = has_bit cube.bits (4 * (6 + p) + 0)
 unfoldable pub is_in : List Cube → Env → Bool
 is_in cubes v = list_any (λ (cube : Cube). holds cube v) cubes
 
+-- 1 where a test passes, else 0.
+abbrev pub once : Bool → ℕ
+once test = if test then 1 else 0
+
+-- How many of the cubes hold the environment.
+unfoldable pub holders : List Cube → Env → ℕ
+holders [] v = 0
+holders (cube ∷ cubes) v = once (holds cube v) + holders cubes v
+
 -- An environment can have digit d at place x.
 unfoldable pub is_digit : Parts → ℕ → ℕ → Bool
 is_digit spec x d =
@@ -54,11 +63,15 @@ pub record IsInScope (spec : Parts) (v : Env) : Type 0 where
 abbrev pub Agree : Parts → (Env → Bool) → (Env → Bool) → Type 0
 Agree spec one other = (v : Env) → IsInScope spec v → one v ≡ other v
 
--- In scope, cubes hold what they held before, and what passes a test.
+-- Of each environment in scope, cubes hold one more than before where it passes a test.
 abbrev pub Gain : Parts → List Cube → List Cube → (Env → Bool) → Type 0
-Gain spec before after test = Agree spec (is_in after) (λ v. is_in before v || test v)
+Gain spec before after test = (v : Env) → IsInScope spec v → holders after v ≡ holders before v + once (test v)
 
--- In scope, two lists hold what lies inside and outside of a cube.
+-- In scope, two lists hold what lies inside and outside of a cube, each environment by as many cubes as before.
 pub record IsSplit (spec : Parts) (cubes : List Cube) (by : Cube) (inside outside : List Cube) : Type 0 where
-  pub within : Agree spec (is_in inside) (λ v. is_in cubes v && holds by v)
-  pub beyond : Agree spec (is_in outside) (λ v. is_in cubes v && not (holds by v))
+  pub within : (v : Env) → IsInScope spec v → holders inside v ≡ (if holds by v then holders cubes v else 0)
+  pub beyond : (v : Env) → IsInScope spec v → holders outside v ≡ (if holds by v then 0 else holders cubes v)
+
+-- No environment in scope is held by two of the cubes.
+abbrev pub AreDisjoint : Parts → List Cube → Type 0
+AreDisjoint spec cubes = (v : Env) → IsInScope spec v → holders cubes v ≤ 1

@@ -4,3 +4,5 @@ pub mod Regions
 pub mod Covers
 pub mod Demands
 pub mod Findings
+pub mod Sizes
+pub mod Shares

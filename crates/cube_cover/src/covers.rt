@@ -5,7 +5,7 @@ ghost use Rattle.scram_types.specs.Lookups.{conf_id};
 ghost use Rattle.scram_types.specs.Specification.{IsSpec};
 ghost use Rattle.choice_table.specs.Choices.{choose};
 ghost use Rattle.cube_cover.specs.Covers.{IsCover, IsLeastEnv, earlier_env};
-ghost use Rattle.cube_cover.specs.Cubes.{Agree, is_in};
+ghost use Rattle.cube_cover.specs.Cubes.{Agree, IsInScope, holders, is_in};
 ghost use Rattle.cube_cover.specs.Findings.{IsFinding, is_chosen_at};
 ghost use Rattle.cube_cover.specs.Regions.{AreAll, MarksMore};
 
@@ -63,7 +63,8 @@ fn count_confs(spec: &Spec) -> u8
 // Returns the one cube of all environments.
 pub(crate) fn all_cubes(alloc: Global, spec: &Spec) -> Result<Vec<Cube>, NoMemory>
     requires { IsSpec spec.now }
-    ensures { IfOk result (λ cubes. Agree spec.now (is_in cubes.items) (λ v. true)) }
+    ensures all { IfOk result (λ cubes. Agree spec.now (is_in cubes.items) (λ v. true)) }
+    ensures once { IfOk result (λ cubes. (v : Env) → IsInScope spec.now v → holders cubes.items v ≡ 1) }
 {
     let mut cubes = Vec::new(alloc);
     cubes.push(whole(spec))?;

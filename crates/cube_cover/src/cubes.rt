@@ -51,7 +51,7 @@ pub(crate) fn is_digit(spec: &Spec, x: u8, d: u8) -> bool
     }
 }
 
-fn count_values(spec: &Spec, x: u8) -> u8
+pub(crate) fn count_values(spec: &Spec, x: u8) -> u8
     ensures { result ≡ value_count spec.now.factors x }
 {
     match spec.factors.items().get(usize::from(x)) {

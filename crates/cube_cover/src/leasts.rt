@@ -113,7 +113,7 @@ fn belongs(spec: &Spec, env: &Env) -> bool
     true
 }
 
-fn holds(cube: Cube, env: &Env) -> bool
+pub(crate) fn holds(cube: Cube, env: &Env) -> bool
     requires { HasDigits env.now }
     ensures { result ≡ holds cube env.now }
 {

@@ -70,7 +70,7 @@ fn apply_rule(
     Ok(parts.outside)
 }
 
-fn is_source(from: Option<ConfId>, c: ConfId) -> bool
+pub(crate) fn is_source(from: Option<ConfId>, c: ConfId) -> bool
     ensures { result ≡ has_source from c }
 {
     match from {

@@ -17,7 +17,7 @@ mod writing;
 
 pub use assumption::{Outside, OutsideKind, within};
 pub use inputs::Input;
-pub use reading::read_script;
+pub use reading::{find_value, read_script};
 pub use scram_doc::{DocError as ScriptError, DocFault as ScriptFault};
 pub use times::{factors_at, halt_in, halt_of, restart_of, up_at};
 pub use walks::{Walk, up_set_at};

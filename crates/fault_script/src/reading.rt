@@ -52,7 +52,8 @@ fn read_named_factor(spec: &Spec, v: &Value, at: &Path) -> Result<FactorId, Scri
     }
 }
 
-fn find_value(spec: &Spec, factor: FactorId, text: &[u8]) -> Option<u8>
+/// Returns the number of the value of this name that a factor has, or `None` where there is no such factor or value.
+pub fn find_value(spec: &Spec, factor: FactorId, text: &[u8]) -> Option<u8>
     ensures { result ≡ find_value spec.now factor text.now }
 {
     match spec.factors.items().get(usize::from(factor.0)) {

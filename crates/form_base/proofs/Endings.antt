@@ -4,7 +4,7 @@ use Rattle.std.specs.Prelude.{◌≢◌, Option, Some, None, Result, Ok, Err, If
 use Rattle.scram_io.specs.Outside.{Agrees, CutOff, FileMap, FilesState, Flushed, History, Printed, Prints, Rose, SinkState, TakesSurely, Took, TookPrefix, Unrisen, taken}
 use Rattle.form_base.specs.declared.status.TheConstants.{ANSWERED, OUT_OF_MEMORY, UNREAD_FILE, UNWRITTEN_OUTPUT}
 use Rattle.form_base.specs.declared.refusals.Refused.{Refused}
-use Rattle.form_base.specs.declared.refusals.Refused.TheVariants.{Usage, File, Specification, Acceptance, Script, Assumption, Memory, Trace, Schedule}
+use Rattle.form_base.specs.declared.refusals.Refused.TheVariants.{Usage, File, Specification, Acceptance, Script, Assumption, Memory, Trace, Schedule, Name}
 use Rattle.form_base.specs.Answers.{Answer, Gives, WithoutFiles}
 use Rattle.form_base.specs.Assurance.{Assured, IsAssuring}
 use Rattle.form_base.specs.Endings.{AreInTurn, AreThere, Completes, Decides, Ends, IsPrepared, HasRoom, IsMemoryRefusal, IsQuietFor, IsSent, IsTaken, StaysQuiet, StoppedIn, Tells, WentOut}
@@ -68,6 +68,7 @@ refusal_written Assumption same = absurd (omega (arith, same))
 refusal_written Memory same = absurd (omega (arith, same))
 refusal_written Trace same = absurd (omega (arith, same))
 refusal_written Schedule same = absurd (omega (arith, same))
+refusal_written Name same = absurd (omega (arith, same))
 
 -- a refusal was printed
 pub refusal_ends : (A : Answer) (names : List (List ℕ)) (before after : FilesState) (refused : Refused) (line : List ℕ) (old new : SinkState) (code : ℕ)

@@ -4,8 +4,8 @@ use Rattle.form_base.specs.declared.refusals.Refusal.{Refusal}
 use Rattle.form_base.specs.declared.refusals.RefusalLine.{RefusalLine}
 use Rattle.form_base.specs.declared.refusals.RefusalLine.TheVariants.{Short, Naming}
 use Rattle.form_base.specs.declared.refusals.Refused.{Refused}
-use Rattle.form_base.specs.declared.refusals.Refused.TheVariants.{Usage, File, Specification, Acceptance, Script, Assumption, Memory, Trace, Schedule}
-use Rattle.form_base.specs.declared.status.TheConstants.{BROKEN_SCHEDULE, BROKEN_SCRIPT, BROKEN_SPECIFICATION, BROKEN_TRACE, BROKEN_USAGE, NOT_ACCEPTED, OUT_OF_MEMORY, UNASSUMED_SCRIPT, UNREAD_FILE}
+use Rattle.form_base.specs.declared.refusals.Refused.TheVariants.{Usage, File, Specification, Acceptance, Script, Assumption, Memory, Trace, Schedule, Name}
+use Rattle.form_base.specs.declared.status.TheConstants.{BROKEN_SCHEDULE, BROKEN_SCRIPT, BROKEN_SPECIFICATION, BROKEN_TRACE, BROKEN_USAGE, NOT_ACCEPTED, OUT_OF_MEMORY, UNASSUMED_SCRIPT, UNKNOWN_NAME, UNREAD_FILE}
 
 -- The status of what is refused.
 abbrev pub code_of : Refused → ℕ
@@ -18,6 +18,7 @@ code_of Assumption = UNASSUMED_SCRIPT
 code_of Memory = OUT_OF_MEMORY
 code_of Trace = BROKEN_TRACE
 code_of Schedule = BROKEN_SCHEDULE
+code_of Name = UNKNOWN_NAME
 
 -- The bytes of a line.
 abbrev pub line_text : RefusalLine → List ℕ

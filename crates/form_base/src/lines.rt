@@ -105,7 +105,8 @@ fn add_env_or_dash(line: &mut Line, spec: &Spec, env: &Option<Env>)
     }
 }
 
-fn add_env(line: &mut Line, spec: &Spec, env: &Env)
+/// Appends an environment, as refusals show it.
+pub fn add_env(line: &mut Line, spec: &Spec, env: &Env)
     requires { length line.old + 346 ≤ MAX_LINE_BYTES }
     ensures text { line.new ≡ line.old ++ env_text spec.now env.now }
     ensures short { length line.new ≤ length line.old + 346 }
@@ -129,7 +130,8 @@ fn add_factors(line: &mut Line, factors: &[Factor], values: &[u8; 6])
     }
 }
 
-fn add_down(line: &mut Line, spec: &Spec, up: u8)
+/// Appends the names of the processors that are not in the set `up`, joined by pluses, `-` where there is none.
+pub fn add_down(line: &mut Line, spec: &Spec, up: u8)
     requires { length line.old + 137 ≤ MAX_LINE_BYTES }
     ensures text { line.new ≡ line.old ++ added (names_down spec.now.procs up) }
     ensures short { length line.new ≤ length line.old + 137 }

@@ -29,6 +29,8 @@ pub enum Refused {
     Trace,
     /// A file breaks a rule of schedules, or the schedule does not fly to the end.
     Schedule,
+    /// A word names nothing of the specification.
+    Name,
 }
 
 impl Refused {
@@ -46,6 +48,7 @@ impl Refused {
             Refused::Memory => status::OUT_OF_MEMORY,
             Refused::Trace => status::BROKEN_TRACE,
             Refused::Schedule => status::BROKEN_SCHEDULE,
+            Refused::Name => status::UNKNOWN_NAME,
         }
     }
 }

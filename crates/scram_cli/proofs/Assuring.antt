@@ -3,6 +3,7 @@ use Rattle.std.proofs.Common.{◌≡◌, ℕ, List}
 use Rattle.std.specs.Prelude.{Option, Some, None}
 use Rattle.form_base.specs.Assurance.{IsAssuring}
 use Rattle.form_base.proofs.Assuring.{not_zero, text_of_gives}
+use Rattle.choice_forms.proofs.Assuring.{choices_assure, choose_assures}
 use Rattle.spec_forms.proofs.Assuring.{bounds_assure, check_assures}
 use Rattle.trace_files.proofs.Viewing.{view_assures}
 use Rattle.trace_forms.proofs.Assuring.{props_assure}
@@ -11,7 +12,7 @@ use Rattle.columns_form.specs.Table.{columns_text}
 use Rattle.picture_form.specs.Picture.{picture_text}
 use Rattle.flight_forms.specs.Assurance.{FlightsAreAssured}
 use Rattle.scram_cli.specs.declared.forms.Form.{Form}
-use Rattle.scram_cli.specs.declared.forms.Form.TheVariants.{Run, Watch, Pair, Check, Bounds, Props, Replay, Summary, Columns, Picture, Gen, Fly, Told}
+use Rattle.scram_cli.specs.declared.forms.Form.TheVariants.{Run, Watch, Pair, Check, Bounds, Props, Replay, Summary, Columns, Picture, Gen, Fly, Told, Choices, Choose}
 use Rattle.scram_cli.specs.Answers.{FormAnswers}
 use Rattle.scram_cli.specs.Assurance.{AssuresForm}
 use Rattle.scram_cli.specs.Pages.{page_text}
@@ -25,6 +26,8 @@ form_assures law (Some (Check specification)) before after reads text is = check
 form_assures law (Some (Bounds specification)) before after reads text is = bounds_assure specification before after reads text is
 form_assures law (Some (Props specification trace)) before after reads text is = props_assure specification trace before after reads text is
 form_assures law (Some (Replay specification script schedule)) before after reads text is = law.replay specification script schedule before after reads text is
+form_assures law (Some (Choices specification)) before after reads text is = choices_assure specification before after reads text is
+form_assures law (Some (Choose specification conf state)) before after reads text is = choose_assures specification conf state before after reads text is
 form_assures law (Some (Summary specification trace)) before after reads text is = view_assures summary_text specification trace before after reads text is
 form_assures law (Some (Columns specification trace)) before after reads text is = view_assures columns_text specification trace before after reads text is
 form_assures law (Some (Picture specification trace)) before after reads text is = view_assures picture_text specification trace before after reads text is

@@ -3,13 +3,14 @@ use Rattle.std.specs.Prelude.{◌≡◌, ℕ, List, [], Option, Some, None}
 use Rattle.scram_io.specs.Outside.{History}
 use Rattle.spec_forms.specs.Answers.{AssuresBounds, AssuresCheck}
 use Rattle.trace_files.specs.Looks.{AssuresView}
+use Rattle.choice_forms.specs.Answers.{AssuresChoices, AssuresChoose}
 use Rattle.trace_forms.specs.Answers.{AssuresProps}
 use Rattle.summary_form.specs.Summary.{summary_text}
 use Rattle.columns_form.specs.Table.{columns_text}
 use Rattle.picture_form.specs.Picture.{picture_text}
 use Rattle.flight_forms.specs.Assurance.{AssuresFly, AssuresGen, AssuresReplay, AssuresRun, AssuresWatch}
 use Rattle.scram_cli.specs.declared.forms.Form.{Form}
-use Rattle.scram_cli.specs.declared.forms.Form.TheVariants.{Run, Watch, Pair, Check, Bounds, Props, Replay, Summary, Columns, Picture, Gen, Fly, Told}
+use Rattle.scram_cli.specs.declared.forms.Form.TheVariants.{Run, Watch, Pair, Check, Bounds, Props, Replay, Summary, Columns, Picture, Gen, Fly, Told, Choices, Choose}
 use Rattle.scram_cli.specs.Pages.{page_text}
 
 -- What status 0 assures of the words' form; words without a form never end with it.
@@ -22,6 +23,8 @@ AssuresForm (Some (Check specification)) reads text = AssuresCheck specification
 AssuresForm (Some (Bounds specification)) reads text = AssuresBounds specification reads text
 AssuresForm (Some (Props specification trace)) reads text = AssuresProps specification trace reads text
 AssuresForm (Some (Replay specification script schedule)) reads text = AssuresReplay specification script schedule reads text
+AssuresForm (Some (Choices specification)) reads text = AssuresChoices specification reads text
+AssuresForm (Some (Choose specification conf state)) reads text = AssuresChoose specification conf state reads text
 AssuresForm (Some (Summary specification trace)) reads text = AssuresView summary_text specification trace reads text
 AssuresForm (Some (Columns specification trace)) reads text = AssuresView columns_text specification trace reads text
 AssuresForm (Some (Picture specification trace)) reads text = AssuresView picture_text specification trace reads text

@@ -1,10 +1,12 @@
 -- The forms of the command.
 use Rattle.std.specs.Prelude.{ℕ, List, [], ◌∷◌, Option, Some, None, codes, option_and_then, option_map, if◌then◌else◌}
 use Rattle.std.specs.Str.{bytes_eq}
+use Rattle.choice_forms.specs.declared.states.StateWord.{StateWord}
+use Rattle.choice_forms.specs.States.{state_in}
 use Rattle.kernel_pair.specs.declared.events.UnitHalt.{UnitHalt}
 use Rattle.trace_text.specs.Spelling.{spelled_number}
 use Rattle.scram_cli.specs.declared.forms.Form.{Form}
-use Rattle.scram_cli.specs.declared.forms.Form.TheVariants.{Run, Watch, Pair, Check, Bounds, Props, Replay, Summary, Columns, Picture, Gen, Fly, Told}
+use Rattle.scram_cli.specs.declared.forms.Form.TheVariants.{Run, Watch, Pair, Check, Bounds, Props, Replay, Summary, Columns, Picture, Gen, Fly, Told, Choices, Choose}
 use Rattle.scram_cli.specs.declared.pages.Page.TheVariants.{Help, Version}
 
 -- The number of a mission, up to 999,999, which the word has in decimal.
@@ -27,7 +29,8 @@ form_of_one command =
 abbrev pub form_of_two : List ℕ → List ℕ → Option (Form (List ℕ))
 form_of_two command word =
     if bytes_eq command (codes "check") then Some (Check word)
-    else (if bytes_eq command (codes "bounds") then Some (Bounds word) else form_of_number command word)
+    else (if bytes_eq command (codes "bounds") then Some (Bounds word)
+    else (if bytes_eq command (codes "choices") then Some (Choices word) else form_of_number command word))
 
 -- The form of three words that looks at a trace, if they have one.
 abbrev pub form_of_view : List ℕ → List ℕ → List ℕ → Option (Form (List ℕ))
@@ -61,16 +64,28 @@ abbrev pub form_of_six : List ℕ → List ℕ → List ℕ → List ℕ → Lis
 form_of_six command specification script unit frame step =
     if bytes_eq command (codes "pair") then option_map (λ (halt : UnitHalt). Pair specification script halt) (unit_halt unit frame step) else None
 
+-- The form of `choose` and its words, if they have it.
+abbrev pub choose_form : List ℕ → List ℕ → List (List ℕ) → Option (Form (List ℕ))
+choose_form specification conf state = option_map (λ (words : List StateWord). Choose specification conf words) (state_in state)
+
+-- The form of at most six words, if they have one.
+abbrev pub form_of_few : List (List ℕ) → Option (Form (List ℕ))
+form_of_few [] = None
+form_of_few (command ∷ []) = form_of_one command
+form_of_few (command ∷ first ∷ []) = form_of_two command first
+form_of_few (command ∷ first ∷ second ∷ []) = form_of_three command first second
+form_of_few (command ∷ first ∷ second ∷ third ∷ []) = form_of_four command first second third
+form_of_few (command ∷ first ∷ second ∷ third ∷ fourth ∷ []) = None
+form_of_few (command ∷ first ∷ second ∷ third ∷ fourth ∷ fifth ∷ []) = form_of_six command first second third fourth fifth
+form_of_few (command ∷ first ∷ second ∷ third ∷ fourth ∷ fifth ∷ sixth ∷ words) = None
+
 -- The form that words have, if they have one; a file stands in it by its name.
 abbrev pub form_of : List (List ℕ) → Option (Form (List ℕ))
-form_of [] = None
-form_of (command ∷ []) = form_of_one command
-form_of (command ∷ first ∷ []) = form_of_two command first
-form_of (command ∷ first ∷ second ∷ []) = form_of_three command first second
-form_of (command ∷ first ∷ second ∷ third ∷ []) = form_of_four command first second third
-form_of (command ∷ first ∷ second ∷ third ∷ fourth ∷ []) = None
-form_of (command ∷ first ∷ second ∷ third ∷ fourth ∷ fifth ∷ []) = form_of_six command first second third fourth fifth
-form_of (command ∷ first ∷ second ∷ third ∷ fourth ∷ fifth ∷ sixth ∷ words) = None
+form_of [] = form_of_few []
+form_of (command ∷ []) = form_of_few (command ∷ [])
+form_of (command ∷ specification ∷ []) = form_of_few (command ∷ specification ∷ [])
+form_of (command ∷ specification ∷ conf ∷ state) =
+    if bytes_eq command (codes "choose") then choose_form specification conf state else form_of_few (command ∷ specification ∷ conf ∷ state)
 
 -- What names the files, replaced.
 abbrev pub with_names : {A B : Type 0} → (A → B) → Form A → Form B
@@ -81,6 +96,8 @@ with_names name (Check specification) = Check (name specification)
 with_names name (Bounds specification) = Bounds (name specification)
 with_names name (Props specification trace) = Props (name specification) (name trace)
 with_names name (Replay specification script schedule) = Replay (name specification) (name script) (name schedule)
+with_names name (Choices specification) = Choices (name specification)
+with_names name (Choose specification conf state) = Choose (name specification) (name conf) state
 with_names name (Summary specification trace) = Summary (name specification) (name trace)
 with_names name (Columns specification trace) = Columns (name specification) (name trace)
 with_names name (Picture specification trace) = Picture (name specification) (name trace)
@@ -98,6 +115,8 @@ files_of (Some (Check specification)) = specification ∷ []
 files_of (Some (Bounds specification)) = specification ∷ []
 files_of (Some (Props specification trace)) = specification ∷ trace ∷ []
 files_of (Some (Replay specification script schedule)) = specification ∷ script ∷ schedule ∷ []
+files_of (Some (Choices specification)) = specification ∷ []
+files_of (Some (Choose specification conf state)) = specification ∷ []
 files_of (Some (Summary specification trace)) = specification ∷ trace ∷ []
 files_of (Some (Columns specification trace)) = specification ∷ trace ∷ []
 files_of (Some (Picture specification trace)) = specification ∷ trace ∷ []

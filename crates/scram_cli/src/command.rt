@@ -15,6 +15,7 @@ ghost use Rattle.scram_cli.specs.Pages.{page_text};
 use crate::forms::{Form, form_of};
 use crate::pages::{Page, page_text};
 use app_model::Rack;
+use choice_forms::{Question, choices, choose};
 use columns_form::columns_form;
 use flight_forms::laws::flights_are_assured;
 use flight_forms::{
@@ -39,10 +40,10 @@ use trace_text::lines::Line;
 /// it while two readers read its summary, `pair SPEC SCRIPT UNIT FRAME STEP` flies it with the kernel on two units,
 /// of which the one named may halt in that frame after that number of its steps, `check SPEC` prints whether a
 /// specification is accepted, `bounds SPEC` which bounds it has to give, `props SPEC TRACE` judges a trace, by any
-/// specification, `replay SPEC SCRIPT SCHEDULE` flies a mission by a schedule, `summary SPEC TRACE`,
-/// `columns SPEC TRACE` and `picture SPEC TRACE` print what a trace shows, `gen N` prints the mission of a number,
-/// and `fly N` flies it; `--help` and `--version` describe the program. What is printed has gone out when the
-/// call ends, or the status is 4.
+/// specification, `replay SPEC SCRIPT SCHEDULE` flies a mission by a schedule, `choices SPEC` prints what each rule
+/// chooses, `choose SPEC CONF STATE..` what is chosen in a state, `summary SPEC TRACE`, `columns SPEC TRACE` and
+/// `picture SPEC TRACE` print what a trace shows, `gen N` prints the mission of a number, and `fly N` flies it;
+/// `--help` and `--version` describe the program. What is printed has gone out when the call ends, or the status is 4.
 ///
 /// A mission is flown with a thread for each processor; by a schedule and on two units it is flown without threads.
 /// `racks` are the boxes of the processors, and `spares` those of processors that restart.
@@ -218,6 +219,23 @@ fn answer_form<R: AllocGlobal + Threads + Wait + Sync, F: Files, K: Sink>(
             out,
             boxes,
         ),
+        Form::Choices { specification } => {
+            drop(boxes);
+            choices(rt.alloc(), specification, files, out)
+        }
+        Form::Choose {
+            specification,
+            conf,
+            state,
+        } => {
+            drop(boxes);
+            let question = Question {
+                specification,
+                conf,
+                state: state.words(),
+            };
+            choose(rt.alloc(), question, files, out)
+        }
         Form::Summary {
             specification,
             trace,

@@ -1,9 +1,10 @@
 //! The forms of the command.
 
 ghost use Rattle.std.specs.Prelude.{◌≡◌, map, string_bytes, option_map};
-ghost use Rattle.scram_cli.specs.Forms.{form_of, form_of_four, form_of_number, form_of_one, form_of_six, form_of_three, form_of_two, form_of_view, mission_number, unit_halt, with_names};
+ghost use Rattle.scram_cli.specs.Forms.{form_of, form_of_four, form_of_number, form_of_one, form_of_six, form_of_three, form_of_two, form_of_view, mission_number, unit_halt, with_names, choose_form, form_of_few};
 
 use crate::pages::Page;
+use choice_forms::states::{State, read_state};
 use kernel_pair::UnitHalt;
 use trace_text::numbers::read_number;
 
@@ -18,7 +19,7 @@ const HALT_FRAMES: u64 = 20_000;
 const HALT_STEPS: u64 = 32;
 
 /// What the words ask for. `N` is what names a file.
-#[derive(Clone, Copy, Debug, PartialEq, Eq)]
+#[derive(Debug, Drop)]
 pub enum Form<N> {
     /// To fly the mission in two files.
     Run {
@@ -55,6 +56,16 @@ pub enum Form<N> {
         script: N,
         schedule: N,
     },
+    /// What each rule of a specification chooses, from where and in how many environments.
+    Choices {
+        specification: N,
+    },
+    /// What a specification chooses from a configuration, named first, in a state.
+    Choose {
+        specification: N,
+        conf: N,
+        state: State,
+    },
     /// What a flight came to, by its trace.
     Summary {
         specification: N,
@@ -87,6 +98,35 @@ pub enum Form<N> {
 /// Returns the form that the words after the program's name have.
 pub fn form_of(words: &[String]) -> Option<Form<&str>>
     ensures { option_map (with_names (λ name. name.now)) result ≡ form_of (map string_bytes words.now) }
+{
+    match words {
+        [command, specification, conf, state @ ..] => {
+            if command.as_str() == "choose" {
+                choose_form(specification.as_str(), conf.as_str(), state)
+            } else {
+                form_of_few(words)
+            }
+        }
+        _ => form_of_few(words),
+    }
+}
+
+fn choose_form<'a>(specification: &'a str, conf: &'a str, state: &[String]) -> Option<Form<&'a str>>
+    ensures { option_map (with_names (λ name. name.now)) result ≡ choose_form specification.now conf.now (map string_bytes state.now) }
+{
+    match read_state(state) {
+        Some(state) => Some(Form::Choose {
+            specification,
+            conf,
+            state,
+        }),
+        None => None,
+    }
+}
+
+// Returns the form of at most six words.
+fn form_of_few(words: &[String]) -> Option<Form<&str>>
+    ensures { option_map (with_names (λ name. name.now)) result ≡ form_of_few (map string_bytes words.now) }
 {
     match words {
         [command] => form_of_one(command.as_str()),
@@ -134,6 +174,10 @@ fn form_of_two<'a>(command: &str, word: &'a str) -> Option<Form<&'a str>>
         })
     } else if command == "bounds" {
         Some(Form::Bounds {
+            specification: word,
+        })
+    } else if command == "choices" {
+        Some(Form::Choices {
             specification: word,
         })
     } else {

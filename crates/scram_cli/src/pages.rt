@@ -21,6 +21,8 @@ pub const HELP: &str = concat!(
     "scram bounds SPEC                  tells which bounds a specification has to give\n",
     "scram props SPEC TRACE             judges a finished trace\n",
     "scram replay SPEC SCRIPT SCHEDULE  flies a mission by a schedule and prints its trace\n",
+    "scram choices SPEC                 prints what each rule chooses, from where and how often\n",
+    "scram choose SPEC CONF STATE..     prints what is chosen in a state, as battery=low -left\n",
     "scram summary SPEC TRACE           prints what a flight came to\n",
     "scram columns SPEC TRACE           prints a trace as a table of comma-separated values\n",
     "scram picture SPEC TRACE           prints a trace as a picture, in SVG\n",
@@ -41,6 +43,7 @@ pub const HELP: &str = concat!(
     "status 10  the trace breaks a property of reconfigurations\n",
     "status 11  the trace breaks a rule of traces\n",
     "status 12  the schedule breaks a rule of schedules, or does not fly the mission to its end\n",
+    "status 13  a word names nothing of the specification\n",
     "\n",
     "docs/GUIDE.md tells how to write a mission, docs/FORMATS.md what each line means.\n",
 );

@@ -10,7 +10,7 @@ use Rattle.cube_cover.proofs.covers.cover.Goals as goal
 pub find-requires-clause-regions : goal.find-requires-clause-regions
 find-requires-clause-regions c = subst (AreAll c.args.spec.now c.args.i) (sym c.deref-in-loop-t.ensures.value)
     (all_chosen c.args.spec.now c.args.i c.in_ok-all_cubes.field-0.items c.in_ok-found.found.unruled.items c.in_ok-found.found.ruled.items c.in_ok-regions.regions.items
-    (λ v scope. c.in_ok-all_cubes.ensures v scope) c.in_ok-found.ensures (λ passes v. c.in_ok-regions.ensures passes v))
+    (λ v scope. c.in_ok-all_cubes.ensures.all v scope) c.in_ok-found.ensures (λ passes v. c.in_ok-regions.ensures passes v))
 
 pub loop-t-init : goal.loop-t-init
 loop-t-init c =
@@ -18,7 +18,7 @@ loop-t-init c =
     record {
       targets = no_targets c.args.spec.now c.args.i;
       unfit = least_same c.args.spec.now (is_in c.in_ok-found.found.unruled.items) (is_unfit c.args.spec.now c.args.i) c.least_of-unfit.result
-          (unfit_rest c.args.spec.now c.args.i c.in_ok-all_cubes.field-0.items c.in_ok-found.found.unruled.items c.in_ok-found.found.ruled.items (λ v scope. c.in_ok-all_cubes.ensures v scope) c.in_ok-found.ensures) unfit;
+          (unfit_rest c.args.spec.now c.args.i c.in_ok-all_cubes.field-0.items c.in_ok-found.found.unruled.items c.in_ok-found.found.ruled.items (λ v scope. c.in_ok-all_cubes.ensures.all v scope) c.in_ok-found.ensures) unfit;
       not_runnable = λ v known scope. refl;
       unsettled = λ v known scope. refl;
     }

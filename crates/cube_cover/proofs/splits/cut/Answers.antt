@@ -1,7 +1,7 @@
 use Rattle.std.proofs.Common.{◌≡◌, ◌∙◌, ap, arith}
-use Rattle.std.specs.Prelude.{◌&&◌, ◌||◌, not}
+use Rattle.std.specs.Prelude.{◌+◌, ◌&&◌, not}
 use Rattle.scram_types.specs.Searches.{all_below}
-use Rattle.cube_cover.specs.Cubes.{allows, holds, is_in}
+use Rattle.cube_cover.specs.Cubes.{allows, holders, holds, once}
 use Rattle.cube_cover.proofs.Splitting.{beyond_more, digits_in_scope, rest_more}
 use Rattle.cube_cover.proofs.splits.cut.Goals as goal
 
@@ -18,7 +18,7 @@ pub returns-clause-beyond : goal.returns-clause-beyond
 unfolding holds
 returns-clause-beyond c = λ v scope.
     let end : c.loop-x.x ≡ 14 = omega arith in
-    c.loop-x.invariant.beyond v scope ∙ ap (λ n. is_in c.args.outside.now.items v || (holds c.args.cube v && not (all_below (allows c.args.by v) n))) end
+    c.loop-x.invariant.beyond v scope ∙ ap (λ n. holders c.args.outside.now.items v + once (holds c.args.cube v && not (all_below (allows c.args.by v) n))) end
 
 pub returns-clause-within : goal.returns-clause-within
 unfolding holds

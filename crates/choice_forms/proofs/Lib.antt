@@ -1,0 +1,4 @@
+pub mod Assuring
+pub mod Envs
+pub mod ShareTexts
+pub mod WordReading

@@ -1,0 +1,37 @@
+-- What is answered of the choices of a specification.
+use Rattle.std.specs.Prelude.{◌≡◌, ℕ, List, [], Option, Some, None}
+use Rattle.scram_types.specs.Specification.{Parts}
+use Rattle.scram_io.specs.Outside.{History}
+use Rattle.coverage_check.specs.declared.shown.Shown.{Shown}
+use Rattle.coverage_check.specs.Form.{state_refusal}
+use Rattle.form_base.specs.declared.status.TheConstants.{ANSWERED, NOT_ACCEPTED}
+use Rattle.form_base.specs.Answers.{Answer, Gives, WithoutFiles}
+use Rattle.form_base.specs.Assurance.{OfSpecification}
+use Rattle.form_base.specs.Lines.{shown_line}
+use Rattle.form_base.specs.Specifications.{AsksSpecification}
+use Rattle.choice_forms.specs.declared.states.StateWord.{StateWord}
+use Rattle.choice_forms.specs.Choosing.{choose_answer}
+use Rattle.choice_forms.specs.Tables.{choices_text}
+
+-- The answer to `choices`, which asks nothing but that environments be few.
+abbrev pub choices_answer : Parts → Option Shown → ℕ × List ℕ
+choices_answer spec (Some shown) = (NOT_ACCEPTED, shown_line spec shown)
+choices_answer spec None = (ANSWERED, choices_text spec)
+
+-- The answer to `choices` and the name of a specification's file.
+abbrev pub ChoicesAnswers : List ℕ → Answer
+ChoicesAnswers specification = AsksSpecification specification (λ (spec : Parts). WithoutFiles (Gives (choices_answer spec (state_refusal spec))))
+
+-- Where `choices` ends with status 0, no other file was read, and the text has the choices of the specification.
+abbrev pub AssuresChoices : List ℕ → History → List ℕ → Type 0
+AssuresChoices specification = OfSpecification specification (λ (spec : Parts) (reads : History) (text : List ℕ). (reads ≡ []) × (text ≡ choices_text spec))
+
+-- The answer to `choose`, the name of a specification's file, that of a configuration and the words of a state.
+abbrev pub ChooseAnswers : List ℕ → List ℕ → List StateWord → Answer
+ChooseAnswers specification conf state = AsksSpecification specification (λ (spec : Parts). WithoutFiles (Gives (choose_answer spec conf state)))
+
+-- Where `choose` ends with status 0, no other file was read, each word names something of the specification, and the
+-- text is the line of what is chosen.
+abbrev pub AssuresChoose : List ℕ → List ℕ → List StateWord → History → List ℕ → Type 0
+AssuresChoose specification conf state =
+    OfSpecification specification (λ (spec : Parts) (reads : History) (text : List ℕ). (reads ≡ []) × Gives (choose_answer spec conf state) ANSWERED text)

@@ -1,0 +1,22 @@
+-- The lines that tell choices.
+use Rattle.std.specs.Prelude.{ℕ, List, ◌++◌, slice_get, codes, decimal}
+use Rattle.std.specs.Option.{option_map_or}
+use Rattle.scram_types.specs.Lookups.{conf_name}
+use Rattle.scram_types.specs.Specification.{Parts}
+use Rattle.scram_types.specs.declared.flights.Env.{Env}
+use Rattle.scram_types.specs.declared.ids.ConfId.{ConfId}
+use Rattle.scram_types.specs.declared.specification.Choice.{Choice}
+use Rattle.form_base.specs.Lines.{env_text}
+
+-- rule k and its target
+abbrev pub target_text : Parts → ℕ → ConfId → List ℕ
+target_text spec k to = codes " rule " ++ decimal k ++ codes " to " ++ conf_name spec to.0
+
+-- rule k and its target, or that there is no rule
+abbrev pub rule_text : Parts → ℕ → List ℕ
+rule_text spec k = option_map_or (λ (rule : Choice). target_text spec k rule.to) (slice_get spec.rules k) (codes " no rule")
+
+-- rule k is the first that fits configuration `from` in so many environments in scope, the first of which is shown
+abbrev pub choice_line : Parts → ℕ → ℕ → ℕ → Env → List ℕ
+choice_line spec from k count first =
+    codes "choice " ++ conf_name spec from ++ rule_text spec k ++ codes " in " ++ decimal count ++ codes ", first " ++ env_text spec first ++ codes "\n"

@@ -1,0 +1,11 @@
+//! The forms in which the choice table is asked: `choices` and `choose`. What each prints is the answer to the bytes of
+//! the file that its words name.
+#![tactic(auto)]
+
+mod choosing;
+mod lines;
+pub mod states;
+mod tables;
+
+pub use choosing::{Question, choose};
+pub use tables::choices;

@@ -1,0 +1,164 @@
+//! How many environments in scope cubes hold.
+
+ghost use Rattle.std.specs.Prelude.{◌≡◌, ◌+◌, ◌*◌, ◌-◌, ◌^◌, ◌<◌, ◌≤◌, length, replicate};
+ghost use Rattle.scram_types.specs.Bits.{count_below};
+ghost use Rattle.scram_types.specs.Specification.{IsSpec};
+ghost use Rattle.choice_table.specs.Numbering.{environments, value_count};
+ghost use Rattle.cube_cover.specs.Cubes.{AreDisjoint, holds, is_in};
+ghost use Rattle.cube_cover.specs.Sizes.{allows_up, are_open, count_where, digit_of_processor, is_down_held, is_open_digit, open_ways};
+
+use crate::cubes::{Cube, count_values, is_open};
+use choice_table::in_scope;
+use scram_types::bits::has_bit;
+use scram_types::{Env, Spec};
+
+// Returns in how many environments in scope one of the cubes holds; no two of them may hold the same one.
+pub(crate) fn count_held(spec: &Spec, cubes: &[Cube]) -> u32
+    requires known { IsSpec spec.now }
+    requires disjoint { AreDisjoint spec.now cubes.now }
+    ensures { result ≡ count_where spec.now (is_in cubes.now) }
+{
+    let mut count = 0;
+    for cube in cubes {
+        count += size_of(spec, *cube);
+    }
+    count
+}
+
+// Returns how many environments in scope a cube holds: each set of processors that may be down in it, with each
+// combination of the values that are open.
+fn size_of(spec: &Spec, cube: Cube) -> u32
+    requires { IsSpec spec.now }
+    ensures { result ≡ count_where spec.now (holds cube) }
+{
+    if are_zeros_open(spec, cube) {
+        count_sets_held(spec, cube) * count_combinations(spec, cube)
+    } else {
+        0
+    }
+}
+
+// Returns whether the places past the last factor have digit 0 open, as each environment has it there.
+fn are_zeros_open(spec: &Spec, cube: Cube) -> bool
+    requires { IsSpec spec.now }
+    ensures { result ≡ are_open cube (length spec.now.factors) (replicate (6 - length spec.now.factors) 0) }
+{
+    for x in count_factors(spec)..6 {
+        if !is_open(cube, x, 0) {
+            return false;
+        }
+    }
+    true
+}
+
+fn count_factors(spec: &Spec) -> u8
+    requires { IsSpec spec.now }
+    ensures value { result ≡ length spec.now.factors }
+    ensures most { result ≤ 6 }
+{
+    spec.factors.items().len() as u8
+}
+
+// Returns how many sets of processors may be down, in scope and in the cube.
+fn count_sets_held(spec: &Spec, cube: Cube) -> u32
+    requires { IsSpec spec.now }
+    ensures value { result ≡ count_below (is_down_held spec.now cube) (2 ^ length spec.now.procs) }
+    ensures most { result ≤ 256 }
+{
+    let mut sets = 0;
+    for down in 0..count_sets(spec) {
+        if is_down_held(spec, cube, down) {
+            sets += 1;
+        }
+    }
+    sets
+}
+
+// Returns how many sets of processors there are.
+fn count_sets(spec: &Spec) -> u32
+    requires { IsSpec spec.now }
+    ensures value { result ≡ 2 ^ length spec.now.procs }
+    ensures most { result ≤ 256 }
+{
+    1 << count_processors(spec)
+}
+
+fn count_processors(spec: &Spec) -> u8
+    requires { IsSpec spec.now }
+    ensures value { result ≡ length spec.now.procs }
+    ensures most { result ≤ 8 }
+{
+    spec.procs.items().len() as u8
+}
+
+// Returns whether exactly the processors of the set `down` may be down, in scope and in the cube.
+fn is_down_held(spec: &Spec, cube: Cube, down: u32) -> bool
+    requires known { IsSpec spec.now }
+    requires set { down < 2 ^ length spec.now.procs }
+    ensures { result ≡ is_down_held spec.now cube down }
+{
+    let up = up_beside(spec, down);
+    let env = Env {
+        up,
+        factors: [0; 6],
+    };
+    allows_up(cube, up) && in_scope(spec, &env)
+}
+
+// Returns the processors that are up where those of the set `down` are down.
+fn up_beside(spec: &Spec, down: u32) -> u8
+    requires known { IsSpec spec.now }
+    requires set { down < 2 ^ length spec.now.procs }
+    ensures { result ≡ 2 ^ length spec.now.procs - 1 - down }
+{
+    (count_sets(spec) - 1 - down) as u8
+}
+
+// Returns whether exactly the processors of the set `up` may be up.
+fn allows_up(cube: Cube, up: u8) -> bool
+    ensures { result ≡ allows_up cube up }
+{
+    for p in 0..8 {
+        if !is_open(cube, 6 + p, digit_of_processor(up, p)) {
+            return false;
+        }
+    }
+    true
+}
+
+fn digit_of_processor(up: u8, p: u8) -> u8
+    requires { p < 8 }
+    ensures value { result ≡ digit_of_processor up p }
+    ensures few { result < 4 }
+{
+    if has_bit(up, p) { 0 } else { 1 }
+}
+
+// Returns how many combinations of the factors' values are open.
+fn count_combinations(spec: &Spec, cube: Cube) -> u32
+    requires { IsSpec spec.now }
+    ensures value { result ≡ open_ways cube 0 spec.now.factors }
+    ensures most { result ≤ 4096 }
+{
+    let mut product = 1;
+    for x in 0..count_factors(spec) {
+        product *= count_open(spec, cube, x);
+    }
+    product
+}
+
+// Returns how many values of factor `x` are open.
+fn count_open(spec: &Spec, cube: Cube, x: u8) -> u32
+    requires known { IsSpec spec.now }
+    requires place { x < 6 }
+    ensures value { result ≡ count_below (is_open_digit cube x) (value_count spec.now.factors x) }
+    ensures most { result ≤ 4 }
+{
+    let mut open = 0;
+    for d in 0..count_values(spec, x) {
+        if is_open(cube, x, d) {
+            open += 1;
+        }
+    }
+    open
+}
