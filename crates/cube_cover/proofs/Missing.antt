@@ -23,7 +23,7 @@ use Rattle.cube_cover.specs.Demands.{is_outside, misses}
 use Rattle.cube_cover.specs.Regions.{AreAll, is_held, is_marked}
 use Rattle.cube_cover.proofs.Marking.{marks_one}
 use Rattle.cube_cover.proofs.Targets.{choose_inside}
-use Rattle.cube_cover.proofs.Tests.{part_more, swap_and}
+use Rattle.cube_cover.proofs.Tests.{swap_and}
 
 -- one region
 
@@ -37,11 +37,18 @@ not_both false h b e = refl
 pub both_outside : (met a h b : Bool) → met ≡ a → a ≡ false → (h && b) ≡ ((not met && h) && b)
 both_outside met a h b is e = rw (is, e) refl
 
+-- two parts of a list and one item more
+either_part : (t c h : Bool) → ((t && h) || (c && h)) ≡ ((t || c) && h)
+either_part true c true = refl
+either_part true true false = refl
+either_part true false false = refl
+either_part false c h = refl
+
 -- one region more
 pub marked_more : (regions : List Region) (by : Cube) (passes : ℕ → Bool) (k : ℕ) (d : Region) (v : Env) → k < length regions
     → ((is_marked (take k regions) passes v && holds by v) || (is_held passes v (get_or regions k d) && holds by v)) ≡ (is_marked (take (k + 1) regions) passes v && holds by v)
 marked_more regions by passes k d v low =
-    part_more (is_marked (take k regions) passes v) (is_held passes v (get_or regions k d)) (holds by v)
+    either_part (is_marked (take k regions) passes v) (is_held passes v (get_or regions k d)) (holds by v)
     ∙ ap (λ (b : Bool). b && holds by v)
     (sym (ap (λ (rs : List Region). is_marked rs passes v) (take_more regions k d low) ∙ marks_one (take k regions) (get_or regions k d) passes v))
 
