@@ -13,7 +13,7 @@ use Rattle.telemetry_tap.proofs.taps.Tap.lay.Goals as goal
 pub of_words-requires : goal.of_words-requires
 of_words-requires c =
     let mission = c.args.mission.now in
-    let up : c.up_set_at.result ≡ summary_up mission 0 = search rules in
+    let up : c.up_set_at.result ≡ summary_up mission 0 = c.up_set_at.ensures ∙ rw (c.spec.ensures, c.script.ensures) refl in
     let none = none_begun c.beginnings_are_read.ensures mission in
     let here : ◌≡◌ {A = Summary} (record { frames = 0; running = NONE_RUNNING; up = c.up_set_at.result; begun = 0 }) (summary_after mission 0) =
     λ i. record { frames = 0; running = NONE_RUNNING; up = up i; begun = none i } in
