@@ -31,14 +31,14 @@ abbrev pub asks_of : Demand → ConfId → Bool
 asks_of demand c = is_empty_or_holds demand.from c
 
 -- Modes allow a mode: there are none, or it is one of them.
-abbrev pub allows : List Mode → Mode → Bool
-allows modes mode = length modes == 0 || is_among modes mode.0
+abbrev pub modes_allow : List Mode → Mode → Bool
+modes_allow modes mode = length modes == 0 || is_among modes mode.0
 
 -- An application that has to be on is, in a mode that is allowed; one that need not be on may be anywhere.
 abbrev pub is_placed : Option (List Mode) → Option Place → Bool
 is_placed None place = true
 is_placed (Some modes) None = false
-is_placed (Some modes) (Some place) = allows modes place.mode
+is_placed (Some modes) (Some place) = modes_allow modes place.mode
 
 -- In configuration c application a is on and off as a demand has it.
 abbrev pub is_met_by : Parts → Demand → ConfId → ℕ → Bool

@@ -2,7 +2,7 @@
 
 ghost use Rattle.std.specs.Prelude.{◌≡◌};
 ghost use Rattle.scram_types.specs.Searches.{all_below};
-ghost use Rattle.choice_table.specs.Demands.{all_down, allows, asks_of, is_empty_or_holds, is_met, is_met_by, is_placed, is_spoken_of, meets, meets_all, speaks_of};
+ghost use Rattle.choice_table.specs.Demands.{all_down, asks_of, is_empty_or_holds, is_met, is_met_by, is_placed, is_spoken_of, meets, meets_all, modes_allow, speaks_of};
 
 use crate::choices::{are_up, have_wanted};
 use scram_types::bits::{has_bit, is_in};
@@ -56,12 +56,12 @@ fn is_placed(modes: Option<Modes>, place: Option<Place>) -> bool
     match (modes, place) {
         (None, _) => true,
         (Some(_), None) => false,
-        (Some(modes), Some(place)) => allows(&modes, place.mode),
+        (Some(modes), Some(place)) => modes_allow(&modes, place.mode),
     }
 }
 
-fn allows(modes: &Modes, mode: Mode) -> bool
-    ensures { result ≡ allows modes.now mode }
+fn modes_allow(modes: &Modes, mode: Mode) -> bool
+    ensures { result ≡ modes_allow modes.now mode }
 {
     modes.as_slice().is_empty() || modes.has(mode)
 }
