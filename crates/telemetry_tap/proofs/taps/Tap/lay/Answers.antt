@@ -1,4 +1,8 @@
-use Rattle.std.proofs.Common.{rules, ◌≡◌, ◌∙◌, ap, subst, refl, arith, []}
+use Rattle.std.proofs.Common.{rules, ◌≡◌, ◌∙◌, ap, subst, refl, arith, [], length}
+use Rattle.scram_types.specs.Bits.{bits_below}
+use Rattle.scram_types.specs.Scripts.{ScriptParts}
+use Rattle.scram_types.specs.Specification.{Parts}
+use Rattle.fault_script.specs.Times.{is_up}
 use Rattle.frame_model.specs.declared.readings.Reading.TheVariants.{Steady}
 use Rattle.telemetry_tap.specs.declared.summaries.TheConstants.{NONE_RUNNING}
 use Rattle.telemetry_tap.specs.declared.summaries.Summary.{Summary}
@@ -13,7 +17,9 @@ use Rattle.telemetry_tap.proofs.taps.Tap.lay.Goals as goal
 pub of_words-requires : goal.of_words-requires
 of_words-requires c =
     let mission = c.args.mission.now in
-    let up : c.up_set_at.result ≡ summary_up mission 0 = c.up_set_at.ensures ∙ rw (c.spec.ensures, c.script.ensures) refl in
+    let up : c.up_set_at.result ≡ summary_up mission 0 = c.up_set_at.ensures
+    ∙ ap (λ (s : ScriptParts). bits_below (λ p. is_up s p 0) (length c.spec.result.now.procs)) c.script.ensures
+    ∙ ap (λ (s : Parts). bits_below (λ p. is_up mission.script p 0) (length s.procs)) c.spec.ensures in
     let none = none_begun c.beginnings_are_read.ensures mission in
     let here : ◌≡◌ {A = Summary} (record { frames = 0; running = NONE_RUNNING; up = c.up_set_at.result; begun = 0 }) (summary_after mission 0) =
     λ i. record { frames = 0; running = NONE_RUNNING; up = up i; begun = none i } in
