@@ -29,7 +29,7 @@ none_before m rule (e ∷ es) state is schedule = cc
 pub ruled_opening : (m : Flight) (rule : Rule) (events : List Event) (at : Places) (words : Word → ℕ) (chooser : Chooser) → events ≡ [] → chooser ≡ first_chooser rule → IsReplay m events at words
     → IsRuledTo m rule chooser events at words
 ruled_opening m rule events at words chooser none is replay =
-    (record { replay = replay; chooser = first_chooser rule; chosen_are = none_before m rule replay.events replay.state (sym none ∙ replay.codes_are) replay.schedule }, sym is)
+    (record { replay = replay; chooser = first_chooser rule; chosen_are = none_before m rule events replay.state (sym none) replay.schedule }, sym is)
 
 chosen_more : (m : Flight) (chooser : Chooser) (s : Machine) (es : List Event) (last : Chooser) (t : Machine) (place : ℕ) (e : Event)
     → AreChosen m chooser s es last t → chosen m t.at t.words last ≡ Some (place, e) → AreChosen m chooser s (es ++ e ∷ []) (chooser_after last place) (happened m t e)

@@ -12,7 +12,7 @@ use Rattle.frame_model.specs.Storage.{kernel_image, mark_after}
 use Rattle.fail_stop.specs.Flights.{word_in}
 use Rattle.fail_stop.specs.ScriptFlights.{kernel_words}
 use Rattle.scram_kernel.specs.Kernels.{KernelParts, kernel_after}
-use Rattle.scram_kernel.specs.Marks.{AreImages}
+use Rattle.scram_kernel.specs.Marks.{AreImages, AreMarks}
 use Rattle.std.proofs.lemmas.Grind.{get_or-set_at}
 use Rattle.std.proofs.lemmas.List.{get_or-set_other}
 use Rattle.word_table.specs.declared.seats.KSeat.{KSeat}
@@ -72,6 +72,14 @@ images_for kernel mission noted e n = λ p low.
     let t : kernel.script ≡ mission.script = ap (λ (k : KernelParts). k.script) e in
     let f : suc kernel.past ≡ kernel.past + 1 = omega arith in
     n.images p (rw s at low) ∙ ap (λ spec. image_after spec mission.script p (suc kernel.past)) (sym s) ∙ ap (λ script. image_after kernel.spec script p (suc kernel.past)) (sym t) ∙ ap (image_after kernel.spec kernel.script p) f
+
+pub marks_for : (kernel : KernelParts) (mission : MissionParts) (noted : Noted) → kernel ≡ kernel_after mission.spec mission.script kernel.past → AreNoted mission kernel.past (length mission.spec.procs) noted
+    → AreMarks kernel.spec kernel.script (kernel.past + 1) noted.marks
+marks_for kernel mission noted e n = λ p low.
+    let s : kernel.spec ≡ mission.spec = ap (λ (k : KernelParts). k.spec) e in
+    let t : kernel.script ≡ mission.script = ap (λ (k : KernelParts). k.script) e in
+    let f : suc kernel.past ≡ kernel.past + 1 = omega arith in
+    n.marks p (rw s at low) ∙ ap (λ spec. mark_after spec mission.script p (suc kernel.past)) (sym s) ∙ ap (λ script. mark_after kernel.spec script p (suc kernel.past)) (sym t) ∙ ap (mark_after kernel.spec kernel.script p) f
 
 pub word_said : (spec : Parts) (script : ScriptParts) (f g i : ℕ) (said : List ℕ) (image : KernelImage) (word : ℕ) → said ≡ kernel_encode image → image ≡ kernel_image spec script f → g ≡ f
     → word ≡ slice_index_or said i 0 → word ≡ word_in (kernel_words spec script g) i

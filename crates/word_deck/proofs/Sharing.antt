@@ -13,6 +13,8 @@ use Rattle.word_deck.specs.contracts.landings.RackCell as cell
 use Rattle.atomic_table.proofs.shared.Shared.TheSendSync as shared
 use Rattle.atomic_table.proofs.send_lease.SendLease.TheSendSync as lease
 use Rattle.scram_types.specs.contracts.scripts.Script as script
+use Rattle.scram_types.specs.contracts.mode_lists.Modes as modes
+use Rattle.scram_types.specs.contracts.specification.Demand as demand
 use Rattle.scram_types.specs.contracts.specification.Spec as spec
 use Rattle.coverage_check.specs.contracts.missions.Mission as mission
 use Rattle.word_table.specs.contracts.tables.WordTable as table
@@ -20,8 +22,14 @@ use Rattle.word_table.specs.contracts.tables.WordTable as table
 script_sync : IsSync script.the_row
 script_sync = search (sendable, crosses) depth 40
 
+modes_sync : IsSync modes.the_row
+modes_sync = search (sendable, crosses) depth 40
+
+demand_sync : IsSync demand.the_row
+demand_sync = search (modes_sync, sendable, crosses) depth 40 fits 5000
+
 spec_sync : IsSync spec.the_row
-spec_sync = search (sendable, crosses) depth 40 fits 20000
+spec_sync = search (demand_sync, sendable, crosses) depth 40 fits 20000
 
 pub mission_sync : IsSync mission.the_row
 mission_sync = search (spec_sync, script_sync, sendable, crosses) depth 40
