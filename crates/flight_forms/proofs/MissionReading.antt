@@ -1,16 +1,22 @@
 -- From a specification and a script to what is answered of their mission.
-use Rattle.std.proofs.Common.{◌≡◌, ℕ, List, refl, subst, inl, inr}
+use Rattle.std.proofs.Common.{◌≡◌, ◌∙◌, ℕ, List, refl, sym, ap, arith, subst, inl, inr}
 use Rattle.std.specs.Prelude.{◌⊎◌, Option, Some, None, Result, Ok, Err}
 use Rattle.scram_types.specs.Scripts.{ScriptParts}
 use Rattle.scram_types.specs.Specification.{Parts}
 use Rattle.coverage_check.specs.Missions.{MissionParts, mission_of}
 use Rattle.form_base.specs.declared.refusals.Refusal.{Refusal}
-use Rattle.form_base.specs.Endings.{IsMemoryRefusal, Settles}
+use Rattle.scram_io.specs.Outside.{SinkState}
+use Rattle.schedule_replay.specs.Replaying.{AnswersReplay}
+use Rattle.schedule_replay.specs.declared.replays.ReplayError.{ReplayError}
+use Rattle.schedule_replay.specs.declared.replays.ReplayError.TheVariants as replay_error
+use Rattle.form_base.specs.Answers.{Gives}
+use Rattle.form_base.specs.Endings.{IsMemoryRefusal, IsTaken, Settles, Tells}
+use Rattle.form_base.proofs.Endings.{given_tells, memory_tells, tells_other}
 use Rattle.form_base.specs.Loads.{IsOutOfMemory}
 use Rattle.form_base.specs.Refusals.{told}
 use Rattle.form_base.proofs.Reading.{memory_refusal}
 use Rattle.flight_forms.specs.declared.replays.Replay.{Replay}
-use Rattle.flight_forms.specs.Answers.{IsReplayAnswer}
+use Rattle.flight_forms.specs.Answers.{IsReplayAnswer, replay_refusal}
 use Rattle.flight_forms.specs.Missions.{MakesMission, UnlessRefused, mission_refusal}
 use Rattle.flight_forms.specs.Replays.{MakesReplay, TellsReplay}
 use Rattle.bank_words.specs.declared.events.Event.{Event}
@@ -48,3 +54,19 @@ replay_settles spec script list (Ok replay) makes = λ status text is.
     unless_none (mission_refusal spec script) (IsReplayAnswer spec script list) status text makes.2 (replay_told spec script list replay status text makes.0 makes.1 is)
 replay_settles spec script list (Err refusal) makes =
     (refused_settles (mission_refusal spec script) (IsReplayAnswer spec script list) (told refusal) makes.0, makes.1)
+
+-- a list that does not fly to the end was refused
+pub replay_refused : (spec : Parts) (script : ScriptParts) (list : List Event) (error : ReplayError) (answer : ℕ × List ℕ) (old new : SinkState) (code : ℕ)
+    → AnswersReplay spec script list (Err error) → answer ≡ replay_refusal spec error → IsTaken old new code answer.0 answer.1 → Tells (IsReplayAnswer spec script list) old new code
+replay_refused spec script list (replay_error.Illegal index given next) answer old new code answers is taken =
+    let status = ap (λ (a : ℕ × List ℕ). a.0) is in
+    tells_other (Gives answer) (IsReplayAnswer spec script list) old new code
+    (λ s t gives. record { flown = Err (replay_error.Illegal index given next); answers = answers; had_memory = λ same. cc; gives = sym is ∙ gives })
+    (given_tells answer.0 answer.1 old new code (λ same. absurd (omega (arith, same, status))) (λ same. absurd (omega (arith, same, status))) taken)
+replay_refused spec script list (replay_error.Short events next) answer old new code answers is taken =
+    let status = ap (λ (a : ℕ × List ℕ). a.0) is in
+    tells_other (Gives answer) (IsReplayAnswer spec script list) old new code
+    (λ s t gives. record { flown = Err (replay_error.Short events next); answers = answers; had_memory = λ same. cc; gives = sym is ∙ gives })
+    (given_tells answer.0 answer.1 old new code (λ same. absurd (omega (arith, same, status))) (λ same. absurd (omega (arith, same, status))) taken)
+replay_refused spec script list replay_error.NoMemory answer old new code answers is taken =
+    memory_tells (IsReplayAnswer spec script list) old new code (subst (λ (a : ℕ × List ℕ). IsTaken old new code a.0 a.1) is taken)
