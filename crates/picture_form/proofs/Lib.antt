@@ -1,1 +1,11 @@
 mod Routes
+mod Cuts
+mod RectsBack
+mod ShowsBack
+mod SpansBack
+mod LanesTell
+mod Sections
+mod ReportsTell
+mod CurvesTell
+mod PicturesTell
+mod FlightsDrawn

@@ -1,6 +1,7 @@
 pub mod Boxes
 pub mod Curves
 pub mod Lanes
+pub mod Laws
 pub mod Picture
 pub mod Reconfigurations
 pub mod Sheets

@@ -6,7 +6,6 @@ use Rattle.scram_types.specs.Lookups.{app_name, conf_name, factor_name, kind_of_
 use Rattle.scram_types.specs.Specification.{Parts}
 use Rattle.scram_types.specs.declared.flights.Row.{Row}
 use Rattle.scram_types.specs.declared.ids.ConfId.{ConfId}
-use Rattle.scram_types.specs.declared.ids.ProcId.{ProcId}
 use Rattle.scram_types.specs.declared.orders.Act.{Act}
 use Rattle.scram_types.specs.declared.orders.Act.TheVariants as act
 use Rattle.scram_types.specs.declared.specification.Factor.{Factor}

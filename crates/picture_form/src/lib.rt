@@ -5,6 +5,7 @@
 mod boxes;
 mod curves;
 mod lanes;
+pub mod laws;
 mod pictures;
 mod reconfigurations;
 mod sheets;

@@ -1,4 +1,3 @@
-use Rattle.std.proofs.Common.{length, codes}
 use Rattle.scram_io.proofs.Puts.{cut_more, prints_more}
 use Rattle.picture_form.specs.Picture.{body_text, head_text}
 use Rattle.picture_form.proofs.pictures.put_sheet.Goals as goal
