@@ -3,6 +3,7 @@ use Rattle.std.proofs.Common.{◌≡◌, ℕ, List}
 use Rattle.std.specs.Prelude.{Option, Some, None}
 use Rattle.form_base.specs.Assurance.{IsAssuring}
 use Rattle.form_base.proofs.Assuring.{not_zero, text_of_gives}
+use Rattle.fill_form.proofs.Assuring.{fill_assures}
 use Rattle.choice_forms.proofs.Assuring.{choices_assure, choose_assures}
 use Rattle.spec_forms.proofs.Assuring.{bounds_assure, check_assures}
 use Rattle.trace_files.proofs.Viewing.{view_assures}
@@ -12,7 +13,7 @@ use Rattle.columns_form.specs.Table.{columns_text}
 use Rattle.picture_form.specs.Picture.{picture_text}
 use Rattle.flight_forms.specs.Assurance.{FlightsAreAssured}
 use Rattle.scram_cli.specs.declared.forms.Form.{Form}
-use Rattle.scram_cli.specs.declared.forms.Form.TheVariants.{Run, Watch, Pair, Check, Bounds, Props, Replay, Summary, Columns, Picture, Gen, Fly, Told, Choices, Choose}
+use Rattle.scram_cli.specs.declared.forms.Form.TheVariants.{Run, Watch, Pair, Check, Bounds, Props, Replay, Summary, Columns, Picture, Gen, Fly, Told, Fill, Choices, Choose}
 use Rattle.scram_cli.specs.Answers.{FormAnswers}
 use Rattle.scram_cli.specs.Assurance.{AssuresForm}
 use Rattle.scram_cli.specs.Pages.{page_text}
@@ -26,6 +27,7 @@ form_assures law (Some (Check specification)) before after reads text is = check
 form_assures law (Some (Bounds specification)) before after reads text is = bounds_assure specification before after reads text is
 form_assures law (Some (Props specification trace)) before after reads text is = props_assure specification trace before after reads text is
 form_assures law (Some (Replay specification script schedule)) before after reads text is = law.replay specification script schedule before after reads text is
+form_assures law (Some (Fill specification)) before after reads text is = fill_assures specification before after reads text is
 form_assures law (Some (Choices specification)) before after reads text is = choices_assure specification before after reads text is
 form_assures law (Some (Choose specification conf state)) before after reads text is = choose_assures specification conf state before after reads text is
 form_assures law (Some (Summary specification trace)) before after reads text is = view_assures summary_text specification trace before after reads text is

@@ -4,6 +4,7 @@ use Rattle.form_base.specs.declared.status.TheConstants.{ANSWERED, BROKEN_USAGE}
 use Rattle.form_base.specs.Answers.{Answer, Gives, WithoutFiles}
 use Rattle.spec_forms.specs.Answers.{BoundsAnswers, CheckAnswers}
 use Rattle.trace_files.specs.Looks.{ViewAnswers}
+use Rattle.fill_form.specs.Answers.{FillAnswers}
 use Rattle.choice_forms.specs.Answers.{ChoicesAnswers, ChooseAnswers}
 use Rattle.trace_forms.specs.Answers.{PropsAnswers}
 use Rattle.summary_form.specs.Summary.{summary_text}
@@ -11,7 +12,7 @@ use Rattle.columns_form.specs.Table.{columns_text}
 use Rattle.picture_form.specs.Picture.{picture_text}
 use Rattle.flight_forms.specs.Answers.{FlyAnswers, GenAnswers, PairAnswers, ReplayAnswers, RunAnswers, WatchAnswers}
 use Rattle.scram_cli.specs.declared.forms.Form.{Form}
-use Rattle.scram_cli.specs.declared.forms.Form.TheVariants.{Run, Watch, Pair, Check, Bounds, Props, Replay, Summary, Columns, Picture, Gen, Fly, Told, Choices, Choose}
+use Rattle.scram_cli.specs.declared.forms.Form.TheVariants.{Run, Watch, Pair, Check, Bounds, Props, Replay, Summary, Columns, Picture, Gen, Fly, Told, Fill, Choices, Choose}
 use Rattle.scram_cli.specs.Pages.{page_text}
 
 -- The line where the words have no form.
@@ -29,6 +30,7 @@ FormAnswers (Some (Check specification)) = CheckAnswers specification
 FormAnswers (Some (Bounds specification)) = BoundsAnswers specification
 FormAnswers (Some (Props specification trace)) = PropsAnswers specification trace
 FormAnswers (Some (Replay specification script schedule)) = ReplayAnswers specification script schedule
+FormAnswers (Some (Fill specification)) = FillAnswers specification
 FormAnswers (Some (Choices specification)) = ChoicesAnswers specification
 FormAnswers (Some (Choose specification conf state)) = ChooseAnswers specification conf state
 FormAnswers (Some (Summary specification trace)) = ViewAnswers summary_text specification trace

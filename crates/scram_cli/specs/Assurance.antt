@@ -3,6 +3,7 @@ use Rattle.std.specs.Prelude.{◌≡◌, ℕ, List, [], Option, Some, None}
 use Rattle.scram_io.specs.Outside.{History}
 use Rattle.spec_forms.specs.Answers.{AssuresBounds, AssuresCheck}
 use Rattle.trace_files.specs.Looks.{AssuresView}
+use Rattle.fill_form.specs.Answers.{AssuresFill}
 use Rattle.choice_forms.specs.Answers.{AssuresChoices, AssuresChoose}
 use Rattle.trace_forms.specs.Answers.{AssuresProps}
 use Rattle.summary_form.specs.Summary.{summary_text}
@@ -10,7 +11,7 @@ use Rattle.columns_form.specs.Table.{columns_text}
 use Rattle.picture_form.specs.Picture.{picture_text}
 use Rattle.flight_forms.specs.Assurance.{AssuresFly, AssuresGen, AssuresReplay, AssuresRun, AssuresWatch}
 use Rattle.scram_cli.specs.declared.forms.Form.{Form}
-use Rattle.scram_cli.specs.declared.forms.Form.TheVariants.{Run, Watch, Pair, Check, Bounds, Props, Replay, Summary, Columns, Picture, Gen, Fly, Told, Choices, Choose}
+use Rattle.scram_cli.specs.declared.forms.Form.TheVariants.{Run, Watch, Pair, Check, Bounds, Props, Replay, Summary, Columns, Picture, Gen, Fly, Told, Fill, Choices, Choose}
 use Rattle.scram_cli.specs.Pages.{page_text}
 
 -- What status 0 assures of the words' form; words without a form never end with it.
@@ -23,6 +24,7 @@ AssuresForm (Some (Check specification)) reads text = AssuresCheck specification
 AssuresForm (Some (Bounds specification)) reads text = AssuresBounds specification reads text
 AssuresForm (Some (Props specification trace)) reads text = AssuresProps specification trace reads text
 AssuresForm (Some (Replay specification script schedule)) reads text = AssuresReplay specification script schedule reads text
+AssuresForm (Some (Fill specification)) reads text = AssuresFill specification reads text
 AssuresForm (Some (Choices specification)) reads text = AssuresChoices specification reads text
 AssuresForm (Some (Choose specification conf state)) reads text = AssuresChoose specification conf state reads text
 AssuresForm (Some (Summary specification trace)) reads text = AssuresView summary_text specification trace reads text

@@ -6,7 +6,7 @@ use Rattle.choice_forms.specs.States.{state_in}
 use Rattle.kernel_pair.specs.declared.events.UnitHalt.{UnitHalt}
 use Rattle.trace_text.specs.Spelling.{spelled_number}
 use Rattle.scram_cli.specs.declared.forms.Form.{Form}
-use Rattle.scram_cli.specs.declared.forms.Form.TheVariants.{Run, Watch, Pair, Check, Bounds, Props, Replay, Summary, Columns, Picture, Gen, Fly, Told, Choices, Choose}
+use Rattle.scram_cli.specs.declared.forms.Form.TheVariants.{Run, Watch, Pair, Check, Bounds, Props, Replay, Summary, Columns, Picture, Gen, Fly, Told, Fill, Choices, Choose}
 use Rattle.scram_cli.specs.declared.pages.Page.TheVariants.{Help, Version}
 
 -- The number of a mission, up to 999,999, which the word has in decimal.
@@ -30,7 +30,8 @@ abbrev pub form_of_two : List ℕ → List ℕ → Option (Form (List ℕ))
 form_of_two command word =
     if bytes_eq command (codes "check") then Some (Check word)
     else (if bytes_eq command (codes "bounds") then Some (Bounds word)
-    else (if bytes_eq command (codes "choices") then Some (Choices word) else form_of_number command word))
+    else (if bytes_eq command (codes "fill") then Some (Fill word)
+    else (if bytes_eq command (codes "choices") then Some (Choices word) else form_of_number command word)))
 
 -- The form of three words that looks at a trace, if they have one.
 abbrev pub form_of_view : List ℕ → List ℕ → List ℕ → Option (Form (List ℕ))
@@ -55,8 +56,8 @@ abbrev pub unit_halt : List ℕ → List ℕ → List ℕ → Option UnitHalt
 unit_halt unit frame step =
     option_and_then
     (λ (unit : ℕ). option_and_then
-        (λ (frame : ℕ). option_map (λ (step : ℕ). record { unit = unit; frame = frame; step = step }) (spelled_number 32 step))
-        (spelled_number 20000 frame))
+    (λ (frame : ℕ). option_map (λ (step : ℕ). record { unit = unit; frame = frame; step = step }) (spelled_number 32 step))
+    (spelled_number 20000 frame))
     (spelled_number 2 unit)
 
 -- The form of six words, if they have one.
@@ -96,6 +97,7 @@ with_names name (Check specification) = Check (name specification)
 with_names name (Bounds specification) = Bounds (name specification)
 with_names name (Props specification trace) = Props (name specification) (name trace)
 with_names name (Replay specification script schedule) = Replay (name specification) (name script) (name schedule)
+with_names name (Fill specification) = Fill (name specification)
 with_names name (Choices specification) = Choices (name specification)
 with_names name (Choose specification conf state) = Choose (name specification) (name conf) state
 with_names name (Summary specification trace) = Summary (name specification) (name trace)
@@ -115,6 +117,7 @@ files_of (Some (Check specification)) = specification ∷ []
 files_of (Some (Bounds specification)) = specification ∷ []
 files_of (Some (Props specification trace)) = specification ∷ trace ∷ []
 files_of (Some (Replay specification script schedule)) = specification ∷ script ∷ schedule ∷ []
+files_of (Some (Fill specification)) = specification ∷ []
 files_of (Some (Choices specification)) = specification ∷ []
 files_of (Some (Choose specification conf state)) = specification ∷ []
 files_of (Some (Summary specification trace)) = specification ∷ trace ∷ []

@@ -17,6 +17,7 @@ use crate::pages::{Page, page_text};
 use app_model::Rack;
 use choice_forms::{Question, choices, choose};
 use columns_form::columns_form;
+use fill_form::fill;
 use flight_forms::laws::flights_are_assured;
 use flight_forms::{
     Boxes, MissionFiles, PairFiles, ReplayFiles, fly_generated, pair_form, print_generated,
@@ -40,10 +41,11 @@ use trace_text::lines::Line;
 /// it while two readers read its summary, `pair SPEC SCRIPT UNIT FRAME STEP` flies it with the kernel on two units,
 /// of which the one named may halt in that frame after that number of its steps, `check SPEC` prints whether a
 /// specification is accepted, `bounds SPEC` which bounds it has to give, `props SPEC TRACE` judges a trace, by any
-/// specification, `replay SPEC SCRIPT SCHEDULE` flies a mission by a schedule, `choices SPEC` prints what each rule
-/// chooses, `choose SPEC CONF STATE..` what is chosen in a state, `summary SPEC TRACE`, `columns SPEC TRACE` and
-/// `picture SPEC TRACE` print what a trace shows, `gen N` prints the mission of a number, and `fly N` flies it;
-/// `--help` and `--version` describe the program. What is printed has gone out when the call ends, or the status is 4.
+/// specification, `replay SPEC SCRIPT SCHEDULE` flies a mission by a schedule, `fill SPEC` prints a specification with
+/// the bounds and the window that serve, `choices SPEC` what each rule chooses, `choose SPEC CONF STATE..` what is chosen
+/// in a state, `summary SPEC TRACE`, `columns SPEC TRACE` and `picture SPEC TRACE` print what a trace shows, `gen N`
+/// prints the mission of a number, and `fly N` flies it; `--help` and `--version` describe the program. What is printed
+/// has gone out when the call ends, or the status is 4.
 ///
 /// A mission is flown with a thread for each processor; by a schedule and on two units it is flown without threads.
 /// `racks` are the boxes of the processors, and `spares` those of processors that restart.
@@ -219,6 +221,10 @@ fn answer_form<R: AllocGlobal + Threads + Wait + Sync, F: Files, K: Sink>(
             out,
             boxes,
         ),
+        Form::Fill { specification } => {
+            drop(boxes);
+            fill(rt.alloc(), specification, files, out)
+        }
         Form::Choices { specification } => {
             drop(boxes);
             choices(rt.alloc(), specification, files, out)

@@ -56,6 +56,10 @@ pub enum Form<N> {
         script: N,
         schedule: N,
     },
+    /// A specification with the bounds and the window that serve.
+    Fill {
+        specification: N,
+    },
     /// What each rule of a specification chooses, from where and in how many environments.
     Choices {
         specification: N,
@@ -174,6 +178,10 @@ fn form_of_two<'a>(command: &str, word: &'a str) -> Option<Form<&'a str>>
         })
     } else if command == "bounds" {
         Some(Form::Bounds {
+            specification: word,
+        })
+    } else if command == "fill" {
+        Some(Form::Fill {
             specification: word,
         })
     } else if command == "choices" {

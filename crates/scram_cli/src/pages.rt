@@ -21,6 +21,7 @@ pub const HELP: &str = concat!(
     "scram bounds SPEC                  tells which bounds a specification has to give\n",
     "scram props SPEC TRACE             judges a finished trace\n",
     "scram replay SPEC SCRIPT SCHEDULE  flies a mission by a schedule and prints its trace\n",
+    "scram fill SPEC                    prints it with the bounds and the window that serve\n",
     "scram choices SPEC                 prints what each rule chooses, from where and how often\n",
     "scram choose SPEC CONF STATE..     prints what is chosen in a state, as battery=low -left\n",
     "scram summary SPEC TRACE           prints what a flight came to\n",

@@ -80,8 +80,12 @@ fn find_bounds(alloc: Global, spec: Spec) -> Result<Asked, Refusal>
     }
 }
 
-// Returns the configurations to which a bound from each configuration is asked for, as bits.
-fn find_asked(alloc: Global, spec: &Spec) -> Result<[u16; 12], NoMemory>
+/// Returns the configurations to which a bound from each configuration is asked for, as bits.
+///
+/// # Errors
+///
+/// Out of memory.
+pub fn find_asked(alloc: Global, spec: &Spec) -> Result<[u16; 12], NoMemory>
     ensures { IfOk result (λ sets. HasAskedBounds spec.now sets) }
 {
     let mut sets = [0; 12];
@@ -149,8 +153,8 @@ fn put_bound<K: Sink>(
     }
 }
 
-// Returns whether a bound is asked for; `set` has those from `from` that are.
-fn is_asked(spec: &Spec, set: u16, from: ConfId, to: ConfId) -> bool
+/// Returns whether a bound is asked for; `set` has those from `from` that are.
+pub fn is_asked(spec: &Spec, set: u16, from: ConfId, to: ConfId) -> bool
     requires set { set ≡ asked_bounds spec.now from }
     requires to { to.0 < length spec.now.confs }
     requires few { to.0 < 12 }

@@ -7,4 +7,4 @@ mod bound_pairs;
 mod lines;
 
 pub use acceptance::check;
-pub use bound_pairs::bounds;
+pub use bound_pairs::{bounds, find_asked, is_asked};

@@ -1,0 +1,7 @@
+pub mod Accepted
+pub mod Apart
+pub mod Assuring
+pub mod Filled
+pub mod Fillings
+pub mod Missing
+pub mod Says

@@ -1,0 +1,5 @@
+pub mod Answers
+pub mod Filling
+pub mod Laws
+pub mod Refusing
+pub mod Writable

@@ -1,0 +1,160 @@
+//! The bounds and the window that serve.
+
+ghost use Rattle.std.specs.Prelude.{◌≡◌, ◌<◌, ◌≤◌, ◌++◌, IfOk, OnOk, length, map};
+ghost use Rattle.std.specs.Option.{option_or};
+ghost use Rattle.coverage_check.specs.Timing.{asked_bounds, greatest_bound};
+ghost use Rattle.spec_forms.specs.Bounds.{HasAskedBounds};
+ghost use Rattle.fill_form.specs.Filling.{filled_bounds, is_bound_missing, missing_bound, missing_bounds, missing_from, raised};
+ghost use Rattle.fill_form.specs.Refusing.{IsFilling, long_refusal, wide_refusal};
+
+use crate::refusing::{refuse_long, refuse_wide};
+use coverage_check::{Shown, least};
+use scram_types::{Bound, ConfId, NoMemory, Spec};
+use spec_forms::{find_asked, is_asked};
+use std::alloc::{AllocError, Global};
+
+/// The bounds that serve a specification, the greatest of them, and why they may not be given.
+#[derive(Drop)]
+pub struct Filling {
+    pub bounds: Vec<Bound>,
+    pub greatest: u32,
+    pub refusal: Option<Shown>,
+}
+
+/// Returns the bounds that serve a specification: those that are given, each as long as it has to be, and behind them
+/// those that are missing, by source and then by target.
+///
+/// # Errors
+///
+/// Out of memory.
+pub fn find_filling(alloc: Global, spec: &Spec) -> Result<Filling, NoMemory>
+    ensures { IfOk result (λ filling. IsFilling spec.now filling) }
+{
+    let sets = find_asked(alloc, spec)?;
+    let bounds = fill_bounds(alloc, spec, &sets)?;
+    let greatest = greatest_of(&bounds);
+    let refusal = refuse_length(spec, &sets, greatest);
+    Ok(Filling {
+        bounds,
+        greatest,
+        refusal,
+    })
+}
+
+fn refuse_length(spec: &Spec, sets: &[u16; 12], greatest: u32) -> Option<Shown>
+    requires { HasAskedBounds spec.now sets.now }
+    ensures { result ≡ option_or (long_refusal spec.now) (wide_refusal greatest) }
+{
+    match refuse_long(spec, sets) {
+        Some(shown) => Some(shown),
+        None => refuse_wide(greatest),
+    }
+}
+
+fn greatest_of(bounds: &[Bound]) -> u32
+    ensures { result ≡ greatest_bound bounds.now }
+{
+    let mut greatest = 0;
+    for bound in bounds {
+        greatest = bound.frames.max(greatest);
+    }
+    greatest
+}
+
+fn fill_bounds(alloc: Global, spec: &Spec, sets: &[u16; 12]) -> Result<Vec<Bound>, NoMemory>
+    requires { HasAskedBounds spec.now sets.now }
+    ensures { IfOk result (λ bounds. bounds.items ≡ filled_bounds spec.now) }
+{
+    let mut bounds = raise_bounds(alloc, spec, sets)?;
+    add_missing(&mut bounds, spec, sets)?;
+    Ok(bounds)
+}
+
+fn raise_bounds(alloc: Global, spec: &Spec, sets: &[u16; 12]) -> Result<Vec<Bound>, NoMemory>
+    requires { HasAskedBounds spec.now sets.now }
+    ensures { IfOk result (λ bounds. bounds.items ≡ map (raised spec.now) spec.now.bounds) }
+{
+    let mut bounds = Vec::new(alloc);
+    for bound in spec.bounds.items() {
+        bounds.push(raised(spec, sets[usize::from(bound.from.0)], bound))?;
+    }
+    Ok(bounds)
+}
+
+// Returns a bound that is given, made as long as acceptance asks; `set` has those from its source that are asked for.
+fn raised(spec: &Spec, set: u16, bound: &Bound) -> Bound
+    requires set { set ≡ asked_bounds spec.now bound.now.from }
+    requires to { bound.now.to.0 < length spec.now.confs }
+    requires few { bound.now.to.0 < 12 }
+    ensures { result ≡ raised spec.now bound.now }
+{
+    let (from, to) = (bound.from, bound.to);
+    let frames = if is_asked(spec, set, from, to) {
+        bound.frames.max(least(spec, from, to))
+    } else {
+        bound.frames
+    };
+    Bound { from, to, frames }
+}
+
+// Appends the bounds that are asked for and not given.
+fn add_missing(bounds: &mut Vec<Bound>, spec: &Spec, sets: &[u16; 12]) -> Result<(), AllocError>
+    requires { HasAskedBounds spec.now sets.now }
+    ensures { OnOk result (bounds.new.items ≡ bounds.old.items ++ missing_bounds spec.now) }
+{
+    for i in 0..count_confs(spec) {
+        add_missing_from(bounds, spec, ConfId(i), sets[usize::from(i)])?;
+    }
+    Ok(())
+}
+
+fn add_missing_from(
+    bounds: &mut Vec<Bound>,
+    spec: &Spec,
+    from: ConfId,
+    set: u16,
+) -> Result<(), AllocError>
+    requires { set ≡ asked_bounds spec.now from }
+    ensures { OnOk result (bounds.new.items ≡ bounds.old.items ++ missing_from spec.now from.0) }
+{
+    for j in 0..count_confs(spec) {
+        add_missing_bound(bounds, spec, set, from, ConfId(j))?;
+    }
+    Ok(())
+}
+
+fn add_missing_bound(
+    bounds: &mut Vec<Bound>,
+    spec: &Spec,
+    set: u16,
+    from: ConfId,
+    to: ConfId,
+) -> Result<(), AllocError>
+    requires set { set ≡ asked_bounds spec.now from }
+    requires to { to.0 < length spec.now.confs }
+    requires few { to.0 < 12 }
+    ensures { OnOk result (bounds.new.items ≡ bounds.old.items ++ missing_bound spec.now from.0 to.0) }
+{
+    if is_bound_missing(spec, set, from, to) {
+        let frames = least(spec, from, to);
+        bounds.push(Bound { from, to, frames })?;
+    }
+    Ok(())
+}
+
+fn is_bound_missing(spec: &Spec, set: u16, from: ConfId, to: ConfId) -> bool
+    requires set { set ≡ asked_bounds spec.now from }
+    requires to { to.0 < length spec.now.confs }
+    requires few { to.0 < 12 }
+    ensures { result ≡ is_bound_missing spec.now from.0 to.0 }
+{
+    is_asked(spec, set, from, to) && spec.bound(from, to).is_none()
+}
+
+/// Returns the number of configurations.
+pub(crate) fn count_confs(spec: &Spec) -> u8
+    ensures value { result ≡ length spec.now.confs }
+    ensures few { result ≤ 12 }
+{
+    spec.confs.items().len() as u8
+}

@@ -1,0 +1,62 @@
+//! Why bounds or a window are not given: they would be too long.
+
+ghost use Rattle.std.specs.Prelude.{◌≡◌};
+ghost use Rattle.coverage_check.specs.Timing.{asked_bounds};
+ghost use Rattle.scram_types.specs.Lookups.{conf_id};
+ghost use Rattle.spec_forms.specs.Bounds.{HasAskedBounds};
+ghost use Rattle.fill_form.specs.Refusing.{long_refusal, long_refusal_of, wide_refusal};
+
+use crate::filling::count_confs;
+use coverage_check::{Other, Shown, least};
+use scram_types::limits::{MAX_BOUND, MAX_WINDOW};
+use scram_types::{ConfId, Spec};
+use spec_forms::is_asked;
+
+/// Returns the refusal of the first bound that is asked for and would be too long.
+pub(crate) fn refuse_long(spec: &Spec, sets: &[u16; 12]) -> Option<Shown>
+    requires { HasAskedBounds spec.now sets.now }
+    ensures { result ≡ long_refusal spec.now }
+{
+    for i in 0..count_confs(spec) {
+        let shown = refuse_long_of(spec, sets[usize::from(i)], i);
+        if shown.is_some() {
+            return shown;
+        }
+    }
+    None
+}
+
+// Returns the same of the bounds from configuration number `i`; `set` has those that are asked for.
+fn refuse_long_of(spec: &Spec, set: u16, i: u8) -> Option<Shown>
+    requires { set ≡ asked_bounds spec.now (conf_id i) }
+    ensures { result ≡ long_refusal_of spec.now i }
+{
+    for j in 0..count_confs(spec) {
+        let frames = least(spec, ConfId(i), ConfId(j));
+        if is_asked(spec, set, ConfId(i), ConfId(j)) && MAX_BOUND < frames {
+            return Some(Shown {
+                condition: 9,
+                conf: Some(ConfId(i)),
+                env: None,
+                other: Other::Least(ConfId(j), frames),
+            });
+        }
+    }
+    None
+}
+
+/// Returns the refusal of the window that the greatest bound asks for, where it would be too long.
+pub(crate) fn refuse_wide(greatest: u32) -> Option<Shown>
+    ensures { result ≡ wide_refusal greatest }
+{
+    if MAX_WINDOW <= greatest {
+        Some(Shown {
+            condition: 10,
+            conf: None,
+            env: None,
+            other: Other::Count(greatest),
+        })
+    } else {
+        None
+    }
+}
