@@ -1,3 +1,4 @@
+mod FewWords
 pub mod Assuring
 pub mod Completeness
 pub mod LineExamples

@@ -18,7 +18,8 @@ use Rattle.trace_props.specs.declared.breaks.Property.TheVariants as property
 use Rattle.form_base.specs.Lines.{shown_line, specification_line}
 use Rattle.spec_forms.specs.Lines.{accepted_line}
 use Rattle.flight_forms.specs.Lines.{fly_line, outside_line, script_line}
-use Rattle.trace_forms.specs.Lines.{broken_line, holds_line, trace_line}
+use Rattle.trace_files.specs.Lines.{trace_line}
+use Rattle.trace_forms.specs.Lines.{broken_line, holds_line}
 
 abbrev conf : List ℕ → Conf
 conf name = record { name = name; places = replicate 8 None }
