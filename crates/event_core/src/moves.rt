@@ -108,7 +108,7 @@ fn with_proc(script: &Script, places: &Places, event: Event, p: ProcId) -> Place
     requires place { CanGoOn (kept_place places.now.procs p.0) }
     ensures procs { (spec : Parts) → (q : ℕ) → machine_place (kept_place result.procs q)
         ≡ (if nat_eq q p.0 then moved (flight_of spec script.now) event q (machine_place (kept_place places.now.procs q))
-            else machine_place (kept_place places.now.procs q)) }
+        else machine_place (kept_place places.now.procs q)) }
     ensures frame { result.frame ≡ places.now.frame }
     ensures step { result.step ≡ places.now.step }
 {

@@ -357,7 +357,7 @@ fn read_values(
 ) -> Result<Script, ScriptError>
     ensures { Answers (read_values spec.now version
         (make_members (view m.now.scram.now) (view m.now.frames.now) (view m.now.changes.now) (view m.now.halts.now)
-            (option_map (λ d. view d.now) m.now.restarts)))
+        (option_map (λ d. view d.now) m.now.restarts)))
         (λ script. script) result }
 {
     let at = Path::root();

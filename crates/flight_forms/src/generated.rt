@@ -6,8 +6,8 @@ ghost use Rattle.flight_forms.specs.Answers.{FlyAnswers, GenAnswers, SummaryAnsw
 ghost use Rattle.fault_script.specs.Fits.{Fits};
 
 use crate::boxes::Boxes;
-use crate::runs::{FlightText, fly};
 use crate::missions::make_mission;
+use crate::runs::{FlightText, fly};
 use form_base::refusals::Refusal;
 use form_base::status::{ANSWERED, Status};
 use form_base::telling::{tell, tell_refusal};

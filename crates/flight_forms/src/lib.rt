@@ -4,20 +4,20 @@
 
 mod boxes;
 mod documents;
-mod runs;
 mod generated;
 pub mod laws;
 mod lines;
 mod missions;
 mod pairs;
 mod replays;
+mod runs;
 mod summaries;
 mod watches;
 
 pub use boxes::Boxes;
-pub use runs::run;
 pub use generated::{fly_generated, print_generated};
 pub use missions::MissionFiles;
 pub use pairs::{PairFiles, pair_form};
 pub use replays::{ReplayFiles, replay_form};
+pub use runs::run;
 pub use watches::watch;

@@ -10,8 +10,8 @@ ghost use Rattle.flight_forms.specs.Texts.{flight_text};
 ghost use Rattle.flight_forms.specs.declared.runs.FlightText.TheVariants.{Trace};
 
 use crate::boxes::Boxes;
-use crate::runs::{FlightText, tell_flown};
 use crate::missions::{MissionFiles, read_mission};
+use crate::runs::{FlightText, tell_flown};
 use coverage_check::Mission;
 use form_base::refusals::Refusal;
 use form_base::status::Status;

@@ -10,8 +10,8 @@ ghost use Rattle.flight_forms.specs.Replays.{MakesReplay, TellsReplay};
 
 use crate::boxes::Boxes;
 use crate::documents::{ScheduleDocument, ScriptDocument};
-use crate::runs::{FlightText, tell_flown};
 use crate::missions::make_mission;
+use crate::runs::{FlightText, tell_flown};
 use bank_words::Event;
 use coverage_check::Mission;
 use form_base::loads::load;

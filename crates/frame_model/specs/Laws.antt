@@ -84,14 +84,14 @@ pub record ReadsAsTold (spec : Parts) (c : ConfId) (f : ℕ) : Type 0 where
   -- the first row that does not run c begins a reconfiguration, which is under way while rows run none
   pub begins : (before : List Row) (left : Row) (between : List Row) → All (Runs spec c) before → runs spec left.acts c ≡ false → All (RunsNone spec) between
       → (ended_in spec (Steady c) f (before ++ (left ∷ between)) ≡ [])
-          × (reading_after spec (Steady c) f (before ++ (left ∷ between)) ≡ Leaving c (f + length before))
+      × (reading_after spec (Steady c) f (before ++ (left ∷ between)) ≡ Leaving c (f + length before))
   -- the first later row that runs some configuration ends it, and reading goes on from the least-numbered one
   pub ends : (before : List Row) (left : Row) (between : List Row) (arrived : Row) (rest : List Row) (j : ConfId) → All (Runs spec c) before
       → runs spec left.acts c ≡ false
       → All (RunsNone spec) between → RunsFirst spec j arrived
       → (e : ℕ) → e ≡ f + length before + 1 + length between
       → (ended_in spec (Steady c) f (before ++ (left ∷ (between ++ (arrived ∷ rest))))
-          ≡ record { from = c; to = Some j; begin = f + length before; end = e } ∷ ended_in spec (Steady j) (e + 1) rest)
+      ≡ record { from = c; to = Some j; begin = f + length before; end = e } ∷ ended_in spec (Steady j) (e + 1) rest)
       × (reading_after spec (Steady c) f (before ++ (left ∷ (between ++ (arrived ∷ rest)))) ≡ reading_after spec (Steady j) (e + 1) rest)
 
 -- In every specification the rows are read in this way, from any configuration and frame on.

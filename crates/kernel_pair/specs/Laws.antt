@@ -30,7 +30,7 @@ pub record FindsBy (spec : Parts) (script : ScriptParts) (s : Pair) (u f : ℕ) 
   pub kernel : (i : ℕ) → i < 20 → (s.unit u).kernel i ≡ word_in (kernel_words spec script f) i
   pub picked : (q : ℕ) → q < length spec.procs → pick (s.proc q).mark f ≡ image_bank_after spec script q f
   pub held : (q i : ℕ) → q < length spec.procs → i < width_of spec
-    → (s.proc q).bank (image_bank_after spec script q f) i ≡ word_in (image_words_after spec script q f) i
+      → (s.proc q).bank (image_bank_after spec script q f) i ≡ word_in (image_words_after spec script q f) i
 
 -- A processor that may make a frame by the words of a unit finds what is of that frame.
 abbrev pub ProcessorsFind : Parts → ScriptParts → Option UnitHalt → Pair → Type 0

@@ -1,7 +1,7 @@
 //! A flight of the kernel on two units, event by event.
 
-use crate::events::{PairEvent, UnitHalt};
 use crate::drafts::draft;
+use crate::events::{PairEvent, UnitHalt};
 use crate::logs::end_frame;
 use crate::machines::PairMachine;
 use crate::setups::Setup;

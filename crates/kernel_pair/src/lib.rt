@@ -3,8 +3,8 @@
 #![tactic(auto)]
 
 mod cores;
-pub mod events;
 mod drafts;
+pub mod events;
 pub mod law;
 mod logs;
 mod machines;

@@ -3,10 +3,10 @@
 //! and is over.
 #![tactic(auto)]
 
-mod shared_cores;
 pub mod lock_flights;
 pub mod made;
 pub mod members;
+mod shared_cores;
 mod steps;
 mod turns;
 

@@ -8,8 +8,8 @@ ghost use Rattle.frame_model.specs.Flights.{reports_of, rows_of};
 ghost use Rattle.lock_deck.specs.Members.{MemberFits};
 ghost use Rattle.trace_props.specs.Properties.{HoldsAll};
 
-use crate::shared_cores::{SharedCore, FlightOf};
 use crate::members::Member;
+use crate::shared_cores::{FlightOf, SharedCore};
 use crate::steps::make_any;
 use crate::turns::{fly_kernel, fly_processor};
 use app_model::Rack;

@@ -3,9 +3,9 @@
 ghost use Rattle.std.specs.Prelude.{◌≡◌, All, Some};
 ghost use Rattle.lock_deck.specs.Members.{MemberFits};
 
-use crate::shared_cores::{SharedCore, FlightOf};
 use crate::made::Made;
 use crate::members::Member;
+use crate::shared_cores::{FlightOf, SharedCore};
 use bank_words::Event;
 use coverage_check::Mission;
 use std::sync::{Condvar, Mutex, MutexGuard, Wait};

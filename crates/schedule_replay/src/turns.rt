@@ -43,7 +43,12 @@ fn add_frames(alloc: Global, spec: &Spec, script: &Script) -> Result<Vec<Event>,
     Ok(list)
 }
 
-fn add_procs(list: &mut Vec<Event>, spec: &Spec, script: &Script, frame: u32) -> Result<(), NoMemory>
+fn add_procs(
+    list: &mut Vec<Event>,
+    spec: &Spec,
+    script: &Script,
+    frame: u32,
+) -> Result<(), NoMemory>
     ensures { OnOk result (let m = flight_of spec.now script.now in Adds list.old.items list.new.items (turns_of_procs m frame m.procs)) }
 {
     let procs = proc_count(spec);
@@ -128,7 +133,12 @@ fn add_stores(list: &mut Vec<Event>, p: ProcId, stores: u8) -> Result<(), NoMemo
     Ok(())
 }
 
-fn add_kernel(list: &mut Vec<Event>, spec: &Spec, script: &Script, frame: u32) -> Result<(), NoMemory>
+fn add_kernel(
+    list: &mut Vec<Event>,
+    spec: &Spec,
+    script: &Script,
+    frame: u32,
+) -> Result<(), NoMemory>
     requires { frame < script.now.frames }
     ensures { OnOk result (Adds list.old.items list.new.items (turn_of_kernel (flight_of spec.now script.now) frame)) }
 {

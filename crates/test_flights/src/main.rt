@@ -10,9 +10,9 @@
 //! nothing, so that it can be timed.
 #![tactic(auto)]
 
+mod comparisons;
 mod decks;
 mod documents;
-mod comparisons;
 mod histories;
 mod meetings;
 mod repeats;

@@ -6,18 +6,18 @@
 
 pub mod boxes;
 pub mod calls;
-pub mod one_thread;
 pub mod images;
 pub mod lines;
 pub mod macros;
+pub mod one_thread;
 pub mod rows;
 pub mod texts;
 
 pub use crate::boxes::Counted;
 pub use crate::calls::{Calls, Counters};
-pub use crate::one_thread::{fly_alone, fly_frames, given, is_same};
 pub use crate::images::print_image;
 pub use crate::lines::{change_piece, fill, line_after, number, number_after, split_word};
+pub use crate::one_thread::{fly_alone, fly_frames, given, is_same};
 pub use crate::rows::each_row;
 pub use crate::texts::{mission_of_texts, script_of_text, spec_of_row, spec_of_text, uav_text};
 pub use app_model::{App, Rack};

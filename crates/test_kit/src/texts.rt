@@ -3,8 +3,8 @@
 ghost use Rattle.std.specs.Prelude.{IfOk};
 ghost use Rattle.fault_script.specs.Fits.{Fits};
 
-use crate::one_thread::given;
 use crate::lines::line_after;
+use crate::one_thread::given;
 use coverage_check::{Accepted, Mission, accept};
 use fault_script::read_script;
 use mission_gen::uav;

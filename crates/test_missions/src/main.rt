@@ -5,12 +5,12 @@
 #![tactic(auto)]
 
 mod covers;
-mod missions;
 mod judgements;
+mod missions;
 
 use crate::covers::print_covers;
-use crate::missions::fly;
 use crate::judgements::judge;
+use crate::missions::fly;
 use std::fs;
 use std::io::{self, ErrorKind};
 use test_kit::{each_row, split_word};

@@ -2,11 +2,11 @@
 //! the trace. The spare racks have no boxes: what flies with them computes the laws itself.
 #![tactic(auto)]
 
-mod own_flight;
 mod own_box;
+mod own_flight;
 
-use crate::own_flight::fly;
 use crate::own_box::OwnFlightControl;
+use crate::own_flight::fly;
 use racks::{Autopilot, Datalink, Navigator, PowerMonitor, boxed, rack_of};
 use std::io;
 

@@ -6,8 +6,8 @@
 //! from the rules, worked out by hand.
 #![tactic(auto)]
 
-mod rows;
 mod halts;
+mod rows;
 mod tries;
 
 use crate::rows::fly_row;

@@ -3,8 +3,8 @@
 ghost use Rattle.fault_script.specs.Fits.{Fits};
 
 use crate::choices::Rule;
-use crate::ruled::fly;
 use crate::halts::{Halt, Halts};
+use crate::ruled::fly;
 use crate::scripts::{rule_named, script_of};
 use app_model::racks::empty_racks;
 use scram_types::{Flown, Report, Script, Spec};

@@ -2,8 +2,8 @@
 
 ghost use Rattle.fault_script.specs.Fits.{Fits};
 
-use crate::ruled::fly_some;
 use crate::halts::Halts;
+use crate::ruled::fly_some;
 use crate::scripts::{rule_named, script_of};
 use app_model::racks::empty_racks;
 use bank_words::Event;

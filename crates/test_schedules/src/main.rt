@@ -9,9 +9,9 @@
 
 mod choices;
 mod comparisons;
-mod ruled;
 mod halts;
 mod looks;
+mod ruled;
 mod scripts;
 
 use crate::comparisons::fly_row;

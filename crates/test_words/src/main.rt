@@ -9,9 +9,9 @@
 #![tactic(auto)]
 
 mod crews;
-mod rows;
 mod looks;
 mod rounds;
+mod rows;
 
 use crate::rows::fly_row;
 use std::alloc::Global;

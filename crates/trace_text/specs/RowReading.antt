@@ -30,7 +30,7 @@ are_values (factor ∷ factors) list = length (pieces_of 44 list) == length (fac
 abbrev pub is_env_form : Parts → List (List ℕ) → ℕ → Bool
 is_env_form spec words at =
     is_word words at (codes "env") && are_values spec.factors (word_at words (at + 1)) && is_word words (at + 2) (codes "up")
-        && is_word words (at + 4) (codes "world")
+    && is_word words (at + 4) (codes "world")
 
 -- the words of a row whose mode is stable
 abbrev pub is_stable_form : Parts → List (List ℕ) → Bool

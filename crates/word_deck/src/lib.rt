@@ -4,17 +4,17 @@
 //! a flight is the one-thread trace.
 #![tactic(auto)]
 
-mod kernel_actors;
 pub mod crews;
-pub mod word_flights;
 mod frames;
+mod kernel_actors;
 pub mod kernels;
 pub mod landings;
 pub mod scopes;
 pub mod turns;
 mod watched;
+pub mod word_flights;
 
 pub use crews::Crew;
-pub use word_flights::{Landed, WordFlight};
 pub use kernels::KernelCrew;
 pub use turns::Turn;
+pub use word_flights::{Landed, WordFlight};

@@ -6,9 +6,9 @@ ghost use Rattle.word_table.specs.Tables.{IsSeatOf, mission_in, proc_of, seat_pl
 ghost use Rattle.word_deck.specs.Landing.{IsLanded};
 ghost use Rattle.word_deck.specs.Flights.{AllCrewsFit, AreLanded, AreOpen, IsBoarded, IsBoardedLast, numbers_boarded, numbers_in};
 
-use crate::kernel_actors::KernelActor;
 use crate::crews::Crew;
-use crate::landings::{Resources, Lander, Landing, RackCell, crew_from, fly_crew, land, start};
+use crate::kernel_actors::KernelActor;
+use crate::landings::{Lander, Landing, RackCell, Resources, crew_from, fly_crew, land, start};
 use crate::turns::Turn;
 use coverage_check::Mission;
 use std::snapshot::Snapshot;
@@ -249,7 +249,14 @@ fn board<'s, E, R: Threads + Wait + Sync>(
         own.push_reserved(crew_from(rt, &resources.words, &resources.cells[p], seat));
         return Boarding::Own;
     }
-    match start(scope, rt, mission, &resources.words, &resources.cells[p], seat) {
+    match start(
+        scope,
+        rt,
+        mission,
+        &resources.words,
+        &resources.cells[p],
+        seat,
+    ) {
         Ok(handle) => Boarding::Threaded(Flying { handle }),
         Err(landing) => {
             if landing.flown {

@@ -7,7 +7,7 @@ ghost use Rattle.word_deck.specs.Flights.{AreAtTable, AreLanded, AreOpen, IsAtTa
 ghost use Rattle.word_deck.specs.Kernels.{IsKernelDone, frames_noted};
 
 use crate::kernels::KernelCrew;
-use crate::landings::{Resources, RackPair, RackCell};
+use crate::landings::{RackCell, RackPair, Resources};
 use crate::scopes::{Roster, fly};
 use crate::watched::WatchedKernel;
 use app_model::Rack;
