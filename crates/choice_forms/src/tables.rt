@@ -39,7 +39,8 @@ pub fn choices<F: Files, K: Sink>(
     files: &mut F,
     out: &mut K,
 ) -> Status
-    ensures { Ends (ChoicesAnswers specification.now) (specification.now ∷ []) (F.state files.old) (F.state files.new) (IsTaken (K.state out.old) (K.state out.new) result.code) }
+    ensures { Ends (ChoicesAnswers specification.now) (specification.now ∷ []) (F.state files.old) (F.state files.new)
+        (IsTaken (K.state out.old) (K.state out.new) result.code) }
 {
     match read_table(alloc, specification, files) {
         Ok(table) => {

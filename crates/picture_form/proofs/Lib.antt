@@ -9,3 +9,4 @@ mod ReportsTell
 mod CurvesTell
 mod PicturesTell
 mod FlightsDrawn
+mod TracesDrawn

@@ -190,7 +190,8 @@ pub fn read_invariants(
     members: &Members<'_>,
 ) -> Result<Vec<Invariant>, DocError>
     requires members { AreMembers members.now }
-    ensures value { Answers (member_in (codes "invariants") (read_invariants vocabulary.now.apps vocabulary.now.confs) (view members.now.document.now)) (λ l. l.items) result }
+    ensures value { Answers (member_in (codes "invariants") (read_invariants vocabulary.now.apps vocabulary.now.confs) (view members.now.document.now))
+        (λ l. l.items) result }
     ensures few { IfOk result (λ l. length l.items ≤ 64) }
     ensures fits { IfOk result (λ l. AllAfter (λ _. FitsInvariant vocabulary.now.apps vocabulary.now.confs) l.items) }
 {
@@ -206,7 +207,8 @@ pub fn read_preconditions(
     members: &Members<'_>,
 ) -> Result<Vec<Precondition>, DocError>
     requires members { AreMembers members.now }
-    ensures value { Answers (member_in (codes "preconditions") (read_preconditions vocabulary.now.apps vocabulary.now.confs) (view members.now.document.now)) (λ l. l.items) result }
+    ensures value { Answers (member_in (codes "preconditions") (read_preconditions vocabulary.now.apps vocabulary.now.confs)
+        (view members.now.document.now)) (λ l. l.items) result }
     ensures few { IfOk result (λ l. length l.items ≤ 64) }
     ensures fits { IfOk result (λ l. AllAfter (λ _. FitsPrecondition vocabulary.now.apps vocabulary.now.confs) l.items) }
 {
