@@ -338,7 +338,7 @@ record Drawn (spec : Parts) (s : SoFar) : Type 0 where
   rows : Each (IsRowDrawn spec) s.rows
   reports : Each IsReportDrawn s.reports
   few : length s.rows ≤ MAX_FRAMES
-  open : OpenDrawn spec s.rows s.standing
+  begun : OpenDrawn spec s.rows s.standing
 
 row_step : (spec : Parts) (s t : SoFar) (line : List ℕ) → IsSpec spec → Drawn spec s → (read : Result Row ℕ) → row_read spec (length s.rows) line ≡ read → with_row s read ≡ Ok t → Drawn spec t
 row_step spec s t line sound drawn (Err rule) is h = absurd (let e = h in cc)
@@ -346,15 +346,15 @@ row_step spec s t line sound drawn (Ok row) is h =
     let read = line_read spec (length s.rows) line row sound is in
     let same : record { rows = s.rows; reports = s.reports; standing = Apps 0 row } ≡ t = let e = h in cc in
     let made : Drawn spec (record { rows = s.rows; reports = s.reports; standing = Apps 0 row })
-    = record { rows = drawn.rows; reports = drawn.reports; few = drawn.few; open = (read.drawn, read.due) } in
+    = record { rows = drawn.rows; reports = drawn.reports; few = drawn.few; begun = (read.drawn, read.due) } in
     rw (← same) made
 
 after_drawn : (more : Bool) (spec : Parts) (s : SoFar) (a : ℕ) (row : Row) → Drawn spec s → IsRowDrawn spec row → length s.rows < MAX_FRAMES
     → Drawn spec (cond more (record { rows = s.rows; reports = s.reports; standing = Apps (a + 1) row }) (record { rows = s.rows ++ row ∷ []; reports = s.reports; standing = Rows }))
-after_drawn true spec s a row drawn new below = record { rows = drawn.rows; reports = drawn.reports; few = drawn.few; open = (new, below) }
+after_drawn true spec s a row drawn new below = record { rows = drawn.rows; reports = drawn.reports; few = drawn.few; begun = (new, below) }
 after_drawn false spec s a row drawn new below =
     let one : length (s.rows ++ row ∷ []) ≡ length s.rows + 1 = length-append s.rows (row ∷ []) in
-    record { rows = each_end (IsRowDrawn spec) s.rows row drawn.rows new; reports = drawn.reports; few = omega (arith, one, below); open = tt }
+    record { rows = each_end (IsRowDrawn spec) s.rows row drawn.rows new; reports = drawn.reports; few = omega (arith, one, below); begun = tt }
 
 app_step : (spec : Parts) (s t : SoFar) (line : List ℕ) (a : ℕ) (row : Row) → Drawn spec s → IsRowDrawn spec row → length s.rows < MAX_FRAMES
     → (read : Result Done ℕ) → app_read spec a line ≡ read → with_done spec s a row read ≡ Ok t → Drawn spec t
@@ -368,14 +368,14 @@ report_step spec s t line drawn (Err rule) is h = absurd (let e = h in cc)
 report_step spec s t line drawn (Ok report) is h =
     let same : record { rows = s.rows; reports = s.reports ++ report ∷ []; standing = Reports } ≡ t = let e = h in cc in
     let made : Drawn spec (record { rows = s.rows; reports = s.reports ++ report ∷ []; standing = Reports })
-    = record { rows = drawn.rows; reports = each_end IsReportDrawn s.reports report drawn.reports (report_drawn spec (length s.rows) line report drawn.few is); few = drawn.few; open = tt } in
+    = record { rows = drawn.rows; reports = each_end IsReportDrawn s.reports report drawn.reports (report_drawn spec (length s.rows) line report drawn.few is); few = drawn.few; begun = tt } in
     rw (← same) made
 
 end_step : (spec : Parts) (s t : SoFar) → Drawn spec s → (read : Result ⊤ ℕ) → with_end s read ≡ Ok t → Drawn spec t
 end_step spec s t drawn (Err rule) h = absurd (let e = h in cc)
 end_step spec s t drawn (Ok done) h =
     let same : record { rows = s.rows; reports = s.reports; standing = Over } ≡ t = let e = h in cc in
-    let made : Drawn spec (record { rows = s.rows; reports = s.reports; standing = Over }) = record { rows = drawn.rows; reports = drawn.reports; few = drawn.few; open = tt } in
+    let made : Drawn spec (record { rows = s.rows; reports = s.reports; standing = Over }) = record { rows = drawn.rows; reports = drawn.reports; few = drawn.few; begun = tt } in
     rw (← same) made
 
 closing_by : (report end : Bool) (spec : Parts) (s t : SoFar) (line : List ℕ) → Drawn spec s
@@ -406,7 +406,7 @@ standing_step spec s t Over line sound drawn begun h = absurd (let e = h in cc)
 
 line_step : (spec : Parts) (s t : SoFar) (line : List ℕ) → IsSpec spec → Drawn spec s → after_line spec s line ≡ Ok t → Drawn spec t
 line_step spec s t line sound drawn h =
-    standing_step spec s t s.standing line sound drawn drawn.open (if_ok (is_plain line) (standing_line spec s s.standing line) BROKEN_LINE t h).1
+    standing_step spec s t s.standing line sound drawn drawn.begun (if_ok (is_plain line) (standing_line spec s s.standing line) BROKEN_LINE t h).1
 
 -- what is read to its end can be drawn
 record DrawnWhole (spec : Parts) (flown : Flown) : Type 0 where
@@ -443,7 +443,7 @@ none_drawn spec = record {
   rows = λ i row there. let none = slice_get_within [] i row there in absurd (omega (arith, none));
   reports = λ i report there. let none = slice_get_within [] i report there in absurd (omega (arith, none));
   few = omega arith;
-  open = tt;
+  begun = tt;
 }
 
 pub traces_drawn : TracesAreDrawn
