@@ -1,18 +1,18 @@
 //! The top call.
 
-ghost use Rattle.std.specs.Prelude.{◌≡◌, Some, map, string_bytes, vec_len};
+ghost use Rattle.std.specs.Prelude.{◌≡◌, ◌∷◌, [], Some, map, string_bytes, vec_len};
 ghost use Rattle.scram_io.specs.Outside.{Rose};
 ghost use Rattle.form_base.specs.Answers.{Gives};
 ghost use Rattle.form_base.specs.Assurance.{Assured};
 ghost use Rattle.form_base.specs.Endings.{Completes, Ends, IsSent, IsTaken, Tells, WentOut};
 ghost use Rattle.form_base.specs.Refusals.{told};
 ghost use Rattle.form_base.specs.declared.status.TheConstants.{ANSWERED, BROKEN_USAGE, UNREAD_FILE, UNWRITTEN_OUTPUT};
-ghost use Rattle.scram_cli.specs.Answers.{FormAnswers, usage_line};
+ghost use Rattle.scram_cli.specs.Answers.{FlightAnswers, FormAnswers, LookAnswers, QuestionAnswers, usage_line};
 ghost use Rattle.scram_cli.specs.Assurance.{AssuresForm};
-ghost use Rattle.scram_cli.specs.Forms.{files_of, form_of, with_names};
+ghost use Rattle.scram_cli.specs.Forms.{files_of, flight_files, flight_with_names, form_of, question_files, question_with_names, with_names};
 ghost use Rattle.scram_cli.specs.Pages.{page_text};
 
-use crate::forms::{Form, form_of};
+use crate::forms::{FlightForm, Form, Look, SpecificationForm, form_of};
 use crate::pages::{Page, page_text};
 use app_model::Rack;
 use choice_forms::{Question, choices, choose};
@@ -29,7 +29,7 @@ use form_base::telling::{tell, tell_refusal};
 use picture_form::picture_form;
 use scram_io::{Files, Sink, SinkFault};
 use spec_forms::{bounds, check};
-use std::alloc::AllocGlobal;
+use std::alloc::{AllocGlobal, Global};
 use std::sync::Wait;
 use std::thread::Threads;
 use summary_form::summary_form;
@@ -134,7 +134,7 @@ fn tell_page<K: Sink>(out: &mut K, page: Page) -> Status
     tell(out, ANSWERED, page_text(page).as_bytes())
 }
 
-// Returns the table of the forms.
+// Does what a form asks.
 fn answer_form<R: AllocGlobal + Threads + Wait + Sync, F: Files, K: Sink>(
     rt: &R,
     form: Form<&str>,
@@ -146,56 +146,13 @@ fn answer_form<R: AllocGlobal + Threads + Wait + Sync, F: Files, K: Sink>(
         (F.state files.old) (F.state files.new) (IsTaken (K.state out.old) (K.state out.new) result.code) }
 {
     match form {
-        Form::Run {
-            specification,
-            script,
-        } => run(
-            rt,
-            MissionFiles {
-                specification,
-                script,
-            },
-            files,
-            out,
-            boxes,
-        ),
-        Form::Watch {
-            specification,
-            script,
-        } => watch(
-            rt,
-            MissionFiles {
-                specification,
-                script,
-            },
-            files,
-            out,
-            boxes,
-        ),
-        Form::Pair {
-            specification,
-            script,
-            halt,
-        } => pair_form(
-            rt.alloc(),
-            PairFiles {
-                specification,
-                script,
-                halt,
-            },
-            files,
-            out,
-            boxes,
-        ),
-        Form::Check { specification } => {
+        Form::Flight { flight } => answer_flight(rt, flight, files, out, boxes),
+        Form::Specification { question } => {
             drop(boxes);
-            check(rt.alloc(), specification, files, out)
+            answer_question(rt.alloc(), question, files, out)
         }
-        Form::Bounds { specification } => {
-            drop(boxes);
-            bounds(rt.alloc(), specification, files, out)
-        }
-        Form::Props {
+        Form::Trace {
+            look,
             specification,
             trace,
         } => {
@@ -204,85 +161,125 @@ fn answer_form<R: AllocGlobal + Threads + Wait + Sync, F: Files, K: Sink>(
                 specification,
                 trace,
             };
-            props_form(rt.alloc(), named, files, out)
+            look_at(rt.alloc(), look, named, files, out)
         }
-        Form::Replay {
+        Form::Told { page } => {
+            drop(boxes);
+            tell_page(out, page)
+        }
+    }
+}
+
+// Does what is asked about flights.
+fn answer_flight<R: AllocGlobal + Threads + Wait + Sync, F: Files, K: Sink>(
+    rt: &R,
+    flight: FlightForm<&str>,
+    files: &mut F,
+    out: &mut K,
+    boxes: Boxes,
+) -> Status
+    ensures { Ends (FlightAnswers (flight_with_names (λ name. name.now) flight.entry)) (flight_files (flight_with_names (λ name. name.now) flight.entry))
+        (F.state files.old) (F.state files.new) (IsTaken (K.state out.old) (K.state out.new) result.code) }
+{
+    match flight {
+        FlightForm::Run {
+            specification,
+            script,
+        } => {
+            let named = MissionFiles {
+                specification,
+                script,
+            };
+            run(rt, named, files, out, boxes)
+        }
+        FlightForm::Watch {
+            specification,
+            script,
+        } => {
+            let named = MissionFiles {
+                specification,
+                script,
+            };
+            watch(rt, named, files, out, boxes)
+        }
+        FlightForm::Pair {
+            specification,
+            script,
+            halt,
+        } => {
+            let named = PairFiles {
+                specification,
+                script,
+                halt,
+            };
+            pair_form(rt.alloc(), named, files, out, boxes)
+        }
+        FlightForm::Replay {
             specification,
             script,
             schedule,
-        } => replay_form(
-            rt.alloc(),
-            ReplayFiles {
+        } => {
+            let named = ReplayFiles {
                 specification,
                 script,
                 schedule,
-            },
-            files,
-            out,
-            boxes,
-        ),
-        Form::Fill { specification } => {
-            drop(boxes);
-            fill(rt.alloc(), specification, files, out)
+            };
+            replay_form(rt.alloc(), named, files, out, boxes)
         }
-        Form::Choices { specification } => {
+        FlightForm::Gen { number } => {
             drop(boxes);
-            choices(rt.alloc(), specification, files, out)
+            print_generated(rt.alloc(), number, out)
         }
-        Form::Choose {
+        FlightForm::Fly { number } => fly_generated(rt, number, out, boxes),
+    }
+}
+
+// Answers what is asked about a specification.
+fn answer_question<F: Files, K: Sink>(
+    alloc: Global,
+    question: SpecificationForm<&str>,
+    files: &mut F,
+    out: &mut K,
+) -> Status
+    ensures { Ends (QuestionAnswers (question_with_names (λ name. name.now) question.entry))
+        (question_files (question_with_names (λ name. name.now) question.entry))
+        (F.state files.old) (F.state files.new) (IsTaken (K.state out.old) (K.state out.new) result.code) }
+{
+    match question {
+        SpecificationForm::Check { specification } => check(alloc, specification, files, out),
+        SpecificationForm::Bounds { specification } => bounds(alloc, specification, files, out),
+        SpecificationForm::Fill { specification } => fill(alloc, specification, files, out),
+        SpecificationForm::Choices { specification } => choices(alloc, specification, files, out),
+        SpecificationForm::Choose {
             specification,
             conf,
             state,
         } => {
-            drop(boxes);
             let question = Question {
                 specification,
                 conf,
                 state: state.words(),
             };
-            choose(rt.alloc(), question, files, out)
+            choose(alloc, question, files, out)
         }
-        Form::Summary {
-            specification,
-            trace,
-        } => {
-            drop(boxes);
-            let named = TraceFiles {
-                specification,
-                trace,
-            };
-            summary_form(rt.alloc(), named, files, out)
-        }
-        Form::Columns {
-            specification,
-            trace,
-        } => {
-            drop(boxes);
-            let named = TraceFiles {
-                specification,
-                trace,
-            };
-            columns_form(rt.alloc(), named, files, out)
-        }
-        Form::Picture {
-            specification,
-            trace,
-        } => {
-            drop(boxes);
-            let named = TraceFiles {
-                specification,
-                trace,
-            };
-            picture_form(rt.alloc(), named, files, out)
-        }
-        Form::Gen { number } => {
-            drop(boxes);
-            print_generated(rt.alloc(), number, out)
-        }
-        Form::Fly { number } => fly_generated(rt, number, out, boxes),
-        Form::Told { page } => {
-            drop(boxes);
-            tell_page(out, page)
-        }
+    }
+}
+
+// Looks at the trace of a flight by a specification.
+fn look_at<F: Files, K: Sink>(
+    alloc: Global,
+    look: Look,
+    named: TraceFiles<'_>,
+    files: &mut F,
+    out: &mut K,
+) -> Status
+    ensures { Ends (LookAnswers look named.entry.specification.now named.entry.trace.now) (named.entry.specification.now ∷ named.entry.trace.now ∷ [])
+        (F.state files.old) (F.state files.new) (IsTaken (K.state out.old) (K.state out.new) result.code) }
+{
+    match look {
+        Look::Props => props_form(alloc, named, files, out),
+        Look::Summary => summary_form(alloc, named, files, out),
+        Look::Columns => columns_form(alloc, named, files, out),
+        Look::Picture => picture_form(alloc, named, files, out),
     }
 }
