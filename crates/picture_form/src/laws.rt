@@ -1,4 +1,4 @@
-//! What a picture tells of a flight: each function's contract is a law.
+//! What two equal pictures say of their flights: each function's contract is a law.
 
 ghost use Rattle.picture_form.specs.Laws.{FlightsAreDrawn, PicturesTell, TracesAreDrawn};
 
