@@ -68,13 +68,23 @@ impl Promise<Landing> for Lander {
     ghost kept_by = { λ promise landing. Lands promise.0.value promise.1.value landing };
 }
 
-/// What the actors of a flight share: the words, a cell for each processor, and the processors for which a thread is
-/// asked.
+/// What the actors of a flight share: the mission, the words, a cell for each processor, and the processors for which a
+/// thread is asked.
 #[derive(Drop)]
-pub(crate) struct Resources {
+pub(crate) struct Resources<'a> {
+    pub(crate) mission: &'a Mission,
     pub(crate) words: WordTable,
     pub(crate) cells: [RackCell; 8],
     pub(crate) asked: [bool; 8],
+}
+
+/// What one processor flies with: the mission, the words, the cell of its racks, and whether a thread is asked for it.
+#[derive(Clone, Copy)]
+pub(crate) struct Site<'a> {
+    pub(crate) mission: &'a Mission,
+    pub(crate) words: &'a WordTable,
+    pub(crate) cell: &'a RackCell,
+    pub(crate) asked: bool,
 }
 
 /// Flies a processor until nothing is left to do.
@@ -106,17 +116,21 @@ pub(crate) fn fly_crew<R: Wait>(
 pub(crate) fn start<'s, E, R: Wait + Threads + Sync>(
     scope: &Scope<'s, E>,
     rt: &'s R,
-    mission: &'s Mission,
-    words: &'s WordTable,
-    cell: &'s RackCell,
+    site: &Site<'s>,
     seat: Seat,
 ) -> Result<PromisedHandle<Landing, Lander>, Landing>
-    requires mission { mission_in words.now ≡ mission.now }
-    requires seat { IsSeatOf words.now seat }
+    requires mission { mission_in site.now.words.now ≡ site.now.mission.now }
+    requires seat { IsSeatOf site.now.words.now seat }
     requires opening { seat_place seat ≡ At 0 0 }
-    ensures thread { IfOk result (λ handle. (handle.promise.0.value ≡ words.now) × (handle.promise.1.value ≡ seat)) }
-    ensures back { IfErr result (λ landing. Lands words.now seat landing) }
+    ensures thread { IfOk result (λ handle. (handle.promise.0.value ≡ site.now.words.now) × (handle.promise.1.value ≡ seat)) }
+    ensures back { IfErr result (λ landing. Lands site.now.words.now seat landing) }
 {
+    let Site {
+        mission,
+        words,
+        cell,
+        asked: _,
+    } = *site;
     let promise = Lander(Snapshot::of(words), Snapshot::of(&seat));
     let spawned = scope.spawn_with(
         promise,
@@ -186,23 +200,16 @@ pub(crate) fn crew_from<R: Wait>(rt: &R, words: &WordTable, cell: &RackCell, sea
 
 /// Returns the seat of a processor that has landed; one that has not flown is flown by the caller, with the pair from
 /// the cell.
-pub(crate) fn land<R: Wait>(
-    rt: &R,
-    mission: &Mission,
-    words: &WordTable,
-    cell: &RackCell,
-    landing: Landing,
-    was: Snapshot<Seat>,
-) -> Seat
-    requires mission { mission_in words.now ≡ mission.now }
-    requires lands { Lands words.now was.value landing }
-    requires seat { IsSeatOf words.now was.value }
+pub(crate) fn land<R: Wait>(rt: &R, site: &Site<'_>, landing: Landing, was: Snapshot<Seat>) -> Seat
+    requires mission { mission_in site.now.words.now ≡ site.now.mission.now }
+    requires lands { Lands site.now.words.now was.value landing }
+    requires seat { IsSeatOf site.now.words.now was.value }
     requires opening { seat_place was.value ≡ At 0 0 }
-    ensures { IsLanded words.now (proc_of was.value) result }
+    ensures { IsLanded site.now.words.now (proc_of was.value) result }
 {
     if landing.flown {
         return landing.seat;
     }
-    let crew = crew_from(rt, words, cell, landing.seat);
-    fly_crew(rt, mission, words, crew)
+    let crew = crew_from(rt, site.words, site.cell, landing.seat);
+    fly_crew(rt, site.mission, site.words, crew)
 }
