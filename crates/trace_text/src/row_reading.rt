@@ -156,16 +156,17 @@ fn read_row_end(
     let Some(up) = read_up(spec.procs.items(), words.word_at(at + 3)) else {
         return Err(rule::OUT_OF_ORDER);
     };
+    let Begun { mode, values } = begun;
     let env = Env {
         up,
-        factors: begun.values,
+        factors: values,
     };
     let acts = [Act::Off; 8];
     let areas = [[0; 8]; 8];
     Ok(Row {
         frame: frame as u32,
         env,
-        mode: begun.mode,
+        mode,
         acts,
         areas,
         world,
