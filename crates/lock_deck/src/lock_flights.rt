@@ -261,7 +261,7 @@ fn start_all<'s, 'a, E, J: FlightOf + Send + Sync, R: Threads + Wait + Sync>(
     requires own { J.mission ≡ Some flight.mission.now }
     requires fits { All (λ member. MemberFits flight.mission.now member.value) roster.members.items }
     requires back { (roster.back.items ≡ []) × (vec_len roster.members ≤ vec_capacity roster.back) }
-    ensures { All (MemberFits flight.mission.now) result.items }
+    ensures { All (MemberFits flight.entry.mission.now) result.items }
 {
     let SharedFlight {
         mission,

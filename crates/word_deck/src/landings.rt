@@ -68,14 +68,20 @@ impl Promise<Landing> for Lander {
     ghost kept_by = { λ promise landing. Lands promise.0.value promise.1.value landing };
 }
 
-/// What the actors of a flight share: the mission, the words, a cell for each processor, and the processors for which a
-/// thread is asked.
+/// What the actors of a flight share: the words, a cell for each processor, and the processors for which a thread is
+/// asked.
 #[derive(Drop)]
-pub(crate) struct Resources<'a> {
-    pub(crate) mission: &'a Mission,
+pub(crate) struct Resources {
     pub(crate) words: WordTable,
     pub(crate) cells: [RackCell; 8],
     pub(crate) asked: [bool; 8],
+}
+
+/// A mission, and what its actors share.
+#[derive(Clone, Copy)]
+pub(crate) struct Shared<'a> {
+    pub(crate) mission: &'a Mission,
+    pub(crate) resources: &'a Resources,
 }
 
 /// What one processor flies with: the mission, the words, the cell of its racks, and whether a thread is asked for it.

@@ -8,7 +8,7 @@ ghost use Rattle.word_deck.specs.Flights.{AllCrewsFit, AreLanded, AreOpen, IsBoa
 
 use crate::crews::Crew;
 use crate::kernel_actors::KernelActor;
-use crate::landings::{Lander, Landing, Resources, Site, crew_from, fly_crew, land, start};
+use crate::landings::{Lander, Landing, Shared, Site, crew_from, fly_crew, land, start};
 use crate::turns::Turn;
 use coverage_check::Mission;
 use std::snapshot::Snapshot;
@@ -43,46 +43,46 @@ pub(crate) enum Boarding {
 /// Flies all processors and the kernel, which comes back with its last note made.
 pub(crate) fn fly<K: KernelActor, R: Threads + Wait + Sync>(
     rt: &R,
-    resources: &Resources<'_>,
+    shared: &Shared<'_>,
     kernel: K,
     roster: Roster,
 ) -> (K, Vec<Seat>)
-    requires mission { mission_in resources.now.words ≡ resources.now.mission.now }
-    requires kernel { K.mission_of kernel ≡ resources.now.mission.now }
-    requires seated { K.seated resources.now.words kernel }
-    requires waiting { AreOpen resources.now.words roster.waiting.items }
+    requires mission { mission_in shared.now.resources.now.words ≡ shared.now.mission.now }
+    requires kernel { K.mission_of kernel ≡ shared.now.mission.now }
+    requires seated { K.seated shared.now.resources.now.words kernel }
+    requires waiting { AreOpen shared.now.resources.now.words roster.waiting.items }
     requires own { vec_len roster.own ≡ 0 }
     requires landed { vec_len roster.landed ≡ 0 }
     requires own_room { vec_len roster.waiting ≤ vec_capacity roster.own }
     requires room { vec_len roster.waiting ≤ vec_capacity roster.landed }
-    ensures mission { K.mission_of result.0 ≡ resources.now.mission.now }
-    ensures seated { K.seated resources.now.words result.0 }
-    ensures done { K.done resources.now.words result.0 }
+    ensures mission { K.mission_of result.0 ≡ shared.now.mission.now }
+    ensures seated { K.seated shared.now.resources.now.words result.0 }
+    ensures done { K.done shared.now.resources.now.words result.0 }
     ensures lent { K.lent result.0 ≡ K.lent kernel }
-    ensures seats { AreLanded resources.now.words result.1.items }
+    ensures seats { AreLanded shared.now.resources.now.words result.1.items }
     ensures count { vec_len result.1 ≡ vec_len roster.waiting }
 {
     thread::scope(
         thread::scope_env(),
         rt,
         |scope| -> (K, Vec<Seat>)
-            requires mission { mission_in resources.now.words ≡ resources.now.mission.now }
-            requires kernel { K.mission_of kernel ≡ resources.now.mission.now }
-            requires seated { K.seated resources.now.words kernel }
-            requires waiting { AreOpen resources.now.words roster.waiting.items }
+            requires mission { mission_in shared.now.resources.now.words ≡ shared.now.mission.now }
+            requires kernel { K.mission_of kernel ≡ shared.now.mission.now }
+            requires seated { K.seated shared.now.resources.now.words kernel }
+            requires waiting { AreOpen shared.now.resources.now.words roster.waiting.items }
             requires own { vec_len roster.own ≡ 0 }
             requires landed { vec_len roster.landed ≡ 0 }
             requires own_room { vec_len roster.waiting ≤ vec_capacity roster.own }
             requires room { vec_len roster.waiting ≤ vec_capacity roster.landed }
-            ensures mission { K.mission_of result.0 ≡ resources.entry.now.mission.now }
-            ensures seated { K.seated resources.entry.now.words result.0 }
-            ensures done { K.done resources.entry.now.words result.0 }
+            ensures mission { K.mission_of result.0 ≡ shared.entry.now.mission.now }
+            ensures seated { K.seated shared.entry.now.resources.now.words result.0 }
+            ensures done { K.done shared.entry.now.resources.now.words result.0 }
             ensures lent { K.lent result.0 ≡ K.lent kernel }
-            ensures seats { AreLanded resources.entry.now.words result.1.items }
+            ensures seats { AreLanded shared.entry.now.resources.now.words result.1.items }
             ensures count { vec_len result.1 ≡ vec_len roster.waiting }
         {
             let mut roster = roster;
-            let kernel = fly_rest(scope, rt, resources, kernel, &mut roster);
+            let kernel = fly_rest(scope, rt, shared, kernel, &mut roster);
             let Roster {
                 waiting: _,
                 own: _,
@@ -97,42 +97,43 @@ pub(crate) fn fly<K: KernelActor, R: Threads + Wait + Sync>(
 fn fly_rest<'s, E, K: KernelActor, R: Threads + Wait + Sync>(
     scope: &Scope<'s, E>,
     rt: &'s R,
-    resources: &'s Resources<'s>,
+    shared: &Shared<'s>,
     kernel: K,
     roster: &mut Roster,
 ) -> K
-    requires mission { mission_in resources.now.words ≡ resources.now.mission.now }
-    requires kernel { K.mission_of kernel ≡ resources.now.mission.now }
-    requires seated { K.seated resources.now.words kernel }
-    requires waiting { AreOpen resources.now.words roster.old.waiting.items }
-    requires own { AllCrewsFit resources.now.words roster.old.own.items }
+    requires mission { mission_in shared.now.resources.now.words ≡ shared.now.mission.now }
+    requires kernel { K.mission_of kernel ≡ shared.now.mission.now }
+    requires seated { K.seated shared.now.resources.now.words kernel }
+    requires waiting { AreOpen shared.now.resources.now.words roster.old.waiting.items }
+    requires own { AllCrewsFit shared.now.resources.now.words roster.old.own.items }
     requires landed { vec_len roster.old.landed ≡ 0 }
     requires own_room { vec_len roster.old.own + vec_len roster.old.waiting ≤ vec_capacity roster.old.own }
     requires room { vec_len roster.old.waiting ≤ vec_capacity roster.old.landed }
-    ensures mission { K.mission_of result ≡ resources.now.mission.now }
-    ensures seated { K.seated resources.now.words result }
-    ensures done { K.done resources.now.words result }
+    ensures mission { K.mission_of result ≡ shared.now.mission.now }
+    ensures seated { K.seated shared.now.resources.now.words result }
+    ensures done { K.done shared.now.resources.now.words result }
     ensures lent { K.lent result ≡ K.lent kernel }
-    ensures own { AllCrewsFit resources.now.words roster.new.own.items }
+    ensures own { AllCrewsFit shared.now.resources.now.words roster.new.own.items }
     ensures numbers { numbers_in roster.new.own.items ≡ numbers_in roster.old.own.items }
-    ensures seats { AreLanded resources.now.words roster.new.landed.items }
+    ensures seats { AreLanded shared.now.resources.now.words roster.new.landed.items }
     ensures count { vec_len roster.new.landed ≡ vec_len roster.old.waiting }
     ensures capacity { vec_capacity roster.new.landed ≡ vec_capacity roster.old.landed }
 {
     let seat = match roster.waiting.pop() {
         Some(seat) => seat,
-        None => return fly_kernel(rt, resources, kernel, &mut roster.own),
+        None => return fly_kernel(rt, shared, kernel, &mut roster.own),
     };
     let p = roster.waiting.len() % 8;
+    let resources = shared.resources;
     let site = Site {
-        mission: resources.mission,
+        mission: shared.mission,
         words: &resources.words,
         cell: &resources.cells[p],
         asked: resources.asked[p],
     };
     let was = Snapshot::of(&seat);
     let boarding = board(scope, rt, &site, &mut roster.own, seat);
-    let kernel = fly_rest(scope, rt, resources, kernel, roster);
+    let kernel = fly_rest(scope, rt, shared, kernel, roster);
     let seat = land_boarded(rt, &site, boarding, was, &mut roster.own);
     roster.landed.push_reserved(seat);
     kernel
@@ -174,22 +175,22 @@ fn land_boarded<R: Threads + Wait>(
 // where no processor waits for a turn of the caller.
 fn fly_kernel<K: KernelActor, R: Wait>(
     rt: &R,
-    resources: &Resources<'_>,
+    shared: &Shared<'_>,
     mut kernel: K,
     own: &mut Vec<Crew>,
 ) -> K
-    requires mission { mission_in resources.now.words ≡ resources.now.mission.now }
-    requires kernel { K.mission_of kernel ≡ resources.now.mission.now }
-    requires seated { K.seated resources.now.words kernel }
-    requires own { AllCrewsFit resources.now.words own.old.items }
-    ensures mission { K.mission_of result ≡ resources.now.mission.now }
-    ensures seated { K.seated resources.now.words result }
-    ensures done { K.done resources.now.words result }
+    requires mission { mission_in shared.now.resources.now.words ≡ shared.now.mission.now }
+    requires kernel { K.mission_of kernel ≡ shared.now.mission.now }
+    requires seated { K.seated shared.now.resources.now.words kernel }
+    requires own { AllCrewsFit shared.now.resources.now.words own.old.items }
+    ensures mission { K.mission_of result ≡ shared.now.mission.now }
+    ensures seated { K.seated shared.now.resources.now.words result }
+    ensures done { K.done shared.now.resources.now.words result }
     ensures lent { K.lent result ≡ K.lent kernel }
-    ensures own { AllCrewsFit resources.now.words own.new.items }
+    ensures own { AllCrewsFit shared.now.resources.now.words own.new.items }
     ensures numbers { numbers_in own.new.items ≡ numbers_in own.old.items }
 {
-    let words = &resources.words;
+    let words = &shared.resources.words;
     for _ in rt.forever() {
         match kernel.work(words) {
             Turn::Finished => return kernel,
@@ -200,7 +201,7 @@ fn fly_kernel<K: KernelActor, R: Wait>(
                 }
             }
         }
-        turn_all(resources.mission, words, own);
+        turn_all(shared.mission, words, own);
     }
     unreachable!()
 }

@@ -7,7 +7,7 @@ ghost use Rattle.word_deck.specs.Flights.{AreAtTable, AreLanded, AreOpen, IsAtTa
 ghost use Rattle.word_deck.specs.Kernels.{IsKernelDone, frames_noted};
 
 use crate::kernels::KernelCrew;
-use crate::landings::{RackCell, RackPair, Resources};
+use crate::landings::{RackCell, RackPair, Resources, Shared};
 use crate::scopes::{Roster, fly};
 use crate::watched::WatchedKernel;
 use app_model::Rack;
@@ -113,9 +113,14 @@ impl<'a> WordFlight<'a> {
         ensures seats { AreSeatsOf result.words.table result.seats.items }
         ensures landed { AreLanded result.words.table result.seats.items }
     {
+        let mission = self.mission;
         let (resources, kernel, roster) = self.prepare(rt, asked);
-        let (kernel, seats) = fly(rt, &resources, kernel, roster);
-        land_all(resources, kernel, seats)
+        let shared = Shared {
+            mission,
+            resources: &resources,
+        };
+        let (kernel, seats) = fly(rt, &shared, kernel, roster);
+        land_all(mission, resources, kernel, seats)
     }
 
     /// Flies as `run` does, and hands each row to a watch as the kernel writes it. The watch has then taken all rows.
@@ -136,25 +141,25 @@ impl<'a> WordFlight<'a> {
         ensures watched { W.watched watch.new ≡ self.entry.mission.now }
         ensures taken { W.taken watch.new ≡ self.entry.mission.now.script.frames }
     {
+        let mission = self.mission;
         let (resources, kernel, roster) = self.prepare(rt, [true; 8]);
         let kernel = WatchedKernel { kernel, watch };
-        let (kernel, seats) = fly(rt, &resources, kernel, roster);
+        let shared = Shared {
+            mission,
+            resources: &resources,
+        };
+        let (kernel, seats) = fly(rt, &shared, kernel, roster);
         // A name for the reference, since the proof else does not learn what stands behind it.
         let WatchedKernel {
             kernel,
             watch: _last,
         } = kernel;
-        land_all(resources, kernel, seats)
+        land_all(mission, resources, kernel, seats)
     }
 
     // Returns what a flight starts with, where threads are asked for these processors.
-    fn prepare<R: Threads>(
-        self,
-        rt: &R,
-        asked: [bool; 8],
-    ) -> (Resources<'a>, KernelCrew<'a>, Roster)
+    fn prepare<R: Threads>(self, rt: &R, asked: [bool; 8]) -> (Resources, KernelCrew<'a>, Roster)
         ensures table { result.0.words.table ≡ self.entry.words.table }
-        ensures of { result.0.mission ≡ self.entry.mission }
         ensures mission { mission_in result.0.words ≡ self.entry.mission.now }
         ensures same { result.1.mission.now ≡ self.entry.mission.now }
         ensures seated { IsKernelSeatOf result.0.words result.1.kseat }
@@ -176,7 +181,6 @@ impl<'a> WordFlight<'a> {
         mission.holds();
         words.set_spins(spins_of(rt));
         let resources = Resources {
-            mission,
             words,
             cells,
             asked,
@@ -186,23 +190,27 @@ impl<'a> WordFlight<'a> {
 }
 
 // Returns what has come of a flight whose kernel has made its last note and whose processors have landed.
-fn land_all<'a>(resources: Resources<'a>, kernel: KernelCrew<'a>, seats: Vec<Seat>) -> Landed<'a>
-    requires mission { mission_in resources.words ≡ resources.mission.now }
-    requires same { kernel.mission.now ≡ resources.mission.now }
+fn land_all<'a>(
+    mission: &'a Mission,
+    resources: Resources,
+    kernel: KernelCrew<'a>,
+    seats: Vec<Seat>,
+) -> Landed<'a>
+    requires mission { mission_in resources.words ≡ mission.now }
+    requires same { kernel.mission.now ≡ mission.now }
     requires seated { IsKernelSeatOf resources.words kernel.kseat }
-    requires done { IsKernelDone (length resources.mission.now.spec.procs) resources.mission.now.script.frames kernel.kseat }
+    requires done { IsKernelDone (length mission.now.spec.procs) mission.now.script.frames kernel.kseat }
     requires seats { AreLanded resources.words seats.items }
-    requires all { vec_len seats ≡ length resources.mission.now.spec.procs }
-    ensures flown { IsTraceOf resources.mission.now result.flown }
-    ensures mission { result.words.mission ≡ resources.mission }
+    requires all { vec_len seats ≡ length mission.now.spec.procs }
+    ensures flown { IsTraceOf mission.entry.now result.flown }
+    ensures mission { result.words.mission ≡ mission.entry }
     ensures table { result.words.table.table ≡ resources.words.table }
     ensures kernel { IsKernelSeatOf result.words.table result.kseat }
-    ensures kernel_done { IsKernelDone (length resources.mission.now.spec.procs) resources.mission.now.script.frames result.kseat }
+    ensures kernel_done { IsKernelDone (length mission.entry.now.spec.procs) mission.entry.now.script.frames result.kseat }
     ensures seats { AreSeatsOf result.words.table result.seats.items }
     ensures landed { AreLanded result.words.table result.seats.items }
 {
     let Resources {
-        mission,
         words: table,
         cells: _,
         asked: _,

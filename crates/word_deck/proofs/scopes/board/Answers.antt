@@ -1,8 +1,8 @@
 use Rattle.word_deck.proofs.Listing.{crews_more}
 use Rattle.word_deck.proofs.scopes.board.Goals as goal
 
-pub returns-then-not-site-asked-clause-own : goal.returns-then-not-site-asked-clause-own
-returns-then-not-site-asked-clause-own g c =
+pub returns-then-not-site-clause-own : goal.returns-then-not-site-clause-own
+returns-then-not-site-clause-own g c =
     crews_more c.args.site.now.words.now c.args.own.now.items c.push_reserved.new.self.items c.crew_from.result
     c.requires.own c.crew_from.ensures.fits c.push_reserved.ensures.items
 

@@ -5,7 +5,7 @@ use Rattle.word_deck.proofs.word_flights.land_all.Goals as goal
 
 pub returns-clause-flown : goal.returns-clause-flown
 returns-clause-flown g c =
-    let mission = c.args.resources.mission.now in
+    let mission = c.args.mission.now in
     let flown = c.finish.result in
     let rows : c.finish.result.rows ≡ rows_of mission.spec mission.script = search rules in
     let told : c.finish.result.reports ≡ reports_of mission.spec mission.script = search rules in
@@ -20,5 +20,5 @@ returns-clause-flown g c =
 
 pub returns-clause-seats : goal.returns-clause-seats
 returns-clause-seats g c =
-    let long : length c.args.seats.items ≡ length c.args.resources.mission.now.spec.procs = search rules in
+    let long : length c.args.seats.items ≡ length c.args.mission.now.spec.procs = search rules in
     landed_seats c.args.resources.words c.args.seats.items c.requires.seats (long ∙ ap (λ mission. length mission.spec.procs) (sym c.requires.mission))
