@@ -1,0 +1,5 @@
+pub mod EachItem
+pub mod Gathering
+pub mod Misses
+pub mod Short
+pub mod ShownIn
