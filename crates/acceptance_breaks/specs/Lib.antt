@@ -5,3 +5,4 @@ pub mod Breaks
 pub mod Shown
 pub mod Lines
 pub mod Texts
+pub mod Laws

@@ -10,6 +10,7 @@ mod facts;
 mod finding;
 mod form;
 mod holding;
+pub mod laws;
 mod limit_lines;
 mod lines;
 mod pushes;
