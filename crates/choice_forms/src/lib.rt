@@ -8,4 +8,5 @@ pub mod states;
 mod tables;
 
 pub use choosing::{Question, choose};
+pub use lines::make_needs_line;
 pub use tables::choices;
