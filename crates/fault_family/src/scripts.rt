@@ -10,7 +10,7 @@ ghost use Rattle.fault_family.specs.Scripts.{change_of, halt_of, last_frame, res
 
 use crate::faults::{Fault, FaultKind};
 use coverage_check::greatest_bound;
-use scram_types::{FactorId, ProcId, Spec};
+use scram_types::{Change, FactorId, HaltAt, ProcId, RestartAt, Spec};
 
 /// The script of some faults.
 #[derive(Clone, Copy)]
@@ -34,6 +34,47 @@ impl<'a> FaultScript<'a> {
             frames: last_frame(faults) + greatest(spec) + 3,
             faults,
         }
+    }
+}
+
+/// Returns the change that a fault is.
+pub fn change_of(fault: &Fault) -> Option<Change>
+    ensures { result ≡ change_of fault.now }
+{
+    match fault.kind {
+        FaultKind::Change { factor, value } => Some(Change {
+            frame: fault.frame,
+            factor,
+            value,
+        }),
+        _ => None,
+    }
+}
+
+/// Returns the halt that a fault is.
+pub fn halt_of(fault: &Fault) -> Option<HaltAt>
+    ensures { result ≡ halt_of fault.now }
+{
+    match fault.kind {
+        FaultKind::Halt { proc, step } => Some(HaltAt {
+            proc,
+            frame: fault.frame,
+            step,
+        }),
+        _ => None,
+    }
+}
+
+/// Returns the restart that a fault is.
+pub fn restart_of(fault: &Fault) -> Option<RestartAt>
+    ensures { result ≡ restart_of fault.now }
+{
+    match fault.kind {
+        FaultKind::Restart { proc } => Some(RestartAt {
+            proc,
+            frame: fault.frame,
+        }),
+        _ => None,
     }
 }
 

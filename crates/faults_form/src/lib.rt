@@ -1,0 +1,8 @@
+//! The form `faults`: the family of fault scripts of a specification, line by line. What it prints is the answer to the
+//! bytes of the file that its words name.
+#![tactic(auto)]
+
+pub mod counts;
+mod lines;
+
+pub use counts::{FaultCount, fault_count};
