@@ -21,7 +21,7 @@ use Rattle.scram_types.specs.declared.specification.Proc.{Proc}
 use Rattle.scram_types.specs.Lookups.{factor_name, proc_name, value_name}
 use Rattle.scram_types.specs.Scripts.{ScriptParts}
 use Rattle.scram_types.specs.Specification.{HasNames, HasValueNames, IsSpec, Parts}
-use Rattle.fault_script.specs.Texts.{change_data, halt_data, new_value_name, restart_data, script_data, script_data_by, script_text}
+use Rattle.fault_script.specs.Texts.{change_data, halt_data, new_value_name, restart_data, script_text}
 use Rattle.fault_family.specs.declared.faults.Fault.{Fault}
 use Rattle.fault_family.specs.declared.faults.FaultKind.{FaultKind}
 use Rattle.fault_family.specs.declared.faults.FaultKind.TheVariants as kind

@@ -3,6 +3,8 @@
 #![tactic(auto)]
 
 pub mod counts;
+mod forms;
 mod lines;
 
 pub use counts::{FaultCount, fault_count};
+pub use forms::{FaultsQuestion, faults};

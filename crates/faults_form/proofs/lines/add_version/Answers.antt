@@ -1,4 +1,4 @@
-use Rattle.std.proofs.Common.{◌≡◌, ◌∙◌, append_assoc, refl, sym}
+use Rattle.std.proofs.Common.{◌∙◌, append_assoc, refl, sym}
 use Rattle.std.specs.Prelude.{filter_map}
 use Rattle.fault_family.specs.Scripts.{restart_of}
 use Rattle.faults_form.proofs.Spelled.{first_version, second_version}

@@ -1,4 +1,4 @@
-use Rattle.std.proofs.Common.{◌≡◌, append_assoc, arith, refl}
+use Rattle.std.proofs.Common.{append_assoc, arith, refl}
 use Rattle.faults_form.proofs.Spelled.{counted}
 use Rattle.faults_form.proofs.lines.spelled_script.Goals as goal
 
