@@ -4,4 +4,5 @@
 mod lines;
 mod summaries;
 
+pub use lines::count_unfinished;
 pub use summaries::summary_form;

@@ -30,7 +30,8 @@ pub fn make_flight_line(flown: &Flown) -> Line
     line
 }
 
-fn count_unfinished(reports: &[Report]) -> u32
+/// Returns how many reconfigurations are unfinished.
+pub fn count_unfinished(reports: &[Report]) -> u32
     requires { length reports.now < 2 ^ 32 }
     ensures { result ≡ count_unfinished reports.now }
 {

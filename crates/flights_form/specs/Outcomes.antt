@@ -1,0 +1,44 @@
+-- What comes of a line: its script is read, tested and flown.
+use Rattle.std.specs.Prelude.{◌≡◌, ◌⊎◌, ℕ, List, [], ◌∷◌, Option, Some, None, Result, Ok, Err, ⊤}
+use Rattle.scram_types.specs.Scripts.{ScriptParts}
+use Rattle.scram_types.specs.Specification.{Parts}
+use Rattle.scram_doc.specs.declared.fault.DocFault.{DocFault}
+use Rattle.fault_script.specs.declared.assumption.Outside.{Outside}
+use Rattle.fault_script.specs.Assumption.{first_outside}
+use Rattle.fault_script.specs.Reading.{script_of}
+use Rattle.frame_model.specs.Flights.{reports_of, rows_of}
+use Rattle.form_base.specs.Refusals.{memory_line}
+use Rattle.flight_forms.specs.Lines.{outside_line, script_line}
+use Rattle.flights_form.specs.declared.outcomes.Outcome.{Outcome}
+use Rattle.flights_form.specs.declared.outcomes.Outcome.TheVariants.{Flown, Refused}
+use Rattle.flights_form.specs.Facts.{facts_of}
+
+-- What comes of a script that fits the specification, by where it leaves the failure assumption: it is refused as by `run`,
+-- or what its one-thread flight came to.
+abbrev pub outcome_within : Parts → ScriptParts → Option Outside → Outcome
+outcome_within spec script (Some outside) = Refused (outside_line outside)
+outcome_within spec script None = Flown (facts_of spec (rows_of spec script) (reports_of spec script))
+
+-- What comes of what a line is read as.
+abbrev pub outcome_read : Parts → Result ScriptParts DocFault → Outcome
+outcome_read spec (Err fault) = Refused (script_line fault)
+outcome_read spec (Ok script) = outcome_within spec script (first_outside spec script)
+
+-- What comes of a line.
+abbrev pub outcome_of : Parts → List ℕ → Outcome
+outcome_of spec line = outcome_read spec (script_of spec line)
+
+-- The line is refused because the allocator is out of memory.
+abbrev pub memory_outcome : Outcome
+memory_outcome = Refused memory_line
+
+-- This came of a line: what comes of it, or the allocator was out of memory.
+abbrev pub IsOutcome : Parts → List ℕ → Outcome → Type 0
+IsOutcome spec line outcome = (outcome ≡ outcome_of spec line) ⊎ (outcome ≡ memory_outcome)
+
+-- These came of lines, one of each, in their order.
+abbrev pub AreOutcomes : Parts → List (List ℕ) → List Outcome → Type 0
+AreOutcomes spec [] [] = ⊤
+AreOutcomes spec [] (outcome ∷ outcomes) = ⊥
+AreOutcomes spec (line ∷ lines) [] = ⊥
+AreOutcomes spec (line ∷ lines) (outcome ∷ outcomes) = IsOutcome spec line outcome × AreOutcomes spec lines outcomes

@@ -1,0 +1,68 @@
+//! A file of scripts, a line each.
+
+ghost use Rattle.std.specs.Prelude.{◌≡◌, ◌<◌, ◌≤◌, ◌∷◌, [], IfErr, IfOk, IfSome, MatchOption, length};
+ghost use Rattle.scram_io.specs.Outside.{Rose, StaysSteady};
+ghost use Rattle.form_base.specs.Loads.{Loads};
+ghost use Rattle.form_base.specs.Refusals.{told};
+ghost use Rattle.form_base.specs.declared.status.TheConstants.{UNREAD_FILE};
+ghost use Rattle.flight_forms.specs.Documents.{long_script};
+ghost use Rattle.trace_text.specs.Pieces.{pieces_of};
+ghost use Rattle.flights_form.specs.Scripts.{BreaksScripts, SaysScripts, lines_of};
+ghost use Rattle.flights_form.specs.declared.limits.TheConstants.{MAX_SCRIPTS_BYTES};
+
+use crate::limits::MAX_SCRIPTS_BYTES;
+use fault_script::{ScriptFault, rule};
+use flight_forms::make_script_line;
+use form_base::refusals::{Refusal, Refused};
+use scram_doc::Path;
+use scram_io::{Files, ReadFault};
+use scram_types::List;
+use std::alloc::Global;
+use trace_text::pieces::split_once;
+
+/// Loads the file of scripts of this name.
+pub fn load_scripts<F: Files>(alloc: Global, name: &str, files: &mut F) -> Result<List<u8>, Refusal>
+    ensures loads { Loads SaysScripts BreaksScripts MAX_SCRIPTS_BYTES long_script name.now (F.state files.old) (F.state files.new) result }
+    ensures few { IfOk result (λ scripts. length scripts ≤ MAX_SCRIPTS_BYTES) }
+    ensures steady { StaysSteady (F.state files.old) (F.state files.new) name.now }
+    ensures unread { IfErr result (λ refusal. (told refusal).0 ≡ UNREAD_FILE → Rose (F.state files.old).faults (F.state files.new).faults) }
+{
+    match files.read(alloc, name, MAX_SCRIPTS_BYTES) {
+        Ok(bytes) => Ok(List::of(bytes)),
+        Err(ReadFault::Failed) => Err(Refusal::unread(alloc, name)),
+        Err(ReadFault::TooLong) => Err(too_long()),
+        Err(ReadFault::NoMemory) => Err(Refusal::out_of_memory()),
+    }
+}
+
+// Returns the refusal of a file with more bytes than the limit.
+fn too_long() -> Refusal
+    ensures { told result ≡ long_script }
+{
+    let fault = ScriptFault::new(rule::TOO_LONG, &Path::root());
+    Refusal::new(Refused::Script, make_script_line(&fault))
+}
+
+/// Returns the first line of a file and the bytes behind it, or `None` where there is no line.
+pub fn next_line(bytes: &[u8]) -> Option<(&[u8], &[u8])>
+    ensures lines { MatchOption result (lines_of bytes.now ≡ []) (λ parts. lines_of bytes.now ≡ parts.0.now ∷ lines_of parts.1.now) }
+    ensures shorter { IfSome result (λ parts. length parts.1.now < length bytes.now) }
+{
+    match split_once(bytes, b'\n') {
+        Some(parts) => Some(parts),
+        None => last_line(bytes),
+    }
+}
+
+// Returns the line that no line feed ends, where there is a byte.
+fn last_line(bytes: &[u8]) -> Option<(&[u8], &[u8])>
+    requires { pieces_of 10 bytes.now ≡ bytes.now ∷ [] }
+    ensures lines { MatchOption result (lines_of bytes.now ≡ []) (λ parts. lines_of bytes.now ≡ parts.0.now ∷ lines_of parts.1.now) }
+    ensures shorter { IfSome result (λ parts. length parts.1.now < length bytes.now) }
+{
+    if bytes.is_empty() {
+        None
+    } else {
+        Some((bytes, &bytes[bytes.len()..]))
+    }
+}

@@ -1,0 +1,87 @@
+//! Series of flights: an accepted specification, and the scripts of a file that are flown by it.
+
+ghost use Rattle.std.specs.Prelude.{◌≤◌, ◌∷◌, [], IfOk, ℕ, List, length};
+ghost use Rattle.form_base.specs.Answers.{WithoutFiles};
+ghost use Rattle.form_base.specs.Endings.{Prepares, Settles};
+ghost use Rattle.flights_form.specs.Answers.{FlightsAnswers, ScriptsAnswers};
+ghost use Rattle.flights_form.specs.Printing.{TellsSeries};
+ghost use Rattle.flights_form.specs.Scripts.{AsksScripts};
+ghost use Rattle.flights_form.specs.declared.limits.TheConstants.{MAX_SCRIPTS_BYTES};
+
+use crate::scripts::load_scripts;
+use coverage_check::{AcceptError, Accepted, accept};
+use form_base::lines::make_shown_line;
+use form_base::loads::load;
+use form_base::refusals::{Refusal, Refused};
+use form_base::specifications::Specification;
+use scram_io::Files;
+use scram_types::{List, Spec};
+use std::alloc::Global;
+
+/// The files of a series of flights: a specification, and scripts, a line each.
+#[derive(Clone, Copy)]
+pub struct ScriptsFiles<'a> {
+    pub specification: &'a str,
+    pub scripts: &'a str,
+}
+
+/// An accepted specification, and the bytes of the file of scripts that are flown by it.
+#[derive(Drop)]
+pub struct Series {
+    pub accepted: Accepted,
+    pub scripts: List<u8>,
+}
+
+/// Reads the specification and the file of scripts, and accepts the specification.
+pub fn read_series<F: Files>(
+    alloc: Global,
+    named: ScriptsFiles<'_>,
+    files: &mut F,
+) -> Result<Series, Refusal>
+    ensures reads { Prepares (FlightsAnswers named.entry.specification.now named.entry.scripts.now) TellsSeries
+        (named.entry.specification.now ∷ named.entry.scripts.now ∷ []) (F.state files.old) (F.state files.new) result }
+    ensures few { IfOk result (λ series. length series.scripts ≤ MAX_SCRIPTS_BYTES) }
+{
+    match load(alloc, &Specification, named.specification, files) {
+        Ok(spec) => read_scripts(alloc, spec, named.scripts, files),
+        Err(refusal) => Err(refusal),
+    }
+}
+
+fn read_scripts<F: Files>(
+    alloc: Global,
+    spec: Spec,
+    scripts: &str,
+    files: &mut F,
+) -> Result<Series, Refusal>
+    ensures reads { Prepares (AsksScripts scripts.now (λ (bytes : List ℕ). WithoutFiles (ScriptsAnswers spec bytes))) TellsSeries (scripts.now ∷ [])
+        (F.state files.old) (F.state files.new) result }
+    ensures few { IfOk result (λ series. length series.scripts ≤ MAX_SCRIPTS_BYTES) }
+{
+    match load_scripts(alloc, scripts, files) {
+        Ok(scripts) => make_series(alloc, spec, scripts),
+        Err(refusal) => {
+            drop(spec);
+            Err(refusal)
+        }
+    }
+}
+
+fn make_series(alloc: Global, spec: Spec, scripts: List<u8>) -> Result<Series, Refusal>
+    requires { length scripts ≤ MAX_SCRIPTS_BYTES }
+    ensures settles { Settles (ScriptsAnswers spec scripts) TellsSeries result }
+    ensures few { IfOk result (λ series. length series.scripts ≤ MAX_SCRIPTS_BYTES) }
+{
+    match accept(alloc, spec) {
+        Ok(accepted) => Ok(Series { accepted, scripts }),
+        Err(AcceptError::NotAccepted(spec, shown)) => {
+            let line = make_shown_line(&spec, &shown);
+            drop((spec, scripts));
+            Err(Refusal::new(Refused::Acceptance, line))
+        }
+        Err(AcceptError::NoMemory(spec)) => {
+            drop((spec, scripts));
+            Err(Refusal::out_of_memory())
+        }
+    }
+}
