@@ -1,0 +1,6 @@
+//! What a document should have where it breaks a rule: the rule in words, what is wanted there and what was found.
+#![tactic(auto)]
+
+pub mod lines;
+pub mod objects;
+pub mod rules;
