@@ -4,3 +4,4 @@
 pub mod lines;
 pub mod objects;
 pub mod rules;
+pub mod listed;
