@@ -1,3 +1,4 @@
 pub mod Objects
+pub mod Paths
 pub mod Rules
 pub mod Wants

@@ -5,3 +5,5 @@ pub mod lines;
 pub mod objects;
 pub mod rules;
 pub mod listed;
+pub mod paths;
+pub mod wants;
