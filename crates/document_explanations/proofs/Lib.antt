@@ -1,2 +1,4 @@
+pub mod Floats
 pub mod Levels
 pub mod Listing
+pub mod Shown

@@ -1,4 +1,7 @@
+pub mod Explanations
+pub mod Found
 pub mod Objects
 pub mod Paths
 pub mod Rules
+pub mod Values
 pub mod Wants

@@ -7,3 +7,4 @@ pub mod rules;
 pub mod listed;
 pub mod paths;
 pub mod wants;
+pub mod values;
