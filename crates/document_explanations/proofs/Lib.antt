@@ -1,3 +1,4 @@
+pub mod CharCounts
 pub mod Floats
 pub mod Levels
 pub mod Listing

@@ -8,3 +8,4 @@ pub mod listed;
 pub mod paths;
 pub mod wants;
 pub mod values;
+pub mod found;
