@@ -9,3 +9,4 @@ pub mod paths;
 pub mod wants;
 pub mod values;
 pub mod found;
+pub mod explanations;
