@@ -4,8 +4,10 @@ use Rattle.scram_types.specs.declared.limits.TheConstants.{MAX_SPECIFICATION_BYT
 use Rattle.scram_types.specs.Specification.{Parts}
 use Rattle.scram_doc.specs.declared.fault.DocFault.{DocFault}
 use Rattle.scram_doc.specs.Documents.{document}
+use Rattle.spec_apps.specs.declared.fault.SpecFault.{SpecFault}
 use Rattle.spec_members.specs.declared.rule.TheConstants as rule
 use Rattle.form_base.specs.Answers.{Answer, AnswersDocument, AnswersFile}
+use Rattle.form_base.specs.Lines.{specification_line}
 use Rattle.form_base.specs.Specifications.{BreaksSpecification, SaysSpecification, long_specification}
 use Rattle.document_explanations.specs.Explanations.{explanation}
 use Rattle.document_explanations.specs.declared.rules.DocumentKind.TheVariants.{Specification}
@@ -13,6 +15,11 @@ use Rattle.document_explanations.specs.declared.rules.DocumentKind.TheVariants.{
 -- The lines behind the first one where these bytes break a rule of specifications.
 abbrev pub specification_explanation : DocFault → List ℕ → List ℕ
 specification_explanation fault bytes = explanation Specification None fault.rule fault.path (document bytes)
+
+-- The line of a fault of a specification that these bytes are, and what stands behind it.
+abbrev pub explained_specification_text : SpecFault → List ℕ → List ℕ
+explained_specification_text fault bytes =
+    specification_line fault ++ explanation Specification None fault.rule fault.path (document bytes)
 
 -- The bytes are refused as a specification: with the line of this, and what stands behind it.
 pub record BreaksExplainedSpecification (refusal : ℕ × List ℕ) (bytes : List ℕ) : Type 0 where

@@ -10,3 +10,6 @@ pub mod wants;
 pub mod values;
 pub mod found;
 pub mod explanations;
+mod first_lines;
+mod long_documents;
+pub mod specifications;
