@@ -16,6 +16,7 @@ mod watches;
 
 pub use boxes::Boxes;
 pub use generated::{fly_generated, print_generated};
+pub use lines::{make_outside_line, make_script_line};
 pub use missions::MissionFiles;
 pub use pairs::{PairFiles, pair_form};
 pub use replays::{ReplayFiles, replay_form};
