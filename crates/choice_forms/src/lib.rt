@@ -10,3 +10,5 @@ mod tables;
 pub use choosing::{Question, choose};
 pub use lines::make_needs_line;
 pub use tables::choices;
+pub use lines::{is_placed_on, make_needs_line};
+pub use tables::{choices, find_shares};

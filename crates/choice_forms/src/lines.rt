@@ -119,12 +119,13 @@ fn is_used(spec: &Spec, c: ConfId, p: u8) -> bool
     ensures { result ≡ is_used spec.now c p }
 {
     match spec.conf(c) {
-        Some(conf) => conf.places.iter().any(|place| is_on(place, p)),
+        Some(conf) => conf.places.iter().any(|place| is_placed_on(place, p)),
         None => false,
     }
 }
 
-fn is_on(place: &Option<Place>, p: u8) -> bool
+/// Returns whether an application is placed on processor `p`.
+pub fn is_placed_on(place: &Option<Place>, p: u8) -> bool
     ensures { result ≡ is_placed_on p place.now }
 {
     match place {

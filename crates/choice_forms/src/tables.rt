@@ -81,8 +81,12 @@ fn find_table(alloc: Global, spec: Spec) -> Result<Table, Refusal>
     }
 }
 
-// Returns the shares of each configuration, in order.
-fn find_shares(alloc: Global, spec: &Spec) -> Result<Vec<List<Share>>, NoMemory>
+/// Returns the shares of each configuration, in order.
+///
+/// # Errors
+///
+/// Out of memory.
+pub fn find_shares(alloc: Global, spec: &Spec) -> Result<Vec<List<Share>>, NoMemory>
     ensures { IfOk result (λ shares. HasShares spec.now shares.items) }
 {
     let mut shares = Vec::new(alloc);
