@@ -7,7 +7,6 @@ pub on_ok : {T E P Q : Type 0} (result : Result T E) → (P → Q) → OnOk resu
 on_ok (Ok value) then is = then is
 on_ok (Err error) then is = is
 
-
 pub three_more : (a b c d : List ℕ) → ((a ++ b) ++ c) ++ d ≡ a ++ (b ++ (c ++ d))
 three_more a b c d = append_assoc (a ++ b) c d ∙ append_assoc a b (c ++ d)
 
