@@ -113,7 +113,10 @@ fn found_part(alloc: Global, number: u8, place: &Place<'_>) -> Result<String, No
         (document place.now.bytes.now)) }
 {
     match parse(alloc, place.bytes) {
-        Ok(value) => cut(alloc, found_at(alloc, place.kind, number, place.path, &value)?),
+        Ok(value) => cut(
+            alloc,
+            found_at(alloc, place.kind, number, place.path, &value)?,
+        ),
         Err(DocError::Fault(_)) => Ok(String::new(alloc)),
         Err(DocError::NoMemory) => Err(NoMemory),
     }

@@ -212,17 +212,27 @@ const SPECIFICATION: &[Member] = &[
     member!("scram", Wanted::Number(Number::SpecificationVersion)),
     member!("processors", list!(1, MAX_PROCESSORS, object!(Processor))),
     member!("apps", list!(1, MAX_APPLICATIONS, object!(Application))),
-    member!("configurations", list!(1, MAX_CONFIGURATIONS, object!(Configuration))),
+    member!(
+        "configurations",
+        list!(1, MAX_CONFIGURATIONS, object!(Configuration))
+    ),
     member!("factors", list!(0, MAX_FACTORS, object!(Factor))),
     member!("rules", list!(0, MAX_RULES, object!(Rule))),
     member!("bounds", list!(0, MAX_BOUNDS, object!(Bound))),
     member!("start", text!(Configuration)),
     member!("goal", Wanted::Object(Object::Goal)),
     member!("invariants", list!(0, MAX_INTERVALS, object!(Invariant))),
-    member!("preconditions", list!(0, MAX_INTERVALS, object!(Precondition))),
+    member!(
+        "preconditions",
+        list!(0, MAX_INTERVALS, object!(Precondition))
+    ),
     member!("assumption", Wanted::Object(Object::Assumption)),
     member!("policy", Versions::SecondOn, text!(Policy)),
-    member!("demands", Versions::Third, list!(0, MAX_DEMANDS, object!(Demand))),
+    member!(
+        "demands",
+        Versions::Third,
+        list!(0, MAX_DEMANDS, object!(Demand))
+    ),
 ];
 
 const PROCESSOR: &[Member] = &[member!("name", text!(Name)), member!("capacity", LOAD)];
@@ -255,7 +265,10 @@ const PLACE: &[Member] = &[
 
 const FACTOR: &[Member] = &[
     member!("name", text!(Name)),
-    member!("values", list!(MIN_VALUES, MAX_VALUES, Element::Text(Text::Name))),
+    member!(
+        "values",
+        list!(MIN_VALUES, MAX_VALUES, Element::Text(Text::Name))
+    ),
 ];
 
 const RULE: &[Member] = &[
@@ -310,7 +323,10 @@ const DEMAND: &[Member] = &[
     member!("up", PROCESSORS),
     member!("down", PROCESSORS),
     member!("to", CONFIGURATIONS),
-    member!("on", list!(0, MAX_APPLICATIONS, object!(RequiredApplication))),
+    member!(
+        "on",
+        list!(0, MAX_APPLICATIONS, object!(RequiredApplication))
+    ),
     member!("off", APPLICATIONS),
 ];
 
@@ -330,7 +346,11 @@ const SCRIPT: &[Member] = &[
             element: object!(Halt),
         }
     ),
-    member!("restarts", Versions::Second, list!(0, MAX_PROCESSORS, object!(Restart))),
+    member!(
+        "restarts",
+        Versions::Second,
+        list!(0, MAX_PROCESSORS, object!(Restart))
+    ),
 ];
 
 const CHANGE: &[Member] = &[

@@ -74,39 +74,105 @@ const COMMON: &[Rule] = &[
     rule!(rule::MISSING_MEMBER, "a member is missing", Wanted),
     rule!(rule::FURTHER_MEMBER, "a member that is not known", Both),
     rule!(rule::NO_LIST, "a list is wanted", Both),
-    rule!(rule::WRONG_LENGTH, "the list is too short or too long", Both),
+    rule!(
+        rule::WRONG_LENGTH,
+        "the list is too short or too long",
+        Both
+    ),
     rule!(rule::NO_TEXT, "a text is wanted", Both),
-    rule!(rule::NO_NUMBER_IN_RANGE, "a whole number in its range is wanted", Both),
+    rule!(
+        rule::NO_NUMBER_IN_RANGE,
+        "a whole number in its range is wanted",
+        Both
+    ),
     rule!(specification_rule::UNKNOWN_VERSION, "no such version", Both),
 ];
 
 const SPECIFICATION: &[Rule] = &[
     rule!(specification_rule::NO_NAME, "no name", Both),
-    rule!(specification_rule::NAME_TWICE, "the name is given twice", Found),
+    rule!(
+        specification_rule::NAME_TWICE,
+        "the name is given twice",
+        Found
+    ),
     rule!(specification_rule::UNKNOWN_KIND, "no such kind", Both),
-    rule!(specification_rule::UNKNOWN_MODE, "the kind has no such mode", Both),
-    rule!(specification_rule::MODE_TWICE, "the mode is given twice", Found),
-    rule!(specification_rule::UNKNOWN_PROCESSOR, "no such processor", Found),
-    rule!(specification_rule::UNKNOWN_APPLICATION, "no such application", Found),
-    rule!(specification_rule::UNKNOWN_CONFIGURATION, "no such configuration", Found),
-    rule!(specification_rule::UNKNOWN_FACTOR_OR_VALUE, "no such factor, or no such value of it", Found),
-    rule!(specification_rule::UNKNOWN_VARIABLE, "the kind has no such variable", Both),
+    rule!(
+        specification_rule::UNKNOWN_MODE,
+        "the kind has no such mode",
+        Both
+    ),
+    rule!(
+        specification_rule::MODE_TWICE,
+        "the mode is given twice",
+        Found
+    ),
+    rule!(
+        specification_rule::UNKNOWN_PROCESSOR,
+        "no such processor",
+        Found
+    ),
+    rule!(
+        specification_rule::UNKNOWN_APPLICATION,
+        "no such application",
+        Found
+    ),
+    rule!(
+        specification_rule::UNKNOWN_CONFIGURATION,
+        "no such configuration",
+        Found
+    ),
+    rule!(
+        specification_rule::UNKNOWN_FACTOR_OR_VALUE,
+        "no such factor, or no such value of it",
+        Found
+    ),
+    rule!(
+        specification_rule::UNKNOWN_VARIABLE,
+        "the kind has no such variable",
+        Both
+    ),
     rule!(specification_rule::TWICE_IN_LIST, "given twice", Found),
-    rule!(specification_rule::CYCLE_OF_NEEDS, "the needs have a cycle", Nothing),
-    rule!(specification_rule::MODE_NOT_LISTED, "the application does not list this mode", Found),
-    rule!(specification_rule::EMPTY_INTERVAL, "least is above greatest", Found),
-    rule!(specification_rule::TOO_LONG, "more than", Some(MAX_SPECIFICATION_BYTES), Nothing),
+    rule!(
+        specification_rule::CYCLE_OF_NEEDS,
+        "the needs have a cycle",
+        Nothing
+    ),
+    rule!(
+        specification_rule::MODE_NOT_LISTED,
+        "the application does not list this mode",
+        Found
+    ),
+    rule!(
+        specification_rule::EMPTY_INTERVAL,
+        "least is above greatest",
+        Found
+    ),
+    rule!(
+        specification_rule::TOO_LONG,
+        "more than",
+        Some(MAX_SPECIFICATION_BYTES),
+        Nothing
+    ),
     rule!(specification_rule::UNKNOWN_POLICY, "no such policy", Both),
 ];
 
 const SCRIPT: &[Rule] = &[
-    rule!(script_rule::UNKNOWN_NAME, "no such factor, no such value of it, or no such processor", Both),
+    rule!(
+        script_rule::UNKNOWN_NAME,
+        "no such factor, no such value of it, or no such processor",
+        Both
+    ),
     rule!(
         script_rule::OUT_OF_ORDER,
         "not after the one before it by frame, then factor or processor; or a second halt without restarts",
         Found
     ),
-    rule!(script_rule::TOO_LONG, "more than", Some(MAX_SCRIPT_BYTES), Nothing),
+    rule!(
+        script_rule::TOO_LONG,
+        "more than",
+        Some(MAX_SCRIPT_BYTES),
+        Nothing
+    ),
     rule!(
         script_rule::WRONG_RESTART,
         "not after the restart before it by frame, then processor; or its processor restarts twice, or has no halt two frames before it or earlier",

@@ -24,11 +24,7 @@ use std::alloc::Global;
 #[derive(Clone, Copy)]
 pub struct ExplainedSpecification;
 
-fn explain<'a>(
-    alloc: Global,
-    fault: &'a SpecFault,
-    bytes: &'a [u8],
-) -> Result<String, NoMemory>
+fn explain<'a>(alloc: Global, fault: &'a SpecFault, bytes: &'a [u8]) -> Result<String, NoMemory>
     ensures { IfOk result (λ text. string_bytes text ≡ explained_specification_text fault.now bytes.now) }
 {
     let mut lines = Lines::new(alloc);

@@ -29,5 +29,5 @@ members_without_floats-loop-key-preserved t c =
       done ++ e ∷ [],
       all ∙ sym (append_assoc done (e ∷ []) left),
       ap members_view c.in_ok-insert.ensures.entries ∙ members_view-insert_entry l.copies.entries c.in_ok-name.name c.in_ok-without_floats.field-0
-      ∙ rw (named, c.in_ok-without_floats.ensures, l.invariant.2) shown,
+          ∙ rw (named, c.in_ok-without_floats.ensures, l.invariant.2) shown,
     )

@@ -15,15 +15,15 @@ returns-in-Err-Fault-clause-reads c =
     let shows : CycleAmong (unranked_of c.args.bytes.now) fault.cycle.items × NamedAmong (unranked_of c.args.bytes.now) fault.cycle.items fault.names.items =
     rw (c.in-Err-Fault.field-0-is) at c.in-Err-Fault.ensures.cycle in
     let explains : told c.refuse.result ≡ (BROKEN_SPECIFICATION, explained_specification_text fault c.args.bytes.now)
-      → BreaksExplainedSpecification (told c.refuse.result) c.args.bytes.now = λ is. record {
-        first = (BROKEN_SPECIFICATION, specification_line fault);
-        breaks = record {
-          fault = record { rule = fault.rule; path = fault.path };
-          is = value;
-          cycle = fault.names.items;
-          shows = (fault.cycle.items, shows.0, shows.1);
-          line = refl;
-        };
-        text = is;
-      } in
+    → BreaksExplainedSpecification (told c.refuse.result) c.args.bytes.now = λ is. record {
+      first = (BROKEN_SPECIFICATION, specification_line fault);
+      breaks = record {
+        fault = record { rule = fault.rule; path = fault.path };
+        is = value;
+        cycle = fault.names.items;
+        shows = (fault.cycle.items, shows.0, shows.1);
+        line = refl;
+      };
+      text = is;
+    } in
     either explains c.refuse.ensures
