@@ -1,5 +1,5 @@
 -- Texts that were joined piece by piece.
-use Rattle.std.proofs.Common.{◌≡◌, ℕ, List, [], ◌∷◌, ◌++◌, Result, Ok, Err, OnOk, ap, sym, ◌∙◌, append_assoc}
+use Rattle.std.proofs.Common.{◌≡◌, ℕ, List, ◌++◌, Result, Ok, Err, OnOk, ap, sym, ◌∙◌, append_assoc}
 use Rattle.std.specs.Prelude.{codes}
 
 -- what is true of a success
@@ -15,6 +15,10 @@ four_more a b c d e = append_assoc ((a ++ b) ++ c) d e ∙ three_more a b c (d +
 
 pub six_more : (a b c d e f g : List ℕ) → (((((a ++ b) ++ c) ++ d) ++ e) ++ f) ++ g ≡ a ++ (b ++ (c ++ (d ++ (e ++ (f ++ g)))))
 six_more a b c d e f g = append_assoc ((((a ++ b) ++ c) ++ d) ++ e) f g ∙ append_assoc (((a ++ b) ++ c) ++ d) e (f ++ g) ∙ four_more a b c d (e ++ (f ++ g))
+
+-- three texts, joined to a first one piece by piece
+pub joined_three : (a b c d : List ℕ) → ((a ++ b) ++ c) ++ d ≡ a ++ (b ++ c ++ d)
+joined_three a b c d = three_more a b c d ∙ ap (λ (rest : List ℕ). a ++ rest) (sym (append_assoc b c d))
 
 -- four texts, joined to a first one piece by piece
 pub joined_four : (a b c d e : List ℕ) → (((a ++ b) ++ c) ++ d) ++ e ≡ a ++ (b ++ c ++ d ++ e)

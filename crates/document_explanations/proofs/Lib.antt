@@ -1,5 +1,6 @@
 pub mod CharCounts
 pub mod Explained
+pub mod ExplainedReading
 pub mod Floats
 pub mod Joining
 pub mod Levels

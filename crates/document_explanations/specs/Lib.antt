@@ -3,6 +3,7 @@ pub mod Found
 pub mod Objects
 pub mod Paths
 pub mod Rules
+pub mod Scripts
 pub mod Specifications
 pub mod Values
 pub mod Wants

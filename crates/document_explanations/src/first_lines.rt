@@ -3,8 +3,10 @@
 ghost use Rattle.std.specs.Prelude.{◌≡◌, ◌++◌, OnOk};
 ghost use Rattle.trace_text.specs.Names.{further_joined};
 ghost use Rattle.form_base.specs.Lines.{cycle_text, rule_text, specification_line};
+ghost use Rattle.flight_forms.specs.Lines.{script_line};
 
 use crate::lines::Lines;
+use fault_script::ScriptFault;
 use reconf_spec::SpecFault;
 use scram_doc::Path;
 use scram_types::{Name, NoMemory};
@@ -23,12 +25,20 @@ pub fn add_specification_line(lines: &mut Lines, fault: &SpecFault) -> Result<()
     lines.push("\n")
 }
 
-/// Appends a broken rule, and where it is broken.
+/// Appends the line for a script document that breaks a rule.
 ///
 /// # Errors
 ///
 /// Out of memory.
-pub fn add_rule(lines: &mut Lines, rule: u8, path: &Path) -> Result<(), NoMemory>
+pub fn add_script_line(lines: &mut Lines, fault: &ScriptFault) -> Result<(), NoMemory>
+    ensures { OnOk result (lines.new ≡ lines.old ++ script_line fault.now) }
+{
+    lines.push("refused: script")?;
+    add_rule(lines, fault.rule, &fault.path)?;
+    lines.push("\n")
+}
+
+fn add_rule(lines: &mut Lines, rule: u8, path: &Path) -> Result<(), NoMemory>
     ensures { OnOk result (lines.new ≡ lines.old ++ rule_text rule path.now) }
 {
     lines.push(" rule ")?;

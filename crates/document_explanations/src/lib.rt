@@ -10,6 +10,7 @@ mod long_documents;
 pub mod objects;
 pub mod paths;
 pub mod rules;
+pub mod scripts;
 pub mod specifications;
 pub mod values;
 pub mod wants;

@@ -1,4 +1,4 @@
-use Rattle.std.proofs.Common.{◌≡◌, ◌++◌, ◌∙◌, ap, List, ℕ}
+use Rattle.std.proofs.Common.{◌++◌, ◌∙◌, ap, List, ℕ}
 use Rattle.std.specs.Prelude.{codes}
 use Rattle.form_base.specs.Lines.{cycle_text, rule_text}
 use Rattle.document_explanations.proofs.Joining.{joined_four, on_ok}

@@ -1,4 +1,4 @@
-use Rattle.std.proofs.Common.{◌≡◌, ◌∙◌, arith, string_bytes, sym}
+use Rattle.std.proofs.Common.{◌∙◌, arith, string_bytes, sym}
 use Rattle.document_explanations.proofs.CharCounts.{cut_dots, cut_whole, shown_cut}
 use Rattle.document_explanations.proofs.found.cut.Goals as goal
 

@@ -1,4 +1,4 @@
-use Rattle.std.proofs.Common.{◌≡◌, ◌++◌, [], ◌∙◌, ap, List, ℕ, decimal}
+use Rattle.std.proofs.Common.{◌++◌, [], ◌∙◌, ap, List, ℕ, decimal}
 use Rattle.std.specs.Prelude.{codes}
 use Rattle.form_base.specs.Lines.{rule_text}
 use Rattle.document_explanations.proofs.Joining.{long_lines}

@@ -1,4 +1,4 @@
-use Rattle.std.proofs.Common.{◌≡◌, ◌≢◌, ◌∷◌, [], ◌∙◌, arith, refl, sym, ap, List, ℕ, subst}
+use Rattle.std.proofs.Common.{◌≡◌, ◌∷◌, [], ◌∙◌, arith, refl, sym, ap, List, ℕ}
 use Rattle.std.proofs.lemmas.Str.Pattern.{strip_prefix_char}
 use Rattle.scram_doc.specs.Paths.{shown}
 use Rattle.document_explanations.specs.Paths.{behind_dot}

@@ -1,4 +1,4 @@
-use Rattle.std.proofs.Common.{◌≡◌, false, ◌∙◌, ap, subst, sym}
+use Rattle.std.proofs.Common.{◌≡◌, false, ◌∙◌, ap}
 use Rattle.serde_json.specs.View.{view}
 use Rattle.serde_json.specs.Written.{compact_text, has_float}
 use Rattle.document_explanations.specs.Values.{without_floats}

@@ -1,4 +1,3 @@
-use Rattle.std.proofs.Common.{◌≡◌}
 use Rattle.app_model.specs.Kinds.{kind_read}
 use Rattle.document_explanations.specs.Wants.{kind_text, modes_text, variables_text}
 use Rattle.document_explanations.proofs.Listing.{listed_read}

@@ -1,4 +1,3 @@
-use Rattle.std.proofs.Common.{◌≡◌}
 use Rattle.document_explanations.specs.Objects.{member_read}
 use Rattle.document_explanations.specs.Wants.{member_text}
 use Rattle.document_explanations.proofs.Listing.{listed_read}
