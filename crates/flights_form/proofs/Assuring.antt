@@ -1,9 +1,8 @@
 -- What is answered with status 0 is assured.
-use Rattle.std.proofs.Common.{◌≡◌, ◌∙◌, ℕ, zero, suc, List, [], ◌∷◌, refl, sym, subst, inl, inr}
-use Rattle.std.specs.Prelude.{◌≢◌, Option, Some, None, Result, Ok, Err, slice_get}
+use Rattle.std.proofs.Common.{◌≡◌, ℕ, zero, suc, List, [], ◌∷◌, refl, subst, inl, inr}
+use Rattle.std.specs.Prelude.{Option, Some, None, Result, Ok, Err, slice_get}
 use Rattle.scram_types.specs.Scripts.{ScriptParts}
 use Rattle.scram_types.specs.Specification.{IsSpec, Parts}
-use Rattle.scram_io.specs.Outside.{History}
 use Rattle.scram_doc.specs.declared.fault.DocFault.{DocFault}
 use Rattle.fault_script.specs.declared.assumption.Outside.{Outside}
 use Rattle.fault_script.specs.Assumption.{first_outside}
@@ -26,7 +25,7 @@ use Rattle.flights_form.specs.declared.outcomes.Outcome.{Outcome}
 use Rattle.flights_form.specs.declared.outcomes.Outcome.TheVariants.{Flown}
 use Rattle.flights_form.specs.Answers.{FlightsAnswers, ScriptsAnswers, TellsFlights, acceptance_refusal}
 use Rattle.flights_form.specs.Assurance.{AreAssuredFlights, AssuresFlights, IsAssuredFlight}
-use Rattle.flights_form.specs.Outcomes.{AreOutcomes, IsOutcome, outcome_of, outcome_read, outcome_within}
+use Rattle.flights_form.specs.Outcomes.{AreOutcomes, IsOutcome, outcome_read, outcome_within}
 use Rattle.flights_form.specs.Scripts.{BreaksScripts, SaysScripts, lines_of}
 
 -- what came of the line in a place

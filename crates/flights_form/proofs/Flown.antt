@@ -1,5 +1,5 @@
 -- From one line of a file to the next.
-use Rattle.std.proofs.Common.{◌≡◌, ◌∙◌, ℕ, suc, ◌+◌, List, [], ◌∷◌, ◌++◌, arith, length, append_assoc, append-nil, refl, sym, ap, map, subst, inl}
+use Rattle.std.proofs.Common.{◌≡◌, ◌∙◌, ℕ, ◌+◌, List, [], ◌∷◌, ◌++◌, arith, length, append_assoc, append-nil, refl, sym, ap, map, subst, inl}
 use Rattle.std.specs.Prelude.{Result, Ok, Err}
 use Rattle.form_base.specs.declared.status.TheConstants.{ANSWERED}
 use Rattle.form_base.specs.Endings.{Tells}

@@ -1,6 +1,6 @@
 -- What comes of a line sums up what `run` answers of its bytes.
-use Rattle.std.proofs.Common.{◌≡◌, ◌<◌, ℕ, List, length, refl, sym, ap, inl, inr, arith}
-use Rattle.std.specs.Prelude.{Option, Some, None, nat_le}
+use Rattle.std.proofs.Common.{◌≡◌, ◌<◌, ℕ, List, length, refl, sym, ap, inl, inr}
+use Rattle.std.specs.Prelude.{Option, Some, None}
 use Rattle.std.proofs.lemmas.Bool.{lt-leb}
 use Rattle.scram_types.specs.Scripts.{ScriptParts}
 use Rattle.scram_types.specs.Specification.{Parts}
@@ -9,19 +9,17 @@ use Rattle.scram_io.specs.Outside.{FilesState, History}
 use Rattle.fault_script.specs.declared.assumption.Outside.{Outside}
 use Rattle.fault_script.specs.Assumption.{first_outside}
 use Rattle.frame_model.specs.Flights.{reports_of, rows_of}
-use Rattle.coverage_check.specs.declared.shown.Shown.{Shown}
 use Rattle.coverage_check.specs.Acceptance.{first_refusal}
 use Rattle.coverage_check.specs.Missions.{mission_of}
-use Rattle.form_base.specs.declared.status.TheConstants.{ANSWERED}
-use Rattle.form_base.specs.Answers.{AnswersDocument, Gives}
+use Rattle.form_base.specs.Answers.{AnswersDocument}
 use Rattle.flight_forms.specs.declared.runs.FlightText.TheVariants.{Trace}
 use Rattle.flight_forms.specs.Answers.{ScriptAnswers, TellsFlight}
 use Rattle.flight_forms.specs.Documents.{BreaksScript, SaysScript, long_script}
-use Rattle.flight_forms.specs.Missions.{UnlessRefused, mission_refusal, refusal_by, script_refusal}
+use Rattle.flight_forms.specs.Missions.{UnlessRefused, mission_refusal, script_refusal}
 use Rattle.flight_forms.specs.Texts.{flight_text}
 use Rattle.flights_form.specs.declared.outcomes.Outcome.TheVariants.{Refused}
 use Rattle.flights_form.specs.Laws.{IsSummed, LinesAreRuns}
-use Rattle.flights_form.specs.Outcomes.{outcome_of, outcome_read, outcome_within}
+use Rattle.flights_form.specs.Outcomes.{outcome_of, outcome_within}
 
 within_summed : (spec : Parts) (script : ScriptParts) (outside : Option Outside) (status : ℕ) (text : List ℕ)
     → UnlessRefused (script_refusal outside) (TellsFlight (flight_text Trace) (mission_of spec script)) status text → IsSummed spec status text (outcome_within spec script outside)

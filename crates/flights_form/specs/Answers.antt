@@ -1,8 +1,6 @@
 -- What is answered of a file of scripts.
-use Rattle.std.specs.Prelude.{◌≡◌, ℕ, ◌+◌, List, [], ◌∷◌, ◌++◌, slice_get, Option, Some, None, Result, Ok, Err}
-use Rattle.scram_types.specs.Scripts.{ScriptParts}
+use Rattle.std.specs.Prelude.{◌≡◌, ℕ, ◌+◌, List, [], ◌∷◌, ◌++◌, Option, Some, None}
 use Rattle.scram_types.specs.Specification.{Parts}
-use Rattle.scram_io.specs.Outside.{CutOff, History, Printed, Prints, SinkState}
 use Rattle.coverage_check.specs.declared.shown.Shown.{Shown}
 use Rattle.coverage_check.specs.Acceptance.{first_refusal}
 use Rattle.form_base.specs.declared.status.TheConstants.{ANSWERED, NOT_ACCEPTED}

@@ -1,7 +1,6 @@
 use Rattle.std.proofs.Common.{◌≤◌, ap, arith, subst, sym}
 use Rattle.scram_io.proofs.Puts.{printed_none}
 use Rattle.flights_form.specs.declared.totals.Totals.{Totals}
-use Rattle.flights_form.specs.Printing.{IsFlownTo}
 use Rattle.flights_form.proofs.Flown.{flown_cut, flown_next, flown_none}
 use Rattle.flights_form.proofs.Summed.{few_refused}
 use Rattle.flights_form.proofs.forms.put_lines.Goals as goal
