@@ -1,0 +1,14 @@
+//! What the family of fault scripts has: each function's contract is a law.
+
+ghost use Rattle.fault_family.specs.Laws.{FamiliesHaveMembers, MembersFit};
+
+/// The family has the scripts of all faults of which each follows those before it and that keep to the failure
+/// assumption, and no others.
+pub fn families_have_members()
+    ensures { FamiliesHaveMembers }
+{}
+
+/// The script of each member fits the specification.
+pub fn members_fit()
+    ensures { MembersFit }
+{}
