@@ -3,4 +3,5 @@ pub mod Counting
 pub mod Members
 pub mod MemberScripts
 pub mod Numbered
-pub mod Standing
+pub mod Joined
+pub mod StepsStand

@@ -20,7 +20,7 @@ use Rattle.fault_family.specs.Families.{extended, may_follow}
 use Rattle.fault_family.specs.Laws.{FamiliesHaveMembers, Follow, IsChangeKind, IsKind, IsNear, Stands}
 use Rattle.fault_family.specs.NextFaults.{candidates, changes_of, faults_in, frames_after, frames_behind, gaps, halts_of, kinds_of, numbers_below, restarts_of, values_of}
 use Rattle.fault_family.specs.Scripts.{is_within, script_of}
-use Rattle.fault_family.proofs.Standing.{in_part_stands, listed_stands, mapped_stands, stands_in_part, stands_left, stands_listed, stands_mapped, stands_one, stands_part, stands_right, stands_where}
+use Rattle.fault_family.proofs.Joined.{in_part_stands, listed_stands, mapped_stands, stands_in_part, stands_left, stands_listed, stands_mapped, stands_one, stands_part, stands_right, stands_where}
 
 module _ (spec : Parts) where
   -- kinds of fault

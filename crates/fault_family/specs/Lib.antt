@@ -4,3 +4,4 @@ pub mod Faults
 pub mod Laws
 pub mod NextFaults
 pub mod Scripts
+pub mod Standing
