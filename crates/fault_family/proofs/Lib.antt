@@ -1,3 +1,7 @@
-pub mod Counting
 pub mod Cells
+pub mod Counting
+pub mod Members
+pub mod MemberScripts
 pub mod Numbered
+pub mod Joined
+pub mod StepsStand

@@ -1,5 +1,7 @@
-pub mod Faults
-pub mod Scripts
 pub mod Counting
-pub mod NextFaults
 pub mod Families
+pub mod Faults
+pub mod Laws
+pub mod NextFaults
+pub mod Scripts
+pub mod Standing

@@ -5,5 +5,6 @@
 
 pub mod candidates;
 pub mod faults;
+pub mod laws;
 pub mod scripts;
 pub mod within;
