@@ -1,0 +1,8 @@
+pub mod Lists
+pub mod Form
+pub mod Ranges
+pub mod Breaks
+pub mod Shown
+pub mod Lines
+pub mod Texts
+pub mod Laws
