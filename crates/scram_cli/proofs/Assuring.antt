@@ -13,13 +13,13 @@ use Rattle.columns_form.specs.Table.{columns_text}
 use Rattle.picture_form.specs.Picture.{picture_text}
 use Rattle.flight_forms.specs.Assurance.{FlightsAreAssured}
 use Rattle.scram_cli.specs.declared.forms.FlightForm.{FlightForm}
-use Rattle.scram_cli.specs.declared.forms.FlightForm.TheVariants.{Run, Watch, Pair, Replay, Gen, Fly}
+use Rattle.scram_cli.specs.declared.forms.FlightForm.TheVariants.{Run, Watch, Pair, Replay, Faults, Flights, Gen, Fly}
 use Rattle.scram_cli.specs.declared.forms.Form.{Form}
 use Rattle.scram_cli.specs.declared.forms.Form.TheVariants.{Flight, Specification, Trace, Told}
 use Rattle.scram_cli.specs.declared.forms.Look.{Look}
 use Rattle.scram_cli.specs.declared.forms.Look.TheVariants.{Props, Summary, Columns, Picture}
 use Rattle.scram_cli.specs.declared.forms.SpecificationForm.{SpecificationForm}
-use Rattle.scram_cli.specs.declared.forms.SpecificationForm.TheVariants.{Check, Bounds, Fill, Choices, Choose}
+use Rattle.scram_cli.specs.declared.forms.SpecificationForm.TheVariants.{Check, Bounds, Explain, Fill, Choices, Choose}
 use Rattle.scram_cli.specs.Answers.{FlightAnswers, FormAnswers, LookAnswers, QuestionAnswers}
 use Rattle.scram_cli.specs.Assurance.{AssuresFlight, AssuresForm, AssuresLook, AssuresQuestion}
 use Rattle.scram_cli.specs.Pages.{page_text}
@@ -29,12 +29,15 @@ flight_assures law (Run specification script) before after reads text is = law.r
 flight_assures law (Watch specification script) before after reads text is = law.watch specification script before after reads text is
 flight_assures law (Pair specification script halt) before after reads text is = law.run specification script before after reads text is
 flight_assures law (Replay specification script schedule) before after reads text is = law.replay specification script schedule before after reads text is
+flight_assures law (Faults specification count) before after reads text is = faults_assure specification count before after reads text is
+flight_assures law (Flights specification scripts) before after reads text is = flights_assure specification scripts before after reads text is
 flight_assures law (Gen number) before after reads text is = law.gen number before after reads text is
 flight_assures law (Fly number) before after reads text is = law.fly number before after reads text is
 
 question_assures : (question : SpecificationForm (List ℕ)) → IsAssuring (QuestionAnswers question) (AssuresQuestion question)
 question_assures (Check specification) before after reads text is = check_assures specification before after reads text is
 question_assures (Bounds specification) before after reads text is = bounds_assure specification before after reads text is
+question_assures (Explain specification script) before after reads text is = explain_assures specification script before after reads text is
 question_assures (Fill specification) before after reads text is = fill_assures specification before after reads text is
 question_assures (Choices specification) before after reads text is = choices_assure specification before after reads text is
 question_assures (Choose specification conf state) before after reads text is = choose_assures specification conf state before after reads text is

@@ -12,13 +12,13 @@ use Rattle.columns_form.specs.Table.{columns_text}
 use Rattle.picture_form.specs.Picture.{picture_text}
 use Rattle.flight_forms.specs.Answers.{FlyAnswers, GenAnswers, PairAnswers, ReplayAnswers, RunAnswers, WatchAnswers}
 use Rattle.scram_cli.specs.declared.forms.FlightForm.{FlightForm}
-use Rattle.scram_cli.specs.declared.forms.FlightForm.TheVariants.{Run, Watch, Pair, Replay, Gen, Fly}
+use Rattle.scram_cli.specs.declared.forms.FlightForm.TheVariants.{Run, Watch, Pair, Replay, Faults, Flights, Gen, Fly}
 use Rattle.scram_cli.specs.declared.forms.Form.{Form}
 use Rattle.scram_cli.specs.declared.forms.Form.TheVariants.{Flight, Specification, Trace, Told}
 use Rattle.scram_cli.specs.declared.forms.Look.{Look}
 use Rattle.scram_cli.specs.declared.forms.Look.TheVariants.{Props, Summary, Columns, Picture}
 use Rattle.scram_cli.specs.declared.forms.SpecificationForm.{SpecificationForm}
-use Rattle.scram_cli.specs.declared.forms.SpecificationForm.TheVariants.{Check, Bounds, Fill, Choices, Choose}
+use Rattle.scram_cli.specs.declared.forms.SpecificationForm.TheVariants.{Check, Bounds, Explain, Fill, Choices, Choose}
 use Rattle.scram_cli.specs.Pages.{page_text}
 
 -- The line where the words have no form.
@@ -31,6 +31,8 @@ FlightAnswers (Run specification script) = RunAnswers specification script
 FlightAnswers (Watch specification script) = WatchAnswers specification script
 FlightAnswers (Pair specification script halt) = PairAnswers specification script
 FlightAnswers (Replay specification script schedule) = ReplayAnswers specification script schedule
+FlightAnswers (Faults specification count) = FaultsAnswers specification count
+FlightAnswers (Flights specification scripts) = FlightsAnswers specification scripts
 FlightAnswers (Gen number) = WithoutFiles (GenAnswers number)
 FlightAnswers (Fly number) = WithoutFiles (FlyAnswers number)
 
@@ -38,6 +40,7 @@ FlightAnswers (Fly number) = WithoutFiles (FlyAnswers number)
 abbrev pub QuestionAnswers : SpecificationForm (List ℕ) → Answer
 QuestionAnswers (Check specification) = CheckAnswers specification
 QuestionAnswers (Bounds specification) = BoundsAnswers specification
+QuestionAnswers (Explain specification script) = ExplainAnswers specification script
 QuestionAnswers (Fill specification) = FillAnswers specification
 QuestionAnswers (Choices specification) = ChoicesAnswers specification
 QuestionAnswers (Choose specification conf state) = ChooseAnswers specification conf state

@@ -17,12 +17,15 @@ use crate::pages::{Page, page_text};
 use app_model::Rack;
 use choice_forms::{Question, choices, choose};
 use columns_form::columns_form;
+use explain_form::{ExplainedFiles, explain};
+use faults_form::{FaultsQuestion, faults};
 use fill_form::fill;
 use flight_forms::laws::flights_are_assured;
 use flight_forms::{
     Boxes, MissionFiles, PairFiles, ReplayFiles, fly_generated, pair_form, print_generated,
     replay_form, run, watch,
 };
+use flights_form::{ScriptsFiles, flights};
 use form_base::refusals::{Refusal, Refused};
 use form_base::status::{ANSWERED, Status, UNWRITTEN_OUTPUT};
 use form_base::telling::{tell, tell_refusal};
@@ -42,8 +45,9 @@ use trace_text::lines::Line;
 /// of which the one named may halt in that frame after that number of its steps, `check SPEC` prints whether a
 /// specification is accepted, `bounds SPEC` which bounds it has to give, `props SPEC TRACE` judges a trace, by any
 /// specification, `replay SPEC SCRIPT SCHEDULE` flies a mission by a schedule, `fill SPEC` prints a specification with
-/// the bounds and the window that serve, `choices SPEC` what each rule chooses, `choose SPEC CONF STATE..` what is chosen
-/// in a state, `summary SPEC TRACE`, `columns SPEC TRACE` and `picture SPEC TRACE` print what a trace shows, `gen N`
+/// the bounds and the window that serve, `explain SPEC` and `explain SPEC SCRIPT` why one of them is refused, `choices SPEC` what each rule chooses, `choose SPEC CONF STATE..` what is chosen
+/// in a state, `summary SPEC TRACE`, `columns SPEC TRACE` and `picture SPEC TRACE` print what a trace shows, `faults SPEC COUNT` prints each script with that number of faults, `flights SPEC SCRIPTS`
+/// flies each line of a file, `gen N`
 /// prints the mission of a number, and `fly N` flies it; `--help` and `--version` describe the program. What is printed
 /// has gone out when the call ends, or the status is 4.
 ///
@@ -226,6 +230,28 @@ fn answer_flight<R: AllocGlobal + Threads + Wait + Sync, F: Files, K: Sink>(
             };
             replay_form(rt.alloc(), named, files, out, boxes)
         }
+        FlightForm::Faults {
+            specification,
+            count,
+        } => {
+            drop(boxes);
+            let question = FaultsQuestion {
+                specification,
+                count,
+            };
+            faults(rt.alloc(), question, files, out)
+        }
+        FlightForm::Flights {
+            specification,
+            scripts,
+        } => {
+            drop(boxes);
+            let named = ScriptsFiles {
+                specification,
+                scripts,
+            };
+            flights(rt.alloc(), named, files, out)
+        }
         FlightForm::Gen { number } => {
             drop(boxes);
             print_generated(rt.alloc(), number, out)
@@ -248,6 +274,16 @@ fn answer_question<F: Files, K: Sink>(
     match question {
         SpecificationForm::Check { specification } => check(alloc, specification, files, out),
         SpecificationForm::Bounds { specification } => bounds(alloc, specification, files, out),
+        SpecificationForm::Explain {
+            specification,
+            script,
+        } => {
+            let named = ExplainedFiles {
+                specification,
+                script,
+            };
+            explain(alloc, named, files, out)
+        }
         SpecificationForm::Fill { specification } => fill(alloc, specification, files, out),
         SpecificationForm::Choices { specification } => choices(alloc, specification, files, out),
         SpecificationForm::Choose {
