@@ -3,7 +3,10 @@ use Rattle.std.proofs.Common.{◌≡◌, ℕ, List}
 use Rattle.std.specs.Prelude.{Option, Some, None}
 use Rattle.form_base.specs.Assurance.{IsAssuring}
 use Rattle.form_base.proofs.Assuring.{not_zero, text_of_gives}
+use Rattle.explain_form.proofs.Assuring.{explain_assures, explain_script_assures}
+use Rattle.faults_form.proofs.Assuring.{faults_assure}
 use Rattle.fill_form.proofs.Assuring.{fill_assures}
+use Rattle.flights_form.proofs.Assuring.{flights_assure}
 use Rattle.choice_forms.proofs.Assuring.{choices_assure, choose_assures}
 use Rattle.spec_forms.proofs.Assuring.{bounds_assure, check_assures}
 use Rattle.trace_files.proofs.Viewing.{view_assures}
@@ -19,7 +22,7 @@ use Rattle.scram_cli.specs.declared.forms.Form.TheVariants.{Flight, Specificatio
 use Rattle.scram_cli.specs.declared.forms.Look.{Look}
 use Rattle.scram_cli.specs.declared.forms.Look.TheVariants.{Props, Summary, Columns, Picture}
 use Rattle.scram_cli.specs.declared.forms.SpecificationForm.{SpecificationForm}
-use Rattle.scram_cli.specs.declared.forms.SpecificationForm.TheVariants.{Check, Bounds, Explain, Fill, Choices, Choose}
+use Rattle.scram_cli.specs.declared.forms.SpecificationForm.TheVariants.{Check, Bounds, Explain, ExplainScript, Fill, Choices, Choose}
 use Rattle.scram_cli.specs.Answers.{FlightAnswers, FormAnswers, LookAnswers, QuestionAnswers}
 use Rattle.scram_cli.specs.Assurance.{AssuresFlight, AssuresForm, AssuresLook, AssuresQuestion}
 use Rattle.scram_cli.specs.Pages.{page_text}
@@ -37,7 +40,8 @@ flight_assures law (Fly number) before after reads text is = law.fly number befo
 question_assures : (question : SpecificationForm (List ℕ)) → IsAssuring (QuestionAnswers question) (AssuresQuestion question)
 question_assures (Check specification) before after reads text is = check_assures specification before after reads text is
 question_assures (Bounds specification) before after reads text is = bounds_assure specification before after reads text is
-question_assures (Explain specification script) before after reads text is = explain_assures specification script before after reads text is
+question_assures (Explain specification) before after reads text is = explain_assures specification before after reads text is
+question_assures (ExplainScript specification script) before after reads text is = explain_script_assures specification script before after reads text is
 question_assures (Fill specification) before after reads text is = fill_assures specification before after reads text is
 question_assures (Choices specification) before after reads text is = choices_assure specification before after reads text is
 question_assures (Choose specification conf state) before after reads text is = choose_assures specification conf state before after reads text is

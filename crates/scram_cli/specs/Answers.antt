@@ -4,7 +4,10 @@ use Rattle.form_base.specs.declared.status.TheConstants.{ANSWERED, BROKEN_USAGE}
 use Rattle.form_base.specs.Answers.{Answer, Gives, WithoutFiles}
 use Rattle.spec_forms.specs.Answers.{BoundsAnswers, CheckAnswers}
 use Rattle.trace_files.specs.Looks.{ViewAnswers}
+use Rattle.explain_form.specs.Answers.{ExplainAnswers, ExplainScriptAnswers}
+use Rattle.faults_form.specs.Answers.{FaultsAnswers}
 use Rattle.fill_form.specs.Answers.{FillAnswers}
+use Rattle.flights_form.specs.Answers.{FlightsAnswers}
 use Rattle.choice_forms.specs.Answers.{ChoicesAnswers, ChooseAnswers}
 use Rattle.trace_forms.specs.Answers.{PropsAnswers}
 use Rattle.summary_form.specs.Summary.{summary_text}
@@ -18,7 +21,7 @@ use Rattle.scram_cli.specs.declared.forms.Form.TheVariants.{Flight, Specificatio
 use Rattle.scram_cli.specs.declared.forms.Look.{Look}
 use Rattle.scram_cli.specs.declared.forms.Look.TheVariants.{Props, Summary, Columns, Picture}
 use Rattle.scram_cli.specs.declared.forms.SpecificationForm.{SpecificationForm}
-use Rattle.scram_cli.specs.declared.forms.SpecificationForm.TheVariants.{Check, Bounds, Explain, Fill, Choices, Choose}
+use Rattle.scram_cli.specs.declared.forms.SpecificationForm.TheVariants.{Check, Bounds, Explain, ExplainScript, Fill, Choices, Choose}
 use Rattle.scram_cli.specs.Pages.{page_text}
 
 -- The line where the words have no form.
@@ -40,7 +43,8 @@ FlightAnswers (Fly number) = WithoutFiles (FlyAnswers number)
 abbrev pub QuestionAnswers : SpecificationForm (List ℕ) → Answer
 QuestionAnswers (Check specification) = CheckAnswers specification
 QuestionAnswers (Bounds specification) = BoundsAnswers specification
-QuestionAnswers (Explain specification script) = ExplainAnswers specification script
+QuestionAnswers (Explain specification) = ExplainAnswers specification
+QuestionAnswers (ExplainScript specification script) = ExplainScriptAnswers specification script
 QuestionAnswers (Fill specification) = FillAnswers specification
 QuestionAnswers (Choices specification) = ChoicesAnswers specification
 QuestionAnswers (Choose specification conf state) = ChooseAnswers specification conf state

@@ -3,7 +3,10 @@ use Rattle.std.specs.Prelude.{◌≡◌, ℕ, List, [], Option, Some, None}
 use Rattle.scram_io.specs.Outside.{History}
 use Rattle.spec_forms.specs.Answers.{AssuresBounds, AssuresCheck}
 use Rattle.trace_files.specs.Looks.{AssuresView}
+use Rattle.explain_form.specs.Answers.{AssuresExplain, AssuresExplainScript}
+use Rattle.faults_form.specs.Answers.{AssuresFaults}
 use Rattle.fill_form.specs.Answers.{AssuresFill}
+use Rattle.flights_form.specs.Answers.{AssuresFlights}
 use Rattle.choice_forms.specs.Answers.{AssuresChoices, AssuresChoose}
 use Rattle.trace_forms.specs.Answers.{AssuresProps}
 use Rattle.summary_form.specs.Summary.{summary_text}
@@ -17,7 +20,7 @@ use Rattle.scram_cli.specs.declared.forms.Form.TheVariants.{Flight, Specificatio
 use Rattle.scram_cli.specs.declared.forms.Look.{Look}
 use Rattle.scram_cli.specs.declared.forms.Look.TheVariants.{Props, Summary, Columns, Picture}
 use Rattle.scram_cli.specs.declared.forms.SpecificationForm.{SpecificationForm}
-use Rattle.scram_cli.specs.declared.forms.SpecificationForm.TheVariants.{Check, Bounds, Explain, Fill, Choices, Choose}
+use Rattle.scram_cli.specs.declared.forms.SpecificationForm.TheVariants.{Check, Bounds, Explain, ExplainScript, Fill, Choices, Choose}
 use Rattle.scram_cli.specs.Pages.{page_text}
 
 -- What status 0 assures of flights.
@@ -35,7 +38,8 @@ AssuresFlight (Fly number) = AssuresFly number
 abbrev pub AssuresQuestion : SpecificationForm (List ℕ) → History → List ℕ → Type 0
 AssuresQuestion (Check specification) = AssuresCheck specification
 AssuresQuestion (Bounds specification) = AssuresBounds specification
-AssuresQuestion (Explain specification script) = AssuresExplain specification script
+AssuresQuestion (Explain specification) = AssuresExplain specification
+AssuresQuestion (ExplainScript specification script) = AssuresExplainScript specification script
 AssuresQuestion (Fill specification) = AssuresFill specification
 AssuresQuestion (Choices specification) = AssuresChoices specification
 AssuresQuestion (Choose specification conf state) = AssuresChoose specification conf state

@@ -4,6 +4,7 @@ use Rattle.std.specs.Option.{option_or}
 use Rattle.std.specs.Str.{bytes_eq}
 use Rattle.choice_forms.specs.declared.states.StateWord.{StateWord}
 use Rattle.choice_forms.specs.States.{state_in}
+use Rattle.faults_form.specs.declared.counts.FaultCount.{FaultCount}
 use Rattle.faults_form.specs.Counts.{fault_count}
 use Rattle.kernel_pair.specs.declared.events.UnitHalt.{UnitHalt}
 use Rattle.trace_text.specs.Spelling.{spelled_number}
@@ -14,7 +15,7 @@ use Rattle.scram_cli.specs.declared.forms.Form.TheVariants.{Flight, Specificatio
 use Rattle.scram_cli.specs.declared.forms.Look.{Look}
 use Rattle.scram_cli.specs.declared.forms.Look.TheVariants.{Props, Summary, Columns, Picture}
 use Rattle.scram_cli.specs.declared.forms.SpecificationForm.{SpecificationForm}
-use Rattle.scram_cli.specs.declared.forms.SpecificationForm.TheVariants.{Check, Bounds, Explain, Fill, Choices, Choose}
+use Rattle.scram_cli.specs.declared.forms.SpecificationForm.TheVariants.{Check, Bounds, Explain, ExplainScript, Fill, Choices, Choose}
 use Rattle.scram_cli.specs.declared.pages.Page.TheVariants.{Help, Version}
 
 -- The number of a mission, up to 999,999, which the word has in decimal.
@@ -38,7 +39,7 @@ abbrev pub question_of : List ℕ → List ℕ → Option (SpecificationForm (Li
 question_of command specification =
     if bytes_eq command (codes "check") then Some (Check specification)
     else (if bytes_eq command (codes "bounds") then Some (Bounds specification)
-    else (if bytes_eq command (codes "explain") then Some (Explain specification None)
+    else (if bytes_eq command (codes "explain") then Some (Explain specification)
     else (if bytes_eq command (codes "fill") then Some (Fill specification)
     else (if bytes_eq command (codes "choices") then Some (Choices specification) else None))))
 
@@ -52,7 +53,7 @@ abbrev pub flight_of_three : List ℕ → List ℕ → List ℕ → Option (Flig
 flight_of_three command specification further =
     if bytes_eq command (codes "run") then Some (Run specification further)
     else (if bytes_eq command (codes "watch") then Some (Watch specification further)
-    else (if bytes_eq command (codes "faults") then option_map (λ (count : ℕ). Faults specification count) (fault_count further)
+    else (if bytes_eq command (codes "faults") then option_map (λ (count : FaultCount). Faults specification count) (fault_count further)
     else (if bytes_eq command (codes "flights") then Some (Flights specification further) else None)))
 
 -- How a command looks at a trace, if it does.
@@ -70,7 +71,7 @@ form_of_look command specification trace = option_map (λ (look : Look). Trace l
 -- The form of three words that explains a script or looks at a trace, if they have one.
 abbrev pub form_of_explained : List ℕ → List ℕ → List ℕ → Option (Form (List ℕ))
 form_of_explained command specification further =
-    if bytes_eq command (codes "explain") then Some (Specification (Explain specification (Some further)))
+    if bytes_eq command (codes "explain") then Some (Specification (ExplainScript specification further))
     else form_of_look command specification further
 
 -- The form of three words, if they have one.
@@ -136,7 +137,8 @@ flight_with_names name (Fly number) = Fly number
 abbrev pub question_with_names : {A B : Type 0} → (A → B) → SpecificationForm A → SpecificationForm B
 question_with_names name (Check specification) = Check (name specification)
 question_with_names name (Bounds specification) = Bounds (name specification)
-question_with_names name (Explain specification script) = Explain (name specification) (option_map name script)
+question_with_names name (Explain specification) = Explain (name specification)
+question_with_names name (ExplainScript specification script) = ExplainScript (name specification) (name script)
 question_with_names name (Fill specification) = Fill (name specification)
 question_with_names name (Choices specification) = Choices (name specification)
 question_with_names name (Choose specification conf state) = Choose (name specification) (name conf) state
@@ -159,12 +161,12 @@ flight_files (Flights specification scripts) = specification ∷ scripts ∷ []
 flight_files (Gen number) = []
 flight_files (Fly number) = []
 
--- The file that what is asked about a specification names.
+-- The files that what is asked about a specification names, in the order in which they are read.
 abbrev pub question_files : SpecificationForm (List ℕ) → List (List ℕ)
 question_files (Check specification) = specification ∷ []
 question_files (Bounds specification) = specification ∷ []
-question_files (Explain specification None) = specification ∷ []
-question_files (Explain specification (Some script)) = specification ∷ script ∷ []
+question_files (Explain specification) = specification ∷ []
+question_files (ExplainScript specification script) = specification ∷ script ∷ []
 question_files (Fill specification) = specification ∷ []
 question_files (Choices specification) = specification ∷ []
 question_files (Choose specification conf state) = specification ∷ []

@@ -5,7 +5,7 @@ ghost use Rattle.scram_cli.specs.Forms.{choose_form, flight_of_three, flight_wit
 
 use crate::pages::Page;
 use choice_forms::states::{State, read_state};
-use faults_form::fault_count;
+use faults_form::{FaultCount, fault_count};
 use kernel_pair::UnitHalt;
 use trace_text::numbers::read_number;
 
@@ -70,7 +70,7 @@ pub enum FlightForm<N> {
     /// To print each script with this number of faults, 1 to 3, that keeps to a specification's failure assumption.
     Faults {
         specification: N,
-        count: u8,
+        count: FaultCount,
     },
     /// To fly each script in a file, and to print a line on each.
     Flights {
@@ -98,10 +98,14 @@ pub enum SpecificationForm<N> {
     Bounds {
         specification: N,
     },
-    /// Why it, or a script for it, is refused, or what of it nothing uses.
+    /// Why it is refused, or what of it nothing uses.
     Explain {
         specification: N,
-        script: Option<N>,
+    },
+    /// Why it or a script for it is refused, or what of it nothing uses.
+    ExplainScript {
+        specification: N,
+        script: N,
     },
     /// The same with the bounds and the window that serve.
     Fill {
@@ -222,10 +226,7 @@ fn question_of<'a>(command: &str, specification: &'a str) -> Option<Specificatio
     } else if command == "bounds" {
         Some(SpecificationForm::Bounds { specification })
     } else if command == "explain" {
-        Some(SpecificationForm::Explain {
-            specification,
-            script: None,
-        })
+        Some(SpecificationForm::Explain { specification })
     } else if command == "fill" {
         Some(SpecificationForm::Fill { specification })
     } else if command == "choices" {
@@ -282,9 +283,9 @@ fn form_of_explained<'a>(
 {
     if command == "explain" {
         Some(Form::Specification {
-            question: SpecificationForm::Explain {
+            question: SpecificationForm::ExplainScript {
                 specification,
-                script: Some(further),
+                script: further,
             },
         })
     } else {
@@ -311,7 +312,7 @@ fn flight_of_three<'a>(
             script: further,
         })
     } else if command == "faults" {
-        let count = fault_count(further)?;
+        let count = fault_count(further.as_bytes())?;
         Some(FlightForm::Faults {
             specification,
             count,
