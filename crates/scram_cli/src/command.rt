@@ -17,7 +17,7 @@ use crate::pages::{Page, page_text};
 use app_model::Rack;
 use choice_forms::{Question, choices, choose};
 use columns_form::columns_form;
-use explain_form::{ExplainedFiles, explain};
+use explain_form::{ExplainedFiles, explain, explain_script};
 use faults_form::{FaultsQuestion, faults};
 use fill_form::fill;
 use flight_forms::laws::flights_are_assured;
@@ -38,6 +38,7 @@ use std::thread::Threads;
 use summary_form::summary_form;
 use trace_files::TraceFiles;
 use trace_forms::props_form;
+use trace_props::missions::reconfigurations_are_assured;
 use trace_text::lines::Line;
 
 /// Does what the words after the program's name ask for: `run SPEC SCRIPT` flies a mission, `watch SPEC SCRIPT` flies
@@ -73,6 +74,7 @@ pub fn scram<R: AllocGlobal + Threads + Wait + Sync, F: Files, K: Sink>(
         (F.state files.old) (F.state files.new) (WentOut (K.state out.old) (K.state out.new)) }
 {
     flights_are_assured();
+    reconfigurations_are_assured();
     send_answer(rt, words, files, out, Boxes { racks, spares })
 }
 
@@ -274,7 +276,8 @@ fn answer_question<F: Files, K: Sink>(
     match question {
         SpecificationForm::Check { specification } => check(alloc, specification, files, out),
         SpecificationForm::Bounds { specification } => bounds(alloc, specification, files, out),
-        SpecificationForm::Explain {
+        SpecificationForm::Explain { specification } => explain(alloc, specification, files, out),
+        SpecificationForm::ExplainScript {
             specification,
             script,
         } => {
@@ -282,7 +285,7 @@ fn answer_question<F: Files, K: Sink>(
                 specification,
                 script,
             };
-            explain(alloc, named, files, out)
+            explain_script(alloc, named, files, out)
         }
         SpecificationForm::Fill { specification } => fill(alloc, specification, files, out),
         SpecificationForm::Choices { specification } => choices(alloc, specification, files, out),
