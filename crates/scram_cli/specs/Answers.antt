@@ -4,7 +4,10 @@ use Rattle.form_base.specs.declared.status.TheConstants.{ANSWERED, BROKEN_USAGE}
 use Rattle.form_base.specs.Answers.{Answer, Gives, WithoutFiles}
 use Rattle.spec_forms.specs.Answers.{BoundsAnswers, CheckAnswers}
 use Rattle.trace_files.specs.Looks.{ViewAnswers}
+use Rattle.explain_form.specs.Answers.{ExplainAnswers, ExplainScriptAnswers}
+use Rattle.faults_form.specs.Answers.{FaultsAnswers}
 use Rattle.fill_form.specs.Answers.{FillAnswers}
+use Rattle.flights_form.specs.Answers.{FlightsAnswers}
 use Rattle.choice_forms.specs.Answers.{ChoicesAnswers, ChooseAnswers}
 use Rattle.trace_forms.specs.Answers.{PropsAnswers}
 use Rattle.summary_form.specs.Summary.{summary_text}
@@ -12,13 +15,13 @@ use Rattle.columns_form.specs.Table.{columns_text}
 use Rattle.picture_form.specs.Picture.{picture_text}
 use Rattle.flight_forms.specs.Answers.{FlyAnswers, GenAnswers, PairAnswers, ReplayAnswers, RunAnswers, WatchAnswers}
 use Rattle.scram_cli.specs.declared.forms.FlightForm.{FlightForm}
-use Rattle.scram_cli.specs.declared.forms.FlightForm.TheVariants.{Run, Watch, Pair, Replay, Gen, Fly}
+use Rattle.scram_cli.specs.declared.forms.FlightForm.TheVariants.{Run, Watch, Pair, Replay, Faults, Flights, Gen, Fly}
 use Rattle.scram_cli.specs.declared.forms.Form.{Form}
 use Rattle.scram_cli.specs.declared.forms.Form.TheVariants.{Flight, Specification, Trace, Told}
 use Rattle.scram_cli.specs.declared.forms.Look.{Look}
 use Rattle.scram_cli.specs.declared.forms.Look.TheVariants.{Props, Summary, Columns, Picture}
 use Rattle.scram_cli.specs.declared.forms.SpecificationForm.{SpecificationForm}
-use Rattle.scram_cli.specs.declared.forms.SpecificationForm.TheVariants.{Check, Bounds, Fill, Choices, Choose}
+use Rattle.scram_cli.specs.declared.forms.SpecificationForm.TheVariants.{Check, Bounds, Explain, ExplainScript, Fill, Choices, Choose}
 use Rattle.scram_cli.specs.Pages.{page_text}
 
 -- The line where the words have no form.
@@ -31,6 +34,8 @@ FlightAnswers (Run specification script) = RunAnswers specification script
 FlightAnswers (Watch specification script) = WatchAnswers specification script
 FlightAnswers (Pair specification script halt) = PairAnswers specification script
 FlightAnswers (Replay specification script schedule) = ReplayAnswers specification script schedule
+FlightAnswers (Faults specification count) = FaultsAnswers specification count
+FlightAnswers (Flights specification scripts) = FlightsAnswers specification scripts
 FlightAnswers (Gen number) = WithoutFiles (GenAnswers number)
 FlightAnswers (Fly number) = WithoutFiles (FlyAnswers number)
 
@@ -38,6 +43,8 @@ FlightAnswers (Fly number) = WithoutFiles (FlyAnswers number)
 abbrev pub QuestionAnswers : SpecificationForm (List ℕ) → Answer
 QuestionAnswers (Check specification) = CheckAnswers specification
 QuestionAnswers (Bounds specification) = BoundsAnswers specification
+QuestionAnswers (Explain specification) = ExplainAnswers specification
+QuestionAnswers (ExplainScript specification script) = ExplainScriptAnswers specification script
 QuestionAnswers (Fill specification) = FillAnswers specification
 QuestionAnswers (Choices specification) = ChoicesAnswers specification
 QuestionAnswers (Choose specification conf state) = ChooseAnswers specification conf state

@@ -3,7 +3,10 @@ use Rattle.std.specs.Prelude.{◌≡◌, ℕ, List, [], Option, Some, None}
 use Rattle.scram_io.specs.Outside.{History}
 use Rattle.spec_forms.specs.Answers.{AssuresBounds, AssuresCheck}
 use Rattle.trace_files.specs.Looks.{AssuresView}
+use Rattle.explain_form.specs.Answers.{AssuresExplain, AssuresExplainScript}
+use Rattle.faults_form.specs.Answers.{AssuresFaults}
 use Rattle.fill_form.specs.Answers.{AssuresFill}
+use Rattle.flights_form.specs.Answers.{AssuresFlights}
 use Rattle.choice_forms.specs.Answers.{AssuresChoices, AssuresChoose}
 use Rattle.trace_forms.specs.Answers.{AssuresProps}
 use Rattle.summary_form.specs.Summary.{summary_text}
@@ -11,13 +14,13 @@ use Rattle.columns_form.specs.Table.{columns_text}
 use Rattle.picture_form.specs.Picture.{picture_text}
 use Rattle.flight_forms.specs.Assurance.{AssuresFly, AssuresGen, AssuresReplay, AssuresRun, AssuresWatch}
 use Rattle.scram_cli.specs.declared.forms.FlightForm.{FlightForm}
-use Rattle.scram_cli.specs.declared.forms.FlightForm.TheVariants.{Run, Watch, Pair, Replay, Gen, Fly}
+use Rattle.scram_cli.specs.declared.forms.FlightForm.TheVariants.{Run, Watch, Pair, Replay, Faults, Flights, Gen, Fly}
 use Rattle.scram_cli.specs.declared.forms.Form.{Form}
 use Rattle.scram_cli.specs.declared.forms.Form.TheVariants.{Flight, Specification, Trace, Told}
 use Rattle.scram_cli.specs.declared.forms.Look.{Look}
 use Rattle.scram_cli.specs.declared.forms.Look.TheVariants.{Props, Summary, Columns, Picture}
 use Rattle.scram_cli.specs.declared.forms.SpecificationForm.{SpecificationForm}
-use Rattle.scram_cli.specs.declared.forms.SpecificationForm.TheVariants.{Check, Bounds, Fill, Choices, Choose}
+use Rattle.scram_cli.specs.declared.forms.SpecificationForm.TheVariants.{Check, Bounds, Explain, ExplainScript, Fill, Choices, Choose}
 use Rattle.scram_cli.specs.Pages.{page_text}
 
 -- What status 0 assures of flights.
@@ -26,6 +29,8 @@ AssuresFlight (Run specification script) = AssuresRun specification script
 AssuresFlight (Watch specification script) = AssuresWatch specification script
 AssuresFlight (Pair specification script halt) = AssuresRun specification script
 AssuresFlight (Replay specification script schedule) = AssuresReplay specification script schedule
+AssuresFlight (Faults specification count) = AssuresFaults specification count
+AssuresFlight (Flights specification scripts) = AssuresFlights specification scripts
 AssuresFlight (Gen number) = AssuresGen number
 AssuresFlight (Fly number) = AssuresFly number
 
@@ -33,6 +38,8 @@ AssuresFlight (Fly number) = AssuresFly number
 abbrev pub AssuresQuestion : SpecificationForm (List ℕ) → History → List ℕ → Type 0
 AssuresQuestion (Check specification) = AssuresCheck specification
 AssuresQuestion (Bounds specification) = AssuresBounds specification
+AssuresQuestion (Explain specification) = AssuresExplain specification
+AssuresQuestion (ExplainScript specification script) = AssuresExplainScript specification script
 AssuresQuestion (Fill specification) = AssuresFill specification
 AssuresQuestion (Choices specification) = AssuresChoices specification
 AssuresQuestion (Choose specification conf state) = AssuresChoose specification conf state

@@ -4,16 +4,18 @@ use Rattle.std.specs.Option.{option_or}
 use Rattle.std.specs.Str.{bytes_eq}
 use Rattle.choice_forms.specs.declared.states.StateWord.{StateWord}
 use Rattle.choice_forms.specs.States.{state_in}
+use Rattle.faults_form.specs.declared.counts.FaultCount.{FaultCount}
+use Rattle.faults_form.specs.Counts.{fault_count}
 use Rattle.kernel_pair.specs.declared.events.UnitHalt.{UnitHalt}
 use Rattle.trace_text.specs.Spelling.{spelled_number}
 use Rattle.scram_cli.specs.declared.forms.FlightForm.{FlightForm}
-use Rattle.scram_cli.specs.declared.forms.FlightForm.TheVariants.{Run, Watch, Pair, Replay, Gen, Fly}
+use Rattle.scram_cli.specs.declared.forms.FlightForm.TheVariants.{Run, Watch, Pair, Replay, Faults, Flights, Gen, Fly}
 use Rattle.scram_cli.specs.declared.forms.Form.{Form}
 use Rattle.scram_cli.specs.declared.forms.Form.TheVariants.{Flight, Specification, Trace, Told}
 use Rattle.scram_cli.specs.declared.forms.Look.{Look}
 use Rattle.scram_cli.specs.declared.forms.Look.TheVariants.{Props, Summary, Columns, Picture}
 use Rattle.scram_cli.specs.declared.forms.SpecificationForm.{SpecificationForm}
-use Rattle.scram_cli.specs.declared.forms.SpecificationForm.TheVariants.{Check, Bounds, Fill, Choices, Choose}
+use Rattle.scram_cli.specs.declared.forms.SpecificationForm.TheVariants.{Check, Bounds, Explain, ExplainScript, Fill, Choices, Choose}
 use Rattle.scram_cli.specs.declared.pages.Page.TheVariants.{Help, Version}
 
 -- The number of a mission, up to 999,999, which the word has in decimal.
@@ -37,8 +39,9 @@ abbrev pub question_of : List ℕ → List ℕ → Option (SpecificationForm (Li
 question_of command specification =
     if bytes_eq command (codes "check") then Some (Check specification)
     else (if bytes_eq command (codes "bounds") then Some (Bounds specification)
+    else (if bytes_eq command (codes "explain") then Some (Explain specification)
     else (if bytes_eq command (codes "fill") then Some (Fill specification)
-    else (if bytes_eq command (codes "choices") then Some (Choices specification) else None)))
+    else (if bytes_eq command (codes "choices") then Some (Choices specification) else None))))
 
 -- The form of two words, if they have one.
 abbrev pub form_of_two : List ℕ → List ℕ → Option (Form (List ℕ))
@@ -49,7 +52,9 @@ form_of_two command word =
 abbrev pub flight_of_three : List ℕ → List ℕ → List ℕ → Option (FlightForm (List ℕ))
 flight_of_three command specification further =
     if bytes_eq command (codes "run") then Some (Run specification further)
-    else (if bytes_eq command (codes "watch") then Some (Watch specification further) else None)
+    else (if bytes_eq command (codes "watch") then Some (Watch specification further)
+    else (if bytes_eq command (codes "faults") then option_map (λ (count : FaultCount). Faults specification count) (fault_count further)
+    else (if bytes_eq command (codes "flights") then Some (Flights specification further) else None)))
 
 -- How a command looks at a trace, if it does.
 abbrev pub look_of : List ℕ → Option Look
@@ -63,11 +68,17 @@ look_of command =
 abbrev pub form_of_look : List ℕ → List ℕ → List ℕ → Option (Form (List ℕ))
 form_of_look command specification trace = option_map (λ (look : Look). Trace look specification trace) (look_of command)
 
+-- The form of three words that explains a script or looks at a trace, if they have one.
+abbrev pub form_of_explained : List ℕ → List ℕ → List ℕ → Option (Form (List ℕ))
+form_of_explained command specification further =
+    if bytes_eq command (codes "explain") then Some (Specification (ExplainScript specification further))
+    else form_of_look command specification further
+
 -- The form of three words, if they have one.
 abbrev pub form_of_three : List ℕ → List ℕ → List ℕ → Option (Form (List ℕ))
 form_of_three command specification further =
     option_or (option_map (λ (flight : FlightForm (List ℕ)). Flight flight) (flight_of_three command specification further))
-    (form_of_look command specification further)
+    (form_of_explained command specification further)
 
 -- The form of four words, if they have one.
 abbrev pub form_of_four : List ℕ → List ℕ → List ℕ → List ℕ → Option (Form (List ℕ))
@@ -117,6 +128,8 @@ flight_with_names name (Run specification script) = Run (name specification) (na
 flight_with_names name (Watch specification script) = Watch (name specification) (name script)
 flight_with_names name (Pair specification script halt) = Pair (name specification) (name script) halt
 flight_with_names name (Replay specification script schedule) = Replay (name specification) (name script) (name schedule)
+flight_with_names name (Faults specification count) = Faults (name specification) count
+flight_with_names name (Flights specification scripts) = Flights (name specification) (name scripts)
 flight_with_names name (Gen number) = Gen number
 flight_with_names name (Fly number) = Fly number
 
@@ -124,6 +137,8 @@ flight_with_names name (Fly number) = Fly number
 abbrev pub question_with_names : {A B : Type 0} → (A → B) → SpecificationForm A → SpecificationForm B
 question_with_names name (Check specification) = Check (name specification)
 question_with_names name (Bounds specification) = Bounds (name specification)
+question_with_names name (Explain specification) = Explain (name specification)
+question_with_names name (ExplainScript specification script) = ExplainScript (name specification) (name script)
 question_with_names name (Fill specification) = Fill (name specification)
 question_with_names name (Choices specification) = Choices (name specification)
 question_with_names name (Choose specification conf state) = Choose (name specification) (name conf) state
@@ -141,13 +156,17 @@ flight_files (Run specification script) = specification ∷ script ∷ []
 flight_files (Watch specification script) = specification ∷ script ∷ []
 flight_files (Pair specification script halt) = specification ∷ script ∷ []
 flight_files (Replay specification script schedule) = specification ∷ script ∷ schedule ∷ []
+flight_files (Faults specification count) = specification ∷ []
+flight_files (Flights specification scripts) = specification ∷ scripts ∷ []
 flight_files (Gen number) = []
 flight_files (Fly number) = []
 
--- The file that what is asked about a specification names.
+-- The files that what is asked about a specification names, in the order in which they are read.
 abbrev pub question_files : SpecificationForm (List ℕ) → List (List ℕ)
 question_files (Check specification) = specification ∷ []
 question_files (Bounds specification) = specification ∷ []
+question_files (Explain specification) = specification ∷ []
+question_files (ExplainScript specification script) = specification ∷ script ∷ []
 question_files (Fill specification) = specification ∷ []
 question_files (Choices specification) = specification ∷ []
 question_files (Choose specification conf state) = specification ∷ []

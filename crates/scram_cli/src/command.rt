@@ -17,12 +17,15 @@ use crate::pages::{Page, page_text};
 use app_model::Rack;
 use choice_forms::{Question, choices, choose};
 use columns_form::columns_form;
+use explain_form::{ExplainedFiles, explain, explain_script};
+use faults_form::{FaultsQuestion, faults};
 use fill_form::fill;
 use flight_forms::laws::flights_are_assured;
 use flight_forms::{
     Boxes, MissionFiles, PairFiles, ReplayFiles, fly_generated, pair_form, print_generated,
     replay_form, run, watch,
 };
+use flights_form::{ScriptsFiles, flights};
 use form_base::refusals::{Refusal, Refused};
 use form_base::status::{ANSWERED, Status, UNWRITTEN_OUTPUT};
 use form_base::telling::{tell, tell_refusal};
@@ -35,6 +38,7 @@ use std::thread::Threads;
 use summary_form::summary_form;
 use trace_files::TraceFiles;
 use trace_forms::props_form;
+use trace_props::missions::reconfigurations_are_assured;
 use trace_text::lines::Line;
 
 /// Does what the words after the program's name ask for: `run SPEC SCRIPT` flies a mission, `watch SPEC SCRIPT` flies
@@ -42,8 +46,9 @@ use trace_text::lines::Line;
 /// of which the one named may halt in that frame after that number of its steps, `check SPEC` prints whether a
 /// specification is accepted, `bounds SPEC` which bounds it has to give, `props SPEC TRACE` judges a trace, by any
 /// specification, `replay SPEC SCRIPT SCHEDULE` flies a mission by a schedule, `fill SPEC` prints a specification with
-/// the bounds and the window that serve, `choices SPEC` what each rule chooses, `choose SPEC CONF STATE..` what is chosen
-/// in a state, `summary SPEC TRACE`, `columns SPEC TRACE` and `picture SPEC TRACE` print what a trace shows, `gen N`
+/// the bounds and the window that serve, `explain SPEC` and `explain SPEC SCRIPT` why one of them is refused, `choices SPEC` what each rule chooses, `choose SPEC CONF STATE..` what is chosen
+/// in a state, `summary SPEC TRACE`, `columns SPEC TRACE` and `picture SPEC TRACE` print what a trace shows, `faults SPEC COUNT` prints each script with that number of faults, `flights SPEC SCRIPTS`
+/// flies each line of a file, `gen N`
 /// prints the mission of a number, and `fly N` flies it; `--help` and `--version` describe the program. What is printed
 /// has gone out when the call ends, or the status is 4.
 ///
@@ -69,6 +74,7 @@ pub fn scram<R: AllocGlobal + Threads + Wait + Sync, F: Files, K: Sink>(
         (F.state files.old) (F.state files.new) (WentOut (K.state out.old) (K.state out.new)) }
 {
     flights_are_assured();
+    reconfigurations_are_assured();
     send_answer(rt, words, files, out, Boxes { racks, spares })
 }
 
@@ -226,6 +232,28 @@ fn answer_flight<R: AllocGlobal + Threads + Wait + Sync, F: Files, K: Sink>(
             };
             replay_form(rt.alloc(), named, files, out, boxes)
         }
+        FlightForm::Faults {
+            specification,
+            count,
+        } => {
+            drop(boxes);
+            let question = FaultsQuestion {
+                specification,
+                count,
+            };
+            faults(rt.alloc(), question, files, out)
+        }
+        FlightForm::Flights {
+            specification,
+            scripts,
+        } => {
+            drop(boxes);
+            let named = ScriptsFiles {
+                specification,
+                scripts,
+            };
+            flights(rt.alloc(), named, files, out)
+        }
         FlightForm::Gen { number } => {
             drop(boxes);
             print_generated(rt.alloc(), number, out)
@@ -248,6 +276,17 @@ fn answer_question<F: Files, K: Sink>(
     match question {
         SpecificationForm::Check { specification } => check(alloc, specification, files, out),
         SpecificationForm::Bounds { specification } => bounds(alloc, specification, files, out),
+        SpecificationForm::Explain { specification } => explain(alloc, specification, files, out),
+        SpecificationForm::ExplainScript {
+            specification,
+            script,
+        } => {
+            let named = ExplainedFiles {
+                specification,
+                script,
+            };
+            explain_script(alloc, named, files, out)
+        }
         SpecificationForm::Fill { specification } => fill(alloc, specification, files, out),
         SpecificationForm::Choices { specification } => choices(alloc, specification, files, out),
         SpecificationForm::Choose {

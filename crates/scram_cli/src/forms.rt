@@ -1,10 +1,11 @@
 //! The forms of the command.
 
 ghost use Rattle.std.specs.Prelude.{◌≡◌, map, string_bytes, option_map};
-ghost use Rattle.scram_cli.specs.Forms.{choose_form, flight_of_three, flight_with_names, form_of, form_of_few, form_of_four, form_of_look, form_of_number, form_of_one, form_of_six, form_of_three, form_of_two, look_of, mission_number, question_of, question_with_names, unit_halt, with_names};
+ghost use Rattle.scram_cli.specs.Forms.{choose_form, flight_of_three, flight_with_names, form_of, form_of_few, form_of_explained, form_of_four, form_of_look, form_of_number, form_of_one, form_of_six, form_of_three, form_of_two, look_of, mission_number, question_of, question_with_names, unit_halt, with_names};
 
 use crate::pages::Page;
 use choice_forms::states::{State, read_state};
+use faults_form::{FaultCount, fault_count};
 use kernel_pair::UnitHalt;
 use trace_text::numbers::read_number;
 
@@ -66,6 +67,16 @@ pub enum FlightForm<N> {
         script: N,
         schedule: N,
     },
+    /// To print each script with this number of faults, 1 to 3, that keeps to a specification's failure assumption.
+    Faults {
+        specification: N,
+        count: FaultCount,
+    },
+    /// To fly each script in a file, and to print a line on each.
+    Flights {
+        specification: N,
+        scripts: N,
+    },
     /// To print the mission of a number, 0 to 999,999.
     Gen {
         number: u32,
@@ -86,6 +97,15 @@ pub enum SpecificationForm<N> {
     /// Which bounds it has to give.
     Bounds {
         specification: N,
+    },
+    /// Why it is refused, or what of it nothing uses.
+    Explain {
+        specification: N,
+    },
+    /// Why it or a script for it is refused, or what of it nothing uses.
+    ExplainScript {
+        specification: N,
+        script: N,
     },
     /// The same with the bounds and the window that serve.
     Fill {
@@ -205,6 +225,8 @@ fn question_of<'a>(command: &str, specification: &'a str) -> Option<Specificatio
         Some(SpecificationForm::Check { specification })
     } else if command == "bounds" {
         Some(SpecificationForm::Bounds { specification })
+    } else if command == "explain" {
+        Some(SpecificationForm::Explain { specification })
     } else if command == "fill" {
         Some(SpecificationForm::Fill { specification })
     } else if command == "choices" {
@@ -248,7 +270,26 @@ fn form_of_three<'a>(
 {
     match flight_of_three(command, specification, further) {
         Some(flight) => Some(Form::Flight { flight }),
-        None => form_of_look(command, specification, further),
+        None => form_of_explained(command, specification, further),
+    }
+}
+
+fn form_of_explained<'a>(
+    command: &str,
+    specification: &'a str,
+    further: &'a str,
+) -> Option<Form<&'a str>>
+    ensures { option_map (with_names (λ name. name.now)) result ≡ form_of_explained command.now specification.now further.now }
+{
+    if command == "explain" {
+        Some(Form::Specification {
+            question: SpecificationForm::ExplainScript {
+                specification,
+                script: further,
+            },
+        })
+    } else {
+        form_of_look(command, specification, further)
     }
 }
 
@@ -269,6 +310,17 @@ fn flight_of_three<'a>(
         Some(FlightForm::Watch {
             specification,
             script: further,
+        })
+    } else if command == "faults" {
+        let count = fault_count(further.as_bytes())?;
+        Some(FlightForm::Faults {
+            specification,
+            count,
+        })
+    } else if command == "flights" {
+        Some(FlightForm::Flights {
+            specification,
+            scripts: further,
         })
     } else {
         None
