@@ -9,14 +9,14 @@ use Rattle.std.proofs.lemmas.Bool.Decides.{nat_tests}
 use Rattle.std.proofs.lemmas.List.Elements.{filter_map-append}
 use Rattle.std.proofs.lemmas.Option.{same_Some}
 use Rattle.scram_types.proofs.Booleans.{by_bool, true_false}
-use Rattle.scram_types.proofs.Items.{any_found, each_passes, first_part, next_part}
+use Rattle.scram_types.proofs.Items.{any_found, each_passes, first_part, next_part, each_end}
 use Rattle.scram_types.specs.declared.scripts.Change.{Change}
 use Rattle.scram_types.specs.declared.scripts.HaltAt.{HaltAt}
 use Rattle.scram_types.specs.declared.scripts.RestartAt.{RestartAt}
 use Rattle.scram_types.specs.Specification.{Each, IsSpec, Parts}
 use Rattle.fault_script.specs.Fits.{Before, ChangeBefore, EachLater, EachNext, Fits, HaltsWellBefore, IsChange, IsHalt, IsRestart}
 use Rattle.fault_script.specs.Orders.{comes_after, is_halt_before, last_of}
-use Rattle.fault_script.proofs.Ends.{each_end, each_later_end, each_later_none, each_none}
+use Rattle.fault_script.proofs.Ends.{each_later_end, each_later_none, each_none}
 use Rattle.fault_family.specs.declared.faults.Fault.{Fault}
 use Rattle.fault_family.specs.declared.faults.FaultKind.{FaultKind}
 use Rattle.fault_family.specs.declared.faults.FaultKind.TheVariants as kind
