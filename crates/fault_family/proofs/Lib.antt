@@ -3,5 +3,6 @@ pub mod Counting
 pub mod Members
 pub mod MemberScripts
 pub mod Numbered
+pub mod InOrder
 pub mod Joined
 pub mod StepsStand

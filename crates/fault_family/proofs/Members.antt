@@ -160,14 +160,14 @@ module _ (spec : Parts) where
   is_within_is faults within = rw ((leaves_nowhere spec (script_of spec faults)).nowhere within) refl
 
   -- A script goes on from these faults by so many more.
-  record GoesOn (more : ℕ) (before faults : List Fault) : Type 0 where
-    rest : List Fault
-    parts : before ++ rest ≡ faults
-    count : length rest ≡ more
-    follow : Follow spec before rest
-    within : IsWithin spec (script_of spec faults)
+  pub record GoesOn (more : ℕ) (before faults : List Fault) : Type 0 where
+    pub rest : List Fault
+    pub parts : before ++ rest ≡ faults
+    pub count : length rest ≡ more
+    pub follow : Follow spec before rest
+    pub within : IsWithin spec (script_of spec faults)
 
-  goes_on : (more : ℕ) (before faults : List Fault) → Stands (extended spec more before) faults → GoesOn more before faults
+  pub goes_on : (more : ℕ) (before faults : List Fault) → Stands (extended spec more before) faults → GoesOn more before faults
   goes_on zero before faults stands =
       let it = stands_where (is_within spec (script_of spec before)) (before ∷ []) faults stands in
       let same : before ≡ faults = stands_one before faults it.1 in

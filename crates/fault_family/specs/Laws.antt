@@ -80,6 +80,11 @@ pub data ComesFirst : List Fault → List Fault → Type 0 where
   here : (fault next : Fault) (faults others : List Fault) → precedes fault next ≡ true → ComesFirst (fault ∷ faults) (next ∷ others)
   further : (fault : Fault) (faults others : List Fault) → ComesFirst faults others → ComesFirst (fault ∷ faults) (fault ∷ others)
 
--- The scripts of the family of an accepted specification stand in order, so none stands twice.
+-- Lists of faults stand in order, and so none stands twice.
+pub record AreInOrder (all : List (List Fault)) : Type 0 where
+  pub ordered : EachLater ComesFirst all
+  pub once : EachLater (λ (faults others : List Fault). faults ≡ others → ⊥) all
+
+-- The scripts of the family of an accepted specification stand in order.
 abbrev pub FamiliesAreOrdered : Type 0
-FamiliesAreOrdered = (spec : Parts) (count : ℕ) → Accepts spec → EachLater ComesFirst (family spec count)
+FamiliesAreOrdered = (spec : Parts) (count : ℕ) → IsSpec spec → Accepts spec → AreInOrder (family spec count)
