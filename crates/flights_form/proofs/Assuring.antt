@@ -1,8 +1,10 @@
 -- What is answered with status 0 is assured.
-use Rattle.std.proofs.Common.{◌≡◌, ℕ, zero, suc, List, [], ◌∷◌, refl, subst, inl, inr}
+use Rattle.std.proofs.Common.{◌≡◌, ◌∙◌, ◌+◌, sym, ◌-◌, ◌-ℤ◌, pos, ap, arith, ℕ, zero, suc, List, [], ◌∷◌, refl, subst, inl, inr}
 use Rattle.std.specs.Prelude.{Option, Some, None, Result, Ok, Err, slice_get}
 use Rattle.scram_types.specs.Scripts.{ScriptParts}
-use Rattle.scram_types.specs.Specification.{IsSpec, Parts}
+use Rattle.scram_types.specs.Specification.{IsSpec, Parts, bound_in}
+use Rattle.scram_types.specs.declared.flights.Report.{Report}
+use Rattle.scram_types.specs.declared.ids.ConfId.{ConfId}
 use Rattle.scram_doc.specs.declared.fault.DocFault.{DocFault}
 use Rattle.fault_script.specs.declared.assumption.Outside.{Outside}
 use Rattle.fault_script.specs.Assumption.{first_outside}
@@ -12,7 +14,10 @@ use Rattle.coverage_check.specs.declared.shown.Shown.{Shown}
 use Rattle.coverage_check.specs.Acceptance.{Accepts, first_refusal}
 use Rattle.coverage_check.proofs.Accepting.{accepts_where_unrefused}
 use Rattle.coverage_check.proofs.Flights.{is_mission}
+use Rattle.frame_model.specs.Flights.{reports_of, rows_of}
 use Rattle.trace_props.specs.Missions.{ReconfigurationsAreAssured}
+use Rattle.trace_props.specs.Properties.{KeepsSp3}
+use Rattle.flight_facts.specs.Margins.{bound_of, bound_to}
 use Rattle.form_base.specs.declared.status.TheConstants.{ANSWERED}
 use Rattle.form_base.specs.Answers.{WithoutFiles}
 use Rattle.form_base.specs.Assurance.{IsAssuring}
@@ -24,7 +29,9 @@ use Rattle.flights_form.specs.declared.limits.TheConstants.{MAX_SCRIPTS_BYTES}
 use Rattle.flights_form.specs.declared.outcomes.Outcome.{Outcome}
 use Rattle.flights_form.specs.declared.outcomes.Outcome.TheVariants.{Flown}
 use Rattle.flights_form.specs.Answers.{FlightsAnswers, ScriptsAnswers, TellsFlights, acceptance_refusal}
-use Rattle.flights_form.specs.Assurance.{AreAssuredFlights, AssuresFlights, IsAssuredFlight}
+use Rattle.flights_form.specs.Assurance.{AreAssuredFlights, AssuresFlights, IsAssuredFlight, KeepsMargin}
+use Rattle.flights_form.specs.Facts.{facts_of, least_margin, margin_in, margin_to}
+use Rattle.flights_form.proofs.Kept.{gap_kept, gap_total_kept, margin_kept, margin_total_kept}
 use Rattle.flights_form.specs.Outcomes.{AreOutcomes, IsOutcome, outcome_read, outcome_within}
 use Rattle.flights_form.specs.Scripts.{BreaksScripts, SaysScripts, lines_of}
 
@@ -40,6 +47,17 @@ outcome_at spec (l ∷ lines) (o ∷ outcomes) zero line outcome are there that 
     subst (λ (x : List ℕ). IsOutcome spec x outcome) same_line (subst (λ (x : Outcome). IsOutcome spec l x) same are.0)
 outcome_at spec (l ∷ lines) (o ∷ outcomes) (suc k) line outcome are there that = outcome_at spec lines outcomes k line outcome are.1 there that
 
+-- what is told of a mission holds of each of its reconfigurations and applications
+
+margin_of_finished : (spec : Parts) (reports : List Report) (k : ℕ) (report : Report) (to : ConfId) → slice_get reports k ≡ Some report → report.to ≡ Some to → KeepsSp3 spec report
+    → KeepsMargin spec (least_margin spec reports) report to
+margin_of_finished spec reports k report to there finished keeps =
+    let given : bound_in spec.bounds report.from.0 to.0 ≡ Some keeps.bound = rw finished at keeps.given in
+    let bound : bound_of spec report ≡ Some keeps.bound = ap (λ (o : Option ConfId). bound_to spec report.from o) finished ∙ given in
+    let is : margin_in spec report ≡ Some (record { frames = pos keeps.bound -ℤ pos (report.end - report.begin); report = report }) =
+    ap (λ (o : Option ConfId). margin_to report o (bound_of spec report)) finished ∙ ap (λ (o : Option ℕ). margin_to report (Some to) o) bound in
+    record { bound = keeps.bound; given = given; kept = margin_kept spec reports k report _ there is }
+
 -- a line that was flown is a mission
 
 within_assured : ReconfigurationsAreAssured → (spec : Parts) → IsSpec spec → Accepts spec → (line : List ℕ) (script : ScriptParts) (facts : FlightFacts) (outside : Option Outside)
@@ -47,7 +65,18 @@ within_assured : ReconfigurationsAreAssured → (spec : Parts) → IsSpec spec �
 within_assured law spec sound accepts line script facts (Some outside) says leaves same = absurd (let e = same in cc)
 within_assured law spec sound accepts line script facts None says leaves same =
     let mission = is_mission spec script accepts (script_of_fits spec line script says) leaves in
-    record { script = script; says = says; mission = mission; facts_are = let e = same in cc; holds = law spec script sound mission }
+    let holds = law spec script sound mission in
+    let rows = rows_of spec script in
+    let facts_are : facts ≡ facts_of spec rows (reports_of spec script) = let e = same in cc in
+    record {
+      script = script;
+      says = says;
+      mission = mission;
+      facts_are = facts_are;
+      holds = holds;
+      margins = λ k report to there finished. rw facts_are (margin_of_finished spec (reports_of spec script) k report to there finished (holds.sp3 k report there));
+      gaps = λ a gap below longest. rw facts_are (let first : a ≡ 0 + a = omega arith in gap_kept rows 0 a spec.apps gap below (rw (sym first) longest));
+    }
 
 read_assured : ReconfigurationsAreAssured → (spec : Parts) → IsSpec spec → Accepts spec → (line : List ℕ) (facts : FlightFacts) (read : Result ScriptParts DocFault)
     → script_of spec line ≡ read → Flown facts ≡ outcome_read spec read → IsAssuredFlight spec line facts
@@ -78,6 +107,8 @@ series_assured law spec sound scripts text answers =
       whole = is.whole;
       flown = λ k line facts there that.
           outcome_assured law spec sound accepts line facts (outcome_at spec (lines_of scripts) is.outcomes k line (Flown facts) is.answers there that);
+      least = margin_total_kept 0 is.outcomes;
+      greatest = gap_total_kept 0 is.outcomes;
     }
 
 pub flights_assure : ReconfigurationsAreAssured → (specification scripts : List ℕ) → IsAssuring (FlightsAnswers specification scripts) (AssuresFlights specification scripts)

@@ -2,5 +2,6 @@ pub mod Assuring
 pub mod Cuts
 pub mod Flown
 pub mod Gaps
+pub mod Kept
 pub mod Runs
 pub mod Summed

@@ -1,7 +1,9 @@
 -- What is assured of a file of scripts by status 0.
-use Rattle.std.specs.Prelude.{◌≡◌, ℕ, List, [], slice_get, Some, Ok}
+use Rattle.std.specs.Prelude.{◌≡◌, ℕ, ℤ, ◌<◌, ◌≤◌, ◌-◌, pos, ◌-ℤ◌, ◌≤ℤ◌, List, [], length, slice_get, Option, Some, Ok}
 use Rattle.scram_types.specs.Scripts.{ScriptParts}
-use Rattle.scram_types.specs.Specification.{Parts}
+use Rattle.scram_types.specs.Specification.{Parts, bound_in}
+use Rattle.scram_types.specs.declared.flights.Report.{Report}
+use Rattle.scram_types.specs.declared.ids.ConfId.{ConfId}
 use Rattle.scram_io.specs.Outside.{History}
 use Rattle.fault_script.specs.Reading.{script_of}
 use Rattle.coverage_check.specs.Acceptance.{Accepts}
@@ -9,25 +11,66 @@ use Rattle.coverage_check.specs.Missions.{IsMission, mission_of}
 use Rattle.frame_model.specs.Flights.{reports_of, rows_of}
 use Rattle.trace_props.specs.Properties.{HoldsAll}
 use Rattle.form_base.specs.Assurance.{IsAssuring, OfDocument, OfSpecification}
+use Rattle.flight_facts.specs.declared.gaps.Gap.{Gap}
+use Rattle.flight_facts.specs.Gaps.{longest_gap}
+use Rattle.flights_form.specs.declared.facts.AppGap.{AppGap}
 use Rattle.flights_form.specs.declared.facts.FlightFacts.{FlightFacts}
+use Rattle.flights_form.specs.declared.facts.Margin.{Margin}
 use Rattle.flights_form.specs.declared.outcomes.Outcome.{Outcome}
 use Rattle.flights_form.specs.declared.outcomes.Outcome.TheVariants.{Flown}
+use Rattle.flights_form.specs.declared.totals.FlightGap.{FlightGap}
+use Rattle.flights_form.specs.declared.totals.FlightMargin.{FlightMargin}
 use Rattle.flights_form.specs.Answers.{FlightsAnswers, flights_text}
 use Rattle.flights_form.specs.Facts.{facts_of}
 use Rattle.flights_form.specs.Outcomes.{AreOutcomes}
 use Rattle.flights_form.specs.Scripts.{SaysScripts, lines_of}
+use Rattle.flights_form.specs.Totals.{totals_of}
+
+-- A margin is told, and it is no more than this number of frames.
+pub record IsAtMostOf (told : Option Margin) (frames : ℤ) : Type 0 where
+  pub margin : Margin
+  pub is : told ≡ Some margin
+  pub at_most : margin.frames ≤ℤ frames
+
+-- A gap is told, and it is no shorter than this number of frames.
+pub record IsAtLeastOf (told : Option AppGap) (frames : ℕ) : Type 0 where
+  pub gap : AppGap
+  pub is : told ≡ Some gap
+  pub at_least : frames ≤ gap.gap.frames
+
+-- The same of the least margin of all flights.
+pub record IsAtMostIn (told : Option FlightMargin) (frames : ℤ) : Type 0 where
+  pub margin : FlightMargin
+  pub is : told ≡ Some margin
+  pub at_most : margin.frames ≤ℤ frames
+
+-- The same of the greatest gap of all flights.
+pub record IsAtLeastIn (told : Option FlightGap) (frames : ℕ) : Type 0 where
+  pub gap : FlightGap
+  pub is : told ≡ Some gap
+  pub at_least : frames ≤ gap.frames
+
+-- A bound is given for a reconfiguration to this target, and it took so few frames that it stayed at least the margin that
+-- is told below it.
+pub record KeepsMargin (spec : Parts) (told : Option Margin) (report : Report) (to : ConfId) : Type 0 where
+  pub bound : ℕ
+  pub given : bound_in spec.bounds report.from.0 to.0 ≡ Some bound
+  pub kept : IsAtMostOf told (pos bound -ℤ pos (report.end - report.begin))
 
 -- The line is a script that makes a mission with the specification, these are the facts of its one-thread flight, and the
--- properties of reconfigurations hold of its rows and reports.
+-- properties of reconfigurations hold of its rows and reports. No reconfiguration that it finishes has a lesser margin than
+-- the facts tell, and no application a longer gap.
 pub record IsAssuredFlight (spec : Parts) (line : List ℕ) (facts : FlightFacts) : Type 0 where
   pub script : ScriptParts
   pub says : script_of spec line ≡ Ok script
   pub mission : IsMission (mission_of spec script)
   pub facts_are : facts ≡ facts_of spec (rows_of spec script) (reports_of spec script)
   pub holds : HoldsAll spec (rows_of spec script) (reports_of spec script)
+  pub margins : (k : ℕ) (report : Report) (to : ConfId) → slice_get (reports_of spec script) k ≡ Some report → report.to ≡ Some to → KeepsMargin spec facts.margin report to
+  pub gaps : (a : ℕ) (gap : Gap) → a < length spec.apps → longest_gap a 0 (rows_of spec script) ≡ Some gap → IsAtLeastOf facts.gap gap.frames
 
--- The specification is accepted; the text is that of what came of the lines, one of each; and each that was flown is
--- assured.
+-- The specification is accepted; the text is that of what came of the lines, one of each; each that was flown is assured; and
+-- none has a lesser margin, or a longer gap, than the totals tell.
 pub record AreAssuredFlights (spec : Parts) (scripts text : List ℕ) : Type 0 where
   pub accepts : Accepts spec
   pub outcomes : List Outcome
@@ -35,6 +78,10 @@ pub record AreAssuredFlights (spec : Parts) (scripts text : List ℕ) : Type 0 w
   pub whole : text ≡ flights_text spec outcomes
   pub flown : (k : ℕ) (line : List ℕ) (facts : FlightFacts) → slice_get (lines_of scripts) k ≡ Some line → slice_get outcomes k ≡ Some (Flown facts)
       → IsAssuredFlight spec line facts
+  pub least : (k : ℕ) (facts : FlightFacts) (margin : Margin) → slice_get outcomes k ≡ Some (Flown facts) → facts.margin ≡ Some margin
+      → IsAtMostIn (totals_of outcomes).margin margin.frames
+  pub greatest : (k : ℕ) (facts : FlightFacts) (gap : AppGap) → slice_get outcomes k ≡ Some (Flown facts) → facts.gap ≡ Some gap
+      → IsAtLeastIn (totals_of outcomes).gap gap.gap.frames
 
 -- Where `flights` ends with status 0, the flights of the lines of the second file are assured, and no other was read.
 abbrev pub AssuresFlights : List ℕ → List ℕ → History → List ℕ → Type 0
