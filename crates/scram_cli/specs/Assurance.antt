@@ -6,7 +6,7 @@ use Rattle.trace_files.specs.Looks.{AssuresView}
 use Rattle.explain_form.specs.Answers.{AssuresExplain, AssuresExplainScript}
 use Rattle.faults_form.specs.Answers.{AssuresFaults}
 use Rattle.fill_form.specs.Answers.{AssuresFill}
-use Rattle.flights_form.specs.Answers.{AssuresFlights}
+use Rattle.flights_form.specs.Assurance.{AssuresFlights}
 use Rattle.choice_forms.specs.Answers.{AssuresChoices, AssuresChoose}
 use Rattle.trace_forms.specs.Answers.{AssuresProps}
 use Rattle.summary_form.specs.Summary.{summary_text}
