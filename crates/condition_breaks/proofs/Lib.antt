@@ -3,6 +3,7 @@ pub mod EachItem
 pub mod FirstShown
 pub mod Firsts
 pub mod Gathering
+pub mod Hulls
 pub mod Misses
 pub mod Needed
 pub mod Refusals

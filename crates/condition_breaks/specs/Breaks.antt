@@ -23,19 +23,19 @@ use Rattle.condition_breaks.specs.Form.{first_twin, is_need_off}
 use Rattle.condition_breaks.specs.Lists.{gathered_below, one_if}
 use Rattle.condition_breaks.specs.Ranges.{all_ways, first_unheld, hull_of, interval, range_on}
 
--- A1: application a is on in configuration c, and what it needs is off.
+-- A1: application a is on in configuration c, and application b, which it needs, is off.
 abbrev pub need_break : Parts → ℕ → ℕ → ℕ → List Break
 need_break spec c a b = one_if (is_need_off spec (conf_id c) a b) (broken.NeedOff (conf_id c) (app_id a) (app_id b))
 
--- The same of each application that a needs.
+-- The same of each application b, in order.
 abbrev pub need_breaks_of : Parts → ℕ → ℕ → List Break
 need_breaks_of spec c a = gathered_below (need_break spec c a) (length spec.apps)
 
--- The same of each application.
+-- The same of each application a, in order.
 abbrev pub need_breaks_in : Parts → ℕ → List Break
 need_breaks_in spec c = gathered_below (need_breaks_of spec c) (length spec.apps)
 
--- The same of each configuration.
+-- The same of each configuration, in order.
 abbrev pub need_breaks : Parts → List Break
 need_breaks spec = gathered_below (need_breaks_in spec) (length spec.confs)
 
@@ -43,13 +43,13 @@ need_breaks spec = gathered_below (need_breaks_in spec) (length spec.confs)
 abbrev pub state_breaks : Parts → List Break
 state_breaks spec = one_if (has_too_many_states spec) broken.ManyStates
 
--- A3: configuration c has nothing on, or an earlier one is the same.
+-- A3: configuration c has nothing on, or is the same as an earlier one, of which the first stands here.
 abbrev pub shape_break : Parts → ℕ → List Break
 shape_break spec c =
     if is_empty spec (conf_id c) then broken.NothingOn (conf_id c) ∷ []
     else option_to_list (option_map (λ (d : ConfId). broken.SameAgain (conf_id c) d) (first_twin spec c))
 
--- The same of each configuration.
+-- The same of each configuration, in order.
 abbrev pub shape_breaks : Parts → List Break
 shape_breaks spec = gathered_below (shape_break spec) (length spec.confs)
 
@@ -57,11 +57,11 @@ shape_breaks spec = gathered_below (shape_break spec) (length spec.confs)
 abbrev pub load_break : Parts → ℕ → ℕ → List Break
 load_break spec c p = one_if (is_overloaded spec (conf_id c) p) (broken.Overloaded (conf_id c) (proc_id p))
 
--- The same of each processor.
+-- The same of each processor, in order.
 abbrev pub load_breaks_in : Parts → ℕ → List Break
 load_breaks_in spec c = gathered_below (load_break spec c) (length spec.procs)
 
--- The same of each configuration.
+-- The same of each configuration, in order.
 abbrev pub load_breaks : Parts → List Break
 load_breaks spec = gathered_below (load_breaks_in spec) (length spec.confs)
 
@@ -69,7 +69,7 @@ load_breaks spec = gathered_below (load_breaks_in spec) (length spec.confs)
 abbrev pub unmet_break : Parts → Requirement → ℕ → List Break
 unmet_break spec asked c = option_to_list (option_map (λ (v : Env). broken.Unmet asked (conf_id c) v) (first_unmet_env spec asked (conf_id c)))
 
--- The same of each configuration.
+-- The same of each configuration, in order.
 abbrev pub unmet_breaks : Parts → Requirement → List Break
 unmet_breaks spec asked = gathered_below (unmet_break spec asked) (length spec.confs)
 
@@ -81,11 +81,11 @@ start_breaks spec = one_if (leaves_start spec) broken.StartLeft
 abbrev pub bound_break : Parts → ℕ → ℕ → List Break
 bound_break spec i j = one_if (lacks_bound spec (conf_id i) j) (broken.BoundLacking (conf_id i) (conf_id j))
 
--- The same of each target.
+-- The same of each target, in order.
 abbrev pub bound_breaks_from : Parts → ℕ → List Break
 bound_breaks_from spec i = gathered_below (bound_break spec i) (length spec.confs)
 
--- The same of each source.
+-- The same of each source, in order.
 abbrev pub bound_breaks : Parts → List Break
 bound_breaks spec = gathered_below (bound_breaks_from spec) (length spec.confs)
 
@@ -110,7 +110,7 @@ unheld_at spec k = option_map_or (unheld_of spec k) (slice_get spec.invariants k
 abbrev pub invariant_break : Parts → ℕ → List Break
 invariant_break spec k = option_to_list (unheld_at spec k)
 
--- The same of each invariant.
+-- The same of each invariant, in order.
 abbrev pub invariant_breaks : Parts → List Break
 invariant_breaks spec = gathered_below (invariant_break spec) (length spec.invariants)
 
@@ -126,7 +126,7 @@ unentered_at spec k = option_map_or (unentered_of spec k) (slice_get spec.precon
 abbrev pub precondition_break : Parts → ℕ → List Break
 precondition_break spec k = option_to_list (unentered_at spec k)
 
--- The same of each precondition.
+-- The same of each precondition, in order.
 abbrev pub precondition_breaks : Parts → List Break
 precondition_breaks spec = gathered_below (precondition_break spec) (length spec.preconditions)
 
@@ -139,11 +139,11 @@ demand_break_of spec c k demand =
 abbrev pub demand_break : Parts → ℕ → ℕ → List Break
 demand_break spec c k = option_map_or (demand_break_of spec c k) (slice_get spec.demands k) []
 
--- The same of each demand.
+-- The same of each demand, in order.
 abbrev pub demand_breaks_in : Parts → ℕ → List Break
 demand_breaks_in spec c = gathered_below (demand_break spec c) (length spec.demands)
 
--- The same of each configuration.
+-- The same of each configuration, in order.
 abbrev pub demand_breaks : Parts → List Break
 demand_breaks spec = gathered_below (demand_breaks_in spec) (length spec.confs)
 

@@ -1,24 +1,29 @@
 -- What is said of the places at which conditions do not hold.
-use Rattle.std.specs.Prelude.{◌≡◌, ℕ, ◌==◌, List, slice_get, Option, Some, None, option_map, if◌then◌else◌}
+use Rattle.std.specs.Prelude.{◌≡◌, ℕ, ℤ, ◌≤ℤ◌, true, ◌==◌, List, slice_get, Option, Some, None, option_map, if◌then◌else◌}
 use Rattle.std.specs.Option.{option_map_or}
+use Rattle.scram_types.specs.declared.specification.Invariant.{Invariant}
 use Rattle.scram_types.specs.declared.specification.Precondition.{Precondition}
 use Rattle.scram_types.specs.Lookups.{opening_env}
 use Rattle.scram_types.specs.Specification.{Each, IsSpec, Parts}
-use Rattle.choice_table.specs.Choices.{choose}
+use Rattle.choice_table.specs.Choices.{choose, has_source}
 use Rattle.choice_table.specs.Numbering.{states}
 use Rattle.coverage_check.specs.Acceptance.{IsBroken, first_refusal}
 use Rattle.coverage_check.specs.Choosing.{number_of_requirement, requirement_refusal, start_refusal, target_shown}
 use Rattle.coverage_check.specs.Demands.{demand_refusal}
 use Rattle.coverage_check.specs.Form.{load_refusal, need_refusal, shape_refusal, state_refusal}
-use Rattle.coverage_check.specs.Holding.{invariant_refusal, precondition_refusal}
+use Rattle.coverage_check.specs.Holding.{holds_range, invariant_refusal, precondition_refusal}
 use Rattle.coverage_check.specs.Showing.{shown_at, shown_in, shown_nowhere}
 use Rattle.coverage_check.specs.Timing.{bound_refusal, greatest_bound, least, window_refusal}
 use Rattle.coverage_check.specs.declared.choosing.Requirement.TheVariants as requirement
 use Rattle.coverage_check.specs.declared.shown.Shown.{Shown}
 use Rattle.coverage_check.specs.declared.shown.Other.TheVariants as other
+use Rattle.flight_facts.specs.declared.extremes.Extremes.{Extremes}
 use Rattle.condition_breaks.specs.declared.breaks.Break.{Break}
 use Rattle.condition_breaks.specs.declared.breaks.Break.TheVariants as broken
-use Rattle.condition_breaks.specs.Breaks.{breaks}
+use Rattle.condition_breaks.specs.declared.breaks.Unheld.{Unheld}
+use Rattle.condition_breaks.specs.declared.breaks.Way.{Way}
+use Rattle.condition_breaks.specs.Breaks.{breaks, unheld_at}
+use Rattle.condition_breaks.specs.Ranges.{all_ways, range_on}
 
 -- What a refusal shows of the precondition of this number.
 abbrev pub missed_shown : Parts → ℕ → Shown
@@ -80,3 +85,18 @@ RefusalIsFirst = (spec : Parts) (shown : Shown) → IsSpec spec → first_refusa
 -- At each place the condition does not hold.
 abbrev pub EachIsBroken : Type 0
 EachIsBroken = (spec : Parts) → IsSpec spec → (condition : ℕ) → Each (λ (found : Break). IsBroken spec (shown_of spec found)) (breaks spec condition)
+
+-- An interval holds each range that is asked of an invariant.
+abbrev pub HoldsAsked : Parts → Invariant → ℤ → ℤ → Type 0
+HoldsAsked spec inv low high =
+    Each (λ (taken : Way). has_source inv.from taken.from ≡ true → holds_range low high (range_on spec inv taken) ≡ true) (all_ways spec)
+
+-- It holds each range that is asked of an invariant, and lies in every interval that does.
+pub record IsLeastInterval (spec : Parts) (inv : Invariant) (needed : Extremes) : Type 0 where
+  pub holds : HoldsAsked spec inv needed.least needed.greatest
+  pub least : (low high : ℤ) → HoldsAsked spec inv low high → (low ≤ℤ needed.least) × (needed.greatest ≤ℤ high)
+
+-- What an invariant that does not hold its ranges needs is the least interval that would.
+abbrev pub NeededIsLeast : Type 0
+NeededIsLeast = (spec : Parts) (k : ℕ) (inv : Invariant) (found : Unheld) → slice_get spec.invariants k ≡ Some inv
+    → unheld_at spec k ≡ Some (broken.Unheld found) → IsLeastInterval spec inv found.needed

@@ -1,6 +1,6 @@
 //! What is proved of the places at which conditions do not hold.
 
-ghost use Rattle.condition_breaks.specs.Laws.{EachIsBroken, FirstIsShown, RefusalIsFirst};
+ghost use Rattle.condition_breaks.specs.Laws.{EachIsBroken, FirstIsShown, NeededIsLeast, RefusalIsFirst};
 
 /// Of each condition the first place is the one that its refusal shows, and there is none exactly where the condition
 /// holds.
@@ -17,4 +17,9 @@ pub fn refusal_is_first()
 /// At each place the condition does not hold: it exists in the specification, and a refusal of it would be true.
 pub fn each_is_broken()
     ensures { EachIsBroken }
+{}
+
+/// What an invariant that does not hold a range needs is the least interval that holds all ranges that are asked of it.
+pub fn needed_is_least()
+    ensures { NeededIsLeast }
 {}
