@@ -76,7 +76,8 @@ fn add_wanted_line(
     rule: &DocumentRule,
     broken: &BrokenDocument<'_>,
 ) -> Result<(), NoMemory>
-    ensures { OnOk result (lines.new ≡ lines.old ++ wanted_line broken.now.kind (option_map (λ s. s.now) broken.now.spec) (rule_read rule.now) broken.now.path.now) }
+    ensures { OnOk result (lines.new ≡ lines.old ++ wanted_line broken.now.kind (option_map (λ s. s.now) broken.now.spec)
+        (rule_read rule.now) broken.now.path.now) }
 {
     if !rule.shows.wanted() {
         return Ok(());
