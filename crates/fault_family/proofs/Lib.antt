@@ -5,4 +5,5 @@ pub mod MemberScripts
 pub mod Numbered
 pub mod InOrder
 pub mod Joined
+pub mod Shifting
 pub mod StepsStand
