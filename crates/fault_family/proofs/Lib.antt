@@ -1,5 +1,6 @@
 pub mod Cells
 pub mod Counting
+pub mod LaterFlights
 pub mod Members
 pub mod MemberScripts
 pub mod Numbered

@@ -48,7 +48,7 @@ equal_bytes [] = refl
 equal_bytes (byte ∷ bytes) = rw (equal_numbers byte, equal_bytes bytes) refl
 
 module _ (spec : Parts) (d : ℕ) (script : ScriptParts) where
-  changes_moved : (x f : ℕ) (changes : List Change) (value : ℕ)
+  pub changes_moved : (x f : ℕ) (changes : List Change) (value : ℕ)
       → value_after (map (λ (change : Change). record { frame = d + change.frame; factor = change.factor; value = change.value }) changes) x (d + f) value ≡ value_after changes x f value
   changes_moved x f [] value = refl
   changes_moved x f (change ∷ changes) value =
@@ -63,7 +63,7 @@ module _ (spec : Parts) (d : ℕ) (script : ScriptParts) where
       any_moved (is_restart_between p h f) (is_restart_between p (d + h) (d + f)) (λ (restart : RestartAt). record { proc = restart.proc; frame = d + restart.frame })
       (λ restart. rw (lt_later d h restart.frame, le_later d restart.frame f) refl) script.restarts
 
-  up_later : (p f : ℕ) → is_up (later_by d script) p (d + f) ≡ is_up script p f
+  pub up_later : (p f : ℕ) → is_up (later_by d script) p (d + f) ≡ is_up script p f
   up_later p f =
       sym (up_by_lists (later_by d script) p (d + f))
       ∙ all_moved (is_over script p f) (is_over (later_by d script) p (d + f)) (λ (halt : HaltAt). record { proc = halt.proc; frame = d + halt.frame; step = halt.step })
@@ -75,7 +75,7 @@ module _ (spec : Parts) (d : ℕ) (script : ScriptParts) where
       any_moved (λ (halt : HaltAt). is_halt_in p f halt && nat_le halt.step (words spec)) (λ (halt : HaltAt). is_halt_in p (d + f) halt && nat_le halt.step (words spec))
       (λ (halt : HaltAt). record { proc = halt.proc; frame = d + halt.frame; step = halt.step }) (λ halt. rw (equal_later d halt.frame f) refl) script.halts
 
-  commits_later : (p f : ℕ) → commits spec (later_by d script) p (d + f) ≡ commits spec script p f
+  pub commits_later : (p f : ℕ) → commits spec (later_by d script) p (d + f) ≡ commits spec script p f
   commits_later p f =
       ap (λ (up : Bool). up && not (halts_before_mark spec (later_by d script) p (d + f))) (up_later p f)
       ∙ ap (λ (early : Bool). is_up script p f && not early) (early_later p f)
@@ -86,7 +86,7 @@ module _ (spec : Parts) (d : ℕ) (script : ScriptParts) where
   factors_later : (f : ℕ) → factors_at (later_by d script) (d + f) ≡ factors_at script f
   factors_later f = rw (factor_later 0 f, factor_later 1 f, factor_later 2 f, factor_later 3 f, factor_later 4 f, factor_later 5 f) refl
 
-  environment_later : (f : ℕ) → env_at spec (later_by d script) (d + f) ≡ env_at spec script f
+  pub environment_later : (f : ℕ) → env_at spec (later_by d script) (d + f) ≡ env_at spec script f
   unfolding env_of
   environment_later f =
       ap (λ up. env_of up (factors_at (later_by d script) (d + f))) (fun_ext (λ p. up_later p f))
@@ -103,7 +103,7 @@ module _ (spec : Parts) (d : ℕ) (script : ScriptParts) where
       ∙ ap (λ (b : Bool). value_after (map (λ (change : Change). record { frame = d + change.frame; factor = change.factor; value = change.value }) changes) x f (if b then change.value else value)) (and-false (change.factor.0 == x))
       ∙ nothing_yet x f changes value (λ i c there. late (suc i) c there)
 
-  nothing_at_first : (x f : ℕ) (changes : List Change) (value : ℕ) → Each (λ (change : Change). f < change.frame) changes → value_after changes x f value ≡ value
+  pub nothing_at_first : (x f : ℕ) (changes : List Change) (value : ℕ) → Each (λ (change : Change). f < change.frame) changes → value_after changes x f value ≡ value
   nothing_at_first x f [] value late = refl
   nothing_at_first x f (change ∷ changes) value late =
       let here : nat_le change.frame f ≡ false = (let after = late 0 change refl in grind (arith, nat_tests, after)) in
@@ -118,7 +118,7 @@ module _ (spec : Parts) (d : ℕ) (script : ScriptParts) where
       let after : nat_lt (d + halt.frame) f ≡ false = grind (arith, nat_tests, early) in
       rw (after, and-false (halt.proc.0 == p)) (no_halt_yet p f early halts)
 
-  up_before : (p f : ℕ) → f ≤ d → is_up (later_by d script) p f ≡ true
+  pub up_before : (p f : ℕ) → f ≤ d → is_up (later_by d script) p f ≡ true
   up_before p f early = sym (up_by_lists (later_by d script) p f) ∙ no_halt_yet p f early script.halts
 
   module _ (fits : Fits spec script) where
@@ -130,7 +130,7 @@ module _ (spec : Parts) (d : ℕ) (script : ScriptParts) where
     factors_before : (f : ℕ) → f < d → factors_at (later_by d script) f ≡ factors_at script 0
     factors_before f early = rw (factor_before 0 f early, factor_before 1 f early, factor_before 2 f early, factor_before 3 f early, factor_before 4 f early, factor_before 5 f early) refl
 
-    environment_before : (f : ℕ) → f < d → env_at spec (later_by d script) f ≡ env_at spec script 0
+    pub environment_before : (f : ℕ) → f < d → env_at spec (later_by d script) f ≡ env_at spec script 0
     unfolding env_of
     environment_before f early =
         ap (λ up. env_of up (factors_at (later_by d script) f)) (fun_ext (λ p. up_before p f (omega (arith, early))))
