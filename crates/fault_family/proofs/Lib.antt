@@ -1,8 +1,10 @@
 pub mod Cells
 pub mod Counting
+pub mod LaterFlights
 pub mod Members
 pub mod MemberScripts
 pub mod Numbered
 pub mod InOrder
 pub mod Joined
+pub mod Shifting
 pub mod StepsStand

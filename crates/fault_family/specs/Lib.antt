@@ -5,3 +5,4 @@ pub mod Laws
 pub mod NextFaults
 pub mod Scripts
 pub mod Standing
+pub mod Shifts

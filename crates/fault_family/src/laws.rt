@@ -1,6 +1,7 @@
 //! What the family of fault scripts has: each function's contract is a law.
 
 ghost use Rattle.fault_family.specs.Laws.{FamiliesAreOrdered, FamiliesHaveMembers, MembersFit};
+ghost use Rattle.fault_family.specs.Shifts.{LaterScriptsFlyTheSame, LaterScriptsShowTheSame};
 ghost use Rattle.fault_family.specs.Standing.{ListedStepsStand};
 
 /// The family has the scripts of all faults of which each follows those before it and that keep to the failure
@@ -24,4 +25,16 @@ pub fn members_fit()
 /// it, so the two steps of the family stand for all others.
 pub fn listed_steps_stand()
     ensures { ListedStepsStand }
+{}
+
+/// A script in which everything comes some frames later has the same environments and commits, that much later, and
+/// keeps to the failure assumption where the script does.
+pub fn later_scripts_show_the_same()
+    ensures { LaterScriptsShowTheSame }
+{}
+
+/// Of an accepted specification, a script in which everything comes some frames later has the same reconfigurations, that
+/// much later, and the same acts and modes in its rows. Worlds and areas may differ.
+pub fn later_scripts_fly_the_same()
+    ensures { LaterScriptsFlyTheSame }
 {}

@@ -1,0 +1,5 @@
+use Rattle.fault_family.proofs.LaterFlights.{later_scripts_fly_the_same}
+use Rattle.fault_family.proofs.laws.later_scripts_fly_the_same.Goals as goal
+
+pub returns : goal.returns
+returns c = later_scripts_fly_the_same
