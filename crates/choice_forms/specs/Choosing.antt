@@ -21,8 +21,8 @@ use Rattle.form_base.specs.Lines.{added, names_down}
 use Rattle.form_base.specs.Refusals.{memory_line}
 use Rattle.choice_forms.specs.declared.states.StateWord.{StateWord}
 use Rattle.choice_forms.specs.declared.states.StateWord.TheVariants.{Value, Down}
-use Rattle.choice_forms.specs.Lines.{rule_text}
-use Rattle.choice_forms.specs.States.{word_text}
+use Rattle.choice_forms.specs.Lines.{ruled_text}
+use Rattle.choice_forms.specs.States.{state_word_text}
 
 -- The environment in which factor x has this value.
 abbrev pub with_value : Env → ℕ → ℕ → Env
@@ -78,7 +78,7 @@ rule_needs spec k v = option_map_or (λ (rule : Choice). needs_text spec rule.to
 
 -- a configuration, a state, and the rule and its target
 abbrev pub choice_piece : Parts → ConfId → Env → ℕ → List ℕ
-choice_piece spec c v k = codes "choice " ++ conf_name spec c.0 ++ codes " in " ++ state_text spec v ++ rule_text spec k
+choice_piece spec c v k = codes "choice " ++ conf_name spec c.0 ++ codes " in " ++ state_text spec v ++ ruled_text spec k
 
 -- what the target of rule k needs, and the end of the line
 abbrev pub needs_piece : Parts → Env → ℕ → List ℕ
@@ -99,7 +99,7 @@ IsUnknown word refusal = (refusal ≡ (UNKNOWN_NAME, no_name_line word)) ⊎ (re
 -- The answer in an environment, or for a word that names nothing.
 abbrev pub chosen_in : Parts → ConfId → Result Env StateWord → ℕ × List ℕ
 chosen_in spec c (Ok v) = (ANSWERED, chosen_line spec c v)
-chosen_in spec c (Err word) = (UNKNOWN_NAME, no_name_line (word_text word))
+chosen_in spec c (Err word) = (UNKNOWN_NAME, no_name_line (state_word_text word))
 
 -- The answer for a configuration, or for a word that names none.
 abbrev pub chosen_from : Parts → Option ConfId → List ℕ → List StateWord → ℕ × List ℕ

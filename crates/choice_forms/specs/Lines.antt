@@ -9,14 +9,14 @@ use Rattle.scram_types.specs.declared.specification.Choice.{Choice}
 use Rattle.form_base.specs.Lines.{env_text}
 
 -- rule k and its target
-abbrev pub target_text : Parts → ℕ → ConfId → List ℕ
-target_text spec k to = codes " rule " ++ decimal k ++ codes " to " ++ conf_name spec to.0
+abbrev pub rule_to_text : Parts → ℕ → ConfId → List ℕ
+rule_to_text spec k to = codes " rule " ++ decimal k ++ codes " to " ++ conf_name spec to.0
 
 -- rule k and its target, or that there is no rule
-abbrev pub rule_text : Parts → ℕ → List ℕ
-rule_text spec k = option_map_or (λ (rule : Choice). target_text spec k rule.to) (slice_get spec.rules k) (codes " no rule")
+abbrev pub ruled_text : Parts → ℕ → List ℕ
+ruled_text spec k = option_map_or (λ (rule : Choice). rule_to_text spec k rule.to) (slice_get spec.rules k) (codes " no rule")
 
--- rule k is the first that fits configuration `from` in so many environments in scope, the first of which is shown
+-- in how many environments in scope rule k is the first that fits configuration `from`, and the first of these environments
 abbrev pub choice_line : Parts → ℕ → ℕ → ℕ → Env → List ℕ
 choice_line spec from k count first =
-    codes "choice " ++ conf_name spec from ++ rule_text spec k ++ codes " in " ++ decimal count ++ codes ", first " ++ env_text spec first ++ codes "\n"
+    codes "choice " ++ conf_name spec from ++ ruled_text spec k ++ codes " in " ++ decimal count ++ codes ", first " ++ env_text spec first ++ codes "\n"

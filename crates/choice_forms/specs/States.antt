@@ -14,7 +14,8 @@ is_equals byte = byte == 61
 abbrev pub value_word : List ℕ → Option StateWord
 value_word word =
     if nat_lt (position_or_len is_equals word) (length word)
-    then option_and_then (λ (factor : List ℕ). option_map (λ (value : List ℕ). Value factor value) (name_of (after_first is_equals word))) (name_of (before_first is_equals word))
+    then option_and_then (λ (factor : List ℕ). option_map (λ (value : List ℕ). Value factor value) (name_of (after_first is_equals word)))
+    (name_of (before_first is_equals word))
     else None
 
 -- What a word of a state spells, if it is one.
@@ -32,6 +33,6 @@ abbrev pub state_in : List (List ℕ) → Option (List StateWord)
 state_in words = if nat_le (length words) MAX_STATE_WORDS then state_words words else None
 
 -- A word of a state, as it was given.
-abbrev pub word_text : StateWord → List ℕ
-word_text (Value factor value) = factor ++ codes "=" ++ value
-word_text (Down proc) = codes "-" ++ proc
+abbrev pub state_word_text : StateWord → List ℕ
+state_word_text (Value factor value) = factor ++ codes "=" ++ value
+state_word_text (Down proc) = codes "-" ++ proc

@@ -17,7 +17,8 @@ use Rattle.choice_forms.specs.Lines.{choice_line}
 -- where none fits.
 abbrev pub choice_text : Parts → ℕ → ℕ → List ℕ
 choice_text spec i k =
-    option_map_or (λ (first : Env). choice_line spec i k (count_where spec (is_ruled_by spec (conf_id i) k)) first) (first_where spec (is_ruled_by spec (conf_id i) k)) []
+    option_map_or (λ (first : Env). choice_line spec i k (count_where spec (is_ruled_by spec (conf_id i) k)) first)
+    (first_where spec (is_ruled_by spec (conf_id i) k)) []
 
 -- The lines of configuration number i.
 abbrev pub choices_text_from : Parts → ℕ → List ℕ

@@ -10,7 +10,7 @@ ghost use Rattle.form_base.specs.Refusals.{told};
 ghost use Rattle.choice_forms.specs.Answers.{ChooseAnswers};
 ghost use Rattle.choice_forms.specs.Choosing.{IsUnknown, choose_answer, chosen_line, env_after, env_after_all, others_up, taken_down, valued, with_value};
 ghost use Rattle.choice_forms.specs.Chosen.{TellsChosen};
-ghost use Rattle.choice_forms.specs.States.{word_text};
+ghost use Rattle.choice_forms.specs.States.{state_word_text};
 
 use crate::lines::{make_chosen_line, make_needs_line};
 use crate::states::StateWord;
@@ -50,7 +50,8 @@ pub fn choose<F: Files, K: Sink>(
     files: &mut F,
     out: &mut K,
 ) -> Status
-    ensures { Ends (ChooseAnswers question.entry.specification.now question.entry.conf.now question.entry.state.now) (question.entry.specification.now ∷ []) (F.state files.old) (F.state files.new) (IsTaken (K.state out.old) (K.state out.new) result.code) }
+    ensures { Ends (ChooseAnswers question.entry.specification.now question.entry.conf.now question.entry.state.now)
+        (question.entry.specification.now ∷ []) (F.state files.old) (F.state files.new) (IsTaken (K.state out.old) (K.state out.new) result.code) }
 {
     match read_chosen(alloc, question, files) {
         Ok(chosen) => status_after(put_chosen(out, &chosen), ANSWERED),
@@ -73,7 +74,8 @@ fn read_chosen<F: Files>(
     question: Question<'_>,
     files: &mut F,
 ) -> Result<Chosen, Refusal>
-    ensures { Prepares (ChooseAnswers question.entry.specification.now question.entry.conf.now question.entry.state.now) TellsChosen (question.entry.specification.now ∷ []) (F.state files.old) (F.state files.new) result }
+    ensures { Prepares (ChooseAnswers question.entry.specification.now question.entry.conf.now question.entry.state.now) TellsChosen
+        (question.entry.specification.now ∷ []) (F.state files.old) (F.state files.new) result }
 {
     match load(alloc, &Specification, question.specification, files) {
         Ok(spec) => chosen_of(alloc, spec, question.conf, question.state),
@@ -198,7 +200,7 @@ fn others_up(up: u8, p: u8) -> u8
 
 // Returns the refusal of a word of a state that names nothing.
 fn no_word(alloc: Global, word: &StateWord) -> Refusal
-    ensures { IsUnknown (word_text word.now) (told result) }
+    ensures { IsUnknown (state_word_text word.now) (told result) }
 {
     match word {
         StateWord::Value { factor, value } => match format!(in alloc; "{factor}={value}") {

@@ -8,4 +8,5 @@ pub mod states;
 mod tables;
 
 pub use choosing::{Question, choose};
-pub use tables::choices;
+pub use lines::{is_placed_on, make_needs_line};
+pub use tables::{choices, find_shares};

@@ -3,7 +3,7 @@
 ghost use Rattle.std.specs.Prelude.{◌≡◌, ◌+◌, ◌≤◌, ◌++◌, length};
 ghost use Rattle.scram_types.specs.declared.limits.TheConstants.{MAX_LINE_BYTES};
 ghost use Rattle.choice_forms.specs.Choosing.{choice_piece, is_placed_on, is_used, needs_piece, needs_text, spared, state_text};
-ghost use Rattle.choice_forms.specs.Lines.{choice_line, rule_text, target_text};
+ghost use Rattle.choice_forms.specs.Lines.{choice_line, ruled_text, rule_to_text};
 
 use choice_table::runnable;
 use flight_facts::differences::{add_difference, have_changed};
@@ -31,7 +31,7 @@ pub fn make_choice_line(spec: &Spec, from: ConfId, k: usize, count: u32, first: 
 
 fn add_rule(line: &mut Line, spec: &Spec, k: usize)
     requires { length line.old + 36 ≤ MAX_LINE_BYTES }
-    ensures text { line.new ≡ line.old ++ rule_text spec.now k }
+    ensures text { line.new ≡ line.old ++ ruled_text spec.now k }
     ensures short { length line.new ≤ length line.old + 36 }
 {
     match spec.rules.items().get(k) {
@@ -42,7 +42,7 @@ fn add_rule(line: &mut Line, spec: &Spec, k: usize)
 
 fn add_target(line: &mut Line, spec: &Spec, k: u32, to: ConfId)
     requires { length line.old + 36 ≤ MAX_LINE_BYTES }
-    ensures text { line.new ≡ line.old ++ target_text spec.now k to }
+    ensures text { line.new ≡ line.old ++ rule_to_text spec.now k to }
     ensures short { length line.new ≤ length line.old + 36 }
 {
     line.text(b" rule ");
@@ -119,12 +119,13 @@ fn is_used(spec: &Spec, c: ConfId, p: u8) -> bool
     ensures { result ≡ is_used spec.now c p }
 {
     match spec.conf(c) {
-        Some(conf) => conf.places.iter().any(|place| is_on(place, p)),
+        Some(conf) => conf.places.iter().any(|place| is_placed_on(place, p)),
         None => false,
     }
 }
 
-fn is_on(place: &Option<Place>, p: u8) -> bool
+/// Returns whether an application is placed on processor `p`.
+pub fn is_placed_on(place: &Option<Place>, p: u8) -> bool
     ensures { result ≡ is_placed_on p place.now }
 {
     match place {

@@ -39,7 +39,8 @@ pub fn choices<F: Files, K: Sink>(
     files: &mut F,
     out: &mut K,
 ) -> Status
-    ensures { Ends (ChoicesAnswers specification.now) (specification.now ∷ []) (F.state files.old) (F.state files.new) (IsTaken (K.state out.old) (K.state out.new) result.code) }
+    ensures { Ends (ChoicesAnswers specification.now) (specification.now ∷ []) (F.state files.old) (F.state files.new)
+        (IsTaken (K.state out.old) (K.state out.new) result.code) }
 {
     match read_table(alloc, specification, files) {
         Ok(table) => {
@@ -80,8 +81,12 @@ fn find_table(alloc: Global, spec: Spec) -> Result<Table, Refusal>
     }
 }
 
-// Returns the shares of each configuration, in order.
-fn find_shares(alloc: Global, spec: &Spec) -> Result<Vec<List<Share>>, NoMemory>
+/// Returns the shares of each configuration, in order.
+///
+/// # Errors
+///
+/// Out of memory.
+pub fn find_shares(alloc: Global, spec: &Spec) -> Result<Vec<List<Share>>, NoMemory>
     ensures { IfOk result (λ shares. HasShares spec.now shares.items) }
 {
     let mut shares = Vec::new(alloc);

@@ -15,7 +15,7 @@ use Rattle.scram_types.specs.declared.specification.AppSpec.{AppSpec}
 use Rattle.scram_types.specs.declared.specification.Factor.{Factor}
 use Rattle.scram_types.specs.declared.specification.Proc.{Proc}
 use Rattle.app_model.specs.Names.{mode_text, name_in, variable_names}
-use Rattle.flight_facts.specs.Acts.{act_at, act_word, mode_of_act, proc_of_act, word_text}
+use Rattle.flight_facts.specs.Acts.{act_of, act_word, mode_of_act, proc_of_act, word_text}
 use Rattle.form_base.specs.Texts.{texts_below}
 
 -- a configuration's name, or no byte without one
@@ -67,4 +67,4 @@ word_field kind area i = option_map_or (λ (variable : List ℕ). codes "," ++ s
 -- the fields of application a in a row
 abbrev pub app_fields : Parts → Row → ℕ → AppSpec → List ℕ
 app_fields spec row a app =
-    act_fields spec app.kind.0 (act_at row a) ++ texts_below (word_field app.kind.0 (slice_index_or row.areas a [])) 8
+    act_fields spec app.kind.0 (act_of row a) ++ texts_below (word_field app.kind.0 (slice_index_or row.areas a [])) 8

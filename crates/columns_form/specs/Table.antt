@@ -34,9 +34,9 @@ abbrev pub fields_text : Parts → Row → List ℕ
 fields_text spec row = row_fields spec row ++ fields_end spec row
 
 -- the line of row k
-abbrev pub row_text : Parts → List Row → ℕ → List ℕ
-row_text spec rows k = option_map_or (fields_text spec) (slice_get rows k) []
+abbrev pub row_line_text : Parts → List Row → ℕ → List ℕ
+row_line_text spec rows k = option_map_or (fields_text spec) (slice_get rows k) []
 
 -- the table
 abbrev pub columns_text : Parts → List Row → List Report → List ℕ
-columns_text spec rows reports = heads_text spec ++ texts_below (row_text spec rows) (length rows)
+columns_text spec rows reports = heads_text spec ++ texts_below (row_line_text spec rows) (length rows)

@@ -5,7 +5,7 @@ ghost use Rattle.scram_io.specs.Outside.{Prints};
 ghost use Rattle.form_base.specs.Endings.{Ends, IsTaken};
 ghost use Rattle.form_base.specs.Texts.{texts_below};
 ghost use Rattle.trace_files.specs.Looks.{ViewAnswers};
-ghost use Rattle.columns_form.specs.Table.{app_fields_text, app_head_text, columns_text, fields_end, fields_text, heads_end, heads_text, row_text};
+ghost use Rattle.columns_form.specs.Table.{app_fields_text, app_head_text, columns_text, fields_end, fields_text, heads_end, heads_text, row_line_text};
 
 use crate::fields::{make_app_fields, make_row_fields};
 use crate::heads::{make_app_head, make_row_head};
@@ -86,7 +86,7 @@ fn put_app_head<K: Sink>(out: &mut K, spec: &Spec, a: usize) -> Result<(), SinkF
 }
 
 fn put_rows<K: Sink>(out: &mut K, spec: &Spec, rows: &[Row]) -> Result<(), SinkFault>
-    ensures { Prints result (K.state out.old) (K.state out.new) (texts_below (row_text spec.now rows.now) (length rows.now)) }
+    ensures { Prints result (K.state out.old) (K.state out.new) (texts_below (row_line_text spec.now rows.now) (length rows.now)) }
 {
     for k in 0..rows.len() {
         match put_row(out, spec, rows, k) {
@@ -98,7 +98,7 @@ fn put_rows<K: Sink>(out: &mut K, spec: &Spec, rows: &[Row]) -> Result<(), SinkF
 }
 
 fn put_row<K: Sink>(out: &mut K, spec: &Spec, rows: &[Row], k: usize) -> Result<(), SinkFault>
-    ensures { Prints result (K.state out.old) (K.state out.new) (row_text spec.now rows.now k) }
+    ensures { Prints result (K.state out.old) (K.state out.new) (row_line_text spec.now rows.now k) }
 {
     match rows.get(k) {
         Some(row) => put_fields(out, spec, row),

@@ -16,7 +16,7 @@ use Rattle.scram_types.specs.declared.specification.Precondition.{Precondition}
 use Rattle.scram_types.specs.Specification.{IsSpec, Parts, bound_in}
 use Rattle.scram_types.specs.Lookups.{place_of, conf_id, opening_env}
 use Rattle.scram_types.proofs.Searches.{all_each, below_none, each_all, none_below}
-use Rattle.scram_types.proofs.Booleans.{and_left, and_right, by_bool, or_cases, true_false, and_true, and_false}
+use Rattle.scram_types.proofs.Booleans.{and_left, and_right, by_bool, or_cases, true_false, and_true, and_false, both_false}
 use Rattle.scram_types.proofs.Options.{none_both, none_left, none_right, some_none}
 use Rattle.scram_types.proofs.Equality.{same_conf}
 use Rattle.choice_table.specs.Environments.{IsEnv, in_scope}
@@ -34,7 +34,7 @@ use Rattle.coverage_check.specs.Holding.{breaks_entering, breaks_from, holds_ent
 use Rattle.coverage_check.specs.Demands.{demand_refusal, demand_refusal_at, demand_refusal_in, demand_refusal_of, first_missed_env}
 use Rattle.coverage_check.specs.Acceptance.{Accepts, AcceptsWhereUnrefused, IsKept, IsServed, IsShaped, choice_refusal, first_refusal, form_refusal, range_refusal, time_refusal}
 use Rattle.coverage_check.proofs.Showing.{none_shown, not_shown}
-use Rattle.coverage_check.proofs.Reaching.{either_false, first_is_least, passes_nowhere, target_test, target_tested}
+use Rattle.coverage_check.proofs.Reaching.{first_is_least, passes_nowhere, target_test, target_tested}
 
 if_none : {A : Type 0} (b : Bool) (x : A) (o : Option A) → (if b then Some x else o) ≡ None → (b ≡ false) × (o ≡ None)
 if_none true x o e = some_none x e
@@ -228,7 +228,7 @@ module _ (spec : Parts) (made : IsSpec spec) where
     no_bound : bound_refusal spec ≡ None
     no_bound = none_below (bound_refusal_of spec) (length spec.confs) (λ i known.
         none_below _ (length spec.confs) (λ j there.
-        none_shown (lacks_bound spec (conf_id i) j) _ (either_false (is_bound_asked spec (conf_id i) j) _ (λ wanted.
+        none_shown (lacks_bound spec (conf_id i) j) _ (both_false (is_bound_asked spec (conf_id i) j) _ (λ wanted.
         let target = and_left (is_target spec (conf_id i) j) _ wanted in
         let asked = and_right (is_target spec (conf_id i) j) _ wanted in
         not_from_true (is_bounded spec (conf_id i) (conf_id j)) (bound_serves (conf_id i) (conf_id j)
@@ -247,7 +247,7 @@ module _ (spec : Parts) (made : IsSpec spec) where
     no_invariant = none_below (invariant_refusal_at spec) (length spec.invariants) (λ k inside.
         at_none (slice_get spec.invariants k) (invariant_refusal_of spec k) (λ inv there.
         none_below _ (length spec.confs) (λ i known.
-        none_shown (breaks_from spec inv (conf_id i)) _ (either_false (has_source inv.from (conf_id i)) _ (λ speaks.
+        none_shown (breaks_from spec inv (conf_id i)) _ (both_false (has_source inv.from (conf_id i)) _ (λ speaks.
         not_from_true (holds_from spec inv (conf_id i)) (each_held inv (conf_id i) (accepts.kept k inv there (conf_id i) known speaks)))))))
 
     no_precondition : precondition_refusal spec ≡ None
@@ -260,7 +260,7 @@ module _ (spec : Parts) (made : IsSpec spec) where
         none_below (demand_refusal_at spec c) (length spec.demands) (λ k inside.
         at_none (slice_get spec.demands k) (demand_refusal_of spec c k) (λ demand there.
         none_map _ (first_missed_env spec demand (conf_id c)) (sym (first_is_least spec made (misses spec demand (conf_id c)) None (λ v belongs scope.
-        either_false (asks_of demand (conf_id c) && speaks_of demand v) _ (λ both.
+        both_false (asks_of demand (conf_id c) && speaks_of demand v) _ (λ both.
         not_from_true (is_met spec demand (choose spec (conf_id c) v)) (accepts.demanded (conf_id c) v known belongs scope k demand there
         (and_left (asks_of demand (conf_id c)) _ both) (and_right (asks_of demand (conf_id c)) _ both)))))))))
 

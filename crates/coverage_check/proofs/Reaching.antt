@@ -16,7 +16,7 @@ use Rattle.scram_types.specs.Specification.{IsSpec, Parts}
 use Rattle.scram_types.specs.Searches.{first_below}
 use Rattle.scram_types.specs.Lookups.{conf_id}
 use Rattle.scram_types.proofs.BitSets.{bit_cases, bit_of, bits_are, bits_lt, has_bits}
-use Rattle.scram_types.proofs.Booleans.{and_false, and_left, and_right, and_true, by_bool, same_test, true_false}
+use Rattle.scram_types.proofs.Booleans.{and_false, and_left, and_right, and_true, by_bool, same_test, true_false, both_false}
 use Rattle.scram_types.proofs.Items.{some_item}
 use Rattle.scram_types.proofs.Searches.{any_below_found, any_below_is, below_none, first_found, none_below}
 use Rattle.scram_types.proofs.Options.{same_some}
@@ -38,10 +38,6 @@ use Rattle.coverage_check.specs.Showing.{shown_in}
 use Rattle.coverage_check.specs.Timing.{is_chosen_in, is_target, targets}
 use Rattle.coverage_check.specs.TargetSets.{AreTargets, HasCovers}
 use Rattle.coverage_check.proofs.Showing.{is_shown, none_shown, not_shown}
-
-pub either_false : (a b : Bool) → (a ≡ true → b ≡ false) → (a && b) ≡ false
-either_false true b f = f refl
-either_false false b f = refl
 
 module _ (spec : Parts) (made : IsSpec spec) where
   -- an environment is that of its number
@@ -109,13 +105,13 @@ module _ (spec : Parts) (made : IsSpec spec) where
   pub first_is_least : (test : Env → Bool) (o : Option Env) → IsLeastEnv spec test o → o ≡ first_passing_env spec test
   first_is_least test None none = sym (none_below (passing_env_at spec test) (environments spec) (λ n inside.
       none_shown (is_number_in_scope spec n && test (numbered spec n)) (numbered spec n)
-      (either_false (is_number_in_scope spec n) (test (numbered spec n)) (λ scope. none (numbered spec n) (belongs_numbered n inside) scope))))
+      (both_false (is_number_in_scope spec n) (test (numbered spec n)) (λ scope. none (numbered spec n) (belongs_numbered n inside) scope))))
   first_is_least test (Some v) least =
       let same = numbered_number v least.belongs in
       let inside = number_inside v least.belongs in
       let before : first_below (passing_env_at spec test) (number_of spec v) ≡ None = none_below (passing_env_at spec test) (number_of spec v) (λ n less.
       none_shown (is_number_in_scope spec n && test (numbered spec n)) (numbered spec n)
-      (either_false (is_number_in_scope spec n) (test (numbered spec n)) (λ scope. by_bool (test (numbered spec n))
+      (both_false (is_number_in_scope spec n) (test (numbered spec n)) (λ scope. by_bool (test (numbered spec n))
       (λ passes. absurd (let low : n < environments spec = omega arith in
       let first = least.least (numbered spec n) (belongs_numbered n low) scope passes in
       let here = number_of-numbered spec made.factors made.factors_count n low in omega arith))

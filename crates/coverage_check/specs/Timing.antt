@@ -70,7 +70,8 @@ lacks_bound spec i j = is_bound_asked spec i j && not (is_bounded spec i (conf_i
 -- The refusal for the first target of configuration i that lacks a bound that is long enough.
 abbrev pub bound_refusal_of : Parts → ℕ → Option Shown
 bound_refusal_of spec i =
-    first_below (λ j. shown_if (lacks_bound spec (conf_id i) j) (shown_at 9 i (other.Least (conf_id j) (least spec (conf_id i) (conf_id j))))) (length spec.confs)
+    first_below (λ j. shown_if (lacks_bound spec (conf_id i) j) (shown_at 9 i (other.Least (conf_id j) (least spec (conf_id i) (conf_id j)))))
+    (length spec.confs)
 
 -- A9: the refusal for the first configuration that lacks a bound.
 abbrev pub bound_refusal : Parts → Option Shown

@@ -7,7 +7,7 @@ use Rattle.scram_types.specs.declared.ids.ConfId.{ConfId}
 use Rattle.scram_types.specs.declared.specification.Choice.{Choice}
 use Rattle.scram_types.specs.Specification.{IsSpec, Parts}
 use Rattle.scram_types.proofs.BitSets.{count_same}
-use Rattle.scram_types.proofs.Booleans.{by_bool, and_left, and_right, and_true, same_test}
+use Rattle.scram_types.proofs.Booleans.{by_bool, and_left, and_right, and_true, same_test, both_false}
 use Rattle.scram_types.proofs.Naturals.{above_test, at_most, at_most_test, below_test, equal, equal_test}
 use Rattle.scram_types.proofs.Options.{same_some}
 use Rattle.scram_types.proofs.Searches.{first_found, none_below}
@@ -92,10 +92,6 @@ count_where_same spec made s t same = count_same (passes_at spec s) (passes_at s
 
 -- the least environment by number is the first
 
-either_false : (a b : Bool) → (a ≡ true → b ≡ false) → (a && b) ≡ false
-either_false true b f = f refl
-either_false false b f = refl
-
 told_if : {A : Type 0} (b : Bool) (x : A) → b ≡ true → (if b then Some x else None) ≡ Some x
 told_if b x e = rw e refl
 
@@ -118,13 +114,13 @@ module _ (spec : Parts) (made : IsSpec spec) (test : Env → Bool) where
   pub first_is_least : (o : Option Env) → IsLeastEnv spec test o → o ≡ first_where spec test
   first_is_least None none = sym (none_below found_at (environments spec) (λ n inside.
       none_if (passes_at spec test n) (numbered spec n)
-      (either_false (is_number_in_scope spec n) (test (numbered spec n)) (λ scope. none (numbered spec n) (belongs_numbered n inside) scope))))
+      (both_false (is_number_in_scope spec n) (test (numbered spec n)) (λ scope. none (numbered spec n) (belongs_numbered n inside) scope))))
   first_is_least (Some v) least =
       let same = numbered_number v least.belongs in
       let inside = number_below spec made.factors made.factors_count v least.belongs in
       let before : first_below found_at (number_of spec v) ≡ None = none_below found_at (number_of spec v) (λ n less.
       none_if (passes_at spec test n) (numbered spec n)
-      (either_false (is_number_in_scope spec n) (test (numbered spec n)) (λ scope. by_bool (test (numbered spec n))
+      (both_false (is_number_in_scope spec n) (test (numbered spec n)) (λ scope. by_bool (test (numbered spec n))
       (λ passes. absurd (let low : n < environments spec = omega arith in
       let first = least.least (numbered spec n) (belongs_numbered n low) scope passes in
       let here = number_of-numbered spec made.factors made.factors_count n low in omega arith))

@@ -60,35 +60,45 @@ pub(crate) fn make_slots(
 ) -> [Area; 8]
     ensures slots { let s = setting.now in result ≡ eight (slot_made spec.now s.tasks s.seen s.areas image.now proc.0) }
 {
+    let draft = Draft {
+        spec,
+        proc,
+        setting,
+        image,
+    };
     [
-        make_slot(spec, proc, rack, setting, image, 0),
-        make_slot(spec, proc, rack, setting, image, 1),
-        make_slot(spec, proc, rack, setting, image, 2),
-        make_slot(spec, proc, rack, setting, image, 3),
-        make_slot(spec, proc, rack, setting, image, 4),
-        make_slot(spec, proc, rack, setting, image, 5),
-        make_slot(spec, proc, rack, setting, image, 6),
-        make_slot(spec, proc, rack, setting, image, 7),
+        make_slot(&draft, rack, 0),
+        make_slot(&draft, rack, 1),
+        make_slot(&draft, rack, 2),
+        make_slot(&draft, rack, 3),
+        make_slot(&draft, rack, 4),
+        make_slot(&draft, rack, 5),
+        make_slot(&draft, rack, 6),
+        make_slot(&draft, rack, 7),
     ]
 }
 
-fn make_slot(
-    spec: &Spec,
+// What a processor makes its slots from: what it has to do and what it saw, and its image of the frame before.
+#[derive(Clone, Copy)]
+struct Draft<'a> {
+    spec: &'a Spec,
     proc: ProcId,
-    rack: &mut Rack,
-    setting: &Setting,
-    image: &Image,
-    a: u8,
-) -> Area
+    setting: &'a Setting,
+    image: &'a Image,
+}
+
+fn make_slot(draft: &Draft<'_>, rack: &mut Rack, a: u8) -> Area
     requires a { a < 8 }
-    ensures slot { let s = setting.now in result ≡ slot_made spec.now s.tasks s.seen s.areas image.now proc.0 a }
+    ensures slot { let s = draft.now.setting.now in
+        result ≡ slot_made draft.now.spec.now s.tasks s.seen s.areas draft.now.image.now draft.now.proc.0 a }
 {
+    let setting = draft.setting;
     let task = setting.tasks[usize::from(a)];
-    if is_proc(proc, task.proc) {
+    if is_proc(draft.proc, task.proc) {
         let seen = seen_in(&setting.seen, task.mode, &setting.areas[usize::from(a)]);
-        rack_frame(rack, spec.kind_of_app(AppId(a)), task.order, &seen)
+        rack_frame(rack, draft.spec.kind_of_app(AppId(a)), task.order, &seen)
     } else {
-        slot_in(image, a)
+        slot_in(draft.image, a)
     }
 }
 

@@ -21,9 +21,6 @@ place_of [] x (suc i) y e = absurd cc
 place_of (z ∷ xs) x zero y e = before e (omega arith)
 place_of (z ∷ xs) x (suc i) y e = deeper x z xs i y (place_of xs x i y e)
 
-pub each_end : {A : Type 0} (Fact : A → Type 0) (xs : List A) (x : A) → Each Fact xs → Fact x → Each Fact (xs ++ x ∷ [])
-each_end Fact xs x each fact i y e = elim (place_of xs x i y e) [ before there _ ↦ each i y there | end _ same ↦ subst Fact (sym same) fact ]
-
 later_end : {A : Type 0} (R : A → A → Type 0) (xs : List A) (x : A) → EachLater R xs → ((i : ℕ) (y : A) → slice_get xs i ≡ Some y → R y x)
     → (i j : ℕ) (y z : A) → i < j → Place xs x i y → Place xs x j z → R y z
 later_end R xs x each last i j y z less (before p _) (before q _) = each i j y z less p q

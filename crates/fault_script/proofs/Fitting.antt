@@ -41,8 +41,9 @@ use Rattle.fault_script.specs.Reading.{ScriptMembers, change_values, find_member
 use Rattle.fault_script.specs.Times.{is_halt_of, is_restart_of, words}
 use Rattle.fault_script.specs.Versions.{halts_limit, version_of}
 use Rattle.fault_script.proofs.Alternation.{Alternate, alternate_none, halts_alternate}
-use Rattle.fault_script.proofs.Ends.{each_end, each_later_end, each_later_none, each_next_end, each_next_none, each_none}
+use Rattle.fault_script.proofs.Ends.{each_later_end, each_later_none, each_next_end, each_next_none, each_none}
 use Rattle.fault_script.proofs.Taken.{chain_ok, if_ok, kept_ok, list_at_ok, none_passes, or_broken_ok, number_from_within, some_passes, whole_at_ok}
+use Rattle.scram_types.proofs.Items.{each_end}
 
 id_within : (n : ℕ) (o : Option ℕ) (p : ProcId) → ((k : ℕ) → o ≡ Some k → k < 0 + n) → option_map proc_id o ≡ Some p → p.0 < n
 id_within n (Some k) p within e = let same : k ≡ p.0 = ap (λ (q : ProcId). q.0) (same_Some (proc_id k) p e) in let less = within k refl in omega (arith, less, same)

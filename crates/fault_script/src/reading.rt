@@ -189,22 +189,15 @@ impl Elements<HaltAt> for Halts<'_> {
 
 fn read_halts(
     alloc: Global,
-    spec: &Spec,
-    version: Version,
-    frames: u32,
+    halts: &Halts<'_>,
     v: &Value,
     at: &Path,
 ) -> Result<List<HaltAt>, ScriptError>
     requires { length at.now ≤ 30 }
-    ensures halts { Answers (read_halts spec.now version frames at.now (view v.now)) (λ halts. halts) result }
+    ensures halts { Answers (read_halts halts.now.spec.now halts.now.version halts.now.frames at.now (view v.now)) (λ halts. halts) result }
     ensures few { IfOk result (λ halts. length halts ≤ 16) }
 {
-    let halts = Halts {
-        spec,
-        version,
-        frames,
-    };
-    let halts = read_list(alloc, &halts, v, 0, version.halts_limit(), at)?;
+    let halts = read_list(alloc, halts, v, 0, halts.version.halts_limit(), at)?;
     Ok(List::of(halts))
 }
 
@@ -258,23 +251,17 @@ impl Elements<RestartAt> for Restarts<'_> {
 // Returns the restarts of a document that has a list of them.
 fn read_restarts(
     alloc: Global,
-    spec: &Spec,
-    frames: u32,
-    halts: &[HaltAt],
+    restarts: &Restarts<'_>,
     v: Option<&Value>,
     at: &Path,
 ) -> Result<List<RestartAt>, ScriptError>
     requires { length at.now ≤ 30 }
-    ensures { Answers (read_restarts spec.now frames halts.now at.now (option_map (λ d. view d.now) v.entry)) (λ restarts. restarts) result }
+    ensures { Answers (read_restarts restarts.now.spec.now restarts.now.frames restarts.now.halts.now at.now (option_map (λ d. view d.now) v.entry))
+        (λ restarts. restarts) result }
 {
     match v {
         Some(v) => {
-            let restarts = Restarts {
-                spec,
-                frames,
-                halts,
-            };
-            let restarts = read_list(alloc, &restarts, v, 0, 8, at)?;
+            let restarts = read_list(alloc, restarts, v, 0, 8, at)?;
             Ok(List::of(restarts))
         }
         None => Ok(List::of(Vec::new(alloc))),
@@ -363,15 +350,18 @@ fn read_values(
     let at = Path::root();
     let frames = read_frames(m.scram, m.frames)?;
     let changes = read_changes(alloc, spec, frames, m.changes, &at.member("changes"))?;
-    let halts = read_halts(alloc, spec, version, frames, m.halts, &at.member("halts"))?;
-    let restarts = read_restarts(
-        alloc,
+    let listed = Halts {
+        spec,
+        version,
+        frames,
+    };
+    let halts = read_halts(alloc, &listed, m.halts, &at.member("halts"))?;
+    let listed = Restarts {
         spec,
         frames,
-        halts.items(),
-        m.restarts,
-        &at.member("restarts"),
-    )?;
+        halts: halts.items(),
+    };
+    let restarts = read_restarts(alloc, &listed, m.restarts, &at.member("restarts"))?;
     keep_halts(restarts.items(), halts.items(), &at.member("halts"))?;
     Ok(Script {
         frames,

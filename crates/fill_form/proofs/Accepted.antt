@@ -12,13 +12,12 @@ use Rattle.scram_types.specs.declared.specification.Precondition.{Precondition}
 use Rattle.scram_types.specs.Specification.{Parts, bound_in}
 use Rattle.scram_types.specs.Searches.{all_below}
 use Rattle.scram_types.specs.Lookups.{conf_id, place_of}
-use Rattle.scram_types.proofs.Booleans.{and_left, and_right, by_bool, or_left, or_right}
+use Rattle.scram_types.proofs.Booleans.{and_left, and_right, by_bool, or_left, or_right, both_false}
 use Rattle.scram_types.proofs.Equality.{same_conf}
 use Rattle.scram_types.proofs.Naturals.{at_most_test, equal, not_below_test}
 use Rattle.scram_types.proofs.Options.{none_both, none_left, none_right}
 use Rattle.scram_types.proofs.Searches.{below_none, none_below}
 use Rattle.coverage_check.proofs.Accepting.{accepts_where_unrefused}
-use Rattle.coverage_check.proofs.Reaching.{either_false}
 use Rattle.coverage_check.proofs.Showing.{none_shown, not_shown}
 use Rattle.coverage_check.specs.Acceptance.{choice_refusal, form_refusal, range_refusal}
 use Rattle.coverage_check.specs.Demands.{demand_refusal}
@@ -82,7 +81,7 @@ module _ (spec : Parts) where
   bounds_serve : bound_refusal (filled spec) ≡ None
   bounds_serve = none_below _ (length spec.confs) (λ i left. none_below _ (length spec.confs) (λ j right.
       none_shown (lacks_bound (filled spec) (conf_id i) j) _
-      (either_false (is_bound_asked spec (conf_id i) j) (not (is_bounded (filled spec) (conf_id i) (conf_id j)))
+      (both_false (is_bound_asked spec (conf_id i) j) (not (is_bounded (filled spec) (conf_id i) (conf_id j)))
       (λ asked. ap not (first_for (filled_bounds spec) (conf_id i) (conf_id j) asked filled_serves (filled_gives i j left right asked))))))
 
   -- A10

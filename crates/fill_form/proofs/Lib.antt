@@ -4,4 +4,3 @@ pub mod Assuring
 pub mod Filled
 pub mod Fillings
 pub mod Missing
-pub mod Says

@@ -2,4 +2,3 @@ pub mod Answers
 pub mod Filling
 pub mod Laws
 pub mod Refusing
-pub mod Writable

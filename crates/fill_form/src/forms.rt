@@ -14,12 +14,12 @@ ghost use Rattle.fill_form.specs.Answers.{FillAnswers, TellsText, fill_answer};
 ghost use Rattle.fill_form.specs.Filling.{with_times};
 ghost use Rattle.fill_form.specs.Refusing.{IsFilling, fill_refusal};
 
-use crate::documents::WritableSpecification;
 use crate::filling::{Filling, find_filling};
 use coverage_check::{Shown, refuse_states};
 use form_base::lines::make_shown_line;
 use form_base::loads::load;
 use form_base::refusals::{Refusal, Refused};
+use form_base::specifications::Specification;
 use form_base::status::{ANSWERED, Status};
 use form_base::telling::{tell, tell_refusal};
 use reconf_spec::write_spec;
@@ -52,7 +52,7 @@ fn read_filled<F: Files>(
 ) -> Result<Vec<u8>, Refusal>
     ensures { Prepares (FillAnswers specification.now) TellsText (specification.now ∷ []) (F.state files.old) (F.state files.new) result }
 {
-    match load(alloc, &WritableSpecification, specification, files) {
+    match load(alloc, &Specification, specification, files) {
         Ok(spec) => fill_in(alloc, spec),
         Err(refusal) => Err(refusal),
     }

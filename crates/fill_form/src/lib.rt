@@ -2,7 +2,6 @@
 //! of the file that its words name.
 #![tactic(auto)]
 
-mod documents;
 mod filling;
 mod forms;
 pub mod laws;

@@ -9,8 +9,8 @@ use Rattle.flight_facts.specs.declared.acts.ActWord.{ActWord}
 use Rattle.flight_facts.specs.declared.acts.ActWord.TheVariants.{Ran, Halting, Preparing, Initialising, Held, Off, Lost}
 
 -- what application a did in a row
-abbrev pub act_at : Row → ℕ → Act
-act_at row a = slice_index_or row.acts a act.Off
+abbrev pub act_of : Row → ℕ → Act
+act_of row a = slice_index_or row.acts a act.Off
 
 -- the first word of an act
 abbrev pub act_word : Act → ActWord
@@ -64,4 +64,4 @@ proc_of_act act.Lost = None
 
 -- in how many rows application a did this
 abbrev pub count_acts : ActWord → ℕ → List Row → ℕ
-count_acts what a rows = count_by (λ (row : Row). word_number (act_word (act_at row a)) == word_number what) rows
+count_acts what a rows = count_by (λ (row : Row). word_number (act_word (act_of row a)) == word_number what) rows

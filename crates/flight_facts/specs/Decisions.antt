@@ -1,7 +1,7 @@
 -- How a reconfiguration came about: the row in which it is decided, and its cause.
-use Rattle.std.specs.Prelude.{ℕ, zero, suc, ◌+◌, ◌==◌, ◌&&◌, Bool, true, false, List, slice_get, codes, Option, Some, None, is_some, option_map, option_and_then, if◌then◌else◌}
+use Rattle.std.specs.Prelude.{ℕ, ◌+◌, ◌==◌, ◌&&◌, Bool, true, false, List, slice_get, codes, Option, Some, None, is_some, option_and_then, if◌then◌else◌}
 use Rattle.std.specs.Option.{option_map_or}
-use Rattle.scram_types.specs.Lookups.{opening_env}
+use Rattle.scram_types.specs.Lookups.{env_before, env_in}
 use Rattle.scram_types.specs.Specification.{Parts}
 use Rattle.scram_types.specs.declared.flights.Env.{Env}
 use Rattle.scram_types.specs.declared.flights.Report.{Report}
@@ -11,23 +11,14 @@ use Rattle.scram_types.specs.declared.orders.KMode.TheVariants.{Stable, Moving}
 use Rattle.flight_facts.specs.Differences.{difference_text, have_changed}
 
 -- whether a reconfiguration is under way
-abbrev pub is_moving : KMode → Bool
-is_moving (Stable c) = false
-is_moving (Moving from halting to since) = true
+abbrev pub is_under_way : KMode → Bool
+is_under_way (Stable c) = false
+is_under_way (Moving from halting to since) = true
 
 -- The row in which a reconfiguration is decided that begins in a row: that one where it moves. Where it does not,
 -- something was lost in it, and the decision comes in the next row.
 abbrev pub decided_in : List Row → ℕ → ℕ
-decided_in rows begin = if option_map_or (λ (row : Row). is_moving row.mode) (slice_get rows begin) false then begin else begin + 1
-
--- the environment of row k, where there is such a row
-abbrev pub env_at : List Row → ℕ → Option Env
-env_at rows k = option_map (λ (row : Row). row.env) (slice_get rows k)
-
--- the environment of the row before row k; before the first row that in which a flight opens
-abbrev pub env_before : Parts → List Row → ℕ → Option Env
-env_before spec rows zero = Some (opening_env spec)
-env_before spec rows (suc k) = env_at rows k
+decided_in rows begin = if option_map_or (λ (row : Row). is_under_way row.mode) (slice_get rows begin) false then begin else begin + 1
 
 -- whether anything differs between two environments that are there
 abbrev pub differ : Parts → Option Env → Option Env → Bool
@@ -52,6 +43,6 @@ put_off_in rows (Some earlier) begin =
 -- was decided.
 abbrev pub cause_text : Parts → List Row → Option Report → ℕ → List ℕ
 cause_text spec rows earlier begin =
-    if differ spec (env_before spec rows (decided_in rows begin)) (env_at rows (decided_in rows begin))
-    then difference_or_dash spec (env_before spec rows (decided_in rows begin)) (env_at rows (decided_in rows begin))
-    else difference_or_dash spec (option_and_then (env_at rows) (put_off_in rows earlier begin)) (env_at rows (decided_in rows begin))
+    if differ spec (env_before spec rows (decided_in rows begin)) (env_in rows (decided_in rows begin))
+    then difference_or_dash spec (env_before spec rows (decided_in rows begin)) (env_in rows (decided_in rows begin))
+    else difference_or_dash spec (option_and_then (env_in rows) (put_off_in rows earlier begin)) (env_in rows (decided_in rows begin))

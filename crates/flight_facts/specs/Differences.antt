@@ -30,12 +30,12 @@ procs_changed (proc ∷ procs) before after =
     else proc_change proc after ∷ procs_changed procs (before / 2) (after / 2)
 
 -- what differs between two environments, in order: factors, then processors
-abbrev pub changes_of : Parts → Env → Env → List (List ℕ)
-changes_of spec before after = values_changed spec.factors 0 before.factors after.factors ++ procs_changed spec.procs before.up after.up
+abbrev pub differences : Parts → Env → Env → List (List ℕ)
+differences spec before after = values_changed spec.factors 0 before.factors after.factors ++ procs_changed spec.procs before.up after.up
 
 -- the difference between two environments, `-` where there is none
 abbrev pub difference_text : Parts → Env → Env → List ℕ
-difference_text spec before after = joined (changes_of spec before after)
+difference_text spec before after = joined (differences spec before after)
 
 -- whether there is anything in a list
 abbrev pub is_any : List (List ℕ) → Bool
@@ -44,7 +44,7 @@ is_any (text ∷ texts) = true
 
 -- whether anything differs between two environments
 abbrev pub have_changed : Parts → Env → Env → Bool
-have_changed spec before after = is_any (changes_of spec before after)
+have_changed spec before after = is_any (differences spec before after)
 
 -- texts joined by commas, no byte where there is none
 abbrev pub listed : List (List ℕ) → List ℕ

@@ -1,7 +1,7 @@
 -- Gaps: rows on end in which an application neither ran nor was off.
 use Rattle.std.specs.Prelude.{ℕ, zero, suc, ◌+◌, Bool, true, false, List, [], ◌∷◌, ◌++◌, codes, decimal, nat_lt, Option, Some, None, if◌then◌else◌}
 use Rattle.scram_types.specs.declared.flights.Row.{Row}
-use Rattle.flight_facts.specs.Acts.{act_at, act_word}
+use Rattle.flight_facts.specs.Acts.{act_of, act_word}
 use Rattle.flight_facts.specs.declared.acts.ActWord.{ActWord}
 use Rattle.flight_facts.specs.declared.acts.ActWord.TheVariants.{Ran, Halting, Preparing, Initialising, Held, Off, Lost}
 use Rattle.flight_facts.specs.declared.gaps.Gap.{Gap}
@@ -19,7 +19,7 @@ is_missing Lost = true
 -- in how many rows on end, from the first on, application a is missing
 abbrev pub missing_rows : ℕ → List Row → ℕ
 missing_rows a [] = 0
-missing_rows a (row ∷ rows) = if is_missing (act_word (act_at row a)) then missing_rows a rows + 1 else 0
+missing_rows a (row ∷ rows) = if is_missing (act_word (act_of row a)) then missing_rows a rows + 1 else 0
 
 -- a gap of this number of rows, the first of which is row k
 abbrev pub gap_of : ℕ → ℕ → Option Gap

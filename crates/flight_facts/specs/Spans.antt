@@ -7,7 +7,7 @@ use Rattle.scram_types.specs.declared.ids.ProcId.{ProcId}
 use Rattle.scram_types.specs.declared.orders.Act.{Act}
 use Rattle.scram_types.specs.declared.orders.KMode.{KMode}
 use Rattle.scram_types.specs.declared.orders.KMode.TheVariants.{Stable, Moving}
-use Rattle.flight_facts.specs.Acts.{act_at, act_word, word_number, mode_of_act, proc_of_act}
+use Rattle.flight_facts.specs.Acts.{act_of, act_word, word_number, mode_of_act, proc_of_act}
 use Rattle.flight_facts.specs.declared.spans.Lane.{Lane}
 use Rattle.flight_facts.specs.declared.spans.Lane.TheVariants as lane
 
@@ -53,7 +53,7 @@ abbrev pub are_alike : Lane → Row → Row → Bool
 are_alike lane.Configuration row other = same_conf (stable_conf row.mode) (stable_conf other.mode)
 are_alike (lane.Factor i) row other = slice_index row.env.factors i == slice_index other.env.factors i
 are_alike (lane.Processor p) row other = same_bit p row.env.up other.env.up
-are_alike (lane.Application a) row other = same_doing (act_at row a) (act_at other a)
+are_alike (lane.Application a) row other = same_doing (act_of row a) (act_of other a)
 
 -- of these rows, how many on end from the first on are shown as a row
 abbrev pub alike_rows : Lane → Row → List Row → ℕ

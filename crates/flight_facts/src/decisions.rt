@@ -2,9 +2,11 @@
 
 ghost use Rattle.std.specs.Prelude.{◌≡◌, ◌≤◌, ◌+◌, ◌++◌, length, option_and_then};
 ghost use Rattle.scram_types.specs.declared.limits.TheConstants.{MAX_LINE_BYTES};
-ghost use Rattle.flight_facts.specs.Decisions.{cause_text, decided_in, differ, difference_or_dash, env_at, env_before, is_moving, put_off_in};
+ghost use Rattle.flight_facts.specs.Decisions.{cause_text, decided_in, differ, difference_or_dash, is_under_way, put_off_in};
+ghost use Rattle.scram_types.specs.Lookups.{env_in, env_before};
 
 use crate::differences::{add_difference, have_changed};
+use scram_types::lookups::{env_before, env_in};
 use scram_types::{Env, KMode, Report, Row, Spec};
 use trace_text::lines::Line;
 
@@ -15,22 +17,12 @@ pub fn decided_in(rows: &[Row], begin: u32) -> usize
 {
     let begin = begin as usize;
     match rows.get(begin) {
-        Some(row) => if is_moving(&row.mode) {
+        Some(row) => if is_under_way(&row.mode) {
             begin
         } else {
             begin + 1
         },
         None => begin + 1,
-    }
-}
-
-/// Returns the environment of a row, or `None` where there is no such row.
-pub fn env_at(rows: &[Row], k: usize) -> Option<Env>
-    ensures { result ≡ env_at rows.now k }
-{
-    match rows.get(k) {
-        Some(row) => Some(row.env),
-        None => None,
     }
 }
 
@@ -68,7 +60,7 @@ pub fn add_cause(line: &mut Line, spec: &Spec, rows: &[Row], earlier: Option<Rep
     ensures short { length line.new ≤ length line.old + 348 }
 {
     let decided = decided_in(rows, begin);
-    let after = env_at(rows, decided);
+    let after = env_in(rows, decided);
     let before = env_before(spec, rows, decided);
     if differ(spec, before, after) {
         add_difference_or_dash(line, spec, before, after);
@@ -77,8 +69,8 @@ pub fn add_cause(line: &mut Line, spec: &Spec, rows: &[Row], earlier: Option<Rep
     }
 }
 
-fn is_moving(mode: &KMode) -> bool
-    ensures { result ≡ is_moving mode.now }
+fn is_under_way(mode: &KMode) -> bool
+    ensures { result ≡ is_under_way mode.now }
 {
     match mode {
         KMode::Stable(_) => false,
@@ -91,24 +83,13 @@ fn is_moving(mode: &KMode) -> bool
     }
 }
 
-/// Returns the environment of the row before row `k`; before the first one that in which a flight opens.
-pub fn env_before(spec: &Spec, rows: &[Row], k: usize) -> Option<Env>
-    ensures { result ≡ env_before spec.now rows.now k }
-{
-    if k == 0 {
-        Some(spec.opening_env())
-    } else {
-        env_at(rows, k - 1)
-    }
-}
-
 // Returns the environment in which the reconfiguration before was decided, where it is finished in the row before `begin`.
 fn put_off_env(rows: &[Row], earlier: Option<Report>, begin: u32) -> Option<Env>
-    ensures { result ≡ option_and_then (env_at rows.now) (put_off_in rows.now earlier begin) }
+    ensures { result ≡ option_and_then (env_in rows.now) (put_off_in rows.now earlier begin) }
 {
     let earlier = earlier?;
     if earlier.to.is_some() && u64::from(earlier.end) + 1 == u64::from(begin) {
-        env_at(rows, decided_in(rows, earlier.begin))
+        env_in(rows, decided_in(rows, earlier.begin))
     } else {
         None
     }

@@ -9,14 +9,16 @@ use Rattle.spec_apps.specs.declared.fault.SpecFault.{SpecFault}
 use Rattle.spec_members.specs.declared.rule.TheConstants as rule
 use Rattle.spec_apps.specs.Answers.{CycleAmong, NamedAmong}
 use Rattle.reconf_spec.specs.Documents.{spec_of, unranked_of}
+use Rattle.reconf_spec.specs.Writable.{IsWritable}
 use Rattle.form_base.specs.declared.status.TheConstants.{BROKEN_SPECIFICATION}
 use Rattle.form_base.specs.Answers.{Answer, AnswersDocument, AnswersFile}
 use Rattle.form_base.specs.Lines.{specification_line}
 
--- The bytes are this specification, which keeps the invariant of specifications.
+-- The bytes are this specification, which keeps the invariant of specifications and names nothing twice in a list.
 pub record SaysSpecification (spec : Parts) (bytes : List ℕ) : Type 0 where
   pub is : spec_of bytes ≡ Ok spec
   pub sound : IsSpec spec
+  pub writable : IsWritable spec
 
 -- A fault of a specification that shows these names of a cycle of needs.
 abbrev pub showing : List (List ℕ) → DocFault → SpecFault

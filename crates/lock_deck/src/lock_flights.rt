@@ -231,10 +231,22 @@ fn fly_shared<'a, J: FlightOf + Send + Sync, R: Threads + Wait + Sync>(
             requires fits { All (λ member. MemberFits mission.now member.value) roster.members.items }
             requires back { (roster.back.items ≡ []) × (vec_len roster.members ≤ vec_capacity roster.back) }
         {
-            let back = start_all(scope, rt, mission, shared, moved, by_caller, roster);
+            let flight = SharedFlight {
+                mission,
+                core: shared,
+                moved,
+            };
+            let back = start_all(scope, rt, flight, by_caller, roster);
             fly_kernel(rt, mission, shared, moved, back);
         },
     );
+}
+
+// What the actors of a flight share: the mission, the core behind its lock, and the signal that an actor has moved.
+struct SharedFlight<'s, 'a, J: FlightOf> {
+    mission: &'s Mission,
+    core: &'s Mutex<SharedCore<'a, J>>,
+    moved: &'s Condvar,
 }
 
 // Starts the threads that are asked for. The processors that the caller flies come back, and those whose threads cannot be
@@ -242,17 +254,20 @@ fn fly_shared<'a, J: FlightOf + Send + Sync, R: Threads + Wait + Sync>(
 fn start_all<'s, 'a, E, J: FlightOf + Send + Sync, R: Threads + Wait + Sync>(
     scope: &Scope<'s, E>,
     rt: &'s R,
-    mission: &'s Mission,
-    shared: &'s Mutex<SharedCore<'a, J>>,
-    moved: &'s Condvar,
+    flight: SharedFlight<'s, 'a, J>,
     by_caller: &'s [AtomicBool; 8],
     roster: Roster,
 ) -> Vec<Member>
-    requires own { J.mission ≡ Some mission.now }
-    requires fits { All (λ member. MemberFits mission.now member.value) roster.members.items }
+    requires own { J.mission ≡ Some flight.mission.now }
+    requires fits { All (λ member. MemberFits flight.mission.now member.value) roster.members.items }
     requires back { (roster.back.items ≡ []) × (vec_len roster.members ≤ vec_capacity roster.back) }
-    ensures { All (MemberFits mission.now) result.items }
+    ensures { All (MemberFits flight.entry.mission.now) result.items }
 {
+    let SharedFlight {
+        mission,
+        core: shared,
+        moved,
+    } = flight;
     let mut members = roster.members;
     let mut back = roster.back;
     while let Some(member) = take_member(&mut members) {

@@ -9,3 +9,5 @@ mod ReportsTell
 mod CurvesTell
 mod PicturesTell
 mod FlightsDrawn
+mod LinesDrawn
+mod TracesDrawn

@@ -25,7 +25,7 @@ use Rattle.trace_text.specs.Flights.{IsActShown}
 use Rattle.trace_text.specs.Lookups.{listed_mode}
 use Rattle.trace_text.proofs.NamesBack.{listed_back, mode_spelled, mode_valid, proc_back}
 use Rattle.trace_text.proofs.WordBytes.{all_over, all_over_less, decimal_over, name_over, over}
-use Rattle.flight_facts.specs.Acts.{act_at, act_word, word_number, word_text}
+use Rattle.flight_facts.specs.Acts.{act_of, act_word, word_number, word_text}
 use Rattle.flight_facts.specs.Spans.{are_alike, same_bit, same_doing}
 use Rattle.flight_facts.specs.declared.acts.ActWord.{ActWord}
 use Rattle.flight_facts.specs.declared.acts.ActWord.TheVariants as word
@@ -91,7 +91,7 @@ pub class_over : (spec : Parts) (lane : Lane) (row : Row) → IsRowDrawn spec ro
 class_over spec Configuration row known = refl
 class_over spec (InFactor i) row known = let v = known.values i in decimal_over (slice_index row.env.factors i) (omega (arith, v))
 class_over spec (InProcessor p) row known = refl
-class_over spec (InApplication a) row known = word_over (act_word (act_at row a))
+class_over spec (InApplication a) row known = word_over (act_word (act_of row a))
 
 -- what an application did
 
@@ -135,15 +135,15 @@ words_plain spec Configuration row sound inside known = refl
 words_plain spec (InFactor i) row sound inside known = plain (value_in spec i row) (value_over spec i row sound)
 words_plain spec (InProcessor p) row sound inside known = refl
 words_plain spec (InApplication a) row sound inside known = some_item spec.apps a inside (λ app there.
-    both_over 32 (word_text (act_word (act_at row a))) (mode_and_proc spec (kind_of_app spec a) (act_at row a)) (plain (word_text (act_word (act_at row a))) (word_over (act_word (act_at row a))))
-    (ap (λ (kind : ℕ). all_over 32 (mode_and_proc spec kind (act_at row a))) (kind_is spec a app there) ∙ doing_plain spec a app (act_at row a) sound there (known.acts a app there)))
+    both_over 32 (word_text (act_word (act_of row a))) (mode_and_proc spec (kind_of_app spec a) (act_of row a)) (plain (word_text (act_word (act_of row a))) (word_over (act_word (act_of row a))))
+    (ap (λ (kind : ℕ). all_over 32 (mode_and_proc spec kind (act_of row a))) (kind_is spec a app there) ∙ doing_plain spec a app (act_of row a) sound there (known.acts a app there)))
 
 pub label_words_plain : (spec : Parts) (lane : Lane) (row : Row) → IsSpec spec → IsShownIn spec lane → IsRowDrawn spec row → all_over 32 (label_of spec lane row) ≡ true
 label_words_plain spec Configuration row sound inside known = refl
 label_words_plain spec (InFactor i) row sound inside known = plain (value_in spec i row) (value_over spec i row sound)
 label_words_plain spec (InProcessor p) row sound inside known = refl
 label_words_plain spec (InApplication a) row sound inside known = some_item spec.apps a inside (λ app there.
-    ap (λ (kind : ℕ). all_over 32 (act_label spec kind (act_at row a))) (kind_is spec a app there) ∙ act_label_plain spec a app (act_at row a) sound there (known.acts a app there))
+    ap (λ (kind : ℕ). all_over 32 (act_label spec kind (act_of row a))) (kind_is spec a app there) ∙ act_label_plain spec a app (act_of row a) sound there (known.acts a app there))
 
 -- words of acts differ
 
@@ -237,13 +237,13 @@ shown_same (InApplication a) spec row other k n j m r s sound inside known drawn
     let kind = kind_is spec a app there in
     let here : List ℕ = 32 ∷ (frames_tail k n ++ 60 ∷ r) in
     let beside : List ℕ = 32 ∷ (frames_tail j m ++ 60 ∷ s) in
-    let word_here = word_text (act_word (act_at row a)) in
-    let word_beside = word_text (act_word (act_at other a)) in
-    let given : word_here ++ (mode_and_proc spec (kind_of_app spec a) (act_at row a) ++ here) ≡ word_beside ++ (mode_and_proc spec (kind_of_app spec a) (act_at other a) ++ beside)
-    = sym (append_assoc word_here (mode_and_proc spec (kind_of_app spec a) (act_at row a)) here) ∙ h ∙ append_assoc word_beside (mode_and_proc spec (kind_of_app spec a) (act_at other a)) beside in
-    let rest : mode_and_proc spec (kind_of_app spec a) (act_at row a) ++ here ≡ mode_and_proc spec (kind_of_app spec a) (act_at other a) ++ beside
-    = append_cancel_left word_beside _ _ (ap (λ (text : List ℕ). text ++ (mode_and_proc spec (kind_of_app spec a) (act_at row a) ++ here)) (sym e) ∙ given) in
-    let last : mode_and_proc spec app.kind.0 (act_at row a) ++ here ≡ mode_and_proc spec app.kind.0 (act_at other a) ++ beside
-    = ap (λ (number : ℕ). mode_and_proc spec number (act_at row a) ++ here) (sym kind) ∙ rest ∙ ap (λ (number : ℕ). mode_and_proc spec number (act_at other a) ++ beside) kind in
-    doing_same (act_at row a) (act_at other a) spec a app k n j m r s sound there (known.acts a app there) (drawn.acts a app there) few fits
-    (words_differ (act_word (act_at row a)) (act_word (act_at other a)) e) last)
+    let word_here = word_text (act_word (act_of row a)) in
+    let word_beside = word_text (act_word (act_of other a)) in
+    let given : word_here ++ (mode_and_proc spec (kind_of_app spec a) (act_of row a) ++ here) ≡ word_beside ++ (mode_and_proc spec (kind_of_app spec a) (act_of other a) ++ beside)
+    = sym (append_assoc word_here (mode_and_proc spec (kind_of_app spec a) (act_of row a)) here) ∙ h ∙ append_assoc word_beside (mode_and_proc spec (kind_of_app spec a) (act_of other a)) beside in
+    let rest : mode_and_proc spec (kind_of_app spec a) (act_of row a) ++ here ≡ mode_and_proc spec (kind_of_app spec a) (act_of other a) ++ beside
+    = append_cancel_left word_beside _ _ (ap (λ (text : List ℕ). text ++ (mode_and_proc spec (kind_of_app spec a) (act_of row a) ++ here)) (sym e) ∙ given) in
+    let last : mode_and_proc spec app.kind.0 (act_of row a) ++ here ≡ mode_and_proc spec app.kind.0 (act_of other a) ++ beside
+    = ap (λ (number : ℕ). mode_and_proc spec number (act_of row a) ++ here) (sym kind) ∙ rest ∙ ap (λ (number : ℕ). mode_and_proc spec number (act_of other a) ++ beside) kind in
+    doing_same (act_of row a) (act_of other a) spec a app k n j m r s sound there (known.acts a app there) (drawn.acts a app there) few fits
+    (words_differ (act_word (act_of row a)) (act_word (act_of other a)) e) last)

@@ -8,7 +8,7 @@ use Rattle.scram_types.specs.declared.flights.Row.{Row}
 use Rattle.scram_types.specs.declared.ids.ProcId.{ProcId}
 use Rattle.scram_types.specs.declared.orders.Act.{Act}
 use Rattle.scram_types.proofs.Booleans.{and_left, and_right}
-use Rattle.flight_facts.specs.Acts.{act_at, act_word, mode_of_act, proc_of_act, word_number}
+use Rattle.flight_facts.specs.Acts.{act_of, act_word, mode_of_act, proc_of_act, word_number}
 use Rattle.flight_facts.specs.Spans.{alike_rows, are_alike, same_bit, same_doing, same_proc}
 use Rattle.flight_facts.specs.declared.spans.Lane.{Lane}
 use Rattle.flight_facts.specs.declared.spans.Lane.TheVariants.{Configuration, Factor as InFactor, Processor as InProcessor, Application as InApplication}
@@ -127,7 +127,7 @@ alike_swaps spec (InFactor i) row other third inside e =
     ap (λ (v : ℕ). v == slice_index third.env.factors i) (eqb-true (slice_index row.env.factors i) (slice_index other.env.factors i) e)
 alike_swaps spec (InProcessor p) row other third inside e =
     ap (λ (b : Bool). if b then has_bit third.env.up p else (if has_bit third.env.up p then false else true)) (bit_is p row.env.up other.env.up e)
-alike_swaps spec (InApplication a) row other third inside e = doing_swaps (act_at row a) (act_at other a) (act_at third a) e
+alike_swaps spec (InApplication a) row other third inside e = doing_swaps (act_of row a) (act_of other a) (act_of third a) e
 
 pub seen_alike : (spec : Parts) (lane : Lane) (row other : Row) → IsShownIn spec lane → are_alike lane row other ≡ true → is_seen lane row ≡ is_seen lane other
 seen_alike spec Configuration row other inside e = absurd inside

@@ -2,11 +2,13 @@
 use Rattle.std.specs.Prelude.{◌≡◌, ◌<◌, ◌^◌, ℕ, true, List, Option, filter, length, map, nat_lt, option_map, slice_get, slice_index, Some}
 use lib.Signed.{mag}
 use Rattle.scram_types.specs.Specification.{Each, IsSpec, Parts}
+use Rattle.scram_types.specs.declared.flights.Flown.{Flown}
 use Rattle.scram_types.specs.declared.flights.Report.{Report}
 use Rattle.scram_types.specs.declared.flights.Row.{Row}
 use Rattle.scram_types.specs.declared.specification.AppSpec.{AppSpec}
 use Rattle.trace_text.specs.Flights.{IsActShown, IsFlight}
-use Rattle.flight_facts.specs.Acts.{act_at}
+use Rattle.trace_files.specs.Traces.{SaysTrace}
+use Rattle.flight_facts.specs.Acts.{act_of}
 use Rattle.flight_facts.specs.Extremes.{extremes_of, quantity_of}
 use Rattle.flight_facts.specs.Spans.{are_alike}
 use Rattle.flight_facts.specs.declared.extremes.Extremes.{Extremes}
@@ -21,7 +23,7 @@ use Rattle.picture_form.specs.Sheets.{lane_of, lanes_of, sheet_of}
 -- have 64 bits with their signs.
 pub record IsRowDrawn (spec : Parts) (row : Row) : Type 0 where
   pub values : (x : ℕ) → slice_index row.env.factors x < 2 ^ 8
-  pub acts : (a : ℕ) (app : AppSpec) → slice_get spec.apps a ≡ Some app → IsActShown spec app (act_at row a)
+  pub acts : (a : ℕ) (app : AppSpec) → slice_get spec.apps a ≡ Some app → IsActShown spec app (act_of row a)
   pub altitude : mag row.world.alt < 2 ^ 63
   pub heading : mag row.world.heading < 2 ^ 63
 
@@ -73,3 +75,7 @@ PicturesTell = (spec : Parts) (rows others : List Row) (reports reported : List 
 -- A flight whose rows and reconfigurations are those of every flight can be drawn.
 abbrev pub FlightsAreDrawn : Type 0
 FlightsAreDrawn = (spec : Parts) (rows : List Row) (reports : List Report) → IsSpec spec → IsFlight spec rows reports → IsDrawn spec rows reports
+
+-- A trace that is read can be drawn.
+abbrev pub TracesAreDrawn : Type 0
+TracesAreDrawn = (spec : Parts) (flown : Flown) (bytes : List ℕ) → IsSpec spec → SaysTrace spec flown bytes → IsDrawn spec flown.rows flown.reports

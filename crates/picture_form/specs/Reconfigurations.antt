@@ -53,7 +53,8 @@ bound_rect sheet begin (Some bound) =
 abbrev pub report_text : Parts → Sheet → Report → List ℕ
 report_text spec sheet report =
     bound_rect sheet report.begin (bound_of spec report) ++ codes "<rect class=\"reconfiguration\""
-    ++ box_text (x_of sheet report.begin) 48 (rows_width sheet report.begin report.end) ++ codes "><title>" ++ report_title spec report ++ codes "</title></rect>\n"
+    ++ box_text (x_of sheet report.begin) 48 (rows_width sheet report.begin report.end) ++ codes "><title>"
+    ++ report_title spec report ++ codes "</title></rect>\n"
 
 -- the same of reconfiguration n, where it begins in a row
 abbrev pub reconfiguration_text : Parts → Sheet → List Report → ℕ → List ℕ

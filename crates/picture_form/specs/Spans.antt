@@ -10,7 +10,7 @@ use Rattle.scram_types.specs.declared.orders.Act.{Act}
 use Rattle.scram_types.specs.declared.orders.Act.TheVariants as act
 use Rattle.scram_types.specs.declared.specification.Factor.{Factor}
 use Rattle.app_model.specs.Names.{mode_text}
-use Rattle.flight_facts.specs.Acts.{act_at, act_word, word_text}
+use Rattle.flight_facts.specs.Acts.{act_of, act_word, word_text}
 use Rattle.flight_facts.specs.Spans.{span_at, stable_conf}
 use Rattle.flight_facts.specs.declared.spans.Lane.{Lane}
 use Rattle.flight_facts.specs.declared.spans.Lane.TheVariants as lane
@@ -36,7 +36,7 @@ abbrev pub class_text : Lane → Row → List ℕ
 class_text lane.Configuration row = codes "stable"
 class_text (lane.Factor i) row = codes "v" ++ decimal (slice_index row.env.factors i)
 class_text (lane.Processor p) row = codes "up"
-class_text (lane.Application a) row = word_text (act_word (act_at row a))
+class_text (lane.Application a) row = word_text (act_word (act_of row a))
 
 -- a mode and a processor, a space before each
 abbrev pub mode_and_proc : Parts → ℕ → Act → List ℕ
@@ -53,7 +53,7 @@ abbrev pub words_text : Parts → Lane → Row → List ℕ
 words_text spec lane.Configuration row = codes "stable"
 words_text spec (lane.Factor i) row = value_in spec i row
 words_text spec (lane.Processor p) row = codes "up"
-words_text spec (lane.Application a) row = word_text (act_word (act_at row a)) ++ mode_and_proc spec (kind_of_app spec a) (act_at row a)
+words_text spec (lane.Application a) row = word_text (act_word (act_of row a)) ++ mode_and_proc spec (kind_of_app spec a) (act_of row a)
 
 -- the label of an act: mode and processor where it ran
 abbrev pub act_label : Parts → ℕ → Act → List ℕ
@@ -70,7 +70,7 @@ abbrev pub label_of : Parts → Lane → Row → List ℕ
 label_of spec lane.Configuration row = codes "stable"
 label_of spec (lane.Factor i) row = value_in spec i row
 label_of spec (lane.Processor p) row = codes "up"
-label_of spec (lane.Application a) row = act_label spec (kind_of_app spec a) (act_at row a)
+label_of spec (lane.Application a) row = act_label spec (kind_of_app spec a) (act_of row a)
 
 -- the label of a span
 abbrev pub span_label : Sheet → Span → List ℕ → List ℕ

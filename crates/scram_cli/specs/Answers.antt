@@ -4,38 +4,63 @@ use Rattle.form_base.specs.declared.status.TheConstants.{ANSWERED, BROKEN_USAGE}
 use Rattle.form_base.specs.Answers.{Answer, Gives, WithoutFiles}
 use Rattle.spec_forms.specs.Answers.{BoundsAnswers, CheckAnswers}
 use Rattle.trace_files.specs.Looks.{ViewAnswers}
+use Rattle.explain_form.specs.Answers.{ExplainAnswers, ExplainScriptAnswers}
+use Rattle.faults_form.specs.Answers.{FaultsAnswers}
 use Rattle.fill_form.specs.Answers.{FillAnswers}
+use Rattle.flights_form.specs.Answers.{FlightsAnswers}
 use Rattle.choice_forms.specs.Answers.{ChoicesAnswers, ChooseAnswers}
 use Rattle.trace_forms.specs.Answers.{PropsAnswers}
 use Rattle.summary_form.specs.Summary.{summary_text}
 use Rattle.columns_form.specs.Table.{columns_text}
 use Rattle.picture_form.specs.Picture.{picture_text}
 use Rattle.flight_forms.specs.Answers.{FlyAnswers, GenAnswers, PairAnswers, ReplayAnswers, RunAnswers, WatchAnswers}
+use Rattle.scram_cli.specs.declared.forms.FlightForm.{FlightForm}
+use Rattle.scram_cli.specs.declared.forms.FlightForm.TheVariants.{Run, Watch, Pair, Replay, Faults, Flights, Gen, Fly}
 use Rattle.scram_cli.specs.declared.forms.Form.{Form}
-use Rattle.scram_cli.specs.declared.forms.Form.TheVariants.{Run, Watch, Pair, Check, Bounds, Props, Replay, Summary, Columns, Picture, Gen, Fly, Told, Fill, Choices, Choose}
+use Rattle.scram_cli.specs.declared.forms.Form.TheVariants.{Flight, Specification, Trace, Told}
+use Rattle.scram_cli.specs.declared.forms.Look.{Look}
+use Rattle.scram_cli.specs.declared.forms.Look.TheVariants.{Props, Summary, Columns, Picture}
+use Rattle.scram_cli.specs.declared.forms.SpecificationForm.{SpecificationForm}
+use Rattle.scram_cli.specs.declared.forms.SpecificationForm.TheVariants.{Check, Bounds, Explain, ExplainScript, Fill, Choices, Choose}
 use Rattle.scram_cli.specs.Pages.{page_text}
 
 -- The line where the words have no form.
 abbrev pub usage_line : List ℕ
 usage_line = codes "refused: usage\n"
 
+-- The answer to what is asked about flights.
+abbrev pub FlightAnswers : FlightForm (List ℕ) → Answer
+FlightAnswers (Run specification script) = RunAnswers specification script
+FlightAnswers (Watch specification script) = WatchAnswers specification script
+FlightAnswers (Pair specification script halt) = PairAnswers specification script
+FlightAnswers (Replay specification script schedule) = ReplayAnswers specification script schedule
+FlightAnswers (Faults specification count) = FaultsAnswers specification count
+FlightAnswers (Flights specification scripts) = FlightsAnswers specification scripts
+FlightAnswers (Gen number) = WithoutFiles (GenAnswers number)
+FlightAnswers (Fly number) = WithoutFiles (FlyAnswers number)
+
+-- The answer to what is asked about a specification.
+abbrev pub QuestionAnswers : SpecificationForm (List ℕ) → Answer
+QuestionAnswers (Check specification) = CheckAnswers specification
+QuestionAnswers (Bounds specification) = BoundsAnswers specification
+QuestionAnswers (Explain specification) = ExplainAnswers specification
+QuestionAnswers (ExplainScript specification script) = ExplainScriptAnswers specification script
+QuestionAnswers (Fill specification) = FillAnswers specification
+QuestionAnswers (Choices specification) = ChoicesAnswers specification
+QuestionAnswers (Choose specification conf state) = ChooseAnswers specification conf state
+
+-- The answer to a look at a trace.
+abbrev pub LookAnswers : Look → List ℕ → List ℕ → Answer
+LookAnswers Props specification trace = PropsAnswers specification trace
+LookAnswers Summary specification trace = ViewAnswers summary_text specification trace
+LookAnswers Columns specification trace = ViewAnswers columns_text specification trace
+LookAnswers Picture specification trace = ViewAnswers picture_text specification trace
+
 -- The answer to the words: where they have no form, that; else what the form asks, of exactly the files that it has to
 -- read, each once, in their order.
 abbrev pub FormAnswers : Option (Form (List ℕ)) → Answer
 FormAnswers None = WithoutFiles (Gives (BROKEN_USAGE, usage_line))
-FormAnswers (Some (Run specification script)) = RunAnswers specification script
-FormAnswers (Some (Watch specification script)) = WatchAnswers specification script
-FormAnswers (Some (Pair specification script halt)) = PairAnswers specification script
-FormAnswers (Some (Check specification)) = CheckAnswers specification
-FormAnswers (Some (Bounds specification)) = BoundsAnswers specification
-FormAnswers (Some (Props specification trace)) = PropsAnswers specification trace
-FormAnswers (Some (Replay specification script schedule)) = ReplayAnswers specification script schedule
-FormAnswers (Some (Fill specification)) = FillAnswers specification
-FormAnswers (Some (Choices specification)) = ChoicesAnswers specification
-FormAnswers (Some (Choose specification conf state)) = ChooseAnswers specification conf state
-FormAnswers (Some (Summary specification trace)) = ViewAnswers summary_text specification trace
-FormAnswers (Some (Columns specification trace)) = ViewAnswers columns_text specification trace
-FormAnswers (Some (Picture specification trace)) = ViewAnswers picture_text specification trace
-FormAnswers (Some (Gen number)) = WithoutFiles (GenAnswers number)
-FormAnswers (Some (Fly number)) = WithoutFiles (FlyAnswers number)
+FormAnswers (Some (Flight flight)) = FlightAnswers flight
+FormAnswers (Some (Specification question)) = QuestionAnswers question
+FormAnswers (Some (Trace look specification trace)) = LookAnswers look specification trace
 FormAnswers (Some (Told page)) = WithoutFiles (Gives (ANSWERED, page_text page))

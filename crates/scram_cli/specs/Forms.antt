@@ -1,12 +1,21 @@
 -- The forms of the command.
 use Rattle.std.specs.Prelude.{ℕ, List, [], ◌∷◌, Option, Some, None, codes, option_and_then, option_map, if◌then◌else◌}
+use Rattle.std.specs.Option.{option_or}
 use Rattle.std.specs.Str.{bytes_eq}
 use Rattle.choice_forms.specs.declared.states.StateWord.{StateWord}
 use Rattle.choice_forms.specs.States.{state_in}
+use Rattle.faults_form.specs.declared.counts.FaultCount.{FaultCount}
+use Rattle.faults_form.specs.Counts.{fault_count}
 use Rattle.kernel_pair.specs.declared.events.UnitHalt.{UnitHalt}
 use Rattle.trace_text.specs.Spelling.{spelled_number}
+use Rattle.scram_cli.specs.declared.forms.FlightForm.{FlightForm}
+use Rattle.scram_cli.specs.declared.forms.FlightForm.TheVariants.{Run, Watch, Pair, Replay, Faults, Flights, Gen, Fly}
 use Rattle.scram_cli.specs.declared.forms.Form.{Form}
-use Rattle.scram_cli.specs.declared.forms.Form.TheVariants.{Run, Watch, Pair, Check, Bounds, Props, Replay, Summary, Columns, Picture, Gen, Fly, Told, Fill, Choices, Choose}
+use Rattle.scram_cli.specs.declared.forms.Form.TheVariants.{Flight, Specification, Trace, Told}
+use Rattle.scram_cli.specs.declared.forms.Look.{Look}
+use Rattle.scram_cli.specs.declared.forms.Look.TheVariants.{Props, Summary, Columns, Picture}
+use Rattle.scram_cli.specs.declared.forms.SpecificationForm.{SpecificationForm}
+use Rattle.scram_cli.specs.declared.forms.SpecificationForm.TheVariants.{Check, Bounds, Explain, ExplainScript, Fill, Choices, Choose}
 use Rattle.scram_cli.specs.declared.pages.Page.TheVariants.{Help, Version}
 
 -- The number of a mission, up to 999,999, which the word has in decimal.
@@ -16,8 +25,8 @@ mission_number word = spelled_number 1000000 word
 -- The form of a command and a number, if they have one.
 abbrev pub form_of_number : List ℕ → List ℕ → Option (Form (List ℕ))
 form_of_number command word =
-    if bytes_eq command (codes "gen") then option_map (λ (number : ℕ). Gen number) (mission_number word)
-    else (if bytes_eq command (codes "fly") then option_map (λ (number : ℕ). Fly number) (mission_number word) else None)
+    if bytes_eq command (codes "gen") then option_map (λ (number : ℕ). Flight (Gen number)) (mission_number word)
+    else (if bytes_eq command (codes "fly") then option_map (λ (number : ℕ). Flight (Fly number)) (mission_number word) else None)
 
 -- The form of one word, if it has one.
 abbrev pub form_of_one : List ℕ → Option (Form (List ℕ))
@@ -25,31 +34,56 @@ form_of_one command =
     if bytes_eq command (codes "--help") then Some (Told Help)
     else (if bytes_eq command (codes "--version") then Some (Told Version) else None)
 
+-- What a command and the name of a specification's file ask, if anything.
+abbrev pub question_of : List ℕ → List ℕ → Option (SpecificationForm (List ℕ))
+question_of command specification =
+    if bytes_eq command (codes "check") then Some (Check specification)
+    else (if bytes_eq command (codes "bounds") then Some (Bounds specification)
+    else (if bytes_eq command (codes "explain") then Some (Explain specification)
+    else (if bytes_eq command (codes "fill") then Some (Fill specification)
+    else (if bytes_eq command (codes "choices") then Some (Choices specification) else None))))
+
 -- The form of two words, if they have one.
 abbrev pub form_of_two : List ℕ → List ℕ → Option (Form (List ℕ))
 form_of_two command word =
-    if bytes_eq command (codes "check") then Some (Check word)
-    else (if bytes_eq command (codes "bounds") then Some (Bounds word)
-    else (if bytes_eq command (codes "fill") then Some (Fill word)
-    else (if bytes_eq command (codes "choices") then Some (Choices word) else form_of_number command word)))
+    option_or (option_map (λ (question : SpecificationForm (List ℕ)). Specification question) (question_of command word)) (form_of_number command word)
+
+-- The flight that a command and the names of a specification's file and of another one ask for, if they do.
+abbrev pub flight_of_three : List ℕ → List ℕ → List ℕ → Option (FlightForm (List ℕ))
+flight_of_three command specification further =
+    if bytes_eq command (codes "run") then Some (Run specification further)
+    else (if bytes_eq command (codes "watch") then Some (Watch specification further)
+    else (if bytes_eq command (codes "faults") then option_map (λ (count : FaultCount). Faults specification count) (fault_count further)
+    else (if bytes_eq command (codes "flights") then Some (Flights specification further) else None)))
+
+-- How a command looks at a trace, if it does.
+abbrev pub look_of : List ℕ → Option Look
+look_of command =
+    if bytes_eq command (codes "props") then Some Props
+    else (if bytes_eq command (codes "summary") then Some Summary
+    else (if bytes_eq command (codes "columns") then Some Columns
+    else (if bytes_eq command (codes "picture") then Some Picture else None)))
 
 -- The form of three words that looks at a trace, if they have one.
-abbrev pub form_of_view : List ℕ → List ℕ → List ℕ → Option (Form (List ℕ))
-form_of_view command specification trace =
-    if bytes_eq command (codes "summary") then Some (Summary specification trace)
-    else (if bytes_eq command (codes "columns") then Some (Columns specification trace)
-    else (if bytes_eq command (codes "picture") then Some (Picture specification trace) else None))
+abbrev pub form_of_look : List ℕ → List ℕ → List ℕ → Option (Form (List ℕ))
+form_of_look command specification trace = option_map (λ (look : Look). Trace look specification trace) (look_of command)
+
+-- The form of three words that explains a script or looks at a trace, if they have one.
+abbrev pub form_of_explained : List ℕ → List ℕ → List ℕ → Option (Form (List ℕ))
+form_of_explained command specification further =
+    if bytes_eq command (codes "explain") then Some (Specification (ExplainScript specification further))
+    else form_of_look command specification further
 
 -- The form of three words, if they have one.
 abbrev pub form_of_three : List ℕ → List ℕ → List ℕ → Option (Form (List ℕ))
 form_of_three command specification further =
-    if bytes_eq command (codes "run") then Some (Run specification further)
-    else (if bytes_eq command (codes "watch") then Some (Watch specification further)
-    else (if bytes_eq command (codes "props") then Some (Props specification further) else form_of_view command specification further))
+    option_or (option_map (λ (flight : FlightForm (List ℕ)). Flight flight) (flight_of_three command specification further))
+    (form_of_explained command specification further)
 
 -- The form of four words, if they have one.
 abbrev pub form_of_four : List ℕ → List ℕ → List ℕ → List ℕ → Option (Form (List ℕ))
-form_of_four command specification script schedule = if bytes_eq command (codes "replay") then Some (Replay specification script schedule) else None
+form_of_four command specification script schedule =
+    if bytes_eq command (codes "replay") then Some (Flight (Replay specification script schedule)) else None
 
 -- The halt of unit 0 or 1 in a frame up to 19,999 after up to 31 steps, which three words have in decimal.
 abbrev pub unit_halt : List ℕ → List ℕ → List ℕ → Option UnitHalt
@@ -63,11 +97,11 @@ unit_halt unit frame step =
 -- The form of six words, if they have one.
 abbrev pub form_of_six : List ℕ → List ℕ → List ℕ → List ℕ → List ℕ → List ℕ → Option (Form (List ℕ))
 form_of_six command specification script unit frame step =
-    if bytes_eq command (codes "pair") then option_map (λ (halt : UnitHalt). Pair specification script halt) (unit_halt unit frame step) else None
+    if bytes_eq command (codes "pair") then option_map (λ (halt : UnitHalt). Flight (Pair specification script halt)) (unit_halt unit frame step) else None
 
 -- The form of `choose` and its words, if they have it.
 abbrev pub choose_form : List ℕ → List ℕ → List (List ℕ) → Option (Form (List ℕ))
-choose_form specification conf state = option_map (λ (words : List StateWord). Choose specification conf words) (state_in state)
+choose_form specification conf state = option_map (λ (words : List StateWord). Specification (Choose specification conf words)) (state_in state)
 
 -- The form of at most six words, if they have one.
 abbrev pub form_of_few : List (List ℕ) → Option (Form (List ℕ))
@@ -89,40 +123,58 @@ form_of (command ∷ specification ∷ conf ∷ state) =
     if bytes_eq command (codes "choose") then choose_form specification conf state else form_of_few (command ∷ specification ∷ conf ∷ state)
 
 -- What names the files, replaced.
+abbrev pub flight_with_names : {A B : Type 0} → (A → B) → FlightForm A → FlightForm B
+flight_with_names name (Run specification script) = Run (name specification) (name script)
+flight_with_names name (Watch specification script) = Watch (name specification) (name script)
+flight_with_names name (Pair specification script halt) = Pair (name specification) (name script) halt
+flight_with_names name (Replay specification script schedule) = Replay (name specification) (name script) (name schedule)
+flight_with_names name (Faults specification count) = Faults (name specification) count
+flight_with_names name (Flights specification scripts) = Flights (name specification) (name scripts)
+flight_with_names name (Gen number) = Gen number
+flight_with_names name (Fly number) = Fly number
+
+-- The same of what is asked about a specification.
+abbrev pub question_with_names : {A B : Type 0} → (A → B) → SpecificationForm A → SpecificationForm B
+question_with_names name (Check specification) = Check (name specification)
+question_with_names name (Bounds specification) = Bounds (name specification)
+question_with_names name (Explain specification) = Explain (name specification)
+question_with_names name (ExplainScript specification script) = ExplainScript (name specification) (name script)
+question_with_names name (Fill specification) = Fill (name specification)
+question_with_names name (Choices specification) = Choices (name specification)
+question_with_names name (Choose specification conf state) = Choose (name specification) (name conf) state
+
+-- The same of each form.
 abbrev pub with_names : {A B : Type 0} → (A → B) → Form A → Form B
-with_names name (Run specification script) = Run (name specification) (name script)
-with_names name (Watch specification script) = Watch (name specification) (name script)
-with_names name (Pair specification script halt) = Pair (name specification) (name script) halt
-with_names name (Check specification) = Check (name specification)
-with_names name (Bounds specification) = Bounds (name specification)
-with_names name (Props specification trace) = Props (name specification) (name trace)
-with_names name (Replay specification script schedule) = Replay (name specification) (name script) (name schedule)
-with_names name (Fill specification) = Fill (name specification)
-with_names name (Choices specification) = Choices (name specification)
-with_names name (Choose specification conf state) = Choose (name specification) (name conf) state
-with_names name (Summary specification trace) = Summary (name specification) (name trace)
-with_names name (Columns specification trace) = Columns (name specification) (name trace)
-with_names name (Picture specification trace) = Picture (name specification) (name trace)
-with_names name (Gen number) = Gen number
-with_names name (Fly number) = Fly number
+with_names name (Flight flight) = Flight (flight_with_names name flight)
+with_names name (Specification question) = Specification (question_with_names name question)
+with_names name (Trace look specification trace) = Trace look (name specification) (name trace)
 with_names name (Told page) = Told page
+
+-- The files that a flight names, in the order in which they are read.
+abbrev pub flight_files : FlightForm (List ℕ) → List (List ℕ)
+flight_files (Run specification script) = specification ∷ script ∷ []
+flight_files (Watch specification script) = specification ∷ script ∷ []
+flight_files (Pair specification script halt) = specification ∷ script ∷ []
+flight_files (Replay specification script schedule) = specification ∷ script ∷ schedule ∷ []
+flight_files (Faults specification count) = specification ∷ []
+flight_files (Flights specification scripts) = specification ∷ scripts ∷ []
+flight_files (Gen number) = []
+flight_files (Fly number) = []
+
+-- The files that what is asked about a specification names, in the order in which they are read.
+abbrev pub question_files : SpecificationForm (List ℕ) → List (List ℕ)
+question_files (Check specification) = specification ∷ []
+question_files (Bounds specification) = specification ∷ []
+question_files (Explain specification) = specification ∷ []
+question_files (ExplainScript specification script) = specification ∷ script ∷ []
+question_files (Fill specification) = specification ∷ []
+question_files (Choices specification) = specification ∷ []
+question_files (Choose specification conf state) = specification ∷ []
 
 -- The files that a form names, in the order in which they are read.
 abbrev pub files_of : Option (Form (List ℕ)) → List (List ℕ)
 files_of None = []
-files_of (Some (Run specification script)) = specification ∷ script ∷ []
-files_of (Some (Watch specification script)) = specification ∷ script ∷ []
-files_of (Some (Pair specification script halt)) = specification ∷ script ∷ []
-files_of (Some (Check specification)) = specification ∷ []
-files_of (Some (Bounds specification)) = specification ∷ []
-files_of (Some (Props specification trace)) = specification ∷ trace ∷ []
-files_of (Some (Replay specification script schedule)) = specification ∷ script ∷ schedule ∷ []
-files_of (Some (Fill specification)) = specification ∷ []
-files_of (Some (Choices specification)) = specification ∷ []
-files_of (Some (Choose specification conf state)) = specification ∷ []
-files_of (Some (Summary specification trace)) = specification ∷ trace ∷ []
-files_of (Some (Columns specification trace)) = specification ∷ trace ∷ []
-files_of (Some (Picture specification trace)) = specification ∷ trace ∷ []
-files_of (Some (Gen number)) = []
-files_of (Some (Fly number)) = []
+files_of (Some (Flight flight)) = flight_files flight
+files_of (Some (Specification question)) = question_files question
+files_of (Some (Trace look specification trace)) = specification ∷ trace ∷ []
 files_of (Some (Told page)) = []

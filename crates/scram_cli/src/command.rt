@@ -1,40 +1,44 @@
 //! The top call.
 
-ghost use Rattle.std.specs.Prelude.{◌≡◌, Some, map, string_bytes, vec_len};
+ghost use Rattle.std.specs.Prelude.{◌≡◌, ◌∷◌, [], Some, map, string_bytes, vec_len};
 ghost use Rattle.scram_io.specs.Outside.{Rose};
 ghost use Rattle.form_base.specs.Answers.{Gives};
 ghost use Rattle.form_base.specs.Assurance.{Assured};
 ghost use Rattle.form_base.specs.Endings.{Completes, Ends, IsSent, IsTaken, Tells, WentOut};
 ghost use Rattle.form_base.specs.Refusals.{told};
 ghost use Rattle.form_base.specs.declared.status.TheConstants.{ANSWERED, BROKEN_USAGE, UNREAD_FILE, UNWRITTEN_OUTPUT};
-ghost use Rattle.scram_cli.specs.Answers.{FormAnswers, usage_line};
+ghost use Rattle.scram_cli.specs.Answers.{FlightAnswers, FormAnswers, LookAnswers, QuestionAnswers, usage_line};
 ghost use Rattle.scram_cli.specs.Assurance.{AssuresForm};
-ghost use Rattle.scram_cli.specs.Forms.{files_of, form_of, with_names};
+ghost use Rattle.scram_cli.specs.Forms.{files_of, flight_files, flight_with_names, form_of, question_files, question_with_names, with_names};
 ghost use Rattle.scram_cli.specs.Pages.{page_text};
 
-use crate::forms::{Form, form_of};
+use crate::forms::{FlightForm, Form, Look, SpecificationForm, form_of};
 use crate::pages::{Page, page_text};
 use app_model::Rack;
 use choice_forms::{Question, choices, choose};
 use columns_form::columns_form;
+use explain_form::{ExplainedFiles, explain, explain_script};
+use faults_form::{FaultsQuestion, faults};
 use fill_form::fill;
 use flight_forms::laws::flights_are_assured;
 use flight_forms::{
     Boxes, MissionFiles, PairFiles, ReplayFiles, fly_generated, pair_form, print_generated,
     replay_form, run, watch,
 };
+use flights_form::{ScriptsFiles, flights};
 use form_base::refusals::{Refusal, Refused};
 use form_base::status::{ANSWERED, Status, UNWRITTEN_OUTPUT};
 use form_base::telling::{tell, tell_refusal};
 use picture_form::picture_form;
 use scram_io::{Files, Sink, SinkFault};
 use spec_forms::{bounds, check};
-use std::alloc::AllocGlobal;
+use std::alloc::{AllocGlobal, Global};
 use std::sync::Wait;
 use std::thread::Threads;
 use summary_form::summary_form;
 use trace_files::TraceFiles;
 use trace_forms::props_form;
+use trace_props::missions::reconfigurations_are_assured;
 use trace_text::lines::Line;
 
 /// Does what the words after the program's name ask for: `run SPEC SCRIPT` flies a mission, `watch SPEC SCRIPT` flies
@@ -42,8 +46,9 @@ use trace_text::lines::Line;
 /// of which the one named may halt in that frame after that number of its steps, `check SPEC` prints whether a
 /// specification is accepted, `bounds SPEC` which bounds it has to give, `props SPEC TRACE` judges a trace, by any
 /// specification, `replay SPEC SCRIPT SCHEDULE` flies a mission by a schedule, `fill SPEC` prints a specification with
-/// the bounds and the window that serve, `choices SPEC` what each rule chooses, `choose SPEC CONF STATE..` what is chosen
-/// in a state, `summary SPEC TRACE`, `columns SPEC TRACE` and `picture SPEC TRACE` print what a trace shows, `gen N`
+/// the bounds and the window that serve, `explain SPEC` and `explain SPEC SCRIPT` why one of them is refused, `choices SPEC` what each rule chooses, `choose SPEC CONF STATE..` what is chosen
+/// in a state, `summary SPEC TRACE`, `columns SPEC TRACE` and `picture SPEC TRACE` print what a trace shows, `faults SPEC COUNT` prints each script with that number of faults, `flights SPEC SCRIPTS`
+/// flies each line of a file, `gen N`
 /// prints the mission of a number, and `fly N` flies it; `--help` and `--version` describe the program. What is printed
 /// has gone out when the call ends, or the status is 4.
 ///
@@ -69,6 +74,7 @@ pub fn scram<R: AllocGlobal + Threads + Wait + Sync, F: Files, K: Sink>(
         (F.state files.old) (F.state files.new) (WentOut (K.state out.old) (K.state out.new)) }
 {
     flights_are_assured();
+    reconfigurations_are_assured();
     send_answer(rt, words, files, out, Boxes { racks, spares })
 }
 
@@ -134,7 +140,7 @@ fn tell_page<K: Sink>(out: &mut K, page: Page) -> Status
     tell(out, ANSWERED, page_text(page).as_bytes())
 }
 
-// Returns the table of the forms.
+// Does what a form asks.
 fn answer_form<R: AllocGlobal + Threads + Wait + Sync, F: Files, K: Sink>(
     rt: &R,
     form: Form<&str>,
@@ -146,56 +152,13 @@ fn answer_form<R: AllocGlobal + Threads + Wait + Sync, F: Files, K: Sink>(
         (F.state files.old) (F.state files.new) (IsTaken (K.state out.old) (K.state out.new) result.code) }
 {
     match form {
-        Form::Run {
-            specification,
-            script,
-        } => run(
-            rt,
-            MissionFiles {
-                specification,
-                script,
-            },
-            files,
-            out,
-            boxes,
-        ),
-        Form::Watch {
-            specification,
-            script,
-        } => watch(
-            rt,
-            MissionFiles {
-                specification,
-                script,
-            },
-            files,
-            out,
-            boxes,
-        ),
-        Form::Pair {
-            specification,
-            script,
-            halt,
-        } => pair_form(
-            rt.alloc(),
-            PairFiles {
-                specification,
-                script,
-                halt,
-            },
-            files,
-            out,
-            boxes,
-        ),
-        Form::Check { specification } => {
+        Form::Flight { flight } => answer_flight(rt, flight, files, out, boxes),
+        Form::Specification { question } => {
             drop(boxes);
-            check(rt.alloc(), specification, files, out)
+            answer_question(rt.alloc(), question, files, out)
         }
-        Form::Bounds { specification } => {
-            drop(boxes);
-            bounds(rt.alloc(), specification, files, out)
-        }
-        Form::Props {
+        Form::Trace {
+            look,
             specification,
             trace,
         } => {
@@ -204,85 +167,158 @@ fn answer_form<R: AllocGlobal + Threads + Wait + Sync, F: Files, K: Sink>(
                 specification,
                 trace,
             };
-            props_form(rt.alloc(), named, files, out)
+            look_at(rt.alloc(), look, named, files, out)
         }
-        Form::Replay {
+        Form::Told { page } => {
+            drop(boxes);
+            tell_page(out, page)
+        }
+    }
+}
+
+// Does what is asked about flights.
+fn answer_flight<R: AllocGlobal + Threads + Wait + Sync, F: Files, K: Sink>(
+    rt: &R,
+    flight: FlightForm<&str>,
+    files: &mut F,
+    out: &mut K,
+    boxes: Boxes,
+) -> Status
+    ensures { Ends (FlightAnswers (flight_with_names (λ name. name.now) flight.entry)) (flight_files (flight_with_names (λ name. name.now) flight.entry))
+        (F.state files.old) (F.state files.new) (IsTaken (K.state out.old) (K.state out.new) result.code) }
+{
+    match flight {
+        FlightForm::Run {
+            specification,
+            script,
+        } => {
+            let named = MissionFiles {
+                specification,
+                script,
+            };
+            run(rt, named, files, out, boxes)
+        }
+        FlightForm::Watch {
+            specification,
+            script,
+        } => {
+            let named = MissionFiles {
+                specification,
+                script,
+            };
+            watch(rt, named, files, out, boxes)
+        }
+        FlightForm::Pair {
+            specification,
+            script,
+            halt,
+        } => {
+            let named = PairFiles {
+                specification,
+                script,
+                halt,
+            };
+            pair_form(rt.alloc(), named, files, out, boxes)
+        }
+        FlightForm::Replay {
             specification,
             script,
             schedule,
-        } => replay_form(
-            rt.alloc(),
-            ReplayFiles {
+        } => {
+            let named = ReplayFiles {
                 specification,
                 script,
                 schedule,
-            },
-            files,
-            out,
-            boxes,
-        ),
-        Form::Fill { specification } => {
-            drop(boxes);
-            fill(rt.alloc(), specification, files, out)
+            };
+            replay_form(rt.alloc(), named, files, out, boxes)
         }
-        Form::Choices { specification } => {
+        FlightForm::Faults {
+            specification,
+            count,
+        } => {
             drop(boxes);
-            choices(rt.alloc(), specification, files, out)
+            let question = FaultsQuestion {
+                specification,
+                count,
+            };
+            faults(rt.alloc(), question, files, out)
         }
-        Form::Choose {
+        FlightForm::Flights {
+            specification,
+            scripts,
+        } => {
+            drop(boxes);
+            let named = ScriptsFiles {
+                specification,
+                scripts,
+            };
+            flights(rt.alloc(), named, files, out)
+        }
+        FlightForm::Gen { number } => {
+            drop(boxes);
+            print_generated(rt.alloc(), number, out)
+        }
+        FlightForm::Fly { number } => fly_generated(rt, number, out, boxes),
+    }
+}
+
+// Answers what is asked about a specification.
+fn answer_question<F: Files, K: Sink>(
+    alloc: Global,
+    question: SpecificationForm<&str>,
+    files: &mut F,
+    out: &mut K,
+) -> Status
+    ensures { Ends (QuestionAnswers (question_with_names (λ name. name.now) question.entry))
+        (question_files (question_with_names (λ name. name.now) question.entry))
+        (F.state files.old) (F.state files.new) (IsTaken (K.state out.old) (K.state out.new) result.code) }
+{
+    match question {
+        SpecificationForm::Check { specification } => check(alloc, specification, files, out),
+        SpecificationForm::Bounds { specification } => bounds(alloc, specification, files, out),
+        SpecificationForm::Explain { specification } => explain(alloc, specification, files, out),
+        SpecificationForm::ExplainScript {
+            specification,
+            script,
+        } => {
+            let named = ExplainedFiles {
+                specification,
+                script,
+            };
+            explain_script(alloc, named, files, out)
+        }
+        SpecificationForm::Fill { specification } => fill(alloc, specification, files, out),
+        SpecificationForm::Choices { specification } => choices(alloc, specification, files, out),
+        SpecificationForm::Choose {
             specification,
             conf,
             state,
         } => {
-            drop(boxes);
             let question = Question {
                 specification,
                 conf,
                 state: state.words(),
             };
-            choose(rt.alloc(), question, files, out)
+            choose(alloc, question, files, out)
         }
-        Form::Summary {
-            specification,
-            trace,
-        } => {
-            drop(boxes);
-            let named = TraceFiles {
-                specification,
-                trace,
-            };
-            summary_form(rt.alloc(), named, files, out)
-        }
-        Form::Columns {
-            specification,
-            trace,
-        } => {
-            drop(boxes);
-            let named = TraceFiles {
-                specification,
-                trace,
-            };
-            columns_form(rt.alloc(), named, files, out)
-        }
-        Form::Picture {
-            specification,
-            trace,
-        } => {
-            drop(boxes);
-            let named = TraceFiles {
-                specification,
-                trace,
-            };
-            picture_form(rt.alloc(), named, files, out)
-        }
-        Form::Gen { number } => {
-            drop(boxes);
-            print_generated(rt.alloc(), number, out)
-        }
-        Form::Fly { number } => fly_generated(rt, number, out, boxes),
-        Form::Told { page } => {
-            drop(boxes);
-            tell_page(out, page)
-        }
+    }
+}
+
+// Looks at the trace of a flight by a specification.
+fn look_at<F: Files, K: Sink>(
+    alloc: Global,
+    look: Look,
+    named: TraceFiles<'_>,
+    files: &mut F,
+    out: &mut K,
+) -> Status
+    ensures { Ends (LookAnswers look named.entry.specification.now named.entry.trace.now) (named.entry.specification.now ∷ named.entry.trace.now ∷ [])
+        (F.state files.old) (F.state files.new) (IsTaken (K.state out.old) (K.state out.new) result.code) }
+{
+    match look {
+        Look::Props => props_form(alloc, named, files, out),
+        Look::Summary => summary_form(alloc, named, files, out),
+        Look::Columns => columns_form(alloc, named, files, out),
+        Look::Picture => picture_form(alloc, named, files, out),
     }
 }

@@ -1,10 +1,11 @@
 //! The forms of the command.
 
 ghost use Rattle.std.specs.Prelude.{◌≡◌, map, string_bytes, option_map};
-ghost use Rattle.scram_cli.specs.Forms.{form_of, form_of_four, form_of_number, form_of_one, form_of_six, form_of_three, form_of_two, form_of_view, mission_number, unit_halt, with_names, choose_form, form_of_few};
+ghost use Rattle.scram_cli.specs.Forms.{choose_form, flight_of_three, flight_with_names, form_of, form_of_few, form_of_explained, form_of_four, form_of_look, form_of_number, form_of_one, form_of_six, form_of_three, form_of_two, look_of, mission_number, question_of, question_with_names, unit_halt, with_names};
 
 use crate::pages::Page;
 use choice_forms::states::{State, read_state};
+use faults_form::{FaultCount, fault_count};
 use kernel_pair::UnitHalt;
 use trace_text::numbers::read_number;
 
@@ -21,6 +22,29 @@ const HALT_STEPS: u64 = 32;
 /// What the words ask for. `N` is what names a file.
 #[derive(Debug, Drop)]
 pub enum Form<N> {
+    /// Something about flights.
+    Flight {
+        flight: FlightForm<N>,
+    },
+    /// Something about a specification.
+    Specification {
+        question: SpecificationForm<N>,
+    },
+    /// A look at the trace of a flight by a specification.
+    Trace {
+        look: Look,
+        specification: N,
+        trace: N,
+    },
+    /// The pages that describe the command.
+    Told {
+        page: Page,
+    },
+}
+
+/// What the words ask for about flights.
+#[derive(Debug, Drop)]
+pub enum FlightForm<N> {
     /// To fly the mission in two files.
     Run {
         specification: N,
@@ -37,53 +61,21 @@ pub enum Form<N> {
         script: N,
         halt: UnitHalt,
     },
-    /// Whether a specification is accepted.
-    Check {
-        specification: N,
-    },
-    /// Which bounds a specification has to give.
-    Bounds {
-        specification: N,
-    },
-    /// Whether the properties of reconfigurations hold of a trace.
-    Props {
-        specification: N,
-        trace: N,
-    },
     /// To fly the mission in two files by the schedule in a third.
     Replay {
         specification: N,
         script: N,
         schedule: N,
     },
-    /// A specification with the bounds and the window that serve.
-    Fill {
+    /// To print each script with this number of faults, 1 to 3, that keeps to a specification's failure assumption.
+    Faults {
         specification: N,
+        count: FaultCount,
     },
-    /// What each rule of a specification chooses, from where and in how many environments.
-    Choices {
+    /// To fly each script in a file, and to print a line on each.
+    Flights {
         specification: N,
-    },
-    /// What a specification chooses from a configuration, named first, in a state.
-    Choose {
-        specification: N,
-        conf: N,
-        state: State,
-    },
-    /// What a flight came to, by its trace.
-    Summary {
-        specification: N,
-        trace: N,
-    },
-    /// A trace as a table of comma-separated values.
-    Columns {
-        specification: N,
-        trace: N,
-    },
-    /// A trace as a picture, in SVG.
-    Picture {
-        specification: N,
-        trace: N,
+        scripts: N,
     },
     /// To print the mission of a number, 0 to 999,999.
     Gen {
@@ -93,10 +85,55 @@ pub enum Form<N> {
     Fly {
         number: u32,
     },
-    /// The pages that describe the command.
-    Told {
-        page: Page,
+}
+
+/// What the words ask for about a specification.
+#[derive(Debug, Drop)]
+pub enum SpecificationForm<N> {
+    /// Whether it is accepted.
+    Check {
+        specification: N,
     },
+    /// Which bounds it has to give.
+    Bounds {
+        specification: N,
+    },
+    /// Why it is refused, or what of it nothing uses.
+    Explain {
+        specification: N,
+    },
+    /// Why it or a script for it is refused, or what of it nothing uses.
+    ExplainScript {
+        specification: N,
+        script: N,
+    },
+    /// The same with the bounds and the window that serve.
+    Fill {
+        specification: N,
+    },
+    /// What each of its rules chooses, from where and in how many environments.
+    Choices {
+        specification: N,
+    },
+    /// What it chooses from a configuration, named first, in a state.
+    Choose {
+        specification: N,
+        conf: N,
+        state: State,
+    },
+}
+
+/// How a trace is looked at.
+#[derive(Clone, Copy, Debug, PartialEq, Eq)]
+pub enum Look {
+    /// Whether the properties of reconfigurations hold of it.
+    Props,
+    /// What the flight came to.
+    Summary,
+    /// As a table of comma-separated values.
+    Columns,
+    /// As a picture, in SVG.
+    Picture,
 }
 
 /// Returns the form that the words after the program's name have.
@@ -119,10 +156,12 @@ fn choose_form<'a>(specification: &'a str, conf: &'a str, state: &[String]) -> O
     ensures { option_map (with_names (λ name. name.now)) result ≡ choose_form specification.now conf.now (map string_bytes state.now) }
 {
     match read_state(state) {
-        Some(state) => Some(Form::Choose {
-            specification,
-            conf,
-            state,
+        Some(state) => Some(Form::Specification {
+            question: SpecificationForm::Choose {
+                specification,
+                conf,
+                state,
+            },
         }),
         None => None,
     }
@@ -172,24 +211,28 @@ fn form_of_one<'a>(command: &str) -> Option<Form<&'a str>>
 fn form_of_two<'a>(command: &str, word: &'a str) -> Option<Form<&'a str>>
     ensures { option_map (with_names (λ name. name.now)) result ≡ form_of_two command.now word.now }
 {
+    match question_of(command, word) {
+        Some(question) => Some(Form::Specification { question }),
+        None => form_of_number(command, word),
+    }
+}
+
+// Returns what a command and the name of a specification's file ask.
+fn question_of<'a>(command: &str, specification: &'a str) -> Option<SpecificationForm<&'a str>>
+    ensures { option_map (question_with_names (λ name. name.now)) result ≡ question_of command.now specification.now }
+{
     if command == "check" {
-        Some(Form::Check {
-            specification: word,
-        })
+        Some(SpecificationForm::Check { specification })
     } else if command == "bounds" {
-        Some(Form::Bounds {
-            specification: word,
-        })
+        Some(SpecificationForm::Bounds { specification })
+    } else if command == "explain" {
+        Some(SpecificationForm::Explain { specification })
     } else if command == "fill" {
-        Some(Form::Fill {
-            specification: word,
-        })
+        Some(SpecificationForm::Fill { specification })
     } else if command == "choices" {
-        Some(Form::Choices {
-            specification: word,
-        })
+        Some(SpecificationForm::Choices { specification })
     } else {
-        form_of_number(command, word)
+        None
     }
 }
 
@@ -198,10 +241,14 @@ fn form_of_number<'a>(command: &str, word: &str) -> Option<Form<&'a str>>
 {
     if command == "gen" {
         let number = mission_number(word)?;
-        Some(Form::Gen { number })
+        Some(Form::Flight {
+            flight: FlightForm::Gen { number },
+        })
     } else if command == "fly" {
         let number = mission_number(word)?;
-        Some(Form::Fly { number })
+        Some(Form::Flight {
+            flight: FlightForm::Fly { number },
+        })
     } else {
         None
     }
@@ -221,44 +268,87 @@ fn form_of_three<'a>(
 ) -> Option<Form<&'a str>>
     ensures { option_map (with_names (λ name. name.now)) result ≡ form_of_three command.now specification.now further.now }
 {
+    match flight_of_three(command, specification, further) {
+        Some(flight) => Some(Form::Flight { flight }),
+        None => form_of_explained(command, specification, further),
+    }
+}
+
+fn form_of_explained<'a>(
+    command: &str,
+    specification: &'a str,
+    further: &'a str,
+) -> Option<Form<&'a str>>
+    ensures { option_map (with_names (λ name. name.now)) result ≡ form_of_explained command.now specification.now further.now }
+{
+    if command == "explain" {
+        Some(Form::Specification {
+            question: SpecificationForm::ExplainScript {
+                specification,
+                script: further,
+            },
+        })
+    } else {
+        form_of_look(command, specification, further)
+    }
+}
+
+// Returns the flight that a command and the names of a specification's file and of another one ask for.
+fn flight_of_three<'a>(
+    command: &str,
+    specification: &'a str,
+    further: &'a str,
+) -> Option<FlightForm<&'a str>>
+    ensures { option_map (flight_with_names (λ name. name.now)) result ≡ flight_of_three command.now specification.now further.now }
+{
     if command == "run" {
-        Some(Form::Run {
+        Some(FlightForm::Run {
             specification,
             script: further,
         })
     } else if command == "watch" {
-        Some(Form::Watch {
+        Some(FlightForm::Watch {
             specification,
             script: further,
         })
-    } else if command == "props" {
-        Some(Form::Props {
+    } else if command == "faults" {
+        let count = fault_count(further.as_bytes())?;
+        Some(FlightForm::Faults {
             specification,
-            trace: further,
+            count,
+        })
+    } else if command == "flights" {
+        Some(FlightForm::Flights {
+            specification,
+            scripts: further,
         })
     } else {
-        form_of_view(command, specification, further)
+        None
     }
 }
 
-fn form_of_view<'a>(command: &str, specification: &'a str, trace: &'a str) -> Option<Form<&'a str>>
-    ensures { option_map (with_names (λ name. name.now)) result ≡ form_of_view command.now specification.now trace.now }
+fn form_of_look<'a>(command: &str, specification: &'a str, trace: &'a str) -> Option<Form<&'a str>>
+    ensures { option_map (with_names (λ name. name.now)) result ≡ form_of_look command.now specification.now trace.now }
 {
-    if command == "summary" {
-        Some(Form::Summary {
-            specification,
-            trace,
-        })
+    let look = look_of(command)?;
+    Some(Form::Trace {
+        look,
+        specification,
+        trace,
+    })
+}
+
+fn look_of(command: &str) -> Option<Look>
+    ensures { result ≡ look_of command.now }
+{
+    if command == "props" {
+        Some(Look::Props)
+    } else if command == "summary" {
+        Some(Look::Summary)
     } else if command == "columns" {
-        Some(Form::Columns {
-            specification,
-            trace,
-        })
+        Some(Look::Columns)
     } else if command == "picture" {
-        Some(Form::Picture {
-            specification,
-            trace,
-        })
+        Some(Look::Picture)
     } else {
         None
     }
@@ -273,10 +363,12 @@ fn form_of_four<'a>(
     ensures { option_map (with_names (λ name. name.now)) result ≡ form_of_four command.now specification.now script.now schedule.now }
 {
     if command == "replay" {
-        Some(Form::Replay {
-            specification,
-            script,
-            schedule,
+        Some(Form::Flight {
+            flight: FlightForm::Replay {
+                specification,
+                script,
+                schedule,
+            },
         })
     } else {
         None
@@ -293,10 +385,12 @@ fn form_of_six<'a>(
 {
     if command == "pair" {
         let halt = unit_halt(halt.0, halt.1, halt.2)?;
-        Some(Form::Pair {
-            specification: files.0,
-            script: files.1,
-            halt,
+        Some(Form::Flight {
+            flight: FlightForm::Pair {
+                specification: files.0,
+                script: files.1,
+                halt,
+            },
         })
     } else {
         None

@@ -20,7 +20,7 @@ pub enum ReadFault {
     #[error("the file is longer than the limit")]
     TooLong,
     /// Out of memory. It can come wherever the read would otherwise return the bytes.
-    #[error("memory was wanting")]
+    #[error("out of memory")]
     NoMemory,
 }
 

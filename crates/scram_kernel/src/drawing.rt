@@ -53,6 +53,13 @@ fn acts_drawn(image: &KernelImage, tasks: &[Task; 8], marks: &[u64; 8]) -> [Act;
     ]
 }
 
+// The marks and images of all processors, as a frame left them.
+#[derive(Clone, Copy)]
+struct Stored<'a> {
+    marks: &'a [u64; 8],
+    images: &'a [Image; 8],
+}
+
 fn areas_drawn(
     image: &KernelImage,
     tasks: &[Task; 8],
@@ -62,15 +69,16 @@ fn areas_drawn(
 ) -> [Area; 8]
     ensures { (spec : Parts) → tasks.now ≡ eight (task_said spec image.now) → result ≡ areas_drawn spec image.now marks.now images.now areas.now }
 {
+    let stored = Stored { marks, images };
     [
-        area_from(&tasks[0], marks, images, areas, image.frame, 0),
-        area_from(&tasks[1], marks, images, areas, image.frame, 1),
-        area_from(&tasks[2], marks, images, areas, image.frame, 2),
-        area_from(&tasks[3], marks, images, areas, image.frame, 3),
-        area_from(&tasks[4], marks, images, areas, image.frame, 4),
-        area_from(&tasks[5], marks, images, areas, image.frame, 5),
-        area_from(&tasks[6], marks, images, areas, image.frame, 6),
-        area_from(&tasks[7], marks, images, areas, image.frame, 7),
+        area_from(&tasks[0], &stored, areas, image.frame, 0),
+        area_from(&tasks[1], &stored, areas, image.frame, 1),
+        area_from(&tasks[2], &stored, areas, image.frame, 2),
+        area_from(&tasks[3], &stored, areas, image.frame, 3),
+        area_from(&tasks[4], &stored, areas, image.frame, 4),
+        area_from(&tasks[5], &stored, areas, image.frame, 5),
+        area_from(&tasks[6], &stored, areas, image.frame, 6),
+        area_from(&tasks[7], &stored, areas, image.frame, 7),
     ]
 }
 
@@ -104,21 +112,14 @@ fn act_after(task: &Task, marks: &[u64; 8], frame: u32) -> Act
     }
 }
 
-fn area_from(
-    task: &Task,
-    marks: &[u64; 8],
-    images: &[Image; 8],
-    areas: &[Area; 8],
-    frame: u32,
-    a: u8,
-) -> Area
+fn area_from(task: &Task, stored: &Stored<'_>, areas: &[Area; 8], frame: u32, a: u8) -> Area
     requires { a < 8 }
-    ensures { result ≡ area_from (has_committed marks.now frame) images.now a (area_at areas.now a) task.now.proc }
+    ensures { result ≡ area_from (has_committed stored.now.marks.now frame) stored.now.images.now a (area_at areas.now a) task.now.proc }
 {
     match task.proc {
         Some(proc) => {
-            if has_committed(marks, proc, frame) {
-                slot_of(images, proc, a)
+            if has_committed(stored.marks, proc, frame) {
+                slot_of(stored.images, proc, a)
             } else {
                 areas[usize::from(a)]
             }
@@ -226,11 +227,15 @@ mod tests {
         image[15] = -3;
         let images = [image; 8];
         let areas = [[7; 8]; 8];
-        let made = area_from(&task(Some(ProcId(0))), &MARKS, &images, &areas, 4, 1);
+        let stored = Stored {
+            marks: &MARKS,
+            images: &images,
+        };
+        let made = area_from(&task(Some(ProcId(0))), &stored, &areas, 4, 1);
         assert_eq!(rt; made, [5, 0, 0, 0, 0, 0, 0, -3]);
-        let lost = area_from(&task(Some(ProcId(1))), &MARKS, &images, &areas, 4, 1);
+        let lost = area_from(&task(Some(ProcId(1))), &stored, &areas, 4, 1);
         assert_eq!(rt; lost, [7; 8]);
-        let off = area_from(&task(None), &MARKS, &images, &areas, 4, 1);
+        let off = area_from(&task(None), &stored, &areas, 4, 1);
         assert_eq!(rt; off, [0; 8]);
     }
 

@@ -27,3 +27,8 @@ pub same_test : (a b : Bool) → (a ≡ true → b ≡ true) → (b ≡ true →
 same_test true b h k = sym (h refl)
 same_test false true h k = k refl
 same_test false false h k = refl
+
+-- the second test fails wherever the first one passes
+pub both_false : (a b : Bool) → (a ≡ true → b ≡ false) → (a && b) ≡ false
+both_false true b f = f refl
+both_false false b f = refl

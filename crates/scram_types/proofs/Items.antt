@@ -5,6 +5,7 @@ use Rattle.std.specs.Prelude.{◌||◌, Some, replicate, slice_get}
 use Rattle.std.specs.List.{list_all, list_any}
 use Rattle.std.proofs.Math.Bool.{or-true}
 use Rattle.std.proofs.lemmas.Option.{slice_get_within}
+use Rattle.scram_types.specs.Specification.{Each}
 use Rattle.scram_types.proofs.Booleans.{and_left, and_right, or_cases}
 use Rattle.scram_types.proofs.Options.{same_some}
 
@@ -70,6 +71,12 @@ first_part (y ∷ xs) ys (suc k) x h = first_part xs ys k x h
 pub next_part : {A : Type 0} (xs ys : List A) (y : A) → slice_get (xs ++ y ∷ ys) (length xs) ≡ Some y
 next_part [] ys y = refl
 next_part (x ∷ xs) ys y = next_part xs ys y
+
+pub each_end : {A : Type 0} (Fact : A → Type 0) (xs : List A) (x : A) → Each Fact xs → Fact x → Each Fact (xs ++ x ∷ [])
+each_end Fact [] x known new zero y there = let same : x ≡ y = same_some x y there in rw (← same) new
+each_end {A} Fact [] x known new (suc i) y there = let none = slice_get_within {A = A} [] i y there in absurd (omega (arith, none))
+each_end Fact (first ∷ xs) x known new zero y there = known zero y there
+each_end Fact (first ∷ xs) x known new (suc i) y there = each_end Fact xs x (λ k z here. known (suc k) z here) new i y there
 
 -- zeros stand everywhere in a list of zeros, and past it
 pub zeros_everywhere : (n x : ℕ) → ◌≡◌ {A = ℕ} (get_or (replicate n 0) x 0) 0

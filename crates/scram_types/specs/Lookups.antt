@@ -1,11 +1,12 @@
 -- What stands in a specification, by number and by name.
-use Rattle.std.specs.Prelude.{ℕ, suc, ◌-◌, ◌^◌, Bool, List, [], ◌∷◌, length, replicate, slice_get, Option, Some, None, is_some, option_map, option_and_then, bytes_eq, if◌then◌else◌}
+use Rattle.std.specs.Prelude.{ℕ, zero, suc, ◌-◌, ◌^◌, Bool, List, [], ◌∷◌, length, replicate, slice_get, Option, Some, None, is_some, option_map, option_and_then, bytes_eq, if◌then◌else◌}
 use Rattle.std.specs.Option.{option_map_or}
 use Rattle.scram_types.specs.declared.ids.AppId.{AppId}
 use Rattle.scram_types.specs.declared.ids.ProcId.{ProcId}
 use Rattle.scram_types.specs.declared.ids.ConfId.{ConfId}
 use Rattle.scram_types.specs.declared.ids.FactorId.{FactorId}
 use Rattle.scram_types.specs.declared.flights.Env.{Env}
+use Rattle.scram_types.specs.declared.flights.Row.{Row}
 use Rattle.scram_types.specs.declared.specification.Proc.{Proc}
 use Rattle.scram_types.specs.declared.specification.ModeSpec.{ModeSpec}
 use Rattle.scram_types.specs.declared.specification.AppSpec.{AppSpec}
@@ -102,3 +103,12 @@ mode_of spec c a = option_and_then (λ (place : Place). mode_of_app spec a place
 -- The environment that a flight opens in: each processor is up, each factor has its first value.
 abbrev pub opening_env : Parts → Env
 opening_env spec = record { up = 2 ^ length spec.procs - 1; factors = replicate 6 0 }
+
+-- The environment of row f, where there is such a row.
+abbrev pub env_in : List Row → ℕ → Option Env
+env_in rows f = option_map (λ (row : Row). row.env) (slice_get rows f)
+
+-- The environment of the row before row f; before the first row that in which every flight opens.
+abbrev pub env_before : Parts → List Row → ℕ → Option Env
+env_before spec rows zero = Some (opening_env spec)
+env_before spec rows (suc f) = env_in rows f

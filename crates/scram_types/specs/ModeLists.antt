@@ -8,12 +8,12 @@ abbrev pub is_among : List Mode → ℕ → Bool
 is_among modes mode = list_any (λ (listed : Mode). listed.0 == mode) modes
 
 -- what stands in the places that are not used
-abbrev pub unused : Mode
-unused = record { 0 = 0 }
+abbrev pub unused_mode : Mode
+unused_mode = record { 0 = 0 }
 
 -- modes, and what fills the array behind them
 abbrev pub padded : List Mode → List Mode
-padded modes = modes ++ replicate (3 - length modes) unused
+padded modes = modes ++ replicate (3 - length modes) unused_mode
 
 -- The first `count` items of an array of three are modes, and the others are unused.
 pub record IsPadded (count : ℕ) (items : List Mode) : Type 0 where

@@ -1,9 +1,9 @@
 //! What stands in a specification, by number and by name.
 
 ghost use Rattle.std.specs.Prelude.{◌≡◌, ◌<◌, ◌≤◌, IfSome, length};
-ghost use Rattle.scram_types.specs.Lookups.{app_name, app_named, conf_name, conf_named, factor_name, factor_named, is_on, kind_of_app, mode_of, mode_of_app, number_named, opening_env, place_of, proc_name, proc_named, value_name, value_named};
+ghost use Rattle.scram_types.specs.Lookups.{app_name, app_named, conf_name, conf_named, env_before, env_in, factor_name, factor_named, is_on, kind_of_app, mode_of, mode_of_app, number_named, opening_env, place_of, proc_name, proc_named, value_name, value_named};
 
-use crate::flights::Env;
+use crate::flights::{Env, Row};
 use crate::ids::{AppId, ConfId, FactorId, KindId, Mode, ProcId};
 use crate::names::Name;
 use crate::specification::{Factor, ModeSpec, Place, Spec};
@@ -191,4 +191,24 @@ fn number_of_name(names: &[Name], text: &[u8]) -> Option<u8>
         }
     }
     None
+}
+
+/// Returns the environment of a row, or `None` where there is no such row.
+pub fn env_in(rows: &[Row], k: usize) -> Option<Env>
+    ensures { result ≡ env_in rows.now k }
+{
+    match rows.get(k) {
+        Some(row) => Some(row.env),
+        None => None,
+    }
+}
+
+/// Returns the environment of the row before row `k`; before the first one that in which a flight opens.
+pub fn env_before(spec: &Spec, rows: &[Row], k: usize) -> Option<Env>
+    ensures { result ≡ env_before spec.now rows.now k }
+{
+    match k.checked_sub(1) {
+        Some(before) => env_in(rows, before),
+        None => Some(spec.opening_env()),
+    }
 }

@@ -8,3 +8,4 @@ mod lines;
 
 pub use acceptance::check;
 pub use bound_pairs::{bounds, find_asked, is_asked};
+pub use lines::{make_accepted_line, make_bound_line};

@@ -147,7 +147,8 @@ pub record FitsAsked (procs : List Proc) (apps : List AppSpec) (confs : List Con
   pub off_apart : (a : ℕ) → has_bit asked.off a ≡ true → given asked.on a ≡ None
 
 -- a demand whose name none before it has
-pub record IsNewDemand (procs : List Proc) (apps : List AppSpec) (confs : List Conf) (factors : List Factor) (done : List Demand) (demand : Demand) : Type 0 where
+pub record IsNewDemand (procs : List Proc) (apps : List AppSpec) (confs : List Conf) (factors : List Factor) (done : List Demand)
+    (demand : Demand) : Type 0 where
   pub name : IsFresh name_of_demand done demand.name
   pub from : demand.from < 2 ^ length confs
   pub few : length demand.wants ≤ 6

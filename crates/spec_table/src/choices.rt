@@ -184,7 +184,8 @@ pub fn read_choices(
     members: &Members<'_>,
 ) -> Result<Vec<Choice>, DocError>
     requires members { AreMembers members.now }
-    ensures value { Answers (member_in (codes "rules") (read_choices vocabulary.now.procs vocabulary.now.confs vocabulary.now.factors) (view members.now.document.now)) (λ l. l.items) result }
+    ensures value { Answers (member_in (codes "rules") (read_choices vocabulary.now.procs vocabulary.now.confs vocabulary.now.factors)
+        (view members.now.document.now)) (λ l. l.items) result }
     ensures few { IfOk result (λ l. length l.items ≤ 64) }
     ensures fits { IfOk result (λ l. AllAfter (λ _. FitsChoice vocabulary.now.procs vocabulary.now.confs vocabulary.now.factors) l.items) }
 {

@@ -174,7 +174,8 @@ fn read_asked(
     at: &Path,
 ) -> Result<Asked, DocFault>
     requires room { length at.now ≤ 24 }
-    ensures value { result ≡ read_asked vocabulary.now.procs vocabulary.now.apps vocabulary.now.confs at.now (view members.now.up.now) (view members.now.down.now) (view members.now.to.now) (view members.now.on.now) (view members.now.off.now) }
+    ensures value { result ≡ read_asked vocabulary.now.procs vocabulary.now.apps vocabulary.now.confs at.now (view members.now.up.now)
+        (view members.now.down.now) (view members.now.to.now) (view members.now.on.now) (view members.now.off.now) }
     ensures fits { IfOk result (FitsAsked vocabulary.now.procs vocabulary.now.apps vocabulary.now.confs) }
 {
     let procs = &vocabulary.procs;
@@ -201,9 +202,11 @@ struct Demands<'a> {
 impl NamedElements<Demand, ByName> for Demands<'_> {
     ghost room = { 24 };
 
-    ghost reading = { λ demands. read_demand demands.vocabulary.now.procs demands.vocabulary.now.apps demands.vocabulary.now.confs demands.vocabulary.now.factors };
+    ghost reading = { λ demands. read_demand demands.vocabulary.now.procs demands.vocabulary.now.apps demands.vocabulary.now.confs
+        demands.vocabulary.now.factors };
 
-    ghost Fits = { λ demands. IsNewDemand demands.vocabulary.now.procs demands.vocabulary.now.apps demands.vocabulary.now.confs demands.vocabulary.now.factors };
+    ghost Fits = { λ demands. IsNewDemand demands.vocabulary.now.procs demands.vocabulary.now.apps demands.vocabulary.now.confs
+        demands.vocabulary.now.factors };
 
     ghost is_new = { λ e done x fits. fits.name.new };
 
@@ -264,7 +267,8 @@ pub fn read_demands(
     at: &Path,
 ) -> Result<Vec<Demand>, DocError>
     requires room { length at.now ≤ 18 }
-    ensures value { Answers (read_demands vocabulary.now.procs vocabulary.now.apps vocabulary.now.confs vocabulary.now.factors at.now (view v.now)) (λ l. l.items) result }
+    ensures value { Answers (read_demands vocabulary.now.procs vocabulary.now.apps vocabulary.now.confs vocabulary.now.factors at.now (view v.now))
+        (λ l. l.items) result }
     ensures few { IfOk result (λ l. length l.items ≤ 64) }
     ensures fits { IfOk result (λ l. AllAfter (IsNewDemand vocabulary.now.procs vocabulary.now.apps vocabulary.now.confs vocabulary.now.factors) l.items) }
 {

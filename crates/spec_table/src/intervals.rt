@@ -84,23 +84,30 @@ struct Interval {
     ends: Ends,
 }
 
+/// The values of the members of an object that say an interval.
+#[derive(Clone, Copy)]
+struct IntervalMembers<'a> {
+    app: &'a Value,
+    variable: &'a Value,
+    least: &'a Value,
+    greatest: &'a Value,
+}
+
 /// Returns the interval of the object at this path, by its members.
 fn read_interval(
     apps: &Numbered<AppSpec, ByName>,
-    app: &Value,
-    variable: &Value,
-    least: &Value,
-    greatest: &Value,
+    members: &IntervalMembers<'_>,
     at: &Path,
 ) -> Result<Interval, DocFault>
     requires room { length at.now ≤ 40 }
     requires few { length apps.now ≤ 8 }
-    ensures value { result ≡ read_interval apps.now at.now (view app.now) (view variable.now) (view least.now) (view greatest.now) }
+    ensures value { result ≡ read_interval apps.now at.now (view members.now.app.now) (view members.now.variable.now)
+        (view members.now.least.now) (view members.now.greatest.now) }
     ensures fits { IfOk result (λ i. FitsInterval apps.now i) }
 {
-    let app = read_app_id(apps, app, &at.member("app"))?;
-    let variable = read_variable(apps.items(), app, variable, &at.member("variable"))?;
-    let ends = read_ends(least, greatest, at)?;
+    let app = read_app_id(apps, members.app, &at.member("app"))?;
+    let variable = read_variable(apps.items(), app, members.variable, &at.member("variable"))?;
+    let ends = read_ends(members.least, members.greatest, at)?;
     Ok(Interval {
         app,
         variable,
@@ -137,7 +144,13 @@ impl Elements<Invariant> for Intervals<'_> {
         let vocabulary = self.vocabulary;
         let from = read_source(&vocabulary.confs, from, &at.member("from"))?;
         let apps = &vocabulary.apps;
-        let interval = read_interval(apps, app, variable, least, greatest, at)?;
+        let members = IntervalMembers {
+            app,
+            variable,
+            least,
+            greatest,
+        };
+        let interval = read_interval(apps, &members, at)?;
         Ok(Invariant {
             from,
             app: interval.app,
@@ -172,7 +185,13 @@ impl Elements<Precondition> for Intervals<'_> {
         let vocabulary = self.vocabulary;
         let conf = read_conf_id(&vocabulary.confs, conf, &at.member("configuration"))?;
         let apps = &vocabulary.apps;
-        let interval = read_interval(apps, app, variable, least, greatest, at)?;
+        let members = IntervalMembers {
+            app,
+            variable,
+            least,
+            greatest,
+        };
+        let interval = read_interval(apps, &members, at)?;
         Ok(Precondition {
             conf,
             app: interval.app,
@@ -190,7 +209,8 @@ pub fn read_invariants(
     members: &Members<'_>,
 ) -> Result<Vec<Invariant>, DocError>
     requires members { AreMembers members.now }
-    ensures value { Answers (member_in (codes "invariants") (read_invariants vocabulary.now.apps vocabulary.now.confs) (view members.now.document.now)) (λ l. l.items) result }
+    ensures value { Answers (member_in (codes "invariants") (read_invariants vocabulary.now.apps vocabulary.now.confs) (view members.now.document.now))
+        (λ l. l.items) result }
     ensures few { IfOk result (λ l. length l.items ≤ 64) }
     ensures fits { IfOk result (λ l. AllAfter (λ _. FitsInvariant vocabulary.now.apps vocabulary.now.confs) l.items) }
 {
@@ -206,7 +226,8 @@ pub fn read_preconditions(
     members: &Members<'_>,
 ) -> Result<Vec<Precondition>, DocError>
     requires members { AreMembers members.now }
-    ensures value { Answers (member_in (codes "preconditions") (read_preconditions vocabulary.now.apps vocabulary.now.confs) (view members.now.document.now)) (λ l. l.items) result }
+    ensures value { Answers (member_in (codes "preconditions") (read_preconditions vocabulary.now.apps vocabulary.now.confs)
+        (view members.now.document.now)) (λ l. l.items) result }
     ensures few { IfOk result (λ l. length l.items ≤ 64) }
     ensures fits { IfOk result (λ l. AllAfter (λ _. FitsPrecondition vocabulary.now.apps vocabulary.now.confs) l.items) }
 {

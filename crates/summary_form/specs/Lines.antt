@@ -2,7 +2,7 @@
 use Rattle.std.specs.Prelude.{ℕ, List, ◌++◌, codes, decimal, Option, Some, None}
 use Rattle.std.specs.List.{count_by}
 use Rattle.std.specs.Prelude.{Bool, true, false, length}
-use Rattle.scram_types.specs.Lookups.{conf_name}
+use Rattle.scram_types.specs.Lookups.{conf_name, env_in, env_before}
 use Rattle.scram_types.specs.Specification.{Parts}
 use Rattle.scram_types.specs.declared.flights.Report.{Report}
 use Rattle.scram_types.specs.declared.flights.Row.{Row}
@@ -10,7 +10,7 @@ use Rattle.scram_types.specs.declared.ids.ConfId.{ConfId}
 use Rattle.scram_types.specs.declared.specification.AppSpec.{AppSpec}
 use Rattle.trace_text.specs.Text.{target_text}
 use Rattle.flight_facts.specs.Acts.{count_acts}
-use Rattle.flight_facts.specs.Decisions.{cause_text, difference_or_dash, env_at, env_before}
+use Rattle.flight_facts.specs.Decisions.{cause_text, difference_or_dash}
 use Rattle.flight_facts.specs.Extremes.{extremes_of, extremes_text}
 use Rattle.flight_facts.specs.Gaps.{gap_text, longest_gap}
 use Rattle.flight_facts.specs.Margins.{margin_of}
@@ -41,7 +41,7 @@ reconfiguration_line spec rows earlier report =
 -- the line of what changed in row k
 abbrev pub change_line : Parts → List Row → ℕ → List ℕ
 change_line spec rows k =
-    codes "  frame " ++ decimal k ++ codes " " ++ difference_or_dash spec (env_before spec rows k) (env_at rows k) ++ codes "\n"
+    codes "  frame " ++ decimal k ++ codes " " ++ difference_or_dash spec (env_before spec rows k) (env_in rows k) ++ codes "\n"
 
 -- the line of application a
 abbrev pub app_line : List Row → ℕ → AppSpec → List ℕ

@@ -5,13 +5,14 @@ use Rattle.scram_types.specs.Specification.{Parts}
 use Rattle.scram_types.specs.declared.flights.Report.{Report}
 use Rattle.scram_types.specs.declared.flights.Row.{Row}
 use Rattle.scram_types.specs.declared.specification.AppSpec.{AppSpec}
-use Rattle.flight_facts.specs.Decisions.{decided_in, differ, env_at, env_before}
+use Rattle.flight_facts.specs.Decisions.{decided_in, differ}
 use Rattle.form_base.specs.Texts.{texts_below}
 use Rattle.summary_form.specs.Lines.{app_line, change_line, flight_line, reconfiguration_line, world_line}
+use Rattle.scram_types.specs.Lookups.{env_in, env_before}
 
 -- a line, where anything changed in row k
 abbrev pub change_text : Parts → List Row → ℕ → List ℕ
-change_text spec rows k = if differ spec (env_before spec rows k) (env_at rows k) then change_line spec rows k else []
+change_text spec rows k = if differ spec (env_before spec rows k) (env_in rows k) then change_line spec rows k else []
 
 -- the first row after the one in which a reconfiguration is decided
 abbrev pub first_behind : List Row → Report → ℕ

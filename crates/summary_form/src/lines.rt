@@ -5,11 +5,12 @@ ghost use Rattle.scram_types.specs.declared.limits.TheConstants.{MAX_LINE_BYTES}
 ghost use Rattle.summary_form.specs.Lines.{app_line, change_line, count_unfinished, flight_line, has_no_target, ranges_text, reconfiguration_line, world_line};
 
 use flight_facts::acts::{ActWord, count_acts};
-use flight_facts::decisions::{add_cause, add_difference_or_dash, env_at, env_before};
+use flight_facts::decisions::{add_cause, add_difference_or_dash};
 use flight_facts::extremes::{Extremes, Quantity, add_extremes, extremes_of};
 use flight_facts::gaps::{add_gap, longest_gap};
 use flight_facts::margins::add_margin;
 use form_base::lines::add_counts;
+use scram_types::lookups::{env_before, env_in};
 use scram_types::{AppSpec, ConfId, Flown, Report, Row, Spec};
 use trace_text::lines::Line;
 use trace_text::report_lines::add_target;
@@ -82,7 +83,7 @@ pub fn make_change_line(spec: &Spec, rows: &[Row], k: usize) -> Line
     line.text(b"  frame ");
     line.number(k as u32);
     line.text(b" ");
-    add_difference_or_dash(&mut line, spec, env_before(spec, rows, k), env_at(rows, k));
+    add_difference_or_dash(&mut line, spec, env_before(spec, rows, k), env_in(rows, k));
     line.text(b"\n");
     line
 }

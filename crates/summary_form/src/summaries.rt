@@ -11,10 +11,11 @@ use crate::lines::{
     make_app_line, make_change_line, make_flight_line, make_reconfiguration_line, make_world_line,
 };
 use flight_facts::acts::count_apps;
-use flight_facts::decisions::{decided_in, differ, env_at, env_before};
+use flight_facts::decisions::{decided_in, differ};
 use form_base::status::{ANSWERED, Status};
 use form_base::telling::{status_after, tell_refusal};
 use scram_io::{Files, Sink, SinkFault};
+use scram_types::lookups::{env_before, env_in};
 use scram_types::{Flown, Report, Row, Spec};
 use std::alloc::Global;
 use trace_files::{TraceFiles, read_flight};
@@ -166,7 +167,7 @@ fn put_change<K: Sink>(out: &mut K, spec: &Spec, rows: &[Row], k: usize) -> Resu
     requires { k < 2 ^ 32 }
     ensures { Prints result (K.state out.old) (K.state out.new) (change_text spec.now rows.now k) }
 {
-    if differ(spec, env_before(spec, rows, k), env_at(rows, k)) {
+    if differ(spec, env_before(spec, rows, k), env_in(rows, k)) {
         out.put(make_change_line(spec, rows, k).as_bytes())
     } else {
         Ok(())

@@ -58,7 +58,8 @@ fn read_flown<F: Files>(
     trace: &str,
     files: &mut F,
 ) -> Result<Flown, Refusal>
-    ensures reads { (view : View) → Prepares (AsksTrace spec.now trace.now (λ (flown : Flown). WithoutFiles (Gives (ANSWERED, view spec.now flown.rows flown.reports))))
+    ensures reads { (view : View) → Prepares (AsksTrace spec.now trace.now (λ (flown : Flown). WithoutFiles
+        (Gives (ANSWERED, view spec.now flown.rows flown.reports))))
         (λ (flown : Flown). Gives (ANSWERED, view spec.now flown.rows flown.reports)) (trace.now ∷ []) (F.state files.old) (F.state files.new) result }
     ensures rows { IfOk result (λ flown. length flown.rows < 2 ^ 32) }
     ensures reports { IfOk result (λ flown. length flown.reports < 2 ^ 32) }

@@ -16,11 +16,12 @@ use Rattle.coverage_check.specs.Timing.{greatest_bound}
 use Rattle.frame_model.specs.Runs.{act_at}
 use Rattle.trace_props.specs.Breaks.{BreaksSp6}
 use Rattle.trace_props.specs.Judging.{breaks_calm, held_since, is_another_env, is_lost, is_unsatisfied, loses_some, unsatisfied_at, unsatisfied_in}
-use Rattle.trace_props.specs.Properties.{env_in, is_satisfied}
+use Rattle.trace_props.specs.Properties.{is_satisfied}
 use Rattle.trace_props.proofs.Firsts.{InSpan, IsLeastOf, least_moved, least_span}
 use Rattle.trace_props.proofs.Tests.{by_test}
 use Rattle.trace_props.proofs.Accepting.{same_env}
 use Rattle.trace_props.proofs.TimesKept.{same_self}
+use Rattle.scram_types.specs.Lookups.{env_in}
 
 not_of_true : (b : Bool) → not b ≡ true → b ≡ false
 not_of_true true h = cc

@@ -17,12 +17,13 @@ use Rattle.scram_types.specs.Searches.{least_from}
 use Rattle.fault_script.specs.Assumption.{is_same_env}
 use Rattle.frame_model.specs.Readings.{reports}
 use Rattle.trace_props.specs.Judging.{causeless_at, changes_in, follows, has_cause, is_another_env, settles}
-use Rattle.trace_props.specs.Properties.{ChangesIn, FollowsAnother, KeepsSp5, env_before, env_in}
+use Rattle.trace_props.specs.Properties.{ChangesIn, FollowsAnother, KeepsSp5}
 use Rattle.trace_props.proofs.Firsts.{InSpan, IsLeastOf, least_span}
 use Rattle.trace_props.proofs.Tests.{by_test}
 use Rattle.trace_props.proofs.Accepting.{same_env}
 use Rattle.trace_props.proofs.TimesKept.{not_same}
 use Rattle.trace_props.proofs.TargetsJudged.{Judges}
+use Rattle.scram_types.specs.Lookups.{env_before, env_in}
 
 -- SP5: changes of the environment
 row_past : (rows : List Row) (f : ℕ) → slice_get rows f ≡ None → length rows ≤ f

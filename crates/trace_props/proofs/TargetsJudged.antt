@@ -13,10 +13,11 @@ use Rattle.scram_types.specs.Searches.{least_from}
 use Rattle.choice_table.specs.Choices.{choose}
 use Rattle.trace_props.specs.Breaks.{Fails, last_frame}
 use Rattle.trace_props.specs.Judging.{chooses, chooses_in, late_at, late_by, unchosen_at, unchosen_to, unless_chosen}
-use Rattle.trace_props.specs.Properties.{KeepsSp2, KeepsSp3, bound_on, env_in}
+use Rattle.trace_props.specs.Properties.{KeepsSp2, KeepsSp3, bound_on}
 use Rattle.trace_props.proofs.Firsts.{InSpan, IsLeastOf, least_span}
 use Rattle.trace_props.proofs.Tests.{by_test}
 use Rattle.trace_props.proofs.Differing.{same_id}
+use Rattle.scram_types.specs.Lookups.{env_in}
 
 -- a property of one reconfiguration, broken in one frame or kept
 abbrev pub Judges : Type 0 → ℕ → Option ℕ → Type 0

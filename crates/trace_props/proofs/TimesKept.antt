@@ -16,7 +16,7 @@ use Rattle.scram_types.proofs.Booleans.{true_false, and_true}
 use Rattle.scram_types.proofs.Naturals.{equal_test}
 use Rattle.scram_types.proofs.Options.{same_some}
 use Rattle.scram_types.proofs.Items.{first_part}
-use Rattle.scram_types.specs.Lookups.{conf_id}
+use Rattle.scram_types.specs.Lookups.{conf_id, env_in}
 use Rattle.scram_types.proofs.Searches.{get_listed, length_listed}
 use Rattle.choice_table.specs.Choices.{choose}
 use Rattle.fault_script.specs.Assumption.{is_same_env}
@@ -27,7 +27,7 @@ use Rattle.frame_model.specs.Readings as readings
 use Rattle.trace_props.proofs.Courses.{CourseReading, CourseReading.Steady, CourseReading.Leaving, CourseReport, course_changes_at, course_reading_before, course_report_at}
 use Rattle.trace_props.proofs.Promises as promises
 use Rattle.trace_props.proofs.Promises.{IsCourseAllAssured, CourseHasCause, IsCourseCutOff}
-use Rattle.trace_props.specs.Properties.{ChangesIn, FollowsAnother, KeepsSp2, KeepsSp3, KeepsSp5, env_in}
+use Rattle.trace_props.specs.Properties.{ChangesIn, FollowsAnother, KeepsSp2, KeepsSp3, KeepsSp5}
 use Rattle.trace_props.proofs.Areas.{reported_of}
 use Rattle.trace_props.proofs.GivenBounds.{given_most}
 use Rattle.trace_props.proofs.Lists.{each_append, each_option}

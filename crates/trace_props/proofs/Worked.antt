@@ -21,8 +21,9 @@ use Rattle.coverage_check.proofs.Accepting.{accepts_where_unrefused}
 use Rattle.coverage_check.proofs.Examples.{bound, first_rule, other_rule}
 use Rattle.frame_model.specs.Flights.{reports_of, row_at, rows_of}
 use Rattle.frame_model.specs.Runs.{act_at, running}
-use Rattle.trace_props.specs.Properties.{IsCalm, env_in}
+use Rattle.trace_props.specs.Properties.{IsCalm}
 use Rattle.trace_props.proofs.Examples.{mode, monitor, moved, placed, spec}
+use Rattle.scram_types.specs.Lookups.{env_in}
 
 each_more : {A : Type 0} (P : A → Type 0) (x : A) (xs : List A) → P x → Each P xs → Each P (x ∷ xs)
 each_more P x xs here rest zero y e = subst P (same_Some x y e) here

@@ -26,7 +26,8 @@ use Rattle.trace_props.specs.declared.comparing.Agreement.{Agreement}
 use Rattle.trace_props.specs.declared.comparing.Agreement.TheVariants.{Alike, Apart}
 use Rattle.trace_props.specs.declared.judging.Judgement.{Judgement}
 use Rattle.trace_props.specs.Breaks.{last_frame, property_number}
-use Rattle.trace_props.specs.Properties.{bound_on, env_before, env_in, is_satisfied}
+use Rattle.trace_props.specs.Properties.{bound_on, is_satisfied}
+use Rattle.scram_types.specs.Lookups.{env_before, env_in}
 
 -- A break comes before another one: in an earlier frame, or in the same one with a lesser number.
 abbrev pub comes_before : Broken → Broken → Bool

@@ -23,7 +23,8 @@ use Rattle.scram_types.specs.declared.flights.Flown.{Flown}
 
 -- All six properties hold of a mission's rows and reports.
 abbrev pub ReconfigurationsAreAssured : Type 0
-ReconfigurationsAreAssured = (spec : Parts) (script : ScriptParts) → IsSpec spec → IsMission (mission_of spec script) → HoldsAll spec (rows_of spec script) (reports_of spec script)
+ReconfigurationsAreAssured = (spec : Parts) (script : ScriptParts) → IsSpec spec → IsMission (mission_of spec script)
+    → HoldsAll spec (rows_of spec script) (reports_of spec script)
 
 -- Where the reconfiguration began of which frame f is a part, by the rows before f.
 abbrev pub begin_in : Reading → ℕ → ℕ

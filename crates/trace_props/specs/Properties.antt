@@ -1,6 +1,6 @@
 -- The six properties of rows, and of what is reported of them. SP1 to SP5 speak of the reconfigurations that
 -- are read off the rows, whatever is reported; SP6 speaks of calm rows.
-use Rattle.std.specs.Prelude.{◌≡◌, ◌≢◌, ◌⊎◌, ℕ, zero, suc, ◌<◌, ◌≤◌, ◌+◌, Bool, true, not, List, length, slice_get, Option, Some, None, option_map}
+use Rattle.std.specs.Prelude.{◌≡◌, ◌≢◌, ◌⊎◌, ℕ, suc, ◌<◌, ◌≤◌, ◌+◌, Bool, true, not, List, length, slice_get, Option, Some, None}
 use Rattle.scram_types.specs.declared.ids.ConfId.{ConfId}
 use Rattle.scram_types.specs.declared.flights.Env.{Env}
 use Rattle.scram_types.specs.declared.flights.Report.{Report}
@@ -11,7 +11,7 @@ use Rattle.scram_types.specs.declared.specification.Policy.TheVariants.{Settle}
 use Rattle.scram_types.specs.declared.specification.Precondition.{Precondition}
 use Rattle.scram_types.specs.Numbers.{word}
 use Rattle.scram_types.specs.Specification.{Each, Parts, bound_in, greatest_bound_in}
-use Rattle.scram_types.specs.Lookups.{opening_env}
+use Rattle.scram_types.specs.Lookups.{env_before, env_in}
 use Rattle.choice_table.specs.Choices.{choose, has_source}
 use Rattle.choice_table.specs.Demands.{is_spoken_of, meets_all}
 use Rattle.app_model.specs.Areas.{Between}
@@ -19,15 +19,6 @@ use Rattle.coverage_check.specs.Timing.{greatest_bound}
 use Rattle.frame_model.specs.Readings.{reports}
 use Rattle.frame_model.specs.Runs.{act_at, running}
 use Rattle.frame_model.specs.States.{area_at}
-
--- The environment of row f, if there is such a row.
-abbrev pub env_in : List Row → ℕ → Option Env
-env_in rows f = option_map (λ (row : Row). row.env) (slice_get rows f)
-
--- The environment before row f: before the first row that in which every flight opens.
-abbrev pub env_before : Parts → List Row → ℕ → Option Env
-env_before spec rows zero = Some (opening_env spec)
-env_before spec rows (suc f) = env_in rows f
 
 -- There is a row f, and its environment is another than the one before.
 pub record ChangesIn (spec : Parts) (rows : List Row) (f : ℕ) : Type 0 where
@@ -73,8 +64,10 @@ PreconditionHolds pre row = Between (pre.least, pre.greatest) (word (area_at row
 -- SP4 of a reconfiguration: the invariants for its source hold in its rows, from the begin to the end or
 -- to the last row; the preconditions of its target hold in the row before its end.
 pub record KeepsSp4 (spec : Parts) (rows : List Row) (r : Report) : Type 0 where
-  pub throughout : Each (λ (inv : Invariant). has_source inv.from r.from ≡ true → (f : ℕ) (row : Row) → r.begin ≤ f → f ≤ r.end → slice_get rows f ≡ Some row → InvariantHolds inv row) spec.invariants
-  pub ready : Each (λ (pre : Precondition). r.to ≡ Some pre.conf → (f : ℕ) (row : Row) → suc f ≡ r.end → slice_get rows f ≡ Some row → PreconditionHolds pre row) spec.preconditions
+  pub throughout : Each (λ (inv : Invariant). has_source inv.from r.from ≡ true → (f : ℕ) (row : Row) → r.begin ≤ f → f ≤ r.end
+      → slice_get rows f ≡ Some row → InvariantHolds inv row) spec.invariants
+  pub ready : Each (λ (pre : Precondition). r.to ≡ Some pre.conf → (f : ℕ) (row : Row) → suc f ≡ r.end
+      → slice_get rows f ≡ Some row → PreconditionHolds pre row) spec.preconditions
 
 -- Another reconfiguration ended in the row before this one's begin, and saw a change after its own begin.
 pub record FollowsAnother (spec : Parts) (rows : List Row) (r : Report) : Type 0 where

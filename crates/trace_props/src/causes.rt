@@ -4,8 +4,8 @@ ghost use Rattle.std.specs.Prelude.{◌≡◌, ◌+◌, ◌-◌};
 ghost use Rattle.scram_types.specs.Searches.{least_from};
 ghost use Rattle.fault_script.specs.Assumption.{is_same_env};
 ghost use Rattle.trace_props.specs.Judging.{causeless_at, changes_in, follows, has_cause, is_another_env, settles};
-ghost use Rattle.trace_props.specs.Properties.{env_before, env_in};
 
+use scram_types::lookups::{env_before, env_in};
 use scram_types::{Env, Policy, Report, Row, Spec};
 
 // Returns the frame in which SP5 is broken: the begin, where the environment changed neither in it nor in the next,
@@ -76,24 +76,6 @@ fn changes_in(spec: &Spec, rows: &[Row], frame: usize) -> bool
     ensures { result ≡ changes_in spec.now rows.now frame }
 {
     is_another_env(env_in(rows, frame), env_before(spec, rows, frame))
-}
-
-pub(crate) fn env_in(rows: &[Row], frame: usize) -> Option<Env>
-    ensures { result ≡ env_in rows.now frame }
-{
-    match rows.get(frame) {
-        Some(row) => Some(row.env),
-        None => None,
-    }
-}
-
-fn env_before(spec: &Spec, rows: &[Row], frame: usize) -> Option<Env>
-    ensures { result ≡ env_before spec.now rows.now frame }
-{
-    match frame.checked_sub(1) {
-        Some(before) => env_in(rows, before),
-        None => Some(spec.opening_env()),
-    }
 }
 
 pub(crate) fn is_another_env(env: Option<Env>, before: Option<Env>) -> bool

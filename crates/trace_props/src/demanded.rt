@@ -4,10 +4,11 @@ ghost use Rattle.std.specs.Prelude.{◌≡◌, ◌<◌, ◌^◌, length, slice_g
 ghost use Rattle.trace_props.specs.Judging.{breaks_after, held_by, is_lost, is_unsatisfied, loses_some, unsatisfied_at, unsatisfied_in};
 ghost use Rattle.trace_props.specs.Properties.{is_satisfied, satisfies};
 
-use crate::causes::{env_in, is_another_env};
+use crate::causes::is_another_env;
 use choice_table::{is_spoken_of, meets_all};
 use coverage_check::greatest_bound;
 use frame_model::running;
+use scram_types::lookups::env_in;
 use scram_types::{Act, ConfId, Env, Row, Spec};
 
 // Returns the frame of the first calm row in which what runs does not satisfy the demands.

@@ -120,7 +120,7 @@ fn read_placed(spec: &Spec, next: u8, words: &Words<'_>) -> Result<Done, u8>
         return Err(rule::NO_FORM);
     };
     match slash_sides(words.word_at(3)) {
-        Some((k, n)) => read_phase(spec, next, words, phase, k, n),
+        Some(sides) => read_phase(spec, next, words, phase, sides),
         None => Err(rule::NO_FORM),
     }
 }
@@ -155,10 +155,9 @@ fn read_phase(
     next: u8,
     words: &Words<'_>,
     phase: Phase,
-    k: &[u8],
-    n: &[u8],
+    sides: (&[u8], &[u8]),
 ) -> Result<Done, u8>
-    ensures done { result ≡ phase_line spec.now next words.now phase (k.now, n.now) }
+    ensures done { result ≡ phase_line spec.now next words.now phase (sides.entry.0.now, sides.entry.1.now) }
     ensures below { IfOk result (λ done. next < length spec.now.apps) }
 {
     let Some(app) = find_app(spec, words.word_at(1)) else {
@@ -167,10 +166,10 @@ fn read_phase(
     let Some(proc) = spec.proc_named(words.word_at(4)) else {
         return Err(rule::UNKNOWN_NAME);
     };
-    let Some(k) = read_number(k, PHASE_LIMIT) else {
+    let Some(k) = read_number(sides.0, PHASE_LIMIT) else {
         return Err(rule::WRONG_NUMBER);
     };
-    let Some(n) = read_number(n, PHASE_LIMIT) else {
+    let Some(n) = read_number(sides.1, PHASE_LIMIT) else {
         return Err(rule::WRONG_NUMBER);
     };
     let Some(area) = read_area(words, 6) else {

@@ -79,7 +79,11 @@ fn read_stable(spec: &Spec, next: usize, words: &Words<'_>) -> Result<Row, u8>
     let Some(values) = find_environment(spec, words, 4) else {
         return Err(rule::UNKNOWN_NAME);
     };
-    read_row_end(spec, next, words, 4, KMode::Stable(conf), values)
+    let begun = Begun {
+        mode: KMode::Stable(conf),
+        values,
+    };
+    read_row_end(spec, next, words, 4, begun)
 }
 
 fn read_moving(spec: &Spec, next: usize, words: &Words<'_>) -> Result<Row, u8>
@@ -102,19 +106,13 @@ fn read_moving(spec: &Spec, next: usize, words: &Words<'_>) -> Result<Row, u8>
         return Err(rule::WRONG_NUMBER);
     };
     let since = since as u32;
-    read_row_end(
-        spec,
-        next,
-        words,
-        7,
-        KMode::Moving {
-            from,
-            halting,
-            to,
-            since,
-        },
-        values,
-    )
+    let mode = KMode::Moving {
+        from,
+        halting,
+        to,
+        since,
+    };
+    read_row_end(spec, next, words, 7, Begun { mode, values })
 }
 
 // Returns the values of an environment whose words begin at a place, where it has no unknown name.
@@ -128,16 +126,22 @@ fn find_environment(spec: &Spec, words: &Words<'_>, at: usize) -> Option<[u8; 6]
     find_values(spec, words.word_at(at + 1))
 }
 
+/// What the first words of a row's line name: its mode and the values of the factors.
+#[derive(Clone, Copy)]
+struct Begun {
+    mode: KMode,
+    values: [u8; 6],
+}
+
 fn read_row_end(
     spec: &Spec,
     next: usize,
     words: &Words<'_>,
     at: usize,
-    mode: KMode,
-    values: [u8; 6],
+    begun: Begun,
 ) -> Result<Row, u8>
     requires { at ≤ 7 }
-    ensures row { result ≡ row_end spec.now next words.now at mode values }
+    ensures row { result ≡ row_end spec.now next words.now at begun.mode begun.values }
     ensures below { IfOk result (λ row. next < MAX_FRAMES) }
 {
     let Some(frame) = read_number(words.word_at(1), u64::from(MAX_FRAMES)) else {
@@ -152,6 +156,7 @@ fn read_row_end(
     let Some(up) = read_up(spec.procs.items(), words.word_at(at + 3)) else {
         return Err(rule::OUT_OF_ORDER);
     };
+    let Begun { mode, values } = begun;
     let env = Env {
         up,
         factors: values,

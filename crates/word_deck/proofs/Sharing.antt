@@ -52,5 +52,5 @@ module _ (D : RattleType) (g : Ghosts D.Denot) (s : Sends (table_of D.Denot g)) 
   kit_send : IsSend (pair.the_row D g)
   kit_send = recorded_send (pair.the_field D g).row _ _ (pair.the_type D g).to_one kit_fields
 
-  pub shelf_sync : IsSync (cell.the_row D g)
-  shelf_sync = search (kit_send, sendable, crosses) depth 40 fits 5000
+  pub cell_sync : IsSync (cell.the_row D g)
+  cell_sync = search (kit_send, sendable, crosses) depth 40 fits 5000

@@ -77,6 +77,22 @@ pub(crate) struct Resources {
     pub(crate) asked: [bool; 8],
 }
 
+/// A mission, and what its actors share.
+#[derive(Clone, Copy)]
+pub(crate) struct Shared<'a> {
+    pub(crate) mission: &'a Mission,
+    pub(crate) resources: &'a Resources,
+}
+
+/// What one processor flies with: the mission, the words, the cell of its racks, and whether a thread is asked for it.
+#[derive(Clone, Copy)]
+pub(crate) struct Site<'a> {
+    pub(crate) mission: &'a Mission,
+    pub(crate) words: &'a WordTable,
+    pub(crate) cell: &'a RackCell,
+    pub(crate) asked: bool,
+}
+
 /// Flies a processor until nothing is left to do.
 pub(crate) fn fly_crew<R: Wait>(
     rt: &R,
@@ -106,17 +122,21 @@ pub(crate) fn fly_crew<R: Wait>(
 pub(crate) fn start<'s, E, R: Wait + Threads + Sync>(
     scope: &Scope<'s, E>,
     rt: &'s R,
-    mission: &'s Mission,
-    words: &'s WordTable,
-    cell: &'s RackCell,
+    site: &Site<'s>,
     seat: Seat,
 ) -> Result<PromisedHandle<Landing, Lander>, Landing>
-    requires mission { mission_in words.now ≡ mission.now }
-    requires seat { IsSeatOf words.now seat }
+    requires mission { mission_in site.now.words.now ≡ site.now.mission.now }
+    requires seat { IsSeatOf site.now.words.now seat }
     requires opening { seat_place seat ≡ At 0 0 }
-    ensures thread { IfOk result (λ handle. (handle.promise.0.value ≡ words.now) × (handle.promise.1.value ≡ seat)) }
-    ensures back { IfErr result (λ landing. Lands words.now seat landing) }
+    ensures thread { IfOk result (λ handle. (handle.promise.0.value ≡ site.now.words.now) × (handle.promise.1.value ≡ seat)) }
+    ensures back { IfErr result (λ landing. Lands site.now.words.now seat landing) }
 {
+    let Site {
+        mission,
+        words,
+        cell,
+        asked: _,
+    } = *site;
     let promise = Lander(Snapshot::of(words), Snapshot::of(&seat));
     let spawned = scope.spawn_with(
         promise,
@@ -186,23 +206,16 @@ pub(crate) fn crew_from<R: Wait>(rt: &R, words: &WordTable, cell: &RackCell, sea
 
 /// Returns the seat of a processor that has landed; one that has not flown is flown by the caller, with the pair from
 /// the cell.
-pub(crate) fn land<R: Wait>(
-    rt: &R,
-    mission: &Mission,
-    words: &WordTable,
-    cell: &RackCell,
-    landing: Landing,
-    was: Snapshot<Seat>,
-) -> Seat
-    requires mission { mission_in words.now ≡ mission.now }
-    requires lands { Lands words.now was.value landing }
-    requires seat { IsSeatOf words.now was.value }
+pub(crate) fn land<R: Wait>(rt: &R, site: &Site<'_>, landing: Landing, was: Snapshot<Seat>) -> Seat
+    requires mission { mission_in site.now.words.now ≡ site.now.mission.now }
+    requires lands { Lands site.now.words.now was.value landing }
+    requires seat { IsSeatOf site.now.words.now was.value }
     requires opening { seat_place was.value ≡ At 0 0 }
-    ensures { IsLanded words.now (proc_of was.value) result }
+    ensures { IsLanded site.now.words.now (proc_of was.value) result }
 {
     if landing.flown {
         return landing.seat;
     }
-    let crew = crew_from(rt, words, cell, landing.seat);
-    fly_crew(rt, mission, words, crew)
+    let crew = crew_from(rt, site.words, site.cell, landing.seat);
+    fly_crew(rt, site.mission, site.words, crew)
 }

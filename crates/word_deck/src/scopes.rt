@@ -8,7 +8,7 @@ ghost use Rattle.word_deck.specs.Flights.{AllCrewsFit, AreLanded, AreOpen, IsBoa
 
 use crate::crews::Crew;
 use crate::kernel_actors::KernelActor;
-use crate::landings::{Lander, Landing, RackCell, Resources, crew_from, fly_crew, land, start};
+use crate::landings::{Lander, Landing, Shared, Site, crew_from, fly_crew, land, start};
 use crate::turns::Turn;
 use coverage_check::Mission;
 use std::snapshot::Snapshot;
@@ -43,47 +43,46 @@ pub(crate) enum Boarding {
 /// Flies all processors and the kernel, which comes back with its last note made.
 pub(crate) fn fly<K: KernelActor, R: Threads + Wait + Sync>(
     rt: &R,
-    mission: &Mission,
-    resources: &Resources,
+    shared: &Shared<'_>,
     kernel: K,
     roster: Roster,
 ) -> (K, Vec<Seat>)
-    requires mission { mission_in resources.now.words ≡ mission.now }
-    requires kernel { K.mission_of kernel ≡ mission.now }
-    requires seated { K.seated resources.now.words kernel }
-    requires waiting { AreOpen resources.now.words roster.waiting.items }
+    requires mission { mission_in shared.now.resources.now.words ≡ shared.now.mission.now }
+    requires kernel { K.mission_of kernel ≡ shared.now.mission.now }
+    requires seated { K.seated shared.now.resources.now.words kernel }
+    requires waiting { AreOpen shared.now.resources.now.words roster.waiting.items }
     requires own { vec_len roster.own ≡ 0 }
     requires landed { vec_len roster.landed ≡ 0 }
     requires own_room { vec_len roster.waiting ≤ vec_capacity roster.own }
     requires room { vec_len roster.waiting ≤ vec_capacity roster.landed }
-    ensures mission { K.mission_of result.0 ≡ mission.now }
-    ensures seated { K.seated resources.now.words result.0 }
-    ensures done { K.done resources.now.words result.0 }
+    ensures mission { K.mission_of result.0 ≡ shared.now.mission.now }
+    ensures seated { K.seated shared.now.resources.now.words result.0 }
+    ensures done { K.done shared.now.resources.now.words result.0 }
     ensures lent { K.lent result.0 ≡ K.lent kernel }
-    ensures seats { AreLanded resources.now.words result.1.items }
+    ensures seats { AreLanded shared.now.resources.now.words result.1.items }
     ensures count { vec_len result.1 ≡ vec_len roster.waiting }
 {
     thread::scope(
         thread::scope_env(),
         rt,
         |scope| -> (K, Vec<Seat>)
-            requires mission { mission_in resources.now.words ≡ mission.now }
-            requires kernel { K.mission_of kernel ≡ mission.now }
-            requires seated { K.seated resources.now.words kernel }
-            requires waiting { AreOpen resources.now.words roster.waiting.items }
+            requires mission { mission_in shared.now.resources.now.words ≡ shared.now.mission.now }
+            requires kernel { K.mission_of kernel ≡ shared.now.mission.now }
+            requires seated { K.seated shared.now.resources.now.words kernel }
+            requires waiting { AreOpen shared.now.resources.now.words roster.waiting.items }
             requires own { vec_len roster.own ≡ 0 }
             requires landed { vec_len roster.landed ≡ 0 }
             requires own_room { vec_len roster.waiting ≤ vec_capacity roster.own }
             requires room { vec_len roster.waiting ≤ vec_capacity roster.landed }
-            ensures mission { K.mission_of result.0 ≡ mission.entry.now }
-            ensures seated { K.seated resources.entry.now.words result.0 }
-            ensures done { K.done resources.entry.now.words result.0 }
+            ensures mission { K.mission_of result.0 ≡ shared.entry.now.mission.now }
+            ensures seated { K.seated shared.entry.now.resources.now.words result.0 }
+            ensures done { K.done shared.entry.now.resources.now.words result.0 }
             ensures lent { K.lent result.0 ≡ K.lent kernel }
-            ensures seats { AreLanded resources.entry.now.words result.1.items }
+            ensures seats { AreLanded shared.entry.now.resources.now.words result.1.items }
             ensures count { vec_len result.1 ≡ vec_len roster.waiting }
         {
             let mut roster = roster;
-            let kernel = fly_rest(scope, rt, mission, resources, kernel, &mut roster);
+            let kernel = fly_rest(scope, rt, shared, kernel, &mut roster);
             let Roster {
                 waiting: _,
                 own: _,
@@ -98,46 +97,44 @@ pub(crate) fn fly<K: KernelActor, R: Threads + Wait + Sync>(
 fn fly_rest<'s, E, K: KernelActor, R: Threads + Wait + Sync>(
     scope: &Scope<'s, E>,
     rt: &'s R,
-    mission: &'s Mission,
-    resources: &'s Resources,
+    shared: &Shared<'s>,
     kernel: K,
     roster: &mut Roster,
 ) -> K
-    requires mission { mission_in resources.now.words ≡ mission.now }
-    requires kernel { K.mission_of kernel ≡ mission.now }
-    requires seated { K.seated resources.now.words kernel }
-    requires waiting { AreOpen resources.now.words roster.old.waiting.items }
-    requires own { AllCrewsFit resources.now.words roster.old.own.items }
+    requires mission { mission_in shared.now.resources.now.words ≡ shared.now.mission.now }
+    requires kernel { K.mission_of kernel ≡ shared.now.mission.now }
+    requires seated { K.seated shared.now.resources.now.words kernel }
+    requires waiting { AreOpen shared.now.resources.now.words roster.old.waiting.items }
+    requires own { AllCrewsFit shared.now.resources.now.words roster.old.own.items }
     requires landed { vec_len roster.old.landed ≡ 0 }
     requires own_room { vec_len roster.old.own + vec_len roster.old.waiting ≤ vec_capacity roster.old.own }
     requires room { vec_len roster.old.waiting ≤ vec_capacity roster.old.landed }
-    ensures mission { K.mission_of result ≡ mission.now }
-    ensures seated { K.seated resources.now.words result }
-    ensures done { K.done resources.now.words result }
+    ensures mission { K.mission_of result ≡ shared.now.mission.now }
+    ensures seated { K.seated shared.now.resources.now.words result }
+    ensures done { K.done shared.now.resources.now.words result }
     ensures lent { K.lent result ≡ K.lent kernel }
-    ensures own { AllCrewsFit resources.now.words roster.new.own.items }
+    ensures own { AllCrewsFit shared.now.resources.now.words roster.new.own.items }
     ensures numbers { numbers_in roster.new.own.items ≡ numbers_in roster.old.own.items }
-    ensures seats { AreLanded resources.now.words roster.new.landed.items }
+    ensures seats { AreLanded shared.now.resources.now.words roster.new.landed.items }
     ensures count { vec_len roster.new.landed ≡ vec_len roster.old.waiting }
     ensures capacity { vec_capacity roster.new.landed ≡ vec_capacity roster.old.landed }
 {
     let seat = match roster.waiting.pop() {
         Some(seat) => seat,
-        None => return fly_kernel(rt, mission, &resources.words, kernel, &mut roster.own),
+        None => return fly_kernel(rt, shared, kernel, &mut roster.own),
     };
     let p = roster.waiting.len() % 8;
+    let resources = shared.resources;
+    let site = Site {
+        mission: shared.mission,
+        words: &resources.words,
+        cell: &resources.cells[p],
+        asked: resources.asked[p],
+    };
     let was = Snapshot::of(&seat);
-    let boarding = board(scope, rt, mission, resources, p, &mut roster.own, seat);
-    let kernel = fly_rest(scope, rt, mission, resources, kernel, roster);
-    let seat = land_boarded(
-        rt,
-        mission,
-        &resources.words,
-        &resources.cells[p],
-        boarding,
-        was,
-        &mut roster.own,
-    );
+    let boarding = board(scope, rt, &site, &mut roster.own, seat);
+    let kernel = fly_rest(scope, rt, shared, kernel, roster);
+    let seat = land_boarded(rt, &site, boarding, was, &mut roster.own);
     roster.landed.push_reserved(seat);
     kernel
 }
@@ -146,30 +143,28 @@ fn fly_rest<'s, E, K: KernelActor, R: Threads + Wait + Sync>(
 // to its end.
 fn land_boarded<R: Threads + Wait>(
     rt: &R,
-    mission: &Mission,
-    words: &WordTable,
-    cell: &RackCell,
+    site: &Site<'_>,
     boarding: Boarding,
     was: Snapshot<Seat>,
     own: &mut Vec<Crew>,
 ) -> Seat
-    requires mission { mission_in words.now ≡ mission.now }
-    requires seat { IsSeatOf words.now was.value }
+    requires mission { mission_in site.now.words.now ≡ site.now.mission.now }
+    requires seat { IsSeatOf site.now.words.now was.value }
     requires opening { seat_place was.value ≡ At 0 0 }
-    requires boarded { IsBoarded words.now was.value boarding }
-    requires own { AllCrewsFit words.now own.old.items }
+    requires boarded { IsBoarded site.now.words.now was.value boarding }
+    requires own { AllCrewsFit site.now.words.now own.old.items }
     requires last { IsBoardedLast boarding (proc_of was.value) (numbers_in own.old.items) }
-    ensures landed { IsLanded words.now (proc_of was.value) result }
-    ensures own { AllCrewsFit words.now own.new.items }
+    ensures landed { IsLanded site.now.words.now (proc_of was.value) result }
+    ensures own { AllCrewsFit site.now.words.now own.new.items }
     ensures numbers { (front : List ℕ) → numbers_in own.old.items ≡ numbers_boarded boarding (proc_of was.value) front → numbers_in own.new.items ≡ front }
 {
     match boarding {
         Boarding::Threaded(flying) => {
             let landing = flying.handle.join(rt);
-            land(rt, mission, words, cell, landing, was)
+            land(rt, site, landing, was)
         }
         Boarding::Own => match own.pop() {
-            Some(crew) => fly_crew(rt, mission, words, crew),
+            Some(crew) => fly_crew(rt, site.mission, site.words, crew),
             None => unreachable!(),
         },
         Boarding::Landed(seat) => seat,
@@ -180,22 +175,22 @@ fn land_boarded<R: Threads + Wait>(
 // where no processor waits for a turn of the caller.
 fn fly_kernel<K: KernelActor, R: Wait>(
     rt: &R,
-    mission: &Mission,
-    words: &WordTable,
+    shared: &Shared<'_>,
     mut kernel: K,
     own: &mut Vec<Crew>,
 ) -> K
-    requires mission { mission_in words.now ≡ mission.now }
-    requires kernel { K.mission_of kernel ≡ mission.now }
-    requires seated { K.seated words.now kernel }
-    requires own { AllCrewsFit words.now own.old.items }
-    ensures mission { K.mission_of result ≡ mission.now }
-    ensures seated { K.seated words.now result }
-    ensures done { K.done words.now result }
+    requires mission { mission_in shared.now.resources.now.words ≡ shared.now.mission.now }
+    requires kernel { K.mission_of kernel ≡ shared.now.mission.now }
+    requires seated { K.seated shared.now.resources.now.words kernel }
+    requires own { AllCrewsFit shared.now.resources.now.words own.old.items }
+    ensures mission { K.mission_of result ≡ shared.now.mission.now }
+    ensures seated { K.seated shared.now.resources.now.words result }
+    ensures done { K.done shared.now.resources.now.words result }
     ensures lent { K.lent result ≡ K.lent kernel }
-    ensures own { AllCrewsFit words.now own.new.items }
+    ensures own { AllCrewsFit shared.now.resources.now.words own.new.items }
     ensures numbers { numbers_in own.new.items ≡ numbers_in own.old.items }
 {
+    let words = &shared.resources.words;
     for _ in rt.forever() {
         match kernel.work(words) {
             Turn::Finished => return kernel,
@@ -206,7 +201,7 @@ fn fly_kernel<K: KernelActor, R: Wait>(
                 }
             }
         }
-        turn_all(mission, words, own);
+        turn_all(shared.mission, words, own);
     }
     unreachable!()
 }
@@ -227,42 +222,32 @@ fn turn_all(mission: &Mission, words: &WordTable, own: &mut Vec<Crew>)
 fn board<'s, E, R: Threads + Wait + Sync>(
     scope: &Scope<'s, E>,
     rt: &'s R,
-    mission: &'s Mission,
-    resources: &'s Resources,
-    p: usize,
+    site: &Site<'s>,
     own: &mut Vec<Crew>,
     seat: Seat,
 ) -> Boarding
-    requires mission { mission_in resources.now.words ≡ mission.now }
-    requires p { p < 8 }
-    requires seat { IsSeatOf resources.now.words seat }
+    requires mission { mission_in site.now.words.now ≡ site.now.mission.now }
+    requires seat { IsSeatOf site.now.words.now seat }
     requires opening { seat_place seat ≡ At 0 0 }
-    requires own { AllCrewsFit resources.now.words own.old.items }
+    requires own { AllCrewsFit site.now.words.now own.old.items }
     requires room { vec_len own.old < vec_capacity own.old }
-    ensures boarded { IsBoarded resources.now.words seat result }
-    ensures own { AllCrewsFit resources.now.words own.new.items }
+    ensures boarded { IsBoarded site.now.words.now seat result }
+    ensures own { AllCrewsFit site.now.words.now own.new.items }
     ensures numbers { numbers_in own.new.items ≡ numbers_boarded result (proc_of seat) (numbers_in own.old.items) }
     ensures capacity { vec_capacity own.new ≡ vec_capacity own.old }
     ensures len { vec_len own.new ≤ vec_len own.old + 1 }
 {
-    if !resources.asked[p] {
-        own.push_reserved(crew_from(rt, &resources.words, &resources.cells[p], seat));
+    if !site.asked {
+        own.push_reserved(crew_from(rt, site.words, site.cell, seat));
         return Boarding::Own;
     }
-    match start(
-        scope,
-        rt,
-        mission,
-        &resources.words,
-        &resources.cells[p],
-        seat,
-    ) {
+    match start(scope, rt, site, seat) {
         Ok(handle) => Boarding::Threaded(Flying { handle }),
         Err(landing) => {
             if landing.flown {
                 return Boarding::Landed(landing.seat);
             }
-            own.push_reserved(crew_from(rt, &resources.words, &resources.cells[p], landing.seat));
+            own.push_reserved(crew_from(rt, site.words, site.cell, landing.seat));
             Boarding::Own
         }
     }

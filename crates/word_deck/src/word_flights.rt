@@ -7,7 +7,7 @@ ghost use Rattle.word_deck.specs.Flights.{AreAtTable, AreLanded, AreOpen, IsAtTa
 ghost use Rattle.word_deck.specs.Kernels.{IsKernelDone, frames_noted};
 
 use crate::kernels::KernelCrew;
-use crate::landings::{RackCell, RackPair, Resources};
+use crate::landings::{RackCell, RackPair, Resources, Shared};
 use crate::scopes::{Roster, fly};
 use crate::watched::WatchedKernel;
 use app_model::Rack;
@@ -115,7 +115,11 @@ impl<'a> WordFlight<'a> {
     {
         let mission = self.mission;
         let (resources, kernel, roster) = self.prepare(rt, asked);
-        let (kernel, seats) = fly(rt, mission, &resources, kernel, roster);
+        let shared = Shared {
+            mission,
+            resources: &resources,
+        };
+        let (kernel, seats) = fly(rt, &shared, kernel, roster);
         land_all(mission, resources, kernel, seats)
     }
 
@@ -140,7 +144,11 @@ impl<'a> WordFlight<'a> {
         let mission = self.mission;
         let (resources, kernel, roster) = self.prepare(rt, [true; 8]);
         let kernel = WatchedKernel { kernel, watch };
-        let (kernel, seats) = fly(rt, mission, &resources, kernel, roster);
+        let shared = Shared {
+            mission,
+            resources: &resources,
+        };
+        let (kernel, seats) = fly(rt, &shared, kernel, roster);
         // A name for the reference, since the proof else does not learn what stands behind it.
         let WatchedKernel {
             kernel,

@@ -1,15 +1,15 @@
 use Rattle.std.proofs.Common.{length, codes}
 use Rattle.scram_io.proofs.Puts.{cut_more, prints_more}
 use Rattle.form_base.specs.Texts.{texts_below}
-use Rattle.columns_form.specs.Table.{heads_text, row_text}
+use Rattle.columns_form.specs.Table.{heads_text, row_line_text}
 use Rattle.columns_form.proofs.tables.put_columns.Goals as goal
 
 pub returns-in-Ok : goal.returns-in-Ok
 returns-in-Ok g c =
     prints_more c.put_rows.result _ _ _ (heads_text c.args.spec.now)
-    (texts_below (row_text c.args.spec.now c.args.rows.now) (length c.args.rows.now)) c.in-Ok.ensures c.put_rows.ensures
+    (texts_below (row_line_text c.args.spec.now c.args.rows.now) (length c.args.rows.now)) c.in-Ok.ensures c.put_rows.ensures
 
 pub returns-in-Err : goal.returns-in-Err
 returns-in-Err g c =
     cut_more _ _ (heads_text c.args.spec.now)
-    (texts_below (row_text c.args.spec.now c.args.rows.now) (length c.args.rows.now)) c.in-Err.ensures
+    (texts_below (row_line_text c.args.spec.now c.args.rows.now) (length c.args.rows.now)) c.in-Err.ensures

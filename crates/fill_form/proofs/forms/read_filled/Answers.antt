@@ -5,13 +5,12 @@ use Rattle.form_base.proofs.Reading.{settled}
 use Rattle.form_base.proofs.SpecReading.{specification_reads, specification_unread}
 use Rattle.fill_form.specs.Answers.{fill_answer}
 use Rattle.fill_form.specs.Refusing.{fill_refusal}
-use Rattle.fill_form.proofs.Says.{says_specification}
 use Rattle.fill_form.proofs.forms.read_filled.Goals as goal
 
 pub returns-in-Ok : goal.returns-in-Ok
 returns-in-Ok g c =
     specification_reads c.args.specification.now [] (λ (spec : Parts). WithoutFiles (Gives (fill_answer spec (fill_refusal spec)))) _
-    c.in-Ok.spec _ _ _ c.fill_in.result (says_specification _ _ _ _ _ c.in-Ok.ensures.loads) c.load.ensures.steady
+    c.in-Ok.spec _ _ _ c.fill_in.result c.in-Ok.ensures.loads c.load.ensures.steady
     (settled (Gives (fill_answer c.in-Ok.spec (fill_refusal c.in-Ok.spec))) _ _ c.fill_in.result (g.met.F.Files.steady_below _) c.fill_in.ensures)
 
 pub returns-in-Err : goal.returns-in-Err

@@ -1,4 +1,4 @@
-use Rattle.fault_script.proofs.Ends.{each_end}
+use Rattle.scram_types.proofs.Items.{each_end}
 use Rattle.std.proofs.Common.{◌≡◌, arith, rules, sym}
 use Rattle.std.specs.Prelude.{◌++◌, ◌∷◌, []}
 use Rattle.schedule_replay.specs.Events.{HasEvent}

@@ -14,4 +14,4 @@ pub returns-clause-complete : goal.returns-clause-complete
 returns-clause-complete g c = completes _ _ _ _ _ _ _ c.send_answer.ensures
 
 pub returns-clause-assured : goal.returns-clause-assured
-returns-clause-assured g c = assured_of _ _ _ _ _ _ _ _ (form_assures c.flights_are_assured.ensures (form_of (map string_bytes c.args.words.now))) c.send_answer.ensures
+returns-clause-assured g c = assured_of _ _ _ _ _ _ _ _ (form_assures c.flights_are_assured.ensures c.reconfigurations_are_assured.ensures (form_of (map string_bytes c.args.words.now))) c.send_answer.ensures

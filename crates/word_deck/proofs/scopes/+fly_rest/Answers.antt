@@ -6,34 +6,34 @@ use Rattle.word_deck.proofs.scopes.+fly_rest.Goals as goal
 
 pub board-boarding-requires-clause-seat : goal.board-boarding-requires-clause-seat
 board-boarding-requires-clause-seat g t c κs within =
-    (open_last c.args.resources.now.words c.args.roster.now.waiting.items c.pop.new.self.items c.pop.result c.in-Some.seat
+    (open_last c.args.shared.now.resources.now.words c.args.roster.now.waiting.items c.pop.new.self.items c.pop.result c.in-Some.seat
     c.pop.ensures.items c.in-Some.is c.requires.waiting).0
 
 pub board-boarding-requires-clause-opening : goal.board-boarding-requires-clause-opening
 board-boarding-requires-clause-opening g t c κs within =
-    (open_last c.args.resources.now.words c.args.roster.now.waiting.items c.pop.new.self.items c.pop.result c.in-Some.seat
+    (open_last c.args.shared.now.resources.now.words c.args.roster.now.waiting.items c.pop.new.self.items c.pop.result c.in-Some.seat
     c.pop.ensures.items c.in-Some.is c.requires.waiting).2
 
 pub fly_rest-kernel-requires-clause-waiting : goal.fly_rest-kernel-requires-clause-waiting
 fly_rest-kernel-requires-clause-waiting g t c κs within =
-    open_front c.args.resources.now.words c.args.roster.now.waiting.items c.pop.new.self.items c.pop.result c.in-Some.seat
+    open_front c.args.shared.now.resources.now.words c.args.roster.now.waiting.items c.pop.new.self.items c.pop.result c.in-Some.seat
     c.pop.ensures.items c.in-Some.is c.requires.waiting
 
 pub land_boarded-seat-requires-clause-seat : goal.land_boarded-seat-requires-clause-seat
 land_boarded-seat-requires-clause-seat g t c =
-    let last = open_last c.args.resources.now.words c.args.roster.now.waiting.items c.pop.new.self.items c.pop.result c.in-Some.seat
+    let last = open_last c.args.shared.now.resources.now.words c.args.roster.now.waiting.items c.pop.new.self.items c.pop.result c.in-Some.seat
     c.pop.ensures.items c.in-Some.is c.requires.waiting in
-    subst (λ seat. IsSeatOf c.args.resources.now.words seat) (sym c.of-was.ensures) last.0
+    subst (λ seat. IsSeatOf c.args.shared.now.resources.now.words seat) (sym c.of-was.ensures) last.0
 
 pub land_boarded-seat-requires-clause-opening : goal.land_boarded-seat-requires-clause-opening
 land_boarded-seat-requires-clause-opening g t c =
-    let last = open_last c.args.resources.now.words c.args.roster.now.waiting.items c.pop.new.self.items c.pop.result c.in-Some.seat
+    let last = open_last c.args.shared.now.resources.now.words c.args.roster.now.waiting.items c.pop.new.self.items c.pop.result c.in-Some.seat
     c.pop.ensures.items c.in-Some.is c.requires.waiting in
     ap seat_place c.of-was.ensures ∙ last.2
 
 pub returns-clause-seats : goal.returns-clause-seats
 returns-clause-seats g t c =
-    let last = open_last c.args.resources.now.words c.args.roster.now.waiting.items c.pop.new.self.items c.pop.result c.in-Some.seat c.pop.ensures.items c.in-Some.is c.requires.waiting in
+    let last = open_last c.args.shared.now.resources.now.words c.args.roster.now.waiting.items c.pop.new.self.items c.pop.result c.in-Some.seat c.pop.ensures.items c.in-Some.is c.requires.waiting in
     let long : length c.fly_rest-kernel.new.roster.landed.items ≡ length c.pop.new.self.items = search rules in
-    landed_more c.args.resources.now.words c.fly_rest-kernel.new.roster.landed.items c.push_reserved.new.self.items c.land_boarded-seat.result (length c.pop.new.self.items) c.fly_rest-kernel.ensures.seats long
-    (subst (λ p. IsLanded c.args.resources.now.words p c.land_boarded-seat.result) (ap proc_of c.of-was.ensures ∙ last.1) c.land_boarded-seat.ensures.landed) c.push_reserved.ensures.items
+    landed_more c.args.shared.now.resources.now.words c.fly_rest-kernel.new.roster.landed.items c.push_reserved.new.self.items c.land_boarded-seat.result (length c.pop.new.self.items) c.fly_rest-kernel.ensures.seats long
+    (subst (λ p. IsLanded c.args.shared.now.resources.now.words p c.land_boarded-seat.result) (ap proc_of c.of-was.ensures ∙ last.1) c.land_boarded-seat.ensures.landed) c.push_reserved.ensures.items

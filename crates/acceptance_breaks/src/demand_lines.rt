@@ -1,0 +1,193 @@
+//! The lines of demands, in pieces that are made without memory.
+
+ghost use Rattle.std.specs.Prelude.{◌≡◌, ◌+◌, ◌*◌, ◌<◌, ◌≤◌, ◌++◌, [], codes, length, if◌then◌else◌};
+ghost use Rattle.scram_types.specs.Bits.{has_bit};
+ghost use Rattle.scram_types.specs.Lookups.{conf_name};
+ghost use Rattle.scram_types.specs.Searches.{any_below};
+ghost use Rattle.scram_types.specs.declared.limits.TheConstants.{MAX_LINE_BYTES};
+ghost use Rattle.choice_table.specs.Demands.{is_empty_or_holds, is_placed, modes_allow};
+ghost use Rattle.choice_table.specs.Environments.{IsEnv};
+ghost use Rattle.acceptance_breaks.specs.Lines.{app_missed_text, demand_piece, first_off_missed, first_on_missed, is_off_missed, is_on_missed, members_text, missed_piece, missed_text, none_of_text, off_missed_text, whereabouts_text};
+
+use crate::choice_lines::add_situation;
+use choice_table::choose;
+use condition_breaks::facts::{count_apps, count_confs};
+use form_base::lines::demand_name;
+use scram_types::bits::{has_bit, is_in};
+use scram_types::{AppId, ConfId, Demand, Env, Mode, Modes, Place, Spec};
+use trace_text::lines::Line;
+use trace_text::row_lines::name_of_mode;
+
+// Returns the beginning of a line: a demand, and what is chosen.
+pub(crate) fn make_demand_piece(spec: &Spec, c: ConfId, k: u32, env: &Env) -> Line
+    requires { IsEnv spec.now env.now }
+    ensures { result ≡ demand_piece spec.now c k env.now }
+{
+    let mut line = Line::new();
+    line.text(b"  demand ");
+    line.text(demand_name(spec, k).as_bytes());
+    line.text(b" ");
+    add_situation(&mut line, spec, c, env);
+    line
+}
+
+// Returns the end of the line: how what is chosen does not meet the demand.
+pub(crate) fn make_missed_piece(spec: &Spec, c: ConfId, k: u32, env: &Env) -> Line
+    ensures { result ≡ missed_piece spec.now c k env.now }
+{
+    let mut line = Line::new();
+    if let Some(demand) = spec.demands.items().get(k as usize) {
+        add_missed(&mut line, spec, demand, choose(spec, c, env));
+    }
+    line.text(b"\n");
+    line
+}
+
+// Appends how configuration `c` does not meet a demand.
+fn add_missed(line: &mut Line, spec: &Spec, demand: &Demand, c: ConfId)
+    requires { length line.old + 300 ≤ MAX_LINE_BYTES }
+    ensures text { line.new ≡ line.old ++ missed_text spec.now demand.now c }
+    ensures short { length line.new ≤ length line.old + 300 }
+{
+    if is_empty_or_holds(demand.to, c) {
+        add_app_missed(line, spec, demand, c);
+    } else {
+        add_none_of(line, spec, demand);
+    }
+}
+
+// Appends the configurations of which none is chosen.
+fn add_none_of(line: &mut Line, spec: &Spec, demand: &Demand)
+    requires { length line.old + 240 ≤ MAX_LINE_BYTES }
+    ensures text { line.new ≡ line.old ++ none_of_text spec.now demand.now }
+    ensures short { length line.new ≤ length line.old + 240 }
+{
+    line.text(b", which is none of ");
+    add_members(line, spec, demand.to);
+}
+
+fn is_empty_or_holds(set: u16, c: ConfId) -> bool
+    ensures { result ≡ is_empty_or_holds set c }
+{
+    set == 0 || is_in(set, c.0)
+}
+
+// Appends the names of the configurations of a set.
+fn add_members(line: &mut Line, spec: &Spec, set: u16)
+    requires { length line.old + 216 ≤ MAX_LINE_BYTES }
+    ensures text { line.new ≡ line.old ++ members_text spec.now set }
+    ensures short { length line.new ≤ length line.old + 216 }
+{
+    let mut is_further = false;
+    for c in 0..count_confs(spec) {
+        if is_in(set, c) {
+            add_member(line, spec, is_further, ConfId(c));
+            is_further = true;
+        }
+    }
+}
+
+fn add_member(line: &mut Line, spec: &Spec, is_further: bool, c: ConfId)
+    requires { length line.old + 18 ≤ MAX_LINE_BYTES }
+    ensures text { line.new ≡ line.old ++ ((if is_further then codes ", " else []) ++ conf_name spec.now c.0) }
+    ensures short { length line.new ≤ length line.old + 18 }
+{
+    if is_further {
+        line.text(b", ");
+    }
+    line.text(spec.conf_name(c).as_bytes());
+}
+
+// Appends which application a demand misses in configuration `c`.
+fn add_app_missed(line: &mut Line, spec: &Spec, demand: &Demand, c: ConfId)
+    requires { length line.old + 60 ≤ MAX_LINE_BYTES }
+    ensures text { line.new ≡ line.old ++ app_missed_text spec.now demand.now c (first_on_missed spec.now demand.now c) }
+    ensures short { length line.new ≤ length line.old + 60 }
+{
+    match first_on_missed(spec, demand, c) {
+        Some(a) => {
+            line.text(b", in which ");
+            add_whereabouts(line, spec, AppId(a), spec.place_of(c, AppId(a)));
+        }
+        None => add_off_missed(line, spec, first_off_missed(spec, demand, c)),
+    }
+}
+
+fn add_whereabouts(line: &mut Line, spec: &Spec, app: AppId, place: Option<Place>)
+    requires { length line.old + 40 ≤ MAX_LINE_BYTES }
+    ensures text { line.new ≡ line.old ++ whereabouts_text spec.now app.0 place }
+    ensures short { length line.new ≤ length line.old + 40 }
+{
+    line.text(spec.app_name(app).as_bytes());
+    match place {
+        Some(place) => {
+            line.text(b" is in ");
+            line.text(name_of_mode(spec.kind_of_app(app), place.mode).as_bytes());
+        }
+        None => line.text(b" is off"),
+    }
+}
+
+fn add_off_missed(line: &mut Line, spec: &Spec, missed: Option<u8>)
+    requires { length line.old + 40 ≤ MAX_LINE_BYTES }
+    ensures text { line.new ≡ line.old ++ off_missed_text spec.now missed }
+    ensures short { length line.new ≤ length line.old + 40 }
+{
+    if let Some(a) = missed {
+        line.text(b", in which ");
+        line.text(spec.app_name(AppId(a)).as_bytes());
+        line.text(b" is on");
+    }
+}
+
+// Returns the first application that has to be on and is not, or is in a mode that is not allowed.
+fn first_on_missed(spec: &Spec, demand: &Demand, c: ConfId) -> Option<u8>
+    ensures { result ≡ first_on_missed spec.now demand.now c }
+{
+    for a in 0..count_apps(spec) {
+        if is_on_missed(spec, demand, c, a) {
+            return Some(a);
+        }
+    }
+    None
+}
+
+fn is_on_missed(spec: &Spec, demand: &Demand, c: ConfId, a: u8) -> bool
+    ensures { result ≡ is_on_missed spec.now demand.now c a }
+{
+    !is_placed(demand.modes_on(AppId(a)), spec.place_of(c, AppId(a)))
+}
+
+fn is_placed(modes: Option<Modes>, place: Option<Place>) -> bool
+    ensures { result ≡ is_placed modes place }
+{
+    match (modes, place) {
+        (None, _) => true,
+        (Some(_), None) => false,
+        (Some(modes), Some(place)) => modes_allow(&modes, place.mode),
+    }
+}
+
+fn modes_allow(modes: &Modes, mode: Mode) -> bool
+    ensures { result ≡ modes_allow modes.now mode }
+{
+    modes.as_slice().is_empty() || modes.has(mode)
+}
+
+// Returns the first application that has to be off and is on.
+fn first_off_missed(spec: &Spec, demand: &Demand, c: ConfId) -> Option<u8>
+    ensures { result ≡ first_off_missed spec.now demand.now c }
+{
+    for a in 0..count_apps(spec) {
+        if is_off_missed(spec, demand, c, a) {
+            return Some(a);
+        }
+    }
+    None
+}
+
+fn is_off_missed(spec: &Spec, demand: &Demand, c: ConfId, a: u8) -> bool
+    ensures { result ≡ is_off_missed spec.now demand.now c a }
+{
+    has_bit(demand.off, a) && spec.is_on(c, AppId(a))
+}

@@ -1,0 +1,11 @@
+//! Where acceptance fails: a line for each place at which one of its conditions does not hold, in order.
+#![tactic(auto)]
+
+mod choice_lines;
+mod demand_lines;
+mod limit_lines;
+mod limits;
+mod lines;
+mod texts;
+
+pub use texts::{MAX_BREAK_LINES, make_breaks};

@@ -1,0 +1,28 @@
+-- What a configuration lacks: needs of its applications, and a difference from an earlier configuration.
+use Rattle.std.specs.Prelude.{ℕ, Bool, false, not, ◌&&◌, ◌==◌, List, slice_get, Option}
+use Rattle.std.specs.List.{list_any}
+use Rattle.std.specs.Option.{option_map_or}
+use Rattle.scram_types.specs.declared.ids.AppId.{AppId}
+use Rattle.scram_types.specs.declared.ids.ConfId.{ConfId}
+use Rattle.scram_types.specs.declared.specification.AppSpec.{AppSpec}
+use Rattle.scram_types.specs.Lookups.{conf_id, is_on}
+use Rattle.scram_types.specs.Searches.{first_below}
+use Rattle.scram_types.specs.Specification.{Parts}
+use Rattle.coverage_check.specs.Form.{is_same}
+use Rattle.coverage_check.specs.Search.{shown_if}
+
+-- Application b is one of these.
+abbrev pub is_among : List AppId → ℕ → Bool
+is_among needs b = list_any (λ (needed : AppId). needed.0 == b) needs
+
+-- Application a needs application b.
+abbrev pub is_needed : Parts → ℕ → ℕ → Bool
+is_needed spec a b = option_map_or (λ (app : AppSpec). is_among app.needs b) (slice_get spec.apps a) false
+
+-- Application a is on in configuration c, and b, which it needs, is off there.
+abbrev pub is_need_off : Parts → ConfId → ℕ → ℕ → Bool
+is_need_off spec c a b = is_on spec c a && (is_needed spec a b && not (is_on spec c b))
+
+-- The first configuration that configuration number c is the same as, of those before it.
+abbrev pub first_twin : Parts → ℕ → Option ConfId
+first_twin spec c = first_below (λ d. shown_if (is_same spec (conf_id c) (conf_id d)) (conf_id d)) c

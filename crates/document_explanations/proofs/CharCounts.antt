@@ -1,0 +1,72 @@
+-- The first characters of a text.
+use Rattle.std.proofs.Common.{◌≡◌, ℕ, suc, ◌+◌, ◌-◌, ◌<◌, ◌≤◌, Bool, true, false, cond, List, [], ◌∷◌, ◌++◌, length, refl, sym, ap, ◌∙◌, arith, append-nil, ne_eqb}
+use Rattle.std.specs.Prelude.{◌==◌, codes, nat_lt}
+use Rattle.std.specs.Fmt.{char_count, format_spec, is_char_start, padded, styled_text, take_chars}
+use Rattle.std.proofs.lemmas.Bool.{eqb-false, ltb-false, ltb-true}
+use Rattle.document_explanations.specs.Found.{cut}
+
+whole_at : (start : Bool) (n b : ℕ) (text : List ℕ) → cond start 1 0 + char_count text ≤ n
+    → ((m : ℕ) → char_count text ≤ m → take_chars m text ≡ text)
+    → cond start (cond (n == 0) [] (b ∷ take_chars (n - 1) text)) (b ∷ take_chars n text) ≡ b ∷ text
+whole_at true n b text few more = rw (ne_eqb n 0 (λ none. omega (arith, none, few))) (ap (λ (t : List ℕ). b ∷ t) (more (n - 1) (omega (arith, few))))
+whole_at false n b text few more = ap (λ (t : List ℕ). b ∷ t) (more n (omega (arith, few)))
+
+-- a text with few characters
+pub whole_text : (n : ℕ) (text : List ℕ) → char_count text ≤ n → take_chars n text ≡ text
+unfolding char_count take_chars
+whole_text n [] few = refl
+whole_text n (b ∷ text) few = whole_at (is_char_start b) n b text few (λ m less. whole_text m text less)
+
+shorter_start : (none : Bool) (n b : ℕ) (text : List ℕ) → (n == 0) ≡ none → n < 1 + char_count text
+    → ((m : ℕ) → m < char_count text → length (take_chars m text) < length text)
+    → length (cond none [] (b ∷ take_chars (n - 1) text)) < suc (length text)
+shorter_start true n b text is many more = omega arith
+shorter_start false n b text is many more =
+    let less : length (take_chars (n - 1) text) < length text = more (n - 1) (omega (arith, many, eqb-false n 0 is)) in
+    let one : suc (length (take_chars (n - 1) text)) < suc (length text) = omega (arith, less) in
+    one
+
+shorter_at : (start : Bool) (n b : ℕ) (text : List ℕ) → n < cond start 1 0 + char_count text
+    → ((m : ℕ) → m < char_count text → length (take_chars m text) < length text)
+    → length (cond start (cond (n == 0) [] (b ∷ take_chars (n - 1) text)) (b ∷ take_chars n text)) < suc (length text)
+shorter_at true n b text many more = shorter_start (n == 0) n b text refl many more
+shorter_at false n b text many more =
+    let less : length (take_chars n text) < length text = more n (omega (arith, many)) in
+    let one : suc (length (take_chars n text)) < suc (length text) = omega (arith, less) in
+    one
+
+-- a text with more characters
+pub shorter_text : (n : ℕ) (text : List ℕ) → n < char_count text → length (take_chars n text) < length text
+unfolding char_count take_chars
+shorter_text n [] many = absurd (omega (arith, many))
+shorter_text n (b ∷ text) many = shorter_at (is_char_start b) n b text many (λ m less. shorter_text m text less)
+
+padded_cut : (text : List ℕ) → padded (format_spec 32 0 0 0 60) text ≡ take_chars 60 text
+unfolding padded
+padded_cut text = let none : 0 - char_count (take_chars 60 text) ≡ 0 = omega arith in rw none (append-nil (take_chars 60 text))
+
+not_less : (n m : ℕ) → nat_lt n m ≡ false → m ≤ n
+not_less n m is = ltb-false n m is
+
+-- a text that is shown with a precision of 60
+pub shown_cut : (text : List ℕ) → styled_text (format_spec 32 0 0 0 60) text ≡ take_chars 60 text
+shown_cut text = padded_cut text
+
+cut_by : (more : Bool) (text short : List ℕ) → nat_lt 60 (char_count text) ≡ more → short ≡ take_chars 60 text → length short ≡ length text
+    → cond more (take_chars 60 text ++ codes "..") text ≡ text
+cut_by true text short is shown same = absurd (omega (arith, shorter_text 60 text (ltb-true 60 (char_count text) is), ap length shown, same))
+cut_by false text short is shown same = refl
+
+-- a text of which all is shown
+pub cut_whole : (text short : List ℕ) → short ≡ take_chars 60 text → length short ≡ length text → cut text ≡ text
+cut_whole text short shown same = cut_by (nat_lt 60 (char_count text)) text short refl shown same
+
+dots_by : (more : Bool) (text short : List ℕ) → nat_lt 60 (char_count text) ≡ more → short ≡ take_chars 60 text → (length short ≡ length text → ⊥)
+    → cond more (take_chars 60 text ++ codes "..") text ≡ short ++ codes ".."
+dots_by true text short is shown other = ap (λ (t : List ℕ). t ++ codes "..") (sym shown)
+dots_by false text short is shown other =
+    absurd (other (ap length (shown ∙ whole_text 60 text (not_less 60 (char_count text) is))))
+
+-- a text that has more
+pub cut_dots : (text short : List ℕ) → short ≡ take_chars 60 text → (length short ≡ length text → ⊥) → cut text ≡ short ++ codes ".."
+cut_dots text short shown other = dots_by (nat_lt 60 (char_count text)) text short refl shown other

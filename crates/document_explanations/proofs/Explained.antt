@@ -1,0 +1,7 @@
+-- What is refused, or for want of memory not explained.
+use Rattle.std.proofs.Common.{◌⊎◌, inl, inr}
+
+-- the first of two cases, seen another way
+pub either : {A B M : Type 0} → (A → B) → A ⊎ M → B ⊎ M
+either seen (inl is) = inl (seen is)
+either seen (inr none) = inr none

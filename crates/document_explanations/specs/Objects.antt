@@ -1,0 +1,183 @@
+-- The objects of specifications and scripts: their members in the order in which they are read, and what is wanted of each.
+use Rattle.std.specs.Prelude.{ℕ, ℤ, pos, List, [], ◌∷◌, Option, Some, None, codes, bytes_eq, if◌then◌else◌}
+use Rattle.scram_types.specs.declared.limits.TheConstants.{MAX_ALTITUDE, MAX_APPLICATIONS, MAX_ASSUMED_CHANGES, MAX_ASSUMED_HALTS, MAX_BOUND, MAX_BOUNDS, MAX_CHANGES, MAX_CONFIGURATIONS, MAX_DEMANDS, MAX_FACTORS, MAX_FRAMES, MAX_HEADING, MAX_INTERVAL_END, MAX_INTERVALS, MAX_LOAD, MAX_MODES, MAX_PHASE, MAX_PROCESSORS, MAX_RULES, MAX_VALUES, MAX_WINDOW, MIN_VALUES}
+use Rattle.scram_types.specs.Numbers.{minus}
+use Rattle.document_explanations.specs.declared.objects.Element.{Element}
+use Rattle.document_explanations.specs.declared.objects.Element.TheVariants as element
+use Rattle.document_explanations.specs.declared.objects.Length.TheVariants as length
+use Rattle.document_explanations.specs.declared.objects.Member.{Member as TableMember}
+use Rattle.document_explanations.specs.declared.objects.Number.TheVariants as number
+use Rattle.document_explanations.specs.declared.objects.Object.{Object}
+use Rattle.document_explanations.specs.declared.objects.Object.TheVariants as object
+use Rattle.document_explanations.specs.declared.objects.Text.{Text}
+use Rattle.document_explanations.specs.declared.objects.Text.TheVariants as text
+use Rattle.document_explanations.specs.declared.objects.Versions.{Versions}
+use Rattle.document_explanations.specs.declared.objects.Versions.TheVariants as versions
+use Rattle.document_explanations.specs.declared.objects.Wanted.{Wanted}
+use Rattle.document_explanations.specs.declared.objects.Wanted.TheVariants as wanted
+
+-- A member of an object: its name, the versions of the document that have it, and what is wanted of it.
+pub record Member : Type 0 where
+  pub name : List ℕ
+  pub versions : Versions
+  pub wanted : Wanted
+
+-- A member of the code's table as plain data.
+abbrev pub member_read : TableMember → Member
+member_read m = record { name = m.name.now; versions = m.versions; wanted = m.wanted }
+
+-- A member that some versions have.
+abbrev pub later : List ℕ → Versions → Wanted → Member
+later name versions wanted = record { name = name; versions = versions; wanted = wanted }
+
+-- A member that every version has.
+abbrev pub has : List ℕ → Wanted → Member
+has name wanted = later name versions.All wanted
+
+-- A list of `least` to `most` elements.
+abbrev pub list : ℕ → ℕ → Element → Wanted
+list least most element = wanted.List (length.Within least most) element
+
+-- A list of `least` to `most` objects.
+abbrev pub objects : ℕ → ℕ → Object → Wanted
+objects least most object = list least most (element.Object object)
+
+-- A list of up to `most` texts.
+abbrev pub texts : ℕ → Text → Wanted
+texts most text = list 0 most (element.Text text)
+
+-- A number from `least` to `greatest`.
+abbrev pub whole : ℕ → ℕ → Wanted
+whole least greatest = wanted.Number (number.Whole least greatest)
+
+-- A number from `least` to `greatest`, which may be negative.
+abbrev pub signed : ℤ → ℤ → Wanted
+signed least greatest = wanted.Number (number.Signed least greatest)
+
+-- An end of an interval.
+abbrev pub interval_end : Wanted
+interval_end = signed (minus 1000000000) MAX_INTERVAL_END
+
+-- The members that an invariant and a precondition have behind their configuration.
+abbrev pub interval_members : List Member
+interval_members =
+    has (codes "app") (wanted.Text text.Application) ∷
+    has (codes "variable") (wanted.Text text.Variable) ∷
+    has (codes "least") interval_end ∷
+    has (codes "greatest") interval_end ∷
+    []
+
+-- The members of an object, in the order in which they are read.
+abbrev pub members_of : Object → List Member
+members_of object.Specification =
+    has (codes "scram") (wanted.Number number.SpecificationVersion) ∷
+    has (codes "processors") (objects 1 MAX_PROCESSORS object.Processor) ∷
+    has (codes "apps") (objects 1 MAX_APPLICATIONS object.Application) ∷
+    has (codes "configurations") (objects 1 MAX_CONFIGURATIONS object.Configuration) ∷
+    has (codes "factors") (objects 0 MAX_FACTORS object.Factor) ∷
+    has (codes "rules") (objects 0 MAX_RULES object.Rule) ∷
+    has (codes "bounds") (objects 0 MAX_BOUNDS object.Bound) ∷
+    has (codes "start") (wanted.Text text.Configuration) ∷
+    has (codes "goal") (wanted.Object object.Goal) ∷
+    has (codes "invariants") (objects 0 MAX_INTERVALS object.Invariant) ∷
+    has (codes "preconditions") (objects 0 MAX_INTERVALS object.Precondition) ∷
+    has (codes "assumption") (wanted.Object object.Assumption) ∷
+    later (codes "policy") versions.SecondOn (wanted.Text text.Policy) ∷
+    later (codes "demands") versions.Third (objects 0 MAX_DEMANDS object.Demand) ∷
+    []
+members_of object.Processor =
+    has (codes "name") (wanted.Text text.Name) ∷
+    has (codes "capacity") (whole 0 MAX_LOAD) ∷
+    []
+members_of object.Application =
+    has (codes "name") (wanted.Text text.Name) ∷
+    has (codes "kind") (wanted.Text text.Kind) ∷
+    has (codes "needs") (texts MAX_APPLICATIONS text.Application) ∷
+    has (codes "modes") (objects 1 MAX_MODES object.Mode) ∷
+    []
+members_of object.Mode =
+    has (codes "mode") (wanted.Text text.Mode) ∷
+    has (codes "load") (whole 0 MAX_LOAD) ∷
+    has (codes "halt") (whole 1 MAX_PHASE) ∷
+    has (codes "prepare") (whole 1 MAX_PHASE) ∷
+    has (codes "init") (whole 1 MAX_PHASE) ∷
+    []
+members_of object.Configuration =
+    has (codes "name") (wanted.Text text.Name) ∷
+    has (codes "apps") (objects 0 MAX_APPLICATIONS object.Place) ∷
+    []
+members_of object.Place =
+    has (codes "app") (wanted.Text text.Application) ∷
+    has (codes "mode") (wanted.Text text.Mode) ∷
+    has (codes "on") (wanted.Text text.Processor) ∷
+    []
+members_of object.Factor =
+    has (codes "name") (wanted.Text text.Name) ∷
+    has (codes "values") (list MIN_VALUES MAX_VALUES (element.Text text.Name)) ∷
+    []
+members_of object.Rule =
+    has (codes "from") (wanted.Text text.ConfigurationOrAny) ∷
+    has (codes "when") (objects 0 MAX_FACTORS object.RequiredValue) ∷
+    has (codes "up") (texts MAX_PROCESSORS text.Processor) ∷
+    has (codes "to") (wanted.Text text.Configuration) ∷
+    []
+members_of object.RequiredValue =
+    has (codes "factor") (wanted.Text text.Factor) ∷
+    has (codes "value") (wanted.Text text.Value) ∷
+    []
+members_of object.Bound =
+    has (codes "from") (wanted.Text text.Configuration) ∷
+    has (codes "to") (wanted.Text text.Configuration) ∷
+    has (codes "frames") (whole 1 MAX_BOUND) ∷
+    []
+members_of object.Goal =
+    has (codes "altitude") (signed (pos 0) MAX_ALTITUDE) ∷
+    has (codes "heading") (signed (pos 0) MAX_HEADING) ∷
+    []
+members_of object.Invariant = has (codes "from") (wanted.Text text.ConfigurationOrAny) ∷ interval_members
+members_of object.Precondition = has (codes "configuration") (wanted.Text text.Configuration) ∷ interval_members
+members_of object.Assumption =
+    has (codes "halts") (whole 0 MAX_ASSUMED_HALTS) ∷
+    has (codes "changes") (whole 0 MAX_ASSUMED_CHANGES) ∷
+    has (codes "window") (whole 1 MAX_WINDOW) ∷
+    []
+members_of object.Demand =
+    has (codes "name") (wanted.Text text.Name) ∷
+    has (codes "from") (texts MAX_CONFIGURATIONS text.Configuration) ∷
+    has (codes "when") (objects 0 MAX_FACTORS object.RequiredValue) ∷
+    has (codes "up") (texts MAX_PROCESSORS text.Processor) ∷
+    has (codes "down") (texts MAX_PROCESSORS text.Processor) ∷
+    has (codes "to") (texts MAX_CONFIGURATIONS text.Configuration) ∷
+    has (codes "on") (objects 0 MAX_APPLICATIONS object.RequiredApplication) ∷
+    has (codes "off") (texts MAX_APPLICATIONS text.Application) ∷
+    []
+members_of object.RequiredApplication =
+    has (codes "app") (wanted.Text text.Application) ∷
+    has (codes "modes") (texts MAX_MODES text.Mode) ∷
+    []
+members_of object.Script =
+    has (codes "scram") (wanted.Number number.ScriptVersion) ∷
+    has (codes "frames") (whole 0 MAX_FRAMES) ∷
+    has (codes "changes") (objects 0 MAX_CHANGES object.Change) ∷
+    has (codes "halts") (wanted.List length.Halts (element.Object object.Halt)) ∷
+    later (codes "restarts") versions.Second (objects 0 MAX_PROCESSORS object.Restart) ∷
+    []
+members_of object.Change =
+    has (codes "frame") (wanted.Number (number.Frame 1)) ∷
+    has (codes "factor") (wanted.Text text.FlownFactor) ∷
+    has (codes "value") (wanted.Text text.FlownFactor) ∷
+    []
+members_of object.Halt =
+    has (codes "processor") (wanted.Text text.FlownProcessor) ∷
+    has (codes "frame") (wanted.Number (number.Frame 0)) ∷
+    has (codes "step") (wanted.Number number.Step) ∷
+    []
+members_of object.Restart =
+    has (codes "processor") (wanted.Text text.FlownProcessor) ∷
+    has (codes "frame") (wanted.Number (number.Frame 2)) ∷
+    []
+
+-- The member of this name.
+abbrev pub member_named : List Member → List ℕ → Option Member
+member_named [] name = None
+member_named (member ∷ members) name = if bytes_eq member.name name then Some member else member_named members name

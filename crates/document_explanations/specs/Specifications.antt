@@ -1,0 +1,38 @@
+-- What is answered of a specification's file, with what stands behind the first line.
+use Rattle.std.specs.Prelude.{◌≡◌, ℕ, List, [], ◌++◌, None}
+use Rattle.scram_types.specs.declared.limits.TheConstants.{MAX_SPECIFICATION_BYTES}
+use Rattle.scram_types.specs.Specification.{Parts}
+use Rattle.scram_doc.specs.declared.fault.DocFault.{DocFault}
+use Rattle.scram_doc.specs.Documents.{document}
+use Rattle.spec_apps.specs.declared.fault.SpecFault.{SpecFault}
+use Rattle.spec_members.specs.declared.rule.TheConstants as rule
+use Rattle.form_base.specs.Answers.{Answer, AnswersDocument, AnswersFile}
+use Rattle.form_base.specs.Lines.{specification_line}
+use Rattle.form_base.specs.Specifications.{BreaksSpecification, SaysSpecification, long_specification}
+use Rattle.document_explanations.specs.Explanations.{explanation}
+use Rattle.document_explanations.specs.declared.rules.DocumentKind.TheVariants.{Specification}
+
+-- The lines behind the first one where these bytes break a rule of specifications.
+abbrev pub specification_explanation : DocFault → List ℕ → List ℕ
+specification_explanation fault bytes = explanation Specification None fault.rule fault.path (document bytes)
+
+-- The line of a fault of a specification that these bytes are, and what stands behind it.
+abbrev pub explained_specification_text : SpecFault → List ℕ → List ℕ
+explained_specification_text fault bytes =
+    specification_line fault ++ explanation Specification None fault.rule fault.path (document bytes)
+
+-- The bytes are refused as a specification: with the line of this, and what stands behind it.
+pub record BreaksExplainedSpecification (refusal : ℕ × List ℕ) (bytes : List ℕ) : Type 0 where
+  pub first : ℕ × List ℕ
+  pub breaks : BreaksSpecification first bytes
+  pub text : refusal ≡ (first.0, first.1 ++ specification_explanation breaks.fault bytes)
+
+-- What is answered of a specification with too many bytes.
+abbrev pub long_explained_specification : ℕ × List ℕ
+long_explained_specification = (long_specification.0, long_specification.1 ++ explanation Specification None rule.TOO_LONG [] None)
+
+-- The file of this name is asked for, and this is answered of the specification that it holds; where it breaks a rule, that
+-- is explained.
+abbrev pub AsksExplainedSpecification : List ℕ → (Parts → Answer) → Answer
+AsksExplainedSpecification name Then =
+    AnswersFile MAX_SPECIFICATION_BYTES long_explained_specification name (AnswersDocument SaysSpecification BreaksExplainedSpecification Then)

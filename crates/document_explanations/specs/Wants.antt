@@ -1,0 +1,137 @@
+-- What is wanted, in words.
+use Rattle.std.specs.Prelude.{ℕ, ◌+◌, List, [], ◌∷◌, ◌++◌, Option, Some, None, codes, decimal, map}
+use Rattle.std.specs.Fmt.{signed_decimal}
+use Rattle.std.specs.Option.{option_map_or}
+use Rattle.scram_types.specs.Specification.{Parts}
+use Rattle.scram_types.specs.declared.specification.Factor.{Factor}
+use Rattle.scram_types.specs.declared.specification.Proc.{Proc}
+use Rattle.app_model.specs.Kinds.{Kind, Variable, kinds}
+use Rattle.fault_script.specs.Times.{words}
+use Rattle.fault_script.specs.Versions.{halts_limit}
+use Rattle.fault_script.specs.declared.version.Version.TheVariants.{First, Second}
+use Rattle.document_explanations.specs.Objects.{Member, members_of}
+use Rattle.document_explanations.specs.declared.objects.Length.{Length}
+use Rattle.document_explanations.specs.declared.objects.Length.TheVariants as length
+use Rattle.document_explanations.specs.declared.objects.Number.{Number}
+use Rattle.document_explanations.specs.declared.objects.Number.TheVariants as number
+use Rattle.document_explanations.specs.declared.objects.Text.{Text}
+use Rattle.document_explanations.specs.declared.objects.Text.TheVariants as text
+use Rattle.document_explanations.specs.declared.objects.Versions.{Versions}
+use Rattle.document_explanations.specs.declared.objects.Versions.TheVariants as versions
+use Rattle.document_explanations.specs.declared.objects.Wanted.{Wanted}
+use Rattle.document_explanations.specs.declared.objects.Wanted.TheVariants as wanted
+
+-- texts after the first, a comma and a space before each
+abbrev pub further_listed : List (List ℕ) → List ℕ
+further_listed [] = []
+further_listed (text ∷ texts) = codes ", " ++ text ++ further_listed texts
+
+-- texts joined by a comma and a space
+abbrev pub listed : List (List ℕ) → List ℕ
+listed [] = []
+listed (text ∷ texts) = text ++ further_listed texts
+
+-- which versions have a member, where not all have it
+abbrev pub versions_text : Versions → List ℕ
+versions_text versions.All = []
+versions_text versions.SecondOn = codes " where scram is 2 or 3"
+versions_text versions.Third = codes " where scram is 3"
+versions_text versions.Second = codes " where scram is 2"
+
+-- a member of an object
+abbrev pub member_text : Member → List ℕ
+member_text member = member.name ++ versions_text member.versions
+
+-- a name, a space before it, where there is one
+abbrev pub name_spaced : Option (List ℕ) → List ℕ
+name_spaced None = []
+name_spaced (Some name) = codes " " ++ name
+
+-- the names that there are, a space before each
+abbrev pub spaced : List (Option (List ℕ)) → List ℕ
+spaced [] = []
+spaced (name ∷ names) = name_spaced name ++ spaced names
+
+-- the names of the variables that are used, a space before each
+abbrev pub variables_spaced : List Variable → List ℕ
+variables_spaced variables = spaced (map (λ (variable : Variable). variable.name) variables)
+
+-- The name of a kind.
+abbrev pub kind_text : Kind → List ℕ
+kind_text kind = kind.name
+
+-- A kind and its modes.
+abbrev pub modes_text : Kind → List ℕ
+modes_text kind = kind.name ++ codes ":" ++ spaced kind.modes
+
+-- A kind and the variables that it uses.
+abbrev pub variables_text : Kind → List ℕ
+variables_text kind = kind.name ++ codes ":" ++ variables_spaced kind.variables
+
+-- The name of a processor.
+abbrev pub proc_text : Proc → List ℕ
+proc_text proc = proc.name
+
+-- names, a space before each
+abbrev pub names_spaced : List (List ℕ) → List ℕ
+names_spaced [] = []
+names_spaced (name ∷ names) = codes " " ++ name ++ names_spaced names
+
+-- A factor and its values.
+abbrev pub factor_text : Factor → List ℕ
+factor_text factor = factor.name ++ codes ":" ++ names_spaced factor.values
+
+-- the factors and their values, `-` where there is none
+abbrev pub factors_text : List Factor → List ℕ
+factors_text [] = codes "-"
+factors_text (factor ∷ factors) = listed (map factor_text (factor ∷ factors))
+
+-- The factors of the specification that a script is for.
+abbrev pub flown_factors : Option Parts → List Factor
+flown_factors flown = option_map_or (λ (spec : Parts). spec.factors) flown []
+
+-- The processors of the specification that a script is for.
+abbrev pub flown_procs : Option Parts → List Proc
+flown_procs flown = option_map_or (λ (spec : Parts). spec.procs) flown []
+
+-- The step of a frame that comes after the mark.
+abbrev pub last_step : Option Parts → ℕ
+last_step flown = option_map_or (λ (spec : Parts). words spec + 1) flown 0
+
+-- how many elements a list has
+abbrev pub length_text : Length → List ℕ
+length_text (length.Within least most) = decimal least ++ codes " to " ++ decimal most ++ codes " elements"
+length_text length.Halts =
+    codes "0 to " ++ decimal (halts_limit First) ++ codes " elements, 0 to " ++ decimal (halts_limit Second) ++ codes " where scram is 2"
+
+-- a number in a document, of a script for a specification where there is one
+abbrev pub number_text : Option Parts → Number → List ℕ
+number_text flown number.SpecificationVersion = codes "1, 2 or 3"
+number_text flown number.ScriptVersion = codes "1 or 2"
+number_text flown (number.Whole least greatest) = decimal least ++ codes " to " ++ decimal greatest
+number_text flown (number.Signed least greatest) = signed_decimal least ++ codes " to " ++ signed_decimal greatest
+number_text flown (number.Frame least) = decimal least ++ codes " to frames - 1"
+number_text flown number.Step = codes "0 to " ++ decimal (last_step flown)
+
+-- a text in a document, of a script for a specification where there is one
+abbrev pub text_text : Option Parts → Text → List ℕ
+text_text flown text.Name = codes "a name, 1 to 16 of a-z 0-9 _, a letter first"
+text_text flown text.Processor = codes "the name of a processor"
+text_text flown text.Application = codes "the name of an application"
+text_text flown text.Configuration = codes "the name of a configuration"
+text_text flown text.ConfigurationOrAny = codes "the name of a configuration, or *"
+text_text flown text.Factor = codes "the name of a factor"
+text_text flown text.Value = codes "the name of one of its values"
+text_text flown text.Kind = listed (map kind_text kinds)
+text_text flown text.Mode = listed (map modes_text kinds)
+text_text flown text.Variable = listed (map variables_text kinds)
+text_text flown text.Policy = codes "retarget or settle"
+text_text flown text.FlownFactor = factors_text (flown_factors flown)
+text_text flown text.FlownProcessor = listed (map proc_text (flown_procs flown))
+
+-- What is wanted, in a script for a specification where there is one.
+abbrev pub wanted_text : Option Parts → Wanted → List ℕ
+wanted_text flown (wanted.Object object) = listed (map member_text (members_of object))
+wanted_text flown (wanted.List length element) = length_text length
+wanted_text flown (wanted.Number number) = number_text flown number
+wanted_text flown (wanted.Text text) = text_text flown text

@@ -1,0 +1,123 @@
+//! What stands behind the first line where a document breaks a rule.
+
+ghost use Rattle.std.specs.Prelude.{◌≡◌, ◌++◌, IfOk, OnOk, codes, option_map, string_bytes};
+ghost use Rattle.serde_json.specs.View.{view};
+ghost use Rattle.scram_doc.specs.Documents.{document};
+ghost use Rattle.document_explanations.specs.Explanations.{explanation, found_line, found_part, rule_line, rule_lines, wanted_line, wanted_part};
+ghost use Rattle.document_explanations.specs.Rules.{rule_read};
+
+use crate::found::{cut, found_at};
+use crate::lines::Lines;
+use crate::paths::wanted_at;
+use crate::rules::{DocumentKind, Rule, add_rule_text, broken_rule};
+use crate::wants::add_wanted;
+use scram_doc::{DocError, Path, parse};
+use scram_types::{NoMemory, Spec};
+use std::alloc::Global;
+
+/// Where a document breaks a rule.
+#[derive(Clone, Copy)]
+pub struct Place<'a> {
+    pub kind: DocumentKind,
+    /// The specification that a script is for.
+    pub flown: Option<&'a Spec>,
+    pub path: &'a Path,
+    /// The bytes of the document.
+    pub bytes: &'a [u8],
+}
+
+/// Appends the lines behind the first one where a document breaks the rule of this number at a place.
+///
+/// # Errors
+///
+/// Out of memory.
+pub fn add_explanation(
+    alloc: Global,
+    lines: &mut Lines,
+    number: u8,
+    place: &Place<'_>,
+) -> Result<(), NoMemory>
+    ensures { OnOk result (lines.new ≡ lines.old ++ explanation place.now.kind (option_map (λ s. s.now) place.now.flown) number place.now.path.now
+        (document place.now.bytes.now)) }
+{
+    match broken_rule(place.kind, number) {
+        Some(rule) => add_rule_lines(alloc, lines, &rule, place),
+        None => Ok(()),
+    }
+}
+
+fn add_rule_lines(
+    alloc: Global,
+    lines: &mut Lines,
+    rule: &Rule,
+    place: &Place<'_>,
+) -> Result<(), NoMemory>
+    ensures { OnOk result (lines.new ≡ lines.old ++ rule_lines place.now.kind (option_map (λ s. s.now) place.now.flown) place.now.path.now
+        (document place.now.bytes.now) (rule_read rule.now)) }
+{
+    add_rule_line(lines, rule)?;
+    add_wanted_line(lines, rule, place)?;
+    add_found_line(alloc, lines, rule, place)
+}
+
+fn add_rule_line(lines: &mut Lines, rule: &Rule) -> Result<(), NoMemory>
+    ensures { OnOk result (lines.new ≡ lines.old ++ rule_line (rule_read rule.now)) }
+{
+    lines.push("  rule ")?;
+    lines.number(usize::from(rule.number))?;
+    lines.push(": ")?;
+    add_rule_text(lines, rule)?;
+    lines.push("\n")
+}
+
+fn add_wanted_line(lines: &mut Lines, rule: &Rule, place: &Place<'_>) -> Result<(), NoMemory>
+    ensures { OnOk result (lines.new ≡ lines.old ++ wanted_line place.now.kind (option_map (λ s. s.now) place.now.flown) (rule_read rule.now) place.now.path.now) }
+{
+    if !rule.shows.wanted() {
+        return Ok(());
+    }
+    lines.push("  wanted: ")?;
+    add_wanted_part(lines, rule.number, place)?;
+    lines.push("\n")
+}
+
+fn add_wanted_part(lines: &mut Lines, number: u8, place: &Place<'_>) -> Result<(), NoMemory>
+    ensures { OnOk result (lines.new ≡ lines.old ++ wanted_part place.now.kind (option_map (λ s. s.now) place.now.flown) number place.now.path.now) }
+{
+    match wanted_at(place.kind, number, place.path) {
+        Some(wanted) => add_wanted(lines, place.flown, wanted),
+        None => Ok(()),
+    }
+}
+
+fn add_found_line(
+    alloc: Global,
+    lines: &mut Lines,
+    rule: &Rule,
+    place: &Place<'_>,
+) -> Result<(), NoMemory>
+    ensures { OnOk result (lines.new ≡ lines.old ++ found_line place.now.kind (rule_read rule.now) place.now.path.now
+        (document place.now.bytes.now)) }
+{
+    if !rule.shows.found() {
+        return Ok(());
+    }
+    let found = found_part(alloc, rule.number, place)?;
+    lines.push("  found: ")?;
+    lines.push(found.as_str())?;
+    lines.push("\n")
+}
+
+fn found_part(alloc: Global, number: u8, place: &Place<'_>) -> Result<String, NoMemory>
+    ensures { IfOk result (λ text. string_bytes text ≡ found_part place.now.kind number place.now.path.now
+        (document place.now.bytes.now)) }
+{
+    match parse(alloc, place.bytes) {
+        Ok(value) => cut(
+            alloc,
+            found_at(alloc, place.kind, number, place.path, &value)?,
+        ),
+        Err(DocError::Fault(_)) => Ok(String::new(alloc)),
+        Err(DocError::NoMemory) => Err(NoMemory),
+    }
+}

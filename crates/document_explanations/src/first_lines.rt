@@ -1,0 +1,71 @@
+//! The first lines of refusals, of any length.
+
+ghost use Rattle.std.specs.Prelude.{◌≡◌, ◌++◌, OnOk};
+ghost use Rattle.trace_text.specs.Names.{further_joined};
+ghost use Rattle.form_base.specs.Lines.{cycle_text, rule_text, specification_line};
+ghost use Rattle.flight_forms.specs.Lines.{script_line};
+
+use crate::lines::Lines;
+use fault_script::ScriptFault;
+use reconf_spec::SpecFault;
+use scram_doc::Path;
+use scram_types::{Name, NoMemory};
+
+/// Appends the line for a specification document that breaks a rule.
+///
+/// # Errors
+///
+/// Out of memory.
+pub fn add_specification_line(lines: &mut Lines, fault: &SpecFault) -> Result<(), NoMemory>
+    ensures { OnOk result (lines.new ≡ lines.old ++ specification_line fault.now) }
+{
+    lines.push("refused: specification")?;
+    add_rule(lines, fault.rule, &fault.path)?;
+    add_cycle(lines, fault.names.as_slice())?;
+    lines.push("\n")
+}
+
+/// Appends the line for a script document that breaks a rule.
+///
+/// # Errors
+///
+/// Out of memory.
+pub fn add_script_line(lines: &mut Lines, fault: &ScriptFault) -> Result<(), NoMemory>
+    ensures { OnOk result (lines.new ≡ lines.old ++ script_line fault.now) }
+{
+    lines.push("refused: script")?;
+    add_rule(lines, fault.rule, &fault.path)?;
+    lines.push("\n")
+}
+
+fn add_rule(lines: &mut Lines, rule: u8, path: &Path) -> Result<(), NoMemory>
+    ensures { OnOk result (lines.new ≡ lines.old ++ rule_text rule path.now) }
+{
+    lines.push(" rule ")?;
+    lines.number(usize::from(rule))?;
+    lines.push(" at ")?;
+    lines.push(path.as_str())
+}
+
+fn add_cycle(lines: &mut Lines, names: &[Name]) -> Result<(), NoMemory>
+    ensures { OnOk result (lines.new ≡ lines.old ++ cycle_text names.now) }
+{
+    match names {
+        [] => Ok(()),
+        [first, rest @ ..] => {
+            lines.push(" cycle ")?;
+            lines.push(first.as_str())?;
+            add_further(lines, rest)
+        }
+    }
+}
+
+fn add_further(lines: &mut Lines, names: &[Name]) -> Result<(), NoMemory>
+    ensures { OnOk result (lines.new ≡ lines.old ++ further_joined names.now) }
+{
+    for name in names {
+        lines.push(",")?;
+        lines.push(name.as_str())?;
+    }
+    Ok(())
+}

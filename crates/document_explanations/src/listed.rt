@@ -1,0 +1,207 @@
+//! Lists of things in words: members, kinds, factors, processors.
+
+ghost use Rattle.std.specs.Prelude.{◌≡◌, ◌++◌, OnOk, map, option_map};
+ghost use Rattle.app_model.specs.Kinds.{kind_read, kinds, variable_read};
+ghost use Rattle.document_explanations.specs.Wants.{further_listed, listed, name_spaced, names_spaced, spaced, variables_spaced, versions_text};
+
+use crate::lines::Lines;
+use crate::objects::{Member, Versions};
+use app_model::table::{
+    AUTOPILOT, DATA_LINK, FLIGHT_CONTROL, Kind, NAVIGATOR, POWER_MONITOR, TASK, Variable,
+};
+use scram_types::{Factor, Name, NoMemory, Proc};
+
+/// How things of a list are shown.
+pub trait Shown<T> {
+    ghost use Rattle.std.specs.Prelude.{◌≡◌, ◌++◌, List, ℕ, OnOk};
+
+    /// What is shown of a thing.
+    ghost shown: { T → List ℕ };
+
+    /// Appends what is shown of a thing.
+    fn add(lines: &mut Lines, item: &T) -> Result<(), NoMemory>
+        ensures { OnOk result (lines.new ≡ lines.old ++ shown item.now) };
+}
+
+/// Appends things, joined by a comma and a space.
+///
+/// # Errors
+///
+/// Out of memory.
+pub fn add_listed<T, S: Shown<T>>(lines: &mut Lines, items: &[T]) -> Result<(), NoMemory>
+    ensures { OnOk result (lines.new ≡ lines.old ++ listed (map S.shown items.now)) }
+{
+    match items {
+        [] => Ok(()),
+        [first, rest @ ..] => {
+            S::add(lines, first)?;
+            add_further::<T, S>(lines, rest)
+        }
+    }
+}
+
+fn add_further<T, S: Shown<T>>(lines: &mut Lines, items: &[T]) -> Result<(), NoMemory>
+    ensures { OnOk result (lines.new ≡ lines.old ++ further_listed (map S.shown items.now)) }
+{
+    for item in items {
+        lines.push(", ")?;
+        S::add(lines, item)?;
+    }
+    Ok(())
+}
+
+/// A member of an object, with the versions that have it.
+pub struct MemberText;
+
+impl Shown<Member> for MemberText {
+    ghost use Rattle.document_explanations.specs.Objects.{member_read};
+    ghost use Rattle.document_explanations.specs.Wants.{member_text};
+
+    ghost shown = { λ m. member_text (member_read m) };
+
+    fn add(lines: &mut Lines, item: &Member) -> Result<(), NoMemory> {
+        lines.push(item.name)?;
+        lines.push(versions_text(item.versions))
+    }
+}
+
+fn versions_text(versions: Versions) -> &'static str
+    ensures { result.now ≡ versions_text versions }
+{
+    match versions {
+        Versions::All => "",
+        Versions::SecondOn => " where scram is 2 or 3",
+        Versions::Third => " where scram is 3",
+        Versions::Second => " where scram is 2",
+    }
+}
+
+/// Returns the kinds, by number.
+pub fn kinds() -> &'static [Kind]
+    ensures { map kind_read result.now ≡ kinds }
+{
+    const KINDS: &[Kind] = &[
+        AUTOPILOT,
+        FLIGHT_CONTROL,
+        POWER_MONITOR,
+        NAVIGATOR,
+        DATA_LINK,
+        TASK,
+    ];
+    KINDS
+}
+
+/// The name of a kind.
+pub struct KindText;
+
+impl Shown<Kind> for KindText {
+    ghost use Rattle.app_model.specs.Kinds.{kind_read};
+    ghost use Rattle.document_explanations.specs.Wants.{kind_text};
+
+    ghost shown = { λ k. kind_text (kind_read k) };
+
+    fn add(lines: &mut Lines, item: &Kind) -> Result<(), NoMemory> {
+        lines.push(item.name)
+    }
+}
+
+/// A kind and its modes.
+pub struct ModesText;
+
+impl Shown<Kind> for ModesText {
+    ghost use Rattle.app_model.specs.Kinds.{kind_read};
+    ghost use Rattle.document_explanations.specs.Wants.{modes_text};
+
+    ghost shown = { λ k. modes_text (kind_read k) };
+
+    fn add(lines: &mut Lines, item: &Kind) -> Result<(), NoMemory> {
+        lines.push(item.name)?;
+        lines.push(":")?;
+        add_modes(lines, item.modes)
+    }
+}
+
+fn add_modes(lines: &mut Lines, names: &[Option<&'static str>]) -> Result<(), NoMemory>
+    ensures { OnOk result (lines.new ≡ lines.old ++ spaced (map (option_map (λ s. s.now)) names.now)) }
+{
+    for name in names {
+        add_spaced(lines, *name)?;
+    }
+    Ok(())
+}
+
+// Appends a name, a space before it, where there is one.
+fn add_spaced(lines: &mut Lines, name: Option<&'static str>) -> Result<(), NoMemory>
+    ensures { OnOk result (lines.new ≡ lines.old ++ name_spaced (option_map (λ s. s.now) name.entry)) }
+{
+    match name {
+        Some(name) => {
+            lines.push(" ")?;
+            lines.push(name)
+        }
+        None => Ok(()),
+    }
+}
+
+/// A kind and the variables that it uses.
+pub struct VariablesText;
+
+impl Shown<Kind> for VariablesText {
+    ghost use Rattle.app_model.specs.Kinds.{kind_read};
+    ghost use Rattle.document_explanations.specs.Wants.{variables_text};
+
+    ghost shown = { λ k. variables_text (kind_read k) };
+
+    fn add(lines: &mut Lines, item: &Kind) -> Result<(), NoMemory> {
+        lines.push(item.name)?;
+        lines.push(":")?;
+        add_variables(lines, item.variables)
+    }
+}
+
+fn add_variables(lines: &mut Lines, variables: &[Variable]) -> Result<(), NoMemory>
+    ensures { OnOk result (lines.new ≡ lines.old ++ variables_spaced (map variable_read variables.now)) }
+{
+    for variable in variables {
+        add_spaced(lines, variable.name)?;
+    }
+    Ok(())
+}
+
+/// The name of a processor.
+pub struct ProcText;
+
+impl Shown<Proc> for ProcText {
+    ghost use Rattle.document_explanations.specs.Wants.{proc_text};
+
+    ghost shown = { proc_text };
+
+    fn add(lines: &mut Lines, item: &Proc) -> Result<(), NoMemory> {
+        lines.push(item.name.as_str())
+    }
+}
+
+/// A factor and its values.
+pub struct FactorText;
+
+impl Shown<Factor> for FactorText {
+    ghost use Rattle.document_explanations.specs.Wants.{factor_text};
+
+    ghost shown = { factor_text };
+
+    fn add(lines: &mut Lines, item: &Factor) -> Result<(), NoMemory> {
+        lines.push(item.name.as_str())?;
+        lines.push(":")?;
+        add_names(lines, item.values.items())
+    }
+}
+
+fn add_names(lines: &mut Lines, names: &[Name]) -> Result<(), NoMemory>
+    ensures { OnOk result (lines.new ≡ lines.old ++ names_spaced names.now) }
+{
+    for name in names {
+        lines.push(" ")?;
+        lines.push(name.as_str())?;
+    }
+    Ok(())
+}

@@ -1,0 +1,411 @@
+//! The objects of specifications and scripts: the table of their members, and what is wanted of each.
+
+ghost use Rattle.std.specs.Prelude.{◌≡◌, map, option_map};
+ghost use Rattle.document_explanations.specs.Objects.{member_named, member_read, members_of};
+
+use scram_types::limits::{
+    MAX_ALTITUDE, MAX_APPLICATIONS, MAX_ASSUMED_CHANGES, MAX_ASSUMED_HALTS, MAX_BOUND, MAX_BOUNDS,
+    MAX_CHANGES, MAX_CONFIGURATIONS, MAX_DEMANDS, MAX_FACTORS, MAX_FRAMES, MAX_HEADING,
+    MAX_INTERVAL_END, MAX_INTERVALS, MAX_LOAD, MAX_MODES, MAX_PHASE, MAX_PROCESSORS, MAX_RULES,
+    MAX_VALUES, MAX_WINDOW, MIN_VALUES,
+};
+
+/// An object of a document.
+#[derive(Clone, Copy)]
+pub enum Object {
+    /// The whole specification.
+    Specification,
+    Processor,
+    Application,
+    /// A mode that an application lists.
+    Mode,
+    Configuration,
+    /// An application that a configuration places.
+    Place,
+    Factor,
+    /// A rule of the choice table.
+    Rule,
+    /// A value that a rule or a demand requires of a factor.
+    RequiredValue,
+    Bound,
+    Goal,
+    Invariant,
+    Precondition,
+    Assumption,
+    Demand,
+    /// An application that a demand requires to be on.
+    RequiredApplication,
+    /// The whole script.
+    Script,
+    Change,
+    Halt,
+    Restart,
+}
+
+/// The versions of a document that have a member.
+#[derive(Clone, Copy)]
+pub enum Versions {
+    /// Every version.
+    All,
+    /// Versions 2 and 3 of the specification.
+    SecondOn,
+    /// Version 3 of the specification.
+    Third,
+    /// Version 2 of the script.
+    Second,
+}
+
+/// How many elements a list has.
+#[derive(Clone, Copy)]
+pub enum Length {
+    Within { least: usize, most: usize },
+    /// As many halts as the version of the script allows.
+    Halts,
+}
+
+/// A number.
+#[derive(Clone, Copy)]
+pub enum Number {
+    /// The version of a specification.
+    SpecificationVersion,
+    /// The version of a script.
+    ScriptVersion,
+    /// A number from `least` to `greatest`.
+    Whole { least: u32, greatest: u32 },
+    /// A number from `least` to `greatest`, which may be negative.
+    Signed { least: i64, greatest: i64 },
+    /// A frame of a script, from `least` on.
+    Frame { least: u32 },
+    /// The step of a frame at which a processor halts.
+    Step,
+}
+
+/// A text.
+#[derive(Clone, Copy)]
+pub enum Text {
+    /// Gives a name.
+    Name,
+    /// Names a processor of the same document.
+    Processor,
+    /// Names an application of the same document.
+    Application,
+    /// Names a configuration of the same document.
+    Configuration,
+    /// Names a configuration of the same document, or is `*`.
+    ConfigurationOrAny,
+    /// Names a factor of the same document.
+    Factor,
+    /// Names a value of a factor of the same document.
+    Value,
+    /// Names a kind of application.
+    Kind,
+    /// Names a mode of an application.
+    Mode,
+    /// Names a variable of an application.
+    Variable,
+    /// Names a policy.
+    Policy,
+    /// Names a factor of the specification that a script is for, or a value of it.
+    FlownFactor,
+    /// Names a processor of the specification that a script is for.
+    FlownProcessor,
+}
+
+/// An element of a list.
+#[derive(Clone, Copy)]
+pub enum Element {
+    Object(Object),
+    Text(Text),
+}
+
+/// What is wanted at a place of a document.
+#[derive(Clone, Copy)]
+pub enum Wanted {
+    Object(Object),
+    List { length: Length, element: Element },
+    Number(Number),
+    Text(Text),
+}
+
+/// A member of an object.
+#[derive(Clone, Copy)]
+pub struct Member {
+    pub name: &'static str,
+    pub versions: Versions,
+    pub wanted: Wanted,
+}
+
+macro_rules! member {
+    ($name:expr, $versions:expr, $wanted:expr) => {
+        Member {
+            name: $name,
+            versions: $versions,
+            wanted: $wanted,
+        }
+    };
+    ($name:expr, $wanted:expr) => {
+        member!($name, Versions::All, $wanted)
+    };
+}
+
+macro_rules! list {
+    ($least:expr, $most:expr, $element:expr) => {
+        Wanted::List {
+            length: Length::Within {
+                least: $least,
+                most: $most,
+            },
+            element: $element,
+        }
+    };
+}
+
+macro_rules! whole {
+    ($least:expr, $greatest:expr) => {
+        Wanted::Number(Number::Whole {
+            least: $least,
+            greatest: $greatest,
+        })
+    };
+}
+
+macro_rules! signed {
+    ($least:expr, $greatest:expr) => {
+        Wanted::Number(Number::Signed {
+            least: $least,
+            greatest: $greatest,
+        })
+    };
+}
+
+macro_rules! text {
+    ($text:ident) => {
+        Wanted::Text(Text::$text)
+    };
+}
+
+macro_rules! object {
+    ($object:ident) => {
+        Element::Object(Object::$object)
+    };
+}
+
+/// Processors, by name.
+const PROCESSORS: Wanted = list!(0, MAX_PROCESSORS, Element::Text(Text::Processor));
+
+/// Applications, by name.
+const APPLICATIONS: Wanted = list!(0, MAX_APPLICATIONS, Element::Text(Text::Application));
+
+/// Configurations, by name.
+const CONFIGURATIONS: Wanted = list!(0, MAX_CONFIGURATIONS, Element::Text(Text::Configuration));
+
+/// Values that are required of factors.
+const REQUIRED_VALUES: Wanted = list!(0, MAX_FACTORS, object!(RequiredValue));
+
+const LOAD: Wanted = whole!(0, MAX_LOAD);
+
+const PHASE: Wanted = whole!(1, MAX_PHASE as u32);
+
+const INTERVAL_END: Wanted = signed!(-MAX_INTERVAL_END, MAX_INTERVAL_END);
+
+const SPECIFICATION: &[Member] = &[
+    member!("scram", Wanted::Number(Number::SpecificationVersion)),
+    member!("processors", list!(1, MAX_PROCESSORS, object!(Processor))),
+    member!("apps", list!(1, MAX_APPLICATIONS, object!(Application))),
+    member!(
+        "configurations",
+        list!(1, MAX_CONFIGURATIONS, object!(Configuration))
+    ),
+    member!("factors", list!(0, MAX_FACTORS, object!(Factor))),
+    member!("rules", list!(0, MAX_RULES, object!(Rule))),
+    member!("bounds", list!(0, MAX_BOUNDS, object!(Bound))),
+    member!("start", text!(Configuration)),
+    member!("goal", Wanted::Object(Object::Goal)),
+    member!("invariants", list!(0, MAX_INTERVALS, object!(Invariant))),
+    member!(
+        "preconditions",
+        list!(0, MAX_INTERVALS, object!(Precondition))
+    ),
+    member!("assumption", Wanted::Object(Object::Assumption)),
+    member!("policy", Versions::SecondOn, text!(Policy)),
+    member!(
+        "demands",
+        Versions::Third,
+        list!(0, MAX_DEMANDS, object!(Demand))
+    ),
+];
+
+const PROCESSOR: &[Member] = &[member!("name", text!(Name)), member!("capacity", LOAD)];
+
+const APPLICATION: &[Member] = &[
+    member!("name", text!(Name)),
+    member!("kind", text!(Kind)),
+    member!("needs", APPLICATIONS),
+    member!("modes", list!(1, MAX_MODES, object!(Mode))),
+];
+
+const MODE: &[Member] = &[
+    member!("mode", text!(Mode)),
+    member!("load", LOAD),
+    member!("halt", PHASE),
+    member!("prepare", PHASE),
+    member!("init", PHASE),
+];
+
+const CONFIGURATION: &[Member] = &[
+    member!("name", text!(Name)),
+    member!("apps", list!(0, MAX_APPLICATIONS, object!(Place))),
+];
+
+const PLACE: &[Member] = &[
+    member!("app", text!(Application)),
+    member!("mode", text!(Mode)),
+    member!("on", text!(Processor)),
+];
+
+const FACTOR: &[Member] = &[
+    member!("name", text!(Name)),
+    member!(
+        "values",
+        list!(MIN_VALUES, MAX_VALUES, Element::Text(Text::Name))
+    ),
+];
+
+const RULE: &[Member] = &[
+    member!("from", text!(ConfigurationOrAny)),
+    member!("when", REQUIRED_VALUES),
+    member!("up", PROCESSORS),
+    member!("to", text!(Configuration)),
+];
+
+const REQUIRED_VALUE: &[Member] = &[
+    member!("factor", text!(Factor)),
+    member!("value", text!(Value)),
+];
+
+const BOUND: &[Member] = &[
+    member!("from", text!(Configuration)),
+    member!("to", text!(Configuration)),
+    member!("frames", whole!(1, MAX_BOUND)),
+];
+
+const GOAL: &[Member] = &[
+    member!("altitude", signed!(0, MAX_ALTITUDE)),
+    member!("heading", signed!(0, MAX_HEADING)),
+];
+
+const INVARIANT: &[Member] = &[
+    member!("from", text!(ConfigurationOrAny)),
+    member!("app", text!(Application)),
+    member!("variable", text!(Variable)),
+    member!("least", INTERVAL_END),
+    member!("greatest", INTERVAL_END),
+];
+
+const PRECONDITION: &[Member] = &[
+    member!("configuration", text!(Configuration)),
+    member!("app", text!(Application)),
+    member!("variable", text!(Variable)),
+    member!("least", INTERVAL_END),
+    member!("greatest", INTERVAL_END),
+];
+
+const ASSUMPTION: &[Member] = &[
+    member!("halts", whole!(0, MAX_ASSUMED_HALTS as u32)),
+    member!("changes", whole!(0, MAX_ASSUMED_CHANGES as u32)),
+    member!("window", whole!(1, MAX_WINDOW)),
+];
+
+const DEMAND: &[Member] = &[
+    member!("name", text!(Name)),
+    member!("from", CONFIGURATIONS),
+    member!("when", REQUIRED_VALUES),
+    member!("up", PROCESSORS),
+    member!("down", PROCESSORS),
+    member!("to", CONFIGURATIONS),
+    member!(
+        "on",
+        list!(0, MAX_APPLICATIONS, object!(RequiredApplication))
+    ),
+    member!("off", APPLICATIONS),
+];
+
+const REQUIRED_APPLICATION: &[Member] = &[
+    member!("app", text!(Application)),
+    member!("modes", list!(0, MAX_MODES, Element::Text(Text::Mode))),
+];
+
+const SCRIPT: &[Member] = &[
+    member!("scram", Wanted::Number(Number::ScriptVersion)),
+    member!("frames", whole!(0, MAX_FRAMES)),
+    member!("changes", list!(0, MAX_CHANGES, object!(Change))),
+    member!(
+        "halts",
+        Wanted::List {
+            length: Length::Halts,
+            element: object!(Halt),
+        }
+    ),
+    member!(
+        "restarts",
+        Versions::Second,
+        list!(0, MAX_PROCESSORS, object!(Restart))
+    ),
+];
+
+const CHANGE: &[Member] = &[
+    member!("frame", Wanted::Number(Number::Frame { least: 1 })),
+    member!("factor", text!(FlownFactor)),
+    member!("value", text!(FlownFactor)),
+];
+
+const HALT: &[Member] = &[
+    member!("processor", text!(FlownProcessor)),
+    member!("frame", Wanted::Number(Number::Frame { least: 0 })),
+    member!("step", Wanted::Number(Number::Step)),
+];
+
+const RESTART: &[Member] = &[
+    member!("processor", text!(FlownProcessor)),
+    member!("frame", Wanted::Number(Number::Frame { least: 2 })),
+];
+
+/// Returns the members of an object, in the order in which they are read.
+pub fn members_of(object: Object) -> &'static [Member]
+    ensures { map member_read result.now ≡ members_of object }
+{
+    match object {
+        Object::Specification => SPECIFICATION,
+        Object::Processor => PROCESSOR,
+        Object::Application => APPLICATION,
+        Object::Mode => MODE,
+        Object::Configuration => CONFIGURATION,
+        Object::Place => PLACE,
+        Object::Factor => FACTOR,
+        Object::Rule => RULE,
+        Object::RequiredValue => REQUIRED_VALUE,
+        Object::Bound => BOUND,
+        Object::Goal => GOAL,
+        Object::Invariant => INVARIANT,
+        Object::Precondition => PRECONDITION,
+        Object::Assumption => ASSUMPTION,
+        Object::Demand => DEMAND,
+        Object::RequiredApplication => REQUIRED_APPLICATION,
+        Object::Script => SCRIPT,
+        Object::Change => CHANGE,
+        Object::Halt => HALT,
+        Object::Restart => RESTART,
+    }
+}
+
+/// Returns the member of this name of an object, or `None` where it has none.
+pub fn find_member(object: Object, name: &str) -> Option<Member>
+    ensures { option_map member_read result ≡ member_named (members_of object) name.now }
+{
+    for member in members_of(object) {
+        if member.name == name {
+            return Some(*member);
+        }
+    }
+    None
+}

@@ -1,0 +1,124 @@
+//! Paths: what is wanted of the value at a path, and the value.
+
+ghost use Rattle.std.specs.Prelude.{◌≡◌, ◌∷◌, ◌<◌, [], IfSome, MatchOption, length, option_and_then, option_map};
+ghost use Rattle.serde_json.specs.View.{view};
+ghost use Rattle.trace_text.specs.Pieces.{pieces_of};
+ghost use Rattle.document_explanations.specs.Objects.{member_read};
+ghost use Rattle.document_explanations.specs.Paths.{all_but_last, behind_dot, child, step, value_along, value_at, wanted_along, wanted_at, wanted_element};
+
+use crate::objects::{Element, Wanted, find_member};
+use crate::rules::DocumentKind;
+use scram_doc::{Path, rule};
+use serde_json::Value;
+use trace_text::numbers::read_number;
+
+// The indexes of a path are less than this.
+const INDEX_END: u64 = 100_000;
+
+// Returns the levels of a path, with a dot between them, and no text for the whole document.
+fn behind_dot(path: &Path) -> &str
+    ensures { result.now ≡ behind_dot path.now }
+{
+    match path.as_str().strip_prefix('.') {
+        Some(levels) => levels,
+        None => "",
+    }
+}
+
+// Returns the first level and those behind it, or `None` where it is the last.
+fn split_level(levels: &str) -> Option<(&str, &str)>
+    ensures pieces { MatchOption result (pieces_of 46 levels.now ≡ levels.now ∷ [])
+        (λ parts. pieces_of 46 levels.now ≡ parts.0.now ∷ pieces_of 46 parts.1.now) }
+    ensures shorter { IfSome result (λ parts. length parts.1.now < length levels.now) }
+{
+    levels.split_once('.')
+}
+
+fn step(wanted: Wanted, level: &str) -> Option<Wanted>
+    ensures { result ≡ step wanted level.now }
+{
+    match wanted {
+        Wanted::Object(object) => match find_member(object, level) {
+            Some(member) => Some(member.wanted),
+            None => None,
+        },
+        Wanted::List { length: _, element } => Some(wanted_element(element)),
+        Wanted::Number(_) => None,
+        Wanted::Text(_) => None,
+    }
+}
+
+fn wanted_element(element: Element) -> Wanted
+    ensures { result ≡ wanted_element element }
+{
+    match element {
+        Element::Object(object) => Wanted::Object(object),
+        Element::Text(text) => Wanted::Text(text),
+    }
+}
+
+// Returns what is wanted of the value above the last level, and the last level.
+fn descend(start: Wanted, levels: &str) -> Option<(Wanted, &str)>
+    ensures whole { wanted_along (pieces_of 46 levels.now) start ≡ option_and_then (λ end. step end.0 end.1.now) result }
+    ensures above { wanted_along (all_but_last (pieces_of 46 levels.now)) start ≡ option_map (λ end. end.0) result }
+{
+    let mut wanted = start;
+    let mut rest = levels;
+    while let Some((level, more)) = split_level(rest) {
+        wanted = step(wanted, level)?;
+        rest = more;
+    }
+    Some((wanted, rest))
+}
+
+/// Returns what is wanted where a rule of a document is broken at a path: of the value at the path, and where a member
+/// is missing, of its object. `None` where the document has no such path.
+pub fn wanted_at(kind: DocumentKind, rule: u8, path: &Path) -> Option<Wanted>
+    ensures { result ≡ wanted_at kind rule path.now }
+{
+    let root = Wanted::Object(kind.root());
+    let levels = behind_dot(path);
+    if levels.is_empty() {
+        return Some(root);
+    }
+    let (above, last) = descend(root, levels)?;
+    if rule == rule::MISSING_MEMBER {
+        Some(above)
+    } else {
+        step(above, last)
+    }
+}
+
+// Returns the member of an object, or the element of a list, that a level of a path names.
+fn child<'a>(v: &'a Value, level: &str) -> Option<&'a Value>
+    ensures { option_map (λ d. view d.now) result ≡ child level.now (view v.now) }
+{
+    match v.get(level) {
+        Some(member) => Some(member),
+        None => v.get(read_number(level.as_bytes(), INDEX_END)? as usize),
+    }
+}
+
+fn value_along<'a>(v: &'a Value, levels: &str) -> Option<&'a Value>
+    ensures { option_map (λ d. view d.now) result ≡ value_along (pieces_of 46 levels.now) (view v.now) }
+{
+    let mut found = v;
+    let mut rest = levels;
+    while let Some((level, more)) = split_level(rest) {
+        found = child(found, level)?;
+        rest = more;
+    }
+    child(found, rest)
+}
+
+/// Returns the value at a path of a document, or `None` where it has none.
+pub fn value_at<'a>(document: &'a Value, path: &Path) -> Option<&'a Value>
+    ensures { option_map (λ d. view d.now) result ≡ value_at path.now (view document.now) }
+{
+    let levels = behind_dot(path);
+    if levels.is_empty() {
+        Some(document)
+    } else {
+        value_along(document, levels)
+    }
+}

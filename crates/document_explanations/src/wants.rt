@@ -1,0 +1,133 @@
+//! What is wanted, in words.
+
+ghost use Rattle.std.specs.Prelude.{◌≡◌, ◌++◌, OnOk, map, option_map};
+ghost use Rattle.document_explanations.specs.Wants.{factors_text, flown_factors, flown_procs, last_step, length_text, number_text, text_text, wanted_text};
+
+use crate::lines::Lines;
+use crate::listed::{
+    FactorText, KindText, MemberText, ModesText, ProcText, VariablesText, add_listed, kinds,
+};
+use crate::objects::{Length, Member, Number, Text, Wanted, members_of};
+use app_model::table::Kind;
+use scram_types::limits::MAX_PROCESSORS;
+use scram_types::{Factor, NoMemory, Proc, Spec};
+
+/// Appends what is wanted, in a script for the specification `flown` where there is one.
+///
+/// # Errors
+///
+/// Out of memory.
+pub fn add_wanted(lines: &mut Lines, flown: Option<&Spec>, wanted: Wanted) -> Result<(), NoMemory>
+    ensures { OnOk result (lines.new ≡ lines.old ++ wanted_text (option_map (λ s. s.now) flown.entry) wanted) }
+{
+    match wanted {
+        Wanted::Object(object) => add_listed::<Member, MemberText>(lines, members_of(object)),
+        Wanted::List { length, element: _ } => add_length(lines, length),
+        Wanted::Number(number) => add_number(lines, flown, &number),
+        Wanted::Text(text) => add_text(lines, flown, text),
+    }
+}
+
+fn add_length(lines: &mut Lines, length: Length) -> Result<(), NoMemory>
+    ensures { OnOk result (lines.new ≡ lines.old ++ length_text length) }
+{
+    match length {
+        Length::Within { least, most } => {
+            lines.number(least)?;
+            lines.push(" to ")?;
+            lines.number(most)?;
+            lines.push(" elements")
+        }
+        Length::Halts => {
+            lines.push("0 to ")?;
+            lines.number(MAX_PROCESSORS)?;
+            lines.push(" elements, 0 to ")?;
+            lines.number(2 * MAX_PROCESSORS)?;
+            lines.push(" where scram is 2")
+        }
+    }
+}
+
+fn add_number(lines: &mut Lines, flown: Option<&Spec>, number: &Number) -> Result<(), NoMemory>
+    ensures { OnOk result (lines.new ≡ lines.old ++ number_text (option_map (λ s. s.now) flown.entry) number.now) }
+{
+    match number {
+        Number::SpecificationVersion => lines.push("1, 2 or 3"),
+        Number::ScriptVersion => lines.push("1 or 2"),
+        Number::Whole { least, greatest } => {
+            lines.number(*least as usize)?;
+            lines.push(" to ")?;
+            lines.number(*greatest as usize)
+        }
+        Number::Signed { least, greatest } => {
+            lines.signed(least)?;
+            lines.push(" to ")?;
+            lines.signed(greatest)
+        }
+        Number::Frame { least } => {
+            lines.number(*least as usize)?;
+            lines.push(" to frames - 1")
+        }
+        Number::Step => {
+            lines.push("0 to ")?;
+            lines.number(last_step(flown))
+        }
+    }
+}
+
+fn add_text(lines: &mut Lines, flown: Option<&Spec>, text: Text) -> Result<(), NoMemory>
+    ensures { OnOk result (lines.new ≡ lines.old ++ text_text (option_map (λ s. s.now) flown.entry) text) }
+{
+    match text {
+        Text::Name => lines.push("a name, 1 to 16 of a-z 0-9 _, a letter first"),
+        Text::Processor => lines.push("the name of a processor"),
+        Text::Application => lines.push("the name of an application"),
+        Text::Configuration => lines.push("the name of a configuration"),
+        Text::ConfigurationOrAny => lines.push("the name of a configuration, or *"),
+        Text::Factor => lines.push("the name of a factor"),
+        Text::Value => lines.push("the name of one of its values"),
+        Text::Kind => add_listed::<Kind, KindText>(lines, kinds()),
+        Text::Mode => add_listed::<Kind, ModesText>(lines, kinds()),
+        Text::Variable => add_listed::<Kind, VariablesText>(lines, kinds()),
+        Text::Policy => lines.push("retarget or settle"),
+        Text::FlownFactor => add_factors(lines, flown_factors(flown)),
+        Text::FlownProcessor => add_listed::<Proc, ProcText>(lines, flown_procs(flown)),
+    }
+}
+
+fn add_factors(lines: &mut Lines, factors: &[Factor]) -> Result<(), NoMemory>
+    ensures { OnOk result (lines.new ≡ lines.old ++ factors_text factors.now) }
+{
+    if factors.is_empty() {
+        lines.push("-")
+    } else {
+        add_listed::<Factor, FactorText>(lines, factors)
+    }
+}
+
+fn flown_factors(flown: Option<&Spec>) -> &[Factor]
+    ensures { result.now ≡ flown_factors (option_map (λ s. s.now) flown.entry) }
+{
+    match flown {
+        Some(spec) => spec.factors.items(),
+        None => &[],
+    }
+}
+
+fn flown_procs(flown: Option<&Spec>) -> &[Proc]
+    ensures { result.now ≡ flown_procs (option_map (λ s. s.now) flown.entry) }
+{
+    match flown {
+        Some(spec) => spec.procs.items(),
+        None => &[],
+    }
+}
+
+fn last_step(flown: Option<&Spec>) -> usize
+    ensures { result ≡ last_step (option_map (λ s. s.now) flown.entry) }
+{
+    match flown {
+        Some(spec) => 8 * spec.apps.items().len() + 1,
+        None => 0,
+    }
+}

@@ -1,0 +1,4 @@
+pub mod Assuring
+pub mod FramesTold
+pub mod Settling
+pub mod Windows

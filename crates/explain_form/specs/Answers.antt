@@ -1,0 +1,53 @@
+-- What is answered to `explain`.
+use Rattle.std.specs.Prelude.{◌≡◌, ◌≢◌, ℕ, List, [], ◌∷◌}
+use Rattle.scram_types.specs.Scripts.{ScriptParts}
+use Rattle.scram_types.specs.Specification.{Parts}
+use Rattle.scram_io.specs.Outside.{History}
+use Rattle.coverage_check.specs.Acceptance.{Accepts, first_refusal}
+use Rattle.coverage_check.specs.Missions.{IsMission, mission_of}
+use Rattle.document_explanations.specs.Scripts.{AsksExplainedScript}
+use Rattle.document_explanations.specs.Specifications.{AsksExplainedSpecification}
+use Rattle.flight_forms.specs.Documents.{SaysScript}
+use Rattle.form_base.specs.declared.status.TheConstants.{UNREAD_FILE, UNWRITTEN_OUTPUT}
+use Rattle.form_base.specs.Answers.{Answer, Gives, WithoutFiles}
+use Rattle.form_base.specs.Assurance.{OfDocument, OfSpecification}
+use Rattle.explain_form.specs.declared.explanations.Explanation.{Explanation}
+use Rattle.explain_form.specs.Texts.{accepted_text, explain_answer, script_answer}
+
+-- The answer to a specification that was read.
+abbrev pub SpecificationAnswers : Parts → Answer
+SpecificationAnswers spec = WithoutFiles (Gives (explain_answer spec (first_refusal spec)))
+
+-- The answer to a specification and a script for it that were read.
+abbrev pub ScriptAnswers : Parts → ScriptParts → Answer
+ScriptAnswers spec script = WithoutFiles (Gives (script_answer spec script (first_refusal spec)))
+
+-- The answer to `explain` and the name of a specification's file.
+abbrev pub ExplainAnswers : List ℕ → Answer
+ExplainAnswers specification = AsksExplainedSpecification specification SpecificationAnswers
+
+-- The answer to `explain` and the names of a specification's file and of a script's.
+abbrev pub ExplainScriptAnswers : List ℕ → List ℕ → Answer
+ExplainScriptAnswers specification script =
+    AsksExplainedSpecification specification (λ (spec : Parts). AsksExplainedScript spec script (ScriptAnswers spec))
+
+-- Status and text are those that are told, and the status is about neither a file nor the output.
+pub record IsTold (explanation : Explanation) : Type 0 where
+  pub read : explanation.code ≢ UNREAD_FILE
+  pub written : explanation.code ≢ UNWRITTEN_OUTPUT
+
+-- The answer is what was made.
+abbrev pub TellsExplanation : Explanation → ℕ → List ℕ → Type 0
+TellsExplanation explanation = Gives (explanation.code, explanation.text.items)
+
+-- Where `explain` ends with status 0, no other file was read, the specification is accepted, and the text is its line and
+-- what is idle in it.
+abbrev pub AssuresExplain : List ℕ → History → List ℕ → Type 0
+AssuresExplain specification =
+    OfSpecification specification (λ (spec : Parts) (reads : History) (text : List ℕ). (reads ≡ []) × Accepts spec × (text ≡ accepted_text spec))
+
+-- The same with a script, which makes a mission with the specification.
+abbrev pub AssuresExplainScript : List ℕ → List ℕ → History → List ℕ → Type 0
+AssuresExplainScript specification script =
+    OfSpecification specification (λ (spec : Parts). OfDocument (SaysScript spec) script (λ (script : ScriptParts) (reads : History) (text : List ℕ).
+    (reads ≡ []) × IsMission (mission_of spec script) × (text ≡ accepted_text spec)))

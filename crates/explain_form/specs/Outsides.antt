@@ -1,0 +1,54 @@
+-- Why a script leaves the failure assumption.
+use Rattle.std.specs.Prelude.{ℕ, suc, ◌+◌, Bool, ◌&&◌, nat_lt, List, [], ◌++◌, codes, decimal, if◌then◌else◌}
+use Rattle.scram_types.specs.Scripts.{ScriptParts}
+use Rattle.scram_types.specs.Specification.{Parts}
+use Rattle.fault_script.specs.declared.assumption.Outside.{Outside}
+use Rattle.fault_script.specs.declared.assumption.OutsideKind.{OutsideKind}
+use Rattle.fault_script.specs.declared.assumption.OutsideKind.TheVariants.{Changes, Halts}
+use Rattle.fault_script.specs.Assumption.{is_change_frame}
+use Rattle.fault_script.specs.Environments.{env_at}
+use Rattle.form_base.specs.Lines.{added, names_down}
+use Rattle.form_base.specs.Texts.{texts_below}
+
+-- Frame f is not before the window that ends with frame `last`.
+abbrev pub is_in_window : Parts → ℕ → ℕ → Bool
+is_in_window spec last f = nat_lt last (f + spec.window)
+
+-- Frame f is in the window that ends with frame `last`, and the environment changes in it.
+abbrev pub changes_in : Parts → ScriptParts → ℕ → ℕ → Bool
+changes_in spec script last f = is_in_window spec last f && is_change_frame spec script f
+
+-- a frame behind others
+abbrev pub frame_text : ℕ → List ℕ
+frame_text f = codes " " ++ decimal f
+
+-- frame f, where it is one of those that are told
+abbrev pub change_text : Parts → ScriptParts → ℕ → ℕ → List ℕ
+change_text spec script last f = if changes_in spec script last f then frame_text f else []
+
+-- how many frames are assumed to change the environment
+abbrev pub assumed_line : Parts → List ℕ
+assumed_line spec = codes " change, at most " ++ decimal (spec.changes + 1) ++ codes " in " ++ decimal spec.window ++ codes " frames\n"
+
+-- the frames of the window that ends with frame `last` in which the environment changes
+unfoldable pub frames_text : Parts → ScriptParts → ℕ → List ℕ
+frames_text spec script last = codes "  frames" ++ texts_below (change_text spec script last) (suc last)
+
+-- the same, and how many are assumed
+abbrev pub changes_text : Parts → ScriptParts → ℕ → List ℕ
+changes_text spec script last = frames_text spec script last ++ assumed_line spec
+
+-- the processors that are down in frame f
+abbrev pub down_line : Parts → ScriptParts → ℕ → List ℕ
+down_line spec script f =
+    codes "  down " ++ added (names_down spec.procs (env_at spec script f).up) ++ codes ", at most " ++ decimal spec.halts ++ codes "\n"
+
+-- What stands behind a refusal by the failure assumption: of too many halts the processors that are down in the frame
+-- after the one that is told, of too many changes the frames of the window that ends with it.
+abbrev pub outside_text_by : Parts → ScriptParts → ℕ → OutsideKind → List ℕ
+outside_text_by spec script f Halts = down_line spec script (f + 1)
+outside_text_by spec script f Changes = changes_text spec script f
+
+-- The same of where a script leaves the assumption.
+abbrev pub outside_text : Parts → ScriptParts → Outside → List ℕ
+outside_text spec script outside = outside_text_by spec script outside.frame outside.kind

@@ -1,0 +1,41 @@
+-- What is printed of a specification and of a script for it.
+use Rattle.std.specs.Prelude.{ℕ, List, ◌++◌, Option, Some, None}
+use Rattle.scram_types.specs.Scripts.{ScriptParts}
+use Rattle.scram_types.specs.Specification.{Parts}
+use Rattle.fault_script.specs.declared.assumption.Outside.{Outside}
+use Rattle.fault_script.specs.Assumption.{first_outside}
+use Rattle.coverage_check.specs.declared.shown.Shown.{Shown}
+use Rattle.form_base.specs.declared.status.TheConstants.{ANSWERED, NOT_ACCEPTED, UNASSUMED_SCRIPT}
+use Rattle.form_base.specs.Lines.{shown_line}
+use Rattle.flight_forms.specs.Lines.{outside_line}
+use Rattle.spec_forms.specs.Lines.{accepted_line}
+use Rattle.acceptance_breaks.specs.Texts.{breaks_text}
+use Rattle.idle_parts.specs.Texts.{idle_text}
+use Rattle.explain_form.specs.Outsides.{outside_text}
+
+-- A specification that is accepted: its line, and behind it what is idle.
+abbrev pub accepted_text : Parts → List ℕ
+accepted_text spec = accepted_line spec ++ idle_text spec
+
+-- A specification that is not accepted: the refusal, and behind it all places at which its condition does not hold.
+abbrev pub refused_text : Parts → Shown → List ℕ
+refused_text spec shown = shown_line spec shown ++ breaks_text spec shown.condition
+
+-- A script that leaves the failure assumption: the refusal, and behind it why.
+abbrev pub unassumed_text : Parts → ScriptParts → Outside → List ℕ
+unassumed_text spec script outside = outside_line outside ++ outside_text spec script outside
+
+-- The answer to a specification, by why it is not accepted.
+abbrev pub explain_answer : Parts → Option Shown → ℕ × List ℕ
+explain_answer spec (Some shown) = (NOT_ACCEPTED, refused_text spec shown)
+explain_answer spec None = (ANSWERED, accepted_text spec)
+
+-- The answer to a specification that is accepted and a script for it, by where the script leaves the assumption.
+abbrev pub outside_answer : Parts → ScriptParts → Option Outside → ℕ × List ℕ
+outside_answer spec script (Some outside) = (UNASSUMED_SCRIPT, unassumed_text spec script outside)
+outside_answer spec script None = (ANSWERED, accepted_text spec)
+
+-- The answer to a specification and a script for it, by why the specification is not accepted.
+abbrev pub script_answer : Parts → ScriptParts → Option Shown → ℕ × List ℕ
+script_answer spec script (Some shown) = (NOT_ACCEPTED, refused_text spec shown)
+script_answer spec script None = outside_answer spec script (first_outside spec script)

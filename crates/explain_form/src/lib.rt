@@ -1,0 +1,10 @@
+//! The form `explain`: why a specification or a script is refused, or what is idle. What it prints is the answer to the
+//! bytes of the files that its words name.
+#![tactic(auto)]
+
+mod explanations;
+mod forms;
+pub mod laws;
+mod outsides;
+
+pub use forms::{ExplainedFiles, explain, explain_script};

@@ -1,0 +1,34 @@
+-- The family of fault scripts of a specification.
+use Rattle.std.specs.Prelude.{ℕ, zero, suc, ◌-◌, Bool, true, not, ◌&&◌, ◌==◌, List, [], ◌∷◌, ◌++◌, flat_map, if◌then◌else◌}
+use Rattle.std.specs.List.{list_all, list_any}
+use Rattle.scram_types.specs.Scripts.{ScriptParts}
+use Rattle.scram_types.specs.Specification.{Parts}
+use Rattle.fault_script.specs.Orders.{is_halt_before}
+use Rattle.fault_script.specs.Times.{factor_at}
+use Rattle.fault_family.specs.declared.faults.Fault.{Fault}
+use Rattle.fault_family.specs.declared.faults.FaultKind.{FaultKind}
+use Rattle.fault_family.specs.declared.faults.FaultKind.TheVariants.{Change, Halt, Restart}
+use Rattle.fault_family.specs.NextFaults.{candidates}
+use Rattle.fault_family.specs.Faults.{may_come_after}
+use Rattle.fault_family.specs.Scripts.{is_within, script_of}
+
+-- A fault of this kind in a frame makes a difference to a script: a factor gets another value than in the frame before,
+-- or a processor halts, or one restarts that has halted two frames before or earlier.
+abbrev pub differs_in : ScriptParts → ℕ → FaultKind → Bool
+differs_in script frame (Change factor value) = not (factor_at script factor.0 (frame - 1) == value)
+differs_in script frame (Halt proc step) = true
+differs_in script frame (Restart proc) = list_any (is_halt_before proc.0 frame) script.halts
+
+-- A fault may follow these: it may come after each of them, and makes a difference to their script.
+abbrev pub may_follow : Parts → List Fault → Fault → Bool
+may_follow spec before fault = list_all (may_come_after fault) before && differs_in (script_of spec before) fault.frame fault.kind
+
+-- The scripts that begin with these faults and have so many more, in order.
+abbrev pub extended : Parts → ℕ → List Fault → List (List Fault)
+extended spec zero before = if is_within spec (script_of spec before) then before ∷ [] else []
+extended spec (suc more) before =
+    flat_map (λ (fault : Fault). if may_follow spec before fault then extended spec more (before ++ fault ∷ []) else []) (candidates spec before)
+
+-- The scripts with so many faults that keep to the assumption, in order.
+abbrev pub family : Parts → ℕ → List (List Fault)
+family spec count = extended spec count []

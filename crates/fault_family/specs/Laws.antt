@@ -1,0 +1,90 @@
+-- What the family of fault scripts has: the scripts of these faults, and no others.
+use Rattle.std.specs.Prelude.{◌≡◌, ◌⊎◌, ℕ, ◌+◌, ◌<◌, ◌≤◌, true, List, [], ◌∷◌, ◌++◌, length, slice_get, Option, Some, None, ⊤}
+use Rattle.scram_types.specs.declared.specification.Factor.{Factor}
+use Rattle.scram_types.specs.Specification.{IsSpec, Parts}
+use Rattle.coverage_check.specs.Acceptance.{Accepts}
+use Rattle.coverage_check.specs.Timing.{greatest_bound}
+use Rattle.fault_script.specs.Assumption.{IsWithin}
+use Rattle.fault_script.specs.Fits.{EachLater, Fits}
+use Rattle.fault_script.specs.Orders.{last_of}
+use Rattle.fault_script.specs.Times.{words}
+use Rattle.fault_family.specs.declared.faults.Fault.{Fault}
+use Rattle.fault_family.specs.declared.faults.FaultKind.{FaultKind}
+use Rattle.fault_family.specs.declared.faults.FaultKind.TheVariants.{Change, Halt, Restart}
+use Rattle.fault_family.specs.Families.{family, may_follow}
+use Rattle.fault_family.specs.Faults.{precedes}
+use Rattle.fault_family.specs.Scripts.{script_of}
+
+-- A factor that changes exists.
+pub record IsChangeKind (spec : Parts) (factor value : ℕ) : Type 0 where
+  pub is : Factor
+  pub there : slice_get spec.factors factor ≡ Some is
+  pub below : value < length is.values
+
+-- A processor that halts exists, and halts before all stores or after its mark.
+pub record IsHaltKind (spec : Parts) (proc step : ℕ) : Type 0 where
+  pub there : proc < length spec.procs
+  pub moment : (step ≡ 0) ⊎ (step ≡ words spec + 1)
+
+-- A kind of fault is one of the specification's: a change of a factor to one of its values; a halt of a processor before
+-- all stores of a frame or after its mark; a restart of a processor.
+abbrev pub IsKind : Parts → FaultKind → Type 0
+IsKind spec (Change factor value) = IsChangeKind spec factor.0 value
+IsKind spec (Halt proc step) = IsHaltKind spec proc.0 step
+IsKind spec (Restart proc) = proc.0 < length spec.procs
+
+-- The first fault comes in frame 1; a further one at most one frame more than the greatest bound after the one before it,
+-- or one frame more than the window after it.
+abbrev pub IsNear : Parts → Option Fault → ℕ → Type 0
+IsNear spec None frame = frame ≡ 1
+IsNear spec (Some last) frame =
+    ((last.frame ≤ frame) × (frame ≤ last.frame + greatest_bound spec.bounds + 1)) ⊎ (frame ≡ last.frame + (spec.window + 1))
+
+-- A fault is the next after these: it is one of the specification's, comes soon enough, and may follow them.
+pub record IsNext (spec : Parts) (before : List Fault) (fault : Fault) : Type 0 where
+  pub kind : IsKind spec fault.kind
+  pub near : IsNear spec (last_of before) fault.frame
+  pub follows : may_follow spec before fault ≡ true
+
+-- Each of these faults is the next after those before it.
+abbrev pub Follow : Parts → List Fault → List Fault → Type 0
+Follow spec before [] = ⊤
+Follow spec before (fault ∷ faults) = IsNext spec before fault × Follow spec (before ++ fault ∷ []) faults
+
+-- These faults make a script of the family: they are so many, each follows those before it, and their script keeps to
+-- the failure assumption.
+pub record IsMember (spec : Parts) (count : ℕ) (faults : List Fault) : Type 0 where
+  pub many : length faults ≡ count
+  pub follow : Follow spec [] faults
+  pub within : IsWithin spec (script_of spec faults)
+
+-- An item stands in a list.
+abbrev pub Stands : {A : Type 0} → List A → A → Type 0
+Stands {A} xs x = (i : ℕ) × (slice_get xs i ≡ Some x)
+
+-- The family has exactly its members.
+pub record HasMembers (spec : Parts) (count : ℕ) (faults : List Fault) : Type 0 where
+  pub sound : Stands (family spec count) faults → IsMember spec count faults
+  pub complete : IsMember spec count faults → Stands (family spec count) faults
+
+-- The family of each specification has exactly its members.
+abbrev pub FamiliesHaveMembers : Type 0
+FamiliesHaveMembers = (spec : Parts) (count : ℕ) (faults : List Fault) → HasMembers spec count faults
+
+-- The script of a member fits the specification.
+abbrev pub MembersFit : Type 0
+MembersFit = (spec : Parts) (count : ℕ) (faults : List Fault) → IsSpec spec → count ≤ 3 → IsMember spec count faults → Fits spec (script_of spec faults)
+
+-- One script comes before another: where the first faults differ, by these.
+pub data ComesFirst : List Fault → List Fault → Type 0 where
+  here : (fault next : Fault) (faults others : List Fault) → precedes fault next ≡ true → ComesFirst (fault ∷ faults) (next ∷ others)
+  further : (fault : Fault) (faults others : List Fault) → ComesFirst faults others → ComesFirst (fault ∷ faults) (fault ∷ others)
+
+-- Lists of faults stand in order, and so none stands twice.
+pub record AreInOrder (all : List (List Fault)) : Type 0 where
+  pub ordered : EachLater ComesFirst all
+  pub once : EachLater (λ (faults others : List Fault). faults ≡ others → ⊥) all
+
+-- The scripts of the family of an accepted specification stand in order.
+abbrev pub FamiliesAreOrdered : Type 0
+FamiliesAreOrdered = (spec : Parts) (count : ℕ) → IsSpec spec → Accepts spec → AreInOrder (family spec count)

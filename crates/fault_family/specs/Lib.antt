@@ -1,0 +1,7 @@
+pub mod Counting
+pub mod Families
+pub mod Faults
+pub mod Laws
+pub mod NextFaults
+pub mod Scripts
+pub mod Standing

@@ -1,0 +1,62 @@
+-- The faults that may be the next of a script, in order.
+use Rattle.std.specs.Prelude.{ℕ, ◌+◌, List, [], ◌∷◌, ◌++◌, map, length, slice_get, flat_map, Option, Some, None}
+use Rattle.std.specs.Option.{option_map_or}
+use Rattle.scram_types.specs.declared.specification.Factor.{Factor}
+use Rattle.scram_types.specs.Lookups.{factor_id, proc_id}
+use Rattle.scram_types.specs.Searches.{listed_below}
+use Rattle.scram_types.specs.Specification.{Parts}
+use Rattle.fault_script.specs.Orders.{last_of}
+use Rattle.fault_script.specs.Times.{words}
+use Rattle.coverage_check.specs.Timing.{greatest_bound}
+use Rattle.fault_family.specs.declared.faults.Fault.{Fault}
+use Rattle.fault_family.specs.declared.faults.FaultKind.{FaultKind}
+use Rattle.fault_family.specs.declared.faults.FaultKind.TheVariants.{Change, Halt, Restart}
+
+-- The numbers below n, in order.
+abbrev pub numbers_below : ℕ → List ℕ
+numbers_below n = listed_below (λ k. k) n
+
+-- How many values factor x has.
+abbrev pub values_of : Parts → ℕ → ℕ
+values_of spec x = option_map_or (λ (factor : Factor). length factor.values) (slice_get spec.factors x) 0
+
+-- The changes of factor x, in the order of its values.
+abbrev pub changes_of : Parts → ℕ → List FaultKind
+changes_of spec x = listed_below (λ value. Change (factor_id x) value) (values_of spec x)
+
+-- The halts of processor p: before all stores, and after the mark.
+abbrev pub halts_of : Parts → ℕ → List FaultKind
+halts_of spec p = Halt (proc_id p) 0 ∷ Halt (proc_id p) (words spec + 1) ∷ []
+
+-- The restarts, in the order of processors.
+abbrev pub restarts_of : Parts → List FaultKind
+restarts_of spec = listed_below (λ p. Restart (proc_id p)) (length spec.procs)
+
+-- The kinds of fault, in order: changes by factor, halts and restarts by processor.
+abbrev pub kinds_of : Parts → List FaultKind
+kinds_of spec =
+    flat_map (changes_of spec) (numbers_below (length spec.factors))
+    ++ flat_map (halts_of spec) (numbers_below (length spec.procs))
+    ++ restarts_of spec
+
+-- How many frames a fault may come after the one before it: at most one more than the greatest bound, or one more than
+-- the window.
+abbrev pub gaps : Parts → List ℕ
+gaps spec = numbers_below (greatest_bound spec.bounds + 2) ++ (spec.window + 1) ∷ []
+
+-- The frames in which a fault may come, where this is the last one before it.
+abbrev pub frames_behind : Parts → Option Fault → List ℕ
+frames_behind spec None = 1 ∷ []
+frames_behind spec (Some last) = map (λ gap. last.frame + gap) (gaps spec)
+
+-- The frames in which a fault may come after these: the first one comes in frame 1.
+abbrev pub frames_after : Parts → List Fault → List ℕ
+frames_after spec before = frames_behind spec (last_of before)
+
+-- The faults of a frame, in order.
+abbrev pub faults_in : Parts → ℕ → List Fault
+faults_in spec frame = map (λ (kind : FaultKind). record { frame = frame; kind = kind }) (kinds_of spec)
+
+-- The faults of the frames in which a fault may come after these, in order.
+abbrev pub candidates : Parts → List Fault → List Fault
+candidates spec before = flat_map (faults_in spec) (frames_after spec before)

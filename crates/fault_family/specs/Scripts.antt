@@ -1,0 +1,69 @@
+-- The script of some faults.
+use Rattle.std.specs.Prelude.{ℕ, ◌+◌, Bool, is_none, List, Option, Some, None, filter_map}
+use Rattle.std.specs.Option.{option_map_or}
+use Rattle.scram_types.specs.declared.scripts.Change.{Change}
+use Rattle.scram_types.specs.declared.scripts.HaltAt.{HaltAt}
+use Rattle.scram_types.specs.declared.scripts.RestartAt.{RestartAt}
+use Rattle.scram_types.specs.Scripts.{ScriptParts}
+use Rattle.scram_types.specs.Specification.{Parts}
+use Rattle.fault_script.specs.Assumption.{first_outside}
+use Rattle.fault_script.specs.Orders.{last_of}
+use Rattle.coverage_check.specs.Timing.{greatest_bound}
+use Rattle.fault_family.specs.declared.faults.Fault.{Fault}
+use Rattle.fault_family.specs.declared.faults.FaultKind.{FaultKind}
+use Rattle.fault_family.specs.declared.faults.FaultKind.TheVariants as kind
+
+-- The change that comes in a frame, where a fault of this kind is one.
+abbrev pub change_in : ℕ → FaultKind → Option Change
+change_in frame (kind.Change factor value) = Some (record { frame = frame; factor = factor; value = value })
+change_in frame (kind.Halt proc step) = None
+change_in frame (kind.Restart proc) = None
+
+-- The halt that comes in a frame, where a fault of this kind is one.
+abbrev pub halt_in : ℕ → FaultKind → Option HaltAt
+halt_in frame (kind.Change factor value) = None
+halt_in frame (kind.Halt proc step) = Some (record { proc = proc; frame = frame; step = step })
+halt_in frame (kind.Restart proc) = None
+
+-- The restart that comes in a frame, where a fault of this kind is one.
+abbrev pub restart_in : ℕ → FaultKind → Option RestartAt
+restart_in frame (kind.Change factor value) = None
+restart_in frame (kind.Halt proc step) = None
+restart_in frame (kind.Restart proc) = Some (record { proc = proc; frame = frame })
+
+-- The change that a fault is.
+abbrev pub change_of : Fault → Option Change
+change_of fault = change_in fault.frame fault.kind
+
+-- The halt that a fault is.
+abbrev pub halt_of : Fault → Option HaltAt
+halt_of fault = halt_in fault.frame fault.kind
+
+-- The restart that a fault is.
+abbrev pub restart_of : Fault → Option RestartAt
+restart_of fault = restart_in fault.frame fault.kind
+
+-- The script of so many frames in which these faults come.
+abbrev pub script_in : ℕ → List Fault → ScriptParts
+script_in frames faults = record {
+  frames = frames;
+  changes = filter_map change_of faults;
+  halts = filter_map halt_of faults;
+  restarts = filter_map restart_of faults;
+}
+
+-- The frame of the last fault; 0 where there is none.
+abbrev pub last_frame : List Fault → ℕ
+last_frame faults = option_map_or (λ (fault : Fault). fault.frame) (last_of faults) 0
+
+-- How many frames a script of these faults has: the greatest bound and three more than the frame of the last one.
+abbrev pub frames_of : Parts → List Fault → ℕ
+frames_of spec faults = last_frame faults + greatest_bound spec.bounds + 3
+
+-- The script of these faults.
+abbrev pub script_of : Parts → List Fault → ScriptParts
+script_of spec faults = script_in (frames_of spec faults) faults
+
+-- A script keeps to the failure assumption.
+abbrev pub is_within : Parts → ScriptParts → Bool
+is_within spec script = is_none (first_outside spec script)

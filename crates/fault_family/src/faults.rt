@@ -1,0 +1,154 @@
+//! Faults, and their order.
+
+ghost use Rattle.std.specs.Prelude.{◌≡◌, ◌++◌, ◌∷◌, ◌<◌, [], length};
+ghost use Rattle.fault_script.specs.Orders.{comes_after};
+ghost use Rattle.fault_family.specs.Faults.{detail, may_come_after, number, precedes, rank, repeats};
+
+use arrayvec::ArrayVec;
+use scram_types::{FactorId, ProcId};
+
+/// The greatest number of faults that a script of the family has.
+pub const MAX_FAULTS: usize = 3;
+
+/// What goes wrong.
+#[derive(Clone, Copy, Debug, PartialEq, Eq)]
+pub enum FaultKind {
+    /// A factor changes to a value, by its number among the factor's values.
+    Change { factor: FactorId, value: u8 },
+    /// A processor halts after `step` stores, or after its mark.
+    Halt { proc: ProcId, step: u8 },
+    /// A processor restarts.
+    Restart { proc: ProcId },
+}
+
+impl Default for FaultKind {
+    /// Returns the kind that stands in the unused places of a list of fixed length.
+    fn default() -> FaultKind {
+        FaultKind::Restart { proc: ProcId(0) }
+    }
+}
+
+/// A fault, with the frame in which it comes.
+#[derive(Clone, Copy, Debug, Default, PartialEq, Eq)]
+pub struct Fault {
+    pub frame: u32,
+    pub kind: FaultKind,
+}
+
+/// At most [`MAX_FAULTS`] faults, in order.
+#[derive(Drop)]
+pub struct Faults {
+    faults: ArrayVec<Fault, MAX_FAULTS>,
+}
+
+impl std::marker::Model for Faults {
+    ghost use Rattle.std.specs.Prelude.{List};
+    ghost use Rattle.fault_family.specs.declared.faults.Fault.{Fault};
+
+    ghost Value = { List Fault };
+
+    ghost view = { λ s. s.faults.items };
+}
+
+impl Faults {
+    ghost use Rattle.std.specs.Prelude.{◌≡◌, ◌++◌, ◌∷◌, ◌<◌, ◌≤◌, [], length};
+
+    /// Returns the list without a fault.
+    pub fn new() -> Faults
+        ensures { result ≡ [] }
+    {
+        Faults {
+            faults: ArrayVec::new(),
+        }
+    }
+
+    /// Returns the faults, in order.
+    pub fn as_slice(&self) -> &[Fault]
+        ensures { result.now ≡ self.now }
+    {
+        self.faults.as_slice()
+    }
+
+    /// Returns the list with one more fault at its end.
+    pub fn with(&self, fault: &Fault) -> Faults
+        requires { length self.now < 3 }
+        ensures { result ≡ self.now ++ fault.now ∷ [] }
+    {
+        let mut faults = ArrayVec::new();
+        let _fits = faults.try_extend_from_slice(self.faults.as_slice());
+        faults.push(*fault);
+        Faults { faults }
+    }
+}
+
+// Returns the place of a kind in the order of kinds: changes, halts, restarts.
+fn rank(kind: &FaultKind) -> u8
+    ensures { result ≡ rank kind.now }
+{
+    match kind {
+        FaultKind::Change { .. } => 0,
+        FaultKind::Halt { .. } => 1,
+        FaultKind::Restart { .. } => 2,
+    }
+}
+
+// Returns the number of the factor or of the processor.
+fn number(kind: &FaultKind) -> u8
+    ensures { result ≡ number kind.now }
+{
+    match kind {
+        FaultKind::Change { factor, .. } => factor.0,
+        FaultKind::Halt { proc, .. } => proc.0,
+        FaultKind::Restart { proc } => proc.0,
+    }
+}
+
+// Returns the number of the value or the step, 0 of a restart.
+fn detail(kind: &FaultKind) -> u8
+    ensures { result ≡ detail kind.now }
+{
+    match kind {
+        FaultKind::Change { value, .. } => *value,
+        FaultKind::Halt { step, .. } => *step,
+        FaultKind::Restart { .. } => 0,
+    }
+}
+
+fn comes_after(last: u32, last_number: u8, next: u32, number: u8) -> bool
+    ensures { result ≡ comes_after last last_number next number }
+{
+    last < next || last == next && last_number < number
+}
+
+/// Returns whether a fault comes before another one: by frame, then changes before halts before restarts, then by the
+/// number of the factor and of the value, or of the processor and by the step.
+pub fn precedes(fault: &Fault, next: &Fault) -> bool
+    ensures { result ≡ precedes fault.now next.now }
+{
+    comes_after(fault.frame, rank(&fault.kind), next.frame, rank(&next.kind))
+        || fault.frame == next.frame
+            && rank(&fault.kind) == rank(&next.kind)
+            && comes_after(
+                u32::from(number(&fault.kind)),
+                detail(&fault.kind),
+                u32::from(number(&next.kind)),
+                detail(&next.kind),
+            )
+}
+
+/// Returns whether two faults are of one class that comes once: changes of one factor in one frame, halts of one
+/// processor, or restarts of one processor.
+pub fn repeats(fault: &Fault, next: &Fault) -> bool
+    ensures { result ≡ repeats fault.now next.now }
+{
+    rank(&fault.kind) == rank(&next.kind)
+        && number(&fault.kind) == number(&next.kind)
+        && (rank(&fault.kind) != 0 || fault.frame == next.frame)
+}
+
+/// Returns whether a fault may come after another one.
+pub fn may_come_after(fault: &Fault, next: &Fault) -> bool
+    ensures { result ≡ may_come_after next.now fault.now }
+{
+    precedes(fault, next) && !repeats(fault, next)
+}

@@ -1,0 +1,199 @@
+//! The script of some faults, held without memory: what it says of each frame, and whether it keeps to the failure
+//! assumption.
+
+ghost use Rattle.std.specs.Prelude.{◌≡◌, ◌≤◌, ◌∷◌, [], filter_map};
+ghost use Rattle.std.specs.List.{list_all, list_any};
+ghost use Rattle.fault_script.specs.Times.{is_over, is_restart_between, is_up, value_after};
+ghost use Rattle.fault_script.specs.Orders.{is_halt_before};
+ghost use Rattle.coverage_check.specs.Timing.{greatest_bound};
+ghost use Rattle.fault_family.specs.Scripts.{change_of, halt_of, last_frame, restart_of, script_in};
+
+use crate::faults::{Fault, FaultKind};
+use coverage_check::greatest_bound;
+use scram_types::{Change, FactorId, HaltAt, ProcId, RestartAt, Spec};
+
+/// The script of some faults.
+#[derive(Clone, Copy)]
+pub struct FaultScript<'a> {
+    pub frames: u32,
+    pub faults: &'a [Fault],
+}
+
+impl<'a> FaultScript<'a> {
+    ghost use Rattle.std.specs.Prelude.{◌≡◌, ◌≤◌};
+    ghost use Rattle.fault_family.specs.Scripts.{frames_of, last_frame};
+
+    /// Returns the script of these faults, which goes on for three frames more than the greatest bound after the last one.
+    pub fn new(spec: &Spec, faults: &'a [Fault]) -> FaultScript<'a>
+        requires { last_frame faults.now ≤ 4000 }
+        ensures frames { result.frames ≡ frames_of spec.now faults.now }
+        ensures few { result.frames ≤ 5003 }
+        ensures faults { result.faults.now ≡ faults.now }
+    {
+        FaultScript {
+            frames: last_frame(faults) + greatest(spec) + 3,
+            faults,
+        }
+    }
+}
+
+/// Returns the change that a fault is.
+pub fn change_of(fault: &Fault) -> Option<Change>
+    ensures { result ≡ change_of fault.now }
+{
+    match fault.kind {
+        FaultKind::Change { factor, value } => Some(Change {
+            frame: fault.frame,
+            factor,
+            value,
+        }),
+        _ => None,
+    }
+}
+
+/// Returns the halt that a fault is.
+pub fn halt_of(fault: &Fault) -> Option<HaltAt>
+    ensures { result ≡ halt_of fault.now }
+{
+    match fault.kind {
+        FaultKind::Halt { proc, step } => Some(HaltAt {
+            proc,
+            frame: fault.frame,
+            step,
+        }),
+        _ => None,
+    }
+}
+
+/// Returns the restart that a fault is.
+pub fn restart_of(fault: &Fault) -> Option<RestartAt>
+    ensures { result ≡ restart_of fault.now }
+{
+    match fault.kind {
+        FaultKind::Restart { proc } => Some(RestartAt {
+            proc,
+            frame: fault.frame,
+        }),
+        _ => None,
+    }
+}
+
+/// Returns the frame of the last fault, 0 where there is none.
+pub fn last_frame(faults: &[Fault]) -> u32
+    ensures { result ≡ last_frame faults.now }
+{
+    match faults.last() {
+        Some(fault) => fault.frame,
+        None => 0,
+    }
+}
+
+/// Returns the greatest bound that is given, in frames, and 0 where none is.
+pub fn greatest(spec: &Spec) -> u32
+    ensures value { result ≡ greatest_bound spec.now.bounds }
+    ensures few { result ≤ 1000 }
+{
+    // Using a field of a specification shows that it keeps its invariant.
+    let _ = &spec.bounds;
+    greatest_bound(spec)
+}
+
+/// Returns the value of a factor in a frame.
+pub fn value_at(faults: &[Fault], factor: FactorId, frame: u32) -> u8
+    ensures { result ≡ value_after (filter_map change_of faults.now) factor.0 frame 0 }
+{
+    let mut value = 0;
+    for fault in faults {
+        value = newest(fault, factor, frame, value);
+    }
+    value
+}
+
+// Returns the value that a factor has by a frame after a fault, where it had this value before.
+fn newest(fault: &Fault, factor: FactorId, frame: u32, value: u8) -> u8
+    ensures { result ≡ value_after (filter_map change_of (fault.now ∷ [])) factor.0 frame value }
+{
+    match fault.kind {
+        FaultKind::Change {
+            factor: changed,
+            value: new,
+        } if changed.0 == factor.0 && fault.frame <= frame => new,
+        _ => value,
+    }
+}
+
+/// Returns whether a processor is up in a frame.
+pub fn is_up(script: &FaultScript<'_>, p: u8, frame: u32) -> bool
+    ensures { result ≡ is_up (script_in script.now.frames script.now.faults.now) p frame }
+{
+    are_halts_over(script, p, frame)
+}
+
+// Returns whether a processor has restarted since each of its halts in a frame before this one.
+fn are_halts_over(script: &FaultScript<'_>, p: u8, frame: u32) -> bool
+    ensures { result ≡ list_all (is_over (script_in script.now.frames script.now.faults.now) p frame) (filter_map halt_of script.now.faults.now) }
+{
+    for fault in script.faults {
+        if !is_over(script, fault, p, frame) {
+            return false;
+        }
+    }
+    true
+}
+
+// Returns whether a fault, where it is a halt, leaves a processor up in a frame.
+fn is_over(script: &FaultScript<'_>, fault: &Fault, p: u8, frame: u32) -> bool
+    ensures { result ≡ list_all (is_over (script_in script.now.frames script.now.faults.now) p frame) (filter_map halt_of (fault.now ∷ [])) }
+{
+    match fault.kind {
+        FaultKind::Halt { proc, .. } => {
+            !(proc.0 == p
+                && fault.frame < frame
+                && !has_restarted(script.faults, p, fault.frame, frame))
+        }
+        _ => true,
+    }
+}
+
+// Returns whether a processor restarts after frame `after` and in a frame up to `frame`.
+fn has_restarted(faults: &[Fault], p: u8, after: u32, frame: u32) -> bool
+    ensures { result ≡ list_any (is_restart_between p after frame) (filter_map restart_of faults.now) }
+{
+    for fault in faults {
+        if is_restart_between(fault, p, after, frame) {
+            return true;
+        }
+    }
+    false
+}
+
+fn is_restart_between(fault: &Fault, p: u8, after: u32, frame: u32) -> bool
+    ensures { result ≡ list_any (is_restart_between p after frame) (filter_map restart_of (fault.now ∷ [])) }
+{
+    match fault.kind {
+        FaultKind::Restart { proc } => proc.0 == p && after < fault.frame && fault.frame <= frame,
+        _ => false,
+    }
+}
+
+/// Returns whether a processor has a halt two frames before a frame or earlier.
+pub fn has_halted_before(faults: &[Fault], proc: ProcId, frame: u32) -> bool
+    ensures { result ≡ list_any (is_halt_before proc.0 frame) (filter_map halt_of faults.now) }
+{
+    for fault in faults {
+        if is_halt_before(fault, proc, frame) {
+            return true;
+        }
+    }
+    false
+}
+
+fn is_halt_before(fault: &Fault, of: ProcId, frame: u32) -> bool
+    ensures { result ≡ list_any (is_halt_before of.0 frame) (filter_map halt_of (fault.now ∷ [])) }
+{
+    match fault.kind {
+        FaultKind::Halt { proc, .. } => proc.0 == of.0
+            && u64::from(fault.frame) + 2 <= u64::from(frame),
+        _ => false,
+    }
+}

@@ -1,0 +1,163 @@
+//! Whether the script of some faults keeps to the failure assumption.
+
+ghost use Rattle.std.specs.Prelude.{◌≡◌, ◌+◌, ◌-◌, ◌≤◌, is_some, length, not};
+ghost use Rattle.scram_types.specs.Bits.{bits_below};
+ghost use Rattle.fault_script.specs.Assumption.{brings_too_many_down, changes_upto, down_below, has_too_many_down, is_change_frame, is_change_too_many, is_same_env, outside_at};
+ghost use Rattle.fault_script.specs.Environments.{env_at};
+ghost use Rattle.fault_script.specs.Times.{factors_at, is_up};
+ghost use Rattle.fault_family.specs.Counting.{AreCounts};
+ghost use Rattle.fault_family.specs.Scripts.{is_within, script_in};
+
+use crate::scripts::{FaultScript, is_up, value_at};
+use scram_types::{Env, FactorId, Spec};
+
+/// Returns whether a script keeps to the failure assumption: in no frame, that after the last one included, are more
+/// than `halts` processors down, and any `window` consecutive frames hold at most `changes + 1` frames whose environment
+/// differs from that of the frame before.
+pub fn is_within(spec: &Spec, script: &FaultScript<'_>) -> bool
+    requires { script.now.frames ≤ 5003 }
+    ensures { result ≡ is_within spec.now (script_in script.now.frames script.now.faults.now) }
+{
+    let mut counts = Counts { upto: 0, past: 0 };
+    for frame in 0..script.frames + 1 {
+        counts = counts_with(spec, script, &counts, frame);
+        if is_outside_at(spec, script, &counts, frame) {
+            return false;
+        }
+    }
+    true
+}
+
+// How many frames up to a frame change the environment, and how many of those that lie before the window that ends with
+// the frame.
+#[derive(Clone, Copy)]
+struct Counts {
+    upto: u32,
+    past: u32,
+}
+
+// Returns the counts of a frame, by those of the frame before.
+fn counts_with(spec: &Spec, script: &FaultScript<'_>, counts: &Counts, frame: u32) -> Counts
+    requires frame { frame ≤ 5003 }
+    requires counts { AreCounts spec.now (script_in script.now.frames script.now.faults.now) (frame - 1) counts.now }
+    ensures { AreCounts spec.now (script_in script.now.frames script.now.faults.now) frame result }
+{
+    let past = if spec.window <= frame {
+        count_with(spec, script, counts.past, frame - spec.window)
+    } else {
+        counts.past
+    };
+    Counts {
+        upto: count_with(spec, script, counts.upto, frame),
+        past,
+    }
+}
+
+// Returns how many frames up to a frame change the environment, by how many up to the frame before do.
+fn count_with(spec: &Spec, script: &FaultScript<'_>, count: u32, frame: u32) -> u32
+    requires frame { frame ≤ 5003 }
+    requires count { count ≡ changes_upto spec.now (script_in script.now.frames script.now.faults.now) (frame - 1) }
+    ensures { result ≡ changes_upto spec.now (script_in script.now.frames script.now.faults.now) frame }
+{
+    if is_change_frame(spec, script, frame) {
+        count + 1
+    } else {
+        count
+    }
+}
+
+// Returns whether the script leaves the assumption in a frame.
+fn is_outside_at(spec: &Spec, script: &FaultScript<'_>, counts: &Counts, frame: u32) -> bool
+    requires few { script.now.frames ≤ 5003 }
+    requires frame { frame ≤ script.now.frames }
+    requires counts { AreCounts spec.now (script_in script.now.frames script.now.faults.now) frame counts.now }
+    ensures { result ≡ is_some (outside_at spec.now (script_in script.now.frames script.now.faults.now) frame) }
+{
+    brings_too_many_down(spec, script, frame) || is_change_too_many(spec, script, counts, frame)
+}
+
+// Returns whether a frame is a change too many for the window that ends with it.
+fn is_change_too_many(spec: &Spec, script: &FaultScript<'_>, counts: &Counts, frame: u32) -> bool
+    requires counts { AreCounts spec.now (script_in script.now.frames script.now.faults.now) frame counts.now }
+    ensures { result ≡ is_change_too_many spec.now (script_in script.now.frames script.now.faults.now) frame }
+{
+    is_change_frame(spec, script, frame) && u32::from(spec.changes) + 1 < counts.upto - counts.past
+}
+
+fn is_change_frame(spec: &Spec, script: &FaultScript<'_>, frame: u32) -> bool
+    ensures { result ≡ is_change_frame spec.now (script_in script.now.frames script.now.faults.now) frame }
+{
+    frame != 0
+        && differs(
+            &env_at(spec, script, frame - 1),
+            &env_at(spec, script, frame),
+        )
+}
+
+fn differs(env: &Env, other: &Env) -> bool
+    ensures { result ≡ not (is_same_env env.now other.now) }
+{
+    !(env.up == other.up && env.factors == other.factors)
+}
+
+fn env_at(spec: &Spec, script: &FaultScript<'_>, frame: u32) -> Env
+    ensures { result ≡ env_at spec.now (script_in script.now.frames script.now.faults.now) frame }
+{
+    Env {
+        up: up_set_at(spec, script, frame),
+        factors: factors_at(script, frame),
+    }
+}
+
+fn factors_at(script: &FaultScript<'_>, frame: u32) -> [u8; 6]
+    ensures { result ≡ factors_at (script_in script.now.frames script.now.faults.now) frame }
+{
+    [
+        value_at(script.faults, FactorId(0), frame),
+        value_at(script.faults, FactorId(1), frame),
+        value_at(script.faults, FactorId(2), frame),
+        value_at(script.faults, FactorId(3), frame),
+        value_at(script.faults, FactorId(4), frame),
+        value_at(script.faults, FactorId(5), frame),
+    ]
+}
+
+fn up_set_at(spec: &Spec, script: &FaultScript<'_>, frame: u32) -> u8
+    ensures { result ≡ bits_below (λ p. is_up (script_in script.now.frames script.now.faults.now) p frame) (length spec.now.procs) }
+{
+    let mut up = 0;
+    for p in 0..spec.procs.items().len() as u8 {
+        if is_up(script, p, frame) {
+            up += 1 << p;
+        }
+    }
+    up
+}
+
+fn brings_too_many_down(spec: &Spec, script: &FaultScript<'_>, frame: u32) -> bool
+    requires frame { frame ≤ script.now.frames }
+    requires few { script.now.frames ≤ 5003 }
+    ensures { result ≡ brings_too_many_down spec.now (script_in script.now.frames script.now.faults.now) frame }
+{
+    frame != script.frames && has_too_many_down(spec, script, frame + 1)
+}
+
+fn has_too_many_down(spec: &Spec, script: &FaultScript<'_>, frame: u32) -> bool
+    ensures { result ≡ has_too_many_down spec.now (script_in script.now.frames script.now.faults.now) frame }
+{
+    spec.halts < count_down(script, spec.procs.items().len() as u8, frame)
+}
+
+// Returns how many of the first `processors` processors are down in a frame.
+fn count_down(script: &FaultScript<'_>, processors: u8, frame: u32) -> u8
+    ensures value { result ≡ down_below (script_in script.now.frames script.now.faults.now) frame processors }
+    ensures most { result ≤ processors }
+{
+    let mut down = 0;
+    for p in 0..processors {
+        if !is_up(script, p, frame) {
+            down += 1;
+        }
+    }
+    down
+}

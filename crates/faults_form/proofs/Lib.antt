@@ -1,0 +1,3 @@
+pub mod Assuring
+pub mod FamilyTexts
+pub mod Spelled

@@ -1,0 +1,32 @@
+-- What is answered of the fault scripts of a specification.
+use Rattle.std.specs.Prelude.{◌≡◌, ℕ, List, [], Option, Some, None}
+use Rattle.scram_types.specs.Specification.{Parts}
+use Rattle.scram_io.specs.Outside.{History}
+use Rattle.coverage_check.specs.declared.shown.Shown.{Shown}
+use Rattle.coverage_check.specs.Acceptance.{Accepts, first_refusal}
+use Rattle.form_base.specs.declared.status.TheConstants.{ANSWERED, NOT_ACCEPTED}
+use Rattle.form_base.specs.Answers.{Answer, Gives, WithoutFiles}
+use Rattle.form_base.specs.Assurance.{OfSpecification}
+use Rattle.form_base.specs.Lines.{shown_line}
+use Rattle.form_base.specs.Specifications.{AsksSpecification}
+use Rattle.faults_form.specs.declared.counts.FaultCount.{FaultCount}
+use Rattle.faults_form.specs.Counts.{number}
+use Rattle.faults_form.specs.Families.{family_text}
+
+-- The answer to `faults`, by why the specification is not accepted.
+abbrev pub faults_answer : Parts → FaultCount → Option Shown → ℕ × List ℕ
+faults_answer spec count (Some shown) = (NOT_ACCEPTED, shown_line spec shown)
+faults_answer spec count None = (ANSWERED, family_text spec (number count))
+
+-- The text has the family of the specification.
+abbrev pub TellsFamily : FaultCount → Parts → ℕ → List ℕ → Type 0
+TellsFamily count spec = Gives (ANSWERED, family_text spec (number count))
+
+-- The answer to `faults`, the name of a specification's file and a number of faults.
+abbrev pub FaultsAnswers : List ℕ → FaultCount → Answer
+FaultsAnswers specification count = AsksSpecification specification (λ (spec : Parts). WithoutFiles (Gives (faults_answer spec count (first_refusal spec))))
+
+-- Where `faults` ends with status 0, no other file was read, the specification is accepted, and the text has its family.
+abbrev pub AssuresFaults : List ℕ → FaultCount → History → List ℕ → Type 0
+AssuresFaults specification count =
+    OfSpecification specification (λ (spec : Parts) (reads : History) (text : List ℕ). (reads ≡ []) × Accepts spec × (text ≡ family_text spec (number count)))

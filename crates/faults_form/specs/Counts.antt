@@ -1,0 +1,15 @@
+-- How many faults the scripts of a family have.
+use Rattle.std.specs.Prelude.{ℕ, List, Option, Some, None, bytes_eq, codes, if◌then◌else◌}
+use Rattle.faults_form.specs.declared.counts.FaultCount.{FaultCount}
+use Rattle.faults_form.specs.declared.counts.FaultCount.TheVariants.{One, Two, Three}
+
+-- The number of faults.
+abbrev pub number : FaultCount → ℕ
+number One = 1
+number Two = 2
+number Three = 3
+
+-- The number of faults that a word spells.
+abbrev pub fault_count : List ℕ → Option FaultCount
+fault_count word =
+    if bytes_eq word (codes "1") then Some One else (if bytes_eq word (codes "2") then Some Two else (if bytes_eq word (codes "3") then Some Three else None))

@@ -1,0 +1,50 @@
+-- The line of a script: its canonical text, as it is spelled.
+use Rattle.std.specs.Prelude.{ℕ, Bool, true, false, List, [], ◌∷◌, ◌++◌, map, codes, decimal}
+use Rattle.serde_json.specs.Written.{comma_if}
+use Rattle.scram_types.specs.declared.scripts.Change.{Change}
+use Rattle.scram_types.specs.declared.scripts.HaltAt.{HaltAt}
+use Rattle.scram_types.specs.declared.scripts.RestartAt.{RestartAt}
+use Rattle.scram_types.specs.Lookups.{factor_name, proc_name}
+use Rattle.scram_types.specs.Scripts.{ScriptParts}
+use Rattle.scram_types.specs.Specification.{Parts}
+use Rattle.fault_script.specs.Texts.{new_value_name, script_text}
+use Rattle.fault_family.specs.declared.faults.Fault.{Fault}
+use Rattle.fault_family.specs.Scripts.{script_of}
+
+-- A change.
+unfoldable pub change_text : Parts → Change → List ℕ
+change_text spec change =
+    codes "{\"factor\":\"" ++ (factor_name spec change.factor.0 ++ (codes "\",\"frame\":" ++ (decimal change.frame
+    ++ (codes ",\"value\":\"" ++ (new_value_name spec change ++ codes "\"}")))))
+
+-- A halt.
+unfoldable pub halt_text : Parts → HaltAt → List ℕ
+halt_text spec halt =
+    codes "{\"frame\":" ++ (decimal halt.frame ++ (codes ",\"processor\":\"" ++ (proc_name spec halt.proc.0
+    ++ (codes "\",\"step\":" ++ (decimal halt.step ++ codes "}")))))
+
+-- A restart.
+unfoldable pub restart_text : Parts → RestartAt → List ℕ
+restart_text spec restart =
+    codes "{\"frame\":" ++ (decimal restart.frame ++ (codes ",\"processor\":\"" ++ (proc_name spec restart.proc.0 ++ codes "\"}")))
+
+-- The rest of a list, with a comma before its first item where it has one before it.
+abbrev pub listed_text : Bool → List (List ℕ) → List ℕ
+listed_text later [] = codes "]"
+listed_text later (text ∷ texts) = comma_if later ++ (text ++ listed_text true texts)
+
+-- The restarts and the version: the first one where there are no restarts, and else the second.
+abbrev pub version_text : Parts → List RestartAt → List ℕ
+version_text spec [] = codes ",\"scram\":1}"
+version_text spec (restart ∷ restarts) = codes ",\"restarts\":[" ++ (listed_text false (map (restart_text spec) (restart ∷ restarts)) ++ codes ",\"scram\":2}")
+
+-- A script.
+abbrev pub spelled_script : Parts → ScriptParts → List ℕ
+spelled_script spec script =
+    codes "{\"changes\":[" ++ (listed_text false (map (change_text spec) script.changes)
+    ++ (codes ",\"frames\":" ++ (decimal script.frames
+    ++ (codes ",\"halts\":[" ++ (listed_text false (map (halt_text spec) script.halts) ++ version_text spec script.restarts)))))
+
+-- The line of the script of these faults: its canonical text.
+abbrev pub script_line : Parts → List Fault → List ℕ
+script_line spec faults = script_text spec (script_of spec faults) ++ codes "\n"

@@ -1,0 +1,38 @@
+//! How many faults the scripts of a family have.
+
+ghost use Rattle.std.specs.Prelude.{◌≡◌, ◌≤◌, option_map};
+ghost use Rattle.faults_form.specs.Counts.{fault_count, number};
+
+/// How many faults each script of a family has.
+#[derive(Clone, Copy, Debug, PartialEq, Eq)]
+pub enum FaultCount {
+    One,
+    Two,
+    Three,
+}
+
+impl FaultCount {
+    /// Returns the number of faults.
+    pub fn number(self) -> u8
+        ensures value { result ≡ number self }
+        ensures few { result ≤ 3 }
+    {
+        match self {
+            FaultCount::One => 1,
+            FaultCount::Two => 2,
+            FaultCount::Three => 3,
+        }
+    }
+}
+
+/// Returns the number of faults that a word spells: `1`, `2` or `3`.
+pub fn fault_count(word: &[u8]) -> Option<FaultCount>
+    ensures { result ≡ fault_count word.now }
+{
+    match word {
+        [b'1'] => Some(FaultCount::One),
+        [b'2'] => Some(FaultCount::Two),
+        [b'3'] => Some(FaultCount::Three),
+        _ => None,
+    }
+}

@@ -1,0 +1,139 @@
+//! The form `faults`.
+
+ghost use Rattle.std.specs.Prelude.{◌≡◌, ◌+◌, ◌*◌, ◌≤◌, ◌∷◌, [], length};
+ghost use Rattle.coverage_check.specs.Acceptance.{first_refusal};
+ghost use Rattle.scram_io.specs.Outside.{Prints};
+ghost use Rattle.form_base.specs.Answers.{Gives};
+ghost use Rattle.form_base.specs.Endings.{Ends, IsTaken, Prepares, Settles};
+ghost use Rattle.fault_family.specs.NextFaults.{kinds_of};
+ghost use Rattle.fault_family.specs.Scripts.{last_frame};
+ghost use Rattle.faults_form.specs.Answers.{FaultsAnswers, TellsFamily, faults_answer};
+ghost use Rattle.faults_form.specs.Counts.{number};
+ghost use Rattle.faults_form.specs.Families.{extended_text, family_text, within_text};
+
+use crate::counts::FaultCount;
+use crate::lines::make_script_line;
+use coverage_check::{AcceptError, Accepted, accept};
+use fault_family::candidates::{Kinds, candidate, candidate_count, may_follow};
+use fault_family::faults::{Fault, FaultKind, Faults};
+use fault_family::scripts::FaultScript;
+use fault_family::within::is_within;
+use form_base::lines::make_shown_line;
+use form_base::loads::load;
+use form_base::refusals::{Refusal, Refused};
+use form_base::specifications::Specification;
+use form_base::status::{ANSWERED, Status};
+use form_base::telling::{status_after, tell_refusal};
+use scram_io::{Files, Sink, SinkFault};
+use scram_types::Spec;
+use std::alloc::Global;
+
+/// What `faults` asks: the file of a specification, and how many faults each script has.
+#[derive(Clone, Copy)]
+pub struct FaultsQuestion<'a> {
+    pub specification: &'a str,
+    pub count: FaultCount,
+}
+
+/// Prints the family of fault scripts of the specification in a file, a line each, where the specification is accepted.
+/// All memory is allocated before the first line.
+pub fn faults<F: Files, K: Sink>(
+    alloc: Global,
+    question: FaultsQuestion<'_>,
+    files: &mut F,
+    out: &mut K,
+) -> Status
+    ensures { Ends (FaultsAnswers question.entry.specification.now question.entry.count) (question.entry.specification.now ∷ []) (F.state files.old) (F.state files.new) (IsTaken (K.state out.old) (K.state out.new) result.code) }
+{
+    match read_accepted(alloc, question, files) {
+        Ok(accepted) => {
+            let put = put_family(out, accepted.spec(), question.count);
+            drop(accepted);
+            status_after(put, ANSWERED)
+        }
+        Err(refusal) => tell_refusal(out, &refusal),
+    }
+}
+
+/// Reads the specification, and accepts it.
+fn read_accepted<F: Files>(
+    alloc: Global,
+    question: FaultsQuestion<'_>,
+    files: &mut F,
+) -> Result<Accepted, Refusal>
+    ensures { Prepares (FaultsAnswers question.entry.specification.now question.entry.count) (TellsFamily question.entry.count) (question.entry.specification.now ∷ []) (F.state files.old) (F.state files.new) result }
+{
+    match load(alloc, &Specification, question.specification, files) {
+        Ok(spec) => accept_for(alloc, spec, question.count),
+        Err(refusal) => Err(refusal),
+    }
+}
+
+fn accept_for(alloc: Global, spec: Spec, count: FaultCount) -> Result<Accepted, Refusal>
+    ensures { Settles (Gives (faults_answer spec count (first_refusal spec))) (TellsFamily count) result }
+{
+    let _ = count;
+    match accept(alloc, spec) {
+        Ok(accepted) => Ok(accepted),
+        Err(AcceptError::NotAccepted(spec, shown)) => {
+            let line = make_shown_line(&spec, &shown);
+            drop(spec);
+            Err(Refusal::new(Refused::Acceptance, line))
+        }
+        Err(AcceptError::NoMemory(spec)) => {
+            drop(spec);
+            Err(Refusal::out_of_memory())
+        }
+    }
+}
+
+fn put_family<K: Sink>(out: &mut K, spec: &Spec, count: FaultCount) -> Result<(), SinkFault>
+    ensures { Prints result (K.state out.old) (K.state out.new) (family_text spec.now (number count)) }
+{
+    let kinds = Kinds::of(spec);
+    put_extended(out, spec, kinds.as_slice(), &Faults::new(), count.number())
+}
+
+// Puts the scripts that begin with these faults and have `more` more.
+fn put_extended<K: Sink>(
+    out: &mut K,
+    spec: &Spec,
+    kinds: &[FaultKind],
+    before: &Faults,
+    more: u8,
+) -> Result<(), SinkFault>
+    requires kinds { kinds.now ≡ kinds_of spec.now }
+    requires width { length kinds.now ≤ 48 }
+    requires few { length before.now + more ≤ 3 }
+    requires frame { last_frame before.now ≤ 1001 * length before.now }
+    ensures { Prints result (K.state out.old) (K.state out.new) (extended_text spec.now more before.now) }
+{
+    let faults = before.as_slice();
+    if more == 0 {
+        return put_within(out, spec, faults);
+    }
+    for k in 0..candidate_count(spec, kinds, faults) {
+        let next = candidate(spec, kinds, faults, k);
+        if may_follow(spec, faults, &next) {
+            match put_extended(out, spec, kinds, &before.with(&next), more - 1) {
+                Ok(()) => {}
+                Err(fault) => return Err(fault),
+            }
+        }
+    }
+    Ok(())
+}
+
+// Puts the line of the script of these faults, where it keeps to the failure assumption.
+fn put_within<K: Sink>(out: &mut K, spec: &Spec, faults: &[Fault]) -> Result<(), SinkFault>
+    requires few { length faults.now ≤ 3 }
+    requires frame { last_frame faults.now ≤ 4000 }
+    ensures { Prints result (K.state out.old) (K.state out.new) (within_text spec.now faults.now) }
+{
+    let script = FaultScript::new(spec, faults);
+    if is_within(spec, &script) {
+        out.put(make_script_line(spec, &script).as_bytes())
+    } else {
+        Ok(())
+    }
+}

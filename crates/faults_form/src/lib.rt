@@ -1,0 +1,10 @@
+//! The form `faults`: the family of fault scripts of a specification, line by line. What it prints is the answer to the
+//! bytes of the file that its words name.
+#![tactic(auto)]
+
+pub mod counts;
+mod forms;
+mod lines;
+
+pub use counts::{FaultCount, fault_count};
+pub use forms::{FaultsQuestion, faults};

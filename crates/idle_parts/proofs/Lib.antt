@@ -1,0 +1,4 @@
+pub mod Firsts
+pub mod Somewhere
+pub mod Speaking
+pub mod Told

@@ -1,0 +1,64 @@
+-- What it means that a part of a specification is idle.
+use Rattle.std.specs.Prelude.{◌≡◌, ◌≢◌, ◌⊎◌, ℕ, ◌<◌, true, false, length, slice_get, Some}
+use Rattle.scram_types.specs.Lookups.{conf_id}
+use Rattle.scram_types.specs.Specification.{IsSpec, Parts}
+use Rattle.scram_types.specs.declared.flights.Env.{Env}
+use Rattle.scram_types.specs.declared.ids.ConfId.{ConfId}
+use Rattle.scram_types.specs.declared.specification.Choice.{Choice}
+use Rattle.scram_types.specs.declared.specification.Demand.{Demand}
+use Rattle.choice_table.specs.Choices.{IsTarget, rule_fits}
+use Rattle.choice_table.specs.Demands.{speaks_of}
+use Rattle.choice_table.specs.Environments.{IsEnv, in_scope}
+use Rattle.idle_parts.specs.Choices.{is_conf_idle, is_rule_idle}
+use Rattle.idle_parts.specs.Wants.{is_demand_idle}
+
+-- Rule k fits configuration c in an environment, and no rule before it does.
+pub record IsFirstFit (spec : Parts) (k : ℕ) (rule : Choice) (c : ConfId) (v : Env) : Type 0 where
+  pub fits : rule_fits c v rule ≡ true
+  pub before : (j : ℕ) (earlier : Choice) → j < k → slice_get spec.rules j ≡ Some earlier → rule_fits c v earlier ≡ false
+
+-- From some configuration, in some environment in scope, rule k is the first that fits.
+pub record IsFirstSomewhere (spec : Parts) (k : ℕ) (rule : Choice) : Type 0 where
+  pub c : ConfId
+  pub known : c.0 < length spec.confs
+  pub v : Env
+  pub belongs : IsEnv spec v
+  pub scope : in_scope spec v ≡ true
+  pub first : IsFirstFit spec k rule c v
+
+-- A rule is idle exactly where it is the first that fits from no configuration in any environment in scope.
+pub record RuleIsTold (spec : Parts) (k : ℕ) (rule : Choice) : Type 0 where
+  pub idle : is_rule_idle spec k ≡ true
+      → (c : ConfId) (v : Env) → c.0 < length spec.confs → IsEnv spec v → in_scope spec v ≡ true → IsFirstFit spec k rule c v → ⊥
+  pub used : is_rule_idle spec k ≡ false → IsFirstSomewhere spec k rule
+
+-- This holds of each rule.
+abbrev pub RulesAreTold : Type 0
+RulesAreTold = (spec : Parts) (k : ℕ) (rule : Choice) → IsSpec spec → slice_get spec.rules k ≡ Some rule → RuleIsTold spec k rule
+
+-- A configuration is idle exactly where it is not the start, and no possible target of another one.
+pub record ConfIsTold (spec : Parts) (c : ConfId) : Type 0 where
+  pub idle : is_conf_idle spec c.0 ≡ true
+      → (spec.start.0 ≢ c.0) × ((i : ConfId) → i.0 < length spec.confs → i.0 ≢ c.0 → IsTarget spec i c → ⊥)
+  pub used : is_conf_idle spec c.0 ≡ false
+      → (spec.start.0 ≡ c.0) ⊎ ((i : ConfId) × (i.0 < length spec.confs) × (i.0 ≢ c.0) × IsTarget spec i c)
+
+-- This holds of each configuration.
+abbrev pub ConfsAreTold : Type 0
+ConfsAreTold = (spec : Parts) (c : ConfId) → IsSpec spec → ConfIsTold spec c
+
+-- A demand speaks of an environment in scope.
+pub record SpeaksSomewhere (spec : Parts) (demand : Demand) : Type 0 where
+  pub v : Env
+  pub belongs : IsEnv spec v
+  pub scope : in_scope spec v ≡ true
+  pub speaks : speaks_of demand v ≡ true
+
+-- A demand is idle exactly where it speaks of no environment in scope.
+pub record DemandIsTold (spec : Parts) (demand : Demand) : Type 0 where
+  pub idle : is_demand_idle spec demand ≡ true → (v : Env) → IsEnv spec v → in_scope spec v ≡ true → speaks_of demand v ≡ false
+  pub used : is_demand_idle spec demand ≡ false → SpeaksSomewhere spec demand
+
+-- This holds of each demand.
+abbrev pub DemandsAreTold : Type 0
+DemandsAreTold = (spec : Parts) (demand : Demand) → IsSpec spec → DemandIsTold spec demand

@@ -1,0 +1,20 @@
+-- The environment of which a demand speaks, where it speaks of any.
+use Rattle.std.specs.Prelude.{ℕ, not, ◌==◌, List, [], ◌∷◌, length, if◌then◌else◌}
+use Rattle.scram_types.specs.Bits.{bits_below, has_bit}
+use Rattle.scram_types.specs.Specification.{Parts}
+use Rattle.scram_types.specs.declared.flights.Env.{Env}
+use Rattle.scram_types.specs.declared.specification.Demand.{Demand}
+use Rattle.scram_types.specs.declared.specification.Want.{Want}
+
+-- The value that is required of factor x, and the first one where none is.
+abbrev pub wanted_value : List Want → ℕ → ℕ
+wanted_value [] x = 0
+wanted_value (want ∷ wants) x = if want.factor.0 == x then want.value else wanted_value wants x
+
+-- Each factor has the value that a demand requires, and each processor is up but those that have to be down.
+abbrev pub spoken_env : Parts → Demand → Env
+spoken_env spec demand = record {
+  up = bits_below (λ p. not (has_bit demand.down p)) (length spec.procs);
+  factors = wanted_value demand.wants 0 ∷ wanted_value demand.wants 1 ∷ wanted_value demand.wants 2 ∷ wanted_value demand.wants 3
+      ∷ wanted_value demand.wants 4 ∷ wanted_value demand.wants 5 ∷ [];
+}

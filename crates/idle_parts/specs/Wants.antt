@@ -1,0 +1,38 @@
+-- The factors and demands that concern nothing.
+use Rattle.std.specs.Prelude.{ℕ, Bool, not, ◌&&◌, ◌==◌, nat_lt, length}
+use Rattle.std.specs.List.{list_any}
+use Rattle.scram_types.specs.Lookups.{kind_of_app}
+use Rattle.scram_types.specs.Searches.{any_below}
+use Rattle.scram_types.specs.Specification.{Parts}
+use Rattle.scram_types.specs.declared.specification.Choice.{Choice}
+use Rattle.scram_types.specs.declared.specification.Demand.{Demand}
+use Rattle.scram_types.specs.declared.specification.Want.{Want}
+use Rattle.app_model.specs.declared.kinds.power_monitor.TheConstants.{KIND as POWER_MONITOR}
+use Rattle.choice_table.specs.Demands.{speaks_of}
+use Rattle.idle_parts.specs.declared.wants.TheConstants.{POWER_FACTORS}
+use Rattle.idle_parts.specs.Places.{is_app_placed}
+use Rattle.idle_parts.specs.Somewhere.{passes_somewhere}
+
+-- A rule requires a value of factor x.
+abbrev pub wants_factor : ℕ → Choice → Bool
+wants_factor x rule = list_any (λ (want : Want). want.factor.0 == x) rule.wants
+
+-- Some rule requires a value of factor x.
+abbrev pub is_factor_wanted : Parts → ℕ → Bool
+is_factor_wanted spec x = list_any (wants_factor x) spec.rules
+
+-- Application a is a power monitor, which some configuration places.
+abbrev pub is_placed_monitor : Parts → ℕ → Bool
+is_placed_monitor spec a = kind_of_app spec a == POWER_MONITOR && is_app_placed spec a
+
+-- Factor x supplies power, and some configuration places an application that reads it.
+abbrev pub is_supply_read : Parts → ℕ → Bool
+is_supply_read spec x = nat_lt x POWER_FACTORS && any_below (is_placed_monitor spec) (length spec.apps)
+
+-- No rule requires a value of factor x, and it is no supply of power that an application reads. Demands do not count.
+abbrev pub is_factor_idle : Parts → ℕ → Bool
+is_factor_idle spec x = not (is_factor_wanted spec x) && not (is_supply_read spec x)
+
+-- A demand speaks of no environment in scope.
+abbrev pub is_demand_idle : Parts → Demand → Bool
+is_demand_idle spec demand = not (passes_somewhere spec (speaks_of demand))

@@ -1,0 +1,123 @@
+//! The rules, configurations and bounds that no choice uses.
+
+ghost use Rattle.std.specs.Prelude.{◌≡◌, ◌<◌, ◌≤◌, IfOk, length};
+ghost use Rattle.scram_types.specs.Lookups.{conf_id};
+ghost use Rattle.scram_types.specs.Searches.{any_below};
+ghost use Rattle.choice_forms.specs.Tables.{HasShares};
+ghost use Rattle.coverage_check.specs.Timing.{asked_bounds};
+ghost use Rattle.cube_cover.specs.Shares.{AreShares, IsShare, is_ruled_by};
+ghost use Rattle.spec_forms.specs.Bounds.{HasAskedBounds};
+ghost use Rattle.idle_parts.specs.Chosen.{IsChosen};
+ghost use Rattle.idle_parts.specs.Choices.{is_bound_idle, is_conf_idle, is_first_from, is_rule_idle, is_target_of_other};
+
+use choice_forms::find_shares;
+use cube_cover::Share;
+use scram_types::{Bound, ConfId, List, NoMemory, Spec};
+use spec_forms::{find_asked, is_asked};
+use std::alloc::Global;
+
+// What each configuration may choose: the shares of the rules, and the configurations to which a bound is asked for.
+#[derive(Drop)]
+pub(crate) struct Chosen {
+    pub(crate) shares: Vec<List<Share>>,
+    pub(crate) sets: [u16; 12],
+}
+
+// Returns what each configuration may choose.
+pub(crate) fn find_chosen(alloc: Global, spec: &Spec) -> Result<Chosen, NoMemory>
+    ensures { IfOk result (λ chosen. IsChosen spec.now chosen) }
+{
+    let sets = find_asked(alloc, spec)?;
+    let shares = find_shares(alloc, spec)?;
+    Ok(Chosen { shares, sets })
+}
+
+// Returns whether rule `k` is the first that fits from no configuration in any environment in scope.
+pub(crate) fn is_rule_idle(spec: &Spec, shares: &[List<Share>], k: u8) -> bool
+    requires shares { HasShares spec.now shares.now }
+    requires rule { k < length spec.now.rules }
+    ensures { result ≡ is_rule_idle spec.now k }
+{
+    !is_rule_first(spec, shares, k)
+}
+
+fn is_rule_first(spec: &Spec, shares: &[List<Share>], k: u8) -> bool
+    requires shares { HasShares spec.now shares.now }
+    requires rule { k < length spec.now.rules }
+    ensures { result ≡ any_below (is_first_from spec.now k) (length spec.now.confs) }
+{
+    for i in 0..count_confs(spec) {
+        if is_first_from(spec, shares[usize::from(i)].items(), k, i) {
+            return true;
+        }
+    }
+    false
+}
+
+// Returns whether rule `k` is the first that fits configuration `i` in some environment in scope, by the shares of `i`.
+fn is_first_from(spec: &Spec, shares: &[Share], k: u8, i: u8) -> bool
+    requires shares { AreShares spec.now (conf_id i) shares.now }
+    requires rule { k < length spec.now.rules }
+    ensures { result ≡ is_first_from spec.now k i }
+{
+    has_environment(spec, &shares[usize::from(k)], k, i)
+}
+
+// Returns the same by the share of the rule.
+fn has_environment(spec: &Spec, share: &Share, k: u8, i: u8) -> bool
+    requires { IsShare spec.now (is_ruled_by spec.now (conf_id i) k) share.now }
+    ensures { result ≡ is_first_from spec.now k i }
+{
+    // Using a field of a specification shows that it keeps its invariant.
+    let _ = &spec.rules;
+    share.first.is_some()
+}
+
+fn count_confs(spec: &Spec) -> u8
+    ensures value { result ≡ length spec.now.confs }
+    ensures few { result ≤ 12 }
+{
+    spec.confs.items().len() as u8
+}
+
+// Returns whether a configuration is not the start, and no possible target of another one.
+pub(crate) fn is_conf_idle(spec: &Spec, sets: &[u16; 12], c: u8) -> bool
+    requires sets { HasAskedBounds spec.now sets.now }
+    requires conf { c < length spec.now.confs }
+    ensures { result ≡ is_conf_idle spec.now c }
+{
+    spec.start.0 != c && !is_target_of_others(spec, sets, c)
+}
+
+fn is_target_of_others(spec: &Spec, sets: &[u16; 12], c: u8) -> bool
+    requires sets { HasAskedBounds spec.now sets.now }
+    requires conf { c < length spec.now.confs }
+    ensures { result ≡ any_below (is_target_of_other spec.now c) (length spec.now.confs) }
+{
+    for i in 0..count_confs(spec) {
+        if is_target_of_other(spec, sets[usize::from(i)], c, i) {
+            return true;
+        }
+    }
+    false
+}
+
+// Returns whether configuration `c` is a possible target of `i`, which is another one; a bound is asked for each of these.
+fn is_target_of_other(spec: &Spec, set: u16, c: u8, i: u8) -> bool
+    requires set { set ≡ asked_bounds spec.now (conf_id i) }
+    requires conf { c < length spec.now.confs }
+    requires few { c < 12 }
+    ensures { result ≡ is_target_of_other spec.now c i }
+{
+    i != c && is_asked(spec, set, ConfId(i), ConfId(c))
+}
+
+// Returns whether acceptance does not ask for a bound; `set` has those from its source that are asked for.
+pub(crate) fn is_bound_idle(spec: &Spec, set: u16, bound: &Bound) -> bool
+    requires set { set ≡ asked_bounds spec.now bound.now.from }
+    requires to { bound.now.to.0 < length spec.now.confs }
+    requires few { bound.now.to.0 < 12 }
+    ensures { result ≡ is_bound_idle spec.now bound.now }
+{
+    !is_asked(spec, set, bound.from, bound.to)
+}

@@ -1,0 +1,50 @@
+//! The lines that tell what is idle, made without memory.
+
+ghost use Rattle.std.specs.Prelude.{◌≡◌, ◌≤◌, length};
+ghost use Rattle.idle_parts.specs.Lines.{idle_line, kind_text};
+
+use trace_text::lines::Line;
+
+/// A kind of the parts of a specification.
+#[derive(Clone, Copy, Debug, PartialEq, Eq)]
+pub enum PartKind {
+    Rule,
+    Conf,
+    Factor,
+    Bound,
+    /// The modes of an application.
+    Mode,
+    App,
+    Proc,
+    Demand,
+}
+
+/// Returns the line of a part that is idle, by its kind and its name of at most 64 bytes.
+pub fn make_idle_line(kind: PartKind, name: &[u8]) -> Line
+    requires { length name.now ≤ 64 }
+    ensures { result ≡ idle_line kind name.now }
+{
+    let mut line = Line::new();
+    line.text(b"  idle ");
+    line.text(kind_text(kind));
+    line.text(b" ");
+    line.text(name);
+    line.text(b"\n");
+    line
+}
+
+fn kind_text(kind: PartKind) -> &'static [u8]
+    ensures text { result.now ≡ kind_text kind }
+    ensures short { length result.now ≤ 13 }
+{
+    match kind {
+        PartKind::Rule => b"rule",
+        PartKind::Conf => b"configuration",
+        PartKind::Factor => b"factor",
+        PartKind::Bound => b"bound",
+        PartKind::Mode => b"mode",
+        PartKind::App => b"application",
+        PartKind::Proc => b"processor",
+        PartKind::Demand => b"demand",
+    }
+}

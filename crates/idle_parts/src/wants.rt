@@ -1,0 +1,136 @@
+//! The factors and demands that concern nothing.
+
+ghost use Rattle.std.specs.Prelude.{◌≡◌, ◌<◌, ◌≤◌, ◌^◌, ◌&&◌, length, not};
+ghost use Rattle.choice_table.specs.Demands.{speaks_of};
+ghost use Rattle.choice_table.specs.Environments.{in_scope};
+ghost use Rattle.scram_types.specs.Bits.{bits_below, has_bit};
+ghost use Rattle.scram_types.specs.Searches.{any_below};
+ghost use Rattle.scram_types.specs.Specification.{IsDemand};
+ghost use Rattle.idle_parts.specs.Speaking.{spoken_env, wanted_value};
+ghost use Rattle.idle_parts.specs.Wants.{is_demand_idle, is_factor_idle, is_factor_wanted, is_placed_monitor, is_supply_read, wants_factor};
+
+use crate::places::is_app_placed;
+use app_model::kinds::power_monitor;
+use choice_table::{in_scope, speaks_of};
+use scram_types::bits::has_bit;
+use scram_types::{AppId, Choice, Demand, Env, FactorId, Spec, Want};
+
+/// The number of the first factors that supply power, which power monitors read.
+pub const POWER_FACTORS: u8 = 2;
+
+// Returns whether no rule requires a value of a factor, and it is no supply of power that an application reads.
+pub(crate) fn is_factor_idle(spec: &Spec, factor: FactorId) -> bool
+    ensures { result ≡ is_factor_idle spec.now factor.0 }
+{
+    !is_factor_wanted(spec, factor) && !is_supply_read(spec, factor)
+}
+
+fn is_factor_wanted(spec: &Spec, factor: FactorId) -> bool
+    ensures { result ≡ is_factor_wanted spec.now factor.0 }
+{
+    spec.rules
+        .items()
+        .iter()
+        .any(|rule| wants_factor(rule, factor))
+}
+
+fn wants_factor(rule: &Choice, factor: FactorId) -> bool
+    ensures { result ≡ wants_factor factor.0 rule.now }
+{
+    rule.wants
+        .items()
+        .iter()
+        .any(|want| want.factor.0 == factor.0)
+}
+
+fn is_supply_read(spec: &Spec, factor: FactorId) -> bool
+    ensures { result ≡ is_supply_read spec.now factor.0 }
+{
+    factor.0 < POWER_FACTORS && has_placed_monitor(spec)
+}
+
+// Returns whether some configuration places a power monitor.
+fn has_placed_monitor(spec: &Spec) -> bool
+    ensures { result ≡ any_below (is_placed_monitor spec.now) (length spec.now.apps) }
+{
+    for a in 0..count_apps(spec) {
+        if is_placed_monitor(spec, AppId(a)) {
+            return true;
+        }
+    }
+    false
+}
+
+fn count_apps(spec: &Spec) -> u8
+    ensures value { result ≡ length spec.now.apps }
+    ensures few { result ≤ 8 }
+{
+    spec.apps.items().len() as u8
+}
+
+fn is_placed_monitor(spec: &Spec, app: AppId) -> bool
+    ensures { result ≡ is_placed_monitor spec.now app.0 }
+{
+    spec.kind_of_app(app).0 == power_monitor::KIND && is_app_placed(spec, app)
+}
+
+// Returns whether a demand speaks of no environment in scope.
+pub(crate) fn is_demand_idle(spec: &Spec, demand: &Demand) -> bool
+    requires { IsDemand spec.now.procs spec.now.apps spec.now.confs spec.now.factors demand.now }
+    ensures { result ≡ is_demand_idle spec.now demand.now }
+{
+    // Using a field of a specification shows that it keeps its invariant.
+    let _ = &spec.procs;
+    let env = make_spoken(spec, demand);
+    !speaks_in_scope(spec, demand, &env)
+}
+
+// Returns whether an environment is in scope and a demand speaks of it.
+fn speaks_in_scope(spec: &Spec, demand: &Demand, env: &Env) -> bool
+    ensures { result ≡ (in_scope spec.now env.now && speaks_of demand.now env.now) }
+{
+    in_scope(spec, env) && speaks_of(demand, env)
+}
+
+// Returns the environment in which each factor has the value that a demand requires and each processor is up but those
+// that have to be down.
+fn make_spoken(spec: &Spec, demand: &Demand) -> Env
+    ensures { result ≡ spoken_env spec.now demand.now }
+{
+    let wants = demand.wants.items();
+    Env {
+        up: others_up(spec, demand.down),
+        factors: [
+            wanted_value(wants, 0),
+            wanted_value(wants, 1),
+            wanted_value(wants, 2),
+            wanted_value(wants, 3),
+            wanted_value(wants, 4),
+            wanted_value(wants, 5),
+        ],
+    }
+}
+
+// Returns the processors that are not in a set.
+fn others_up(spec: &Spec, down: u8) -> u8
+    ensures { result ≡ bits_below (λ p. not (has_bit down p)) (length spec.now.procs) }
+{
+    let mut up = 0;
+    for p in 0..spec.procs.items().len() as u8 {
+        if !has_bit(down, p) {
+            up += 1 << p;
+        }
+    }
+    up
+}
+
+fn wanted_value(wants: &[Want], factor: u8) -> u8
+    ensures { result ≡ wanted_value wants.now factor }
+{
+    for want in wants {
+        if want.factor.0 == factor {
+            return want.value;
+        }
+    }
+    0
+}
