@@ -66,7 +66,8 @@ pub record IsAssuredFlight (spec : Parts) (line : List ℕ) (facts : FlightFacts
   pub mission : IsMission (mission_of spec script)
   pub facts_are : facts ≡ facts_of spec (rows_of spec script) (reports_of spec script)
   pub holds : HoldsAll spec (rows_of spec script) (reports_of spec script)
-  pub margins : (k : ℕ) (report : Report) (to : ConfId) → slice_get (reports_of spec script) k ≡ Some report → report.to ≡ Some to → KeepsMargin spec facts.margin report to
+  pub margins : (k : ℕ) (report : Report) (to : ConfId) → slice_get (reports_of spec script) k ≡ Some report → report.to ≡ Some to
+      → KeepsMargin spec facts.margin report to
   pub gaps : (a : ℕ) (gap : Gap) → a < length spec.apps → longest_gap a 0 (rows_of spec script) ≡ Some gap → IsAtLeastOf facts.gap gap.frames
 
 -- The specification is accepted; the text is that of what came of the lines, one of each; each that was flown is assured; and

@@ -20,7 +20,8 @@ greatest_text spec (Some gap) = codes " gap " ++ decimal gap.gap.frames ++ codes
 abbrev pub worst_text : Parts → Option Margin → List ℕ
 worst_text spec None = codes " worst -"
 worst_text spec (Some margin) =
-    codes " worst " ++ conf_name spec margin.report.from.0 ++ target_text spec margin.report margin.report.to ++ codes " margin " ++ signed_decimal margin.frames
+    codes " worst " ++ conf_name spec margin.report.from.0 ++ target_text spec margin.report margin.report.to
+    ++ codes " margin " ++ signed_decimal margin.frames
 
 -- the line of flight k, which came to this
 abbrev pub flown_line : Parts → ℕ → FlightFacts → List ℕ
