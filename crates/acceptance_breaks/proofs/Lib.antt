@@ -1,10 +1,2 @@
-pub mod EachItem
-pub mod FirstShown
-pub mod Firsts
-pub mod Gathering
-pub mod Misses
-pub mod Needed
-pub mod Refusals
+pub mod FirstItems
 pub mod Short
-pub mod ShownIn
-pub mod WayRanges

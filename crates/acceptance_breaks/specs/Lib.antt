@@ -1,8 +1,3 @@
-pub mod Lists
-pub mod Form
-pub mod Ranges
-pub mod Breaks
-pub mod Shown
+pub mod Limits
 pub mod Lines
 pub mod Texts
-pub mod Laws

@@ -1,5 +1,5 @@
 -- The lines of the places at which acceptance fails.
-use Rattle.std.specs.Prelude.{ℕ, ℤ, ◌+◌, Bool, not, ◌&&◌, ◌==◌, List, [], ◌++◌, length, slice_get, Option, Some, None, codes, decimal, if◌then◌else◌}
+use Rattle.std.specs.Prelude.{ℕ, ◌+◌, Bool, not, ◌&&◌, ◌==◌, List, [], ◌++◌, length, slice_get, Option, Some, None, codes, decimal, if◌then◌else◌}
 use Rattle.std.specs.Option.{option_map_or}
 use Rattle.scram_types.specs.declared.limits.TheConstants.{MAX_ENVIRONMENTS}
 use Rattle.scram_types.specs.declared.flights.Env.{Env}
@@ -25,17 +25,17 @@ use Rattle.coverage_check.specs.Timing.{greatest_bound}
 use Rattle.coverage_check.specs.declared.choosing.Requirement.{Requirement}
 use Rattle.coverage_check.specs.declared.choosing.Requirement.TheVariants as requirement
 use Rattle.flight_facts.specs.Extremes.{extremes_text}
-use Rattle.flight_facts.specs.declared.extremes.Extremes.{Extremes}
 use Rattle.form_base.specs.Lines.{demand_name, env_text}
 use Rattle.form_base.specs.Texts.{texts_below}
 use Rattle.choice_forms.specs.Choosing.{needs_piece}
 use Rattle.spec_forms.specs.Lines.{bound_line}
-use Rattle.acceptance_breaks.specs.declared.breaks.Break.{Break}
-use Rattle.acceptance_breaks.specs.declared.breaks.Break.TheVariants as broken
-use Rattle.acceptance_breaks.specs.declared.breaks.Limits.{Limits}
-use Rattle.acceptance_breaks.specs.declared.breaks.Unheld.{Unheld}
-use Rattle.acceptance_breaks.specs.declared.breaks.Way.{Way}
-use Rattle.acceptance_breaks.specs.Ranges.{interval, invariant_limits, precondition_limits, range_on}
+use Rattle.condition_breaks.specs.declared.breaks.Break.{Break}
+use Rattle.condition_breaks.specs.declared.breaks.Break.TheVariants as broken
+use Rattle.acceptance_breaks.specs.declared.limits.Limits.{Limits}
+use Rattle.condition_breaks.specs.declared.breaks.Unheld.{Unheld}
+use Rattle.condition_breaks.specs.declared.breaks.Way.{Way}
+use Rattle.condition_breaks.specs.Ranges.{interval, range_on}
+use Rattle.acceptance_breaks.specs.Limits.{invariant_limits, precondition_limits}
 
 -- an application is on, and one that it needs is off
 abbrev pub need_line : Parts → ConfId → AppId → AppId → List ℕ

@@ -1,9 +1,9 @@
 -- The text of the places at which acceptance fails.
 use Rattle.std.specs.Prelude.{ℕ, ◌-◌, List, [], ◌∷◌, ◌++◌, length, take, nat_lt, codes, decimal, if◌then◌else◌}
 use Rattle.scram_types.specs.Specification.{Parts}
-use Rattle.acceptance_breaks.specs.declared.breaks.Break.{Break}
+use Rattle.condition_breaks.specs.declared.breaks.Break.{Break}
 use Rattle.acceptance_breaks.specs.declared.texts.TheConstants.{MAX_BREAK_LINES}
-use Rattle.acceptance_breaks.specs.Breaks.{breaks}
+use Rattle.condition_breaks.specs.Breaks.{breaks}
 use Rattle.acceptance_breaks.specs.Lines.{break_line}
 
 -- a line for each place

@@ -10,8 +10,8 @@ ghost use Rattle.choice_table.specs.Environments.{IsEnv};
 ghost use Rattle.acceptance_breaks.specs.Lines.{app_missed_text, demand_piece, first_off_missed, first_on_missed, is_off_missed, is_on_missed, members_text, missed_piece, missed_text, none_of_text, off_missed_text, whereabouts_text};
 
 use crate::choice_lines::add_situation;
-use crate::facts::{count_apps, count_confs};
 use choice_table::choose;
+use condition_breaks::facts::{count_apps, count_confs};
 use form_base::lines::demand_name;
 use scram_types::bits::{has_bit, is_in};
 use scram_types::{AppId, ConfId, Demand, Env, Mode, Modes, Place, Spec};

@@ -4,9 +4,10 @@ ghost use Rattle.std.specs.Prelude.{◌≡◌, ◌+◌, ◌≤◌, ◌++◌, [],
 ghost use Rattle.scram_types.specs.declared.limits.TheConstants.{MAX_LINE_BYTES};
 ghost use Rattle.acceptance_breaks.specs.Lines.{intervals_text, limits_text, missed_line, missed_line_of, place_text, subject_text, unheld_line, unheld_line_of, variable_text, way_text};
 
-use crate::breaks::{Limits, Unheld, Way};
-use crate::ranges::{interval, invariant_limits, precondition_limits, range_on};
+use crate::limits::{Limits, invariant_limits, precondition_limits};
 use app_model::variable_name;
+use condition_breaks::ranges::range_on;
+use condition_breaks::{Unheld, Way};
 use flight_facts::extremes::add_extremes;
 use scram_types::{AppId, Invariant, Place, Precondition, Spec};
 use trace_text::lines::Line;

@@ -5,19 +5,18 @@ ghost use Rattle.choice_table.specs.Environments.{IsEnv};
 ghost use Rattle.scram_types.specs.Specification.{Each, IsSpec};
 ghost use Rattle.acceptance_breaks.specs.declared.texts.TheConstants.{MAX_BREAK_LINES};
 ghost use Rattle.acceptance_breaks.specs.Lines.{break_line, demand_line, lacking_line, start_line, unmet_line};
-ghost use Rattle.acceptance_breaks.specs.Shown.{IsShownIn};
+ghost use Rattle.condition_breaks.specs.Shown.{IsShownIn};
 ghost use Rattle.acceptance_breaks.specs.Texts.{breaks_text, lines_text, more_text, text_of};
 
-use crate::breaks::Break;
 use crate::choice_lines::{make_end, make_situation_piece, make_unmet_piece};
 use crate::demand_lines::{make_demand_piece, make_missed_piece};
-use crate::facts::count_confs;
-use crate::finding::breaks_of;
 use crate::limit_lines::{make_missed_line, make_unheld_line};
 use crate::lines::{
     add_wide, make_empty_line, make_indent, make_load_line, make_need_line, make_states_line,
     make_twin_line, make_window_line,
 };
+use condition_breaks::facts::count_confs;
+use condition_breaks::{Break, breaks_of};
 use coverage_check::choosing::Requirement;
 use scram_types::{ConfId, Env, NoMemory, Spec};
 use spec_forms::make_bound_line;

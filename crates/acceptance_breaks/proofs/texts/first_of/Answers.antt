@@ -1,6 +1,6 @@
 use Rattle.std.proofs.Common.{◌∙◌, ap, take}
 use Rattle.acceptance_breaks.specs.declared.texts.TheConstants.{MAX_BREAK_LINES}
-use Rattle.acceptance_breaks.proofs.Gathering.{take_few}
+use Rattle.acceptance_breaks.proofs.FirstItems.{take_few}
 use Rattle.acceptance_breaks.proofs.texts.first_of.Goals as goal
 
 pub returns : goal.returns

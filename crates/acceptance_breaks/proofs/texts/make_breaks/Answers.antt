@@ -1,7 +1,7 @@
 use Rattle.std.proofs.Common.{◌∙◌, sym, subst}
 use Rattle.scram_types.specs.Specification.{Each}
-use Rattle.acceptance_breaks.specs.Shown.{IsShownIn}
-use Rattle.acceptance_breaks.proofs.ShownIn.{all_shown}
+use Rattle.condition_breaks.specs.Shown.{IsShownIn}
+use Rattle.condition_breaks.proofs.ShownIn.{all_shown}
 use Rattle.acceptance_breaks.proofs.texts.make_breaks.Goals as goal
 
 pub make_text-requires-clause-shown : goal.make_text-requires-clause-shown

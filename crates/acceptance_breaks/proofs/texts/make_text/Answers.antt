@@ -1,8 +1,8 @@
 use Rattle.std.proofs.Common.{sym, subst}
 use Rattle.scram_types.specs.Specification.{Each}
 use Rattle.acceptance_breaks.specs.declared.texts.TheConstants.{MAX_BREAK_LINES}
-use Rattle.acceptance_breaks.specs.Shown.{IsShownIn}
-use Rattle.acceptance_breaks.proofs.EachItem.{each_first}
+use Rattle.condition_breaks.specs.Shown.{IsShownIn}
+use Rattle.condition_breaks.proofs.EachItem.{each_first}
 use Rattle.acceptance_breaks.proofs.texts.make_text.Goals as goal
 
 pub add_lines-requires-clause-shown : goal.add_lines-requires-clause-shown

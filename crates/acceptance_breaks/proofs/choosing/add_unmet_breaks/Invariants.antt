@@ -1,7 +1,0 @@
-use Rattle.std.proofs.Common.{◌≡◌, ◌++◌}
-use Rattle.acceptance_breaks.specs.Breaks.{unmet_break}
-use Rattle.acceptance_breaks.specs.Lists.{gathered_below}
-use Rattle.acceptance_breaks.proofs.choosing.add_unmet_breaks.Given as goal
-
-abbrev pub invariant-loop-c : goal.invariant-loop-c
-invariant-loop-c l = l.breaks.items ≡ l.initial.breaks.items ++ gathered_below (unmet_break l.spec l.asked) l.c

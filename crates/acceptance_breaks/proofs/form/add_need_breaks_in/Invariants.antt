@@ -1,7 +1,0 @@
-use Rattle.std.proofs.Common.{◌≡◌, ◌++◌}
-use Rattle.acceptance_breaks.specs.Breaks.{need_breaks_of}
-use Rattle.acceptance_breaks.specs.Lists.{gathered_below}
-use Rattle.acceptance_breaks.proofs.form.add_need_breaks_in.Given as goal
-
-abbrev pub invariant-loop-a : goal.invariant-loop-a
-invariant-loop-a l = l.breaks.items ≡ l.initial.breaks.items ++ gathered_below (need_breaks_of l.spec l.c) l.a

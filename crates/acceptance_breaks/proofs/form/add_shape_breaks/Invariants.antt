@@ -1,7 +1,0 @@
-use Rattle.std.proofs.Common.{◌≡◌, ◌++◌}
-use Rattle.acceptance_breaks.specs.Breaks.{shape_break}
-use Rattle.acceptance_breaks.specs.Lists.{gathered_below}
-use Rattle.acceptance_breaks.proofs.form.add_shape_breaks.Given as goal
-
-abbrev pub invariant-loop-c : goal.invariant-loop-c
-invariant-loop-c l = l.breaks.items ≡ l.initial.breaks.items ++ gathered_below (shape_break l.spec) l.c

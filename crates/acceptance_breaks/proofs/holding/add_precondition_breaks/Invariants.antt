@@ -1,7 +1,0 @@
-use Rattle.std.proofs.Common.{◌≡◌, ◌++◌}
-use Rattle.acceptance_breaks.specs.Breaks.{precondition_break}
-use Rattle.acceptance_breaks.specs.Lists.{gathered_below}
-use Rattle.acceptance_breaks.proofs.holding.add_precondition_breaks.Given as goal
-
-abbrev pub invariant-loop-k : goal.invariant-loop-k
-invariant-loop-k l = l.breaks.items ≡ l.initial.breaks.items ++ gathered_below (precondition_break l.spec) l.k

@@ -1,5 +1,0 @@
-use Rattle.acceptance_breaks.proofs.FirstShown.{first_is_shown}
-use Rattle.acceptance_breaks.proofs.laws.first_is_shown.Goals as goal
-
-pub returns : goal.returns
-returns c = first_is_shown

@@ -1,7 +1,0 @@
-use Rattle.std.proofs.Common.{◌≡◌}
-use Rattle.acceptance_breaks.specs.Lists.{gathered_below}
-use Rattle.acceptance_breaks.specs.Ranges.{ways_from}
-use Rattle.acceptance_breaks.proofs.ranges.all_ways.Given as goal
-
-abbrev pub invariant-loop-i : goal.invariant-loop-i
-invariant-loop-i l = l.ways.items ≡ gathered_below (ways_from l.spec) l.i

@@ -1,0 +1,29 @@
+-- What invariants and preconditions ask, and what they would have to ask.
+use Rattle.std.specs.Prelude.{ℕ}
+use Rattle.scram_types.specs.Lookups.{place_of}
+use Rattle.scram_types.specs.Specification.{Parts}
+use Rattle.scram_types.specs.declared.specification.Invariant.{Invariant}
+use Rattle.scram_types.specs.declared.specification.Precondition.{Precondition}
+use Rattle.condition_breaks.specs.declared.breaks.Unheld.{Unheld}
+use Rattle.condition_breaks.specs.Ranges.{interval, range_entering}
+use Rattle.acceptance_breaks.specs.declared.limits.Limits.{Limits}
+
+-- An invariant's variable, the interval that it gives, and the least one that serves.
+abbrev pub invariant_limits : Unheld → Invariant → Limits
+invariant_limits found inv = record {
+  item = found.invariant;
+  app = inv.app;
+  variable = inv.variable;
+  given = interval (inv.least, inv.greatest);
+  needed = found.needed;
+}
+
+-- A precondition's variable, the interval that it gives, and the range that it has to hold.
+abbrev pub precondition_limits : Parts → ℕ → Precondition → Limits
+precondition_limits spec k pre = record {
+  item = k;
+  app = pre.app;
+  variable = pre.variable;
+  given = interval (pre.least, pre.greatest);
+  needed = interval (range_entering spec pre (place_of spec pre.conf pre.app.0));
+}

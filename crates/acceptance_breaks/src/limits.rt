@@ -1,0 +1,46 @@
+//! What invariants and preconditions ask, and what they would have to ask.
+
+ghost use Rattle.std.specs.Prelude.{◌≡◌};
+ghost use Rattle.acceptance_breaks.specs.Limits.{invariant_limits, precondition_limits};
+
+use condition_breaks::Unheld;
+use condition_breaks::ranges::{interval, range_entering};
+use flight_facts::extremes::Extremes;
+use scram_types::{AppId, Invariant, Precondition, Spec};
+
+/// The number of an invariant or a precondition, a variable of an application, the interval that is given for it, and
+/// the least interval that serves.
+#[derive(Clone, Copy, Debug, PartialEq, Eq)]
+pub struct Limits {
+    pub item: u32,
+    pub app: AppId,
+    pub variable: u8,
+    pub given: Extremes,
+    pub needed: Extremes,
+}
+
+// Returns an invariant's variable, the interval that it gives, and the least one that serves.
+pub(crate) fn invariant_limits(found: &Unheld, inv: &Invariant) -> Limits
+    ensures { result ≡ invariant_limits found.now inv.now }
+{
+    Limits {
+        item: found.invariant,
+        app: inv.app,
+        variable: inv.variable,
+        given: interval(inv.least, inv.greatest),
+        needed: found.needed,
+    }
+}
+
+// Returns a precondition's variable, the interval that it gives, and the range that it has to hold.
+pub(crate) fn precondition_limits(spec: &Spec, k: u32, pre: &Precondition) -> Limits
+    ensures { result ≡ precondition_limits spec.now k pre.now }
+{
+    Limits {
+        item: k,
+        app: pre.app,
+        variable: pre.variable,
+        given: interval(pre.least, pre.greatest),
+        needed: range_entering(spec, pre, spec.place_of(pre.conf, pre.app)),
+    }
+}

@@ -1,0 +1,11 @@
+pub mod BrokenPlaces
+pub mod EachItem
+pub mod FirstShown
+pub mod Firsts
+pub mod Gathering
+pub mod Hulls
+pub mod Misses
+pub mod Needed
+pub mod Refusals
+pub mod ShownIn
+pub mod WayRanges

@@ -1,0 +1,7 @@
+use Rattle.std.proofs.Common.{◌≡◌, ◌++◌}
+use Rattle.condition_breaks.specs.Breaks.{need_breaks_in}
+use Rattle.condition_breaks.specs.Lists.{gathered_below}
+use Rattle.condition_breaks.proofs.form.add_need_breaks.Given as goal
+
+abbrev pub invariant-loop-c : goal.invariant-loop-c
+invariant-loop-c l = l.breaks.items ≡ l.initial.breaks.items ++ gathered_below (need_breaks_in l.spec) l.c

@@ -1,0 +1,178 @@
+-- The places at which each condition of acceptance does not hold, in order.
+use Rattle.std.specs.Prelude.{ℕ, ◌==◌, List, [], ◌∷◌, length, slice_get, Option, None, option_and_then, option_map, if◌then◌else◌}
+use Rattle.std.specs.Option.{option_map_or, option_to_list}
+use Rattle.scram_types.specs.Lookups.{app_id, conf_id, proc_id}
+use Rattle.scram_types.specs.Specification.{Parts}
+use Rattle.scram_types.specs.declared.flights.Env.{Env}
+use Rattle.scram_types.specs.declared.ids.ConfId.{ConfId}
+use Rattle.scram_types.specs.declared.specification.Demand.{Demand}
+use Rattle.scram_types.specs.declared.specification.Invariant.{Invariant}
+use Rattle.scram_types.specs.declared.specification.Precondition.{Precondition}
+use Rattle.coverage_check.specs.Choosing.{first_unmet_env, leaves_start}
+use Rattle.coverage_check.specs.Demands.{first_missed_env}
+use Rattle.coverage_check.specs.Form.{has_too_many_states, is_empty, is_overloaded}
+use Rattle.coverage_check.specs.Holding.{breaks_entering}
+use Rattle.coverage_check.specs.Search.{shown_if}
+use Rattle.coverage_check.specs.Timing.{has_short_window, lacks_bound}
+use Rattle.coverage_check.specs.declared.choosing.Requirement.{Requirement}
+use Rattle.coverage_check.specs.declared.choosing.Requirement.TheVariants as requirement
+use Rattle.condition_breaks.specs.declared.breaks.Break.{Break}
+use Rattle.condition_breaks.specs.declared.breaks.Break.TheVariants as broken
+use Rattle.condition_breaks.specs.declared.breaks.Way.{Way}
+use Rattle.condition_breaks.specs.Form.{first_twin, is_need_off}
+use Rattle.condition_breaks.specs.Lists.{gathered_below, one_if}
+use Rattle.condition_breaks.specs.Ranges.{all_ways, first_unheld, hull_of, interval, range_on}
+
+-- A1: application a is on in configuration c, and application b, which it needs, is off.
+abbrev pub need_break : Parts → ℕ → ℕ → ℕ → List Break
+need_break spec c a b = one_if (is_need_off spec (conf_id c) a b) (broken.NeedOff (conf_id c) (app_id a) (app_id b))
+
+-- The same of each application b, in order.
+abbrev pub need_breaks_of : Parts → ℕ → ℕ → List Break
+need_breaks_of spec c a = gathered_below (need_break spec c a) (length spec.apps)
+
+-- The same of each application a, in order.
+abbrev pub need_breaks_in : Parts → ℕ → List Break
+need_breaks_in spec c = gathered_below (need_breaks_of spec c) (length spec.apps)
+
+-- The same of each configuration, in order.
+abbrev pub need_breaks : Parts → List Break
+need_breaks spec = gathered_below (need_breaks_in spec) (length spec.confs)
+
+-- A2: there are too many environments in scope.
+abbrev pub state_breaks : Parts → List Break
+state_breaks spec = one_if (has_too_many_states spec) broken.ManyStates
+
+-- A3: configuration c has nothing on, or is the same as an earlier one, of which the first stands here.
+abbrev pub shape_break : Parts → ℕ → List Break
+shape_break spec c =
+    if is_empty spec (conf_id c) then broken.NothingOn (conf_id c) ∷ []
+    else option_to_list (option_map (λ (d : ConfId). broken.SameAgain (conf_id c) d) (first_twin spec c))
+
+-- The same of each configuration, in order.
+abbrev pub shape_breaks : Parts → List Break
+shape_breaks spec = gathered_below (shape_break spec) (length spec.confs)
+
+-- A4: configuration c loads processor p beyond its capacity.
+abbrev pub load_break : Parts → ℕ → ℕ → List Break
+load_break spec c p = one_if (is_overloaded spec (conf_id c) p) (broken.Overloaded (conf_id c) (proc_id p))
+
+-- The same of each processor, in order.
+abbrev pub load_breaks_in : Parts → ℕ → List Break
+load_breaks_in spec c = gathered_below (load_break spec c) (length spec.procs)
+
+-- The same of each configuration, in order.
+abbrev pub load_breaks : Parts → List Break
+load_breaks spec = gathered_below (load_breaks_in spec) (length spec.confs)
+
+-- A5 to A7: configuration c does not meet a requirement, with the first environment in scope in which it does not.
+abbrev pub unmet_break : Parts → Requirement → ℕ → List Break
+unmet_break spec asked c = option_to_list (option_map (λ (v : Env). broken.Unmet asked (conf_id c) v) (first_unmet_env spec asked (conf_id c)))
+
+-- The same of each configuration, in order.
+abbrev pub unmet_breaks : Parts → Requirement → List Break
+unmet_breaks spec asked = gathered_below (unmet_break spec asked) (length spec.confs)
+
+-- A8: the start configuration is left at once.
+abbrev pub start_breaks : Parts → List Break
+start_breaks spec = one_if (leaves_start spec) broken.StartLeft
+
+-- A9: a bound from i to j is asked for, and none that serves is given.
+abbrev pub bound_break : Parts → ℕ → ℕ → List Break
+bound_break spec i j = one_if (lacks_bound spec (conf_id i) j) (broken.BoundLacking (conf_id i) (conf_id j))
+
+-- The same of each target, in order.
+abbrev pub bound_breaks_from : Parts → ℕ → List Break
+bound_breaks_from spec i = gathered_below (bound_break spec i) (length spec.confs)
+
+-- The same of each source, in order.
+abbrev pub bound_breaks : Parts → List Break
+bound_breaks spec = gathered_below (bound_breaks_from spec) (length spec.confs)
+
+-- A10: the window is too short.
+abbrev pub window_breaks : Parts → List Break
+window_breaks spec = one_if (has_short_window spec) broken.WindowShort
+
+-- An invariant, the first way whose range it does not hold, and the least interval that holds all ranges asked of it.
+abbrev pub unheld : Parts → ℕ → Invariant → Way → Break
+unheld spec k inv taken =
+    broken.Unheld (record { invariant = k; way = taken; needed = hull_of spec inv (interval (range_on spec inv taken)) (all_ways spec) })
+
+-- That of invariant k, where it does not hold a range that is asked of it.
+abbrev pub unheld_of : Parts → ℕ → Invariant → Option Break
+unheld_of spec k inv = option_map (unheld spec k inv) (first_unheld spec inv (all_ways spec))
+
+-- The same of the invariant of this number, where there is one.
+abbrev pub unheld_at : Parts → ℕ → Option Break
+unheld_at spec k = option_map_or (unheld_of spec k) (slice_get spec.invariants k) None
+
+-- A11: an invariant does not hold a range that is asked of it.
+abbrev pub invariant_break : Parts → ℕ → List Break
+invariant_break spec k = option_to_list (unheld_at spec k)
+
+-- The same of each invariant, in order.
+abbrev pub invariant_breaks : Parts → List Break
+invariant_breaks spec = gathered_below (invariant_break spec) (length spec.invariants)
+
+-- Precondition k, where it can be missed as its configuration is entered.
+abbrev pub unentered_of : Parts → ℕ → Precondition → Option Break
+unentered_of spec k pre = shown_if (breaks_entering spec pre) (broken.PreconditionMissed k)
+
+-- The same of the precondition of this number, where there is one.
+abbrev pub unentered_at : Parts → ℕ → Option Break
+unentered_at spec k = option_map_or (unentered_of spec k) (slice_get spec.preconditions k) None
+
+-- A12: a precondition can be missed as its configuration is entered.
+abbrev pub precondition_break : Parts → ℕ → List Break
+precondition_break spec k = option_to_list (unentered_at spec k)
+
+-- The same of each precondition, in order.
+abbrev pub precondition_breaks : Parts → List Break
+precondition_breaks spec = gathered_below (precondition_break spec) (length spec.preconditions)
+
+-- A13: the table misses demand k from configuration c, with the first environment in scope in which it does.
+abbrev pub demand_break_of : Parts → ℕ → ℕ → Demand → List Break
+demand_break_of spec c k demand =
+    option_to_list (option_map (λ (v : Env). broken.DemandMissed (conf_id c) k v) (first_missed_env spec demand (conf_id c)))
+
+-- The same of the demand of this number, where there is one.
+abbrev pub demand_break : Parts → ℕ → ℕ → List Break
+demand_break spec c k = option_map_or (demand_break_of spec c k) (slice_get spec.demands k) []
+
+-- The same of each demand, in order.
+abbrev pub demand_breaks_in : Parts → ℕ → List Break
+demand_breaks_in spec c = gathered_below (demand_break spec c) (length spec.demands)
+
+-- The same of each configuration, in order.
+abbrev pub demand_breaks : Parts → List Break
+demand_breaks spec = gathered_below (demand_breaks_in spec) (length spec.confs)
+
+-- The place for configuration c and demand number k, by the first environments that are found of the demands.
+abbrev pub missed_at : List (Option Env) → ℕ → ℕ → Option Break
+missed_at found c k =
+    option_and_then (λ (first : Option Env). option_map (λ (v : Env). broken.DemandMissed (conf_id c) k v) first) (slice_get found k)
+
+-- The places at which one of the conditions 9 to 13 does not hold.
+abbrev pub later_breaks : Parts → ℕ → List Break
+later_breaks spec condition =
+    if condition == 9 then bound_breaks spec else
+    if condition == 10 then window_breaks spec else
+    if condition == 11 then invariant_breaks spec else
+    if condition == 12 then precondition_breaks spec else
+    if condition == 13 then demand_breaks spec else []
+
+-- The places at which one of the conditions 5 to 13 does not hold.
+abbrev pub choice_breaks : Parts → ℕ → List Break
+choice_breaks spec condition =
+    if condition == 5 then unmet_breaks spec requirement.HasRule else
+    if condition == 6 then unmet_breaks spec requirement.CanRun else
+    if condition == 7 then unmet_breaks spec requirement.Stays else
+    if condition == 8 then start_breaks spec else later_breaks spec condition
+
+-- The places at which a condition does not hold, by its number, 1 to 13; none for another number.
+abbrev pub breaks : Parts → ℕ → List Break
+breaks spec condition =
+    if condition == 1 then need_breaks spec else
+    if condition == 2 then state_breaks spec else
+    if condition == 3 then shape_breaks spec else
+    if condition == 4 then load_breaks spec else choice_breaks spec condition

@@ -1,0 +1,141 @@
+//! The places at which the conditions A1 to A4 do not hold: what a configuration alone lacks.
+
+ghost use Rattle.std.specs.Prelude.{◌≡◌, ◌++◌, OnOk};
+ghost use Rattle.condition_breaks.specs.Breaks.{load_break, load_breaks, load_breaks_in, need_break, need_breaks, need_breaks_in, need_breaks_of, shape_break, shape_breaks, state_breaks};
+ghost use Rattle.condition_breaks.specs.Form.{first_twin, is_among, is_need_off, is_needed};
+
+use crate::breaks::Break;
+use crate::facts::{count_apps, count_confs, count_procs, is_empty, is_overloaded, is_same};
+use crate::pushes::push_if;
+use choice_table::states;
+use scram_types::limits::MAX_ENVIRONMENTS;
+use scram_types::{AppId, ConfId, NoMemory, ProcId, Spec};
+
+// A1: appends each application that is on while another one that it needs is off.
+pub(crate) fn add_need_breaks(breaks: &mut Vec<Break>, spec: &Spec) -> Result<(), NoMemory>
+    ensures { OnOk result (breaks.new.items ≡ breaks.old.items ++ need_breaks spec.now) }
+{
+    for c in 0..count_confs(spec) {
+        add_need_breaks_in(breaks, spec, c)?;
+    }
+    Ok(())
+}
+
+fn add_need_breaks_in(breaks: &mut Vec<Break>, spec: &Spec, c: u8) -> Result<(), NoMemory>
+    ensures { OnOk result (breaks.new.items ≡ breaks.old.items ++ need_breaks_in spec.now c) }
+{
+    for a in 0..count_apps(spec) {
+        add_need_breaks_of(breaks, spec, c, a)?;
+    }
+    Ok(())
+}
+
+fn add_need_breaks_of(breaks: &mut Vec<Break>, spec: &Spec, c: u8, a: u8) -> Result<(), NoMemory>
+    ensures { OnOk result (breaks.new.items ≡ breaks.old.items ++ need_breaks_of spec.now c a) }
+{
+    for b in 0..count_apps(spec) {
+        add_need_break(breaks, spec, c, a, b)?;
+    }
+    Ok(())
+}
+
+fn add_need_break(breaks: &mut Vec<Break>, spec: &Spec, c: u8, a: u8, b: u8) -> Result<(), NoMemory>
+    ensures { OnOk result (breaks.new.items ≡ breaks.old.items ++ need_break spec.now c a b) }
+{
+    let is_off = is_need_off(spec, ConfId(c), a, b);
+    push_if(
+        breaks,
+        is_off,
+        Break::NeedOff(ConfId(c), AppId(a), AppId(b)),
+    )
+}
+
+fn is_need_off(spec: &Spec, c: ConfId, a: u8, b: u8) -> bool
+    ensures { result ≡ is_need_off spec.now c a b }
+{
+    spec.is_on(c, AppId(a)) && (is_needed(spec, a, b) && !spec.is_on(c, AppId(b)))
+}
+
+// Returns whether application `a` needs application `b`.
+fn is_needed(spec: &Spec, a: u8, b: u8) -> bool
+    ensures { result ≡ is_needed spec.now a b }
+{
+    match spec.apps.items().get(usize::from(a)) {
+        Some(app) => is_among(app.needs.items(), b),
+        None => false,
+    }
+}
+
+fn is_among(needs: &[AppId], b: u8) -> bool
+    ensures { result ≡ is_among needs.now b }
+{
+    needs.iter().any(|needed| needed.0 == b)
+}
+
+// A2: appends that there are too many environments in scope.
+pub(crate) fn add_state_breaks(breaks: &mut Vec<Break>, spec: &Spec) -> Result<(), NoMemory>
+    ensures { OnOk result (breaks.new.items ≡ breaks.old.items ++ state_breaks spec.now) }
+{
+    push_if(breaks, MAX_ENVIRONMENTS < states(spec), Break::ManyStates)
+}
+
+// A3: appends each configuration that has nothing on or is the same as an earlier one.
+pub(crate) fn add_shape_breaks(breaks: &mut Vec<Break>, spec: &Spec) -> Result<(), NoMemory>
+    ensures { OnOk result (breaks.new.items ≡ breaks.old.items ++ shape_breaks spec.now) }
+{
+    for c in 0..count_confs(spec) {
+        add_shape_break(breaks, spec, c)?;
+    }
+    Ok(())
+}
+
+fn add_shape_break(breaks: &mut Vec<Break>, spec: &Spec, c: u8) -> Result<(), NoMemory>
+    ensures { OnOk result (breaks.new.items ≡ breaks.old.items ++ shape_break spec.now c) }
+{
+    if is_empty(spec, ConfId(c)) {
+        breaks.push(Break::NothingOn(ConfId(c)))?;
+        return Ok(());
+    }
+    match first_twin(spec, c) {
+        Some(d) => push_if(breaks, true, Break::SameAgain(ConfId(c), d)),
+        None => Ok(()),
+    }
+}
+
+// Returns the first configuration that configuration number `c` is the same as, of those before it.
+fn first_twin(spec: &Spec, c: u8) -> Option<ConfId>
+    ensures { result ≡ first_twin spec.now c }
+{
+    for d in 0..c {
+        if is_same(spec, ConfId(c), ConfId(d)) {
+            return Some(ConfId(d));
+        }
+    }
+    None
+}
+
+// A4: appends each processor that a configuration loads beyond its capacity.
+pub(crate) fn add_load_breaks(breaks: &mut Vec<Break>, spec: &Spec) -> Result<(), NoMemory>
+    ensures { OnOk result (breaks.new.items ≡ breaks.old.items ++ load_breaks spec.now) }
+{
+    for c in 0..count_confs(spec) {
+        add_load_breaks_in(breaks, spec, c)?;
+    }
+    Ok(())
+}
+
+fn add_load_breaks_in(breaks: &mut Vec<Break>, spec: &Spec, c: u8) -> Result<(), NoMemory>
+    ensures { OnOk result (breaks.new.items ≡ breaks.old.items ++ load_breaks_in spec.now c) }
+{
+    for p in 0..count_procs(spec) {
+        add_load_break(breaks, spec, c, p)?;
+    }
+    Ok(())
+}
+
+fn add_load_break(breaks: &mut Vec<Break>, spec: &Spec, c: u8, p: u8) -> Result<(), NoMemory>
+    ensures { OnOk result (breaks.new.items ≡ breaks.old.items ++ load_break spec.now c p) }
+{
+    let is_over = is_overloaded(spec, ConfId(c), p);
+    push_if(breaks, is_over, Break::Overloaded(ConfId(c), ProcId(p)))
+}

@@ -1,0 +1,107 @@
+//! The places at which the conditions A11 and A12 do not hold: what invariants and preconditions do not hold.
+
+ghost use Rattle.std.specs.Prelude.{◌≡◌, ◌++◌, OnOk};
+ghost use Rattle.condition_breaks.specs.Breaks.{invariant_break, invariant_breaks, precondition_break, precondition_breaks, unentered_at, unentered_of, unheld_at, unheld_of};
+ghost use Rattle.condition_breaks.specs.Ranges.{all_ways};
+
+use crate::breaks::{Break, Unheld, Way};
+use crate::pushes::push_found;
+use crate::ranges::{all_ways, breaks_entering, first_unheld, hull_of};
+use scram_types::{Invariant, NoMemory, Precondition, Spec};
+use std::alloc::Global;
+
+// A11: appends each invariant that does not hold a range that is asked of it.
+pub(crate) fn add_invariant_breaks(
+    alloc: Global,
+    breaks: &mut Vec<Break>,
+    spec: &Spec,
+) -> Result<(), NoMemory>
+    ensures { OnOk result (breaks.new.items ≡ breaks.old.items ++ invariant_breaks spec.now) }
+{
+    let ways = all_ways(alloc, spec)?;
+    add_unheld(breaks, spec, &ways)
+}
+
+fn add_unheld(breaks: &mut Vec<Break>, spec: &Spec, ways: &[Way]) -> Result<(), NoMemory>
+    requires { ways.now ≡ all_ways spec.now }
+    ensures { OnOk result (breaks.new.items ≡ breaks.old.items ++ invariant_breaks spec.now) }
+{
+    for k in 0..spec.invariants.items().len() as u32 {
+        add_invariant_break(breaks, spec, ways, k)?;
+    }
+    Ok(())
+}
+
+fn add_invariant_break(
+    breaks: &mut Vec<Break>,
+    spec: &Spec,
+    ways: &[Way],
+    k: u32,
+) -> Result<(), NoMemory>
+    requires { ways.now ≡ all_ways spec.now }
+    ensures { OnOk result (breaks.new.items ≡ breaks.old.items ++ invariant_break spec.now k) }
+{
+    push_found(breaks, unheld_at(spec, ways, k))
+}
+
+fn unheld_at(spec: &Spec, ways: &[Way], k: u32) -> Option<Break>
+    requires { ways.now ≡ all_ways spec.now }
+    ensures { result ≡ unheld_at spec.now k }
+{
+    match spec.invariants.items().get(k as usize) {
+        Some(inv) => unheld_of(spec, ways, k, inv),
+        None => None,
+    }
+}
+
+// Returns an invariant, the first way whose range it does not hold, and the least interval that holds all ranges asked
+// of it; nothing where it holds all of them.
+fn unheld_of(spec: &Spec, ways: &[Way], k: u32, inv: &Invariant) -> Option<Break>
+    requires { ways.now ≡ all_ways spec.now }
+    ensures { result ≡ unheld_of spec.now k inv.now }
+{
+    match first_unheld(spec, inv, ways) {
+        Some(way) => Some(Break::Unheld(Unheld {
+            invariant: k,
+            way,
+            needed: hull_of(spec, inv, &way, ways),
+        })),
+        None => None,
+    }
+}
+
+// A12: appends each precondition that can be missed.
+pub(crate) fn add_precondition_breaks(breaks: &mut Vec<Break>, spec: &Spec) -> Result<(), NoMemory>
+    ensures { OnOk result (breaks.new.items ≡ breaks.old.items ++ precondition_breaks spec.now) }
+{
+    for k in 0..spec.preconditions.items().len() as u32 {
+        add_precondition_break(breaks, spec, k)?;
+    }
+    Ok(())
+}
+
+fn add_precondition_break(breaks: &mut Vec<Break>, spec: &Spec, k: u32) -> Result<(), NoMemory>
+    ensures { OnOk result (breaks.new.items ≡ breaks.old.items ++ precondition_break spec.now k) }
+{
+    push_found(breaks, unentered_at(spec, k))
+}
+
+fn unentered_at(spec: &Spec, k: u32) -> Option<Break>
+    ensures { result ≡ unentered_at spec.now k }
+{
+    match spec.preconditions.items().get(k as usize) {
+        Some(pre) => unentered_of(spec, k, pre),
+        None => None,
+    }
+}
+
+// Returns a precondition that can be missed.
+fn unentered_of(spec: &Spec, k: u32, pre: &Precondition) -> Option<Break>
+    ensures { result ≡ unentered_of spec.now k pre.now }
+{
+    if breaks_entering(spec, pre) {
+        Some(Break::PreconditionMissed(k))
+    } else {
+        None
+    }
+}

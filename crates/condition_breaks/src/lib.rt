@@ -1,0 +1,17 @@
+//! The places at which the conditions of acceptance do not hold, every one and in order, by the condition's number.
+#![tactic(auto)]
+
+pub mod breaks;
+mod choosing;
+mod demands;
+pub mod facts;
+mod finding;
+mod form;
+mod holding;
+pub mod laws;
+mod pushes;
+pub mod ranges;
+mod timing;
+
+pub use breaks::{Break, Unheld, Way};
+pub use finding::breaks_of;

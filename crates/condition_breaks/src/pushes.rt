@@ -1,0 +1,31 @@
+//! Appending what was found.
+
+ghost use Rattle.std.specs.Prelude.{◌≡◌, ◌++◌, OnOk};
+ghost use Rattle.std.specs.Option.{option_to_list};
+ghost use Rattle.condition_breaks.specs.Lists.{one_if};
+
+use crate::breaks::Break;
+use scram_types::NoMemory;
+
+// Appends a place, where a test holds.
+pub(crate) fn push_if(breaks: &mut Vec<Break>, test: bool, found: Break) -> Result<(), NoMemory>
+    ensures { OnOk result (breaks.new.items ≡ breaks.old.items ++ one_if test found) }
+{
+    if test {
+        breaks.push(found)?;
+    }
+    Ok(())
+}
+
+// Appends a place, where there is one.
+pub(crate) fn push_found(breaks: &mut Vec<Break>, found: Option<Break>) -> Result<(), NoMemory>
+    ensures { OnOk result (breaks.new.items ≡ breaks.old.items ++ option_to_list found) }
+{
+    match found {
+        Some(found) => {
+            breaks.push(found)?;
+            Ok(())
+        }
+        None => Ok(()),
+    }
+}

@@ -1,0 +1,193 @@
+//! The ranges that invariants and preconditions have to hold, and the ways on which invariants have to hold them.
+
+ghost use Rattle.std.specs.Prelude.{◌≡◌, ◌++◌, ◌<◌, ◌≤◌, IfOk, OnOk, length, option_map};
+ghost use Rattle.scram_types.specs.Lookups.{conf_id};
+ghost use Rattle.choice_table.specs.Choices.{has_source};
+ghost use Rattle.coverage_check.specs.Holding.{breaks_entering, holds_range};
+ghost use Rattle.coverage_check.specs.Timing.{targets};
+ghost use Rattle.condition_breaks.specs.Ranges.{all_ways, first_unheld, hull, hull_of, hull_on, interval, is_other_target, is_unheld, other_ways, range_entering, range_in, range_on, way_to, ways_from};
+
+use crate::breaks::Way;
+use crate::facts::count_confs;
+use app_model::{after_init, during};
+use coverage_check::targets;
+use flight_facts::extremes::Extremes;
+use scram_types::bits::is_in;
+use scram_types::{ConfId, Invariant, NoMemory, Place, Precondition, Spec};
+use std::alloc::Global;
+
+// Returns for each configuration the way to itself, and behind it those to its other possible targets.
+pub(crate) fn all_ways(alloc: Global, spec: &Spec) -> Result<Vec<Way>, NoMemory>
+    ensures { IfOk result (λ ways. ways.items ≡ all_ways spec.now) }
+{
+    let mut ways = Vec::new(alloc);
+    for i in 0..count_confs(spec) {
+        let set = targets(alloc, spec, ConfId(i))?;
+        add_ways_from(&mut ways, spec, set, i)?;
+    }
+    Ok(ways)
+}
+
+// Appends the ways from configuration number `i`; `set` has its possible targets.
+fn add_ways_from(ways: &mut Vec<Way>, spec: &Spec, set: u16, i: u8) -> Result<(), NoMemory>
+    requires { set ≡ targets spec.now (conf_id i) }
+    ensures { OnOk result (ways.new.items ≡ ways.old.items ++ ways_from spec.now i) }
+{
+    ways.push(Way {
+        from: ConfId(i),
+        to: ConfId(i),
+    })?;
+    add_other_ways(ways, spec, set, i)
+}
+
+fn add_other_ways(ways: &mut Vec<Way>, spec: &Spec, set: u16, i: u8) -> Result<(), NoMemory>
+    requires { set ≡ targets spec.now (conf_id i) }
+    ensures { OnOk result (ways.new.items ≡ ways.old.items ++ other_ways spec.now i) }
+{
+    for j in 0..count_confs(spec) {
+        add_way_to(ways, spec, set, i, j)?;
+    }
+    Ok(())
+}
+
+fn add_way_to(ways: &mut Vec<Way>, spec: &Spec, set: u16, i: u8, j: u8) -> Result<(), NoMemory>
+    requires set { set ≡ targets spec.now (conf_id i) }
+    requires inside { j < length spec.now.confs }
+    ensures { OnOk result (ways.new.items ≡ ways.old.items ++ way_to spec.now i j) }
+{
+    if is_other_target(spec, set, i, j) {
+        ways.push(Way {
+            from: ConfId(i),
+            to: ConfId(j),
+        })?;
+    }
+    Ok(())
+}
+
+// Returns whether configuration number `j` is a possible target of number `i`, and another one.
+fn is_other_target(spec: &Spec, set: u16, i: u8, j: u8) -> bool
+    requires set { set ≡ targets spec.now (conf_id i) }
+    requires inside { j < length spec.now.confs }
+    ensures { result ≡ is_other_target spec.now i j }
+{
+    is_in(set, j) && i != j
+}
+
+/// Returns the interval between two numbers.
+pub fn interval(least: i64, greatest: i64) -> Extremes
+    ensures { result ≡ interval (least, greatest) }
+{
+    Extremes { least, greatest }
+}
+
+// Returns the range of an invariant's variable in a place: that of all acts in its mode together.
+fn range_in(spec: &Spec, inv: &Invariant, place: Option<Place>) -> Extremes
+    ensures { result ≡ interval (range_in spec.now inv.now place) }
+{
+    match place {
+        Some(place) => {
+            if inv.variable == 0 {
+                interval(1, 4)
+            } else {
+                let ends = during(spec.kind_of_app(inv.app), 1, place.mode, inv.variable);
+                interval(ends.0, ends.1)
+            }
+        }
+        None => interval(0, 0),
+    }
+}
+
+/// Returns the range of an invariant's variable at the end of a way.
+pub fn range_on(spec: &Spec, inv: &Invariant, way: &Way) -> Extremes
+    ensures { result ≡ interval (range_on spec.now inv.now way.now) }
+{
+    range_in(spec, inv, spec.place_of(way.to, inv.app))
+}
+
+// Returns the first way whose range an invariant does not hold.
+pub(crate) fn first_unheld(spec: &Spec, inv: &Invariant, ways: &[Way]) -> Option<Way>
+    ensures { result ≡ first_unheld spec.now inv.now ways.now }
+{
+    for way in ways {
+        if is_unheld(spec, inv, way) {
+            return Some(*way);
+        }
+    }
+    None
+}
+
+fn is_unheld(spec: &Spec, inv: &Invariant, way: &Way) -> bool
+    ensures { result ≡ is_unheld spec.now inv.now way.now }
+{
+    speaks_of(inv, way) && !holds(inv, &range_on(spec, inv, way))
+}
+
+// Returns whether an invariant speaks of the source of a way.
+fn speaks_of(inv: &Invariant, way: &Way) -> bool
+    ensures { result ≡ has_source inv.now.from way.now.from }
+{
+    match inv.from {
+        Some(from) => from.0 == way.from.0,
+        None => true,
+    }
+}
+
+fn holds(inv: &Invariant, range: &Extremes) -> bool
+    ensures { result ≡ holds_range inv.now.least inv.now.greatest (range.now.least, range.now.greatest) }
+{
+    inv.least <= range.least && range.greatest <= inv.greatest
+}
+
+// Returns the least interval that holds the range of the way `first` and each range on ways of whose source an
+// invariant speaks.
+pub(crate) fn hull_of(spec: &Spec, inv: &Invariant, first: &Way, ways: &[Way]) -> Extremes
+    ensures { result ≡ hull_of spec.now inv.now (interval (range_on spec.now inv.now first.now)) ways.now }
+{
+    let mut held = range_on(spec, inv, first);
+    for way in ways {
+        held = hull_on(spec, inv, &held, way);
+    }
+    held
+}
+
+fn hull_on(spec: &Spec, inv: &Invariant, held: &Extremes, way: &Way) -> Extremes
+    ensures { result ≡ hull_on spec.now inv.now held.now way.now }
+{
+    if speaks_of(inv, way) {
+        hull(held, &range_on(spec, inv, way))
+    } else {
+        *held
+    }
+}
+
+// Returns the least interval that holds two.
+fn hull(held: &Extremes, range: &Extremes) -> Extremes
+    ensures { result ≡ hull held.now (range.now.least, range.now.greatest) }
+{
+    Extremes {
+        least: held.least.min(range.least),
+        greatest: held.greatest.max(range.greatest),
+    }
+}
+
+/// Returns the range that a precondition has to hold in a place: that after the init phase, or zero where the application
+/// is off.
+pub fn range_entering(spec: &Spec, pre: &Precondition, place: Option<Place>) -> Extremes
+    ensures { result ≡ interval (range_entering spec.now pre.now place) }
+{
+    match place {
+        Some(place) => {
+            let ends = after_init(spec.kind_of_app(pre.app), place.mode, pre.variable);
+            interval(ends.0, ends.1)
+        }
+        None => interval(0, 0),
+    }
+}
+
+// Returns whether a precondition can be missed as its configuration is entered.
+pub(crate) fn breaks_entering(spec: &Spec, pre: &Precondition) -> bool
+    ensures { result ≡ breaks_entering spec.now pre.now }
+{
+    let range = range_entering(spec, pre, spec.place_of(pre.conf, pre.app));
+    !(pre.least <= range.least && range.greatest <= pre.greatest)
+}

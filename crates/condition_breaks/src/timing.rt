@@ -1,0 +1,85 @@
+//! The places at which the conditions A9 and A10 do not hold: bounds and a window that do not serve.
+
+ghost use Rattle.std.specs.Prelude.{◌≡◌, ◌++◌, ◌<◌, ◌≤◌, OnOk, length};
+ghost use Rattle.scram_types.specs.Lookups.{conf_id};
+ghost use Rattle.coverage_check.specs.Timing.{asked_bounds, has_short_window, is_bound_asked, is_bounded, lacks_bound};
+ghost use Rattle.condition_breaks.specs.Breaks.{bound_break, bound_breaks, bound_breaks_from, window_breaks};
+
+use crate::breaks::Break;
+use crate::facts::count_confs;
+use crate::pushes::push_if;
+use coverage_check::{asked_bounds, greatest_bound, least};
+use scram_types::bits::is_in;
+use scram_types::{ConfId, NoMemory, Spec};
+use std::alloc::Global;
+
+// A9: appends each pair for which a bound is asked for and none that serves is given.
+pub(crate) fn add_bound_breaks(
+    alloc: Global,
+    breaks: &mut Vec<Break>,
+    spec: &Spec,
+) -> Result<(), NoMemory>
+    ensures { OnOk result (breaks.new.items ≡ breaks.old.items ++ bound_breaks spec.now) }
+{
+    for i in 0..count_confs(spec) {
+        let set = asked_bounds(alloc, spec, ConfId(i))?;
+        add_bound_breaks_from(breaks, spec, set, i)?;
+    }
+    Ok(())
+}
+
+// Appends those that begin with configuration number `i`; `set` has those to which a bound is asked for.
+fn add_bound_breaks_from(
+    breaks: &mut Vec<Break>,
+    spec: &Spec,
+    set: u16,
+    i: u8,
+) -> Result<(), NoMemory>
+    requires { set ≡ asked_bounds spec.now (conf_id i) }
+    ensures { OnOk result (breaks.new.items ≡ breaks.old.items ++ bound_breaks_from spec.now i) }
+{
+    for j in 0..count_confs(spec) {
+        let lacks = lacks_bound(spec, set, ConfId(i), ConfId(j));
+        push_if(breaks, lacks, Break::BoundLacking(ConfId(i), ConfId(j)))?;
+    }
+    Ok(())
+}
+
+fn lacks_bound(spec: &Spec, set: u16, i: ConfId, j: ConfId) -> bool
+    requires set { set ≡ asked_bounds spec.now i }
+    requires inside { j.0 < length spec.now.confs }
+    ensures { result ≡ lacks_bound spec.now i j.0 }
+{
+    is_asked(spec, set, i, j) && !is_bounded(spec, i, j)
+}
+
+// Returns whether a bound from `i` to `j` is asked for.
+fn is_asked(spec: &Spec, set: u16, i: ConfId, j: ConfId) -> bool
+    requires set { set ≡ asked_bounds spec.now i }
+    requires inside { j.0 < length spec.now.confs }
+    ensures { result ≡ is_bound_asked spec.now i j.0 }
+{
+    is_in(set, j.0)
+}
+
+fn is_bounded(spec: &Spec, i: ConfId, j: ConfId) -> bool
+    ensures { result ≡ is_bounded spec.now i j }
+{
+    match spec.bound(i, j) {
+        Some(frames) => least(spec, i, j) <= frames,
+        None => false,
+    }
+}
+
+// A10: appends that the window is too short.
+pub(crate) fn add_window_breaks(breaks: &mut Vec<Break>, spec: &Spec) -> Result<(), NoMemory>
+    ensures { OnOk result (breaks.new.items ≡ breaks.old.items ++ window_breaks spec.now) }
+{
+    push_if(breaks, has_short_window(spec), Break::WindowShort)
+}
+
+fn has_short_window(spec: &Spec) -> bool
+    ensures { result ≡ has_short_window spec.now }
+{
+    u64::from(spec.window) < u64::from(greatest_bound(spec)) + 1
+}
