@@ -1,4 +1,5 @@
 pub mod CharCounts
+pub mod Examples
 pub mod Explained
 pub mod ExplainedReading
 pub mod Floats

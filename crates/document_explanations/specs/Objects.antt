@@ -1,7 +1,6 @@
 -- The objects of specifications and scripts: their members in the order in which they are read, and what is wanted of each.
-use Rattle.std.specs.Prelude.{ℕ, ℤ, pos, List, [], ◌∷◌, Option, Some, None, codes, bytes_eq, if◌then◌else◌}
+use Rattle.std.specs.Prelude.{ℕ, ℤ, neg_ℤ, pos, List, [], ◌∷◌, Option, Some, None, codes, bytes_eq, if◌then◌else◌}
 use Rattle.scram_types.specs.declared.limits.TheConstants.{MAX_ALTITUDE, MAX_APPLICATIONS, MAX_ASSUMED_CHANGES, MAX_ASSUMED_HALTS, MAX_BOUND, MAX_BOUNDS, MAX_CHANGES, MAX_CONFIGURATIONS, MAX_DEMANDS, MAX_FACTORS, MAX_FRAMES, MAX_HEADING, MAX_INTERVAL_END, MAX_INTERVALS, MAX_LOAD, MAX_MODES, MAX_PHASE, MAX_PROCESSORS, MAX_RULES, MAX_VALUES, MAX_WINDOW, MIN_VALUES}
-use Rattle.scram_types.specs.Numbers.{minus}
 use Rattle.document_explanations.specs.declared.objects.Element.{Element}
 use Rattle.document_explanations.specs.declared.objects.Element.TheVariants as element
 use Rattle.document_explanations.specs.declared.objects.Length.TheVariants as length
@@ -56,7 +55,7 @@ signed least greatest = wanted.Number (number.Signed least greatest)
 
 -- An end of an interval.
 abbrev pub interval_end : Wanted
-interval_end = signed (minus 1000000000) MAX_INTERVAL_END
+interval_end = signed (neg_ℤ MAX_INTERVAL_END) MAX_INTERVAL_END
 
 -- The members that an invariant and a precondition have behind their configuration.
 abbrev pub interval_members : List Member
@@ -164,16 +163,16 @@ members_of object.Script =
     []
 members_of object.Change =
     has (codes "frame") (wanted.Number (number.Frame 1)) ∷
-    has (codes "factor") (wanted.Text text.FlownFactor) ∷
-    has (codes "value") (wanted.Text text.FlownFactor) ∷
+    has (codes "factor") (wanted.Text text.ScriptFactor) ∷
+    has (codes "value") (wanted.Text text.ScriptFactor) ∷
     []
 members_of object.Halt =
-    has (codes "processor") (wanted.Text text.FlownProcessor) ∷
+    has (codes "processor") (wanted.Text text.ScriptProcessor) ∷
     has (codes "frame") (wanted.Number (number.Frame 0)) ∷
     has (codes "step") (wanted.Number number.Step) ∷
     []
 members_of object.Restart =
-    has (codes "processor") (wanted.Text text.FlownProcessor) ∷
+    has (codes "processor") (wanted.Text text.ScriptProcessor) ∷
     has (codes "frame") (wanted.Number (number.Frame 2)) ∷
     []
 

@@ -9,7 +9,7 @@ use Rattle.document_explanations.specs.declared.objects.Object.{Object}
 use Rattle.document_explanations.specs.declared.objects.Object.TheVariants as object
 use Rattle.document_explanations.specs.declared.rules.DocumentKind.{DocumentKind}
 use Rattle.document_explanations.specs.declared.rules.DocumentKind.TheVariants.{Specification, Script}
-use Rattle.document_explanations.specs.declared.rules.Rule.{Rule as TableRule}
+use Rattle.document_explanations.specs.declared.rules.DocumentRule.{DocumentRule as TableRule}
 use Rattle.document_explanations.specs.declared.rules.Shows.{Shows}
 use Rattle.document_explanations.specs.declared.rules.Shows.TheVariants.{Both, Found, Nothing, Wanted}
 
@@ -19,26 +19,26 @@ root_of Specification = object.Specification
 root_of Script = object.Script
 
 -- A rule: its number, what it says, the limit in bytes that stands behind this, and what is shown where it is broken.
-pub record Rule : Type 0 where
+pub record DocumentRule : Type 0 where
   pub number : ℕ
   pub text : List ℕ
   pub limit : Option ℕ
   pub shows : Shows
 
 -- A rule of the code's table as plain data.
-abbrev pub rule_read : TableRule → Rule
+abbrev pub rule_read : TableRule → DocumentRule
 rule_read r = record { number = r.number; text = r.text.now; limit = r.limit; shows = r.shows }
 
 -- A rule without a limit.
-abbrev pub says : ℕ → List ℕ → Shows → Rule
+abbrev pub says : ℕ → List ℕ → Shows → DocumentRule
 says number text shows = record { number = number; text = text; limit = None; shows = shows }
 
 -- The rule that a document is not too long.
-abbrev pub has_limit : ℕ → ℕ → Rule
+abbrev pub has_limit : ℕ → ℕ → DocumentRule
 has_limit number limit = record { number = number; text = codes "more than"; limit = Some limit; shows = Nothing }
 
 -- Rules 1 to 9, which are those of both documents.
-abbrev pub common_rules : List Rule
+abbrev pub common_rules : List DocumentRule
 common_rules =
     says rule.NO_JSON_TEXT (codes "no JSON text") Nothing ∷
     says rule.NO_OBJECT (codes "an object is wanted") Both ∷
@@ -52,7 +52,7 @@ common_rules =
     []
 
 -- The further rules of a document.
-abbrev pub own_rules : DocumentKind → List Rule
+abbrev pub own_rules : DocumentKind → List DocumentRule
 own_rules Specification =
     says specification_rule.NO_NAME (codes "no name") Both ∷
     says specification_rule.NAME_TWICE (codes "the name is given twice") Found ∷
@@ -81,12 +81,12 @@ own_rules Script =
     []
 
 -- The rule of this number among rules.
-abbrev pub rule_in : List Rule → ℕ → Option Rule
+abbrev pub rule_in : List DocumentRule → ℕ → Option DocumentRule
 rule_in [] number = None
 rule_in (rule ∷ rules) number = if rule.number == number then Some rule else rule_in rules number
 
 -- The rule of this number of a document.
-abbrev pub broken_rule : DocumentKind → ℕ → Option Rule
+abbrev pub broken_rule : DocumentKind → ℕ → Option DocumentRule
 broken_rule kind number = option_or (rule_in common_rules number) (rule_in (own_rules kind) number)
 
 -- a limit in bytes
@@ -94,7 +94,7 @@ abbrev pub limit_text : ℕ → List ℕ
 limit_text limit = codes " " ++ decimal limit ++ codes " bytes"
 
 -- What a rule says.
-abbrev pub rule_text : Rule → List ℕ
+abbrev pub rule_text : DocumentRule → List ℕ
 rule_text rule = rule.text ++ option_map_or limit_text rule.limit []
 
 -- What is wanted is shown.

@@ -87,16 +87,16 @@ factors_text [] = codes "-"
 factors_text (factor ∷ factors) = listed (map factor_text (factor ∷ factors))
 
 -- The factors of the specification that a script is for.
-abbrev pub flown_factors : Option Parts → List Factor
-flown_factors flown = option_map_or (λ (spec : Parts). spec.factors) flown []
+abbrev pub factors_of : Option Parts → List Factor
+factors_of spec = option_map_or (λ (spec : Parts). spec.factors) spec []
 
 -- The processors of the specification that a script is for.
-abbrev pub flown_procs : Option Parts → List Proc
-flown_procs flown = option_map_or (λ (spec : Parts). spec.procs) flown []
+abbrev pub procs_of : Option Parts → List Proc
+procs_of spec = option_map_or (λ (spec : Parts). spec.procs) spec []
 
 -- The step of a frame that comes after the mark.
 abbrev pub last_step : Option Parts → ℕ
-last_step flown = option_map_or (λ (spec : Parts). words spec + 1) flown 0
+last_step spec = option_map_or (λ (spec : Parts). words spec + 1) spec 0
 
 -- how many elements a list has
 abbrev pub length_text : Length → List ℕ
@@ -106,32 +106,32 @@ length_text length.Halts =
 
 -- a number in a document, of a script for a specification where there is one
 abbrev pub number_text : Option Parts → Number → List ℕ
-number_text flown number.SpecificationVersion = codes "1, 2 or 3"
-number_text flown number.ScriptVersion = codes "1 or 2"
-number_text flown (number.Whole least greatest) = decimal least ++ codes " to " ++ decimal greatest
-number_text flown (number.Signed least greatest) = signed_decimal least ++ codes " to " ++ signed_decimal greatest
-number_text flown (number.Frame least) = decimal least ++ codes " to frames - 1"
-number_text flown number.Step = codes "0 to " ++ decimal (last_step flown)
+number_text spec number.SpecificationVersion = codes "1, 2 or 3"
+number_text spec number.ScriptVersion = codes "1 or 2"
+number_text spec (number.Whole least greatest) = decimal least ++ codes " to " ++ decimal greatest
+number_text spec (number.Signed least greatest) = signed_decimal least ++ codes " to " ++ signed_decimal greatest
+number_text spec (number.Frame least) = decimal least ++ codes " to frames - 1"
+number_text spec number.Step = codes "0 to " ++ decimal (last_step spec)
 
 -- a text in a document, of a script for a specification where there is one
 abbrev pub text_text : Option Parts → Text → List ℕ
-text_text flown text.Name = codes "a name, 1 to 16 of a-z 0-9 _, a letter first"
-text_text flown text.Processor = codes "the name of a processor"
-text_text flown text.Application = codes "the name of an application"
-text_text flown text.Configuration = codes "the name of a configuration"
-text_text flown text.ConfigurationOrAny = codes "the name of a configuration, or *"
-text_text flown text.Factor = codes "the name of a factor"
-text_text flown text.Value = codes "the name of one of its values"
-text_text flown text.Kind = listed (map kind_text kinds)
-text_text flown text.Mode = listed (map modes_text kinds)
-text_text flown text.Variable = listed (map variables_text kinds)
-text_text flown text.Policy = codes "retarget or settle"
-text_text flown text.FlownFactor = factors_text (flown_factors flown)
-text_text flown text.FlownProcessor = listed (map proc_text (flown_procs flown))
+text_text spec text.Name = codes "a name, 1 to 16 of a-z 0-9 _, a letter first"
+text_text spec text.Processor = codes "the name of a processor"
+text_text spec text.Application = codes "the name of an application"
+text_text spec text.Configuration = codes "the name of a configuration"
+text_text spec text.ConfigurationOrAny = codes "the name of a configuration, or *"
+text_text spec text.Factor = codes "the name of a factor"
+text_text spec text.Value = codes "the name of one of its values"
+text_text spec text.Kind = listed (map kind_text kinds)
+text_text spec text.Mode = listed (map modes_text kinds)
+text_text spec text.Variable = listed (map variables_text kinds)
+text_text spec text.Policy = codes "retarget or settle"
+text_text spec text.ScriptFactor = factors_text (factors_of spec)
+text_text spec text.ScriptProcessor = listed (map proc_text (procs_of spec))
 
 -- What is wanted, in a script for a specification where there is one.
 abbrev pub wanted_text : Option Parts → Wanted → List ℕ
-wanted_text flown (wanted.Object object) = listed (map member_text (members_of object))
-wanted_text flown (wanted.List length element) = length_text length
-wanted_text flown (wanted.Number number) = number_text flown number
-wanted_text flown (wanted.Text text) = text_text flown text
+wanted_text spec (wanted.Object object) = listed (map member_text (members_of object))
+wanted_text spec (wanted.List length element) = length_text length
+wanted_text spec (wanted.Number number) = number_text spec number
+wanted_text spec (wanted.Text text) = text_text spec text

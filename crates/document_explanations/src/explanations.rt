@@ -9,24 +9,25 @@ ghost use Rattle.document_explanations.specs.Rules.{rule_read};
 use crate::found::{cut, found_at};
 use crate::lines::Lines;
 use crate::paths::wanted_at;
-use crate::rules::{DocumentKind, Rule, add_rule_text, broken_rule};
+use crate::rules::{DocumentKind, DocumentRule, add_rule_text, broken_rule};
 use crate::wants::add_wanted;
 use scram_doc::{DocError, Path, parse};
 use scram_types::{NoMemory, Spec};
 use std::alloc::Global;
 
-/// Where a document breaks a rule.
+/// A document that breaks a rule.
 #[derive(Clone, Copy)]
-pub struct Place<'a> {
+pub struct BrokenDocument<'a> {
     pub kind: DocumentKind,
     /// The specification that a script is for.
-    pub flown: Option<&'a Spec>,
+    pub spec: Option<&'a Spec>,
+    /// The path of the value where the rule is broken.
     pub path: &'a Path,
     /// The bytes of the document.
     pub bytes: &'a [u8],
 }
 
-/// Appends the lines behind the first one where a document breaks the rule of this number at a place.
+/// Appends the lines behind the first one where a document breaks the rule of this number.
 ///
 /// # Errors
 ///
@@ -35,13 +36,13 @@ pub fn add_explanation(
     alloc: Global,
     lines: &mut Lines,
     number: u8,
-    place: &Place<'_>,
+    broken: &BrokenDocument<'_>,
 ) -> Result<(), NoMemory>
-    ensures { OnOk result (lines.new ≡ lines.old ++ explanation place.now.kind (option_map (λ s. s.now) place.now.flown) number place.now.path.now
-        (document place.now.bytes.now)) }
+    ensures { OnOk result (lines.new ≡ lines.old ++ explanation broken.now.kind (option_map (λ s. s.now) broken.now.spec) number broken.now.path.now
+        (document broken.now.bytes.now)) }
 {
-    match broken_rule(place.kind, number) {
-        Some(rule) => add_rule_lines(alloc, lines, &rule, place),
+    match broken_rule(broken.kind, number) {
+        Some(rule) => add_rule_lines(alloc, lines, &rule, broken),
         None => Ok(()),
     }
 }
@@ -49,18 +50,18 @@ pub fn add_explanation(
 fn add_rule_lines(
     alloc: Global,
     lines: &mut Lines,
-    rule: &Rule,
-    place: &Place<'_>,
+    rule: &DocumentRule,
+    broken: &BrokenDocument<'_>,
 ) -> Result<(), NoMemory>
-    ensures { OnOk result (lines.new ≡ lines.old ++ rule_lines place.now.kind (option_map (λ s. s.now) place.now.flown) place.now.path.now
-        (document place.now.bytes.now) (rule_read rule.now)) }
+    ensures { OnOk result (lines.new ≡ lines.old ++ rule_lines broken.now.kind (option_map (λ s. s.now) broken.now.spec) broken.now.path.now
+        (document broken.now.bytes.now) (rule_read rule.now)) }
 {
     add_rule_line(lines, rule)?;
-    add_wanted_line(lines, rule, place)?;
-    add_found_line(alloc, lines, rule, place)
+    add_wanted_line(lines, rule, broken)?;
+    add_found_line(alloc, lines, rule, broken)
 }
 
-fn add_rule_line(lines: &mut Lines, rule: &Rule) -> Result<(), NoMemory>
+fn add_rule_line(lines: &mut Lines, rule: &DocumentRule) -> Result<(), NoMemory>
     ensures { OnOk result (lines.new ≡ lines.old ++ rule_line (rule_read rule.now)) }
 {
     lines.push("  rule ")?;
@@ -70,22 +71,31 @@ fn add_rule_line(lines: &mut Lines, rule: &Rule) -> Result<(), NoMemory>
     lines.push("\n")
 }
 
-fn add_wanted_line(lines: &mut Lines, rule: &Rule, place: &Place<'_>) -> Result<(), NoMemory>
-    ensures { OnOk result (lines.new ≡ lines.old ++ wanted_line place.now.kind (option_map (λ s. s.now) place.now.flown) (rule_read rule.now) place.now.path.now) }
+fn add_wanted_line(
+    lines: &mut Lines,
+    rule: &DocumentRule,
+    broken: &BrokenDocument<'_>,
+) -> Result<(), NoMemory>
+    ensures { OnOk result (lines.new ≡ lines.old ++ wanted_line broken.now.kind (option_map (λ s. s.now) broken.now.spec)
+        (rule_read rule.now) broken.now.path.now) }
 {
     if !rule.shows.wanted() {
         return Ok(());
     }
     lines.push("  wanted: ")?;
-    add_wanted_part(lines, rule.number, place)?;
+    add_wanted_part(lines, rule.number, broken)?;
     lines.push("\n")
 }
 
-fn add_wanted_part(lines: &mut Lines, number: u8, place: &Place<'_>) -> Result<(), NoMemory>
-    ensures { OnOk result (lines.new ≡ lines.old ++ wanted_part place.now.kind (option_map (λ s. s.now) place.now.flown) number place.now.path.now) }
+fn add_wanted_part(
+    lines: &mut Lines,
+    number: u8,
+    broken: &BrokenDocument<'_>,
+) -> Result<(), NoMemory>
+    ensures { OnOk result (lines.new ≡ lines.old ++ wanted_part broken.now.kind (option_map (λ s. s.now) broken.now.spec) number broken.now.path.now) }
 {
-    match wanted_at(place.kind, number, place.path) {
-        Some(wanted) => add_wanted(lines, place.flown, wanted),
+    match wanted_at(broken.kind, number, broken.path) {
+        Some(wanted) => add_wanted(lines, broken.spec, wanted),
         None => Ok(()),
     }
 }
@@ -93,29 +103,29 @@ fn add_wanted_part(lines: &mut Lines, number: u8, place: &Place<'_>) -> Result<(
 fn add_found_line(
     alloc: Global,
     lines: &mut Lines,
-    rule: &Rule,
-    place: &Place<'_>,
+    rule: &DocumentRule,
+    broken: &BrokenDocument<'_>,
 ) -> Result<(), NoMemory>
-    ensures { OnOk result (lines.new ≡ lines.old ++ found_line place.now.kind (rule_read rule.now) place.now.path.now
-        (document place.now.bytes.now)) }
+    ensures { OnOk result (lines.new ≡ lines.old ++ found_line broken.now.kind (rule_read rule.now) broken.now.path.now
+        (document broken.now.bytes.now)) }
 {
     if !rule.shows.found() {
         return Ok(());
     }
-    let found = found_part(alloc, rule.number, place)?;
+    let found = found_part(alloc, rule.number, broken)?;
     lines.push("  found: ")?;
     lines.push(found.as_str())?;
     lines.push("\n")
 }
 
-fn found_part(alloc: Global, number: u8, place: &Place<'_>) -> Result<String, NoMemory>
-    ensures { IfOk result (λ text. string_bytes text ≡ found_part place.now.kind number place.now.path.now
-        (document place.now.bytes.now)) }
+fn found_part(alloc: Global, number: u8, broken: &BrokenDocument<'_>) -> Result<String, NoMemory>
+    ensures { IfOk result (λ text. string_bytes text ≡ found_part broken.now.kind number broken.now.path.now
+        (document broken.now.bytes.now)) }
 {
-    match parse(alloc, place.bytes) {
+    match parse(alloc, broken.bytes) {
         Ok(value) => cut(
             alloc,
-            found_at(alloc, place.kind, number, place.path, &value)?,
+            found_at(alloc, broken.kind, number, broken.path, &value)?,
         ),
         Err(DocError::Fault(_)) => Ok(String::new(alloc)),
         Err(DocError::NoMemory) => Err(NoMemory),

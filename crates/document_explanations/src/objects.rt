@@ -106,9 +106,9 @@ pub enum Text {
     /// Names a policy.
     Policy,
     /// Names a factor of the specification that a script is for, or a value of it.
-    FlownFactor,
+    ScriptFactor,
     /// Names a processor of the specification that a script is for.
-    FlownProcessor,
+    ScriptProcessor,
 }
 
 /// An element of a list.
@@ -355,18 +355,18 @@ const SCRIPT: &[Member] = &[
 
 const CHANGE: &[Member] = &[
     member!("frame", Wanted::Number(Number::Frame { least: 1 })),
-    member!("factor", text!(FlownFactor)),
-    member!("value", text!(FlownFactor)),
+    member!("factor", text!(ScriptFactor)),
+    member!("value", text!(ScriptFactor)),
 ];
 
 const HALT: &[Member] = &[
-    member!("processor", text!(FlownProcessor)),
+    member!("processor", text!(ScriptProcessor)),
     member!("frame", Wanted::Number(Number::Frame { least: 0 })),
     member!("step", Wanted::Number(Number::Step)),
 ];
 
 const RESTART: &[Member] = &[
-    member!("processor", text!(FlownProcessor)),
+    member!("processor", text!(ScriptProcessor)),
     member!("frame", Wanted::Number(Number::Frame { least: 2 })),
 ];
 

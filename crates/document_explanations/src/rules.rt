@@ -45,7 +45,7 @@ pub enum Shows {
 
 /// A rule of a document.
 #[derive(Clone, Copy)]
-pub struct Rule {
+pub struct DocumentRule {
     pub number: u8,
     /// What is wrong. Where there is a limit, it stands behind this, in bytes.
     pub text: &'static str,
@@ -55,7 +55,7 @@ pub struct Rule {
 
 macro_rules! rule {
     ($number:expr, $text:expr, $limit:expr, $shows:ident) => {
-        Rule {
+        DocumentRule {
             number: $number,
             text: $text,
             limit: $limit,
@@ -68,7 +68,7 @@ macro_rules! rule {
 }
 
 /// Rules 1 to 9, which are those of both documents.
-const COMMON: &[Rule] = &[
+const COMMON: &[DocumentRule] = &[
     rule!(rule::NO_JSON_TEXT, "no JSON text", Nothing),
     rule!(rule::NO_OBJECT, "an object is wanted", Both),
     rule!(rule::MISSING_MEMBER, "a member is missing", Wanted),
@@ -88,7 +88,7 @@ const COMMON: &[Rule] = &[
     rule!(specification_rule::UNKNOWN_VERSION, "no such version", Both),
 ];
 
-const SPECIFICATION: &[Rule] = &[
+const SPECIFICATION: &[DocumentRule] = &[
     rule!(specification_rule::NO_NAME, "no name", Both),
     rule!(
         specification_rule::NAME_TWICE,
@@ -156,7 +156,7 @@ const SPECIFICATION: &[Rule] = &[
     rule!(specification_rule::UNKNOWN_POLICY, "no such policy", Both),
 ];
 
-const SCRIPT: &[Rule] = &[
+const SCRIPT: &[DocumentRule] = &[
     rule!(
         script_rule::UNKNOWN_NAME,
         "no such factor, no such value of it, or no such processor",
@@ -185,13 +185,13 @@ const SCRIPT: &[Rule] = &[
     ),
 ];
 
-fn common_rules() -> &'static [Rule]
+fn common_rules() -> &'static [DocumentRule]
     ensures { map rule_read result.now ≡ common_rules }
 {
     COMMON
 }
 
-fn own_rules(kind: DocumentKind) -> &'static [Rule]
+fn own_rules(kind: DocumentKind) -> &'static [DocumentRule]
     ensures { map rule_read result.now ≡ own_rules kind }
 {
     match kind {
@@ -200,7 +200,7 @@ fn own_rules(kind: DocumentKind) -> &'static [Rule]
     }
 }
 
-fn rule_in(rules: &[Rule], number: u8) -> Option<Rule>
+fn rule_in(rules: &[DocumentRule], number: u8) -> Option<DocumentRule>
     ensures { option_map rule_read result ≡ rule_in (map rule_read rules.now) number }
 {
     for rule in rules {
@@ -212,7 +212,7 @@ fn rule_in(rules: &[Rule], number: u8) -> Option<Rule>
 }
 
 /// Returns the rule of this number of a document, or `None` where it has none.
-pub fn broken_rule(kind: DocumentKind, number: u8) -> Option<Rule>
+pub fn broken_rule(kind: DocumentKind, number: u8) -> Option<DocumentRule>
     ensures { option_map rule_read result ≡ broken_rule kind number }
 {
     match rule_in(common_rules(), number) {
@@ -226,7 +226,7 @@ pub fn broken_rule(kind: DocumentKind, number: u8) -> Option<Rule>
 /// # Errors
 ///
 /// Out of memory.
-pub fn add_rule_text(lines: &mut Lines, rule: &Rule) -> Result<(), NoMemory>
+pub fn add_rule_text(lines: &mut Lines, rule: &DocumentRule) -> Result<(), NoMemory>
     ensures { OnOk result (lines.new ≡ lines.old ++ rule_text (rule_read rule.now)) }
 {
     lines.push(rule.text)?;

@@ -8,7 +8,7 @@ ghost use Rattle.form_base.specs.declared.status.TheConstants.{BROKEN_SCRIPT};
 ghost use Rattle.flight_forms.specs.Documents.{SaysScript};
 ghost use Rattle.document_explanations.specs.Scripts.{BreaksExplainedScript, explained_script_text, long_explained_script};
 
-use crate::explanations::{Place, add_explanation};
+use crate::explanations::{BrokenDocument, add_explanation};
 use crate::first_lines::add_script_line;
 use crate::lines::Lines;
 use crate::long_documents::make_long_lines;
@@ -36,13 +36,13 @@ fn explain<'a>(
 {
     let mut lines = Lines::new(alloc);
     add_script_line(&mut lines, fault)?;
-    let place = Place {
+    let broken = BrokenDocument {
         kind: DocumentKind::Script,
-        flown: Some(spec),
+        spec: Some(spec),
         path: &fault.path,
         bytes,
     };
-    add_explanation(alloc, &mut lines, fault.rule, &place)?;
+    add_explanation(alloc, &mut lines, fault.rule, &broken)?;
     Ok(lines.into_text())
 }
 

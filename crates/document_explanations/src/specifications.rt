@@ -8,7 +8,7 @@ ghost use Rattle.form_base.specs.Specifications.{SaysSpecification};
 ghost use Rattle.form_base.specs.declared.status.TheConstants.{BROKEN_SPECIFICATION};
 ghost use Rattle.document_explanations.specs.Specifications.{BreaksExplainedSpecification, explained_specification_text, long_explained_specification};
 
-use crate::explanations::{Place, add_explanation};
+use crate::explanations::{BrokenDocument, add_explanation};
 use crate::first_lines::add_specification_line;
 use crate::lines::Lines;
 use crate::long_documents::make_long_lines;
@@ -29,13 +29,13 @@ fn explain<'a>(alloc: Global, fault: &'a SpecFault, bytes: &'a [u8]) -> Result<S
 {
     let mut lines = Lines::new(alloc);
     add_specification_line(&mut lines, fault)?;
-    let place = Place {
+    let broken = BrokenDocument {
         kind: DocumentKind::Specification,
-        flown: None,
+        spec: None,
         path: &fault.path,
         bytes,
     };
-    add_explanation(alloc, &mut lines, fault.rule, &place)?;
+    add_explanation(alloc, &mut lines, fault.rule, &broken)?;
     Ok(lines.into_text())
 }
 

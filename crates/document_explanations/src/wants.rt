@@ -1,7 +1,7 @@
 //! What is wanted, in words.
 
 ghost use Rattle.std.specs.Prelude.{◌≡◌, ◌++◌, OnOk, map, option_map};
-ghost use Rattle.document_explanations.specs.Wants.{factors_text, flown_factors, flown_procs, last_step, length_text, number_text, text_text, wanted_text};
+ghost use Rattle.document_explanations.specs.Wants.{factors_text, factors_of, procs_of, last_step, length_text, number_text, text_text, wanted_text};
 
 use crate::lines::Lines;
 use crate::listed::{
@@ -12,19 +12,19 @@ use app_model::table::Kind;
 use scram_types::limits::MAX_PROCESSORS;
 use scram_types::{Factor, NoMemory, Proc, Spec};
 
-/// Appends what is wanted, in a script for the specification `flown` where there is one.
+/// Appends what is wanted, in a script for the specification `spec` where there is one.
 ///
 /// # Errors
 ///
 /// Out of memory.
-pub fn add_wanted(lines: &mut Lines, flown: Option<&Spec>, wanted: Wanted) -> Result<(), NoMemory>
-    ensures { OnOk result (lines.new ≡ lines.old ++ wanted_text (option_map (λ s. s.now) flown.entry) wanted) }
+pub fn add_wanted(lines: &mut Lines, spec: Option<&Spec>, wanted: Wanted) -> Result<(), NoMemory>
+    ensures { OnOk result (lines.new ≡ lines.old ++ wanted_text (option_map (λ s. s.now) spec.entry) wanted) }
 {
     match wanted {
         Wanted::Object(object) => add_listed::<Member, MemberText>(lines, members_of(object)),
         Wanted::List { length, element: _ } => add_length(lines, length),
-        Wanted::Number(number) => add_number(lines, flown, &number),
-        Wanted::Text(text) => add_text(lines, flown, text),
+        Wanted::Number(number) => add_number(lines, spec, &number),
+        Wanted::Text(text) => add_text(lines, spec, text),
     }
 }
 
@@ -48,8 +48,8 @@ fn add_length(lines: &mut Lines, length: Length) -> Result<(), NoMemory>
     }
 }
 
-fn add_number(lines: &mut Lines, flown: Option<&Spec>, number: &Number) -> Result<(), NoMemory>
-    ensures { OnOk result (lines.new ≡ lines.old ++ number_text (option_map (λ s. s.now) flown.entry) number.now) }
+fn add_number(lines: &mut Lines, spec: Option<&Spec>, number: &Number) -> Result<(), NoMemory>
+    ensures { OnOk result (lines.new ≡ lines.old ++ number_text (option_map (λ s. s.now) spec.entry) number.now) }
 {
     match number {
         Number::SpecificationVersion => lines.push("1, 2 or 3"),
@@ -70,13 +70,13 @@ fn add_number(lines: &mut Lines, flown: Option<&Spec>, number: &Number) -> Resul
         }
         Number::Step => {
             lines.push("0 to ")?;
-            lines.number(last_step(flown))
+            lines.number(last_step(spec))
         }
     }
 }
 
-fn add_text(lines: &mut Lines, flown: Option<&Spec>, text: Text) -> Result<(), NoMemory>
-    ensures { OnOk result (lines.new ≡ lines.old ++ text_text (option_map (λ s. s.now) flown.entry) text) }
+fn add_text(lines: &mut Lines, spec: Option<&Spec>, text: Text) -> Result<(), NoMemory>
+    ensures { OnOk result (lines.new ≡ lines.old ++ text_text (option_map (λ s. s.now) spec.entry) text) }
 {
     match text {
         Text::Name => lines.push("a name, 1 to 16 of a-z 0-9 _, a letter first"),
@@ -90,8 +90,8 @@ fn add_text(lines: &mut Lines, flown: Option<&Spec>, text: Text) -> Result<(), N
         Text::Mode => add_listed::<Kind, ModesText>(lines, kinds()),
         Text::Variable => add_listed::<Kind, VariablesText>(lines, kinds()),
         Text::Policy => lines.push("retarget or settle"),
-        Text::FlownFactor => add_factors(lines, flown_factors(flown)),
-        Text::FlownProcessor => add_listed::<Proc, ProcText>(lines, flown_procs(flown)),
+        Text::ScriptFactor => add_factors(lines, factors_of(spec)),
+        Text::ScriptProcessor => add_listed::<Proc, ProcText>(lines, procs_of(spec)),
     }
 }
 
@@ -105,28 +105,28 @@ fn add_factors(lines: &mut Lines, factors: &[Factor]) -> Result<(), NoMemory>
     }
 }
 
-fn flown_factors(flown: Option<&Spec>) -> &[Factor]
-    ensures { result.now ≡ flown_factors (option_map (λ s. s.now) flown.entry) }
+fn factors_of(spec: Option<&Spec>) -> &[Factor]
+    ensures { result.now ≡ factors_of (option_map (λ s. s.now) spec.entry) }
 {
-    match flown {
+    match spec {
         Some(spec) => spec.factors.items(),
         None => &[],
     }
 }
 
-fn flown_procs(flown: Option<&Spec>) -> &[Proc]
-    ensures { result.now ≡ flown_procs (option_map (λ s. s.now) flown.entry) }
+fn procs_of(spec: Option<&Spec>) -> &[Proc]
+    ensures { result.now ≡ procs_of (option_map (λ s. s.now) spec.entry) }
 {
-    match flown {
+    match spec {
         Some(spec) => spec.procs.items(),
         None => &[],
     }
 }
 
-fn last_step(flown: Option<&Spec>) -> usize
-    ensures { result ≡ last_step (option_map (λ s. s.now) flown.entry) }
+fn last_step(spec: Option<&Spec>) -> usize
+    ensures { result ≡ last_step (option_map (λ s. s.now) spec.entry) }
 {
-    match flown {
+    match spec {
         Some(spec) => 8 * spec.apps.items().len() + 1,
         None => 0,
     }

@@ -1,0 +1,70 @@
+-- Worked examples of what is wanted and of what was found: computed, and compared with what they say.
+use Rattle.std.proofs.Common.{◌≡◌, ℕ, List, [], ◌∷◌, ◌++◌, Some, None, refl, decimal}
+use Rattle.std.specs.Option.{option_map_or}
+use Rattle.std.specs.Prelude.{codes, neg_ℤ, pos}
+use Rattle.serde_json.specs.Data.{Members, array, member, no_items, no_members, number, object, string, unsigned}
+use Rattle.document_explanations.specs.Found.{found_at, further_names}
+use Rattle.document_explanations.specs.Objects.{list, signed, texts, whole}
+use Rattle.document_explanations.specs.Paths.{value_at, wanted_at}
+use Rattle.document_explanations.specs.Wants.{wanted_text}
+use Rattle.document_explanations.specs.declared.objects.Element.TheVariants as element
+use Rattle.document_explanations.specs.declared.objects.Object.TheVariants as object_kind
+use Rattle.document_explanations.specs.declared.objects.Text.TheVariants as text
+use Rattle.document_explanations.specs.declared.rules.DocumentKind.{DocumentKind}
+use Rattle.document_explanations.specs.declared.rules.DocumentKind.TheVariants.{Specification, Script}
+
+-- what is wanted at a path of a document where a rule is broken
+abbrev wanted_in : DocumentKind → ℕ → List ℕ → List ℕ
+wanted_in kind rule path = option_map_or (wanted_text None) (wanted_at kind rule path) []
+
+place_on : wanted_in Specification 7 (codes ".configurations.0.apps.1.on") ≡ codes "the name of a processor"
+place_on = refl
+
+any_conf : wanted_in Specification 17 (codes ".rules.63.from") ≡ codes "the name of a configuration, or *"
+any_conf = refl
+
+bound : wanted_at Specification 8 (codes ".bounds.143.frames") ≡ Some (whole 1 1000)
+bound = refl
+
+interval_end : wanted_at Specification 8 (codes ".preconditions.0.least") ≡ Some (signed (neg_ℤ (pos 1000000000)) (pos 1000000000))
+interval_end = refl
+
+phase : wanted_at Specification 8 (codes ".apps.0.modes.2.init") ≡ Some (whole 1 16)
+phase = refl
+
+values : wanted_at Specification 6 (codes ".factors.5.values") ≡ Some (list 2 4 (element.Text text.Name))
+values = refl
+
+required_processors : wanted_at Specification 6 (codes ".demands.3.down") ≡ Some (texts 8 text.Processor)
+required_processors = refl
+
+modes : wanted_in Specification 13 (codes ".demands.0.on.0.modes.1")
+    ≡ codes "autopilot: navigate hold, flight_control: augmented direct, power_monitor: normal saver essential, navigator: route coarse, " ++
+    codes "datalink: fast slow, task: full reduced minimal"
+modes = refl
+
+-- where a member is missing, that of its object
+name_missing : wanted_in Specification 3 (codes ".factors.1.name") ≡ codes "name, values"
+name_missing = refl
+
+restarts_missing : wanted_in Script 3 (codes ".restarts") ≡ codes "scram, frames, changes, halts, restarts where scram is 2"
+restarts_missing = refl
+
+halts : wanted_in Script 6 (codes ".halts") ≡ codes "0 to " ++ decimal 8 ++ codes " elements, 0 to " ++ decimal 16 ++ codes " where scram is 2"
+halts = refl
+
+-- a document of version 2, with members that are not known
+members : Members
+members = member (codes "demands") (array no_items) (member (codes "extra") (number (unsigned 1)) (member (codes "policy") (string (codes "settle")) (member (codes "scram") (number (unsigned 2)) no_members)))
+
+further : further_names (object members) object_kind.Specification members ≡ codes "demands" ∷ codes "extra" ∷ []
+unfolding members
+further = refl
+
+policy : value_at (codes ".policy") (object members) ≡ Some (string (codes "settle"))
+unfolding members
+policy = refl
+
+elements : found_at Specification 6 (codes ".demands") (object members) ≡ decimal 0 ++ codes " elements"
+unfolding members
+elements = refl
