@@ -70,3 +70,38 @@ dots_by false text short is shown other =
 -- a text that has more
 pub cut_dots : (text short : List ℕ) → short ≡ take_chars 60 text → (length short ≡ length text → ⊥) → cut text ≡ short ++ codes ".."
 cut_dots text short shown other = dots_by (nat_lt 60 (char_count text)) text short refl shown other
+
+-- a byte that begins no character, or one of the first n characters
+counted_start : (none : Bool) (n b : ℕ) (text : List ℕ) → (n == 0) ≡ none → is_char_start b ≡ true → ((m : ℕ) → char_count (take_chars m text) ≤ m)
+    → char_count (cond none [] (b ∷ take_chars (n - 1) text)) ≤ n
+unfolding char_count
+counted_start true n b text is start few = omega arith
+counted_start false n b text is start few = rw start (omega (arith, few (n - 1), eqb-false n 0 is))
+
+counted_at : (start : Bool) (n b : ℕ) (text : List ℕ) → is_char_start b ≡ start → ((m : ℕ) → char_count (take_chars m text) ≤ m)
+    → char_count (cond start (cond (n == 0) [] (b ∷ take_chars (n - 1) text)) (b ∷ take_chars n text)) ≤ n
+unfolding char_count
+counted_at true n b text is few = counted_start (n == 0) n b text refl is few
+counted_at false n b text is few = rw is (omega (arith, few n))
+
+few_characters : (n : ℕ) (text : List ℕ) → char_count (take_chars n text) ≤ n
+unfolding char_count take_chars
+few_characters n [] = omega arith
+few_characters n (b ∷ text) = counted_at (is_char_start b) n b text refl (λ m. few_characters m text)
+
+joined_characters : (a b : List ℕ) → char_count (a ++ b) ≡ char_count a + char_count b
+unfolding char_count
+joined_characters [] b = omega arith
+joined_characters (x ∷ a) b = ap (λ (n : ℕ). cond (is_char_start x) 1 0 + n) (joined_characters a b) ∙ omega arith
+
+two_dots : char_count (codes "..") ≡ 2
+unfolding char_count
+two_dots = refl
+
+short_by : (more : Bool) (text : List ℕ) → nat_lt 60 (char_count text) ≡ more → char_count (cond more (take_chars 60 text ++ codes "..") text) ≤ 62
+short_by true text is = omega (arith, joined_characters (take_chars 60 text) (codes ".."), few_characters 60 text, two_dots)
+short_by false text is = omega (arith, not_less 60 (char_count text) is)
+
+-- of a text at most 62 characters are shown
+pub short : (text : List ℕ) → char_count (cut text) ≤ 62
+short text = short_by (nat_lt 60 (char_count text)) text refl

@@ -1,11 +1,13 @@
 -- Worked examples of what is wanted and of what was found: computed, and compared with what they say.
 use Rattle.std.proofs.Common.{◌≡◌, ℕ, List, [], ◌∷◌, ◌++◌, Some, None, refl, decimal}
 use Rattle.std.specs.Option.{option_map_or}
-use Rattle.std.specs.Prelude.{codes, neg_ℤ, pos}
+use Rattle.std.specs.Prelude.{◌+◌, codes, is_some, neg_ℤ, pos, true}
+use Rattle.scram_types.specs.Searches.{all_below}
 use Rattle.serde_json.specs.Data.{Members, array, member, no_items, no_members, number, object, string, unsigned}
 use Rattle.document_explanations.specs.Found.{found_at, further_names}
 use Rattle.document_explanations.specs.Objects.{list, signed, texts, whole}
 use Rattle.document_explanations.specs.Paths.{value_at, wanted_at}
+use Rattle.document_explanations.specs.Rules.{broken_rule}
 use Rattle.document_explanations.specs.Wants.{wanted_text}
 use Rattle.document_explanations.specs.declared.objects.Element.TheVariants as element
 use Rattle.document_explanations.specs.declared.objects.Object.TheVariants as object_kind
@@ -68,3 +70,13 @@ policy = refl
 elements : found_at Specification 6 (codes ".demands") (object members) ≡ decimal 0 ++ codes " elements"
 unfolding members
 elements = refl
+
+-- each rule of both documents has its words
+specification_rules : all_below (λ (k : ℕ). is_some (broken_rule Specification (k + 1))) 25 ≡ true
+specification_rules = refl
+
+script_rules : all_below (λ (k : ℕ). is_some (broken_rule Script (k + 1))) 14 ≡ true
+script_rules = refl
+
+no_further_rules : (broken_rule Specification 26 ≡ None) × (broken_rule Script 15 ≡ None)
+no_further_rules = (refl, refl)

@@ -7,3 +7,4 @@ pub mod Joining
 pub mod Levels
 pub mod Listing
 pub mod Shown
+pub mod TablesRead

@@ -1,5 +1,6 @@
 pub mod Explanations
 pub mod Found
+pub mod Laws
 pub mod Objects
 pub mod Paths
 pub mod Rules

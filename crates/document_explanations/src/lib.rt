@@ -4,6 +4,7 @@
 pub mod explanations;
 mod first_lines;
 pub mod found;
+pub mod laws;
 pub mod lines;
 pub mod listed;
 mod long_documents;

@@ -1,0 +1,60 @@
+-- The members of the tables, counted by the versions of documents.
+use Rattle.std.proofs.Common.{◌≡◌, ℕ, Bool, true, false, List, [], ◌∷◌, ◌++◌, cond, length, Option, Some, None, option_and_then, refl, map}
+use Rattle.std.specs.Prelude.{◌==◌, ◌||◌, codes}
+use Rattle.serde_json.specs.Find.{as_number, as_u64, get}
+use Rattle.spec_members.specs.Versions.{first_members, has_demands, has_policy, has_version, is_version}
+use Rattle.fault_script.specs.Versions.{member_count, version_from}
+use Rattle.fault_script.specs.declared.version.Version.TheVariants.{First, Second}
+use Rattle.document_explanations.specs.Laws.{TablesAreRead}
+use Rattle.document_explanations.specs.Objects.{Member, later, objects}
+use Rattle.scram_types.specs.declared.limits.TheConstants.{MAX_DEMANDS, MAX_PROCESSORS}
+use Rattle.document_explanations.specs.declared.objects.Object.TheVariants as object
+use Rattle.document_explanations.specs.declared.objects.Text.TheVariants as text
+use Rattle.document_explanations.specs.declared.objects.Versions.TheVariants as versions
+use Rattle.document_explanations.specs.declared.objects.Wanted.TheVariants as wanted
+
+-- the last two members of a specification, where its version has them
+abbrev policy_member : Member
+policy_member = later (codes "policy") versions.SecondOn (wanted.Text text.Policy)
+
+abbrev demands_member : Member
+demands_member = later (codes "demands") versions.Third (objects 0 MAX_DEMANDS object.Demand)
+
+abbrev restarts_member : Member
+restarts_member = later (codes "restarts") versions.Second (objects 0 MAX_PROCESSORS object.Restart)
+
+abbrev last_names : Bool → Bool → List (List ℕ)
+last_names policy demands = map (λ (m : Member). m.name) (cond policy (policy_member ∷ cond demands (demands_member ∷ []) []) (cond demands (demands_member ∷ []) []))
+
+names_by : (policy demands : Bool) → first_members ++ last_names policy demands
+    ≡ first_members ++ cond policy (codes "policy" ∷ []) [] ++ cond demands (codes "demands" ∷ []) []
+names_by true true = refl
+names_by true false = refl
+names_by false true = refl
+names_by false false = refl
+
+count_by : (second third : Bool) → length (first_members ++ last_names (second || third) third) ≡ cond third 14 (cond (second || third) 13 12)
+count_by true true = refl
+count_by true false = refl
+count_by false true = refl
+count_by false false = refl
+
+-- the last member of a script, where its version has it
+abbrev script_names : Bool → List (List ℕ)
+script_names second =
+    codes "scram" ∷ codes "frames" ∷ codes "changes" ∷ codes "halts" ∷ map (λ (m : Member). m.name) (cond second (restarts_member ∷ []) [])
+
+script_at : (second : Bool) → length (script_names second) ≡ member_count (cond second Second First)
+script_at true = refl
+script_at false = refl
+
+script_by : (version : Option ℕ) → length (script_names (is_version 2 version)) ≡ member_count (version_from version)
+script_by None = refl
+script_by (Some n) = script_at (n == 2)
+
+pub tables_are_read : TablesAreRead
+tables_are_read = record {
+  specification = λ d. names_by (has_policy d) (has_demands d);
+  specification_count = λ d. count_by (has_version 2 d) (has_version 3 d);
+  script_count = λ d. script_by (option_and_then as_u64 (option_and_then as_number (get (codes "scram") d)));
+}

@@ -1,0 +1,26 @@
+-- What the table of members has in common with the readers of documents, and how much is shown of what was found.
+use Rattle.std.specs.Prelude.{◌≡◌, ◌≤◌, ℕ, List, [], ◌∷◌, ◌++◌, codes, length, map, if◌then◌else◌}
+use Rattle.std.specs.Fmt.{char_count}
+use Rattle.std.specs.List.{filter}
+use Rattle.serde_json.specs.Data.{Data}
+use Rattle.spec_members.specs.Versions.{first_members, has_demands, has_policy, members_count}
+use Rattle.fault_script.specs.Versions.{member_count, version_of}
+use Rattle.document_explanations.specs.Found.{cut, is_version_of}
+use Rattle.document_explanations.specs.Objects.{Member, members_of}
+use Rattle.document_explanations.specs.declared.objects.Object.{Object}
+use Rattle.document_explanations.specs.declared.objects.Object.TheVariants as object
+
+-- The names of the members that the table of an object has in the version of a document.
+abbrev pub names_of : Data → Object → List (List ℕ)
+names_of d object = map (λ (m : Member). m.name) (filter (λ (m : Member). is_version_of d m.versions) (members_of object))
+
+-- The table has the members that the readers ask for in the version of a document, in their order, and as many as they allow.
+pub record TablesAreRead : Type 0 where
+  pub specification : (d : Data) → names_of d object.Specification
+      ≡ first_members ++ (if has_policy d then codes "policy" ∷ [] else []) ++ (if has_demands d then codes "demands" ∷ [] else [])
+  pub specification_count : (d : Data) → length (names_of d object.Specification) ≡ members_count d
+  pub script_count : (d : Data) → length (names_of d object.Script) ≡ member_count (version_of d)
+
+-- Of what was found at most 62 characters are shown: 60, and two dots.
+abbrev pub FoundIsShort : Type 0
+FoundIsShort = (text : List ℕ) → char_count (cut text) ≤ 62
