@@ -8,4 +8,5 @@ pub mod Misses
 pub mod Needed
 pub mod Refusals
 pub mod ShownIn
+pub mod Standing
 pub mod WayRanges

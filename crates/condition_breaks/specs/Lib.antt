@@ -4,3 +4,4 @@ pub mod Ranges
 pub mod Breaks
 pub mod Shown
 pub mod Laws
+pub mod Complete
