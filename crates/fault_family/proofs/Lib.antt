@@ -1,6 +1,7 @@
 pub mod Cells
 pub mod Counting
 pub mod LaterFlights
+pub mod Mapped
 pub mod Members
 pub mod MemberScripts
 pub mod Numbered
