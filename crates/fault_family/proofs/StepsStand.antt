@@ -1,7 +1,6 @@
 -- A flight depends only on whether a processor halts before its mark or after it.
-use Rattle.std.proofs.Common.{◌≡◌, ◌∙◌, ℕ, zero, suc, ◌+◌, Bool, true, false, List, [], ◌∷◌, length, map, arith, ap, refl, sym}
+use Rattle.std.proofs.Common.{◌≡◌, ◌∙◌, ℕ, zero, suc, ◌+◌, Bool, true, false, length, arith, ap, refl, sym}
 use Rattle.std.specs.Prelude.{◌&&◌, not, nat_le, if◌then◌else◌}
-use Rattle.std.specs.List.{list_all, list_any}
 use Rattle.std.proofs.Math.Path.{fun_ext}
 use Rattle.std.proofs.lemmas.Bool.Decides.{nat_tests}
 use Rattle.scram_types.specs.Bits.{bits_below}
