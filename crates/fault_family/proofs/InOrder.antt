@@ -82,9 +82,6 @@ after_second a b d less =
     let below : nat_lt b d ≡ true = grind (arith, nat_tests, less) in
     or_right (nat_lt a a) (a == a && nat_lt b d) (rw (same, below) refl)
 
-made : ℕ → FaultKind → Fault
-made frame kind = record { frame = frame; kind = kind }
-
 -- In each frame a fault of one kind comes before one of another kind.
 KindBefore : FaultKind → FaultKind → Type 0
 KindBefore k l = (f : ℕ) → precedes (record { frame = f; kind = k }) (record { frame = f; kind = l }) ≡ true

@@ -49,15 +49,15 @@ module _ (spec : Parts) (d : ℕ) where
   same_age : (f since : ℕ) → d + f - (d + since) ≡ f - since
   same_age f since = omega arith
 
-  settled_later : (mode : KMode) (f : ℕ) → is_settled spec (mode_later d mode) (d + f) ≡ is_settled spec mode f
+  pub settled_later : (mode : KMode) (f : ℕ) → is_settled spec (mode_later d mode) (d + f) ≡ is_settled spec mode f
   settled_later (Stable c) f = refl
   settled_later (Moving from halting to since) f = rw (same_age f since) refl
 
-  phase_later : (mode : KMode) (f : ℕ) → phase_at spec (mode_later d mode) (d + f) ≡ phase_at spec mode f
+  pub phase_later : (mode : KMode) (f : ℕ) → phase_at spec (mode_later d mode) (d + f) ≡ phase_at spec mode f
   phase_later (Stable c) f = refl
   phase_later (Moving from halting to since) f = ap (moving_phase spec halting to) (same_age f since)
 
-  target_later : (mode : KMode) → target (mode_later d mode) ≡ target mode
+  pub target_later : (mode : KMode) → target (mode_later d mode) ≡ target mode
   target_later (Stable c) = refl
   target_later (Moving from halting to since) = refl
 
@@ -81,7 +81,7 @@ module _ (spec : Parts) (d : ℕ) where
   leave_later : (c t : ConfId) (f : ℕ) → leave_for c t (d + f) ≡ mode_later d (leave_for c t f)
   leave_later c t f = mode_where (t.0 == c.0) (Stable c) (Moving c (Some c) t f)
 
-  decision_later : (mode : KMode) (f : ℕ) (settled arrived : Bool) (v : Env) → decision spec (d + f) (mode_later d mode) settled arrived v ≡ mode_later d (decision spec f mode settled arrived v)
+  pub decision_later : (mode : KMode) (f : ℕ) (settled arrived : Bool) (v : Env) → decision spec (d + f) (mode_later d mode) settled arrived v ≡ mode_later d (decision spec f mode settled arrived v)
   decision_later (Stable c) f settled arrived v = leave_later c (choose spec c v) f
   decision_later (Moving from halting to since) f settled true v = leave_later to (choose spec to v) f
   decision_later (Moving from halting to since) f settled false v = moving_later f from halting to since settled (wanted spec.policy spec from to v)
@@ -197,18 +197,18 @@ all_run spec is c =
     let few = is.apps_count.few in
     ap (is_run_by (place_of spec c a)) (eight_at (λ b. act_after (λ p. true) (task_in spec (Running c) b)) a Off (omega (arith, inside, few))) ∙ run_by_place (place_of spec c a))
 
-quiet_ended : (spec : Parts) (c : ConfId) (f : ℕ) (rows : List Row) → Each (λ (row : Row). runs spec row.acts c ≡ true) rows → ended_in spec (Steady c) f rows ≡ []
+pub quiet_ended : (spec : Parts) (c : ConfId) (f : ℕ) (rows : List Row) → Each (λ (row : Row). runs spec row.acts c ≡ true) rows → ended_in spec (Steady c) f rows ≡ []
 quiet_ended spec c f [] run = refl
 quiet_ended spec c f (row ∷ rows) run = rw (run 0 row refl) (quiet_ended spec c (suc f) rows (λ i r there. run (suc i) r there))
 
-quiet_reading : (spec : Parts) (c : ConfId) (f : ℕ) (rows : List Row) → Each (λ (row : Row). runs spec row.acts c ≡ true) rows → reading_after spec (Steady c) f rows ≡ Steady c
+pub quiet_reading : (spec : Parts) (c : ConfId) (f : ℕ) (rows : List Row) → Each (λ (row : Row). runs spec row.acts c ≡ true) rows → reading_after spec (Steady c) f rows ≡ Steady c
 quiet_reading spec c f [] run = refl
 quiet_reading spec c f (row ∷ rows) run = rw (run 0 row refl) (quiet_reading spec c (suc f) rows (λ i r there. run (suc i) r there))
 
 -- reading rows later
 
 module _ (spec : Parts) (d : ℕ) where
-  reading_later : Reading → Reading
+  unfoldable pub reading_later : Reading → Reading
   reading_later (Steady c) = Steady c
   reading_later (Leaving c begin) = Leaving c (d + begin)
 
@@ -235,12 +235,12 @@ module _ (spec : Parts) (d : ℕ) where
   report_of_later (Steady c) f acts = refl
   report_of_later (Leaving c begin) f acts = arrival_later c begin f (running spec acts)
 
-  close_later : (r : Reading) (frames : ℕ) → as_list (close (reading_later r) (d + frames)) ≡ map (report_later d) (as_list (close r frames))
+  pub close_later : (r : Reading) (frames : ℕ) → as_list (close (reading_later r) (d + frames)) ≡ map (report_later d) (as_list (close r frames))
   unfolding reading_later
   close_later (Steady c) frames = refl
   close_later (Leaving c begin) frames = refl
 
-  acts_of : Row → List Act
+  unfoldable pub acts_of : Row → List Act
   acts_of row = row.acts
 
   first_acts : List (List Act) → List Act
@@ -251,7 +251,7 @@ module _ (spec : Parts) (d : ℕ) where
   rest_acts [] = []
   rest_acts (acts ∷ all) = all
 
-  ended_later : (r : Reading) (f : ℕ) (later rows : List Row) → map acts_of later ≡ map acts_of rows → ended_in spec (reading_later r) (d + f) later ≡ map (report_later d) (ended_in spec r f rows)
+  pub ended_later : (r : Reading) (f : ℕ) (later rows : List Row) → map acts_of later ≡ map acts_of rows → ended_in spec (reading_later r) (d + f) later ≡ map (report_later d) (ended_in spec r f rows)
   unfolding acts_of first_acts rest_acts
   ended_later r f [] [] same = refl
   ended_later r f [] (row ∷ rows) same = absurd cc
@@ -265,7 +265,7 @@ module _ (spec : Parts) (d : ℕ) where
       ∙ ap (λ (rest : List Report). map (report_later d) (as_list (report_of spec r f row.acts)) ++ rest) (ended_later (read_row spec r f row.acts) (suc f) later rows (ap rest_acts same))
       ∙ sym (map-append (report_later d) (as_list (report_of spec r f row.acts)) (ended_in spec (read_row spec r f row.acts) (suc f) rows))
 
-  reading_after_later : (r : Reading) (f : ℕ) (later rows : List Row) → map acts_of later ≡ map acts_of rows → reading_after spec (reading_later r) (d + f) later ≡ reading_later (reading_after spec r f rows)
+  pub reading_after_later : (r : Reading) (f : ℕ) (later rows : List Row) → map acts_of later ≡ map acts_of rows → reading_after spec (reading_later r) (d + f) later ≡ reading_later (reading_after spec r f rows)
   unfolding acts_of first_acts rest_acts
   reading_after_later r f [] [] same = refl
   reading_after_later r f [] (row ∷ rows) same = absurd cc
@@ -279,7 +279,7 @@ module _ (spec : Parts) (d : ℕ) where
 
 -- lists of rows
 
-listed_parts : {A : Type 0} (value : ℕ → A) (d n : ℕ) → listed_below value (d + n) ≡ listed_below value d ++ listed_below (λ k. value (d + k)) n
+pub listed_parts : {A : Type 0} (value : ℕ → A) (d n : ℕ) → listed_below value (d + n) ≡ listed_below value d ++ listed_below (λ k. value (d + k)) n
 listed_parts value d zero = let none : d + 0 ≡ d = omega arith in ap (listed_below value) none ∙ sym (append-nil (listed_below value d))
 listed_parts value d (suc n) =
     let next : d + suc n ≡ suc (d + n) = omega arith in
@@ -287,11 +287,11 @@ listed_parts value d (suc n) =
     ∙ ap (λ front. front ++ value (d + n) ∷ []) (listed_parts value d n)
     ∙ append_assoc (listed_below value d) (listed_below (λ k. value (d + k)) n) (value (d + n) ∷ [])
 
-map_listed : {A B : Type 0} (g : A → B) (value : ℕ → A) (n : ℕ) → map g (listed_below value n) ≡ listed_below (λ k. g (value k)) n
+pub map_listed : {A B : Type 0} (g : A → B) (value : ℕ → A) (n : ℕ) → map g (listed_below value n) ≡ listed_below (λ k. g (value k)) n
 map_listed g value zero = refl
 map_listed g value (suc n) = map-append g (listed_below value n) (value n ∷ []) ∙ ap (λ front. front ++ g (value n) ∷ []) (map_listed g value n)
 
-each_listed : {A : Type 0} (P : A → Type 0) (value : ℕ → A) (n : ℕ) → ((k : ℕ) → k < n → P (value k)) → Each P (listed_below value n)
+pub each_listed : {A : Type 0} (P : A → Type 0) (value : ℕ → A) (n : ℕ) → ((k : ℕ) → k < n → P (value k)) → Each P (listed_below value n)
 each_listed P value n holds i x there = let at = stands_listed value n x (i, there) in subst P at.2 (holds at.0 at.1)
 
 module _ (spec : Parts) (d : ℕ) (script : ScriptParts) (is : IsSpec spec) (accepts : Accepts spec) (fits : Fits spec script) where

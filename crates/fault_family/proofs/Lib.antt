@@ -1,10 +1,13 @@
 pub mod Cells
 pub mod Counting
-pub mod LaterFlights
-pub mod Members
-pub mod MemberScripts
-pub mod Numbered
 pub mod InOrder
 pub mod Joined
+pub mod LaterFlights
+pub mod Mapped
+pub mod Members
+pub mod MemberScripts
+pub mod Moving
+pub mod Numbered
+pub mod RestingFlights
 pub mod Shifting
 pub mod StepsStand

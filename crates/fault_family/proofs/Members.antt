@@ -3,7 +3,7 @@ use Rattle.std.proofs.Common.{◌≡◌, ◌∙◌, ℕ, zero, suc, ◌+◌, ◌
 use mathlib.Core.Logic.{inl, inr}
 use Rattle.std.specs.Prelude.{◌⊎◌, Some, None, Option, flat_map, is_none, slice_get, if◌then◌else◌}
 use Rattle.std.specs.Option.{option_map_or}
-use Rattle.std.proofs.lemmas.Option.{same_Some}
+use Rattle.std.proofs.lemmas.Option.{same_Some, slice_get_within}
 use Rattle.scram_types.specs.declared.specification.Factor.{Factor}
 use Rattle.scram_types.specs.Lookups.{factor_id, proc_id}
 use Rattle.scram_types.specs.Specification.{Parts}
@@ -66,11 +66,6 @@ module _ (spec : Parts) where
     | inr restart ↦ is_restart kind restart
   ]
 
-  within_list : {A : Type 0} (xs : List A) (i : ℕ) (x : A) → slice_get xs i ≡ Some x → i < length xs
-  within_list [] i x there = absurd cc
-  within_list (y ∷ xs) zero x there = omega arith
-  within_list (y ∷ xs) (suc i) x there = let rest = within_list xs i x there in omega (arith, rest)
-
   kind_is : (kind : FaultKind) → IsKind spec kind → Stands (kinds_of spec) kind
   kind_is (Change factor value) is =
       let changes = flat_map (changes_of spec) (numbers_below (length spec.factors)) in
@@ -78,7 +73,7 @@ module _ (spec : Parts) where
       stands_left (changes ++ halts) (restarts_of spec) (Change factor value)
       (stands_left changes halts (Change factor value)
       (in_part_stands (changes_of spec) (numbers_below (length spec.factors)) factor.0 (Change factor value)
-      (listed_stands (λ k. k) (length spec.factors) factor.0 (within_list spec.factors factor.0 is.is is.there))
+      (listed_stands (λ k. k) (length spec.factors) factor.0 (slice_get_within spec.factors factor.0 is.is is.there))
       (listed_stands (λ number. Change (factor_id factor.0) number) (values_of spec factor.0) value (some_values (slice_get spec.factors factor.0) is.is value is.there is.below))))
   kind_is (Halt proc step) is =
       let changes = flat_map (changes_of spec) (numbers_below (length spec.factors)) in
@@ -133,9 +128,6 @@ module _ (spec : Parts) where
 
   -- candidates
 
-  made : ℕ → FaultKind → Fault
-  made frame kind = record { frame = frame; kind = kind }
-
   is_candidate : (before : List Fault) (fault : Fault) → Stands (candidates spec before) fault → IsKind spec fault.kind × IsNear spec (last_of before) fault.frame
   is_candidate before fault stands =
       let part = stands_in_part (faults_in spec) (frames_after spec before) fault stands in
@@ -159,7 +151,7 @@ module _ (spec : Parts) where
   is_within_is : (faults : List Fault) → IsWithin spec (script_of spec faults) → is_within spec (script_of spec faults) ≡ true
   is_within_is faults within = rw ((leaves_nowhere spec (script_of spec faults)).nowhere within) refl
 
-  -- A script goes on from these faults by so many more.
+  -- A script goes on from these faults by a number of further ones.
   pub record GoesOn (more : ℕ) (before faults : List Fault) : Type 0 where
     pub rest : List Fault
     pub parts : before ++ rest ≡ faults

@@ -2,7 +2,7 @@
 use Rattle.std.proofs.Common.{◌≡◌, ◌∙◌, ℕ, zero, suc, ◌+◌, ◌-◌, ◌<◌, ◌≤◌, Bool, true, false, List, [], ◌∷◌, length, map, arith, ap, refl, sym, nat_lt}
 use mathlib.Core.Logic.{inl, inr}
 use Rattle.std.specs.Prelude.{◌&&◌, ◌==◌, not, nat_le, if◌then◌else◌}
-use Rattle.std.specs.List.{list_all, list_any}
+use Rattle.std.specs.List.{list_all}
 use Rattle.std.proofs.Math.Bool.{and-false}
 use Rattle.std.proofs.Math.Path.{fun_ext}
 use Rattle.std.proofs.lemmas.Bool.Decides.{nat_tests}
@@ -21,6 +21,7 @@ use Rattle.fault_script.specs.Environments.{env_at}
 use Rattle.fault_script.specs.Fits.{Fits}
 use Rattle.fault_script.specs.Times.{commits, factor_at, factors_at, halts_before_mark, is_halt_in, is_over, is_restart_between, is_up, restarted, value_after, words}
 use Rattle.fault_script.proofs.Halts.{up_by_lists}
+use Rattle.fault_family.proofs.Mapped.{all_mapped, any_mapped}
 use Rattle.fault_family.specs.Shifts.{LaterScriptsShowTheSame, later_by}
 
 lt_later : (d a b : ℕ) → nat_lt (d + a) (d + b) ≡ nat_lt a b
@@ -31,14 +32,6 @@ le_later d a b = grind (arith, nat_tests)
 
 equal_later : (d a b : ℕ) → (d + a == d + b) ≡ (a == b)
 equal_later d a b = grind (arith, nat_tests)
-
-all_moved : {A : Type 0} (test other : A → Bool) (f : A → A) → ((x : A) → other (f x) ≡ test x) → (xs : List A) → list_all other (map f xs) ≡ list_all test xs
-all_moved test other f same [] = refl
-all_moved test other f same (x ∷ xs) = rw (same x, all_moved test other f same xs) refl
-
-any_moved : {A : Type 0} (test other : A → Bool) (f : A → A) → ((x : A) → other (f x) ≡ test x) → (xs : List A) → list_any other (map f xs) ≡ list_any test xs
-any_moved test other f same [] = refl
-any_moved test other f same (x ∷ xs) = rw (same x, any_moved test other f same xs) refl
 
 equal_numbers : (n : ℕ) → (n == n) ≡ true
 equal_numbers n = grind (arith, nat_tests)
@@ -60,19 +53,19 @@ module _ (spec : Parts) (d : ℕ) (script : ScriptParts) where
 
   restarted_later : (p h f : ℕ) → restarted (later_by d script) p (d + h) (d + f) ≡ restarted script p h f
   restarted_later p h f =
-      any_moved (is_restart_between p h f) (is_restart_between p (d + h) (d + f)) (λ (restart : RestartAt). record { proc = restart.proc; frame = d + restart.frame })
+      any_mapped (is_restart_between p h f) (is_restart_between p (d + h) (d + f)) (λ (restart : RestartAt). record { proc = restart.proc; frame = d + restart.frame })
       (λ restart. rw (lt_later d h restart.frame, le_later d restart.frame f) refl) script.restarts
 
   pub up_later : (p f : ℕ) → is_up (later_by d script) p (d + f) ≡ is_up script p f
   up_later p f =
       sym (up_by_lists (later_by d script) p (d + f))
-      ∙ all_moved (is_over script p f) (is_over (later_by d script) p (d + f)) (λ (halt : HaltAt). record { proc = halt.proc; frame = d + halt.frame; step = halt.step })
+      ∙ all_mapped (is_over script p f) (is_over (later_by d script) p (d + f)) (λ (halt : HaltAt). record { proc = halt.proc; frame = d + halt.frame; step = halt.step })
       (λ halt. rw (lt_later d halt.frame f, restarted_later p halt.frame f) refl) script.halts
       ∙ up_by_lists script p f
 
   early_later : (p f : ℕ) → halts_before_mark spec (later_by d script) p (d + f) ≡ halts_before_mark spec script p f
   early_later p f =
-      any_moved (λ (halt : HaltAt). is_halt_in p f halt && nat_le halt.step (words spec)) (λ (halt : HaltAt). is_halt_in p (d + f) halt && nat_le halt.step (words spec))
+      any_mapped (λ (halt : HaltAt). is_halt_in p f halt && nat_le halt.step (words spec)) (λ (halt : HaltAt). is_halt_in p (d + f) halt && nat_le halt.step (words spec))
       (λ (halt : HaltAt). record { proc = halt.proc; frame = d + halt.frame; step = halt.step }) (λ halt. rw (equal_later d halt.frame f) refl) script.halts
 
   pub commits_later : (p f : ℕ) → commits spec (later_by d script) p (d + f) ≡ commits spec script p f

@@ -1,7 +1,6 @@
 -- A flight depends only on whether a processor halts before its mark or after it.
-use Rattle.std.proofs.Common.{◌≡◌, ◌∙◌, ℕ, zero, suc, ◌+◌, Bool, true, false, List, [], ◌∷◌, length, map, arith, ap, refl, sym}
+use Rattle.std.proofs.Common.{◌≡◌, ◌∙◌, ℕ, zero, suc, ◌+◌, Bool, true, false, length, arith, ap, refl, sym}
 use Rattle.std.specs.Prelude.{◌&&◌, not, nat_le, if◌then◌else◌}
-use Rattle.std.specs.List.{list_all, list_any}
 use Rattle.std.proofs.Math.Path.{fun_ext}
 use Rattle.std.proofs.lemmas.Bool.Decides.{nat_tests}
 use Rattle.scram_types.specs.Bits.{bits_below}
@@ -16,19 +15,12 @@ use Rattle.fault_script.proofs.Halts.{up_by_lists}
 use Rattle.frame_model.specs.Flights.{row_at, rows_of, state_after}
 use Rattle.frame_model.specs.Readings.{reports}
 use Rattle.frame_model.specs.States.{row_of, step}
+use Rattle.fault_family.proofs.Mapped.{all_mapped, any_mapped}
 use Rattle.fault_family.specs.Standing.{ListedStepsStand, listed_halt, with_listed_steps}
 
 same_side : (w step : ℕ) (b : Bool) → nat_le step w ≡ b → nat_le (if b then 0 else w + 1) w ≡ b
 same_side w step true is = grind (arith, nat_tests)
 same_side w step false is = grind (arith, nat_tests)
-
-all_mapped : {A : Type 0} (test other : A → Bool) (f : A → A) → ((x : A) → other (f x) ≡ test x) → (xs : List A) → list_all other (map f xs) ≡ list_all test xs
-all_mapped test other f same [] = refl
-all_mapped test other f same (x ∷ xs) = rw (same x, all_mapped test other f same xs) refl
-
-any_mapped : {A : Type 0} (test other : A → Bool) (f : A → A) → ((x : A) → other (f x) ≡ test x) → (xs : List A) → list_any other (map f xs) ≡ list_any test xs
-any_mapped test other f same [] = refl
-any_mapped test other f same (x ∷ xs) = rw (same x, any_mapped test other f same xs) refl
 
 module _ (spec : Parts) (script : ScriptParts) where
   same_up : (p f : ℕ) → is_up script p f ≡ is_up (with_listed_steps spec script) p f

@@ -23,12 +23,12 @@ differs_in script frame (Restart proc) = list_any (is_halt_before proc.0 frame) 
 abbrev pub may_follow : Parts → List Fault → Fault → Bool
 may_follow spec before fault = list_all (may_come_after fault) before && differs_in (script_of spec before) fault.frame fault.kind
 
--- The scripts that begin with these faults and have so many more, in order.
+-- The scripts that begin with these faults and have a number of further ones, in order.
 abbrev pub extended : Parts → ℕ → List Fault → List (List Fault)
 extended spec zero before = if is_within spec (script_of spec before) then before ∷ [] else []
 extended spec (suc more) before =
     flat_map (λ (fault : Fault). if may_follow spec before fault then extended spec more (before ++ fault ∷ []) else []) (candidates spec before)
 
--- The scripts with so many faults that keep to the assumption, in order.
+-- The scripts with this number of faults that keep to the assumption, in order.
 abbrev pub family : Parts → ℕ → List (List Fault)
 family spec count = extended spec count []

@@ -51,8 +51,8 @@ abbrev pub Follow : Parts → List Fault → List Fault → Type 0
 Follow spec before [] = ⊤
 Follow spec before (fault ∷ faults) = IsNext spec before fault × Follow spec (before ++ fault ∷ []) faults
 
--- These faults make a script of the family: they are so many, each follows those before it, and their script keeps to
--- the failure assumption.
+-- These faults make a script of the family: they have this number, each follows those before it, and their script keeps
+-- to the failure assumption.
 pub record IsMember (spec : Parts) (count : ℕ) (faults : List Fault) : Type 0 where
   pub many : length faults ≡ count
   pub follow : Follow spec [] faults
@@ -73,7 +73,8 @@ FamiliesHaveMembers = (spec : Parts) (count : ℕ) (faults : List Fault) → Has
 
 -- The script of a member fits the specification.
 abbrev pub MembersFit : Type 0
-MembersFit = (spec : Parts) (count : ℕ) (faults : List Fault) → IsSpec spec → count ≤ 3 → IsMember spec count faults → Fits spec (script_of spec faults)
+MembersFit = (spec : Parts) (count : ℕ) (faults : List Fault) → IsSpec spec → count ≤ 3 → IsMember spec count faults
+    → Fits spec (script_of spec faults)
 
 -- One script comes before another: where the first faults differ, by these.
 pub data ComesFirst : List Fault → List Fault → Type 0 where

@@ -3,6 +3,7 @@ pub mod Families
 pub mod Faults
 pub mod Laws
 pub mod NextFaults
+pub mod Rests
 pub mod Scripts
 pub mod Standing
 pub mod Shifts

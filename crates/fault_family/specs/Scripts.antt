@@ -43,7 +43,7 @@ halt_of fault = halt_in fault.frame fault.kind
 abbrev pub restart_of : Fault → Option RestartAt
 restart_of fault = restart_in fault.frame fault.kind
 
--- The script of so many frames in which these faults come.
+-- The script of a number of frames in which these faults come.
 abbrev pub script_in : ℕ → List Fault → ScriptParts
 script_in frames faults = record {
   frames = frames;

@@ -54,4 +54,5 @@ pub record HasFlightLater (spec : Parts) (d : ℕ) (script later : ScriptParts) 
 
 -- Of an accepted specification, a script in which everything comes later has the same flight, that much later.
 abbrev pub LaterScriptsFlyTheSame : Type 0
-LaterScriptsFlyTheSame = (spec : Parts) (d : ℕ) (script : ScriptParts) → IsSpec spec → Accepts spec → Fits spec script → HasFlightLater spec d script (later_by d script)
+LaterScriptsFlyTheSame = (spec : Parts) (d : ℕ) (script : ScriptParts) → IsSpec spec → Accepts spec → Fits spec script
+    → HasFlightLater spec d script (later_by d script)

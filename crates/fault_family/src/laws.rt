@@ -1,6 +1,7 @@
 //! What the family of fault scripts has: each function's contract is a law.
 
 ghost use Rattle.fault_family.specs.Laws.{FamiliesAreOrdered, FamiliesHaveMembers, MembersFit};
+ghost use Rattle.fault_family.specs.Rests.{RestsMayBeLonger};
 ghost use Rattle.fault_family.specs.Shifts.{LaterScriptsFlyTheSame, LaterScriptsShowTheSame};
 ghost use Rattle.fault_family.specs.Standing.{ListedStepsStand};
 
@@ -37,4 +38,10 @@ pub fn later_scripts_show_the_same()
 /// much later, and the same acts and modes in its rows. Worlds and areas may differ.
 pub fn later_scripts_fly_the_same()
     ensures { LaterScriptsFlyTheSame }
+{}
+
+/// Where a flight is at rest, it does not matter for how long: a script in which everything from then on comes some frames
+/// later has the same flight up to there, and from there on the same reconfigurations, that much later.
+pub fn rests_may_be_longer()
+    ensures { RestsMayBeLonger }
 {}

@@ -10,6 +10,7 @@ use Rattle.form_base.specs.Assurance.{OfSpecification}
 use Rattle.form_base.specs.Lines.{shown_line}
 use Rattle.form_base.specs.Specifications.{AsksSpecification}
 use Rattle.faults_form.specs.declared.counts.FaultCount.{FaultCount}
+use Rattle.faults_form.specs.declared.forms.Family.{Family}
 use Rattle.faults_form.specs.Counts.{number}
 use Rattle.faults_form.specs.Families.{family_text}
 
@@ -18,15 +19,17 @@ abbrev pub faults_answer : Parts → FaultCount → Option Shown → ℕ × List
 faults_answer spec count (Some shown) = (NOT_ACCEPTED, shown_line spec shown)
 faults_answer spec count None = (ANSWERED, family_text spec (number count))
 
--- The text has the family of the specification.
-abbrev pub TellsFamily : FaultCount → Parts → ℕ → List ℕ → Type 0
-TellsFamily count spec = Gives (ANSWERED, family_text spec (number count))
+-- The text has the family that is asked for.
+abbrev pub TellsFamily : Family → ℕ → List ℕ → Type 0
+TellsFamily asked = Gives (ANSWERED, family_text asked.spec (number asked.count))
 
 -- The answer to `faults`, the name of a specification's file and a number of faults.
 abbrev pub FaultsAnswers : List ℕ → FaultCount → Answer
-FaultsAnswers specification count = AsksSpecification specification (λ (spec : Parts). WithoutFiles (Gives (faults_answer spec count (first_refusal spec))))
+FaultsAnswers specification count =
+    AsksSpecification specification (λ (spec : Parts). WithoutFiles (Gives (faults_answer spec count (first_refusal spec))))
 
 -- Where `faults` ends with status 0, no other file was read, the specification is accepted, and the text has its family.
 abbrev pub AssuresFaults : List ℕ → FaultCount → History → List ℕ → Type 0
 AssuresFaults specification count =
-    OfSpecification specification (λ (spec : Parts) (reads : History) (text : List ℕ). (reads ≡ []) × Accepts spec × (text ≡ family_text spec (number count)))
+    OfSpecification specification (λ (spec : Parts) (reads : History) (text : List ℕ).
+    (reads ≡ []) × Accepts spec × (text ≡ family_text spec (number count)))

@@ -12,4 +12,5 @@ number Three = 3
 -- The number of faults that a word spells.
 abbrev pub fault_count : List ℕ → Option FaultCount
 fault_count word =
-    if bytes_eq word (codes "1") then Some One else (if bytes_eq word (codes "2") then Some Two else (if bytes_eq word (codes "3") then Some Three else None))
+    if bytes_eq word (codes "1") then Some One
+    else (if bytes_eq word (codes "2") then Some Two else (if bytes_eq word (codes "3") then Some Three else None))

@@ -6,7 +6,7 @@ use Rattle.fault_family.specs.Families.{extended, family, may_follow}
 use Rattle.fault_family.specs.Scripts.{is_within, script_of}
 use Rattle.faults_form.specs.Lines.{script_line}
 
--- The lines of the scripts that begin with these faults and have so many more, in order.
+-- The lines of the scripts that begin with these faults and have a number of further ones, in order.
 abbrev pub extended_text : Parts → ℕ → List Fault → List ℕ
 extended_text spec more before = flat_map (script_line spec) (extended spec more before)
 
@@ -14,10 +14,10 @@ extended_text spec more before = flat_map (script_line spec) (extended spec more
 abbrev pub within_text : Parts → List Fault → List ℕ
 within_text spec faults = if is_within spec (script_of spec faults) then script_line spec faults else []
 
--- The lines of the scripts with so many faults, in order.
+-- The lines of the scripts with this number of faults, in order.
 abbrev pub family_text : Parts → ℕ → List ℕ
 family_text spec count = flat_map (script_line spec) (family spec count)
 
--- The lines of the scripts that begin with these faults, then have this one, and then so many more, in order.
+-- The lines of the scripts that begin with these faults, then have this one, and then a number of further ones, in order.
 abbrev pub branch_text : Parts → ℕ → List Fault → Fault → List ℕ
 branch_text spec more before fault = if may_follow spec before fault then extended_text spec more (before ++ fault ∷ []) else []

@@ -36,7 +36,8 @@ listed_text later (text ∷ texts) = comma_if later ++ (text ++ listed_text true
 -- The restarts and the version: the first one where there are no restarts, and else the second.
 abbrev pub version_text : Parts → List RestartAt → List ℕ
 version_text spec [] = codes ",\"scram\":1}"
-version_text spec (restart ∷ restarts) = codes ",\"restarts\":[" ++ (listed_text false (map (restart_text spec) (restart ∷ restarts)) ++ codes ",\"scram\":2}")
+version_text spec (restart ∷ restarts) =
+    codes ",\"restarts\":[" ++ (listed_text false (map (restart_text spec) (restart ∷ restarts)) ++ codes ",\"scram\":2}")
 
 -- A script.
 abbrev pub spelled_script : Parts → ScriptParts → List ℕ

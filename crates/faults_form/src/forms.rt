@@ -35,6 +35,13 @@ pub struct FaultsQuestion<'a> {
     pub count: FaultCount,
 }
 
+/// An accepted specification, and how many faults each script of its family has.
+#[derive(Drop)]
+struct Family {
+    spec: Accepted,
+    count: FaultCount,
+}
+
 /// Prints the family of fault scripts of the specification in a file, a line each, where the specification is accepted.
 /// All memory is allocated before the first line.
 pub fn faults<F: Files, K: Sink>(
@@ -43,12 +50,13 @@ pub fn faults<F: Files, K: Sink>(
     files: &mut F,
     out: &mut K,
 ) -> Status
-    ensures { Ends (FaultsAnswers question.entry.specification.now question.entry.count) (question.entry.specification.now ∷ []) (F.state files.old) (F.state files.new) (IsTaken (K.state out.old) (K.state out.new) result.code) }
+    ensures { Ends (FaultsAnswers question.entry.specification.now question.entry.count) (question.entry.specification.now ∷ [])
+        (F.state files.old) (F.state files.new) (IsTaken (K.state out.old) (K.state out.new) result.code) }
 {
-    match read_accepted(alloc, question, files) {
-        Ok(accepted) => {
-            let put = put_family(out, accepted.spec(), question.count);
-            drop(accepted);
+    match read_family(alloc, question, files) {
+        Ok(family) => {
+            let put = put_family(out, family.spec.spec(), family.count);
+            drop(family);
             status_after(put, ANSWERED)
         }
         Err(refusal) => tell_refusal(out, &refusal),
@@ -56,25 +64,25 @@ pub fn faults<F: Files, K: Sink>(
 }
 
 /// Reads the specification, and accepts it.
-fn read_accepted<F: Files>(
+fn read_family<F: Files>(
     alloc: Global,
     question: FaultsQuestion<'_>,
     files: &mut F,
-) -> Result<Accepted, Refusal>
-    ensures { Prepares (FaultsAnswers question.entry.specification.now question.entry.count) (TellsFamily question.entry.count) (question.entry.specification.now ∷ []) (F.state files.old) (F.state files.new) result }
+) -> Result<Family, Refusal>
+    ensures { Prepares (FaultsAnswers question.entry.specification.now question.entry.count) TellsFamily
+        (question.entry.specification.now ∷ []) (F.state files.old) (F.state files.new) result }
 {
     match load(alloc, &Specification, question.specification, files) {
-        Ok(spec) => accept_for(alloc, spec, question.count),
+        Ok(spec) => find_family(alloc, spec, question.count),
         Err(refusal) => Err(refusal),
     }
 }
 
-fn accept_for(alloc: Global, spec: Spec, count: FaultCount) -> Result<Accepted, Refusal>
-    ensures { Settles (Gives (faults_answer spec count (first_refusal spec))) (TellsFamily count) result }
+fn find_family(alloc: Global, spec: Spec, count: FaultCount) -> Result<Family, Refusal>
+    ensures { Settles (Gives (faults_answer spec count (first_refusal spec))) TellsFamily result }
 {
-    let _ = count;
     match accept(alloc, spec) {
-        Ok(accepted) => Ok(accepted),
+        Ok(spec) => Ok(Family { spec, count }),
         Err(AcceptError::NotAccepted(spec, shown)) => {
             let line = make_shown_line(&spec, &shown);
             drop(spec);

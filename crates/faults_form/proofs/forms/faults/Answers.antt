@@ -7,5 +7,5 @@ pub returns-in-Ok : goal.returns-in-Ok
 returns-in-Ok g c =
     rw (c.status_after.ensures)
     (found_ends _ _ _ _ _ _ _ _ c.in-Ok.ensures
-    (answered_tells (family_text c.in-Ok.accepted (number c.args.question.count)) _ _ _
+    (answered_tells (family_text c.in-Ok.family.spec (number c.in-Ok.family.count)) _ _ _
     (put_taken c.put_family-put.result 0 _ _ _ (rw (c.spec.ensures) at c.put_family-put.ensures))))

@@ -1,0 +1,347 @@
+-- Where a flight is at rest, it does not matter for how long.
+use Rattle.std.proofs.Common.{◌≡◌, ◌∙◌, ℕ, zero, suc, ◌+◌, ◌-◌, ◌<◌, ◌≤◌, Bool, true, false, List, ◌++◌, length, map, append_assoc, arith, ap, refl, sym, subst, nat_lt}
+use Rattle.std.specs.Prelude.{◌&&◌, ◌==◌, if◌then◌else◌, Option, Some, None}
+use Rattle.std.proofs.Math.Path.{fun_ext}
+use Rattle.std.proofs.lemmas.List.{map-append}
+use Rattle.scram_types.proofs.Searches.{length_listed}
+use Rattle.scram_types.specs.Searches.{listed_below}
+use Rattle.scram_types.specs.declared.flights.Env.{Env}
+use Rattle.scram_types.specs.declared.flights.Report.{Report}
+use Rattle.scram_types.specs.declared.flights.Row.{Row}
+use Rattle.scram_types.specs.declared.ids.ConfId.{ConfId}
+use Rattle.scram_types.specs.declared.orders.Act.{Act}
+use Rattle.scram_types.specs.declared.orders.KMode.{KMode}
+use Rattle.scram_types.specs.declared.orders.KMode.TheVariants.{Stable, Moving}
+use Rattle.scram_types.specs.Scripts.{ScriptParts}
+use Rattle.scram_types.specs.Specification.{Each, Parts}
+use Rattle.choice_table.specs.Choices.{choose}
+use Rattle.fault_script.specs.Environments.{env_at}
+use Rattle.fault_script.specs.Times.{commits}
+use Rattle.frame_model.proofs.ReadLaws.{ended_append, reading_append}
+use Rattle.frame_model.specs.declared.phases.Phase.TheVariants.{Running}
+use Rattle.frame_model.specs.declared.readings.Reading.{Reading}
+use Rattle.frame_model.specs.declared.readings.Reading.TheVariants.{Steady}
+use Rattle.frame_model.specs.Decisions.{decision, leave_for, moving_decision, turn_to, wanted}
+use Rattle.frame_model.specs.Flights.{reports_of, row_at, rows_of, state_after}
+use Rattle.frame_model.specs.Phases.{halting_frames, is_settled, phase_at, target}
+use Rattle.frame_model.specs.Readings.{as_list, close, ended, ended_in, reading_after, reading_of}
+use Rattle.frame_model.specs.Runs.{runs}
+use Rattle.frame_model.specs.States.{State, acts_in, mode_decided, row_of, step}
+use Rattle.fault_family.specs.Rests.{IsAtRest, RestsMayBeLonger, later_from}
+use Rattle.fault_family.specs.Shifts.{mode_later, report_later}
+use Rattle.fault_family.proofs.LaterFlights.{acts_of, close_later, decision_later, each_listed, ended_later, listed_parts, map_listed, phase_later, quiet_ended, quiet_reading, reading_after_later, reading_later, settled_later, target_later}
+use Rattle.fault_family.proofs.Moving.{Shows, shows_before, shows_later, shows_resting}
+
+-- what is stable is chosen again
+
+is_stable : KMode → Bool
+is_stable (Stable c) = true
+is_stable (Moving from halting to since) = false
+
+conf_of : KMode → ConfId
+conf_of (Stable c) = c
+conf_of (Moving from halting to since) = to
+
+two_moving : (a b : Bool) (x y z : KMode) → is_stable x ≡ false → is_stable y ≡ false → is_stable z ≡ false → is_stable (if a then x else (if b then y else z)) ≡ false
+two_moving true b x y z p q r = p
+two_moving false true x y z p q r = q
+two_moving false false x y z p q r = r
+
+one_moving : (a : Bool) (x y : KMode) → is_stable x ≡ false → is_stable y ≡ false → is_stable (if a then x else y) ≡ false
+one_moving true x y p q = p
+one_moving false x y p q = q
+
+module _ (spec : Parts) (c : ConfId) (v : Env) where
+  still_moving : (f : ℕ) (from : ConfId) (halting : Option ConfId) (to : ConfId) (since : ℕ) (settled : Bool) (t : ConfId) → is_stable (moving_decision spec f from halting to since settled t) ≡ false
+  unfolding is_stable
+  still_moving f from halting to since settled t =
+      one_moving (t.0 == to.0) (Moving from halting to since) (turn_to spec f from halting to since settled t) refl
+      (two_moving (nat_lt (f - since) (halting_frames spec halting)) settled (Moving from halting t since) (Moving from (Some to) t f) (Moving from None t f) refl refl refl)
+
+  left_by : (x t : ConfId) (f : ℕ) (b : Bool) → (t.0 == x.0) ≡ b → (if b then Stable x else Moving x (Some x) t f) ≡ Stable c → (x ≡ c) × ((t.0 == x.0) ≡ true)
+  unfolding is_stable conf_of
+  left_by x t f true is same = (ap conf_of same, is)
+  left_by x t f false is same = absurd (let clash = ap is_stable same in cc)
+
+  chosen_again : (x : ConfId) (f : ℕ) → leave_for x (choose spec x v) f ≡ Stable c → ((choose spec c v).0 == c.0) ≡ true
+  chosen_again x f same =
+      let parts = left_by x (choose spec x v) f ((choose spec x v).0 == x.0) refl same in
+      subst (λ (y : ConfId). ((choose spec y v).0 == y.0) ≡ true) parts.0 parts.1
+
+  stable_chosen : (f : ℕ) (mode : KMode) (settled arrived : Bool) → decision spec f mode settled arrived v ≡ Stable c → ((choose spec c v).0 == c.0) ≡ true
+  unfolding is_stable
+  stable_chosen f (Stable x) settled arrived same = chosen_again x f same
+  stable_chosen f (Moving from halting to since) settled true same = chosen_again to f same
+  stable_chosen f (Moving from halting to since) settled false same =
+      absurd (let moving = still_moving f from halting to since settled (wanted spec.policy spec from to v) in let stable = ap is_stable same in cc)
+
+listed_same : {A : Type 0} (f g : ℕ → A) (n : ℕ) → ((k : ℕ) → k < n → f k ≡ g k) → listed_below f n ≡ listed_below g n
+listed_same f g zero same = refl
+listed_same f g (suc n) same = rw (listed_same f g n (λ k below. same k (omega (arith, below))), same n (omega arith)) refl
+
+module _ (spec : Parts) (b d : ℕ) (c : ConfId) (script : ScriptParts) (rest : IsAtRest spec script b c) where
+  later : ScriptParts
+  later = later_from b d script
+
+  -- before frame b
+
+  module _ (f : ℕ) (shows : Shows spec b d script f f) where
+    same_committing : ◌≡◌ {A = ℕ → Bool} (λ p. commits spec (later_from b d script) p f) (λ p. commits spec script p f)
+    same_committing = fun_ext shows.committing
+
+  state_same : (n : ℕ) → n ≤ b → state_after spec (later_from b d script) n ≡ state_after spec script n
+  state_same zero early = refl
+  state_same (suc n) early =
+      let shows = shows_before spec b d script n (omega (arith, early)) in
+      ap (step spec n (env_at spec (later_from b d script) n) (λ p. commits spec (later_from b d script) p n)) (state_same n (omega (arith, early)))
+      ∙ ap (λ v. step spec n v (λ p. commits spec (later_from b d script) p n) (state_after spec script n)) shows.env
+      ∙ ap (λ committing. step spec n (env_at spec script n) committing (state_after spec script n)) (same_committing n shows)
+
+  row_same : (f : ℕ) → f < b → row_at spec (later_from b d script) f ≡ row_at spec script f
+  row_same f early =
+      let shows = shows_before spec b d script f early in
+      ap (row_of spec f (env_at spec (later_from b d script) f) (λ p. commits spec (later_from b d script) p f)) (state_same f (omega (arith, early)))
+      ∙ ap (λ v. row_of spec f v (λ p. commits spec (later_from b d script) p f) (state_after spec script f)) shows.env
+      ∙ ap (λ committing. row_of spec f (env_at spec script f) committing (state_after spec script f)) (same_committing f shows)
+
+  -- at rest
+
+  record IsResting (state : State) : Type 0 where
+    mode : state.mode ≡ Stable c
+    arrived : state.arrived ≡ false
+
+  resting_next : (f : ℕ) → (row_at spec script f).mode ≡ Stable c → IsResting (state_after spec script (suc f))
+  resting_next f decided = record { mode = decided; arrived = rw decided refl }
+
+  rests : IsResting (state_after spec script b)
+  rests =
+      let some = rest.first in
+      let here : suc (b - 1) ≡ b = omega (arith, some) in
+      subst (λ n. IsResting (state_after spec script n)) here (resting_next (b - 1) rest.mode)
+
+  stays : (f : ℕ) (v : Env) → v ≡ env_at spec script (b - 1) → leave_for c (choose spec c v) f ≡ Stable c
+  stays f v same =
+      let state = state_after spec script (b - 1) in
+      let chosen = stable_chosen spec c (env_at spec script (b - 1)) (b - 1) state.mode (is_settled spec state.mode (b - 1 - 1)) state.arrived rest.mode in
+      rw (same, chosen) refl
+
+  resting_decides : (g : ℕ) → b ≤ g → g < d + b → IsResting (state_after spec (later_from b d script) g) → (row_at spec (later_from b d script) g).mode ≡ Stable c
+  resting_decides g after before resting =
+      let state = state_after spec (later_from b d script) g in
+      ap (λ (mode : KMode). decision spec g mode (is_settled spec mode (g - 1)) state.arrived (env_at spec (later_from b d script) g)) resting.mode
+      ∙ stays g (env_at spec (later_from b d script) g) (shows_resting spec b d script rest.first rest.quiet g after before).env
+
+  resting_after : (k : ℕ) → k ≤ d → IsResting (state_after spec (later_from b d script) (b + k))
+  resting_after zero inside =
+      let here : b + 0 ≡ b = omega arith in
+      rw here (subst IsResting (sym (state_same b (omega arith))) rests)
+  resting_after (suc k) inside =
+      let next : b + suc k ≡ suc (b + k) = omega arith in
+      let decided = resting_decides (b + k) (omega arith) (omega (arith, inside)) (resting_after k (omega (arith, inside))) in
+      rw next (record { mode = decided; arrived = rw decided refl })
+
+  resting_runs : (k : ℕ) → k < d → runs spec (row_at spec (later_from b d script) (b + k)).acts c ≡ true
+  resting_runs k inside =
+      let decided = resting_decides (b + k) (omega arith) (omega (arith, inside)) (resting_after k (omega (arith, inside))) in
+      let shows = shows_resting spec b d script rest.first rest.quiet (b + k) (omega arith) (omega (arith, inside)) in
+      ap (λ (mode : KMode). runs spec (acts_in spec (phase_at spec mode (b + k)) (λ p. commits spec (later_from b d script) p (b + k))) c) decided
+      ∙ ap (λ committing. runs spec (acts_in spec (Running c) committing) c) (fun_ext shows.committing)
+      ∙ ap (λ (mode : KMode). runs spec (acts_in spec (phase_at spec mode (b - 1)) (λ p. commits spec script p (b - 1))) c) (sym rest.mode)
+      ∙ rest.runs
+
+  -- from frame b on
+
+  record IsLater (state after : State) : Type 0 where
+    mode : after.mode ≡ mode_later d state.mode
+    arrived : after.arrived ≡ state.arrived
+
+  record IsRowLater (f : ℕ) : Type 0 where
+    mode : (row_at spec (later_from b d script) (d + f)).mode ≡ mode_later d (row_at spec script f).mode
+    acts : (row_at spec (later_from b d script) (d + f)).acts ≡ (row_at spec script f).acts
+
+  row_later : (f : ℕ) → b ≤ f → IsLater (state_after spec script f) (state_after spec (later_from b d script) (d + f)) → IsRowLater f
+  row_later f after is =
+      let some = rest.first in
+      let shows = shows_later spec b d script f after in
+      let state = state_after spec script f in
+      let moved_state = state_after spec (later_from b d script) (d + f) in
+      let back : d + f - 1 ≡ d + (f - 1) = omega (arith, some, after) in
+      let settled : is_settled spec (mode_later d state.mode) (d + f - 1) ≡ is_settled spec state.mode (f - 1) = rw back (settled_later spec d state.mode (f - 1)) in
+      let decided : mode_decided spec (d + f) (env_at spec (later_from b d script) (d + f)) moved_state ≡ mode_later d (mode_decided spec f (env_at spec script f) state) =
+      ap (λ (mode : KMode). decision spec (d + f) mode (is_settled spec mode (d + f - 1)) moved_state.arrived (env_at spec (later_from b d script) (d + f))) is.mode
+      ∙ ap (λ (arrived : Bool). decision spec (d + f) (mode_later d state.mode) (is_settled spec (mode_later d state.mode) (d + f - 1)) arrived (env_at spec (later_from b d script) (d + f))) is.arrived
+      ∙ ap (decision spec (d + f) (mode_later d state.mode) (is_settled spec (mode_later d state.mode) (d + f - 1)) state.arrived) shows.env
+      ∙ ap (λ (past : Bool). decision spec (d + f) (mode_later d state.mode) past state.arrived (env_at spec script f)) settled
+      ∙ decision_later spec d state.mode f (is_settled spec state.mode (f - 1)) state.arrived (env_at spec script f) in
+      record {
+        mode = decided;
+        acts = ap (λ (mode : KMode). acts_in spec (phase_at spec mode (d + f)) (λ p. commits spec (later_from b d script) p (d + f))) decided
+            ∙ ap (λ phase. acts_in spec phase (λ p. commits spec (later_from b d script) p (d + f))) (phase_later spec d (mode_decided spec f (env_at spec script f) state) f)
+            ∙ ap (acts_in spec (phase_at spec (mode_decided spec f (env_at spec script f) state) f)) (fun_ext shows.committing);
+      }
+
+  state_later : (n : ℕ) → IsLater (state_after spec script (b + n)) (state_after spec (later_from b d script) (d + (b + n)))
+  state_later zero =
+      let here : b + 0 ≡ b = omega arith in
+      let there : d + (b + 0) ≡ b + d = omega arith in
+      let resting = resting_after d (omega arith) in
+      rw (there, here) (record { mode = resting.mode ∙ ap (mode_later d) (sym rests.mode); arrived = resting.arrived ∙ sym rests.arrived })
+  state_later (suc n) =
+      let here : b + suc n ≡ suc (b + n) = omega arith in
+      let there : d + (b + suc n) ≡ suc (d + (b + n)) = omega arith in
+      let f = b + n in
+      let row = row_later (b + n) (omega arith) (state_later n) in
+      rw (there, here) (record {
+        mode = row.mode;
+        arrived =
+            ap (λ (mode : KMode). is_settled spec mode (d + (b + n)) && runs spec (row_at spec (later_from b d script) (d + (b + n))).acts (target mode)) row.mode
+            ∙ ap (λ (acts : List Act). is_settled spec (mode_later d (row_at spec script (b + n)).mode) (d + (b + n)) && runs spec acts (target (mode_later d (row_at spec script (b + n)).mode))) row.acts
+            ∙ ap (λ (settled : Bool). settled && runs spec (row_at spec script (b + n)).acts (target (mode_later d (row_at spec script (b + n)).mode))) (settled_later spec d (row_at spec script (b + n)).mode (b + n))
+            ∙ ap (λ (x : ConfId). is_settled spec (row_at spec script (b + n)).mode (b + n) && runs spec (row_at spec script (b + n)).acts x) (target_later spec d (row_at spec script (b + n)).mode);
+      })
+
+  later_row : (f : ℕ) → b ≤ f → IsRowLater f
+  later_row f after =
+      let here : b + (f - b) ≡ f = omega (arith, after) in
+      row_later f after (subst (λ n. IsLater (state_after spec script n) (state_after spec (later_from b d script) (d + n))) here (state_later (f - b)))
+
+  -- the reconfigurations
+
+  count : ℕ
+  count = script.frames - b
+
+  front : List Row
+  front = listed_below (row_at spec script) b
+
+  still : List Row
+  still = listed_below (λ k. row_at spec (later_from b d script) (b + k)) d
+
+  back : List Row
+  back = listed_below (λ k. row_at spec script (b + k)) (script.frames - b)
+
+  moved_back : List Row
+  moved_back = listed_below (λ k. row_at spec (later_from b d script) (b + (d + k))) (script.frames - b)
+
+  rows_are : rows_of spec script ≡ front ++ back
+  unfolding front back
+  rows_are =
+      let inside = rest.inside in
+      let all : script.frames ≡ b + (script.frames - b) = omega (arith, inside) in
+      ap (listed_below (row_at spec script)) all ∙ listed_parts (row_at spec script) b (script.frames - b)
+
+  later_rows_are : rows_of spec (later_from b d script) ≡ front ++ (still ++ moved_back)
+  unfolding front still moved_back
+  later_rows_are =
+      let inside = rest.inside in
+      let all : d + script.frames ≡ b + (d + (script.frames - b)) = omega (arith, inside) in
+      ap (listed_below (row_at spec (later_from b d script))) all
+      ∙ listed_parts (row_at spec (later_from b d script)) b (d + (script.frames - b))
+      ∙ ap (λ rows. rows ++ listed_below (λ k. row_at spec (later_from b d script) (b + k)) (d + (script.frames - b))) (listed_same (row_at spec (later_from b d script)) (row_at spec script) b row_same)
+      ∙ ap (λ rows. listed_below (row_at spec script) b ++ rows) (listed_parts (λ k. row_at spec (later_from b d script) (b + k)) d (script.frames - b))
+
+  still_runs : Each (λ (row : Row). runs spec row.acts c ≡ true) still
+  unfolding still
+  still_runs = each_listed (λ (row : Row). runs spec row.acts c ≡ true) (λ k. row_at spec (later_from b d script) (b + k)) d resting_runs
+
+  same_acts : map (acts_of spec d) moved_back ≡ map (acts_of spec d) back
+  unfolding moved_back back acts_of
+  same_acts =
+      map_listed (acts_of spec d) (λ k. row_at spec (later_from b d script) (b + (d + k))) (script.frames - b)
+      ∙ ap (λ acts. listed_below acts (script.frames - b)) (fun_ext (λ k.
+      let turned : b + (d + k) ≡ d + (b + k) = omega arith in
+      ap (λ n. (row_at spec (later_from b d script) n).acts) turned ∙ (later_row (b + k) (omega arith)).acts))
+      ∙ sym (map_listed (acts_of spec d) (λ k. row_at spec script (b + k)) (script.frames - b))
+
+  front_read : reading_after spec (Steady spec.start) 0 front ≡ Steady c
+  unfolding front
+  front_read = rest.reading
+
+  front_length : 0 + length front ≡ b
+  unfolding front
+  front_length = let n = length_listed (row_at spec script) b in omega (arith, n)
+
+  still_length : b + length still ≡ d + b
+  unfolding still
+  still_length = let n = length_listed (λ k. row_at spec (later_from b d script) (b + k)) d in omega (arith, n)
+
+  ended_script : ended spec (rows_of spec script) ≡ ended spec front ++ ended_in spec (Steady c) b back
+  ended_script =
+      ap (ended spec) rows_are ∙ ended_append spec (Steady spec.start) 0 front back
+      ∙ ap (λ (reading : Reading). ended spec front ++ ended_in spec reading (0 + length front) back) front_read
+      ∙ ap (λ n. ended spec front ++ ended_in spec (Steady c) n back) front_length
+
+  behind_ended : ended_in spec (Steady c) b (still ++ moved_back) ≡ map (report_later d) (ended_in spec (Steady c) b back)
+  unfolding reading_later
+  behind_ended =
+      ended_append spec (Steady c) b still moved_back
+      ∙ ap (λ (before : List Report). before ++ ended_in spec (reading_after spec (Steady c) b still) (b + length still) moved_back) (quiet_ended spec c b still still_runs)
+      ∙ ap (λ (reading : Reading). ended_in spec reading (b + length still) moved_back) (quiet_reading spec c b still still_runs)
+      ∙ ap (λ n. ended_in spec (Steady c) n moved_back) still_length
+      ∙ ended_later spec d (Steady c) b moved_back back same_acts
+
+  ended_moved : ended spec (rows_of spec (later_from b d script)) ≡ ended spec front ++ map (report_later d) (ended_in spec (Steady c) b back)
+  ended_moved =
+      ap (ended spec) later_rows_are ∙ ended_append spec (Steady spec.start) 0 front (still ++ moved_back)
+      ∙ ap (λ (reading : Reading). ended spec front ++ ended_in spec reading (0 + length front) (still ++ moved_back)) front_read
+      ∙ ap (λ n. ended spec front ++ ended_in spec (Steady c) n (still ++ moved_back)) front_length
+      ∙ ap (λ (rest_of : List Report). ended spec front ++ rest_of) behind_ended
+
+  reading_script : reading_of spec (rows_of spec script) ≡ reading_after spec (Steady c) b back
+  reading_script =
+      ap (reading_of spec) rows_are ∙ reading_append spec (Steady spec.start) 0 front back
+      ∙ ap (λ (reading : Reading). reading_after spec reading (0 + length front) back) front_read
+      ∙ ap (λ n. reading_after spec (Steady c) n back) front_length
+
+  reading_moved : reading_of spec (rows_of spec (later_from b d script)) ≡ reading_later spec d (reading_after spec (Steady c) b back)
+  unfolding reading_later
+  reading_moved =
+      ap (reading_of spec) later_rows_are ∙ reading_append spec (Steady spec.start) 0 front (still ++ moved_back)
+      ∙ ap (λ (reading : Reading). reading_after spec reading (0 + length front) (still ++ moved_back)) front_read
+      ∙ ap (λ n. reading_after spec (Steady c) n (still ++ moved_back)) front_length
+      ∙ reading_append spec (Steady c) b still moved_back
+      ∙ ap (λ (reading : Reading). reading_after spec reading (b + length still) moved_back) (quiet_reading spec c b still still_runs)
+      ∙ ap (λ n. reading_after spec (Steady c) n moved_back) still_length
+      ∙ reading_after_later spec d (Steady c) b moved_back back same_acts
+
+  frames_moved : length (rows_of spec (later_from b d script)) ≡ d + length (rows_of spec script)
+  frames_moved =
+      let other = length_listed (row_at spec (later_from b d script)) (d + script.frames) in
+      let one = length_listed (row_at spec script) script.frames in
+      omega (arith, other, one)
+
+  last : List Report
+  last = as_list (close (reading_after spec (Steady c) b back) (length (rows_of spec script)))
+
+  reports_are : reports_of spec script ≡ ended spec front ++ (ended_in spec (Steady c) b back ++ last)
+  unfolding last
+  reports_are =
+      ap (λ (before : List Report). before ++ as_list (close (reading_of spec (rows_of spec script)) (length (rows_of spec script)))) ended_script
+      ∙ ap (λ (reading : Reading). (ended spec front ++ ended_in spec (Steady c) b back) ++ as_list (close reading (length (rows_of spec script)))) reading_script
+      ∙ append_assoc (ended spec front) (ended_in spec (Steady c) b back) (as_list (close (reading_after spec (Steady c) b back) (length (rows_of spec script))))
+
+  later_reports_are : reports_of spec (later_from b d script) ≡ ended spec front ++ map (report_later d) (ended_in spec (Steady c) b back ++ last)
+  unfolding last
+  later_reports_are =
+      let part = ended_in spec (Steady c) b back in
+      let end = as_list (close (reading_after spec (Steady c) b back) (length (rows_of spec script))) in
+      ap (λ (before : List Report). before ++ as_list (close (reading_of spec (rows_of spec (later_from b d script))) (length (rows_of spec (later_from b d script))))) ended_moved
+      ∙ ap (λ (reading : Reading). (ended spec front ++ map (report_later d) (ended_in spec (Steady c) b back)) ++ as_list (close reading (length (rows_of spec (later_from b d script))))) reading_moved
+      ∙ ap (λ n. (ended spec front ++ map (report_later d) (ended_in spec (Steady c) b back)) ++ as_list (close (reading_later spec d (reading_after spec (Steady c) b back)) n)) frames_moved
+      ∙ ap (λ (rest_of : List Report). (ended spec front ++ map (report_later d) (ended_in spec (Steady c) b back)) ++ rest_of)
+      (close_later spec d (reading_after spec (Steady c) b back) (length (rows_of spec script)))
+      ∙ append_assoc (ended spec front) (map (report_later d) (ended_in spec (Steady c) b back)) (map (report_later d) (as_list (close (reading_after spec (Steady c) b back) (length (rows_of spec script)))))
+      ∙ ap (λ (rest_of : List Report). ended spec front ++ rest_of)
+      (sym (map-append (report_later d) (ended_in spec (Steady c) b back) (as_list (close (reading_after spec (Steady c) b back) (length (rows_of spec script))))))
+
+pub rests_may_be_longer : RestsMayBeLonger
+rests_may_be_longer spec b d c script rest = record {
+  rows = row_same spec b d c script rest;
+  acts = λ f after. (later_row spec b d c script rest f after).acts;
+  modes = λ f after. (later_row spec b d c script rest f after).mode;
+  reports = record {
+    before = ended spec (front spec b d c script rest);
+    after = ended_in spec (Steady c) b (back spec b d c script rest) ++ last spec b d c script rest;
+    parts = reports_are spec b d c script rest;
+    later = later_reports_are spec b d c script rest;
+  };
+}

@@ -1,0 +1,57 @@
+-- Scripts that go on later after the flight has been at rest.
+use Rattle.std.specs.Prelude.{◌≡◌, ◌≢◌, ℕ, ◌+◌, ◌-◌, ◌<◌, ◌≤◌, true, nat_lt, List, ◌++◌, map, if◌then◌else◌}
+use Rattle.scram_types.specs.Searches.{listed_below}
+use Rattle.scram_types.specs.declared.flights.Report.{Report}
+use Rattle.scram_types.specs.declared.ids.ConfId.{ConfId}
+use Rattle.scram_types.specs.declared.orders.KMode.TheVariants.{Stable}
+use Rattle.scram_types.specs.declared.scripts.Change.{Change}
+use Rattle.scram_types.specs.declared.scripts.HaltAt.{HaltAt}
+use Rattle.scram_types.specs.declared.scripts.RestartAt.{RestartAt}
+use Rattle.scram_types.specs.Scripts.{ScriptParts}
+use Rattle.scram_types.specs.Specification.{Each, Parts}
+use Rattle.frame_model.specs.declared.readings.Reading.TheVariants.{Steady}
+use Rattle.frame_model.specs.Flights.{reports_of, row_at}
+use Rattle.frame_model.specs.Readings.{reading_of}
+use Rattle.frame_model.specs.Runs.{runs}
+use Rattle.fault_family.specs.Shifts.{mode_later, report_later}
+
+-- A frame as it is before frame b, and from frame b on d frames later.
+abbrev pub moved : ℕ → ℕ → ℕ → ℕ
+moved b d frame = if nat_lt frame b then frame else d + frame
+
+-- The script in which everything from frame b on comes d frames later.
+abbrev pub later_from : ℕ → ℕ → ScriptParts → ScriptParts
+later_from b d script = record {
+  frames = d + script.frames;
+  changes = map (λ (change : Change). record { frame = moved b d change.frame; factor = change.factor; value = change.value }) script.changes;
+  halts = map (λ (halt : HaltAt). record { proc = halt.proc; frame = moved b d halt.frame; step = halt.step }) script.halts;
+  restarts = map (λ (restart : RestartAt). record { proc = restart.proc; frame = moved b d restart.frame }) script.restarts;
+}
+
+-- A flight is at rest in configuration c when frame b begins: the mode of the frame before is stable in c, its row runs c,
+-- which is read to run, and no processor halts in it.
+pub record IsAtRest (spec : Parts) (script : ScriptParts) (b : ℕ) (c : ConfId) : Type 0 where
+  pub first : 1 ≤ b
+  pub inside : b ≤ script.frames
+  pub mode : (row_at spec script (b - 1)).mode ≡ Stable c
+  pub runs : runs spec (row_at spec script (b - 1)).acts c ≡ true
+  pub reading : reading_of spec (listed_below (row_at spec script) b) ≡ Steady c
+  pub quiet : Each (λ (halt : HaltAt). halt.frame ≢ b - 1) script.halts
+
+-- The reconfigurations of two flights: the same ones first, and the rest d frames later in the second.
+pub record GoOnLater (d : ℕ) (one other : List Report) : Type 0 where
+  pub before : List Report
+  pub after : List Report
+  pub parts : one ≡ before ++ after
+  pub later : other ≡ before ++ map (report_later d) after
+
+-- The flight of another script is that of a script up to frame b, and then goes on d frames later.
+pub record HasFlightFrom (spec : Parts) (b d : ℕ) (script later : ScriptParts) : Type 0 where
+  pub rows : (f : ℕ) → f < b → row_at spec later f ≡ row_at spec script f
+  pub acts : (f : ℕ) → b ≤ f → (row_at spec later (d + f)).acts ≡ (row_at spec script f).acts
+  pub modes : (f : ℕ) → b ≤ f → (row_at spec later (d + f)).mode ≡ mode_later d (row_at spec script f).mode
+  pub reports : GoOnLater d (reports_of spec script) (reports_of spec later)
+
+-- Where a flight is at rest, it does not matter for how long: what comes then may come later.
+abbrev pub RestsMayBeLonger : Type 0
+RestsMayBeLonger = (spec : Parts) (b d : ℕ) (c : ConfId) (script : ScriptParts) → IsAtRest spec script b c → HasFlightFrom spec b d script (later_from b d script)
