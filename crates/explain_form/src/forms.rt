@@ -16,6 +16,7 @@ use coverage_check::{AcceptError, Shown, accept};
 use document_explanations::scripts::ExplainedScript;
 use document_explanations::specifications::ExplainedSpecification;
 use fault_script::{Outside, within};
+use flight_forms::MissionFiles;
 use form_base::loads::load;
 use form_base::refusals::Refusal;
 use form_base::status::{ANSWERED, NOT_ACCEPTED, Status, UNASSUMED_SCRIPT};
@@ -23,13 +24,6 @@ use form_base::telling::{tell, tell_refusal};
 use scram_io::{Files, Sink};
 use scram_types::{NoMemory, Script, Spec};
 use std::alloc::Global;
-
-/// The files that are explained.
-#[derive(Clone, Copy)]
-pub struct ExplainedFiles<'a> {
-    pub specification: &'a str,
-    pub script: &'a str,
-}
 
 /// Prints why the specification in a file is refused, or what is idle in it.
 pub fn explain<F: Files, K: Sink>(
@@ -50,7 +44,7 @@ pub fn explain<F: Files, K: Sink>(
 /// Prints why the specification in a file is refused or the script in another one, or what is idle in the specification.
 pub fn explain_script<F: Files, K: Sink>(
     alloc: Global,
-    named: ExplainedFiles<'_>,
+    named: MissionFiles<'_>,
     files: &mut F,
     out: &mut K,
 ) -> Status
@@ -82,7 +76,7 @@ fn read_specification<F: Files>(
 /// Reads the specification and the script, and makes what is printed of them.
 fn read_both<F: Files>(
     alloc: Global,
-    named: ExplainedFiles<'_>,
+    named: MissionFiles<'_>,
     files: &mut F,
 ) -> Result<Explanation, Refusal>
     ensures reads { Prepares (ExplainScriptAnswers named.entry.specification.now named.entry.script.now) TellsExplanation

@@ -7,4 +7,4 @@ mod forms;
 pub mod laws;
 mod outsides;
 
-pub use forms::{ExplainedFiles, explain, explain_script};
+pub use forms::{explain, explain_script};

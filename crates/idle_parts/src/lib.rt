@@ -4,7 +4,7 @@
 
 mod choices;
 pub mod laws;
-pub mod lines;
+mod lines;
 mod places;
 mod texts;
 mod wants;

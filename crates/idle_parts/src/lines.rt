@@ -5,22 +5,22 @@ ghost use Rattle.idle_parts.specs.Lines.{idle_line, kind_text};
 
 use trace_text::lines::Line;
 
-/// A kind of the parts of a specification.
+// A kind of the parts of a specification.
 #[derive(Clone, Copy, Debug, PartialEq, Eq)]
-pub enum PartKind {
+pub(crate) enum PartKind {
     Rule,
     Conf,
     Factor,
     Bound,
-    /// The modes of an application.
+    // The modes of an application.
     Mode,
     App,
     Proc,
     Demand,
 }
 
-/// Returns the line of a part that is idle, by its kind and its name of at most 64 bytes.
-pub fn make_idle_line(kind: PartKind, name: &[u8]) -> Line
+// Returns the line of a part that is idle, by its kind and its name of at most 64 bytes.
+pub(crate) fn make_idle_line(kind: PartKind, name: &[u8]) -> Line
     requires { length name.now ≤ 64 }
     ensures { result ≡ idle_line kind name.now }
 {
