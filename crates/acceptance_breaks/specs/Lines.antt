@@ -65,13 +65,13 @@ abbrev pub chooses_text : Parts → ℕ → ConfId → List ℕ
 chooses_text spec k to = codes " rule " ++ decimal k ++ codes " chooses " ++ conf_name spec to.0
 
 -- rule k and its target, or that no rule fits
-abbrev pub rule_text : Parts → ℕ → List ℕ
-rule_text spec k =
+abbrev pub fitting_text : Parts → ℕ → List ℕ
+fitting_text spec k =
     option_map_or (λ (rule : Choice). chooses_text spec k rule.to) (slice_get spec.rules k) (codes " no rule fits")
 
 -- the first rule that fits a configuration in an environment, and its target
 abbrev pub chosen_text : Parts → ConfId → Env → List ℕ
-chosen_text spec c v = rule_text spec (first_rule spec.rules c v)
+chosen_text spec c v = fitting_text spec (first_rule spec.rules c v)
 
 -- a configuration, an environment, and what is chosen there
 abbrev pub situation_text : Parts → ConfId → Env → List ℕ
@@ -116,9 +116,9 @@ abbrev pub variable_text : Parts → AppId → ℕ → List ℕ
 variable_text spec a i = option_map_or (λ (name : List ℕ). name) (name_in (variable_names (kind_of_app spec a.0)) i) []
 
 -- the name of the mode of an application in a place, or that it is off
-abbrev pub place_text : Parts → AppId → Option Place → List ℕ
-place_text spec a None = codes "off"
-place_text spec a (Some place) = mode_text (kind_of_app spec a.0) place.mode.0
+abbrev pub place_mode_text : Parts → AppId → Option Place → List ℕ
+place_mode_text spec a None = codes "off"
+place_mode_text spec a (Some place) = mode_text (kind_of_app spec a.0) place.mode.0
 
 -- the number of an invariant or a precondition, and its variable
 abbrev pub subject_text : Parts → Limits → List ℕ
@@ -141,7 +141,7 @@ way_text spec taken = conf_name spec taken.from.0 ++ (if taken.from.0 == taken.t
 abbrev pub unheld_line_of : Parts → Unheld → Invariant → List ℕ
 unheld_line_of spec found inv =
     codes "  invariant" ++ limits_text spec (invariant_limits found inv) ++ way_text spec found.way ++ codes " "
-    ++ place_text spec inv.app (place_of spec found.way.to inv.app.0) ++ codes " " ++ extremes_text (interval (range_on spec inv found.way)) ++ codes "\n"
+    ++ place_mode_text spec inv.app (place_of spec found.way.to inv.app.0) ++ codes " " ++ extremes_text (interval (range_on spec inv found.way)) ++ codes "\n"
 
 -- the same of the invariant of this number; no line where there is none
 abbrev pub unheld_line : Parts → Unheld → List ℕ
@@ -151,7 +151,7 @@ unheld_line spec found = option_map_or (unheld_line_of spec found) (slice_get sp
 abbrev pub missed_line_of : Parts → ℕ → Precondition → List ℕ
 missed_line_of spec k pre =
     codes "  precondition" ++ limits_text spec (precondition_limits spec k pre) ++ conf_name spec pre.conf.0 ++ codes " "
-    ++ place_text spec pre.app (place_of spec pre.conf pre.app.0) ++ codes "\n"
+    ++ place_mode_text spec pre.app (place_of spec pre.conf pre.app.0) ++ codes "\n"
 
 -- the same of the precondition of this number; no line where there is none
 abbrev pub missed_line : Parts → ℕ → List ℕ
@@ -162,12 +162,12 @@ abbrev pub demand_piece : Parts → ConfId → ℕ → Env → List ℕ
 demand_piece spec c k v = codes "  demand " ++ demand_name spec k ++ codes " " ++ situation_text spec c v
 
 -- the name of configuration c, where a set has it, behind a comma where it is not the first
-abbrev pub member_text : Parts → ℕ → ℕ → List ℕ
-member_text spec set c = if has_bit set c then (if any_below (has_bit set) c then codes ", " else []) ++ conf_name spec c else []
+abbrev pub conf_in_text : Parts → ℕ → ℕ → List ℕ
+conf_in_text spec set c = if has_bit set c then (if any_below (has_bit set) c then codes ", " else []) ++ conf_name spec c else []
 
 -- the names of the configurations of a set
 abbrev pub members_text : Parts → ℕ → List ℕ
-members_text spec set = texts_below (member_text spec set) (length spec.confs)
+members_text spec set = texts_below (conf_in_text spec set) (length spec.confs)
 
 -- An application that has to be on is not, or is in a mode that is not allowed.
 abbrev pub is_on_missed : Parts → Demand → ConfId → ℕ → Bool

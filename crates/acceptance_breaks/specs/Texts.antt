@@ -16,9 +16,9 @@ abbrev pub more_text : ℕ → List ℕ
 more_text count = if nat_lt MAX_BREAK_LINES count then codes "  and " ++ decimal (count - MAX_BREAK_LINES) ++ codes " more\n" else []
 
 -- the lines of the first places, and the number of further ones
-abbrev pub text_of : Parts → List Break → List ℕ
-text_of spec found = lines_text spec (take MAX_BREAK_LINES found) ++ more_text (length found)
+abbrev pub shown_breaks_text : Parts → List Break → List ℕ
+shown_breaks_text spec found = lines_text spec (take MAX_BREAK_LINES found) ++ more_text (length found)
 
 -- the places at which a condition does not hold, by its number, 1 to 13; no text for another number
 abbrev pub breaks_text : Parts → ℕ → List ℕ
-breaks_text spec condition = text_of spec (breaks spec condition)
+breaks_text spec condition = shown_breaks_text spec (breaks spec condition)

@@ -3,7 +3,7 @@
 ghost use Rattle.std.specs.Prelude.{◌≡◌, ◌+◌, ◌≤◌, ◌++◌, codes, length};
 ghost use Rattle.scram_types.specs.declared.limits.TheConstants.{MAX_LINE_BYTES};
 ghost use Rattle.choice_table.specs.Environments.{IsEnv};
-ghost use Rattle.acceptance_breaks.specs.Lines.{chooses_text, chosen_text, rule_text, situation_piece, situation_text, unmet_piece, unsettled_piece};
+ghost use Rattle.acceptance_breaks.specs.Lines.{chooses_text, chosen_text, fitting_text, situation_piece, situation_text, unmet_piece, unsettled_piece};
 
 use choice_forms::make_needs_line;
 use choice_table::choose;
@@ -50,7 +50,7 @@ fn add_chosen(line: &mut Line, spec: &Spec, c: ConfId, env: &Env)
 
 fn add_rule(line: &mut Line, spec: &Spec, k: usize)
     requires { length line.old + 41 ≤ MAX_LINE_BYTES }
-    ensures text { line.new ≡ line.old ++ rule_text spec.now k }
+    ensures text { line.new ≡ line.old ++ fitting_text spec.now k }
     ensures short { length line.new ≤ length line.old + 41 }
 {
     match spec.rules.items().get(k) {

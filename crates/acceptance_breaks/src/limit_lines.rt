@@ -2,7 +2,7 @@
 
 ghost use Rattle.std.specs.Prelude.{◌≡◌, ◌+◌, ◌≤◌, ◌++◌, [], codes, length, if◌then◌else◌};
 ghost use Rattle.scram_types.specs.declared.limits.TheConstants.{MAX_LINE_BYTES};
-ghost use Rattle.acceptance_breaks.specs.Lines.{intervals_text, limits_text, missed_line, missed_line_of, place_text, subject_text, unheld_line, unheld_line_of, variable_text, way_text};
+ghost use Rattle.acceptance_breaks.specs.Lines.{intervals_text, limits_text, missed_line, missed_line_of, place_mode_text, subject_text, unheld_line, unheld_line_of, variable_text, way_text};
 
 use crate::limits::{Limits, invariant_limits, precondition_limits};
 use app_model::variable_name;
@@ -132,7 +132,7 @@ fn add_way(line: &mut Line, spec: &Spec, way: &Way)
 // Appends the name of the mode of an application in a place, or that it is off.
 fn add_place(line: &mut Line, spec: &Spec, app: AppId, place: Option<Place>)
     requires { length line.old + 16 ≤ MAX_LINE_BYTES }
-    ensures text { line.new ≡ line.old ++ place_text spec.now app place }
+    ensures text { line.new ≡ line.old ++ place_mode_text spec.now app place }
     ensures short { length line.new ≤ length line.old + 16 }
 {
     match place {

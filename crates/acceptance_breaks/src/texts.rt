@@ -6,7 +6,7 @@ ghost use Rattle.scram_types.specs.Specification.{Each, IsSpec};
 ghost use Rattle.acceptance_breaks.specs.declared.texts.TheConstants.{MAX_BREAK_LINES};
 ghost use Rattle.acceptance_breaks.specs.Lines.{break_line, demand_line, lacking_line, start_line, unmet_line};
 ghost use Rattle.condition_breaks.specs.Shown.{IsShownIn};
-ghost use Rattle.acceptance_breaks.specs.Texts.{breaks_text, lines_text, more_text, text_of};
+ghost use Rattle.acceptance_breaks.specs.Texts.{breaks_text, lines_text, more_text, shown_breaks_text};
 
 use crate::choice_lines::{make_end, make_situation_piece, make_unmet_piece};
 use crate::demand_lines::{make_demand_piece, make_missed_piece};
@@ -44,7 +44,7 @@ pub fn make_breaks(alloc: Global, spec: &Spec, condition: u8) -> Result<Vec<u8>,
 fn make_text(alloc: Global, spec: &Spec, found: &[Break]) -> Result<Vec<u8>, NoMemory>
     requires known { IsSpec spec.now }
     requires shown { Each (IsShownIn spec.now) found.now }
-    ensures { IfOk result (λ text. text.items ≡ text_of spec.now found.now) }
+    ensures { IfOk result (λ text. text.items ≡ shown_breaks_text spec.now found.now) }
 {
     let mut text = Vec::new(alloc);
     add_lines(&mut text, spec, first_of(found))?;

@@ -24,7 +24,7 @@ use Rattle.condition_breaks.specs.declared.breaks.Break.{Break}
 use Rattle.condition_breaks.specs.declared.breaks.Break.TheVariants as broken
 use Rattle.condition_breaks.specs.Breaks.{bound_break, bound_breaks, bound_breaks_from, breaks, choice_breaks, demand_break, demand_break_of, demand_breaks, demand_breaks_in, invariant_break, invariant_breaks, later_breaks, load_break, load_breaks, load_breaks_in, need_break, need_breaks, need_breaks_in, need_breaks_of, precondition_break, precondition_breaks, shape_break, shape_breaks, start_breaks, state_breaks, unentered_of, unheld, unheld_of, unmet_break, unmet_breaks, window_breaks}
 use Rattle.condition_breaks.specs.Form.{first_twin, is_need_off, is_needed}
-use Rattle.condition_breaks.specs.Laws.{FirstIsShown, choice_refusal_by, first_shown, later_refusal_by, missed_shown, refusal_by, shown_of}
+use Rattle.condition_breaks.specs.Laws.{FirstIsShown, choice_refusal_by, first_shown, later_refusal_by, missed_shown, refusal_of_condition, shown_of}
 use Rattle.condition_breaks.specs.Ranges.{all_ways, first_unheld}
 use Rattle.condition_breaks.proofs.Firsts.{any_and, any_shown, gathered_shown, listed_shown, mapped_below, mapped_shown, one_shown, same_below}
 use Rattle.condition_breaks.proofs.Needed.{needed_off}
@@ -147,7 +147,7 @@ module _ (spec : Parts) (made : IsSpec spec) where
       (by_test (condition == 7) _ _ _ _ (unmet_first requirement.Stays)
       (by_test (condition == 8) _ _ _ _ start_first (later_first condition))))
 
-  pub first_is : (condition : ℕ) → first_shown spec (breaks spec condition) ≡ refusal_by spec condition
+  pub first_is : (condition : ℕ) → first_shown spec (breaks spec condition) ≡ refusal_of_condition spec condition
   first_is condition =
       by_test (condition == 1) _ _ _ _ need_first
       (by_test (condition == 2) _ _ _ _ state_first

@@ -14,7 +14,7 @@ use Rattle.scram_types.proofs.Items.{any_found, any_is}
 use Rattle.scram_types.proofs.Naturals.{equal, equal_test}
 use Rattle.scram_types.proofs.Searches.{any_below_found, any_below_is}
 use Rattle.coverage_check.specs.Form.{has_off, has_off_need}
-use Rattle.condition_breaks.specs.Form.{is_among, is_needed}
+use Rattle.condition_breaks.specs.Form.{is_one_of, is_needed}
 use Rattle.condition_breaks.proofs.Firsts.{any_and}
 
 module _ (spec : Parts) (made : IsSpec spec) (c : ConfId) (a : ℕ) where
@@ -23,7 +23,7 @@ module _ (spec : Parts) (made : IsSpec spec) (c : ConfId) (a : ℕ) where
   is_off b = not (is_on spec c b)
 
   off_of : Option AppSpec → ℕ → Bool
-  off_of o b = option_map_or (λ (app : AppSpec). is_among app.needs b) o false && is_off b
+  off_of o b = option_map_or (λ (app : AppSpec). is_one_of app.needs b) o false && is_off b
 
   needed_off_of : (o : Option AppSpec) → slice_get spec.apps a ≡ o
       → any_below (off_of o) (length spec.apps) ≡ option_map_or (λ (needing : AppSpec). has_off spec c needing.needs) o false
@@ -32,14 +32,14 @@ module _ (spec : Parts) (made : IsSpec spec) (c : ConfId) (a : ℕ) where
   needed_off_of (Some app) at = same_test (any_below (off_of (Some app)) (length spec.apps)) (has_off spec c app.needs)
       (λ found.
       (let b = any_below_found (off_of (Some app)) (length spec.apps) found in
-      let needed = any_found (λ (needed : AppId). needed.0 == b.0) app.needs (and_left (is_among app.needs b.0) (is_off b.0) b.2) in
+      let needed = any_found (λ (needed : AppId). needed.0 == b.0) app.needs (and_left (is_one_of app.needs b.0) (is_off b.0) b.2) in
       any_is (λ (needed : AppId). is_off needed.0) app.needs needed.0 needed.1 needed.2
-      (subst (λ (n : ℕ). is_off n ≡ true) (sym (equal (needed.1).0 b.0 needed.3)) (and_right (is_among app.needs b.0) (is_off b.0) b.2))))
+      (subst (λ (n : ℕ). is_off n ≡ true) (sym (equal (needed.1).0 b.0 needed.3)) (and_right (is_one_of app.needs b.0) (is_off b.0) b.2))))
       (λ found.
       (let needed = any_found (λ (needed : AppId). is_off needed.0) app.needs found in
       let is = (made.apps a app at).needs needed.0 needed.1 needed.2 in
       any_below_is (off_of (Some app)) (length spec.apps) (needed.1).0
-      (and_true (is_among app.needs (needed.1).0) (is_off (needed.1).0)
+      (and_true (is_one_of app.needs (needed.1).0) (is_off (needed.1).0)
       (any_is (λ (other : AppId). other.0 == (needed.1).0) app.needs needed.0 needed.1 needed.2 (equal_test (needed.1).0 (needed.1).0 refl)) needed.3)
       (slice_get_within spec.apps (needed.1).0 is.lower is.there)))
 

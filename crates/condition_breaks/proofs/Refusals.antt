@@ -19,7 +19,7 @@ use Rattle.coverage_check.specs.declared.choosing.Requirement.{Requirement}
 use Rattle.coverage_check.specs.declared.choosing.Requirement.TheVariants as requirement
 use Rattle.coverage_check.specs.declared.shown.Shown.{Shown}
 use Rattle.coverage_check.proofs.Showing.{shown_where}
-use Rattle.condition_breaks.specs.Laws.{RefusalIsFirst, refusal_by}
+use Rattle.condition_breaks.specs.Laws.{RefusalIsFirst, refusal_of_condition}
 use Rattle.condition_breaks.proofs.FirstShown.{first_is}
 
 -- what is shown is of this condition, where anything is
@@ -97,11 +97,11 @@ module _ (spec : Parts) where
   -- a refusal is that of its condition
   module _ (shown : Shown) where
     abbrev pub OwnRefusal : Type 0
-    OwnRefusal = refusal_by spec shown.condition ≡ Some shown
+    OwnRefusal = refusal_of_condition spec shown.condition ≡ Some shown
 
-    own : (n : ℕ) (o : Option Shown) → IsOf n o → refusal_by spec n ≡ o → o ≡ Some shown → OwnRefusal
+    own : (n : ℕ) (o : Option Shown) → IsOf n o → refusal_of_condition spec n ≡ o → o ≡ Some shown → OwnRefusal
     unfolding IsOf
-    own n o of by e = ap (refusal_by spec) (of shown e) ∙ by ∙ e
+    own n o of by e = ap (refusal_of_condition spec) (of shown e) ∙ by ∙ e
 
     form_own : form_refusal spec ≡ Some shown → OwnRefusal
     form_own e = elim (some_either (need_refusal spec) _ shown e) [

@@ -24,7 +24,7 @@ use Rattle.coverage_check.specs.Search.{shown_if}
 use Rattle.coverage_check.specs.Timing.{is_target}
 use Rattle.condition_breaks.specs.declared.breaks.Way.{Way}
 use Rattle.condition_breaks.specs.Lists.{gathered_below, one_if}
-use Rattle.condition_breaks.specs.Ranges.{all_ways, first_unheld, is_other_target, is_unheld, other_ways, range_in, way_of, way_to, ways_from}
+use Rattle.condition_breaks.specs.Ranges.{all_ways, first_unheld, is_other_target, is_unheld, other_ways, range_asked, way_of, way_to, ways_from}
 use Rattle.condition_breaks.proofs.EachItem.{each_cons, each_gathered, each_one_if, each_rest}
 use Rattle.condition_breaks.proofs.Firsts.{any_same, mapped_below, same_below}
 
@@ -115,7 +115,7 @@ module _ (low high : ℤ) where
 module _ (spec : Parts) (inv : Invariant) where
   -- whether the range in a place is held
   in_place : Option Place → Bool
-  in_place place = holds_range inv.least inv.greatest (range_in spec inv place)
+  in_place place = holds_range inv.least inv.greatest (range_asked spec inv place)
 
   leaving_is : (place : Option Place) → holds_leaving spec inv place ≡ in_place place
   unfolding in_place during holds seen

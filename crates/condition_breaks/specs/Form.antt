@@ -12,12 +12,12 @@ use Rattle.coverage_check.specs.Form.{is_same}
 use Rattle.coverage_check.specs.Search.{shown_if}
 
 -- Application b is one of these.
-abbrev pub is_among : List AppId → ℕ → Bool
-is_among needs b = list_any (λ (needed : AppId). needed.0 == b) needs
+abbrev pub is_one_of : List AppId → ℕ → Bool
+is_one_of needs b = list_any (λ (needed : AppId). needed.0 == b) needs
 
 -- Application a needs application b.
 abbrev pub is_needed : Parts → ℕ → ℕ → Bool
-is_needed spec a b = option_map_or (λ (app : AppSpec). is_among app.needs b) (slice_get spec.apps a) false
+is_needed spec a b = option_map_or (λ (app : AppSpec). is_one_of app.needs b) (slice_get spec.apps a) false
 
 -- Application a is on in configuration c, and b, which it needs, is off there.
 abbrev pub is_need_off : Parts → ConfId → ℕ → ℕ → Bool

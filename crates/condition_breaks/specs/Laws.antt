@@ -67,8 +67,8 @@ choice_refusal_by spec condition =
     if condition == 8 then start_refusal spec else later_refusal_by spec condition
 
 -- The refusal of a condition, by its number; none for a number that is not 1 to 13.
-abbrev pub refusal_by : Parts → ℕ → Option Shown
-refusal_by spec condition =
+abbrev pub refusal_of_condition : Parts → ℕ → Option Shown
+refusal_of_condition spec condition =
     if condition == 1 then need_refusal spec else
     if condition == 2 then state_refusal spec else
     if condition == 3 then shape_refusal spec else
@@ -76,7 +76,7 @@ refusal_by spec condition =
 
 -- Of each condition the first place is what its refusal shows, and there is none where it does not refuse.
 abbrev pub FirstIsShown : Type 0
-FirstIsShown = (spec : Parts) → IsSpec spec → (condition : ℕ) → first_shown spec (breaks spec condition) ≡ refusal_by spec condition
+FirstIsShown = (spec : Parts) → IsSpec spec → (condition : ℕ) → first_shown spec (breaks spec condition) ≡ refusal_of_condition spec condition
 
 -- What a specification is refused for is the first place of its condition.
 abbrev pub RefusalIsFirst : Type 0

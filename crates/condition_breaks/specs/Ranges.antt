@@ -44,13 +44,13 @@ interval ends = record { least = ends.0; greatest = ends.1 }
 
 -- The range of an invariant's variable in a place: that of all acts in its mode together, the status from 1 to 4; zero
 -- where the application is off.
-abbrev pub range_in : Parts → Invariant → Option Place → ℤ × ℤ
-range_in spec inv None = (pos 0, pos 0)
-range_in spec inv (Some place) = if inv.variable == 0 then (pos 1, pos 4) else during (kind_of_app spec inv.app.0) 1 place.mode.0 inv.variable
+abbrev pub range_asked : Parts → Invariant → Option Place → ℤ × ℤ
+range_asked spec inv None = (pos 0, pos 0)
+range_asked spec inv (Some place) = if inv.variable == 0 then (pos 1, pos 4) else during (kind_of_app spec inv.app.0) 1 place.mode.0 inv.variable
 
 -- The range of its variable at the end of a way.
 abbrev pub range_on : Parts → Invariant → Way → ℤ × ℤ
-range_on spec inv taken = range_in spec inv (place_of spec taken.to inv.app.0)
+range_on spec inv taken = range_asked spec inv (place_of spec taken.to inv.app.0)
 
 -- An invariant speaks of a way's source, and does not hold the range at its end.
 abbrev pub is_unheld : Parts → Invariant → Way → Bool

@@ -2,7 +2,7 @@
 
 ghost use Rattle.std.specs.Prelude.{◌≡◌, ◌++◌, OnOk};
 ghost use Rattle.condition_breaks.specs.Breaks.{load_break, load_breaks, load_breaks_in, need_break, need_breaks, need_breaks_in, need_breaks_of, shape_break, shape_breaks, state_breaks};
-ghost use Rattle.condition_breaks.specs.Form.{first_twin, is_among, is_need_off, is_needed};
+ghost use Rattle.condition_breaks.specs.Form.{first_twin, is_one_of, is_need_off, is_needed};
 
 use crate::breaks::Break;
 use crate::facts::{count_apps, count_confs, count_procs, is_empty, is_overloaded, is_same};
@@ -61,13 +61,13 @@ fn is_needed(spec: &Spec, a: u8, b: u8) -> bool
     ensures { result ≡ is_needed spec.now a b }
 {
     match spec.apps.items().get(usize::from(a)) {
-        Some(app) => is_among(app.needs.items(), b),
+        Some(app) => is_one_of(app.needs.items(), b),
         None => false,
     }
 }
 
-fn is_among(needs: &[AppId], b: u8) -> bool
-    ensures { result ≡ is_among needs.now b }
+fn is_one_of(needs: &[AppId], b: u8) -> bool
+    ensures { result ≡ is_one_of needs.now b }
 {
     needs.iter().any(|needed| needed.0 == b)
 }

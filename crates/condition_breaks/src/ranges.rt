@@ -5,7 +5,7 @@ ghost use Rattle.scram_types.specs.Lookups.{conf_id};
 ghost use Rattle.choice_table.specs.Choices.{has_source};
 ghost use Rattle.coverage_check.specs.Holding.{breaks_entering, holds_range};
 ghost use Rattle.coverage_check.specs.Timing.{targets};
-ghost use Rattle.condition_breaks.specs.Ranges.{all_ways, first_unheld, hull, hull_of, hull_on, interval, is_other_target, is_unheld, other_ways, range_entering, range_in, range_on, way_to, ways_from};
+ghost use Rattle.condition_breaks.specs.Ranges.{all_ways, first_unheld, hull, hull_of, hull_on, interval, is_other_target, is_unheld, other_ways, range_entering, range_asked, range_on, way_to, ways_from};
 
 use crate::breaks::Way;
 use crate::facts::count_confs;
@@ -81,8 +81,8 @@ pub fn interval(least: i64, greatest: i64) -> Extremes
 }
 
 // Returns the range of an invariant's variable in a place: that of all acts in its mode together.
-fn range_in(spec: &Spec, inv: &Invariant, place: Option<Place>) -> Extremes
-    ensures { result ≡ interval (range_in spec.now inv.now place) }
+fn range_asked(spec: &Spec, inv: &Invariant, place: Option<Place>) -> Extremes
+    ensures { result ≡ interval (range_asked spec.now inv.now place) }
 {
     match place {
         Some(place) => {
@@ -101,7 +101,7 @@ fn range_in(spec: &Spec, inv: &Invariant, place: Option<Place>) -> Extremes
 pub fn range_on(spec: &Spec, inv: &Invariant, way: &Way) -> Extremes
     ensures { result ≡ interval (range_on spec.now inv.now way.now) }
 {
-    range_in(spec, inv, spec.place_of(way.to, inv.app))
+    range_asked(spec, inv, spec.place_of(way.to, inv.app))
 }
 
 // Returns the first way whose range an invariant does not hold.

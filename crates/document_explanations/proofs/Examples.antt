@@ -4,7 +4,7 @@ use Rattle.std.specs.Option.{option_map_or}
 use Rattle.std.specs.Prelude.{◌+◌, codes, is_some, neg_ℤ, pos, true}
 use Rattle.scram_types.specs.Searches.{all_below}
 use Rattle.serde_json.specs.Data.{Members, array, member, no_items, no_members, number, object, string, unsigned}
-use Rattle.document_explanations.specs.Found.{found_at, further_names}
+use Rattle.document_explanations.specs.Found.{found_text_at, further_names}
 use Rattle.document_explanations.specs.Objects.{list, signed, texts, whole}
 use Rattle.document_explanations.specs.Paths.{value_at, wanted_at}
 use Rattle.document_explanations.specs.Rules.{broken_rule}
@@ -67,7 +67,7 @@ policy : value_at (codes ".policy") (object members) ≡ Some (string (codes "se
 unfolding members
 policy = refl
 
-elements : found_at Specification 6 (codes ".demands") (object members) ≡ decimal 0 ++ codes " elements"
+elements : found_text_at Specification 6 (codes ".demands") (object members) ≡ decimal 0 ++ codes " elements"
 unfolding members
 elements = refl
 

@@ -3,15 +3,15 @@ use Rattle.std.specs.Prelude.{ℕ, List, [], ◌++◌, Option, codes, decimal, i
 use Rattle.std.specs.Option.{option_map_or}
 use Rattle.serde_json.specs.Data.{Data}
 use Rattle.scram_types.specs.Specification.{Parts}
-use Rattle.document_explanations.specs.Found.{cut, found_at}
+use Rattle.document_explanations.specs.Found.{cut, found_text_at}
 use Rattle.document_explanations.specs.Paths.{wanted_at}
-use Rattle.document_explanations.specs.Rules.{DocumentRule, broken_rule, rule_text, shows_found, shows_wanted}
+use Rattle.document_explanations.specs.Rules.{DocumentRule, broken_rule, rule_words, shows_found, shows_wanted}
 use Rattle.document_explanations.specs.Wants.{wanted_text}
 use Rattle.document_explanations.specs.declared.rules.DocumentKind.{DocumentKind}
 
 -- the rule, in words
 abbrev pub rule_line : DocumentRule → List ℕ
-rule_line rule = codes "  rule " ++ decimal rule.number ++ codes ": " ++ rule_text rule ++ codes "\n"
+rule_line rule = codes "  rule " ++ decimal rule.number ++ codes ": " ++ rule_words rule ++ codes "\n"
 
 -- What is wanted at a path where a rule is broken, in a script for a specification where there is one.
 abbrev pub wanted_part : DocumentKind → Option Parts → ℕ → List ℕ → List ℕ
@@ -24,7 +24,7 @@ wanted_line kind spec rule path =
 
 -- What was found at a path where a rule is broken; nothing where the bytes are no JSON text.
 abbrev pub found_part : DocumentKind → ℕ → List ℕ → Option Data → List ℕ
-found_part kind rule path document = option_map_or (λ (d : Data). cut (found_at kind rule path d)) document []
+found_part kind rule path document = option_map_or (λ (d : Data). cut (found_text_at kind rule path d)) document []
 
 -- the line of what was found, where the rule shows it
 abbrev pub found_line : DocumentKind → DocumentRule → List ℕ → Option Data → List ℕ

@@ -59,8 +59,8 @@ found_in kind rule path d value =
     else (if rule == WRONG_LENGTH then elements_text value else value_text value)
 
 -- What is shown of a document where a rule is broken at a path.
-abbrev pub found_at : DocumentKind → ℕ → List ℕ → Data → List ℕ
-found_at kind rule path d = option_map_or (found_in kind rule path d) (value_at path d) []
+abbrev pub found_text_at : DocumentKind → ℕ → List ℕ → Data → List ℕ
+found_text_at kind rule path d = option_map_or (found_in kind rule path d) (value_at path d) []
 
 -- a text, or the first 60 characters of one that has more, and two dots
 abbrev pub cut : List ℕ → List ℕ

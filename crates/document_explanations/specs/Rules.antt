@@ -94,8 +94,8 @@ abbrev pub limit_text : ℕ → List ℕ
 limit_text limit = codes " " ++ decimal limit ++ codes " bytes"
 
 -- What a rule says.
-abbrev pub rule_text : DocumentRule → List ℕ
-rule_text rule = rule.text ++ option_map_or limit_text rule.limit []
+abbrev pub rule_words : DocumentRule → List ℕ
+rule_words rule = rule.text ++ option_map_or limit_text rule.limit []
 
 -- What is wanted is shown.
 abbrev pub shows_wanted : Shows → Bool

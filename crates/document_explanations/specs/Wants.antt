@@ -20,6 +20,7 @@ use Rattle.document_explanations.specs.declared.objects.Versions.{Versions}
 use Rattle.document_explanations.specs.declared.objects.Versions.TheVariants as versions
 use Rattle.document_explanations.specs.declared.objects.Wanted.{Wanted}
 use Rattle.document_explanations.specs.declared.objects.Wanted.TheVariants as wanted
+use Rattle.spec_members.specs.Names.{name_of_proc}
 
 -- texts after the first, a comma and a space before each
 abbrev pub further_listed : List (List ℕ) → List ℕ
@@ -39,8 +40,8 @@ versions_text versions.Third = codes " where scram is 3"
 versions_text versions.Second = codes " where scram is 2"
 
 -- a member of an object
-abbrev pub member_text : Member → List ℕ
-member_text member = member.name ++ versions_text member.versions
+abbrev pub member_wanted : Member → List ℕ
+member_wanted member = member.name ++ versions_text member.versions
 
 -- a name, a space before it, where there is one
 abbrev pub name_spaced : Option (List ℕ) → List ℕ
@@ -57,20 +58,16 @@ abbrev pub variables_spaced : List Variable → List ℕ
 variables_spaced variables = spaced (map (λ (variable : Variable). variable.name) variables)
 
 -- The name of a kind.
-abbrev pub kind_text : Kind → List ℕ
-kind_text kind = kind.name
+abbrev pub kind_words : Kind → List ℕ
+kind_words kind = kind.name
 
 -- A kind and its modes.
-abbrev pub modes_text : Kind → List ℕ
-modes_text kind = kind.name ++ codes ":" ++ spaced kind.modes
+abbrev pub kind_and_modes : Kind → List ℕ
+kind_and_modes kind = kind.name ++ codes ":" ++ spaced kind.modes
 
 -- A kind and the variables that it uses.
 abbrev pub variables_text : Kind → List ℕ
 variables_text kind = kind.name ++ codes ":" ++ variables_spaced kind.variables
-
--- The name of a processor.
-abbrev pub proc_text : Proc → List ℕ
-proc_text proc = proc.name
 
 -- names, a space before each
 abbrev pub names_spaced : List (List ℕ) → List ℕ
@@ -78,30 +75,30 @@ names_spaced [] = []
 names_spaced (name ∷ names) = codes " " ++ name ++ names_spaced names
 
 -- A factor and its values.
-abbrev pub factor_text : Factor → List ℕ
-factor_text factor = factor.name ++ codes ":" ++ names_spaced factor.values
+abbrev pub factor_and_values : Factor → List ℕ
+factor_and_values factor = factor.name ++ codes ":" ++ names_spaced factor.values
 
 -- the factors and their values, `-` where there is none
-abbrev pub factors_text : List Factor → List ℕ
-factors_text [] = codes "-"
-factors_text (factor ∷ factors) = listed (map factor_text (factor ∷ factors))
+abbrev pub factors_and_values : List Factor → List ℕ
+factors_and_values [] = codes "-"
+factors_and_values (factor ∷ factors) = listed (map factor_and_values (factor ∷ factors))
 
 -- The factors of the specification that a script is for.
-abbrev pub factors_of : Option Parts → List Factor
-factors_of spec = option_map_or (λ (spec : Parts). spec.factors) spec []
+abbrev pub script_factors : Option Parts → List Factor
+script_factors spec = option_map_or (λ (spec : Parts). spec.factors) spec []
 
 -- The processors of the specification that a script is for.
-abbrev pub procs_of : Option Parts → List Proc
-procs_of spec = option_map_or (λ (spec : Parts). spec.procs) spec []
+abbrev pub script_procs : Option Parts → List Proc
+script_procs spec = option_map_or (λ (spec : Parts). spec.procs) spec []
 
 -- The step of a frame that comes after the mark.
-abbrev pub last_step : Option Parts → ℕ
-last_step spec = option_map_or (λ (spec : Parts). words spec + 1) spec 0
+abbrev pub step_after_mark : Option Parts → ℕ
+step_after_mark spec = option_map_or (λ (spec : Parts). words spec + 1) spec 0
 
 -- how many elements a list has
-abbrev pub length_text : Length → List ℕ
-length_text (length.Within least most) = decimal least ++ codes " to " ++ decimal most ++ codes " elements"
-length_text length.Halts =
+abbrev pub length_wanted : Length → List ℕ
+length_wanted (length.Within least most) = decimal least ++ codes " to " ++ decimal most ++ codes " elements"
+length_wanted length.Halts =
     codes "0 to " ++ decimal (halts_limit First) ++ codes " elements, 0 to " ++ decimal (halts_limit Second) ++ codes " where scram is 2"
 
 -- a number in a document, of a script for a specification where there is one
@@ -111,7 +108,7 @@ number_text spec number.ScriptVersion = codes "1 or 2"
 number_text spec (number.Whole least greatest) = decimal least ++ codes " to " ++ decimal greatest
 number_text spec (number.Signed least greatest) = signed_decimal least ++ codes " to " ++ signed_decimal greatest
 number_text spec (number.Frame least) = decimal least ++ codes " to frames - 1"
-number_text spec number.Step = codes "0 to " ++ decimal (last_step spec)
+number_text spec number.Step = codes "0 to " ++ decimal (step_after_mark spec)
 
 -- a text in a document, of a script for a specification where there is one
 abbrev pub text_text : Option Parts → Text → List ℕ
@@ -122,16 +119,16 @@ text_text spec text.Configuration = codes "the name of a configuration"
 text_text spec text.ConfigurationOrAny = codes "the name of a configuration, or *"
 text_text spec text.Factor = codes "the name of a factor"
 text_text spec text.Value = codes "the name of one of its values"
-text_text spec text.Kind = listed (map kind_text kinds)
-text_text spec text.Mode = listed (map modes_text kinds)
+text_text spec text.Kind = listed (map kind_words kinds)
+text_text spec text.Mode = listed (map kind_and_modes kinds)
 text_text spec text.Variable = listed (map variables_text kinds)
 text_text spec text.Policy = codes "retarget or settle"
-text_text spec text.ScriptFactor = factors_text (factors_of spec)
-text_text spec text.ScriptProcessor = listed (map proc_text (procs_of spec))
+text_text spec text.ScriptFactor = factors_and_values (script_factors spec)
+text_text spec text.ScriptProcessor = listed (map name_of_proc (script_procs spec))
 
 -- What is wanted, in a script for a specification where there is one.
 abbrev pub wanted_text : Option Parts → Wanted → List ℕ
-wanted_text spec (wanted.Object object) = listed (map member_text (members_of object))
-wanted_text spec (wanted.List length element) = length_text length
+wanted_text spec (wanted.Object object) = listed (map member_wanted (members_of object))
+wanted_text spec (wanted.List length element) = length_wanted length
 wanted_text spec (wanted.Number number) = number_text spec number
 wanted_text spec (wanted.Text text) = text_text spec text

@@ -6,7 +6,7 @@ ghost use Rattle.scram_doc.specs.Documents.{document};
 ghost use Rattle.document_explanations.specs.Explanations.{explanation, found_line, found_part, rule_line, rule_lines, wanted_line, wanted_part};
 ghost use Rattle.document_explanations.specs.Rules.{rule_read};
 
-use crate::found::{cut, found_at};
+use crate::found::{cut, found_text_at};
 use crate::lines::Lines;
 use crate::paths::wanted_at;
 use crate::rules::{DocumentKind, DocumentRule, add_rule_text, broken_rule};
@@ -125,7 +125,7 @@ fn found_part(alloc: Global, number: u8, broken: &BrokenDocument<'_>) -> Result<
     match parse(alloc, broken.bytes) {
         Ok(value) => cut(
             alloc,
-            found_at(alloc, broken.kind, number, broken.path, &value)?,
+            found_text_at(alloc, broken.kind, number, broken.path, &value)?,
         ),
         Err(DocError::Fault(_)) => Ok(String::new(alloc)),
         Err(DocError::NoMemory) => Err(NoMemory),

@@ -5,7 +5,7 @@ ghost use Rattle.json.specs.Print.{quoted};
 ghost use Rattle.serde_json.specs.Events.{items_len};
 ghost use Rattle.serde_json.specs.View.{items_view, members_view, view};
 ghost use Rattle.spec_members.specs.Versions.{has_version};
-ghost use Rattle.document_explanations.specs.Found.{cut, elements_text, found_at, found_in, further_members, further_text, is_known, is_version_of};
+ghost use Rattle.document_explanations.specs.Found.{cut, elements_text, found_text_at, found_in, further_members, further_text, is_known, is_version_of};
 
 use crate::lines::Lines;
 use crate::objects::{Object, Versions, Wanted, find_member};
@@ -135,14 +135,14 @@ fn elements_text(alloc: Global, value: &Value) -> Result<String, NoMemory>
 /// # Errors
 ///
 /// Out of memory.
-pub fn found_at(
+pub fn found_text_at(
     alloc: Global,
     kind: DocumentKind,
     rule: u8,
     path: &Path,
     document: &Value,
 ) -> Result<String, NoMemory>
-    ensures { IfOk result (λ text. string_bytes text ≡ found_at kind rule path.now (view document.now)) }
+    ensures { IfOk result (λ text. string_bytes text ≡ found_text_at kind rule path.now (view document.now)) }
 {
     let Some(value) = value_at(document, path) else {
         return Ok(String::new(alloc));

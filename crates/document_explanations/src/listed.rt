@@ -55,9 +55,9 @@ pub struct MemberText;
 
 impl Shown<Member> for MemberText {
     ghost use Rattle.document_explanations.specs.Objects.{member_read};
-    ghost use Rattle.document_explanations.specs.Wants.{member_text};
+    ghost use Rattle.document_explanations.specs.Wants.{member_wanted};
 
-    ghost shown = { λ m. member_text (member_read m) };
+    ghost shown = { λ m. member_wanted (member_read m) };
 
     fn add(lines: &mut Lines, item: &Member) -> Result<(), NoMemory> {
         lines.push(item.name)?;
@@ -96,9 +96,9 @@ pub struct KindText;
 
 impl Shown<Kind> for KindText {
     ghost use Rattle.app_model.specs.Kinds.{kind_read};
-    ghost use Rattle.document_explanations.specs.Wants.{kind_text};
+    ghost use Rattle.document_explanations.specs.Wants.{kind_words};
 
-    ghost shown = { λ k. kind_text (kind_read k) };
+    ghost shown = { λ k. kind_words (kind_read k) };
 
     fn add(lines: &mut Lines, item: &Kind) -> Result<(), NoMemory> {
         lines.push(item.name)
@@ -110,9 +110,9 @@ pub struct ModesText;
 
 impl Shown<Kind> for ModesText {
     ghost use Rattle.app_model.specs.Kinds.{kind_read};
-    ghost use Rattle.document_explanations.specs.Wants.{modes_text};
+    ghost use Rattle.document_explanations.specs.Wants.{kind_and_modes};
 
-    ghost shown = { λ k. modes_text (kind_read k) };
+    ghost shown = { λ k. kind_and_modes (kind_read k) };
 
     fn add(lines: &mut Lines, item: &Kind) -> Result<(), NoMemory> {
         lines.push(item.name)?;
@@ -172,9 +172,9 @@ fn add_variables(lines: &mut Lines, variables: &[Variable]) -> Result<(), NoMemo
 pub struct ProcText;
 
 impl Shown<Proc> for ProcText {
-    ghost use Rattle.document_explanations.specs.Wants.{proc_text};
+    ghost use Rattle.spec_members.specs.Names.{name_of_proc};
 
-    ghost shown = { proc_text };
+    ghost shown = { name_of_proc };
 
     fn add(lines: &mut Lines, item: &Proc) -> Result<(), NoMemory> {
         lines.push(item.name.as_str())
@@ -185,9 +185,9 @@ impl Shown<Proc> for ProcText {
 pub struct FactorText;
 
 impl Shown<Factor> for FactorText {
-    ghost use Rattle.document_explanations.specs.Wants.{factor_text};
+    ghost use Rattle.document_explanations.specs.Wants.{factor_and_values};
 
-    ghost shown = { factor_text };
+    ghost shown = { factor_and_values };
 
     fn add(lines: &mut Lines, item: &Factor) -> Result<(), NoMemory> {
         lines.push(item.name.as_str())?;

@@ -1,7 +1,7 @@
 //! The table of the rules of specifications and scripts, in words.
 
 ghost use Rattle.std.specs.Prelude.{◌≡◌, ◌++◌, OnOk, map, option_map};
-ghost use Rattle.document_explanations.specs.Rules.{broken_rule, common_rules, limit_text, own_rules, root_of, rule_in, rule_read, rule_text, shows_found, shows_wanted};
+ghost use Rattle.document_explanations.specs.Rules.{broken_rule, common_rules, limit_text, own_rules, root_of, rule_in, rule_read, rule_words, shows_found, shows_wanted};
 
 use crate::lines::Lines;
 use crate::objects::Object;
@@ -227,7 +227,7 @@ pub fn broken_rule(kind: DocumentKind, number: u8) -> Option<DocumentRule>
 ///
 /// Out of memory.
 pub fn add_rule_text(lines: &mut Lines, rule: &DocumentRule) -> Result<(), NoMemory>
-    ensures { OnOk result (lines.new ≡ lines.old ++ rule_text (rule_read rule.now)) }
+    ensures { OnOk result (lines.new ≡ lines.old ++ rule_words (rule_read rule.now)) }
 {
     lines.push(rule.text)?;
     match rule.limit {

@@ -1,7 +1,7 @@
 //! What is wanted, in words.
 
 ghost use Rattle.std.specs.Prelude.{◌≡◌, ◌++◌, OnOk, map, option_map};
-ghost use Rattle.document_explanations.specs.Wants.{factors_text, factors_of, procs_of, last_step, length_text, number_text, text_text, wanted_text};
+ghost use Rattle.document_explanations.specs.Wants.{factors_and_values, script_factors, script_procs, step_after_mark, length_wanted, number_text, text_text, wanted_text};
 
 use crate::lines::Lines;
 use crate::listed::{
@@ -29,7 +29,7 @@ pub fn add_wanted(lines: &mut Lines, spec: Option<&Spec>, wanted: Wanted) -> Res
 }
 
 fn add_length(lines: &mut Lines, length: Length) -> Result<(), NoMemory>
-    ensures { OnOk result (lines.new ≡ lines.old ++ length_text length) }
+    ensures { OnOk result (lines.new ≡ lines.old ++ length_wanted length) }
 {
     match length {
         Length::Within { least, most } => {
@@ -70,7 +70,7 @@ fn add_number(lines: &mut Lines, spec: Option<&Spec>, number: &Number) -> Result
         }
         Number::Step => {
             lines.push("0 to ")?;
-            lines.number(last_step(spec))
+            lines.number(step_after_mark(spec))
         }
     }
 }
@@ -90,13 +90,13 @@ fn add_text(lines: &mut Lines, spec: Option<&Spec>, text: Text) -> Result<(), No
         Text::Mode => add_listed::<Kind, ModesText>(lines, kinds()),
         Text::Variable => add_listed::<Kind, VariablesText>(lines, kinds()),
         Text::Policy => lines.push("retarget or settle"),
-        Text::ScriptFactor => add_factors(lines, factors_of(spec)),
-        Text::ScriptProcessor => add_listed::<Proc, ProcText>(lines, procs_of(spec)),
+        Text::ScriptFactor => add_factors(lines, script_factors(spec)),
+        Text::ScriptProcessor => add_listed::<Proc, ProcText>(lines, script_procs(spec)),
     }
 }
 
 fn add_factors(lines: &mut Lines, factors: &[Factor]) -> Result<(), NoMemory>
-    ensures { OnOk result (lines.new ≡ lines.old ++ factors_text factors.now) }
+    ensures { OnOk result (lines.new ≡ lines.old ++ factors_and_values factors.now) }
 {
     if factors.is_empty() {
         lines.push("-")
@@ -105,8 +105,8 @@ fn add_factors(lines: &mut Lines, factors: &[Factor]) -> Result<(), NoMemory>
     }
 }
 
-fn factors_of(spec: Option<&Spec>) -> &[Factor]
-    ensures { result.now ≡ factors_of (option_map (λ s. s.now) spec.entry) }
+fn script_factors(spec: Option<&Spec>) -> &[Factor]
+    ensures { result.now ≡ script_factors (option_map (λ s. s.now) spec.entry) }
 {
     match spec {
         Some(spec) => spec.factors.items(),
@@ -114,8 +114,8 @@ fn factors_of(spec: Option<&Spec>) -> &[Factor]
     }
 }
 
-fn procs_of(spec: Option<&Spec>) -> &[Proc]
-    ensures { result.now ≡ procs_of (option_map (λ s. s.now) spec.entry) }
+fn script_procs(spec: Option<&Spec>) -> &[Proc]
+    ensures { result.now ≡ script_procs (option_map (λ s. s.now) spec.entry) }
 {
     match spec {
         Some(spec) => spec.procs.items(),
@@ -123,8 +123,8 @@ fn procs_of(spec: Option<&Spec>) -> &[Proc]
     }
 }
 
-fn last_step(spec: Option<&Spec>) -> usize
-    ensures { result ≡ last_step (option_map (λ s. s.now) spec.entry) }
+fn step_after_mark(spec: Option<&Spec>) -> usize
+    ensures { result ≡ step_after_mark (option_map (λ s. s.now) spec.entry) }
 {
     match spec {
         Some(spec) => 8 * spec.apps.items().len() + 1,

@@ -21,7 +21,7 @@ use Rattle.form_base.specs.Assurance.{IsAssuring, OfDocument, OfSpecification}
 use Rattle.form_base.specs.Specifications.{SaysSpecification}
 use Rattle.form_base.proofs.Assuring.{document_assures, not_zero, text_of_gives}
 use Rattle.scram_io.specs.Outside.{History}
-use Rattle.explain_form.specs.Answers.{AssuresExplain, AssuresExplainScript, ExplainAnswers, ExplainScriptAnswers, ScriptAnswers, SpecificationAnswers}
+use Rattle.explain_form.specs.Answers.{AssuresExplain, AssuresExplainScript, ExplainAnswers, ExplainScriptAnswers, MissionAnswers, SpecificationAnswers}
 use Rattle.explain_form.specs.Texts.{accepted_text, explain_answer, outside_answer, script_answer}
 
 explain_zero : (spec : Parts) (shown : Option Shown) → IsSpec spec → first_refusal spec ≡ shown → (text : List ℕ) → Gives (explain_answer spec shown) ANSWERED text
@@ -63,7 +63,7 @@ pub explain_script_assures : (specification script : List ℕ) → IsAssuring (E
 explain_script_assures specification script before after reads text is =
     document_assures SaysSpecification BreaksExplainedSpecification MAX_SPECIFICATION_BYTES 4 (long_explained_specification).1 specification _
     (λ (spec : Parts). OfDocument (SaysScript spec) script (λ (script : ScriptParts) (reads : History) (text : List ℕ). (reads ≡ []) × IsMission (mission_of spec script) × (text ≡ accepted_text spec)))
-    (λ spec bytes says. document_assures (SaysScript spec) (BreaksExplainedScript spec) MAX_SCRIPT_BYTES 6 (long_explained_script).1 script (ScriptAnswers spec)
+    (λ spec bytes says. document_assures (SaysScript spec) (BreaksExplainedScript spec) MAX_SCRIPT_BYTES 6 (long_explained_script).1 script (MissionAnswers spec)
     (λ (script : ScriptParts) (reads : History) (text : List ℕ). (reads ≡ []) × IsMission (mission_of spec script) × (text ≡ accepted_text spec))
     (λ script bytes fits before after reads text is. let told = script_zero spec script (first_refusal spec) says.sound fits.fits refl text is.1 in (is.0, told.0, told.1))
     (no_broken_script spec))

@@ -9,17 +9,17 @@ use Rattle.fault_script.specs.declared.assumption.Outside.{Outside}
 use Rattle.fault_script.specs.declared.assumption.OutsideKind.TheVariants as kind
 use Rattle.fault_script.specs.Assumption.{brings_too_many_down, first_outside, is_change_too_many, outside_at}
 use Rattle.form_base.specs.Texts.{texts_below}
-use Rattle.explain_form.specs.Outsides.{change_text, frames_text}
+use Rattle.explain_form.specs.Outsides.{change_frame_text, change_frames_text}
 
 -- all frames up to the last one were told
 pub frames_told : (spec : Parts) (script : ScriptParts) (last n : ℕ) (old mid text : List ℕ) → mid ≡ old ++ codes "  frames" → last + 1 ≤ n → n ≤ last + 1
-    → text ≡ mid ++ texts_below (change_text spec script last) n → text ≡ old ++ frames_text spec script last
-unfolding frames_text
+    → text ≡ mid ++ texts_below (change_frame_text spec script last) n → text ≡ old ++ change_frames_text spec script last
+unfolding change_frames_text
 frames_told spec script last n old mid text begun high low is =
     let end : n ≡ suc last = omega (arith, high, low) in
-    is ∙ ap (λ (k : ℕ). mid ++ texts_below (change_text spec script last) k) end
-    ∙ ap (λ (front : List ℕ). front ++ texts_below (change_text spec script last) (suc last)) begun
-    ∙ append_assoc old (codes "  frames") (texts_below (change_text spec script last) (suc last))
+    is ∙ ap (λ (k : ℕ). mid ++ texts_below (change_frame_text spec script last) k) end
+    ∙ ap (λ (front : List ℕ). front ++ texts_below (change_frame_text spec script last) (suc last)) begun
+    ∙ append_assoc old (codes "  frames") (texts_below (change_frame_text spec script last) (suc last))
 
 frame_by : (f : ℕ) (down changes : Bool) (outside : Outside)
     → (if down then Some (record { frame = f; kind = kind.Halts }) else (if changes then Some (record { frame = f; kind = kind.Changes }) else None)) ≡ Some outside

@@ -9,7 +9,7 @@ use Rattle.scram_types.proofs.BitSets.{count_none, count_same}
 use Rattle.scram_types.proofs.Naturals.{at_or_below, below_test, low_or_high, not_below_test}
 use Rattle.fault_script.specs.Assumption.{changes_in_window, changes_upto, is_change_frame}
 use Rattle.explain_form.specs.Laws.{WindowsAreTold}
-use Rattle.explain_form.specs.Outsides.{changes_in, is_in_window}
+use Rattle.explain_form.specs.Outsides.{is_change_told, is_in_window}
 
 and_false : (b : Bool) → (b && false) ≡ false
 and_false true = refl
@@ -26,25 +26,25 @@ module _ (spec : Parts) (script : ScriptParts) where
     before = suc (last - spec.window)
 
     -- none is told that is before the window; frame 0 is no change frame
-    none_before : (f : ℕ) → f < before → changes_in spec script last f ≡ false
+    none_before : (f : ℕ) → f < before → is_change_told spec script last f ≡ false
     none_before zero low = and_false (is_in_window spec last 0)
     none_before (suc f) low = rw (not_below_test last (suc f + spec.window) (omega (arith, low))) refl
 
     -- and each one from there on
-    same_after : (f : ℕ) → before ≤ f → changes_in spec script last f ≡ is_change_frame spec script f
+    same_after : (f : ℕ) → before ≤ f → is_change_told spec script last f ≡ is_change_frame spec script f
     same_after f high = rw (below_test last (f + spec.window) (omega (arith, high))) refl
 
-    counted : (n : ℕ) → before ≤ n → count_below (changes_in spec script last) n + count_below (is_change_frame spec script) before ≡ count_below (is_change_frame spec script) n
+    counted : (n : ℕ) → before ≤ n → count_below (is_change_told spec script last) n + count_below (is_change_frame spec script) before ≡ count_below (is_change_frame spec script) n
     counted zero high = absurd (omega (arith, high))
     counted (suc n) high = elim (at_or_below before n high) [
       | inl lower ↦
           (let rest = counted n lower in
-          let more : ◌≡◌ {A = ℕ} (if changes_in spec script last n then 1 else 0) (if is_change_frame spec script n then 1 else 0) = ap (λ (b : Bool). if b then 1 else 0) (same_after n lower) in
+          let more : ◌≡◌ {A = ℕ} (if is_change_told spec script last n then 1 else 0) (if is_change_frame spec script n then 1 else 0) = ap (λ (b : Bool). if b then 1 else 0) (same_after n lower) in
           omega (arith, rest, more))
       | inr here ↦
-          (let none : count_below (changes_in spec script last) before ≡ 0 =
-          count_same (changes_in spec script last) (λ f. false) before none_before ∙ count_none before in
-          let at : count_below (changes_in spec script last) (suc n) ≡ 0 = ap (count_below (changes_in spec script last)) (sym here) ∙ none in
+          (let none : count_below (is_change_told spec script last) before ≡ 0 =
+          count_same (is_change_told spec script last) (λ f. false) before none_before ∙ count_none before in
+          let at : count_below (is_change_told spec script last) (suc n) ≡ 0 = ap (count_below (is_change_told spec script last)) (sym here) ∙ none in
           let all = ap (count_below (is_change_frame spec script)) here in
           omega (arith, at, all))
     ]

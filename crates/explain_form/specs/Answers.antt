@@ -19,8 +19,8 @@ abbrev pub SpecificationAnswers : Parts → Answer
 SpecificationAnswers spec = WithoutFiles (Gives (explain_answer spec (first_refusal spec)))
 
 -- The answer to a specification and a script for it that were read.
-abbrev pub ScriptAnswers : Parts → ScriptParts → Answer
-ScriptAnswers spec script = WithoutFiles (Gives (script_answer spec script (first_refusal spec)))
+abbrev pub MissionAnswers : Parts → ScriptParts → Answer
+MissionAnswers spec script = WithoutFiles (Gives (script_answer spec script (first_refusal spec)))
 
 -- The answer to `explain` and the name of a specification's file.
 abbrev pub ExplainAnswers : List ℕ → Answer
@@ -29,7 +29,7 @@ ExplainAnswers specification = AsksExplainedSpecification specification Specific
 -- The answer to `explain` and the names of a specification's file and of a script's.
 abbrev pub ExplainScriptAnswers : List ℕ → List ℕ → Answer
 ExplainScriptAnswers specification script =
-    AsksExplainedSpecification specification (λ (spec : Parts). AsksExplainedScript spec script (ScriptAnswers spec))
+    AsksExplainedSpecification specification (λ (spec : Parts). AsksExplainedScript spec script (MissionAnswers spec))
 
 -- Status and text are those that are told, and the status is about neither a file nor the output.
 pub record IsTold (explanation : Explanation) : Type 0 where

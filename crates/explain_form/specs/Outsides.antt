@@ -15,28 +15,28 @@ abbrev pub is_in_window : Parts → ℕ → ℕ → Bool
 is_in_window spec last f = nat_lt last (f + spec.window)
 
 -- Frame f is in the window that ends with frame `last`, and the environment changes in it.
-abbrev pub changes_in : Parts → ScriptParts → ℕ → ℕ → Bool
-changes_in spec script last f = is_in_window spec last f && is_change_frame spec script f
+abbrev pub is_change_told : Parts → ScriptParts → ℕ → ℕ → Bool
+is_change_told spec script last f = is_in_window spec last f && is_change_frame spec script f
 
 -- a frame behind others
 abbrev pub frame_text : ℕ → List ℕ
 frame_text f = codes " " ++ decimal f
 
 -- frame f, where it is one of those that are told
-abbrev pub change_text : Parts → ScriptParts → ℕ → ℕ → List ℕ
-change_text spec script last f = if changes_in spec script last f then frame_text f else []
+abbrev pub change_frame_text : Parts → ScriptParts → ℕ → ℕ → List ℕ
+change_frame_text spec script last f = if is_change_told spec script last f then frame_text f else []
 
 -- how many frames are assumed to change the environment
 abbrev pub assumed_line : Parts → List ℕ
 assumed_line spec = codes " change, at most " ++ decimal (spec.changes + 1) ++ codes " in " ++ decimal spec.window ++ codes " frames\n"
 
 -- the frames of the window that ends with frame `last` in which the environment changes
-unfoldable pub frames_text : Parts → ScriptParts → ℕ → List ℕ
-frames_text spec script last = codes "  frames" ++ texts_below (change_text spec script last) (suc last)
+unfoldable pub change_frames_text : Parts → ScriptParts → ℕ → List ℕ
+change_frames_text spec script last = codes "  frames" ++ texts_below (change_frame_text spec script last) (suc last)
 
 -- the same, and how many are assumed
-abbrev pub changes_text : Parts → ScriptParts → ℕ → List ℕ
-changes_text spec script last = frames_text spec script last ++ assumed_line spec
+abbrev pub too_many_changes_text : Parts → ScriptParts → ℕ → List ℕ
+too_many_changes_text spec script last = change_frames_text spec script last ++ assumed_line spec
 
 -- the processors that are down in frame f
 abbrev pub down_line : Parts → ScriptParts → ℕ → List ℕ
@@ -47,7 +47,7 @@ down_line spec script f =
 -- after the one that is told, of too many changes the frames of the window that ends with it.
 abbrev pub outside_text_by : Parts → ScriptParts → ℕ → OutsideKind → List ℕ
 outside_text_by spec script f Halts = down_line spec script (f + 1)
-outside_text_by spec script f Changes = changes_text spec script f
+outside_text_by spec script f Changes = too_many_changes_text spec script f
 
 -- The same of where a script leaves the assumption.
 abbrev pub outside_text : Parts → ScriptParts → Outside → List ℕ

@@ -8,7 +8,7 @@ ghost use Rattle.document_explanations.specs.Scripts.{AsksExplainedScript};
 ghost use Rattle.form_base.specs.Answers.{Gives};
 ghost use Rattle.form_base.specs.Endings.{Ends, IsTaken, Prepares, Settles};
 ghost use Rattle.form_base.specs.declared.status.TheConstants.{ANSWERED, NOT_ACCEPTED, UNASSUMED_SCRIPT};
-ghost use Rattle.explain_form.specs.Answers.{ExplainAnswers, ExplainScriptAnswers, IsTold, ScriptAnswers, TellsExplanation};
+ghost use Rattle.explain_form.specs.Answers.{ExplainAnswers, ExplainScriptAnswers, IsTold, MissionAnswers, TellsExplanation};
 ghost use Rattle.explain_form.specs.Texts.{accepted_text, explain_answer, outside_answer, refused_text, script_answer, unassumed_text};
 
 use crate::explanations::{Explanation, make_accepted, make_refused, make_unassumed};
@@ -95,7 +95,7 @@ fn read_script<F: Files>(
     script: &str,
     files: &mut F,
 ) -> Result<Explanation, Refusal>
-    ensures reads { Prepares (AsksExplainedScript spec script.now (ScriptAnswers spec)) TellsExplanation
+    ensures reads { Prepares (AsksExplainedScript spec script.now (MissionAnswers spec)) TellsExplanation
         (script.now ∷ []) (F.state files.old) (F.state files.new) result }
     ensures told { IfOk result IsTold }
 {

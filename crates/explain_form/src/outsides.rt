@@ -3,7 +3,7 @@
 ghost use Rattle.std.specs.Prelude.{◌≡◌, ◌+◌, ◌≤◌, ◌++◌, IfOk, OnOk};
 ghost use Rattle.fault_script.specs.Assumption.{is_change_frame, is_same_env};
 ghost use Rattle.fault_script.specs.Environments.{env_at};
-ghost use Rattle.explain_form.specs.Outsides.{assumed_line, change_text, changes_text, down_line, frame_text, frames_text, is_in_window, outside_text};
+ghost use Rattle.explain_form.specs.Outsides.{assumed_line, change_frame_text, too_many_changes_text, down_line, frame_text, change_frames_text, is_in_window, outside_text};
 
 use fault_script::{Outside, OutsideKind, factors_at, up_set_at};
 use form_base::lines::add_down;
@@ -59,7 +59,7 @@ fn add_changes(
     last: u32,
 ) -> Result<(), AllocError>
     requires { last ≤ 20000 }
-    ensures { OnOk result (text.new.items ≡ text.old.items ++ changes_text spec.now script.now last) }
+    ensures { OnOk result (text.new.items ≡ text.old.items ++ too_many_changes_text spec.now script.now last) }
 {
     add_change_frames(text, spec, script, last)?;
     text.extend_from_slice(make_assumed_line(spec).as_bytes())
@@ -72,7 +72,7 @@ fn add_change_frames(
     last: u32,
 ) -> Result<(), AllocError>
     requires { last ≤ 20000 }
-    ensures { OnOk result (text.new.items ≡ text.old.items ++ frames_text spec.now script.now last) }
+    ensures { OnOk result (text.new.items ≡ text.old.items ++ change_frames_text spec.now script.now last) }
 {
     text.extend_from_slice(b"  frames")?;
     for frame in 0..last + 1 {
@@ -90,7 +90,7 @@ fn add_change_frame(
     frame: u32,
 ) -> Result<(), AllocError>
     requires { frame ≤ 20000 }
-    ensures { OnOk result (text.new.items ≡ text.old.items ++ change_text spec.now script.now last frame) }
+    ensures { OnOk result (text.new.items ≡ text.old.items ++ change_frame_text spec.now script.now last frame) }
 {
     if is_in_window(spec, last, frame) && is_change_frame(spec, script, frame) {
         text.extend_from_slice(make_frame(frame).as_bytes())?;

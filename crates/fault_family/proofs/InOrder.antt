@@ -20,15 +20,15 @@ use Rattle.fault_family.specs.declared.faults.FaultKind.{FaultKind}
 use Rattle.fault_family.specs.declared.faults.FaultKind.TheVariants.{Change, Halt, Restart}
 use Rattle.fault_family.specs.Families.{extended, may_follow}
 use Rattle.fault_family.specs.Faults.{detail, number, precedes, rank}
-use Rattle.fault_family.specs.Laws.{ComesFirst, FamiliesAreOrdered, Stands, here, further}
-use Rattle.fault_family.specs.NextFaults.{candidates, changes_of, faults_in, frames_after, frames_behind, gaps, halts_of, kinds_of, numbers_below, restarts_of, values_of}
-use Rattle.fault_family.specs.Scripts.{is_within, script_of}
+use Rattle.fault_family.specs.Laws.{ComesFirst, FamiliesAreOrdered, StandsFor, here, further}
+use Rattle.fault_family.specs.NextFaults.{candidates, factor_changes, faults_in, frames_after, frames_behind, gaps, proc_halts, kinds_of, numbers_below, restarts_of, value_count}
+use Rattle.fault_family.specs.Scripts.{is_within, script_of_faults}
 use Rattle.fault_family.proofs.Joined.{stands_in_part, stands_listed, stands_mapped, stands_one, stands_part, stands_where}
 use Rattle.fault_family.proofs.Members.{GoesOn, goes_on}
 
 -- order of lists that are joined
 
-later_cons : {A : Type 0} (R : A → A → Type 0) (x : A) (xs : List A) → ((y : A) → Stands xs y → R x y) → EachLater R xs → EachLater R (x ∷ xs)
+later_cons : {A : Type 0} (R : A → A → Type 0) (x : A) (xs : List A) → ((y : A) → StandsFor xs y → R x y) → EachLater R xs → EachLater R (x ∷ xs)
 later_cons R x xs first each zero zero y z less p q = absurd (omega (arith, less))
 later_cons R x xs first each zero (suc j) y z less p q = subst (λ w. R w z) (same_Some x y p) (first z (j, q))
 later_cons R x xs first each (suc i) zero y z less p q = absurd (omega (arith, less))
@@ -37,7 +37,7 @@ later_cons R x xs first each (suc i) (suc j) y z less p q = each i j y z (omega 
 later_tail : {A : Type 0} (R : A → A → Type 0) (x : A) (xs : List A) → EachLater R (x ∷ xs) → EachLater R xs
 later_tail R x xs each i j y z less p q = each (suc i) (suc j) y z (omega (arith, less)) p q
 
-later_joined : {A : Type 0} (R : A → A → Type 0) (xs ys : List A) → EachLater R xs → EachLater R ys → ((x y : A) → Stands xs x → Stands ys y → R x y) → EachLater R (xs ++ ys)
+later_joined : {A : Type 0} (R : A → A → Type 0) (xs ys : List A) → EachLater R xs → EachLater R ys → ((x y : A) → StandsFor xs x → StandsFor ys y → R x y) → EachLater R (xs ++ ys)
 later_joined R [] ys first second across = second
 later_joined R (x ∷ xs) ys first second across =
     later_cons R x (xs ++ ys)
@@ -45,7 +45,7 @@ later_joined R (x ∷ xs) ys first second across =
     (later_joined R xs ys (later_tail R x xs first) second (λ w y stands. across w y (suc stands.0, stands.1)))
 
 later_parts : {A B : Type 0} (R : A → A → Type 0) (S : B → B → Type 0) (f : A → List B) → ((x : A) → EachLater S (f x))
-    → ((x y : A) (a b : B) → R x y → Stands (f x) a → Stands (f y) b → S a b) → (xs : List A) → EachLater R xs → EachLater S (flat_map f xs)
+    → ((x y : A) (a b : B) → R x y → StandsFor (f x) a → StandsFor (f y) b → S a b) → (xs : List A) → EachLater R xs → EachLater S (flat_map f xs)
 later_parts R S f within across [] each = each_later_none S
 later_parts R S f within across (x ∷ xs) each =
     later_joined S (f x) (flat_map f xs) (within x) (later_parts R S f within across xs (later_tail R x xs each))
@@ -98,36 +98,36 @@ by_number k l same after f =
     or_right (comes_after f (rank k) f (rank l)) _ (rw (frames, ranks, after) refl)
 
 module _ (spec : Parts) where
-  changes_ordered : (x : ℕ) → EachLater KindBefore (changes_of spec x)
-  changes_ordered x = later_listed KindBefore (λ value. Change (factor_id x) value) (values_of spec x) (λ i j less. by_number (Change (factor_id x) i) (Change (factor_id x) j) refl (after_second x i j less))
+  changes_ordered : (x : ℕ) → EachLater KindBefore (factor_changes spec x)
+  changes_ordered x = later_listed KindBefore (λ value. Change (factor_id x) value) (value_count spec x) (λ i j less. by_number (Change (factor_id x) i) (Change (factor_id x) j) refl (after_second x i j less))
 
-  all_changes_ordered : EachLater KindBefore (flat_map (changes_of spec) (numbers_below (length spec.factors)))
+  all_changes_ordered : EachLater KindBefore (flat_map (factor_changes spec) (numbers_below (length spec.factors)))
   all_changes_ordered =
-      later_parts (λ (x y : ℕ). x < y) KindBefore (changes_of spec) changes_ordered
+      later_parts (λ (x y : ℕ). x < y) KindBefore (factor_changes spec) changes_ordered
       (λ x y k l less first second.
-      let a = stands_listed (λ value. Change (factor_id x) value) (values_of spec x) k first in
-      let b = stands_listed (λ value. Change (factor_id y) value) (values_of spec y) l second in
+      let a = stands_listed (λ value. Change (factor_id x) value) (value_count spec x) k first in
+      let b = stands_listed (λ value. Change (factor_id y) value) (value_count spec y) l second in
       subst (λ m. KindBefore m l) a.2 (subst (KindBefore (Change (factor_id x) a.0)) b.2 (by_number (Change (factor_id x) a.0) (Change (factor_id y) b.0) refl (after_first x a.0 y b.0 less))))
       (numbers_below (length spec.factors)) (later_listed (λ (x y : ℕ). x < y) (λ k. k) (length spec.factors) (λ i j less. less))
 
-  halts_ordered : (p : ℕ) → EachLater KindBefore (halts_of spec p)
+  halts_ordered : (p : ℕ) → EachLater KindBefore (proc_halts spec p)
   halts_ordered p =
       later_cons KindBefore (Halt (proc_id p) 0) (Halt (proc_id p) (words spec + 1) ∷ [])
       (λ k stands. subst (KindBefore (Halt (proc_id p) 0)) (stands_one (Halt (proc_id p) (words spec + 1)) k stands)
       (by_number (Halt (proc_id p) 0) (Halt (proc_id p) (words spec + 1)) refl (after_second p 0 (words spec + 1) (omega arith))))
       (later_one KindBefore (Halt (proc_id p) (words spec + 1)))
 
-  halt_is : (p : ℕ) (k : FaultKind) → Stands (halts_of spec p) k → (step : ℕ) × (Halt (proc_id p) step ≡ k)
+  halt_is : (p : ℕ) (k : FaultKind) → StandsFor (proc_halts spec p) k → (step : ℕ) × (Halt (proc_id p) step ≡ k)
   halt_is p k stands = at stands.0 stands.1
     where
-      at : (i : ℕ) → slice_get (halts_of spec p) i ≡ Some k → (step : ℕ) × (Halt (proc_id p) step ≡ k)
+      at : (i : ℕ) → slice_get (proc_halts spec p) i ≡ Some k → (step : ℕ) × (Halt (proc_id p) step ≡ k)
       at zero there = (0, same_Some (Halt (proc_id p) 0) k there)
       at (suc zero) there = (words spec + 1, same_Some (Halt (proc_id p) (words spec + 1)) k there)
       at (suc (suc i)) there = absurd cc
 
-  all_halts_ordered : EachLater KindBefore (flat_map (halts_of spec) (numbers_below (length spec.procs)))
+  all_halts_ordered : EachLater KindBefore (flat_map (proc_halts spec) (numbers_below (length spec.procs)))
   all_halts_ordered =
-      later_parts (λ (x y : ℕ). x < y) KindBefore (halts_of spec) halts_ordered
+      later_parts (λ (x y : ℕ). x < y) KindBefore (proc_halts spec) halts_ordered
       (λ p q k l less first second.
       let a = halt_is p k first in
       let b = halt_is q l second in
@@ -137,25 +137,25 @@ module _ (spec : Parts) where
   restarts_ordered : EachLater KindBefore (restarts_of spec)
   restarts_ordered = later_listed KindBefore (λ p. Restart (proc_id p)) (length spec.procs) (λ i j less. by_number (Restart (proc_id i)) (Restart (proc_id j)) refl (after_first i 0 j 0 less))
 
-  change_rank : (k : FaultKind) → Stands (flat_map (changes_of spec) (numbers_below (length spec.factors))) k → rank k ≡ 0
+  change_rank : (k : FaultKind) → StandsFor (flat_map (factor_changes spec) (numbers_below (length spec.factors))) k → rank k ≡ 0
   change_rank k stands =
-      let part = stands_in_part (changes_of spec) (numbers_below (length spec.factors)) k stands in
-      let at = stands_listed (λ value. Change (factor_id part.0) value) (values_of spec part.0) k part.2 in
+      let part = stands_in_part (factor_changes spec) (numbers_below (length spec.factors)) k stands in
+      let at = stands_listed (λ value. Change (factor_id part.0) value) (value_count spec part.0) k part.2 in
       ap rank (sym at.2)
 
-  halt_rank : (k : FaultKind) → Stands (flat_map (halts_of spec) (numbers_below (length spec.procs))) k → rank k ≡ 1
+  halt_rank : (k : FaultKind) → StandsFor (flat_map (proc_halts spec) (numbers_below (length spec.procs))) k → rank k ≡ 1
   halt_rank k stands =
-      let part = stands_in_part (halts_of spec) (numbers_below (length spec.procs)) k stands in
+      let part = stands_in_part (proc_halts spec) (numbers_below (length spec.procs)) k stands in
       let at = halt_is part.0 k part.2 in
       ap rank (sym at.1)
 
-  restart_rank : (k : FaultKind) → Stands (restarts_of spec) k → rank k ≡ 2
+  restart_rank : (k : FaultKind) → StandsFor (restarts_of spec) k → rank k ≡ 2
   restart_rank k stands = let at = stands_listed (λ p. Restart (proc_id p)) (length spec.procs) k stands in ap rank (sym at.2)
 
   kinds_ordered : EachLater KindBefore (kinds_of spec)
   kinds_ordered =
-      let changes = flat_map (changes_of spec) (numbers_below (length spec.factors)) in
-      let halts = flat_map (halts_of spec) (numbers_below (length spec.procs)) in
+      let changes = flat_map (factor_changes spec) (numbers_below (length spec.factors)) in
+      let halts = flat_map (proc_halts spec) (numbers_below (length spec.procs)) in
       later_joined KindBefore (changes ++ halts) (restarts_of spec)
       (later_joined KindBefore changes halts all_changes_ordered all_halts_ordered
       (λ k l first second. let a = change_rank k first in let b = halt_rank l second in by_rank k l (omega (arith, a, b))))
@@ -226,7 +226,7 @@ module _ (spec : Parts) (accepts : Accepts spec) (some : 1 ≤ spec.window) wher
 
   extended_ordered : (more : ℕ) (before : List Fault) → EachLater ComesFirst (extended spec more before)
   unfolding branch
-  extended_ordered zero before = where_ordered (is_within spec (script_of spec before)) (before ∷ []) (later_one ComesFirst before)
+  extended_ordered zero before = where_ordered (is_within spec (script_of_faults spec before)) (before ∷ []) (later_one ComesFirst before)
   extended_ordered (suc more) before =
       later_parts (λ (a b : Fault). precedes a b ≡ true) ComesFirst (branch more before)
       (λ fault. where_ordered (may_follow spec before fault) (extended spec more (before ++ fault ∷ [])) (extended_ordered more (before ++ fault ∷ [])))

@@ -22,8 +22,8 @@ use Rattle.fault_family.specs.declared.faults.FaultKind.{FaultKind}
 use Rattle.fault_family.specs.declared.faults.FaultKind.TheVariants as kind
 use Rattle.fault_family.specs.Families.{differs_in}
 use Rattle.fault_family.specs.Faults.{may_come_after, precedes, repeats}
-use Rattle.fault_family.specs.Laws.{Follow, IsKind, IsNear, IsNext, MembersFit}
-use Rattle.fault_family.specs.Scripts.{change_in, change_of, frames_of, halt_in, halt_of, last_frame, restart_in, restart_of, script_of}
+use Rattle.fault_family.specs.Laws.{Follow, IsKind, IsNear, IsNextFault, MembersFit}
+use Rattle.fault_family.specs.Scripts.{change_fault_in, change_of_fault, frames_of_faults, halt_fault_in, halt_of_fault, last_fault_frame, restart_fault_in, restart_of_fault, script_of_faults}
 use Rattle.fault_family.proofs.Counting.{greatest_within}
 
 -- facts about the items that a function gives of a list's items
@@ -86,9 +86,9 @@ record Keeps (spec : Parts) (faults : List Fault) : Type 0 where
   kinds : Each (λ (fault : Fault). IsKind spec fault.kind) faults
   later : EachLater Later faults
   first : Each (λ (fault : Fault). 1 ≤ fault.frame) faults
-  last : Each (λ (fault : Fault). fault.frame ≤ last_frame faults) faults
-  low : last_frame faults ≤ 1001 * length faults
-  halted : Each (λ (fault : Fault). (restart : RestartAt) → restart_of fault ≡ Some restart → HaltsWellBefore (filter_map halt_of faults) restart.proc.0 restart.frame) faults
+  last : Each (λ (fault : Fault). fault.frame ≤ last_fault_frame faults) faults
+  low : last_fault_frame faults ≤ 1001 * length faults
+  halted : Each (λ (fault : Fault). (restart : RestartAt) → restart_of_fault fault ≡ Some restart → HaltsWellBefore (filter_map halt_of_fault faults) restart.proc.0 restart.frame) faults
 
 last_end : (before : List Fault) (fault : Fault) → last_of (before ++ fault ∷ []) ≡ Some fault
 last_end before fault =
@@ -96,7 +96,7 @@ last_end before fault =
     let place : length (before ++ fault ∷ []) - 1 ≡ length before = omega (arith, count) in
     rw place (next_part before [] fault)
 
-frame_end : (before : List Fault) (fault : Fault) → last_frame (before ++ fault ∷ []) ≡ fault.frame
+frame_end : (before : List Fault) (fault : Fault) → last_fault_frame (before ++ fault ∷ []) ≡ fault.frame
 frame_end before fault = ap (λ (o : Option Fault). option_map_or (λ (f : Fault). f.frame) o 0) (last_end before fault)
 
 -- How far a fault is behind the last one.
@@ -128,35 +128,35 @@ halted_more : (halts more : List HaltAt) (p f : ℕ) → HaltsWellBefore halts p
 halted_more halts more p f before = record { place = before.place; halt = before.halt; there = first_part halts more before.place before.halt before.there; proc = before.proc; frame = before.frame }
 
 module _ (spec : Parts) (is : IsSpec spec) where
-  restart_halted : (before : List Fault) (frame : ℕ) (k : FaultKind) → differs_in (script_of spec before) frame k ≡ true → (restart : RestartAt) → restart_in frame k ≡ Some restart
-      → HaltsWellBefore (filter_map halt_of before) restart.proc.0 restart.frame
+  restart_halted : (before : List Fault) (frame : ℕ) (k : FaultKind) → differs_in (script_of_faults spec before) frame k ≡ true → (restart : RestartAt) → restart_fault_in frame k ≡ Some restart
+      → HaltsWellBefore (filter_map halt_of_fault before) restart.proc.0 restart.frame
   restart_halted before frame (kind.Change factor value) differs restart e = absurd cc
   restart_halted before frame (kind.Halt proc step) differs restart e = absurd cc
   restart_halted before frame (kind.Restart proc) differs restart e =
-      subst (λ (r : RestartAt). HaltsWellBefore (filter_map halt_of before) r.proc.0 r.frame) (same_Some _ restart e) (halted_by (filter_map halt_of before) proc.0 frame differs)
+      subst (λ (r : RestartAt). HaltsWellBefore (filter_map halt_of_fault before) r.proc.0 r.frame) (same_Some _ restart e) (halted_by (filter_map halt_of_fault before) proc.0 frame differs)
 
-  keeps_end : (before : List Fault) (fault : Fault) → Keeps spec before → IsNext spec before fault → Keeps spec (before ++ fault ∷ [])
+  keeps_end : (before : List Fault) (fault : Fault) → Keeps spec before → IsNextFault spec before fault → Keeps spec (before ++ fault ∷ [])
   keeps_end before fault keeps next =
-      let parts = and_parts (list_all (may_come_after fault) before) (differs_in (script_of spec before) fault.frame fault.kind) next.follows in
+      let parts = and_parts (list_all (may_come_after fault) before) (differs_in (script_of_faults spec before) fault.frame fault.kind) next.follows in
       let behind = behind_by spec (last_of before) fault.frame is next.near (λ last there. keeps.first (length before - 1) last there) in
       let after = behind.after in
       let near = behind.near in
       let end = frame_end before fault in
       let low = keeps.low in
       let count = length-append before (fault ∷ []) in
-      let halts : filter_map halt_of before ++ filter_map halt_of (fault ∷ []) ≡ filter_map halt_of (before ++ fault ∷ []) = sym (filter_map-append halt_of before (fault ∷ [])) in
+      let halts : filter_map halt_of_fault before ++ filter_map halt_of_fault (fault ∷ []) ≡ filter_map halt_of_fault (before ++ fault ∷ []) = sym (filter_map-append halt_of_fault before (fault ∷ [])) in
       record {
         kinds = each_end (λ (f : Fault). IsKind spec f.kind) before fault keeps.kinds next.kind;
         later = each_later_end Later before fault keeps.later (λ i f there. each_passes (may_come_after fault) before parts.0 i f there);
         first = each_end (λ (f : Fault). 1 ≤ f.frame) before fault keeps.first behind.first;
-        last = each_end (λ (f : Fault). f.frame ≤ last_frame (before ++ fault ∷ [])) before fault
+        last = each_end (λ (f : Fault). f.frame ≤ last_fault_frame (before ++ fault ∷ [])) before fault
             (λ i f there. let earlier = keeps.last i f there in omega (arith, earlier, after, end)) (omega (arith, end));
         low = omega (arith, end, near, low, count);
-        halted = each_end (λ (f : Fault). (restart : RestartAt) → restart_of f ≡ Some restart → HaltsWellBefore (filter_map halt_of (before ++ fault ∷ [])) restart.proc.0 restart.frame) before fault
+        halted = each_end (λ (f : Fault). (restart : RestartAt) → restart_of_fault f ≡ Some restart → HaltsWellBefore (filter_map halt_of_fault (before ++ fault ∷ [])) restart.proc.0 restart.frame) before fault
             (λ i f there restart e. subst (λ (hs : List HaltAt). HaltsWellBefore hs restart.proc.0 restart.frame) halts
-            (halted_more (filter_map halt_of before) (filter_map halt_of (fault ∷ [])) restart.proc.0 restart.frame (keeps.halted i f there restart e)))
+            (halted_more (filter_map halt_of_fault before) (filter_map halt_of_fault (fault ∷ [])) restart.proc.0 restart.frame (keeps.halted i f there restart e)))
             (λ restart e. subst (λ (hs : List HaltAt). HaltsWellBefore hs restart.proc.0 restart.frame) halts
-            (halted_more (filter_map halt_of before) (filter_map halt_of (fault ∷ [])) restart.proc.0 restart.frame (restart_halted before fault.frame fault.kind parts.1 restart e)));
+            (halted_more (filter_map halt_of_fault before) (filter_map halt_of_fault (fault ∷ [])) restart.proc.0 restart.frame (restart_halted before fault.frame fault.kind parts.1 restart e)));
       }
 
   keeps_all : (before faults : List Fault) → Keeps spec before → Follow spec before faults → Keeps spec (before ++ faults)
@@ -171,7 +171,7 @@ module _ (spec : Parts) (is : IsSpec spec) where
     first = each_none (λ (f : Fault). 1 ≤ f.frame);
     last = each_none (λ (f : Fault). f.frame ≤ 0);
     low = omega arith;
-    halted = each_none (λ (f : Fault). (restart : RestartAt) → restart_of f ≡ Some restart → HaltsWellBefore [] restart.proc.0 restart.frame);
+    halted = each_none (λ (f : Fault). (restart : RestartAt) → restart_of_fault f ≡ Some restart → HaltsWellBefore [] restart.proc.0 restart.frame);
   }
 
 -- two faults of a class
@@ -200,7 +200,7 @@ apart x y e = by_bool (x == y) (λ same. absurd (true_false (x == y && true) (rw
 differ_by : (x y : ℕ) → (x == y) ≡ false → x ≡ y → ⊥
 differ_by x y other same = grind (arith, nat_tests, other, same)
 
-changes_in_order : (f g : ℕ) (k l : FaultKind) (a b : Change) → change_in f k ≡ Some a → change_in g l ≡ Some b → may_come_after (record { frame = g; kind = l }) (record { frame = f; kind = k }) ≡ true → ChangeBefore a b
+changes_in_order : (f g : ℕ) (k l : FaultKind) (a b : Change) → change_fault_in f k ≡ Some a → change_fault_in g l ≡ Some b → may_come_after (record { frame = g; kind = l }) (record { frame = f; kind = k }) ≡ true → ChangeBefore a b
 changes_in_order f g (kind.Change x v) (kind.Change y w) a b p q later =
     let parts = and_parts (precedes (record { frame = f; kind = kind.Change x v }) (record { frame = g; kind = kind.Change y w })) _ later in
     let differ = not-true (repeats (record { frame = f; kind = kind.Change x v }) (record { frame = g; kind = kind.Change y w })) parts.1 in
@@ -216,7 +216,7 @@ record AreApart (f p g q : ℕ) : Type 0 where
   order : Before f p g q
   other : p ≡ q → ⊥
 
-halts_apart : (f g : ℕ) (k l : FaultKind) (a b : HaltAt) → halt_in f k ≡ Some a → halt_in g l ≡ Some b → may_come_after (record { frame = g; kind = l }) (record { frame = f; kind = k }) ≡ true
+halts_apart : (f g : ℕ) (k l : FaultKind) (a b : HaltAt) → halt_fault_in f k ≡ Some a → halt_fault_in g l ≡ Some b → may_come_after (record { frame = g; kind = l }) (record { frame = f; kind = k }) ≡ true
     → AreApart a.frame a.proc.0 b.frame b.proc.0
 halts_apart f g (kind.Halt x v) (kind.Halt y w) a b p q later =
     let parts = and_parts (precedes (record { frame = f; kind = kind.Halt x v }) (record { frame = g; kind = kind.Halt y w })) _ later in
@@ -228,7 +228,7 @@ halts_apart f g (kind.Halt x v) (kind.Restart r) a b p q later = absurd cc
 halts_apart f g (kind.Change r s) l a b p q later = absurd cc
 halts_apart f g (kind.Restart r) l a b p q later = absurd cc
 
-restarts_apart : (f g : ℕ) (k l : FaultKind) (a b : RestartAt) → restart_in f k ≡ Some a → restart_in g l ≡ Some b → may_come_after (record { frame = g; kind = l }) (record { frame = f; kind = k }) ≡ true
+restarts_apart : (f g : ℕ) (k l : FaultKind) (a b : RestartAt) → restart_fault_in f k ≡ Some a → restart_fault_in g l ≡ Some b → may_come_after (record { frame = g; kind = l }) (record { frame = f; kind = k }) ≡ true
     → AreApart a.frame a.proc.0 b.frame b.proc.0
 restarts_apart f g (kind.Restart x) (kind.Restart y) a b p q later =
     let parts = and_parts (precedes (record { frame = f; kind = kind.Restart x }) (record { frame = g; kind = kind.Restart y })) _ later in
@@ -246,20 +246,20 @@ record LiesIn (frames frame : ℕ) : Type 0 where
   last : frame < frames
 
 module _ (spec : Parts) (frames : ℕ) where
-  is_change : (frame : ℕ) (k : FaultKind) (change : Change) → change_in frame k ≡ Some change → IsKind spec k → LiesIn frames frame → IsChange spec frames change
+  is_change : (frame : ℕ) (k : FaultKind) (change : Change) → change_fault_in frame k ≡ Some change → IsKind spec k → LiesIn frames frame → IsChange spec frames change
   is_change frame (kind.Change x v) change e is lies =
       subst (IsChange spec frames) (same_Some _ change e) (record { least = lies.first; most = lies.last; factor = is.is; there = is.there; value = is.below })
   is_change frame (kind.Halt p s) change e is lies = absurd cc
   is_change frame (kind.Restart p) change e is lies = absurd cc
 
-  is_halt : (frame : ℕ) (k : FaultKind) (halt : HaltAt) → halt_in frame k ≡ Some halt → IsKind spec k → LiesIn frames frame → IsHalt spec frames halt
+  is_halt : (frame : ℕ) (k : FaultKind) (halt : HaltAt) → halt_fault_in frame k ≡ Some halt → IsKind spec k → LiesIn frames frame → IsHalt spec frames halt
   is_halt frame (kind.Halt p s) halt e is lies =
       subst (IsHalt spec frames) (same_Some _ halt e)
       (record { proc = is.there; frame = lies.last; step = elim is.moment [ inl early ↦ omega (arith, early) | inr late ↦ omega (arith, late) ] })
   is_halt frame (kind.Change x v) halt e is lies = absurd cc
   is_halt frame (kind.Restart p) halt e is lies = absurd cc
 
-  is_restart : (halts : List HaltAt) (frame : ℕ) (k : FaultKind) (restart : RestartAt) → restart_in frame k ≡ Some restart → IsKind spec k → LiesIn frames frame
+  is_restart : (halts : List HaltAt) (frame : ℕ) (k : FaultKind) (restart : RestartAt) → restart_fault_in frame k ≡ Some restart → IsKind spec k → LiesIn frames frame
       → HaltsWellBefore halts restart.proc.0 restart.frame → IsRestart spec frames restart
   is_restart halts frame (kind.Restart p) restart e is lies before =
       let late = before.frame in
@@ -269,44 +269,44 @@ module _ (spec : Parts) (frames : ℕ) where
   is_restart halts frame (kind.Halt p s) restart e is lies before = absurd cc
 
 module _ (spec : Parts) (is : IsSpec spec) (faults : List Fault) (few : length faults ≤ 3) (keeps : Keeps spec faults) where
-  lies : (fault : Fault) → 1 ≤ fault.frame → fault.frame ≤ last_frame faults → LiesIn (frames_of spec faults) fault.frame
+  lies : (fault : Fault) → 1 ≤ fault.frame → fault.frame ≤ last_fault_frame faults → LiesIn (frames_of_faults spec faults) fault.frame
   lies fault first last = record { first = first; last = omega (arith, last) }
 
-  given : Each (λ (fault : Fault). IsKind spec fault.kind × LiesIn (frames_of spec faults) fault.frame) faults
+  given : Each (λ (fault : Fault). IsKind spec fault.kind × LiesIn (frames_of_faults spec faults) fault.frame) faults
   given i fault there = (keeps.kinds i fault there, lies fault (keeps.first i fault there) (keeps.last i fault there))
 
-  given_restart : Each (λ (fault : Fault). IsKind spec fault.kind × LiesIn (frames_of spec faults) fault.frame
-      × ((restart : RestartAt) → restart_of fault ≡ Some restart → HaltsWellBefore (filter_map halt_of faults) restart.proc.0 restart.frame)) faults
+  given_restart : Each (λ (fault : Fault). IsKind spec fault.kind × LiesIn (frames_of_faults spec faults) fault.frame
+      × ((restart : RestartAt) → restart_of_fault fault ≡ Some restart → HaltsWellBefore (filter_map halt_of_fault faults) restart.proc.0 restart.frame)) faults
   given_restart i fault there = (keeps.kinds i fault there, lies fault (keeps.first i fault there) (keeps.last i fault there), keeps.halted i fault there)
 
-  halts_are_apart : EachLater (λ (a b : HaltAt). AreApart a.frame a.proc.0 b.frame b.proc.0) (filter_map halt_of faults)
-  halts_are_apart = later_given halt_of Later (λ (a b : HaltAt). AreApart a.frame a.proc.0 b.frame b.proc.0) (λ x y a b p q later. halts_apart x.frame y.frame x.kind y.kind a b p q later) faults keeps.later
+  halts_are_apart : EachLater (λ (a b : HaltAt). AreApart a.frame a.proc.0 b.frame b.proc.0) (filter_map halt_of_fault faults)
+  halts_are_apart = later_given halt_of_fault Later (λ (a b : HaltAt). AreApart a.frame a.proc.0 b.frame b.proc.0) (λ x y a b p q later. halts_apart x.frame y.frame x.kind y.kind a b p q later) faults keeps.later
 
-  restarts_are_apart : EachLater (λ (a b : RestartAt). AreApart a.frame a.proc.0 b.frame b.proc.0) (filter_map restart_of faults)
-  restarts_are_apart = later_given restart_of Later (λ (a b : RestartAt). AreApart a.frame a.proc.0 b.frame b.proc.0) (λ x y a b p q later. restarts_apart x.frame y.frame x.kind y.kind a b p q later) faults keeps.later
+  restarts_are_apart : EachLater (λ (a b : RestartAt). AreApart a.frame a.proc.0 b.frame b.proc.0) (filter_map restart_of_fault faults)
+  restarts_are_apart = later_given restart_of_fault Later (λ (a b : RestartAt). AreApart a.frame a.proc.0 b.frame b.proc.0) (λ x y a b p q later. restarts_apart x.frame y.frame x.kind y.kind a b p q later) faults keeps.later
 
-  fits : Fits spec (script_of spec faults)
+  fits : Fits spec (script_of_faults spec faults)
   fits =
       let low = keeps.low in
       let bounds = greatest_within spec.bounds 1000 (λ i bound there. (is.bounds i bound there).most) in
-      let changes = few_given change_of faults in
-      let halts = few_given halt_of faults in
-      let restarts = few_given restart_of faults in
+      let changes = few_given change_of_fault faults in
+      let halts = few_given halt_of_fault faults in
+      let restarts = few_given restart_of_fault faults in
       record {
         frames = omega (arith, low, bounds, few);
         changes_count = omega (arith, changes, few);
-        changes = each_given change_of _ (IsChange spec (frames_of spec faults)) (λ fault change e known. is_change spec (frames_of spec faults) fault.frame fault.kind change e known.0 known.1) faults given;
-        changes_ordered = next_later ChangeBefore (filter_map change_of faults)
-            (later_given change_of Later ChangeBefore (λ x y a b p q later. changes_in_order x.frame y.frame x.kind y.kind a b p q later) faults keeps.later);
+        changes = each_given change_of_fault _ (IsChange spec (frames_of_faults spec faults)) (λ fault change e known. is_change spec (frames_of_faults spec faults) fault.frame fault.kind change e known.0 known.1) faults given;
+        changes_ordered = next_later ChangeBefore (filter_map change_of_fault faults)
+            (later_given change_of_fault Later ChangeBefore (λ x y a b p q later. changes_in_order x.frame y.frame x.kind y.kind a b p q later) faults keeps.later);
         halts_count = omega (arith, halts, few);
-        halts = each_given halt_of _ (IsHalt spec (frames_of spec faults)) (λ fault halt e known. is_halt spec (frames_of spec faults) fault.frame fault.kind halt e known.0 known.1) faults given;
+        halts = each_given halt_of_fault _ (IsHalt spec (frames_of_faults spec faults)) (λ fault halt e known. is_halt spec (frames_of_faults spec faults) fault.frame fault.kind halt e known.0 known.1) faults given;
         halts_ordered = λ i a b p q. (halts_are_apart i (i + 1) a b (omega arith) p q).order;
         restarts_count = omega (arith, restarts, few);
-        restarts = each_given restart_of _ (IsRestart spec (frames_of spec faults))
-            (λ fault restart e known. is_restart spec (frames_of spec faults) (filter_map halt_of faults) fault.frame fault.kind restart e known.0 known.1 (known.2 restart e)) faults given_restart;
+        restarts = each_given restart_of_fault _ (IsRestart spec (frames_of_faults spec faults))
+            (λ fault restart e known. is_restart spec (frames_of_faults spec faults) (filter_map halt_of_fault faults) fault.frame fault.kind restart e known.0 known.1 (known.2 restart e)) faults given_restart;
         restarts_ordered = λ i a b p q. (restarts_are_apart i (i + 1) a b (omega arith) p q).order;
         restarts_once = λ i j a b less p q. (restarts_are_apart i j a b less p q).other;
-        restarts_late = each_given restart_of _ (λ (restart : RestartAt). HaltsWellBefore (filter_map halt_of faults) restart.proc.0 restart.frame)
+        restarts_late = each_given restart_of_fault _ (λ (restart : RestartAt). HaltsWellBefore (filter_map halt_of_fault faults) restart.proc.0 restart.frame)
             (λ fault restart e known. known.2 restart e) faults given_restart;
         halts_twice = λ i j k x y z less more p q r same also. (halts_are_apart i j x y less p q).other same;
         halts_again = λ i j a b less p q same. absurd ((halts_are_apart i j a b less p q).other same);

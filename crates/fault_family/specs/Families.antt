@@ -10,7 +10,7 @@ use Rattle.fault_family.specs.declared.faults.FaultKind.{FaultKind}
 use Rattle.fault_family.specs.declared.faults.FaultKind.TheVariants.{Change, Halt, Restart}
 use Rattle.fault_family.specs.NextFaults.{candidates}
 use Rattle.fault_family.specs.Faults.{may_come_after}
-use Rattle.fault_family.specs.Scripts.{is_within, script_of}
+use Rattle.fault_family.specs.Scripts.{is_within, script_of_faults}
 
 -- A fault of this kind in a frame makes a difference to a script: a factor gets another value than in the frame before,
 -- or a processor halts, or one restarts that has halted two frames before or earlier.
@@ -21,11 +21,11 @@ differs_in script frame (Restart proc) = list_any (is_halt_before proc.0 frame) 
 
 -- A fault may follow these: it may come after each of them, and makes a difference to their script.
 abbrev pub may_follow : Parts → List Fault → Fault → Bool
-may_follow spec before fault = list_all (may_come_after fault) before && differs_in (script_of spec before) fault.frame fault.kind
+may_follow spec before fault = list_all (may_come_after fault) before && differs_in (script_of_faults spec before) fault.frame fault.kind
 
 -- The scripts that begin with these faults and have a number of further ones, in order.
 abbrev pub extended : Parts → ℕ → List Fault → List (List Fault)
-extended spec zero before = if is_within spec (script_of spec before) then before ∷ [] else []
+extended spec zero before = if is_within spec (script_of_faults spec before) then before ∷ [] else []
 extended spec (suc more) before =
     flat_map (λ (fault : Fault). if may_follow spec before fault then extended spec more (before ++ fault ∷ []) else []) (candidates spec before)
 

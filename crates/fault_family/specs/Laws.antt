@@ -13,7 +13,7 @@ use Rattle.fault_family.specs.declared.faults.FaultKind.{FaultKind}
 use Rattle.fault_family.specs.declared.faults.FaultKind.TheVariants.{Change, Halt, Restart}
 use Rattle.fault_family.specs.Families.{family, may_follow}
 use Rattle.fault_family.specs.Faults.{precedes}
-use Rattle.fault_family.specs.Scripts.{script_of}
+use Rattle.fault_family.specs.Scripts.{script_of_faults}
 
 -- A factor that changes exists.
 pub record IsChangeKind (spec : Parts) (factor value : ℕ) : Type 0 where
@@ -41,7 +41,7 @@ IsNear spec (Some last) frame =
     ((last.frame ≤ frame) × (frame ≤ last.frame + greatest_bound spec.bounds + 1)) ⊎ (frame ≡ last.frame + (spec.window + 1))
 
 -- A fault is the next after these: it is one of the specification's, comes soon enough, and may follow them.
-pub record IsNext (spec : Parts) (before : List Fault) (fault : Fault) : Type 0 where
+pub record IsNextFault (spec : Parts) (before : List Fault) (fault : Fault) : Type 0 where
   pub kind : IsKind spec fault.kind
   pub near : IsNear spec (last_of before) fault.frame
   pub follows : may_follow spec before fault ≡ true
@@ -49,23 +49,23 @@ pub record IsNext (spec : Parts) (before : List Fault) (fault : Fault) : Type 0 
 -- Each of these faults is the next after those before it.
 abbrev pub Follow : Parts → List Fault → List Fault → Type 0
 Follow spec before [] = ⊤
-Follow spec before (fault ∷ faults) = IsNext spec before fault × Follow spec (before ++ fault ∷ []) faults
+Follow spec before (fault ∷ faults) = IsNextFault spec before fault × Follow spec (before ++ fault ∷ []) faults
 
 -- These faults make a script of the family: they have this number, each follows those before it, and their script keeps
 -- to the failure assumption.
 pub record IsMember (spec : Parts) (count : ℕ) (faults : List Fault) : Type 0 where
   pub many : length faults ≡ count
   pub follow : Follow spec [] faults
-  pub within : IsWithin spec (script_of spec faults)
+  pub within : IsWithin spec (script_of_faults spec faults)
 
 -- An item stands in a list.
-abbrev pub Stands : {A : Type 0} → List A → A → Type 0
-Stands {A} xs x = (i : ℕ) × (slice_get xs i ≡ Some x)
+abbrev pub StandsFor : {A : Type 0} → List A → A → Type 0
+StandsFor {A} xs x = (i : ℕ) × (slice_get xs i ≡ Some x)
 
 -- The family has exactly its members.
 pub record HasMembers (spec : Parts) (count : ℕ) (faults : List Fault) : Type 0 where
-  pub sound : Stands (family spec count) faults → IsMember spec count faults
-  pub complete : IsMember spec count faults → Stands (family spec count) faults
+  pub sound : StandsFor (family spec count) faults → IsMember spec count faults
+  pub complete : IsMember spec count faults → StandsFor (family spec count) faults
 
 -- The family of each specification has exactly its members.
 abbrev pub FamiliesHaveMembers : Type 0
@@ -74,7 +74,7 @@ FamiliesHaveMembers = (spec : Parts) (count : ℕ) (faults : List Fault) → Has
 -- The script of a member fits the specification.
 abbrev pub MembersFit : Type 0
 MembersFit = (spec : Parts) (count : ℕ) (faults : List Fault) → IsSpec spec → count ≤ 3 → IsMember spec count faults
-    → Fits spec (script_of spec faults)
+    → Fits spec (script_of_faults spec faults)
 
 -- One script comes before another: where the first faults differ, by these.
 pub data ComesFirst : List Fault → List Fault → Type 0 where

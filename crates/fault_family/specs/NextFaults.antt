@@ -17,16 +17,16 @@ abbrev pub numbers_below : ℕ → List ℕ
 numbers_below n = listed_below (λ k. k) n
 
 -- How many values factor x has.
-abbrev pub values_of : Parts → ℕ → ℕ
-values_of spec x = option_map_or (λ (factor : Factor). length factor.values) (slice_get spec.factors x) 0
+abbrev pub value_count : Parts → ℕ → ℕ
+value_count spec x = option_map_or (λ (factor : Factor). length factor.values) (slice_get spec.factors x) 0
 
 -- The changes of factor x, in the order of its values.
-abbrev pub changes_of : Parts → ℕ → List FaultKind
-changes_of spec x = listed_below (λ value. Change (factor_id x) value) (values_of spec x)
+abbrev pub factor_changes : Parts → ℕ → List FaultKind
+factor_changes spec x = listed_below (λ value. Change (factor_id x) value) (value_count spec x)
 
 -- The halts of processor p: before all stores, and after the mark.
-abbrev pub halts_of : Parts → ℕ → List FaultKind
-halts_of spec p = Halt (proc_id p) 0 ∷ Halt (proc_id p) (words spec + 1) ∷ []
+abbrev pub proc_halts : Parts → ℕ → List FaultKind
+proc_halts spec p = Halt (proc_id p) 0 ∷ Halt (proc_id p) (words spec + 1) ∷ []
 
 -- The restarts, in the order of processors.
 abbrev pub restarts_of : Parts → List FaultKind
@@ -35,8 +35,8 @@ restarts_of spec = listed_below (λ p. Restart (proc_id p)) (length spec.procs)
 -- The kinds of fault, in order: changes by factor, halts and restarts by processor.
 abbrev pub kinds_of : Parts → List FaultKind
 kinds_of spec =
-    flat_map (changes_of spec) (numbers_below (length spec.factors))
-    ++ flat_map (halts_of spec) (numbers_below (length spec.procs))
+    flat_map (factor_changes spec) (numbers_below (length spec.factors))
+    ++ flat_map (proc_halts spec) (numbers_below (length spec.procs))
     ++ restarts_of spec
 
 -- How many frames a fault may come after the one before it: at most one more than the greatest bound, or one more than

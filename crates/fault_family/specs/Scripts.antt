@@ -14,55 +14,55 @@ use Rattle.fault_family.specs.declared.faults.FaultKind.{FaultKind}
 use Rattle.fault_family.specs.declared.faults.FaultKind.TheVariants as kind
 
 -- The change that comes in a frame, where a fault of this kind is one.
-abbrev pub change_in : ℕ → FaultKind → Option Change
-change_in frame (kind.Change factor value) = Some (record { frame = frame; factor = factor; value = value })
-change_in frame (kind.Halt proc step) = None
-change_in frame (kind.Restart proc) = None
+abbrev pub change_fault_in : ℕ → FaultKind → Option Change
+change_fault_in frame (kind.Change factor value) = Some (record { frame = frame; factor = factor; value = value })
+change_fault_in frame (kind.Halt proc step) = None
+change_fault_in frame (kind.Restart proc) = None
 
 -- The halt that comes in a frame, where a fault of this kind is one.
-abbrev pub halt_in : ℕ → FaultKind → Option HaltAt
-halt_in frame (kind.Change factor value) = None
-halt_in frame (kind.Halt proc step) = Some (record { proc = proc; frame = frame; step = step })
-halt_in frame (kind.Restart proc) = None
+abbrev pub halt_fault_in : ℕ → FaultKind → Option HaltAt
+halt_fault_in frame (kind.Change factor value) = None
+halt_fault_in frame (kind.Halt proc step) = Some (record { proc = proc; frame = frame; step = step })
+halt_fault_in frame (kind.Restart proc) = None
 
 -- The restart that comes in a frame, where a fault of this kind is one.
-abbrev pub restart_in : ℕ → FaultKind → Option RestartAt
-restart_in frame (kind.Change factor value) = None
-restart_in frame (kind.Halt proc step) = None
-restart_in frame (kind.Restart proc) = Some (record { proc = proc; frame = frame })
+abbrev pub restart_fault_in : ℕ → FaultKind → Option RestartAt
+restart_fault_in frame (kind.Change factor value) = None
+restart_fault_in frame (kind.Halt proc step) = None
+restart_fault_in frame (kind.Restart proc) = Some (record { proc = proc; frame = frame })
 
 -- The change that a fault is.
-abbrev pub change_of : Fault → Option Change
-change_of fault = change_in fault.frame fault.kind
+abbrev pub change_of_fault : Fault → Option Change
+change_of_fault fault = change_fault_in fault.frame fault.kind
 
 -- The halt that a fault is.
-abbrev pub halt_of : Fault → Option HaltAt
-halt_of fault = halt_in fault.frame fault.kind
+abbrev pub halt_of_fault : Fault → Option HaltAt
+halt_of_fault fault = halt_fault_in fault.frame fault.kind
 
 -- The restart that a fault is.
-abbrev pub restart_of : Fault → Option RestartAt
-restart_of fault = restart_in fault.frame fault.kind
+abbrev pub restart_of_fault : Fault → Option RestartAt
+restart_of_fault fault = restart_fault_in fault.frame fault.kind
 
 -- The script of a number of frames in which these faults come.
-abbrev pub script_in : ℕ → List Fault → ScriptParts
-script_in frames faults = record {
+abbrev pub faults_in_frames : ℕ → List Fault → ScriptParts
+faults_in_frames frames faults = record {
   frames = frames;
-  changes = filter_map change_of faults;
-  halts = filter_map halt_of faults;
-  restarts = filter_map restart_of faults;
+  changes = filter_map change_of_fault faults;
+  halts = filter_map halt_of_fault faults;
+  restarts = filter_map restart_of_fault faults;
 }
 
 -- The frame of the last fault; 0 where there is none.
-abbrev pub last_frame : List Fault → ℕ
-last_frame faults = option_map_or (λ (fault : Fault). fault.frame) (last_of faults) 0
+abbrev pub last_fault_frame : List Fault → ℕ
+last_fault_frame faults = option_map_or (λ (fault : Fault). fault.frame) (last_of faults) 0
 
 -- How many frames a script of these faults has: the greatest bound and three more than the frame of the last one.
-abbrev pub frames_of : Parts → List Fault → ℕ
-frames_of spec faults = last_frame faults + greatest_bound spec.bounds + 3
+abbrev pub frames_of_faults : Parts → List Fault → ℕ
+frames_of_faults spec faults = last_fault_frame faults + greatest_bound spec.bounds + 3
 
 -- The script of these faults.
-abbrev pub script_of : Parts → List Fault → ScriptParts
-script_of spec faults = script_in (frames_of spec faults) faults
+abbrev pub script_of_faults : Parts → List Fault → ScriptParts
+script_of_faults spec faults = faults_in_frames (frames_of_faults spec faults) faults
 
 -- A script keeps to the failure assumption.
 abbrev pub is_within : Parts → ScriptParts → Bool

@@ -5,10 +5,10 @@ ghost use Rattle.std.specs.List.{list_all};
 ghost use Rattle.scram_types.specs.Searches.{listed_below};
 ghost use Rattle.fault_script.specs.Times.{words};
 ghost use Rattle.coverage_check.specs.Timing.{greatest_bound};
-ghost use Rattle.fault_family.specs.NextFaults.{candidates, changes_of, frames_after, gaps, halts_of, kinds_of, numbers_below, restarts_of, values_of};
+ghost use Rattle.fault_family.specs.NextFaults.{candidates, factor_changes, frames_after, gaps, proc_halts, kinds_of, numbers_below, restarts_of, value_count};
 ghost use Rattle.fault_family.specs.Families.{differs_in, may_follow};
 ghost use Rattle.fault_family.specs.Faults.{may_come_after};
-ghost use Rattle.fault_family.specs.Scripts.{last_frame, script_in};
+ghost use Rattle.fault_family.specs.Scripts.{last_fault_frame, faults_in_frames};
 
 use crate::faults::{Fault, FaultKind, may_come_after};
 use crate::scripts::{greatest, has_halted_before, value_at};
@@ -59,7 +59,7 @@ impl Kinds {
 
 fn add_changes(kinds: &mut ArrayVec<FaultKind, MAX_KINDS>, spec: &Spec)
     requires { kinds.old.items ≡ [] }
-    ensures kinds { kinds.new.items ≡ flat_map (changes_of spec.now) (numbers_below (length spec.now.factors)) }
+    ensures kinds { kinds.new.items ≡ flat_map (factor_changes spec.now) (numbers_below (length spec.now.factors)) }
     ensures few { length kinds.new.items ≤ 24 }
 {
     for x in 0..spec.factors.items().len() as u8 {
@@ -69,7 +69,7 @@ fn add_changes(kinds: &mut ArrayVec<FaultKind, MAX_KINDS>, spec: &Spec)
 
 fn add_changes_of(kinds: &mut ArrayVec<FaultKind, MAX_KINDS>, spec: &Spec, x: u8)
     requires { length kinds.old.items ≤ 20 }
-    ensures kinds { kinds.new.items ≡ kinds.old.items ++ changes_of spec.now x }
+    ensures kinds { kinds.new.items ≡ kinds.old.items ++ factor_changes spec.now x }
     ensures few { length kinds.new.items ≤ length kinds.old.items + 4 }
 {
     for value in 0..values_of(spec, x) {
@@ -80,7 +80,7 @@ fn add_changes_of(kinds: &mut ArrayVec<FaultKind, MAX_KINDS>, spec: &Spec, x: u8
 
 fn add_halts(kinds: &mut ArrayVec<FaultKind, MAX_KINDS>, spec: &Spec)
     requires { length kinds.old.items ≤ 24 }
-    ensures kinds { kinds.new.items ≡ kinds.old.items ++ flat_map (halts_of spec.now) (numbers_below (length spec.now.procs)) }
+    ensures kinds { kinds.new.items ≡ kinds.old.items ++ flat_map (proc_halts spec.now) (numbers_below (length spec.now.procs)) }
     ensures few { length kinds.new.items ≤ length kinds.old.items + 16 }
 {
     for p in 0..spec.procs.items().len() as u8 {
@@ -90,7 +90,7 @@ fn add_halts(kinds: &mut ArrayVec<FaultKind, MAX_KINDS>, spec: &Spec)
 
 fn add_halts_of(kinds: &mut ArrayVec<FaultKind, MAX_KINDS>, spec: &Spec, p: u8)
     requires { length kinds.old.items ≤ 38 }
-    ensures kinds { kinds.new.items ≡ kinds.old.items ++ halts_of spec.now p }
+    ensures kinds { kinds.new.items ≡ kinds.old.items ++ proc_halts spec.now p }
     ensures few { length kinds.new.items ≡ length kinds.old.items + 2 }
 {
     let proc = ProcId(p);
@@ -110,8 +110,8 @@ fn add_restarts(kinds: &mut ArrayVec<FaultKind, MAX_KINDS>, spec: &Spec)
 }
 
 // Returns how many values a factor has.
-fn values_of(spec: &Spec, x: u8) -> u8
-    ensures value { result ≡ values_of spec.now x }
+fn value_count(spec: &Spec, x: u8) -> u8
+    ensures value { result ≡ value_count spec.now x }
     ensures few { result ≤ 4 }
 {
     match spec.factors.items().get(usize::from(x)) {
@@ -141,10 +141,10 @@ pub fn candidate_count(spec: &Spec, kinds: &[FaultKind], before: &[Fault]) -> u3
 pub fn candidate(spec: &Spec, kinds: &[FaultKind], before: &[Fault], k: u32) -> Fault
     requires kinds { kinds.now ≡ kinds_of spec.now }
     requires few { length kinds.now ≤ 48 }
-    requires before { last_frame before.now ≤ 4000 }
+    requires before { last_fault_frame before.now ≤ 4000 }
     requires k { k < length (candidates spec.now before.now) }
     ensures fault { slice_get (candidates spec.now before.now) k ≡ Some result }
-    ensures frame { result.frame ≤ last_frame before.now + 1001 }
+    ensures frame { result.frame ≤ last_fault_frame before.now + 1001 }
 {
     let width = kinds.len() as u32;
     Fault {
@@ -167,9 +167,9 @@ fn frame_count(spec: &Spec, before: &[Fault]) -> u32
 // Returns frame number `i` of those in which a fault may come after these.
 fn frame_after(spec: &Spec, before: &[Fault], i: u32) -> u32
     requires i { i < length (frames_after spec.now before.now) }
-    requires before { last_frame before.now ≤ 4000 }
+    requires before { last_fault_frame before.now ≤ 4000 }
     ensures value { slice_get (frames_after spec.now before.now) i ≡ Some result }
-    ensures most { result ≤ last_frame before.now + 1001 }
+    ensures most { result ≤ last_fault_frame before.now + 1001 }
 {
     match before.last() {
         Some(last) => last.frame + gap(spec, i),
@@ -207,7 +207,7 @@ fn may_come_after_all(before: &[Fault], fault: &Fault) -> bool
 
 // Returns whether a fault makes a difference to the script of those before it.
 fn differs_in(before: &[Fault], fault: &Fault) -> bool
-    ensures { (frames : ℕ) → result ≡ differs_in (script_in frames before.now) fault.now.frame fault.now.kind }
+    ensures { (frames : ℕ) → result ≡ differs_in (faults_in_frames frames before.now) fault.now.frame fault.now.kind }
 {
     match fault.kind {
         FaultKind::Change { factor, value } => value_at(

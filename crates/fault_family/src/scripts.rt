@@ -6,7 +6,7 @@ ghost use Rattle.std.specs.List.{list_all, list_any};
 ghost use Rattle.fault_script.specs.Times.{is_over, is_restart_between, is_up, value_after};
 ghost use Rattle.fault_script.specs.Orders.{is_halt_before};
 ghost use Rattle.coverage_check.specs.Timing.{greatest_bound};
-ghost use Rattle.fault_family.specs.Scripts.{change_of, halt_of, last_frame, restart_of, script_in};
+ghost use Rattle.fault_family.specs.Scripts.{change_of_fault, halt_of_fault, last_fault_frame, restart_of_fault, faults_in_frames};
 
 use crate::faults::{Fault, FaultKind};
 use coverage_check::greatest_bound;
@@ -21,25 +21,25 @@ pub struct FaultScript<'a> {
 
 impl<'a> FaultScript<'a> {
     ghost use Rattle.std.specs.Prelude.{◌≡◌, ◌≤◌};
-    ghost use Rattle.fault_family.specs.Scripts.{frames_of, last_frame};
+    ghost use Rattle.fault_family.specs.Scripts.{frames_of_faults, last_fault_frame};
 
     /// Returns the script of these faults, which goes on for three frames more than the greatest bound after the last one.
     pub fn new(spec: &Spec, faults: &'a [Fault]) -> FaultScript<'a>
-        requires { last_frame faults.now ≤ 4000 }
-        ensures frames { result.frames ≡ frames_of spec.now faults.now }
+        requires { last_fault_frame faults.now ≤ 4000 }
+        ensures frames { result.frames ≡ frames_of_faults spec.now faults.now }
         ensures few { result.frames ≤ 5003 }
         ensures faults { result.faults.now ≡ faults.now }
     {
         FaultScript {
-            frames: last_frame(faults) + greatest(spec) + 3,
+            frames: last_fault_frame(faults) + greatest(spec) + 3,
             faults,
         }
     }
 }
 
 /// Returns the change that a fault is.
-pub fn change_of(fault: &Fault) -> Option<Change>
-    ensures { result ≡ change_of fault.now }
+pub fn change_of_fault(fault: &Fault) -> Option<Change>
+    ensures { result ≡ change_of_fault fault.now }
 {
     match fault.kind {
         FaultKind::Change { factor, value } => Some(Change {
@@ -52,8 +52,8 @@ pub fn change_of(fault: &Fault) -> Option<Change>
 }
 
 /// Returns the halt that a fault is.
-pub fn halt_of(fault: &Fault) -> Option<HaltAt>
-    ensures { result ≡ halt_of fault.now }
+pub fn halt_of_fault(fault: &Fault) -> Option<HaltAt>
+    ensures { result ≡ halt_of_fault fault.now }
 {
     match fault.kind {
         FaultKind::Halt { proc, step } => Some(HaltAt {
@@ -66,8 +66,8 @@ pub fn halt_of(fault: &Fault) -> Option<HaltAt>
 }
 
 /// Returns the restart that a fault is.
-pub fn restart_of(fault: &Fault) -> Option<RestartAt>
-    ensures { result ≡ restart_of fault.now }
+pub fn restart_of_fault(fault: &Fault) -> Option<RestartAt>
+    ensures { result ≡ restart_of_fault fault.now }
 {
     match fault.kind {
         FaultKind::Restart { proc } => Some(RestartAt {
@@ -79,8 +79,8 @@ pub fn restart_of(fault: &Fault) -> Option<RestartAt>
 }
 
 /// Returns the frame of the last fault, 0 where there is none.
-pub fn last_frame(faults: &[Fault]) -> u32
-    ensures { result ≡ last_frame faults.now }
+pub fn last_fault_frame(faults: &[Fault]) -> u32
+    ensures { result ≡ last_fault_frame faults.now }
 {
     match faults.last() {
         Some(fault) => fault.frame,
@@ -100,7 +100,7 @@ pub fn greatest(spec: &Spec) -> u32
 
 /// Returns the value of a factor in a frame.
 pub fn value_at(faults: &[Fault], factor: FactorId, frame: u32) -> u8
-    ensures { result ≡ value_after (filter_map change_of faults.now) factor.0 frame 0 }
+    ensures { result ≡ value_after (filter_map change_of_fault faults.now) factor.0 frame 0 }
 {
     let mut value = 0;
     for fault in faults {
@@ -111,7 +111,7 @@ pub fn value_at(faults: &[Fault], factor: FactorId, frame: u32) -> u8
 
 // Returns the value that a factor has by a frame after a fault, where it had this value before.
 fn newest(fault: &Fault, factor: FactorId, frame: u32, value: u8) -> u8
-    ensures { result ≡ value_after (filter_map change_of (fault.now ∷ [])) factor.0 frame value }
+    ensures { result ≡ value_after (filter_map change_of_fault (fault.now ∷ [])) factor.0 frame value }
 {
     match fault.kind {
         FaultKind::Change {
@@ -124,14 +124,14 @@ fn newest(fault: &Fault, factor: FactorId, frame: u32, value: u8) -> u8
 
 /// Returns whether a processor is up in a frame.
 pub fn is_up(script: &FaultScript<'_>, p: u8, frame: u32) -> bool
-    ensures { result ≡ is_up (script_in script.now.frames script.now.faults.now) p frame }
+    ensures { result ≡ is_up (faults_in_frames script.now.frames script.now.faults.now) p frame }
 {
     are_halts_over(script, p, frame)
 }
 
 // Returns whether a processor has restarted since each of its halts in a frame before this one.
 fn are_halts_over(script: &FaultScript<'_>, p: u8, frame: u32) -> bool
-    ensures { result ≡ list_all (is_over (script_in script.now.frames script.now.faults.now) p frame) (filter_map halt_of script.now.faults.now) }
+    ensures { result ≡ list_all (is_over (faults_in_frames script.now.frames script.now.faults.now) p frame) (filter_map halt_of_fault script.now.faults.now) }
 {
     for fault in script.faults {
         if !is_over(script, fault, p, frame) {
@@ -143,7 +143,7 @@ fn are_halts_over(script: &FaultScript<'_>, p: u8, frame: u32) -> bool
 
 // Returns whether a fault, where it is a halt, leaves a processor up in a frame.
 fn is_over(script: &FaultScript<'_>, fault: &Fault, p: u8, frame: u32) -> bool
-    ensures { result ≡ list_all (is_over (script_in script.now.frames script.now.faults.now) p frame) (filter_map halt_of (fault.now ∷ [])) }
+    ensures { result ≡ list_all (is_over (faults_in_frames script.now.frames script.now.faults.now) p frame) (filter_map halt_of_fault (fault.now ∷ [])) }
 {
     match fault.kind {
         FaultKind::Halt { proc, .. } => {
@@ -157,7 +157,7 @@ fn is_over(script: &FaultScript<'_>, fault: &Fault, p: u8, frame: u32) -> bool
 
 // Returns whether a processor restarts after frame `after` and in a frame up to `frame`.
 fn has_restarted(faults: &[Fault], p: u8, after: u32, frame: u32) -> bool
-    ensures { result ≡ list_any (is_restart_between p after frame) (filter_map restart_of faults.now) }
+    ensures { result ≡ list_any (is_restart_between p after frame) (filter_map restart_of_fault faults.now) }
 {
     for fault in faults {
         if is_restart_between(fault, p, after, frame) {
@@ -168,7 +168,7 @@ fn has_restarted(faults: &[Fault], p: u8, after: u32, frame: u32) -> bool
 }
 
 fn is_restart_between(fault: &Fault, p: u8, after: u32, frame: u32) -> bool
-    ensures { result ≡ list_any (is_restart_between p after frame) (filter_map restart_of (fault.now ∷ [])) }
+    ensures { result ≡ list_any (is_restart_between p after frame) (filter_map restart_of_fault (fault.now ∷ [])) }
 {
     match fault.kind {
         FaultKind::Restart { proc } => proc.0 == p && after < fault.frame && fault.frame <= frame,
@@ -178,7 +178,7 @@ fn is_restart_between(fault: &Fault, p: u8, after: u32, frame: u32) -> bool
 
 /// Returns whether a processor has a halt two frames before a frame or earlier.
 pub fn has_halted_before(faults: &[Fault], proc: ProcId, frame: u32) -> bool
-    ensures { result ≡ list_any (is_halt_before proc.0 frame) (filter_map halt_of faults.now) }
+    ensures { result ≡ list_any (is_halt_before proc.0 frame) (filter_map halt_of_fault faults.now) }
 {
     for fault in faults {
         if is_halt_before(fault, proc, frame) {
@@ -189,7 +189,7 @@ pub fn has_halted_before(faults: &[Fault], proc: ProcId, frame: u32) -> bool
 }
 
 fn is_halt_before(fault: &Fault, of: ProcId, frame: u32) -> bool
-    ensures { result ≡ list_any (is_halt_before of.0 frame) (filter_map halt_of (fault.now ∷ [])) }
+    ensures { result ≡ list_any (is_halt_before of.0 frame) (filter_map halt_of_fault (fault.now ∷ [])) }
 {
     match fault.kind {
         FaultKind::Halt { proc, .. } => proc.0 == of.0

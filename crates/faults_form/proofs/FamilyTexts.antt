@@ -8,9 +8,9 @@ use Rattle.form_base.specs.Texts.{texts_below}
 use Rattle.fault_family.specs.declared.faults.Fault.{Fault}
 use Rattle.fault_family.specs.Families.{extended, may_follow}
 use Rattle.fault_family.specs.NextFaults.{candidates}
-use Rattle.fault_family.specs.Scripts.{is_within, script_of}
+use Rattle.fault_family.specs.Scripts.{is_within, script_of_faults}
 use Rattle.faults_form.specs.Families.{branch_text, extended_text, within_text}
-use Rattle.faults_form.specs.Lines.{script_line}
+use Rattle.faults_form.specs.Lines.{faults_line}
 
 texts_shift : (text : ℕ → List ℕ) (n : ℕ) → texts_below text (suc n) ≡ text 0 ++ texts_below (λ k. text (suc k)) n
 texts_shift text zero = sym (append-nil (text 0))
@@ -39,8 +39,8 @@ text_where text false ys = refl
 module _ (spec : Parts) where
   extended_branches : (more : ℕ) (before : List Fault) → extended_text spec (suc more) before ≡ flat_map (branch_text spec more before) (candidates spec before)
   extended_branches more before =
-      flat_map_within (script_line spec) (λ (fault : Fault). if may_follow spec before fault then extended spec more (before ++ fault ∷ []) else [])
-      (branch_text spec more before) (λ fault. text_where (script_line spec) (may_follow spec before fault) (extended spec more (before ++ fault ∷ []))) (candidates spec before)
+      flat_map_within (faults_line spec) (λ (fault : Fault). if may_follow spec before fault then extended spec more (before ++ fault ∷ []) else [])
+      (branch_text spec more before) (λ fault. text_where (faults_line spec) (may_follow spec before fault) (extended spec more (before ++ fault ∷ []))) (candidates spec before)
 
   -- the lines of the candidates, one after another
   pub candidate_texts : (more : ℕ) (before : List Fault) → 0 < more
@@ -59,10 +59,10 @@ module _ (spec : Parts) where
       → item_text (branch_text spec more before) (candidates spec before) k ≡ []
   branch_not_followed more before k fault there not_followed = rw (there, not_followed) refl
 
-  line_where : (b : Bool) (faults : List Fault) → flat_map (script_line spec) (if b then faults ∷ [] else []) ≡ (if b then script_line spec faults else [])
-  line_where true faults = append-nil (script_line spec faults)
+  line_where : (b : Bool) (faults : List Fault) → flat_map (faults_line spec) (if b then faults ∷ [] else []) ≡ (if b then faults_line spec faults else [])
+  line_where true faults = append-nil (faults_line spec faults)
   line_where false faults = refl
 
   -- no more faults
   pub within_is : (faults : List Fault) → extended_text spec 0 faults ≡ within_text spec faults
-  within_is faults = line_where (is_within spec (script_of spec faults)) faults
+  within_is faults = line_where (is_within spec (script_of_faults spec faults)) faults

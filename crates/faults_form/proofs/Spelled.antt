@@ -25,29 +25,29 @@ use Rattle.fault_script.specs.Texts.{change_data, halt_data, new_value_name, res
 use Rattle.fault_family.specs.declared.faults.Fault.{Fault}
 use Rattle.fault_family.specs.declared.faults.FaultKind.{FaultKind}
 use Rattle.fault_family.specs.declared.faults.FaultKind.TheVariants as kind
-use Rattle.fault_family.specs.Scripts.{change_in, change_of, halt_in, halt_of, restart_in, restart_of}
-use Rattle.faults_form.specs.Lines.{change_text, halt_text, listed_text, restart_text, spelled_script, version_text}
+use Rattle.fault_family.specs.Scripts.{change_fault_in, change_of_fault, halt_fault_in, halt_of_fault, restart_fault_in, restart_of_fault}
+use Rattle.faults_form.specs.Lines.{spelled_change, spelled_halt, listed_text, spelled_restart, spelled_script, version_text}
 
 -- each fault is a change, a halt or a restart
 
 counted_by : (frame : ℕ) (kind : FaultKind) (changes : List Change) (halts : List HaltAt) (restarts : List RestartAt)
-    → length (cons_option (change_in frame kind) changes) + length (cons_option (halt_in frame kind) halts) + length (cons_option (restart_in frame kind) restarts)
+    → length (cons_option (change_fault_in frame kind) changes) + length (cons_option (halt_fault_in frame kind) halts) + length (cons_option (restart_fault_in frame kind) restarts)
     ≡ suc (length changes + length halts + length restarts)
 counted_by frame (kind.Change factor value) changes halts restarts = omega arith
 counted_by frame (kind.Halt proc step) changes halts restarts = omega arith
 counted_by frame (kind.Restart proc) changes halts restarts = omega arith
 
-pub counted : (faults : List Fault) → length (filter_map change_of faults) + length (filter_map halt_of faults) + length (filter_map restart_of faults) ≡ length faults
+pub counted : (faults : List Fault) → length (filter_map change_of_fault faults) + length (filter_map halt_of_fault faults) + length (filter_map restart_of_fault faults) ≡ length faults
 counted [] = refl
 counted (fault ∷ faults) =
-    let here = counted_by fault.frame fault.kind (filter_map change_of faults) (filter_map halt_of faults) (filter_map restart_of faults) in
+    let here = counted_by fault.frame fault.kind (filter_map change_of_fault faults) (filter_map halt_of_fault faults) (filter_map restart_of_fault faults) in
     let rest = counted faults in
     omega (arith, here, rest)
 
 -- by whether there are restarts
 
 pub second_version : (spec : Parts) (restarts : List RestartAt) → nat_lt 0 (length restarts) ≡ true
-    → version_text spec restarts ≡ codes ",\"restarts\":[" ++ (listed_text false (map (restart_text spec) restarts) ++ codes ",\"scram\":2}")
+    → version_text spec restarts ≡ codes ",\"restarts\":[" ++ (listed_text false (map (spelled_restart spec) restarts) ++ codes ",\"scram\":2}")
 second_version spec [] some = absurd cc
 second_version spec (restart ∷ restarts) some = refl
 
@@ -111,8 +111,8 @@ named_member_is later key name members rest spelled named behind =
 -- the items of a script
 
 module _ (spec : Parts) (names : HasNames spec) where
-  change_spelled : (change : Change) → compact_text (change_data spec change) ≡ change_text spec change
-  unfolding change_text
+  change_spelled : (change : Change) → compact_text (change_data spec change) ≡ spelled_change spec change
+  unfolding spelled_change
   change_spelled change =
       let factor : quoted (factor_name spec change.factor.0) ≡ 34 ∷ (factor_name spec change.factor.0 ++ 34 ∷ []) =
       quoted_found (λ (factor : Factor). factor.name) (slice_get spec.factors change.factor.0) (names.factors change.factor.0) in
@@ -124,8 +124,8 @@ module _ (spec : Parts) (names : HasNames spec) where
       (member_is true (codes "frame") (count_data change.frame) last (decimal change.frame) _ refl refl
       (named_member_is true (codes "value") (new_value_name spec change) no_members (125 ∷ []) refl value refl)))
 
-  halt_spelled : (halt : HaltAt) → compact_text (halt_data spec halt) ≡ halt_text spec halt
-  unfolding halt_text
+  halt_spelled : (halt : HaltAt) → compact_text (halt_data spec halt) ≡ spelled_halt spec halt
+  unfolding spelled_halt
   halt_spelled halt =
       let proc : quoted (proc_name spec halt.proc.0) ≡ 34 ∷ (proc_name spec halt.proc.0 ++ 34 ∷ []) =
       quoted_found (λ (proc : Proc). proc.name) (slice_get spec.procs halt.proc.0) (names.procs halt.proc.0) in
@@ -135,8 +135,8 @@ module _ (spec : Parts) (names : HasNames spec) where
       (named_member_is true (codes "processor") (proc_name spec halt.proc.0) last _ refl proc
       (member_is true (codes "step") (count_data halt.step) no_members (decimal halt.step) (125 ∷ []) refl refl refl)))
 
-  restart_spelled : (restart : RestartAt) → compact_text (restart_data spec restart) ≡ restart_text spec restart
-  unfolding restart_text
+  restart_spelled : (restart : RestartAt) → compact_text (restart_data spec restart) ≡ spelled_restart spec restart
+  unfolding spelled_restart
   restart_spelled restart =
       let proc : quoted (proc_name spec restart.proc.0) ≡ 34 ∷ (proc_name spec restart.proc.0 ++ 34 ∷ []) =
       quoted_found (λ (proc : Proc). proc.name) (slice_get spec.procs restart.proc.0) (names.procs restart.proc.0) in
@@ -162,18 +162,18 @@ module _ (spec : Parts) (names : HasNames spec) (frames : ℕ) (changes : List C
       let version = member (codes "scram") (count_data 1) no_members in
       let last = member (codes "halts") (list_data (halt_data spec) halts) version in
       ap (λ (text : List ℕ). 123 ∷ text)
-      (member_is false (codes "changes") (list_data (change_data spec) changes) (member (codes "frames") (count_data frames) last) (91 ∷ listed_text false (map (change_text spec) changes)) _ refl (list_spelled (change_data spec) (change_text spec) (change_spelled spec names) changes)
+      (member_is false (codes "changes") (list_data (change_data spec) changes) (member (codes "frames") (count_data frames) last) (91 ∷ listed_text false (map (spelled_change spec) changes)) _ refl (list_spelled (change_data spec) (spelled_change spec) (change_spelled spec names) changes)
       (member_is true (codes "frames") (count_data frames) last (decimal frames) _ refl refl
-      (member_is true (codes "halts") (list_data (halt_data spec) halts) version (91 ∷ listed_text false (map (halt_text spec) halts)) _ refl (list_spelled (halt_data spec) (halt_text spec) (halt_spelled spec names) halts)
+      (member_is true (codes "halts") (list_data (halt_data spec) halts) version (91 ∷ listed_text false (map (spelled_halt spec) halts)) _ refl (list_spelled (halt_data spec) (spelled_halt spec) (halt_spelled spec names) halts)
       (member_is true (codes "scram") (count_data 1) no_members (codes "1") (125 ∷ []) refl (decimal_digit 1 (omega arith)) refl))))
   script_spelled_by (restart ∷ restarts) =
       let version = member (codes "restarts") (list_data (restart_data spec) (restart ∷ restarts)) (member (codes "scram") (count_data 2) no_members) in
       let last = member (codes "halts") (list_data (halt_data spec) halts) version in
       ap (λ (text : List ℕ). 123 ∷ text)
-      (member_is false (codes "changes") (list_data (change_data spec) changes) (member (codes "frames") (count_data frames) last) (91 ∷ listed_text false (map (change_text spec) changes)) _ refl (list_spelled (change_data spec) (change_text spec) (change_spelled spec names) changes)
+      (member_is false (codes "changes") (list_data (change_data spec) changes) (member (codes "frames") (count_data frames) last) (91 ∷ listed_text false (map (spelled_change spec) changes)) _ refl (list_spelled (change_data spec) (spelled_change spec) (change_spelled spec names) changes)
       (member_is true (codes "frames") (count_data frames) last (decimal frames) _ refl refl
-      (member_is true (codes "halts") (list_data (halt_data spec) halts) version (91 ∷ listed_text false (map (halt_text spec) halts)) _ refl (list_spelled (halt_data spec) (halt_text spec) (halt_spelled spec names) halts)
-      (member_is true (codes "restarts") (list_data (restart_data spec) (restart ∷ restarts)) (member (codes "scram") (count_data 2) no_members) (91 ∷ listed_text false (map (restart_text spec) (restart ∷ restarts))) _ refl (list_spelled (restart_data spec) (restart_text spec) (restart_spelled spec names) (restart ∷ restarts))
+      (member_is true (codes "halts") (list_data (halt_data spec) halts) version (91 ∷ listed_text false (map (spelled_halt spec) halts)) _ refl (list_spelled (halt_data spec) (spelled_halt spec) (halt_spelled spec names) halts)
+      (member_is true (codes "restarts") (list_data (restart_data spec) (restart ∷ restarts)) (member (codes "scram") (count_data 2) no_members) (91 ∷ listed_text false (map (spelled_restart spec) (restart ∷ restarts))) _ refl (list_spelled (restart_data spec) (spelled_restart spec) (restart_spelled spec names) (restart ∷ restarts))
       (member_is true (codes "scram") (count_data 2) no_members (codes "2") (125 ∷ []) refl (decimal_digit 2 (omega arith)) refl)))))
 
 -- the canonical text of a script is so spelled

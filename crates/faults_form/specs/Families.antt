@@ -3,20 +3,20 @@ use Rattle.std.specs.Prelude.{ℕ, List, [], ◌∷◌, ◌++◌, flat_map, if�
 use Rattle.scram_types.specs.Specification.{Parts}
 use Rattle.fault_family.specs.declared.faults.Fault.{Fault}
 use Rattle.fault_family.specs.Families.{extended, family, may_follow}
-use Rattle.fault_family.specs.Scripts.{is_within, script_of}
-use Rattle.faults_form.specs.Lines.{script_line}
+use Rattle.fault_family.specs.Scripts.{is_within, script_of_faults}
+use Rattle.faults_form.specs.Lines.{faults_line}
 
 -- The lines of the scripts that begin with these faults and have a number of further ones, in order.
 abbrev pub extended_text : Parts → ℕ → List Fault → List ℕ
-extended_text spec more before = flat_map (script_line spec) (extended spec more before)
+extended_text spec more before = flat_map (faults_line spec) (extended spec more before)
 
 -- The line of the script of these faults, where it keeps to the failure assumption.
 abbrev pub within_text : Parts → List Fault → List ℕ
-within_text spec faults = if is_within spec (script_of spec faults) then script_line spec faults else []
+within_text spec faults = if is_within spec (script_of_faults spec faults) then faults_line spec faults else []
 
 -- The lines of the scripts with this number of faults, in order.
 abbrev pub family_text : Parts → ℕ → List ℕ
-family_text spec count = flat_map (script_line spec) (family spec count)
+family_text spec count = flat_map (faults_line spec) (family spec count)
 
 -- The lines of the scripts that begin with these faults, then have this one, and then a number of further ones, in order.
 abbrev pub branch_text : Parts → ℕ → List Fault → Fault → List ℕ

@@ -9,23 +9,23 @@ use Rattle.scram_types.specs.Scripts.{ScriptParts}
 use Rattle.scram_types.specs.Specification.{Parts}
 use Rattle.fault_script.specs.Texts.{new_value_name, script_text}
 use Rattle.fault_family.specs.declared.faults.Fault.{Fault}
-use Rattle.fault_family.specs.Scripts.{script_of}
+use Rattle.fault_family.specs.Scripts.{script_of_faults}
 
 -- A change.
-unfoldable pub change_text : Parts → Change → List ℕ
-change_text spec change =
+unfoldable pub spelled_change : Parts → Change → List ℕ
+spelled_change spec change =
     codes "{\"factor\":\"" ++ (factor_name spec change.factor.0 ++ (codes "\",\"frame\":" ++ (decimal change.frame
     ++ (codes ",\"value\":\"" ++ (new_value_name spec change ++ codes "\"}")))))
 
 -- A halt.
-unfoldable pub halt_text : Parts → HaltAt → List ℕ
-halt_text spec halt =
+unfoldable pub spelled_halt : Parts → HaltAt → List ℕ
+spelled_halt spec halt =
     codes "{\"frame\":" ++ (decimal halt.frame ++ (codes ",\"processor\":\"" ++ (proc_name spec halt.proc.0
     ++ (codes "\",\"step\":" ++ (decimal halt.step ++ codes "}")))))
 
 -- A restart.
-unfoldable pub restart_text : Parts → RestartAt → List ℕ
-restart_text spec restart =
+unfoldable pub spelled_restart : Parts → RestartAt → List ℕ
+spelled_restart spec restart =
     codes "{\"frame\":" ++ (decimal restart.frame ++ (codes ",\"processor\":\"" ++ (proc_name spec restart.proc.0 ++ codes "\"}")))
 
 -- The rest of a list, with a comma before its first item where it has one before it.
@@ -37,15 +37,15 @@ listed_text later (text ∷ texts) = comma_if later ++ (text ++ listed_text true
 abbrev pub version_text : Parts → List RestartAt → List ℕ
 version_text spec [] = codes ",\"scram\":1}"
 version_text spec (restart ∷ restarts) =
-    codes ",\"restarts\":[" ++ (listed_text false (map (restart_text spec) (restart ∷ restarts)) ++ codes ",\"scram\":2}")
+    codes ",\"restarts\":[" ++ (listed_text false (map (spelled_restart spec) (restart ∷ restarts)) ++ codes ",\"scram\":2}")
 
 -- A script.
 abbrev pub spelled_script : Parts → ScriptParts → List ℕ
 spelled_script spec script =
-    codes "{\"changes\":[" ++ (listed_text false (map (change_text spec) script.changes)
+    codes "{\"changes\":[" ++ (listed_text false (map (spelled_change spec) script.changes)
     ++ (codes ",\"frames\":" ++ (decimal script.frames
-    ++ (codes ",\"halts\":[" ++ (listed_text false (map (halt_text spec) script.halts) ++ version_text spec script.restarts)))))
+    ++ (codes ",\"halts\":[" ++ (listed_text false (map (spelled_halt spec) script.halts) ++ version_text spec script.restarts)))))
 
 -- The line of the script of these faults: its canonical text.
-abbrev pub script_line : Parts → List Fault → List ℕ
-script_line spec faults = script_text spec (script_of spec faults) ++ codes "\n"
+abbrev pub faults_line : Parts → List Fault → List ℕ
+faults_line spec faults = script_text spec (script_of_faults spec faults) ++ codes "\n"

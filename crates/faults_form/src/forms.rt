@@ -6,7 +6,7 @@ ghost use Rattle.scram_io.specs.Outside.{Prints};
 ghost use Rattle.form_base.specs.Answers.{Gives};
 ghost use Rattle.form_base.specs.Endings.{Ends, IsTaken, Prepares, Settles};
 ghost use Rattle.fault_family.specs.NextFaults.{kinds_of};
-ghost use Rattle.fault_family.specs.Scripts.{last_frame};
+ghost use Rattle.fault_family.specs.Scripts.{last_fault_frame};
 ghost use Rattle.faults_form.specs.Answers.{FaultsAnswers, TellsFamily, faults_answer};
 ghost use Rattle.faults_form.specs.Counts.{number};
 ghost use Rattle.faults_form.specs.Families.{extended_text, family_text, within_text};
@@ -113,7 +113,7 @@ fn put_extended<K: Sink>(
     requires kinds { kinds.now ≡ kinds_of spec.now }
     requires width { length kinds.now ≤ 48 }
     requires few { length before.now + more ≤ 3 }
-    requires frame { last_frame before.now ≤ 1001 * length before.now }
+    requires frame { last_fault_frame before.now ≤ 1001 * length before.now }
     ensures { Prints result (K.state out.old) (K.state out.new) (extended_text spec.now more before.now) }
 {
     let faults = before.as_slice();
@@ -135,7 +135,7 @@ fn put_extended<K: Sink>(
 // Puts the line of the script of these faults, where it keeps to the failure assumption.
 fn put_within<K: Sink>(out: &mut K, spec: &Spec, faults: &[Fault]) -> Result<(), SinkFault>
     requires few { length faults.now ≤ 3 }
-    requires frame { last_frame faults.now ≤ 4000 }
+    requires frame { last_fault_frame faults.now ≤ 4000 }
     ensures { Prints result (K.state out.old) (K.state out.new) (within_text spec.now faults.now) }
 {
     let script = FaultScript::new(spec, faults);

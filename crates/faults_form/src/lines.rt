@@ -4,18 +4,18 @@ ghost use Rattle.std.specs.Prelude.{◌≡◌, ◌+◌, ◌*◌, ◌≤◌, ◌+
 ghost use Rattle.serde_json.specs.Written.{comma_if};
 ghost use Rattle.scram_types.specs.declared.limits.TheConstants.{MAX_LINE_BYTES};
 ghost use Rattle.fault_script.specs.Texts.{new_value_name, script_text};
-ghost use Rattle.fault_family.specs.Scripts.{change_of, halt_of, restart_of, script_in};
-ghost use Rattle.faults_form.specs.Lines.{change_text, halt_text, listed_text, restart_text, spelled_script, version_text};
+ghost use Rattle.fault_family.specs.Scripts.{change_of_fault, halt_of_fault, restart_of_fault, faults_in_frames};
+ghost use Rattle.faults_form.specs.Lines.{spelled_change, spelled_halt, listed_text, spelled_restart, spelled_script, version_text};
 
 use fault_family::faults::Fault;
-use fault_family::scripts::{FaultScript, change_of, halt_of, restart_of};
+use fault_family::scripts::{FaultScript, change_of_fault, halt_of_fault, restart_of_fault};
 use scram_types::{Change, HaltAt, RestartAt, Spec};
 use trace_text::lines::Line;
 
 /// Returns the line of a script: its canonical text.
 pub fn make_script_line(spec: &Spec, script: &FaultScript<'_>) -> Line
     requires { length script.now.faults.now ≤ 3 }
-    ensures { result ≡ script_text spec.now (script_in script.now.frames script.now.faults.now) ++ codes "\n" }
+    ensures { result ≡ script_text spec.now (faults_in_frames script.now.frames script.now.faults.now) ++ codes "\n" }
 {
     // Using a field of a specification shows that it keeps its invariant.
     let _ = &spec.procs;
@@ -24,7 +24,7 @@ pub fn make_script_line(spec: &Spec, script: &FaultScript<'_>) -> Line
 
 fn spelled_script(spec: &Spec, script: &FaultScript<'_>) -> Line
     requires { length script.now.faults.now ≤ 3 }
-    ensures { result ≡ spelled_script spec.now (script_in script.now.frames script.now.faults.now) ++ codes "\n" }
+    ensures { result ≡ spelled_script spec.now (faults_in_frames script.now.frames script.now.faults.now) ++ codes "\n" }
 {
     let mut line = open_line();
     add_changes(&mut line, spec, script.faults);
@@ -53,13 +53,13 @@ fn add_frames(line: &mut Line, frames: u32)
 }
 
 fn add_changes(line: &mut Line, spec: &Spec, faults: &[Fault])
-    requires { length line.old + 2 + 77 * length (filter_map change_of faults.now) ≤ MAX_LINE_BYTES }
-    ensures text { line.new ≡ line.old ++ listed_text false (map (change_text spec.now) (filter_map change_of faults.now)) }
-    ensures short { length line.new ≤ length line.old + 2 + 77 * length (filter_map change_of faults.now) }
+    requires { length line.old + 2 + 77 * length (filter_map change_of_fault faults.now) ≤ MAX_LINE_BYTES }
+    ensures text { line.new ≡ line.old ++ listed_text false (map (spelled_change spec.now) (filter_map change_of_fault faults.now)) }
+    ensures short { length line.new ≤ length line.old + 2 + 77 * length (filter_map change_of_fault faults.now) }
 {
     let mut later = false;
     for fault in faults {
-        if let Some(change) = change_of(fault) {
+        if let Some(change) = change_of_fault(fault) {
             add_change(line, spec, &change, later);
             later = true;
         }
@@ -69,17 +69,17 @@ fn add_changes(line: &mut Line, spec: &Spec, faults: &[Fault])
 
 fn add_change(line: &mut Line, spec: &Spec, change: &Change, later: bool)
     requires { length line.old + 77 ≤ MAX_LINE_BYTES }
-    ensures text { line.new ≡ line.old ++ comma_if later ++ change_text spec.now change.now }
+    ensures text { line.new ≡ line.old ++ comma_if later ++ spelled_change spec.now change.now }
     ensures short { length line.new ≤ length line.old + 77 }
 {
     add_comma_if(line, later);
     add_change_text(line, spec, change);
 }
 
-#[tactic(auto, unfolding(crate::specs::Lines::change_text))]
+#[tactic(auto, unfolding(crate::specs::Lines::spelled_change))]
 fn add_change_text(line: &mut Line, spec: &Spec, change: &Change)
     requires { length line.old + 76 ≤ MAX_LINE_BYTES }
-    ensures text { line.new ≡ line.old ++ change_text spec.now change.now }
+    ensures text { line.new ≡ line.old ++ spelled_change spec.now change.now }
     ensures short { length line.new ≤ length line.old + 76 }
 {
     line.text(b"{\"factor\":\"");
@@ -112,14 +112,14 @@ fn add_comma_if(line: &mut Line, later: bool)
 }
 
 fn add_halts(line: &mut Line, spec: &Spec, faults: &[Fault])
-    requires { length line.old + 12 + 77 * length (filter_map halt_of faults.now) ≤ MAX_LINE_BYTES }
-    ensures text { line.new ≡ line.old ++ codes ",\"halts\":[" ++ listed_text false (map (halt_text spec.now) (filter_map halt_of faults.now)) }
-    ensures short { length line.new ≤ length line.old + 12 + 77 * length (filter_map halt_of faults.now) }
+    requires { length line.old + 12 + 77 * length (filter_map halt_of_fault faults.now) ≤ MAX_LINE_BYTES }
+    ensures text { line.new ≡ line.old ++ codes ",\"halts\":[" ++ listed_text false (map (spelled_halt spec.now) (filter_map halt_of_fault faults.now)) }
+    ensures short { length line.new ≤ length line.old + 12 + 77 * length (filter_map halt_of_fault faults.now) }
 {
     line.text(b",\"halts\":[");
     let mut later = false;
     for fault in faults {
-        if let Some(halt) = halt_of(fault) {
+        if let Some(halt) = halt_of_fault(fault) {
             add_halt(line, spec, &halt, later);
             later = true;
         }
@@ -129,17 +129,17 @@ fn add_halts(line: &mut Line, spec: &Spec, faults: &[Fault])
 
 fn add_halt(line: &mut Line, spec: &Spec, halt: &HaltAt, later: bool)
     requires { length line.old + 77 ≤ MAX_LINE_BYTES }
-    ensures text { line.new ≡ line.old ++ comma_if later ++ halt_text spec.now halt.now }
+    ensures text { line.new ≡ line.old ++ comma_if later ++ spelled_halt spec.now halt.now }
     ensures short { length line.new ≤ length line.old + 77 }
 {
     add_comma_if(line, later);
     add_halt_text(line, spec, halt);
 }
 
-#[tactic(auto, unfolding(crate::specs::Lines::halt_text))]
+#[tactic(auto, unfolding(crate::specs::Lines::spelled_halt))]
 fn add_halt_text(line: &mut Line, spec: &Spec, halt: &HaltAt)
     requires { length line.old + 76 ≤ MAX_LINE_BYTES }
-    ensures text { line.new ≡ line.old ++ halt_text spec.now halt.now }
+    ensures text { line.new ≡ line.old ++ spelled_halt spec.now halt.now }
     ensures short { length line.new ≤ length line.old + 76 }
 {
     line.text(b"{\"frame\":");
@@ -160,9 +160,9 @@ fn add_step(line: &mut Line, step: u8)
 }
 
 fn add_version(line: &mut Line, spec: &Spec, faults: &[Fault])
-    requires { length line.old + 28 + 77 * length (filter_map restart_of faults.now) ≤ MAX_LINE_BYTES }
-    ensures text { line.new ≡ line.old ++ version_text spec.now (filter_map restart_of faults.now) ++ codes "\n" }
-    ensures short { length line.new ≤ length line.old + 28 + 77 * length (filter_map restart_of faults.now) }
+    requires { length line.old + 28 + 77 * length (filter_map restart_of_fault faults.now) ≤ MAX_LINE_BYTES }
+    ensures text { line.new ≡ line.old ++ version_text spec.now (filter_map restart_of_fault faults.now) ++ codes "\n" }
+    ensures short { length line.new ≤ length line.old + 28 + 77 * length (filter_map restart_of_fault faults.now) }
 {
     if restarts(faults) {
         add_restarts(line, spec, faults);
@@ -174,10 +174,10 @@ fn add_version(line: &mut Line, spec: &Spec, faults: &[Fault])
 
 // Returns whether a fault is a restart.
 fn restarts(faults: &[Fault]) -> bool
-    ensures { result ≡ nat_lt 0 (length (filter_map restart_of faults.now)) }
+    ensures { result ≡ nat_lt 0 (length (filter_map restart_of_fault faults.now)) }
 {
     for fault in faults {
-        if restart_of(fault).is_some() {
+        if restart_of_fault(fault).is_some() {
             return true;
         }
     }
@@ -185,14 +185,14 @@ fn restarts(faults: &[Fault]) -> bool
 }
 
 fn add_restarts(line: &mut Line, spec: &Spec, faults: &[Fault])
-    requires { length line.old + 15 + 77 * length (filter_map restart_of faults.now) ≤ MAX_LINE_BYTES }
-    ensures text { line.new ≡ line.old ++ codes ",\"restarts\":[" ++ listed_text false (map (restart_text spec.now) (filter_map restart_of faults.now)) }
-    ensures short { length line.new ≤ length line.old + 15 + 77 * length (filter_map restart_of faults.now) }
+    requires { length line.old + 15 + 77 * length (filter_map restart_of_fault faults.now) ≤ MAX_LINE_BYTES }
+    ensures text { line.new ≡ line.old ++ codes ",\"restarts\":[" ++ listed_text false (map (spelled_restart spec.now) (filter_map restart_of_fault faults.now)) }
+    ensures short { length line.new ≤ length line.old + 15 + 77 * length (filter_map restart_of_fault faults.now) }
 {
     line.text(b",\"restarts\":[");
     let mut later = false;
     for fault in faults {
-        if let Some(restart) = restart_of(fault) {
+        if let Some(restart) = restart_of_fault(fault) {
             add_restart(line, spec, &restart, later);
             later = true;
         }
@@ -202,17 +202,17 @@ fn add_restarts(line: &mut Line, spec: &Spec, faults: &[Fault])
 
 fn add_restart(line: &mut Line, spec: &Spec, restart: &RestartAt, later: bool)
     requires { length line.old + 77 ≤ MAX_LINE_BYTES }
-    ensures text { line.new ≡ line.old ++ comma_if later ++ restart_text spec.now restart.now }
+    ensures text { line.new ≡ line.old ++ comma_if later ++ spelled_restart spec.now restart.now }
     ensures short { length line.new ≤ length line.old + 77 }
 {
     add_comma_if(line, later);
     add_restart_text(line, spec, restart);
 }
 
-#[tactic(auto, unfolding(crate::specs::Lines::restart_text))]
+#[tactic(auto, unfolding(crate::specs::Lines::spelled_restart))]
 fn add_restart_text(line: &mut Line, spec: &Spec, restart: &RestartAt)
     requires { length line.old + 76 ≤ MAX_LINE_BYTES }
-    ensures text { line.new ≡ line.old ++ restart_text spec.now restart.now }
+    ensures text { line.new ≡ line.old ++ spelled_restart spec.now restart.now }
     ensures short { length line.new ≤ length line.old + 76 }
 {
     line.text(b"{\"frame\":");

@@ -5,6 +5,6 @@ use Rattle.spec_forms.specs.Bounds.{HasAskedBounds}
 use Rattle.idle_parts.specs.declared.choices.Chosen.{Chosen}
 
 -- The shares of each configuration, and the bounds that are asked for.
-pub record IsChosen (spec : Parts) (chosen : Chosen) : Type 0 where
+pub record IsChosenBy (spec : Parts) (chosen : Chosen) : Type 0 where
   pub shares : HasShares spec chosen.shares.items
   pub sets : HasAskedBounds spec chosen.sets

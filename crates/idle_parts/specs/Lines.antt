@@ -7,19 +7,19 @@ use Rattle.idle_parts.specs.declared.lines.PartKind.{PartKind}
 use Rattle.idle_parts.specs.declared.lines.PartKind.TheVariants.{Rule, Conf, Factor, Bound as BoundKind, Mode, App, Proc, Demand}
 
 -- the word for a kind of part
-abbrev pub kind_text : PartKind → List ℕ
-kind_text Rule = codes "rule"
-kind_text Conf = codes "configuration"
-kind_text Factor = codes "factor"
-kind_text BoundKind = codes "bound"
-kind_text Mode = codes "mode"
-kind_text App = codes "application"
-kind_text Proc = codes "processor"
-kind_text Demand = codes "demand"
+abbrev pub part_word : PartKind → List ℕ
+part_word Rule = codes "rule"
+part_word Conf = codes "configuration"
+part_word Factor = codes "factor"
+part_word BoundKind = codes "bound"
+part_word Mode = codes "mode"
+part_word App = codes "application"
+part_word Proc = codes "processor"
+part_word Demand = codes "demand"
 
 -- what is idle, by its kind and its name or number
 abbrev pub idle_line : PartKind → List ℕ → List ℕ
-idle_line kind name = codes "  idle " ++ kind_text kind ++ codes " " ++ name ++ codes "\n"
+idle_line kind name = codes "  idle " ++ part_word kind ++ codes " " ++ name ++ codes "\n"
 
 -- the names of the configurations of a bound
 abbrev pub pair_text : Parts → Bound → List ℕ

@@ -21,24 +21,24 @@ abbrev pub line_if : Bool → PartKind → List ℕ → List ℕ
 line_if is_idle kind name = if is_idle then idle_line kind name else []
 
 -- the line of rule k, where it is idle
-abbrev pub rule_text : Parts → ℕ → List ℕ
-rule_text spec k = line_if (is_rule_idle spec k) kind.Rule (decimal k)
+abbrev pub idle_rule_text : Parts → ℕ → List ℕ
+idle_rule_text spec k = line_if (is_rule_idle spec k) kind.Rule (decimal k)
 
 -- the line of configuration number c
-abbrev pub conf_text : Parts → ℕ → List ℕ
-conf_text spec c = line_if (is_conf_idle spec c) kind.Conf (conf_name spec c)
+abbrev pub idle_conf_text : Parts → ℕ → List ℕ
+idle_conf_text spec c = line_if (is_conf_idle spec c) kind.Conf (conf_name spec c)
 
 -- the line of factor x
-abbrev pub factor_text : Parts → ℕ → List ℕ
-factor_text spec x = line_if (is_factor_idle spec x) kind.Factor (factor_name spec x)
+abbrev pub idle_factor_text : Parts → ℕ → List ℕ
+idle_factor_text spec x = line_if (is_factor_idle spec x) kind.Factor (factor_name spec x)
 
 -- the line of a bound
-abbrev pub bound_text : Parts → Bound → List ℕ
-bound_text spec bound = line_if (is_bound_idle spec bound) kind.Bound (pair_text spec bound)
+abbrev pub idle_bound_text : Parts → Bound → List ℕ
+idle_bound_text spec bound = line_if (is_bound_idle spec bound) kind.Bound (pair_text spec bound)
 
 -- the line of bound number k
-abbrev pub bound_text_at : Parts → ℕ → List ℕ
-bound_text_at spec k = option_map_or (bound_text spec) (slice_get spec.bounds k) []
+abbrev pub idle_bound_text_at : Parts → ℕ → List ℕ
+idle_bound_text_at spec k = option_map_or (idle_bound_text spec) (slice_get spec.bounds k) []
 
 -- the line of a mode of application number a
 abbrev pub mode_line : Parts → ℕ → ModeSpec → List ℕ
@@ -46,40 +46,40 @@ mode_line spec a listed =
     line_if (is_mode_idle spec a listed.mode.0) kind.Mode (app_name spec a ++ codes " " ++ mode_text (kind_of_app spec a) listed.mode.0)
 
 -- the lines of these modes of application number a
-abbrev pub modes_text : Parts → ℕ → List ModeSpec → List ℕ
-modes_text spec a [] = []
-modes_text spec a (listed ∷ modes) = mode_line spec a listed ++ modes_text spec a modes
+abbrev pub idle_modes_text : Parts → ℕ → List ModeSpec → List ℕ
+idle_modes_text spec a [] = []
+idle_modes_text spec a (listed ∷ modes) = mode_line spec a listed ++ idle_modes_text spec a modes
 
 -- the lines of the modes that application number a lists
-abbrev pub modes_text_of : Parts → ℕ → List ℕ
-modes_text_of spec a = option_map_or (λ (app : AppSpec). modes_text spec a app.modes) (slice_get spec.apps a) []
+abbrev pub idle_modes_text_of : Parts → ℕ → List ℕ
+idle_modes_text_of spec a = option_map_or (λ (app : AppSpec). idle_modes_text spec a app.modes) (slice_get spec.apps a) []
 
 -- the line of application number a
-abbrev pub app_text : Parts → ℕ → List ℕ
-app_text spec a = line_if (is_app_idle spec a) kind.App (app_name spec a)
+abbrev pub idle_app_text : Parts → ℕ → List ℕ
+idle_app_text spec a = line_if (is_app_idle spec a) kind.App (app_name spec a)
 
 -- the line of processor p
-abbrev pub proc_text : Parts → ℕ → List ℕ
-proc_text spec p = line_if (is_proc_idle spec p) kind.Proc (proc_name spec p)
+abbrev pub idle_proc_text : Parts → ℕ → List ℕ
+idle_proc_text spec p = line_if (is_proc_idle spec p) kind.Proc (proc_name spec p)
 
 -- the line of a demand
-abbrev pub demand_text : Parts → Demand → List ℕ
-demand_text spec demand = line_if (is_demand_idle spec demand) kind.Demand demand.name
+abbrev pub idle_demand_text : Parts → Demand → List ℕ
+idle_demand_text spec demand = line_if (is_demand_idle spec demand) kind.Demand demand.name
 
 -- the line of demand number k
-abbrev pub demand_text_at : Parts → ℕ → List ℕ
-demand_text_at spec k = option_map_or (demand_text spec) (slice_get spec.demands k) []
+abbrev pub idle_demand_text_at : Parts → ℕ → List ℕ
+idle_demand_text_at spec k = option_map_or (idle_demand_text spec) (slice_get spec.demands k) []
 
 -- The line of part number n of a kind, where it is idle; of an application a line for each of its modes that is idle.
-abbrev pub part_text : Parts → PartKind → ℕ → List ℕ
-part_text spec kind.Rule n = rule_text spec n
-part_text spec kind.Conf n = conf_text spec n
-part_text spec kind.Factor n = factor_text spec n
-part_text spec kind.Bound n = bound_text_at spec n
-part_text spec kind.Mode n = modes_text_of spec n
-part_text spec kind.App n = app_text spec n
-part_text spec kind.Proc n = proc_text spec n
-part_text spec kind.Demand n = demand_text_at spec n
+abbrev pub idle_part_text : Parts → PartKind → ℕ → List ℕ
+idle_part_text spec kind.Rule n = idle_rule_text spec n
+idle_part_text spec kind.Conf n = idle_conf_text spec n
+idle_part_text spec kind.Factor n = idle_factor_text spec n
+idle_part_text spec kind.Bound n = idle_bound_text_at spec n
+idle_part_text spec kind.Mode n = idle_modes_text_of spec n
+idle_part_text spec kind.App n = idle_app_text spec n
+idle_part_text spec kind.Proc n = idle_proc_text spec n
+idle_part_text spec kind.Demand n = idle_demand_text_at spec n
 
 -- How many parts of a kind a specification has; of modes, how many applications.
 abbrev pub part_count : Parts → PartKind → ℕ
@@ -94,7 +94,7 @@ part_count spec kind.Demand = length spec.demands
 
 -- the lines of the parts of a kind that are idle, in the order of the specification
 abbrev pub kind_lines : Parts → PartKind → List ℕ
-kind_lines spec kind = texts_below (part_text spec kind) (part_count spec kind)
+kind_lines spec kind = texts_below (idle_part_text spec kind) (part_count spec kind)
 
 -- The lines of what a specification says and nothing uses, kind by kind.
 abbrev pub idle_text : Parts → List ℕ

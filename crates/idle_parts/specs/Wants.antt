@@ -14,12 +14,12 @@ use Rattle.idle_parts.specs.Places.{is_app_placed}
 use Rattle.idle_parts.specs.Somewhere.{passes_somewhere}
 
 -- A rule requires a value of factor x.
-abbrev pub wants_factor : ℕ → Choice → Bool
-wants_factor x rule = list_any (λ (want : Want). want.factor.0 == x) rule.wants
+abbrev pub any_wants_factor : ℕ → Choice → Bool
+any_wants_factor x rule = list_any (λ (want : Want). want.factor.0 == x) rule.wants
 
 -- Some rule requires a value of factor x.
 abbrev pub is_factor_wanted : Parts → ℕ → Bool
-is_factor_wanted spec x = list_any (wants_factor x) spec.rules
+is_factor_wanted spec x = list_any (any_wants_factor x) spec.rules
 
 -- Application a is a power monitor, which some configuration places.
 abbrev pub is_placed_monitor : Parts → ℕ → Bool

@@ -1,7 +1,7 @@
 //! The lines that tell what is idle, made without memory.
 
 ghost use Rattle.std.specs.Prelude.{◌≡◌, ◌≤◌, length};
-ghost use Rattle.idle_parts.specs.Lines.{idle_line, kind_text};
+ghost use Rattle.idle_parts.specs.Lines.{idle_line, part_word};
 
 use trace_text::lines::Line;
 
@@ -26,15 +26,15 @@ pub(crate) fn make_idle_line(kind: PartKind, name: &[u8]) -> Line
 {
     let mut line = Line::new();
     line.text(b"  idle ");
-    line.text(kind_text(kind));
+    line.text(part_word(kind));
     line.text(b" ");
     line.text(name);
     line.text(b"\n");
     line
 }
 
-fn kind_text(kind: PartKind) -> &'static [u8]
-    ensures text { result.now ≡ kind_text kind }
+fn part_word(kind: PartKind) -> &'static [u8]
+    ensures text { result.now ≡ part_word kind }
     ensures short { length result.now ≤ 13 }
 {
     match kind {

@@ -5,9 +5,9 @@ ghost use Rattle.choice_forms.specs.Tables.{HasShares};
 ghost use Rattle.coverage_check.specs.Timing.{asked_bounds};
 ghost use Rattle.scram_types.specs.Specification.{IsDemand};
 ghost use Rattle.spec_forms.specs.Bounds.{HasAskedBounds};
-ghost use Rattle.idle_parts.specs.Chosen.{IsChosen};
+ghost use Rattle.idle_parts.specs.Chosen.{IsChosenBy};
 ghost use Rattle.idle_parts.specs.Lines.{pair_text};
-ghost use Rattle.idle_parts.specs.Texts.{app_text, bound_text, bound_text_at, conf_text, demand_text, demand_text_at, factor_text, idle_text, kind_lines, line_if, mode_line, modes_text, modes_text_of, part_count, part_text, proc_text, rule_text};
+ghost use Rattle.idle_parts.specs.Texts.{idle_app_text, idle_bound_text, idle_bound_text_at, idle_conf_text, idle_demand_text, idle_demand_text_at, idle_factor_text, idle_text, kind_lines, line_if, mode_line, idle_modes_text, idle_modes_text_of, part_count, idle_part_text, idle_proc_text, idle_rule_text};
 
 use crate::choices::{Chosen, find_chosen, is_bound_idle, is_conf_idle, is_rule_idle};
 use crate::lines::{PartKind, make_idle_line};
@@ -34,7 +34,7 @@ pub fn make_idle(alloc: Global, spec: &Spec) -> Result<Vec<u8>, NoMemory>
 }
 
 fn add_all(text: &mut Vec<u8>, spec: &Spec, chosen: &Chosen) -> Result<(), AllocError>
-    requires { IsChosen spec.now chosen.now }
+    requires { IsChosenBy spec.now chosen.now }
     ensures { OnOk result (text.new.items ≡ text.old.items ++ idle_text spec.now) }
 {
     add_kind(text, spec, chosen, PartKind::Rule)?;
@@ -54,7 +54,7 @@ fn add_kind(
     chosen: &Chosen,
     kind: PartKind,
 ) -> Result<(), AllocError>
-    requires { IsChosen spec.now chosen.now }
+    requires { IsChosenBy spec.now chosen.now }
     ensures { OnOk result (text.new.items ≡ text.old.items ++ kind_lines spec.now kind) }
 {
     for n in 0..part_count(spec, kind) {
@@ -88,9 +88,9 @@ fn add_part(
     kind: PartKind,
     n: u8,
 ) -> Result<(), AllocError>
-    requires chosen { IsChosen spec.now chosen.now }
+    requires chosen { IsChosenBy spec.now chosen.now }
     requires part { n < part_count spec.now kind }
-    ensures { OnOk result (text.new.items ≡ text.old.items ++ part_text spec.now kind n) }
+    ensures { OnOk result (text.new.items ≡ text.old.items ++ idle_part_text spec.now kind n) }
 {
     match kind {
         PartKind::Rule => add_rule(text, spec, &chosen.shares, n),
@@ -112,7 +112,7 @@ fn add_rule(
 ) -> Result<(), AllocError>
     requires shares { HasShares spec.now shares.now }
     requires rule { k < length spec.now.rules }
-    ensures { OnOk result (text.new.items ≡ text.old.items ++ rule_text spec.now k) }
+    ensures { OnOk result (text.new.items ≡ text.old.items ++ idle_rule_text spec.now k) }
 {
     let mut number = Line::new();
     number.number(u32::from(k));
@@ -127,14 +127,14 @@ fn add_rule(
 fn add_conf(text: &mut Vec<u8>, spec: &Spec, sets: &[u16; 12], c: u8) -> Result<(), AllocError>
     requires sets { HasAskedBounds spec.now sets.now }
     requires conf { c < length spec.now.confs }
-    ensures { OnOk result (text.new.items ≡ text.old.items ++ conf_text spec.now c) }
+    ensures { OnOk result (text.new.items ≡ text.old.items ++ idle_conf_text spec.now c) }
 {
     let name = spec.conf_name(ConfId(c)).as_bytes();
     add_if(text, is_conf_idle(spec, sets, c), PartKind::Conf, name)
 }
 
 fn add_factor(text: &mut Vec<u8>, spec: &Spec, factor: FactorId) -> Result<(), AllocError>
-    ensures { OnOk result (text.new.items ≡ text.old.items ++ factor_text spec.now factor.0) }
+    ensures { OnOk result (text.new.items ≡ text.old.items ++ idle_factor_text spec.now factor.0) }
 {
     let name = spec.factor_name(factor).as_bytes();
     add_if(text, is_factor_idle(spec, factor), PartKind::Factor, name)
@@ -142,7 +142,7 @@ fn add_factor(text: &mut Vec<u8>, spec: &Spec, factor: FactorId) -> Result<(), A
 
 fn add_bound_at(text: &mut Vec<u8>, spec: &Spec, sets: &[u16; 12], k: u8) -> Result<(), AllocError>
     requires { HasAskedBounds spec.now sets.now }
-    ensures { OnOk result (text.new.items ≡ text.old.items ++ bound_text_at spec.now k) }
+    ensures { OnOk result (text.new.items ≡ text.old.items ++ idle_bound_text_at spec.now k) }
 {
     match spec.bounds.items().get(usize::from(k)) {
         Some(bound) => add_bound(text, spec, sets[usize::from(bound.from.0)], bound),
@@ -154,7 +154,7 @@ fn add_bound(text: &mut Vec<u8>, spec: &Spec, set: u16, bound: &Bound) -> Result
     requires set { set ≡ asked_bounds spec.now bound.now.from }
     requires to { bound.now.to.0 < length spec.now.confs }
     requires few { bound.now.to.0 < 12 }
-    ensures { OnOk result (text.new.items ≡ text.old.items ++ bound_text spec.now bound.now) }
+    ensures { OnOk result (text.new.items ≡ text.old.items ++ idle_bound_text spec.now bound.now) }
 {
     let pair = make_pair(spec, bound);
     add_if(
@@ -178,7 +178,7 @@ fn make_pair(spec: &Spec, bound: &Bound) -> Line
 }
 
 fn add_modes_of(text: &mut Vec<u8>, spec: &Spec, app: AppId) -> Result<(), AllocError>
-    ensures { OnOk result (text.new.items ≡ text.old.items ++ modes_text_of spec.now app.0) }
+    ensures { OnOk result (text.new.items ≡ text.old.items ++ idle_modes_text_of spec.now app.0) }
 {
     match spec.apps.items().get(usize::from(app.0)) {
         Some(found) => add_modes(text, spec, app, found.modes.items()),
@@ -192,7 +192,7 @@ fn add_modes(
     app: AppId,
     modes: &[ModeSpec],
 ) -> Result<(), AllocError>
-    ensures { OnOk result (text.new.items ≡ text.old.items ++ modes_text spec.now app.0 modes.now) }
+    ensures { OnOk result (text.new.items ≡ text.old.items ++ idle_modes_text spec.now app.0 modes.now) }
 {
     for listed in modes {
         add_mode(text, spec, app, listed)?;
@@ -221,21 +221,21 @@ fn add_mode(
 }
 
 fn add_app(text: &mut Vec<u8>, spec: &Spec, app: AppId) -> Result<(), AllocError>
-    ensures { OnOk result (text.new.items ≡ text.old.items ++ app_text spec.now app.0) }
+    ensures { OnOk result (text.new.items ≡ text.old.items ++ idle_app_text spec.now app.0) }
 {
     let name = spec.app_name(app).as_bytes();
     add_if(text, is_app_idle(spec, app), PartKind::App, name)
 }
 
 fn add_proc(text: &mut Vec<u8>, spec: &Spec, proc: ProcId) -> Result<(), AllocError>
-    ensures { OnOk result (text.new.items ≡ text.old.items ++ proc_text spec.now proc.0) }
+    ensures { OnOk result (text.new.items ≡ text.old.items ++ idle_proc_text spec.now proc.0) }
 {
     let name = spec.proc_name(proc).as_bytes();
     add_if(text, is_proc_idle(spec, proc), PartKind::Proc, name)
 }
 
 fn add_demand_at(text: &mut Vec<u8>, spec: &Spec, k: u8) -> Result<(), AllocError>
-    ensures { OnOk result (text.new.items ≡ text.old.items ++ demand_text_at spec.now k) }
+    ensures { OnOk result (text.new.items ≡ text.old.items ++ idle_demand_text_at spec.now k) }
 {
     match spec.demands.items().get(usize::from(k)) {
         Some(demand) => add_demand(text, spec, demand),
@@ -245,7 +245,7 @@ fn add_demand_at(text: &mut Vec<u8>, spec: &Spec, k: u8) -> Result<(), AllocErro
 
 fn add_demand(text: &mut Vec<u8>, spec: &Spec, demand: &Demand) -> Result<(), AllocError>
     requires { IsDemand spec.now.procs spec.now.apps spec.now.confs spec.now.factors demand.now }
-    ensures { OnOk result (text.new.items ≡ text.old.items ++ demand_text spec.now demand.now) }
+    ensures { OnOk result (text.new.items ≡ text.old.items ++ idle_demand_text spec.now demand.now) }
 {
     let name = demand.name.as_str().as_bytes();
     add_if(text, is_demand_idle(spec, demand), PartKind::Demand, name)

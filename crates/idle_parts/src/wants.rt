@@ -7,7 +7,7 @@ ghost use Rattle.scram_types.specs.Bits.{bits_below, has_bit};
 ghost use Rattle.scram_types.specs.Searches.{any_below};
 ghost use Rattle.scram_types.specs.Specification.{IsDemand};
 ghost use Rattle.idle_parts.specs.Speaking.{spoken_env, wanted_value};
-ghost use Rattle.idle_parts.specs.Wants.{is_demand_idle, is_factor_idle, is_factor_wanted, is_placed_monitor, is_supply_read, wants_factor};
+ghost use Rattle.idle_parts.specs.Wants.{is_demand_idle, is_factor_idle, is_factor_wanted, is_placed_monitor, is_supply_read, any_wants_factor};
 
 use crate::places::is_app_placed;
 use app_model::kinds::power_monitor;
@@ -31,11 +31,11 @@ fn is_factor_wanted(spec: &Spec, factor: FactorId) -> bool
     spec.rules
         .items()
         .iter()
-        .any(|rule| wants_factor(rule, factor))
+        .any(|rule| any_wants_factor(rule, factor))
 }
 
-fn wants_factor(rule: &Choice, factor: FactorId) -> bool
-    ensures { result ≡ wants_factor factor.0 rule.now }
+fn any_wants_factor(rule: &Choice, factor: FactorId) -> bool
+    ensures { result ≡ any_wants_factor factor.0 rule.now }
 {
     rule.wants
         .items()

@@ -24,11 +24,11 @@ use Rattle.scram_cli.specs.declared.forms.Look.{Look}
 use Rattle.scram_cli.specs.declared.forms.Look.TheVariants.{Props, Summary, Columns, Picture}
 use Rattle.scram_cli.specs.declared.forms.SpecificationForm.{SpecificationForm}
 use Rattle.scram_cli.specs.declared.forms.SpecificationForm.TheVariants.{Check, Bounds, Explain, ExplainScript, Fill, Choices, Choose}
-use Rattle.scram_cli.specs.Answers.{FlightAnswers, FormAnswers, LookAnswers, QuestionAnswers}
-use Rattle.scram_cli.specs.Assurance.{AssuresFlight, AssuresForm, AssuresLook, AssuresQuestion}
+use Rattle.scram_cli.specs.Answers.{FlightFormAnswers, FormAnswers, LookAnswers, QuestionAnswers}
+use Rattle.scram_cli.specs.Assurance.{AssuresFlightForm, AssuresForm, AssuresLook, AssuresQuestion}
 use Rattle.scram_cli.specs.Pages.{page_text}
 
-flight_assures : FlightsAreAssured → ReconfigurationsAreAssured → (flight : FlightForm (List ℕ)) → IsAssuring (FlightAnswers flight) (AssuresFlight flight)
+flight_assures : FlightsAreAssured → ReconfigurationsAreAssured → (flight : FlightForm (List ℕ)) → IsAssuring (FlightFormAnswers flight) (AssuresFlightForm flight)
 flight_assures law held (Run specification script) before after reads text is = law.run specification script before after reads text is
 flight_assures law held (Watch specification script) before after reads text is = law.watch specification script before after reads text is
 flight_assures law held (Pair specification script halt) before after reads text is = law.run specification script before after reads text is

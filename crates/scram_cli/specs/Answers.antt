@@ -29,15 +29,15 @@ abbrev pub usage_line : List ℕ
 usage_line = codes "refused: usage\n"
 
 -- The answer to what is asked about flights.
-abbrev pub FlightAnswers : FlightForm (List ℕ) → Answer
-FlightAnswers (Run specification script) = RunAnswers specification script
-FlightAnswers (Watch specification script) = WatchAnswers specification script
-FlightAnswers (Pair specification script halt) = PairAnswers specification script
-FlightAnswers (Replay specification script schedule) = ReplayAnswers specification script schedule
-FlightAnswers (Faults specification count) = FaultsAnswers specification count
-FlightAnswers (Flights specification scripts) = FlightsAnswers specification scripts
-FlightAnswers (Gen number) = WithoutFiles (GenAnswers number)
-FlightAnswers (Fly number) = WithoutFiles (FlyAnswers number)
+abbrev pub FlightFormAnswers : FlightForm (List ℕ) → Answer
+FlightFormAnswers (Run specification script) = RunAnswers specification script
+FlightFormAnswers (Watch specification script) = WatchAnswers specification script
+FlightFormAnswers (Pair specification script halt) = PairAnswers specification script
+FlightFormAnswers (Replay specification script schedule) = ReplayAnswers specification script schedule
+FlightFormAnswers (Faults specification count) = FaultsAnswers specification count
+FlightFormAnswers (Flights specification scripts) = FlightsAnswers specification scripts
+FlightFormAnswers (Gen number) = WithoutFiles (GenAnswers number)
+FlightFormAnswers (Fly number) = WithoutFiles (FlyAnswers number)
 
 -- The answer to what is asked about a specification.
 abbrev pub QuestionAnswers : SpecificationForm (List ℕ) → Answer
@@ -60,7 +60,7 @@ LookAnswers Picture specification trace = ViewAnswers picture_text specification
 -- read, each once, in their order.
 abbrev pub FormAnswers : Option (Form (List ℕ)) → Answer
 FormAnswers None = WithoutFiles (Gives (BROKEN_USAGE, usage_line))
-FormAnswers (Some (Flight flight)) = FlightAnswers flight
+FormAnswers (Some (Flight flight)) = FlightFormAnswers flight
 FormAnswers (Some (Specification question)) = QuestionAnswers question
 FormAnswers (Some (Trace look specification trace)) = LookAnswers look specification trace
 FormAnswers (Some (Told page)) = WithoutFiles (Gives (ANSWERED, page_text page))

@@ -24,15 +24,15 @@ use Rattle.scram_cli.specs.declared.forms.SpecificationForm.TheVariants.{Check, 
 use Rattle.scram_cli.specs.Pages.{page_text}
 
 -- What status 0 assures of flights.
-abbrev pub AssuresFlight : FlightForm (List ℕ) → History → List ℕ → Type 0
-AssuresFlight (Run specification script) = AssuresRun specification script
-AssuresFlight (Watch specification script) = AssuresWatch specification script
-AssuresFlight (Pair specification script halt) = AssuresRun specification script
-AssuresFlight (Replay specification script schedule) = AssuresReplay specification script schedule
-AssuresFlight (Faults specification count) = AssuresFaults specification count
-AssuresFlight (Flights specification scripts) = AssuresFlights specification scripts
-AssuresFlight (Gen number) = AssuresGen number
-AssuresFlight (Fly number) = AssuresFly number
+abbrev pub AssuresFlightForm : FlightForm (List ℕ) → History → List ℕ → Type 0
+AssuresFlightForm (Run specification script) = AssuresRun specification script
+AssuresFlightForm (Watch specification script) = AssuresWatch specification script
+AssuresFlightForm (Pair specification script halt) = AssuresRun specification script
+AssuresFlightForm (Replay specification script schedule) = AssuresReplay specification script schedule
+AssuresFlightForm (Faults specification count) = AssuresFaults specification count
+AssuresFlightForm (Flights specification scripts) = AssuresFlights specification scripts
+AssuresFlightForm (Gen number) = AssuresGen number
+AssuresFlightForm (Fly number) = AssuresFly number
 
 -- What status 0 assures of what is asked about a specification.
 abbrev pub AssuresQuestion : SpecificationForm (List ℕ) → History → List ℕ → Type 0
@@ -54,7 +54,7 @@ AssuresLook Picture = AssuresView picture_text
 -- What status 0 assures of the words' form; words without a form never end with it.
 abbrev pub AssuresForm : Option (Form (List ℕ)) → History → List ℕ → Type 0
 AssuresForm None reads text = ⊥
-AssuresForm (Some (Flight flight)) reads text = AssuresFlight flight reads text
+AssuresForm (Some (Flight flight)) reads text = AssuresFlightForm flight reads text
 AssuresForm (Some (Specification question)) reads text = AssuresQuestion question reads text
 AssuresForm (Some (Trace look specification trace)) reads text = AssuresLook look specification trace reads text
 AssuresForm (Some (Told page)) reads text = (reads ≡ []) × (text ≡ page_text page)

@@ -7,7 +7,7 @@ ghost use Rattle.form_base.specs.Assurance.{Assured};
 ghost use Rattle.form_base.specs.Endings.{Completes, Ends, IsSent, IsTaken, Tells, WentOut};
 ghost use Rattle.form_base.specs.Refusals.{told};
 ghost use Rattle.form_base.specs.declared.status.TheConstants.{ANSWERED, BROKEN_USAGE, UNREAD_FILE, UNWRITTEN_OUTPUT};
-ghost use Rattle.scram_cli.specs.Answers.{FlightAnswers, FormAnswers, LookAnswers, QuestionAnswers, usage_line};
+ghost use Rattle.scram_cli.specs.Answers.{FlightFormAnswers, FormAnswers, LookAnswers, QuestionAnswers, usage_line};
 ghost use Rattle.scram_cli.specs.Assurance.{AssuresForm};
 ghost use Rattle.scram_cli.specs.Forms.{files_of, flight_files, flight_with_names, form_of, question_files, question_with_names, with_names};
 ghost use Rattle.scram_cli.specs.Pages.{page_text};
@@ -17,7 +17,7 @@ use crate::pages::{Page, page_text};
 use app_model::Rack;
 use choice_forms::{Question, choices, choose};
 use columns_form::columns_form;
-use explain_form::{ExplainedFiles, explain, explain_script};
+use explain_form::{explain, explain_script};
 use faults_form::{FaultsQuestion, faults};
 use fill_form::fill;
 use flight_forms::laws::flights_are_assured;
@@ -184,7 +184,7 @@ fn answer_flight<R: AllocGlobal + Threads + Wait + Sync, F: Files, K: Sink>(
     out: &mut K,
     boxes: Boxes,
 ) -> Status
-    ensures { Ends (FlightAnswers (flight_with_names (λ name. name.now) flight.entry)) (flight_files (flight_with_names (λ name. name.now) flight.entry))
+    ensures { Ends (FlightFormAnswers (flight_with_names (λ name. name.now) flight.entry)) (flight_files (flight_with_names (λ name. name.now) flight.entry))
         (F.state files.old) (F.state files.new) (IsTaken (K.state out.old) (K.state out.new) result.code) }
 {
     match flight {
@@ -281,7 +281,7 @@ fn answer_question<F: Files, K: Sink>(
             specification,
             script,
         } => {
-            let named = ExplainedFiles {
+            let named = MissionFiles {
                 specification,
                 script,
             };

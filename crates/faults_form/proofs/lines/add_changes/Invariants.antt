@@ -1,11 +1,11 @@
 use Rattle.std.proofs.Common.{◌≡◌, ◌+◌, ◌*◌, ◌≤◌, ◌++◌, drop, false, length, map}
 use Rattle.std.specs.Prelude.{filter_map}
-use Rattle.fault_family.specs.Scripts.{change_of}
-use Rattle.faults_form.specs.Lines.{change_text, listed_text}
+use Rattle.fault_family.specs.Scripts.{change_of_fault}
+use Rattle.faults_form.specs.Lines.{spelled_change, listed_text}
 use Rattle.faults_form.proofs.lines.add_changes.Given as goal
 
 abbrev pub invariant-loop-fault : goal.invariant-loop-fault
 invariant-loop-fault l = record {
-  text : l.line ++ listed_text l.later (map (change_text l.spec) (filter_map change_of (drop l.fault-index l.faults))) ≡ l.initial.line ++ listed_text false (map (change_text l.spec) (filter_map change_of l.faults));
-  short : length l.line + 77 * length (filter_map change_of (drop l.fault-index l.faults)) ≤ length l.initial.line + 77 * length (filter_map change_of l.faults);
+  text : l.line ++ listed_text l.later (map (spelled_change l.spec) (filter_map change_of_fault (drop l.fault-index l.faults))) ≡ l.initial.line ++ listed_text false (map (spelled_change l.spec) (filter_map change_of_fault l.faults));
+  short : length l.line + 77 * length (filter_map change_of_fault (drop l.fault-index l.faults)) ≤ length l.initial.line + 77 * length (filter_map change_of_fault l.faults);
 }

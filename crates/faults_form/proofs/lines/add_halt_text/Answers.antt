@@ -1,9 +1,9 @@
 use Rattle.std.proofs.Common.{append_assoc, refl}
-use Rattle.faults_form.specs.Lines.{halt_text}
+use Rattle.faults_form.specs.Lines.{spelled_halt}
 use Rattle.faults_form.proofs.lines.add_halt_text.Goals as goal
 
 pub returns-clause-text : goal.returns-clause-text
-unfolding halt_text
+unfolding spelled_halt
 returns-clause-text c =
     rw (c.add_step.ensures.text, c.text-3.ensures, c.as_bytes.ensures.value, c.proc_name.ensures.name, c.text-2.ensures, c.number.ensures.text, c.text.ensures)
     (simp append_assoc refl)
