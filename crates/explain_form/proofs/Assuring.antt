@@ -1,5 +1,5 @@
 -- What is answered with status 0 is assured.
-use Rattle.std.proofs.Common.{◌≡◌, ℕ, List, [], ap, arith, refl, sym}
+use Rattle.std.proofs.Common.{◌≡◌, ℕ, List, [], ap, arith, refl}
 use Rattle.std.specs.Prelude.{◌≢◌, Option, Some, None}
 use Rattle.scram_types.specs.Scripts.{ScriptParts}
 use Rattle.scram_types.specs.Specification.{IsSpec, Parts}
@@ -16,8 +16,8 @@ use Rattle.document_explanations.specs.Scripts.{BreaksExplainedScript, long_expl
 use Rattle.document_explanations.specs.Specifications.{BreaksExplainedSpecification, long_explained_specification}
 use Rattle.flight_forms.specs.Documents.{SaysScript}
 use Rattle.form_base.specs.declared.status.TheConstants.{ANSWERED}
-use Rattle.form_base.specs.Answers.{Answer, Gives}
-use Rattle.form_base.specs.Assurance.{IsAssuring, OfDocument, OfSpecification}
+use Rattle.form_base.specs.Answers.{Gives}
+use Rattle.form_base.specs.Assurance.{IsAssuring, OfDocument}
 use Rattle.form_base.specs.Specifications.{SaysSpecification}
 use Rattle.form_base.proofs.Assuring.{document_assures, not_zero, text_of_gives}
 use Rattle.scram_io.specs.Outside.{History}

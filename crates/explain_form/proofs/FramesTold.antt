@@ -1,6 +1,6 @@
 -- Why a script leaves the failure assumption.
-use Rattle.std.proofs.Common.{◌≡◌, ◌∙◌, ℕ, suc, ◌+◌, ◌<◌, ◌≤◌, ◌++◌, ap, append_assoc, arith, refl, sym, List, Bool, true, false, subst}
-use Rattle.std.specs.Prelude.{Option, Some, None, codes, if◌then◌else◌}
+use Rattle.std.proofs.Common.{◌≡◌, ◌∙◌, ℕ, suc, ◌+◌, ◌≤◌, ◌++◌, ap, append_assoc, arith, sym, List, Bool, true, false}
+use Rattle.std.specs.Prelude.{Some, None, codes, if◌then◌else◌}
 use Rattle.scram_types.specs.Scripts.{ScriptParts}
 use Rattle.scram_types.specs.Specification.{Parts}
 use Rattle.scram_types.proofs.Options.{same_some}

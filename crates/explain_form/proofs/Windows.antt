@@ -1,19 +1,16 @@
 -- The change frames of a window.
-use Rattle.std.proofs.Common.{◌≡◌, ◌∙◌, ℕ, zero, suc, ◌+◌, ◌-◌, ◌<◌, ◌≤◌, ap, arith, refl, sym, Bool, true, false}
+use Rattle.std.proofs.Common.{◌≡◌, ◌∙◌, ℕ, zero, suc, ◌+◌, ◌-◌, ◌<◌, ◌≤◌, ap, arith, refl, sym, Bool, false}
 use mathlib.Core.Logic.{inl, inr}
-use Rattle.std.specs.Prelude.{◌⊎◌, ◌&&◌, nat_lt, if◌then◌else◌}
+use Rattle.std.specs.Prelude.{if◌then◌else◌}
+use Rattle.std.proofs.Math.Bool.{and-false}
 use Rattle.scram_types.specs.Bits.{count_below}
 use Rattle.scram_types.specs.Scripts.{ScriptParts}
 use Rattle.scram_types.specs.Specification.{Parts}
 use Rattle.scram_types.proofs.BitSets.{count_none, count_same}
-use Rattle.scram_types.proofs.Naturals.{at_or_below, below_test, low_or_high, not_below_test}
-use Rattle.fault_script.specs.Assumption.{changes_in_window, changes_upto, is_change_frame}
+use Rattle.scram_types.proofs.Naturals.{at_or_below, below_test, not_below_test}
+use Rattle.fault_script.specs.Assumption.{changes_upto, is_change_frame}
 use Rattle.explain_form.specs.Laws.{WindowsAreTold}
 use Rattle.explain_form.specs.Outsides.{is_change_told, is_in_window}
-
-and_false : (b : Bool) → (b && false) ≡ false
-and_false true = refl
-and_false false = refl
 
 module _ (spec : Parts) (script : ScriptParts) where
   -- all change frames up to f
@@ -27,7 +24,7 @@ module _ (spec : Parts) (script : ScriptParts) where
 
     -- none is told that is before the window; frame 0 is no change frame
     none_before : (f : ℕ) → f < before → is_change_told spec script last f ≡ false
-    none_before zero low = and_false (is_in_window spec last 0)
+    none_before zero low = and-false (is_in_window spec last 0)
     none_before (suc f) low = rw (not_below_test last (suc f + spec.window) (omega (arith, low))) refl
 
     -- and each one from there on

@@ -72,7 +72,7 @@ fn add_changes_of(kinds: &mut ArrayVec<FaultKind, MAX_KINDS>, spec: &Spec, x: u8
     ensures kinds { kinds.new.items ≡ kinds.old.items ++ factor_changes spec.now x }
     ensures few { length kinds.new.items ≤ length kinds.old.items + 4 }
 {
-    for value in 0..values_of(spec, x) {
+    for value in 0..value_count(spec, x) {
         let factor = FactorId(x);
         kinds.push(FaultKind::Change { factor, value });
     }

@@ -1,13 +1,11 @@
 -- The rules that are the first that fit.
-use Rattle.std.proofs.Common.{◌≡◌, ◌∙◌, ℕ, zero, suc, ◌+◌, ◌<◌, ◌≤◌, ap, arith, length, refl, sym, List, [], ◌∷◌, Bool, true, false, subst}
-use mathlib.Core.Logic.{inl, inr}
-use Rattle.std.specs.Prelude.{◌==◌, slice_get, Some, is_some, if◌then◌else◌}
-use Rattle.scram_types.specs.Lookups.{conf_id}
-use Rattle.scram_types.specs.Specification.{IsSpec, Parts}
+use Rattle.std.proofs.Common.{◌≡◌, ℕ, zero, suc, ◌<◌, ap, arith, refl, sym, List, [], ◌∷◌, true, false, subst}
+use Rattle.std.specs.Prelude.{slice_get, Some}
+use Rattle.scram_types.specs.Specification.{Parts}
 use Rattle.scram_types.specs.declared.flights.Env.{Env}
 use Rattle.scram_types.specs.declared.ids.ConfId.{ConfId}
 use Rattle.scram_types.specs.declared.specification.Choice.{Choice}
-use Rattle.scram_types.proofs.Booleans.{by_bool, true_false}
+use Rattle.scram_types.proofs.Booleans.{by_bool}
 use Rattle.scram_types.proofs.Naturals.{equal, equal_test}
 use Rattle.scram_types.proofs.Options.{same_some}
 use Rattle.choice_table.specs.Choices.{rule_fits}

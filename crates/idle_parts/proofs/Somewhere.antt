@@ -1,6 +1,6 @@
 -- What passes in some environment in scope.
-use Rattle.std.proofs.Common.{◌≡◌, ◌∙◌, ◌<◌, ap, sym, Bool, true, false, refl}
-use Rattle.std.specs.Prelude.{Option, Some, None, is_some, ◌&&◌}
+use Rattle.std.proofs.Common.{◌≡◌, ◌∙◌, ap, sym, Bool, true, false}
+use Rattle.std.specs.Prelude.{Option, Some, None, is_some}
 use Rattle.scram_types.specs.Specification.{IsSpec, Parts}
 use Rattle.scram_types.specs.declared.flights.Env.{Env}
 use Rattle.scram_types.proofs.Booleans.{and_left, and_right, and_true, by_bool, true_false}

@@ -1,18 +1,18 @@
 -- The environment of which a demand speaks, where it speaks of any.
-use Rattle.std.proofs.Common.{◌≡◌, ◌∙◌, ℕ, zero, suc, ◌+◌, ◌-◌, ◌<◌, ◌≤◌, ◌^◌, ap, arith, length, refl, sym, List, [], ◌∷◌, Bool, true, false, subst}
+use Rattle.std.proofs.Common.{◌≡◌, ◌∙◌, ℕ, zero, suc, ◌<◌, ◌≤◌, ◌^◌, ap, arith, length, refl, sym, List, [], ◌∷◌, Bool, true, false, subst}
 use mathlib.Core.Logic.{inl, inr}
-use Rattle.std.specs.Prelude.{◌⊎◌, ◌&&◌, ◌==◌, not, nat_le, slice_get, slice_index, Some, bit_and}
+use Rattle.std.specs.Prelude.{◌&&◌, ◌==◌, not, slice_get, Some, bit_and}
 use Rattle.std.specs.List.{list_all}
 use Rattle.std.specs.Int.{bit_at}
 use Rattle.std.proofs.lemmas.Nat.{and_le_r}
 use Rattle.std.proofs.lemmas.Option.{slice_get_within}
-use Rattle.scram_types.specs.Bits.{bits_below, count_below, has_bit}
+use Rattle.scram_types.specs.Bits.{has_bit}
 use Rattle.scram_types.specs.Specification.{Each, IsDemand, IsSpec, IsWant, Parts}
 use Rattle.scram_types.specs.declared.flights.Env.{Env}
 use Rattle.scram_types.specs.declared.specification.Demand.{Demand}
 use Rattle.scram_types.specs.declared.specification.Factor.{Factor}
 use Rattle.scram_types.specs.declared.specification.Want.{Want}
-use Rattle.scram_types.proofs.BitSets.{bit_cases, bits_are, bits_lt, count_same, count_rises, has_bits, no_bit_past}
+use Rattle.scram_types.proofs.BitSets.{bit_cases, bits_are, bits_lt, count_rises, has_bits, no_bit_past}
 use Rattle.scram_types.proofs.Booleans.{and_left, and_right, and_true, by_bool, same_test, true_false}
 use Rattle.scram_types.proofs.Items.{all_pass}
 use Rattle.scram_types.proofs.Naturals.{at_most, at_most_test, equal, equal_test, low_or_high}
@@ -46,9 +46,6 @@ none_past spec demand (suc (suc (suc zero))) h = absurd (omega arith)
 none_past spec demand (suc (suc (suc (suc zero)))) h = absurd (omega arith)
 none_past spec demand (suc (suc (suc (suc (suc zero))))) h = absurd (omega arith)
 none_past spec demand (suc (suc (suc (suc (suc (suc x)))))) h = refl
-
-six_or_past : (x : ℕ) → (x < 6) ⊎ (6 ≤ x)
-six_or_past x = grind arith
 
 each_rest : {A : Type 0} (Fact : A → Type 0) (x : A) (xs : List A) → Each Fact (x ∷ xs) → Each Fact xs
 each_rest {A} Fact x xs each = λ i y e. each (suc i) y e
@@ -105,13 +102,15 @@ down_by set p v none bit =
     sym (has_and set v.up p) ∙ ap (λ (n : ℕ). has_bit n p) (equal (bit_and set v.up) 0 none) ∙ has_none p in
     rw (bit) at common
 
-no_bit : (set p : ℕ) → has_bit set p ≡ false → bit_at set p ≡ 0
-no_bit set p e = elim (bit_cases set p) [ inl none ↦ none | inr one ↦ true_false (has_bit set p) (equal_test (bit_at set p) 1 one) e ]
-
 all_down_by : (set : ℕ) (v : Env) → v.up < 256 → ((p : ℕ) → has_bit set p ≡ true → is_up_in v p ≡ false) → all_down set v ≡ true
 all_down_by set v few each = equal_test (bit_and set v.up) 0
     (bits_are (bit_and set v.up) (λ p. false) 8 (let less = and_le_r set v.up in omega (arith, less, few))
-    (λ p low. no_bit (bit_and set v.up) p (has_and set v.up p ∙ by_bool (has_bit set p) (λ bit. rw (bit) (each p bit)) (λ none. rw (none) refl))))
+    (λ p low.
+    let none : has_bit (bit_and set v.up) p ≡ false = has_and set v.up p ∙ by_bool (has_bit set p) (λ bit. rw (bit) (each p bit)) (λ out. rw (out) refl) in
+    elim (bit_cases (bit_and set v.up) p) [
+      | inl clear ↦ clear
+      | inr one ↦ true_false (has_bit (bit_and set v.up) p) (equal_test (bit_at (bit_and set v.up) p) 1 one) none
+    ]))
 
 module _ (spec : Parts) (made : IsSpec spec) (demand : Demand) (is : IsDemand spec.procs spec.apps spec.confs spec.factors demand) where
   abbrev spoken : Env
@@ -134,7 +133,7 @@ module _ (spec : Parts) (made : IsSpec spec) (demand : Demand) (is : IsDemand sp
         let some = (made.factors x factor there).count.enough in
         subst (λ (value : ℕ). value < length factor.values) (sym (value_at spec demand x (omega (arith, inside, few))))
         (value_within spec.factors x factor there (omega (arith, some)) demand.wants is.wants));
-    rest = λ x past. elim (six_or_past x) [
+    rest = λ x past. elim (low_or_high x 6) [
       | inl low ↦ value_at spec demand x low ∙ value_past spec.factors x past demand.wants is.wants
       | inr high ↦ none_past spec demand x high
     ];

@@ -1,24 +1,18 @@
 -- What it means that a part is idle.
-use Rattle.std.proofs.Common.{◌≡◌, ◌∙◌, ℕ, ◌<◌, ap, arith, length, refl, sym, Bool, true, false, subst}
+use Rattle.std.proofs.Common.{◌≡◌, ap, length, refl, Bool, true, false}
 use mathlib.Core.Logic.{inl, inr}
-use Rattle.std.specs.Prelude.{◌≢◌, ◌⊎◌, ◌&&◌, ◌==◌, not, slice_get, Some}
+use Rattle.std.specs.Prelude.{◌==◌, not}
 use Rattle.scram_types.specs.Lookups.{conf_id}
 use Rattle.scram_types.specs.Searches.{any_below}
-use Rattle.scram_types.specs.Specification.{IsSpec, Parts}
-use Rattle.scram_types.specs.declared.ids.ConfId.{ConfId}
-use Rattle.scram_types.specs.declared.specification.Choice.{Choice}
-use Rattle.scram_types.specs.declared.specification.Demand.{Demand}
 use Rattle.scram_types.proofs.Booleans.{and_left, and_right, and_true, by_bool, true_false}
 use Rattle.scram_types.proofs.Naturals.{differ_test, equal, equal_test}
 use Rattle.scram_types.proofs.Searches.{any_below_found, any_below_is}
 use Rattle.choice_table.specs.Demands.{speaks_of}
-use Rattle.coverage_check.specs.Timing.{is_target}
 use Rattle.coverage_check.proofs.Reaching.{target_test, target_tested}
 use Rattle.cube_cover.specs.Shares.{is_ruled_by}
-use Rattle.idle_parts.specs.Choices.{is_conf_idle, is_first_from, is_rule_idle, is_target_of_other}
-use Rattle.idle_parts.specs.Laws.{ConfIsTold, ConfsAreTold, DemandIsTold, DemandsAreTold, RuleIsTold, RulesAreTold}
+use Rattle.idle_parts.specs.Choices.{is_first_from, is_target_of_other}
+use Rattle.idle_parts.specs.Laws.{ConfsAreTold, DemandsAreTold, RulesAreTold}
 use Rattle.idle_parts.specs.Somewhere.{passes_somewhere}
-use Rattle.idle_parts.specs.Wants.{is_demand_idle}
 use Rattle.idle_parts.proofs.Firsts.{first_ruled, ruled_first}
 use Rattle.idle_parts.proofs.Somewhere.{fails_in, passes_found, passes_in}
 

@@ -1,6 +1,5 @@
 -- What it means that a part of a specification is idle.
 use Rattle.std.specs.Prelude.{◌≡◌, ◌≢◌, ◌⊎◌, ℕ, ◌<◌, true, false, length, slice_get, Some}
-use Rattle.scram_types.specs.Lookups.{conf_id}
 use Rattle.scram_types.specs.Specification.{IsSpec, Parts}
 use Rattle.scram_types.specs.declared.flights.Env.{Env}
 use Rattle.scram_types.specs.declared.ids.ConfId.{ConfId}

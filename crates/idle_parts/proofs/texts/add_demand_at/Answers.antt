@@ -1,6 +1,5 @@
-use Rattle.std.proofs.Common.{◌≡◌, subst}
+use Rattle.std.proofs.Common.{◌≡◌}
 use Rattle.std.specs.Prelude.{Some, slice_get}
-use Rattle.scram_types.specs.Specification.{IsSpec}
 use Rattle.scram_types.proofs.Placed.{read_within}
 use Rattle.idle_parts.proofs.texts.add_demand_at.Goals as goal
 
