@@ -78,7 +78,7 @@ module _ (spec : Parts) (d : ℕ) where
       ap (λ (rest : KMode). if t.0 == to.0 then Moving from halting to (d + since) else rest) (turn_later f from halting to since settled t)
       ∙ mode_where (t.0 == to.0) (Moving from halting to since) (turn_to spec f from halting to since settled t)
 
-  leave_later : (c t : ConfId) (f : ℕ) → leave_for c t (d + f) ≡ mode_later d (leave_for c t f)
+  pub leave_later : (c t : ConfId) (f : ℕ) → leave_for c t (d + f) ≡ mode_later d (leave_for c t f)
   leave_later c t f = mode_where (t.0 == c.0) (Stable c) (Moving c (Some c) t f)
 
   pub decision_later : (mode : KMode) (f : ℕ) (settled arrived : Bool) (v : Env) → decision spec (d + f) (mode_later d mode) settled arrived v ≡ mode_later d (decision spec f mode settled arrived v)

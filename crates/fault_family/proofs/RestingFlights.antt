@@ -1,7 +1,8 @@
 -- Where a flight is at rest, it does not matter for how long.
 use Rattle.std.proofs.Common.{◌≡◌, ◌∙◌, ℕ, zero, suc, ◌+◌, ◌-◌, ◌<◌, ◌≤◌, Bool, true, false, List, ◌++◌, length, map, append_assoc, arith, ap, refl, sym, subst, nat_lt}
-use Rattle.std.specs.Prelude.{◌&&◌, ◌==◌, if◌then◌else◌, Option, Some, None}
+use Rattle.std.specs.Prelude.{◌&&◌, ◌==◌, nat_le, if◌then◌else◌, Option, Some, None}
 use Rattle.std.proofs.Math.Path.{fun_ext}
+use Rattle.std.proofs.lemmas.Bool.Decides.{nat_tests}
 use Rattle.std.proofs.lemmas.List.{map-append}
 use Rattle.scram_types.proofs.Searches.{length_listed}
 use Rattle.scram_types.specs.Searches.{listed_below}
@@ -18,62 +19,72 @@ use Rattle.choice_table.specs.Choices.{choose}
 use Rattle.fault_script.specs.Environments.{env_at}
 use Rattle.fault_script.specs.Times.{commits}
 use Rattle.frame_model.proofs.ReadLaws.{ended_append, reading_append}
-use Rattle.frame_model.specs.declared.phases.Phase.TheVariants.{Running}
+use Rattle.dep_order.specs.Timetables.{halting_time, initialising_time, preparing_time}
+use Rattle.frame_model.specs.declared.phases.Phase.{Phase}
+use Rattle.frame_model.specs.declared.phases.Phase.TheVariants.{Halting, Initialising, Preparing, Running}
 use Rattle.frame_model.specs.declared.readings.Reading.{Reading}
 use Rattle.frame_model.specs.declared.readings.Reading.TheVariants.{Steady}
-use Rattle.frame_model.specs.Decisions.{decision, leave_for, moving_decision, turn_to, wanted}
+use Rattle.frame_model.specs.Decisions.{decision, leave_for}
 use Rattle.frame_model.specs.Flights.{reports_of, row_at, rows_of, state_after}
-use Rattle.frame_model.specs.Phases.{halting_frames, is_settled, phase_at, target}
+use Rattle.frame_model.specs.Phases.{after_halting, halting_frames, is_running, is_settled, moving_phase, phase_at, target}
 use Rattle.frame_model.specs.Readings.{as_list, close, ended, ended_in, reading_after, reading_of}
 use Rattle.frame_model.specs.Runs.{runs}
-use Rattle.frame_model.specs.States.{State, acts_in, mode_decided, row_of, step}
+use Rattle.frame_model.specs.States.{State, acts_in, row_of, step}
 use Rattle.fault_family.specs.Rests.{IsAtRest, RestsMayBeLonger, later_from}
 use Rattle.fault_family.specs.Shifts.{mode_later, report_later}
-use Rattle.fault_family.proofs.LaterFlights.{acts_of, close_later, decision_later, each_listed, ended_later, listed_parts, map_listed, phase_later, quiet_ended, quiet_reading, reading_after_later, reading_later, settled_later, target_later}
+use Rattle.fault_family.proofs.LaterFlights.{acts_of, close_later, decision_later, each_listed, ended_later, leave_later, listed_parts, map_listed, phase_later, quiet_ended, quiet_reading, reading_after_later, reading_later, settled_later, target_later}
 use Rattle.fault_family.proofs.Moving.{Shows, shows_before, shows_later, shows_resting}
 
--- what is stable is chosen again
+-- a phase in which a configuration is to run
 
-is_stable : KMode → Bool
-is_stable (Stable c) = true
-is_stable (Moving from halting to since) = false
+conf_of : Phase → ConfId
+conf_of (Running c) = c
+conf_of (Halting c age) = c
+conf_of (Preparing c age) = c
+conf_of (Initialising c age) = c
 
-conf_of : KMode → ConfId
-conf_of (Stable c) = c
-conf_of (Moving from halting to since) = to
+conf_where : (a b : Bool) (x y z : Phase) (c : ConfId) → conf_of x ≡ c → conf_of y ≡ c → conf_of z ≡ c → conf_of (if a then x else (if b then y else z)) ≡ c
+conf_where true b x y z c p q r = p
+conf_where false true x y z c p q r = q
+conf_where false false x y z c p q r = r
 
-two_moving : (a b : Bool) (x y z : KMode) → is_stable x ≡ false → is_stable y ≡ false → is_stable z ≡ false → is_stable (if a then x else (if b then y else z)) ≡ false
-two_moving true b x y z p q r = p
-two_moving false true x y z p q r = q
-two_moving false false x y z p q r = r
+conf_after : (spec : Parts) (to : ConfId) (age : ℕ) → conf_of (after_halting spec to age) ≡ to
+unfolding conf_of
+conf_after spec to age =
+    conf_where (nat_lt age (preparing_time spec to)) (nat_lt (age - preparing_time spec to) (initialising_time spec to)) (Preparing to age) (Initialising to (age - preparing_time spec to)) (Running to) to refl refl refl
 
-one_moving : (a : Bool) (x y : KMode) → is_stable x ≡ false → is_stable y ≡ false → is_stable (if a then x else y) ≡ false
-one_moving true x y p q = p
-one_moving false x y p q = q
+halts_or_not : (b : Bool) (x : ConfId) (age : ℕ) (phase : Phase) (c : ConfId) → (if b then Halting x age else phase) ≡ Running c → phase ≡ Running c
+unfolding conf_of
+halts_or_not true x age phase c same = absurd (let clash = ap is_running same in cc)
+halts_or_not false x age phase c same = same
 
-module _ (spec : Parts) (c : ConfId) (v : Env) where
-  still_moving : (f : ℕ) (from : ConfId) (halting : Option ConfId) (to : ConfId) (since : ℕ) (settled : Bool) (t : ConfId) → is_stable (moving_decision spec f from halting to since settled t) ≡ false
-  unfolding is_stable
-  still_moving f from halting to since settled t =
-      one_moving (t.0 == to.0) (Moving from halting to since) (turn_to spec f from halting to since settled t) refl
-      (two_moving (nat_lt (f - since) (halting_frames spec halting)) settled (Moving from halting t since) (Moving from (Some to) t f) (Moving from None t f) refl refl refl)
+runs_target : (spec : Parts) (halting : Option ConfId) (to : ConfId) (age : ℕ) (c : ConfId) → moving_phase spec halting to age ≡ Running c → to ≡ c
+unfolding conf_of
+runs_target spec None to age c same = sym (conf_after spec to age) ∙ ap conf_of same
+runs_target spec (Some x) to age c same =
+    sym (conf_after spec to (age - halting_time spec x))
+    ∙ ap conf_of (halts_or_not (nat_lt age (halting_time spec x)) x age (after_halting spec to (age - halting_time spec x)) c same)
 
-  left_by : (x t : ConfId) (f : ℕ) (b : Bool) → (t.0 == x.0) ≡ b → (if b then Stable x else Moving x (Some x) t f) ≡ Stable c → (x ≡ c) × ((t.0 == x.0) ≡ true)
-  unfolding is_stable conf_of
-  left_by x t f true is same = (ap conf_of same, is)
-  left_by x t f false is same = absurd (let clash = ap is_stable same in cc)
+past_by : (to c : ConfId) (age p i : ℕ) (a b : Bool) → nat_lt age p ≡ a → nat_lt (age - p) i ≡ b → (if a then Preparing to age else (if b then Initialising to (age - p) else Running to)) ≡ Running c → p + i ≤ age
+past_by to c age p i true b is_a is_b same = absurd (let clash = ap is_running same in cc)
+past_by to c age p i false true is_a is_b same = absurd (let clash = ap is_running same in cc)
+past_by to c age p i false false is_a is_b same = grind (arith, nat_tests, is_a, is_b)
 
-  chosen_again : (x : ConfId) (f : ℕ) → leave_for x (choose spec x v) f ≡ Stable c → ((choose spec c v).0 == c.0) ≡ true
-  chosen_again x f same =
-      let parts = left_by x (choose spec x v) f ((choose spec x v).0 == x.0) refl same in
-      subst (λ (y : ConfId). ((choose spec y v).0 == y.0) ≡ true) parts.0 parts.1
+past_phases : (spec : Parts) (to c : ConfId) (age : ℕ) → after_halting spec to age ≡ Running c → preparing_time spec to + initialising_time spec to ≤ age
+past_phases spec to c age same =
+    past_by to c age (preparing_time spec to) (initialising_time spec to) (nat_lt age (preparing_time spec to)) (nat_lt (age - preparing_time spec to) (initialising_time spec to)) refl refl same
 
-  stable_chosen : (f : ℕ) (mode : KMode) (settled arrived : Bool) → decision spec f mode settled arrived v ≡ Stable c → ((choose spec c v).0 == c.0) ≡ true
-  unfolding is_stable
-  stable_chosen f (Stable x) settled arrived same = chosen_again x f same
-  stable_chosen f (Moving from halting to since) settled true same = chosen_again to f same
-  stable_chosen f (Moving from halting to since) settled false same =
-      absurd (let moving = still_moving f from halting to since settled (wanted spec.policy spec from to v) in let stable = ap is_stable same in cc)
+halted_by : (x c : ConfId) (age h : ℕ) (phase : Phase) (b : Bool) → nat_lt age h ≡ b → (if b then Halting x age else phase) ≡ Running c → h ≤ age
+halted_by x c age h phase true is same = absurd (let clash = ap is_running same in cc)
+halted_by x c age h phase false is same = grind (arith, nat_tests, is)
+
+past : (spec : Parts) (halting : Option ConfId) (to c : ConfId) (age : ℕ) → moving_phase spec halting to age ≡ Running c
+    → nat_le (halting_frames spec halting + preparing_time spec to + initialising_time spec to) age ≡ true
+past spec None to c age same = let late = past_phases spec to c age same in grind (arith, nat_tests, late)
+past spec (Some x) to c age same =
+    let halted = halted_by x c age (halting_time spec x) (after_halting spec to (age - halting_time spec x)) (nat_lt age (halting_time spec x)) refl same in
+    let late = past_phases spec to c (age - halting_time spec x) (halts_or_not (nat_lt age (halting_time spec x)) x age (after_halting spec to (age - halting_time spec x)) c same) in
+    grind (arith, nat_tests, late, halted)
 
 listed_same : {A : Type 0} (f g : ℕ → A) (n : ℕ) → ((k : ℕ) → k < n → f k ≡ g k) → listed_below f n ≡ listed_below g n
 listed_same f g zero same = refl
@@ -106,30 +117,44 @@ module _ (spec : Parts) (b d : ℕ) (c : ConfId) (script : ScriptParts) (rest : 
 
   -- at rest
 
-  record IsResting (state : State) : Type 0 where
-    mode : state.mode ≡ Stable c
-    arrived : state.arrived ≡ false
+  -- A state decides as one whose mode is stable in c.
+  IsResting : State → Type 0
+  IsResting state = (f : ℕ) (settled : Bool) (v : Env) → decision spec f state.mode settled state.arrived v ≡ leave_for c (choose spec c v) f
 
-  resting_next : (f : ℕ) → (row_at spec script f).mode ≡ Stable c → IsResting (state_after spec script (suc f))
-  resting_next f decided = record { mode = decided; arrived = rw decided refl }
+  rests_by : (f : ℕ) (mode : KMode) (acts : List Act) → phase_at spec mode f ≡ Running c → runs spec acts c ≡ true
+      → (g : ℕ) (settled : Bool) (v : Env) → decision spec g mode settled (is_settled spec mode f && runs spec acts (target mode)) v ≡ leave_for c (choose spec c v) g
+  unfolding conf_of
+  rests_by f (Stable x) acts phase run g settled v = ap (λ (y : ConfId). leave_for y (choose spec y v) g) (ap conf_of phase)
+  rests_by f (Moving from halting to since) acts phase run g settled v =
+      let is_c = runs_target spec halting to (f - since) c phase in
+      let late : is_settled spec (Moving from halting to since) f ≡ true = past spec halting to c (f - since) phase in
+      let run_to : runs spec acts to ≡ true = subst (λ (y : ConfId). runs spec acts y ≡ true) (sym is_c) run in
+      let arrived : (is_settled spec (Moving from halting to since) f && runs spec acts to) ≡ true = rw (late, run_to) refl in
+      ap (λ (here : Bool). decision spec g (Moving from halting to since) settled here v) arrived
+      ∙ ap (λ (y : ConfId). leave_for y (choose spec y v) g) is_c
 
   rests : IsResting (state_after spec script b)
+  unfolding IsResting
   rests =
       let some = rest.first in
       let here : suc (b - 1) ≡ b = omega (arith, some) in
-      subst (λ n. IsResting (state_after spec script n)) here (resting_next (b - 1) rest.mode)
+      subst (λ n. (f : ℕ) (settled : Bool) (v : Env) → decision spec f (state_after spec script n).mode settled (state_after spec script n).arrived v ≡ leave_for c (choose spec c v) f) here
+      (rests_by (b - 1) (row_at spec script (b - 1)).mode (row_at spec script (b - 1)).acts rest.phase rest.runs)
 
   stays : (f : ℕ) (v : Env) → v ≡ env_at spec script (b - 1) → leave_for c (choose spec c v) f ≡ Stable c
   stays f v same =
-      let state = state_after spec script (b - 1) in
-      let chosen = stable_chosen spec c (env_at spec script (b - 1)) (b - 1) state.mode (is_settled spec state.mode (b - 1 - 1)) state.arrived rest.mode in
-      rw (same, chosen) refl
+      let alike : (c.0 == c.0) ≡ true = grind (arith, nat_tests) in
+      rw (same, rest.chosen, alike) refl
 
   resting_decides : (g : ℕ) → b ≤ g → g < d + b → IsResting (state_after spec (later_from b d script) g) → (row_at spec (later_from b d script) g).mode ≡ Stable c
+  unfolding IsResting
   resting_decides g after before resting =
-      let state = state_after spec (later_from b d script) g in
-      ap (λ (mode : KMode). decision spec g mode (is_settled spec mode (g - 1)) state.arrived (env_at spec (later_from b d script) g)) resting.mode
+      resting g (is_settled spec (state_after spec (later_from b d script) g).mode (g - 1)) (env_at spec (later_from b d script) g)
       ∙ stays g (env_at spec (later_from b d script) g) (shows_resting spec b d script rest.first rest.quiet g after before).env
+
+  stable_rests : (state : State) → state.mode ≡ Stable c → IsResting state
+  unfolding IsResting
+  stable_rests state is f settled v = ap (λ (mode : KMode). decision spec f mode settled state.arrived v) is
 
   resting_after : (k : ℕ) → k ≤ d → IsResting (state_after spec (later_from b d script) (b + k))
   resting_after zero inside =
@@ -138,7 +163,7 @@ module _ (spec : Parts) (b d : ℕ) (c : ConfId) (script : ScriptParts) (rest : 
   resting_after (suc k) inside =
       let next : b + suc k ≡ suc (b + k) = omega arith in
       let decided = resting_decides (b + k) (omega arith) (omega (arith, inside)) (resting_after k (omega (arith, inside))) in
-      rw next (record { mode = decided; arrived = rw decided refl })
+      rw next (stable_rests (state_after spec (later_from b d script) (suc (b + k))) decided)
 
   resting_runs : (k : ℕ) → k < d → runs spec (row_at spec (later_from b d script) (b + k)).acts c ≡ true
   resting_runs k inside =
@@ -146,7 +171,7 @@ module _ (spec : Parts) (b d : ℕ) (c : ConfId) (script : ScriptParts) (rest : 
       let shows = shows_resting spec b d script rest.first rest.quiet (b + k) (omega arith) (omega (arith, inside)) in
       ap (λ (mode : KMode). runs spec (acts_in spec (phase_at spec mode (b + k)) (λ p. commits spec (later_from b d script) p (b + k))) c) decided
       ∙ ap (λ committing. runs spec (acts_in spec (Running c) committing) c) (fun_ext shows.committing)
-      ∙ ap (λ (mode : KMode). runs spec (acts_in spec (phase_at spec mode (b - 1)) (λ p. commits spec script p (b - 1))) c) (sym rest.mode)
+      ∙ ap (λ phase. runs spec (acts_in spec phase (λ p. commits spec script p (b - 1))) c) (sym rest.phase)
       ∙ rest.runs
 
   -- from frame b on
@@ -159,6 +184,30 @@ module _ (spec : Parts) (b d : ℕ) (c : ConfId) (script : ScriptParts) (rest : 
     mode : (row_at spec (later_from b d script) (d + f)).mode ≡ mode_later d (row_at spec script f).mode
     acts : (row_at spec (later_from b d script) (d + f)).acts ≡ (row_at spec script f).acts
 
+  row_where : (f : ℕ) → b ≤ f → (row_at spec (later_from b d script) (d + f)).mode ≡ mode_later d (row_at spec script f).mode → IsRowLater f
+  row_where f after decided =
+      let shows = shows_later spec b d script f after in
+      record {
+        mode = decided;
+        acts = ap (λ (mode : KMode). acts_in spec (phase_at spec mode (d + f)) (λ p. commits spec (later_from b d script) p (d + f))) decided
+            ∙ ap (λ phase. acts_in spec phase (λ p. commits spec (later_from b d script) p (d + f))) (phase_later spec d (row_at spec script f).mode f)
+            ∙ ap (acts_in spec (phase_at spec (row_at spec script f).mode f)) (fun_ext shows.committing);
+      }
+
+  -- the first of these frames, of both flights, begins at rest
+  row_first : IsRowLater b
+  unfolding IsResting
+  row_first =
+      let here : b + d ≡ d + b = omega arith in
+      let shows = shows_later spec b d script b (omega arith) in
+      let state = state_after spec (later_from b d script) (d + b) in
+      let resting : (f : ℕ) (settled : Bool) (v : Env) → decision spec f state.mode settled state.arrived v ≡ leave_for c (choose spec c v) f = subst (λ n. IsResting (state_after spec (later_from b d script) n)) here (resting_after d (omega arith)) in
+      row_where b (omega arith)
+      (resting (d + b) (is_settled spec state.mode (d + b - 1)) (env_at spec (later_from b d script) (d + b))
+      ∙ ap (λ v. leave_for c (choose spec c v) (d + b)) shows.env
+      ∙ leave_later spec d c (choose spec c (env_at spec script b)) b
+      ∙ ap (mode_later d) (sym (rests b (is_settled spec (state_after spec script b).mode (b - 1)) (env_at spec script b))))
+
   row_later : (f : ℕ) → b ≤ f → IsLater (state_after spec script f) (state_after spec (later_from b d script) (d + f)) → IsRowLater f
   row_later f after is =
       let some = rest.first in
@@ -167,43 +216,36 @@ module _ (spec : Parts) (b d : ℕ) (c : ConfId) (script : ScriptParts) (rest : 
       let moved_state = state_after spec (later_from b d script) (d + f) in
       let back : d + f - 1 ≡ d + (f - 1) = omega (arith, some, after) in
       let settled : is_settled spec (mode_later d state.mode) (d + f - 1) ≡ is_settled spec state.mode (f - 1) = rw back (settled_later spec d state.mode (f - 1)) in
-      let decided : mode_decided spec (d + f) (env_at spec (later_from b d script) (d + f)) moved_state ≡ mode_later d (mode_decided spec f (env_at spec script f) state) =
-      ap (λ (mode : KMode). decision spec (d + f) mode (is_settled spec mode (d + f - 1)) moved_state.arrived (env_at spec (later_from b d script) (d + f))) is.mode
+      row_where f after
+      (ap (λ (mode : KMode). decision spec (d + f) mode (is_settled spec mode (d + f - 1)) moved_state.arrived (env_at spec (later_from b d script) (d + f))) is.mode
       ∙ ap (λ (arrived : Bool). decision spec (d + f) (mode_later d state.mode) (is_settled spec (mode_later d state.mode) (d + f - 1)) arrived (env_at spec (later_from b d script) (d + f))) is.arrived
       ∙ ap (decision spec (d + f) (mode_later d state.mode) (is_settled spec (mode_later d state.mode) (d + f - 1)) state.arrived) shows.env
       ∙ ap (λ (past : Bool). decision spec (d + f) (mode_later d state.mode) past state.arrived (env_at spec script f)) settled
-      ∙ decision_later spec d state.mode f (is_settled spec state.mode (f - 1)) state.arrived (env_at spec script f) in
-      record {
-        mode = decided;
-        acts = ap (λ (mode : KMode). acts_in spec (phase_at spec mode (d + f)) (λ p. commits spec (later_from b d script) p (d + f))) decided
-            ∙ ap (λ phase. acts_in spec phase (λ p. commits spec (later_from b d script) p (d + f))) (phase_later spec d (mode_decided spec f (env_at spec script f) state) f)
-            ∙ ap (acts_in spec (phase_at spec (mode_decided spec f (env_at spec script f) state) f)) (fun_ext shows.committing);
-      }
+      ∙ decision_later spec d state.mode f (is_settled spec state.mode (f - 1)) state.arrived (env_at spec script f))
 
-  state_later : (n : ℕ) → IsLater (state_after spec script (b + n)) (state_after spec (later_from b d script) (d + (b + n)))
-  state_later zero =
-      let here : b + 0 ≡ b = omega arith in
-      let there : d + (b + 0) ≡ b + d = omega arith in
-      let resting = resting_after d (omega arith) in
-      rw (there, here) (record { mode = resting.mode ∙ ap (mode_later d) (sym rests.mode); arrived = resting.arrived ∙ sym rests.arrived })
-  state_later (suc n) =
-      let here : b + suc n ≡ suc (b + n) = omega arith in
-      let there : d + (b + suc n) ≡ suc (d + (b + n)) = omega arith in
-      let f = b + n in
-      let row = row_later (b + n) (omega arith) (state_later n) in
-      rw (there, here) (record {
-        mode = row.mode;
-        arrived =
-            ap (λ (mode : KMode). is_settled spec mode (d + (b + n)) && runs spec (row_at spec (later_from b d script) (d + (b + n))).acts (target mode)) row.mode
-            ∙ ap (λ (acts : List Act). is_settled spec (mode_later d (row_at spec script (b + n)).mode) (d + (b + n)) && runs spec acts (target (mode_later d (row_at spec script (b + n)).mode))) row.acts
-            ∙ ap (λ (settled : Bool). settled && runs spec (row_at spec script (b + n)).acts (target (mode_later d (row_at spec script (b + n)).mode))) (settled_later spec d (row_at spec script (b + n)).mode (b + n))
-            ∙ ap (λ (x : ConfId). is_settled spec (row_at spec script (b + n)).mode (b + n) && runs spec (row_at spec script (b + n)).acts x) (target_later spec d (row_at spec script (b + n)).mode);
-      })
+  -- after a frame whose rows are alike
+  state_next : (f : ℕ) → IsRowLater f → IsLater (state_after spec script (suc f)) (state_after spec (later_from b d script) (suc (d + f)))
+  state_next f row = record {
+    mode = row.mode;
+    arrived =
+        ap (λ (mode : KMode). is_settled spec mode (d + f) && runs spec (row_at spec (later_from b d script) (d + f)).acts (target mode)) row.mode
+        ∙ ap (λ (acts : List Act). is_settled spec (mode_later d (row_at spec script f).mode) (d + f) && runs spec acts (target (mode_later d (row_at spec script f).mode))) row.acts
+        ∙ ap (λ (settled : Bool). settled && runs spec (row_at spec script f).acts (target (mode_later d (row_at spec script f).mode))) (settled_later spec d (row_at spec script f).mode f)
+        ∙ ap (λ (x : ConfId). is_settled spec (row_at spec script f).mode f && runs spec (row_at spec script f).acts x) (target_later spec d (row_at spec script f).mode);
+  }
+
+  row_on : (n : ℕ) → IsRowLater (b + n)
+  row_on zero = let here : b + 0 ≡ b = omega arith in subst IsRowLater (sym here) row_first
+  row_on (suc n) =
+      let here : suc (b + n) ≡ b + suc n = omega arith in
+      let there : suc (d + (b + n)) ≡ d + suc (b + n) = omega arith in
+      let state = subst (λ m. IsLater (state_after spec script (suc (b + n))) (state_after spec (later_from b d script) m)) there (state_next (b + n) (row_on n)) in
+      subst IsRowLater here (row_later (suc (b + n)) (omega arith) state)
 
   later_row : (f : ℕ) → b ≤ f → IsRowLater f
   later_row f after =
       let here : b + (f - b) ≡ f = omega (arith, after) in
-      row_later f after (subst (λ n. IsLater (state_after spec script n) (state_after spec (later_from b d script) (d + n))) here (state_later (f - b)))
+      subst IsRowLater here (row_on (f - b))
 
   -- the reconfigurations
 

@@ -3,14 +3,17 @@ use Rattle.std.specs.Prelude.{◌≡◌, ◌≢◌, ℕ, ◌+◌, ◌-◌, ◌<�
 use Rattle.scram_types.specs.Searches.{listed_below}
 use Rattle.scram_types.specs.declared.flights.Report.{Report}
 use Rattle.scram_types.specs.declared.ids.ConfId.{ConfId}
-use Rattle.scram_types.specs.declared.orders.KMode.TheVariants.{Stable}
 use Rattle.scram_types.specs.declared.scripts.Change.{Change}
 use Rattle.scram_types.specs.declared.scripts.HaltAt.{HaltAt}
 use Rattle.scram_types.specs.declared.scripts.RestartAt.{RestartAt}
 use Rattle.scram_types.specs.Scripts.{ScriptParts}
 use Rattle.scram_types.specs.Specification.{Each, Parts}
+use Rattle.choice_table.specs.Choices.{choose}
+use Rattle.fault_script.specs.Environments.{env_at}
+use Rattle.frame_model.specs.declared.phases.Phase.TheVariants.{Running}
 use Rattle.frame_model.specs.declared.readings.Reading.TheVariants.{Steady}
 use Rattle.frame_model.specs.Flights.{reports_of, row_at}
+use Rattle.frame_model.specs.Phases.{phase_at}
 use Rattle.frame_model.specs.Readings.{reading_of}
 use Rattle.frame_model.specs.Runs.{runs}
 use Rattle.fault_family.specs.Shifts.{mode_later, report_later}
@@ -28,14 +31,15 @@ later_from b d script = record {
   restarts = map (λ (restart : RestartAt). record { proc = restart.proc; frame = moved b d restart.frame }) script.restarts;
 }
 
--- A flight is at rest in configuration c when frame b begins: the mode of the frame before is stable in c, its row runs c,
--- which is read to run, and no processor halts in it.
+-- A flight is at rest in configuration c when frame b begins: the phase of the frame before is to run c, its row runs c,
+-- which is read to run, the table chooses c again there, and no processor halts in it.
 pub record IsAtRest (spec : Parts) (script : ScriptParts) (b : ℕ) (c : ConfId) : Type 0 where
   pub first : 1 ≤ b
   pub inside : b ≤ script.frames
-  pub mode : (row_at spec script (b - 1)).mode ≡ Stable c
+  pub phase : phase_at spec (row_at spec script (b - 1)).mode (b - 1) ≡ Running c
   pub runs : runs spec (row_at spec script (b - 1)).acts c ≡ true
   pub reading : reading_of spec (listed_below (row_at spec script) b) ≡ Steady c
+  pub chosen : choose spec c (env_at spec script (b - 1)) ≡ c
   pub quiet : Each (λ (halt : HaltAt). halt.frame ≢ b - 1) script.halts
 
 -- The reconfigurations of two flights: the same ones first, and the rest d frames later in the second.
