@@ -21,7 +21,7 @@ use Rattle.fault_family.specs.declared.faults.FaultKind.TheVariants.{Change, Hal
 use Rattle.fault_family.specs.Families.{extended, may_follow}
 use Rattle.fault_family.specs.Faults.{detail, number, precedes, rank}
 use Rattle.fault_family.specs.Laws.{ComesFirst, FamiliesAreOrdered, StandsFor, here, further}
-use Rattle.fault_family.specs.NextFaults.{candidates, factor_changes, faults_in, frames_after, frames_behind, gaps, proc_halts, kinds_of, numbers_below, restarts_of, value_count}
+use Rattle.fault_family.specs.NextFaults.{candidates, factor_changes, faults_in, frames_after, frames_behind, gaps, proc_halts, kinds_of, numbers_below, restarts_of, factor_value_count}
 use Rattle.fault_family.specs.Scripts.{is_within, script_of_faults}
 use Rattle.fault_family.proofs.Joined.{stands_in_part, stands_listed, stands_mapped, stands_one, stands_part, stands_where}
 use Rattle.fault_family.proofs.Members.{GoesOn, goes_on}
@@ -99,14 +99,14 @@ by_number k l same after f =
 
 module _ (spec : Parts) where
   changes_ordered : (x : ℕ) → EachLater KindBefore (factor_changes spec x)
-  changes_ordered x = later_listed KindBefore (λ value. Change (factor_id x) value) (value_count spec x) (λ i j less. by_number (Change (factor_id x) i) (Change (factor_id x) j) refl (after_second x i j less))
+  changes_ordered x = later_listed KindBefore (λ value. Change (factor_id x) value) (factor_value_count spec x) (λ i j less. by_number (Change (factor_id x) i) (Change (factor_id x) j) refl (after_second x i j less))
 
   all_changes_ordered : EachLater KindBefore (flat_map (factor_changes spec) (numbers_below (length spec.factors)))
   all_changes_ordered =
       later_parts (λ (x y : ℕ). x < y) KindBefore (factor_changes spec) changes_ordered
       (λ x y k l less first second.
-      let a = stands_listed (λ value. Change (factor_id x) value) (value_count spec x) k first in
-      let b = stands_listed (λ value. Change (factor_id y) value) (value_count spec y) l second in
+      let a = stands_listed (λ value. Change (factor_id x) value) (factor_value_count spec x) k first in
+      let b = stands_listed (λ value. Change (factor_id y) value) (factor_value_count spec y) l second in
       subst (λ m. KindBefore m l) a.2 (subst (KindBefore (Change (factor_id x) a.0)) b.2 (by_number (Change (factor_id x) a.0) (Change (factor_id y) b.0) refl (after_first x a.0 y b.0 less))))
       (numbers_below (length spec.factors)) (later_listed (λ (x y : ℕ). x < y) (λ k. k) (length spec.factors) (λ i j less. less))
 
@@ -140,7 +140,7 @@ module _ (spec : Parts) where
   change_rank : (k : FaultKind) → StandsFor (flat_map (factor_changes spec) (numbers_below (length spec.factors))) k → rank k ≡ 0
   change_rank k stands =
       let part = stands_in_part (factor_changes spec) (numbers_below (length spec.factors)) k stands in
-      let at = stands_listed (λ value. Change (factor_id part.0) value) (value_count spec part.0) k part.2 in
+      let at = stands_listed (λ value. Change (factor_id part.0) value) (factor_value_count spec part.0) k part.2 in
       ap rank (sym at.2)
 
   halt_rank : (k : FaultKind) → StandsFor (flat_map (proc_halts spec) (numbers_below (length spec.procs))) k → rank k ≡ 1

@@ -18,7 +18,7 @@ use Rattle.fault_family.specs.declared.faults.FaultKind.{FaultKind}
 use Rattle.fault_family.specs.declared.faults.FaultKind.TheVariants.{Change, Halt, Restart}
 use Rattle.fault_family.specs.Families.{extended, may_follow}
 use Rattle.fault_family.specs.Laws.{FamiliesHaveMembers, Follow, IsChangeKind, IsKind, IsNear, StandsFor}
-use Rattle.fault_family.specs.NextFaults.{candidates, factor_changes, faults_in, frames_after, frames_behind, gaps, proc_halts, kinds_of, numbers_below, restarts_of, value_count}
+use Rattle.fault_family.specs.NextFaults.{candidates, factor_changes, faults_in, frames_after, frames_behind, gaps, proc_halts, kinds_of, numbers_below, restarts_of, factor_value_count}
 use Rattle.fault_family.specs.Scripts.{is_within, script_of_faults}
 use Rattle.fault_family.proofs.Joined.{in_part_stands, listed_stands, mapped_stands, stands_in_part, stands_left, stands_listed, stands_mapped, stands_one, stands_part, stands_right, stands_where}
 
@@ -32,13 +32,13 @@ module _ (spec : Parts) where
   some_values : (found : Option Factor) (factor : Factor) (value : ℕ) → found ≡ Some factor → value < length factor.values → value < option_map_or (λ (factor : Factor). length factor.values) found 0
   some_values found factor value is below = rw is below
 
-  change_kind : (x value : ℕ) → value < value_count spec x → IsChangeKind spec x value
+  change_kind : (x value : ℕ) → value < factor_value_count spec x → IsChangeKind spec x value
   change_kind x value below = let found = values_by (slice_get spec.factors x) value below in record { is = found.0; there = found.1; below = found.2 }
 
   is_change : (kind : FaultKind) → StandsFor (flat_map (factor_changes spec) (numbers_below (length spec.factors))) kind → IsKind spec kind
   is_change kind stands =
       let part = stands_in_part (factor_changes spec) (numbers_below (length spec.factors)) kind stands in
-      let it = stands_listed (λ value. Change (factor_id part.0) value) (value_count spec part.0) kind part.2 in
+      let it = stands_listed (λ value. Change (factor_id part.0) value) (factor_value_count spec part.0) kind part.2 in
       subst (IsKind spec) it.2 (change_kind part.0 it.0 it.1)
 
   is_halt_of : (p : ℕ) → p < length spec.procs → (kind : FaultKind) (i : ℕ) → slice_get (proc_halts spec p) i ≡ Some kind → IsKind spec kind
@@ -74,7 +74,7 @@ module _ (spec : Parts) where
       (stands_left changes halts (Change factor value)
       (in_part_stands (factor_changes spec) (numbers_below (length spec.factors)) factor.0 (Change factor value)
       (listed_stands (λ k. k) (length spec.factors) factor.0 (slice_get_within spec.factors factor.0 is.is is.there))
-      (listed_stands (λ number. Change (factor_id factor.0) number) (value_count spec factor.0) value (some_values (slice_get spec.factors factor.0) is.is value is.there is.below))))
+      (listed_stands (λ number. Change (factor_id factor.0) number) (factor_value_count spec factor.0) value (some_values (slice_get spec.factors factor.0) is.is value is.there is.below))))
   kind_is (Halt proc step) is =
       let changes = flat_map (factor_changes spec) (numbers_below (length spec.factors)) in
       let halts = flat_map (proc_halts spec) (numbers_below (length spec.procs)) in

@@ -17,12 +17,12 @@ abbrev pub numbers_below : ℕ → List ℕ
 numbers_below n = listed_below (λ k. k) n
 
 -- How many values factor x has.
-abbrev pub value_count : Parts → ℕ → ℕ
-value_count spec x = option_map_or (λ (factor : Factor). length factor.values) (slice_get spec.factors x) 0
+abbrev pub factor_value_count : Parts → ℕ → ℕ
+factor_value_count spec x = option_map_or (λ (factor : Factor). length factor.values) (slice_get spec.factors x) 0
 
 -- The changes of factor x, in the order of its values.
 abbrev pub factor_changes : Parts → ℕ → List FaultKind
-factor_changes spec x = listed_below (λ value. Change (factor_id x) value) (value_count spec x)
+factor_changes spec x = listed_below (λ value. Change (factor_id x) value) (factor_value_count spec x)
 
 -- The halts of processor p: before all stores, and after the mark.
 abbrev pub proc_halts : Parts → ℕ → List FaultKind

@@ -5,7 +5,7 @@ ghost use Rattle.std.specs.List.{list_all};
 ghost use Rattle.scram_types.specs.Searches.{listed_below};
 ghost use Rattle.fault_script.specs.Times.{words};
 ghost use Rattle.coverage_check.specs.Timing.{greatest_bound};
-ghost use Rattle.fault_family.specs.NextFaults.{candidates, factor_changes, frames_after, gaps, proc_halts, kinds_of, numbers_below, restarts_of, value_count};
+ghost use Rattle.fault_family.specs.NextFaults.{candidates, factor_changes, frames_after, gaps, proc_halts, kinds_of, numbers_below, restarts_of, factor_value_count};
 ghost use Rattle.fault_family.specs.Families.{differs_in, may_follow};
 ghost use Rattle.fault_family.specs.Faults.{may_come_after};
 ghost use Rattle.fault_family.specs.Scripts.{last_fault_frame, faults_in_frames};
@@ -72,7 +72,7 @@ fn add_changes_of(kinds: &mut ArrayVec<FaultKind, MAX_KINDS>, spec: &Spec, x: u8
     ensures kinds { kinds.new.items ≡ kinds.old.items ++ factor_changes spec.now x }
     ensures few { length kinds.new.items ≤ length kinds.old.items + 4 }
 {
-    for value in 0..value_count(spec, x) {
+    for value in 0..factor_value_count(spec, x) {
         let factor = FactorId(x);
         kinds.push(FaultKind::Change { factor, value });
     }
@@ -110,8 +110,8 @@ fn add_restarts(kinds: &mut ArrayVec<FaultKind, MAX_KINDS>, spec: &Spec)
 }
 
 // Returns how many values a factor has.
-fn value_count(spec: &Spec, x: u8) -> u8
-    ensures value { result ≡ value_count spec.now x }
+fn factor_value_count(spec: &Spec, x: u8) -> u8
+    ensures value { result ≡ factor_value_count spec.now x }
     ensures few { result ≤ 4 }
 {
     match spec.factors.items().get(usize::from(x)) {

@@ -13,7 +13,7 @@ use Rattle.form_base.specs.Texts.{texts_below}
 use Rattle.picture_form.specs.Lanes.{lanes_text, spans_text, strip_of}
 use Rattle.picture_form.specs.Laws.{DrawnAlike, IsDrawn, IsRowDrawn, drawn_in, drawn_titles, PicturesTell}
 use Rattle.picture_form.specs.Picture.{altitude_text, conf_strip, foot_text, grid_text, heading_text, legend_text, open_line, picture_text}
-use Rattle.picture_form.specs.Reconfigurations.{reconfiguration_text}
+use Rattle.picture_form.specs.Reconfigurations.{reconfiguration_boxes}
 use Rattle.picture_form.specs.Sheets.{curves_y, lane_of, lane_y, lanes_of, room_above, sheet_of}
 use Rattle.picture_form.specs.Spans.{lane_name}
 use Rattle.picture_form.specs.Styles.{part_text}
@@ -129,7 +129,7 @@ boxes spec rows n = spans_text spec (sheet_of spec rows) rows (strip_of (sheet_o
 
 -- the reconfigurations of a flight
 abbrev reports_text : Parts → Sheet → List Report → List ℕ
-reports_text spec sheet reports = texts_below (reconfiguration_text spec sheet reports) (length reports)
+reports_text spec sheet reports = texts_below (reconfiguration_boxes spec sheet reports) (length reports)
 
 boxes_lines : (spec : Parts) (rows : List Row) (reports : List Report) (n : ℕ) → IsSpec spec → IsDrawn spec rows reports → n < lanes_of (sheet_of spec rows) → walk no_name Start (boxes spec rows n) ≡ Start
 boxes_lines spec rows reports n sound drawn less =

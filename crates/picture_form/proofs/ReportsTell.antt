@@ -8,7 +8,7 @@ use Rattle.scram_types.specs.declared.flights.Report.{Report}
 use Rattle.form_base.specs.Texts.{texts_below}
 use Rattle.flight_facts.specs.Margins.{bound_of}
 use Rattle.picture_form.specs.Laws.{IsReportDrawn, drawn_in, drawn_titles}
-use Rattle.picture_form.specs.Reconfigurations.{bound_rect, reconfiguration_text, report_text, report_title}
+use Rattle.picture_form.specs.Reconfigurations.{bound_rect, reconfiguration_boxes, report_boxes, report_title}
 use Rattle.picture_form.specs.declared.sheets.Sheet.{Sheet}
 use Rattle.picture_form.proofs.Cuts.{Start, a_path, cut, skip, walk}
 use Rattle.picture_form.proofs.LanesTell.{dropped}
@@ -17,7 +17,7 @@ use Rattle.picture_form.proofs.Sections.{bound_ends, own_ends, own_rect, report_
 -- the boxes of reconfigurations that are drawn
 abbrev pub boxes_of : Parts → Sheet → List Report → List ℕ
 boxes_of spec sheet [] = []
-boxes_of spec sheet (report ∷ reports) = report_text spec sheet report ++ boxes_of spec sheet reports
+boxes_of spec sheet (report ∷ reports) = report_boxes spec sheet report ++ boxes_of spec sheet reports
 
 -- all of them are reconfigurations that can be drawn
 abbrev pub AllDrawn : List Report → Type 0
@@ -33,22 +33,22 @@ all_drawn frames [] known = tt
 all_drawn frames (report ∷ reports) known =
     drawn_by (nat_lt report.begin frames) report (drawn_in frames reports) (known 0 report refl) (all_drawn frames reports (λ i x there. known (suc i) x there))
 
-box_by : (t : Bool) (spec : Parts) (sheet : Sheet) (report : Report) (reports : List Report) → cond t (report_text spec sheet report) [] ++ boxes_of spec sheet reports
+box_by : (t : Bool) (spec : Parts) (sheet : Sheet) (report : Report) (reports : List Report) → cond t (report_boxes spec sheet report) [] ++ boxes_of spec sheet reports
     ≡ boxes_of spec sheet (cond t (report ∷ reports) reports)
 box_by true spec sheet report reports = refl
 box_by false spec sheet report reports = refl
 
 report_here : (spec : Parts) (sheet : Sheet) (o : Option Report) (report : Report) → o ≡ Some report
-    → option_map_or (λ (r : Report). if nat_lt r.begin sheet.rows then report_text spec sheet r else []) o [] ≡ (if nat_lt report.begin sheet.rows then report_text spec sheet report else [])
+    → option_map_or (λ (r : Report). if nat_lt r.begin sheet.rows then report_boxes spec sheet r else []) o [] ≡ (if nat_lt report.begin sheet.rows then report_boxes spec sheet report else [])
 report_here spec sheet o report e = rw e refl
 
 boxes_from : (spec : Parts) (sheet : Sheet) (all reports : List Report) (i : ℕ) → drop i all ≡ reports
-    → texts_below (reconfiguration_text spec sheet all) (i + length reports) ≡ texts_below (reconfiguration_text spec sheet all) i ++ boxes_of spec sheet (drawn_in sheet.rows reports)
+    → texts_below (reconfiguration_boxes spec sheet all) (i + length reports) ≡ texts_below (reconfiguration_boxes spec sheet all) i ++ boxes_of spec sheet (drawn_in sheet.rows reports)
 boxes_from spec sheet all [] i d =
     let none : i + 0 ≡ i = omega arith in
-    ap (texts_below (reconfiguration_text spec sheet all)) none ∙ sym (append-nil (texts_below (reconfiguration_text spec sheet all) i))
+    ap (texts_below (reconfiguration_boxes spec sheet all)) none ∙ sym (append-nil (texts_below (reconfiguration_boxes spec sheet all) i))
 boxes_from spec sheet all (report ∷ reports) i d =
-    let f = reconfiguration_text spec sheet all in
+    let f = reconfiguration_boxes spec sheet all in
     let next : i + suc (length reports) ≡ suc i + length reports = omega arith in
     let known = dropped all i report reports d in
     ap (texts_below f) next
@@ -57,10 +57,10 @@ boxes_from spec sheet all (report ∷ reports) i d =
     ∙ ap (λ (text : List ℕ). texts_below f i ++ (text ++ boxes_of spec sheet (drawn_in sheet.rows reports))) (report_here spec sheet (slice_get all i) report known.0)
     ∙ ap (λ (text : List ℕ). texts_below f i ++ text) (box_by (nat_lt report.begin sheet.rows) spec sheet report (drawn_in sheet.rows reports))
 
-pub boxes_whole : (spec : Parts) (sheet : Sheet) (reports : List Report) → texts_below (reconfiguration_text spec sheet reports) (length reports) ≡ boxes_of spec sheet (drawn_in sheet.rows reports)
+pub boxes_whole : (spec : Parts) (sheet : Sheet) (reports : List Report) → texts_below (reconfiguration_boxes spec sheet reports) (length reports) ≡ boxes_of spec sheet (drawn_in sheet.rows reports)
 boxes_whole spec sheet reports =
     let none : length reports ≡ 0 + length reports = omega arith in
-    ap (texts_below (reconfiguration_text spec sheet reports)) none ∙ boxes_from spec sheet reports reports 0 refl
+    ap (texts_below (reconfiguration_boxes spec sheet reports)) none ∙ boxes_from spec sheet reports reports 0 refl
 
 -- what stands at the begin of boxes, or behind them where there are none
 pub record Begins (text : List ℕ) : Type 0 where
@@ -73,7 +73,7 @@ begins_by : (bound : Option ℕ) (spec : Parts) (sheet : Sheet) (report : Report
 begins_by None spec sheet report rest = record { letter = 114; rest = drop 2 (((bound_rect sheet report.begin None ++ own_rect spec sheet report) ++ rest) ++ 60 ∷ 116 ∷ []); other = refl; is = refl }
 begins_by (Some bound) spec sheet report rest = record { letter = 114; rest = drop 2 (((bound_rect sheet report.begin (Some bound) ++ own_rect spec sheet report) ++ rest) ++ 60 ∷ 116 ∷ []); other = refl; is = refl }
 
-whole_is : (spec : Parts) (sheet : Sheet) (report : Report) → report_text spec sheet report ≡ bound_rect sheet report.begin (bound_of spec report) ++ own_rect spec sheet report
+whole_is : (spec : Parts) (sheet : Sheet) (report : Report) → report_boxes spec sheet report ≡ bound_rect sheet report.begin (bound_of spec report) ++ own_rect spec sheet report
 whole_is spec sheet report = report_grouped (bound_rect sheet report.begin (bound_of spec report)) (report_box sheet report) (report_title spec report)
 
 pub boxes_begin : (spec : Parts) (sheet : Sheet) (reports : List Report) → Begins (boxes_of spec sheet reports)

@@ -18,7 +18,7 @@ use Rattle.picture_form.specs.Boxes.{box_text}
 use Rattle.picture_form.specs.Laws.{IsReportDrawn, IsRowDrawn}
 use Rattle.picture_form.specs.Lanes.{spans_text}
 use Rattle.picture_form.specs.Picture.{conf_strip, grid_text, open_line, tick_line, tick_text, ticks_text}
-use Rattle.picture_form.specs.Reconfigurations.{begin_line, begin_text, bound_rect, end_text, reconfiguration_text, report_text, report_title, route_text, rows_width, times_text}
+use Rattle.picture_form.specs.Reconfigurations.{begin_line, begin_text, bound_rect, end_text, reconfiguration_boxes, report_boxes, report_title, route_text, rows_width, times_text}
 use Rattle.picture_form.specs.Sheets.{bottom_of, lanes_of, rows_of_tick, scale_of, sheet_height, sheet_width, ticks_of, width_of, x_of}
 use Rattle.picture_form.specs.Spans.{begun_text, rect_text, span_label, stable_text}
 use Rattle.picture_form.specs.declared.sheets.Sheet.{Sheet}
@@ -285,15 +285,15 @@ own_walk : (spec : Parts) (sheet : Sheet) (report : Report) → IsSpec spec → 
 own_walk spec sheet report sound few known = box_line (drop 2 (own_rect spec sheet report)) (own_ends spec sheet report sound few known).line
 
 report_walk : (spec : Parts) (sheet : Sheet) (o : Option Report) → IsSpec spec → IsSmall sheet → ((report : Report) → o ≡ Some report → IsReportDrawn report)
-    → walk no_name Start (option_map_or (λ (report : Report). if nat_lt report.begin sheet.rows then report_text spec sheet report else []) o []) ≡ Start
+    → walk no_name Start (option_map_or (λ (report : Report). if nat_lt report.begin sheet.rows then report_boxes spec sheet report else []) o []) ≡ Start
 report_walk spec sheet None sound small known = refl
 report_walk spec sheet (Some report) sound small known =
-    walk_where (nat_lt report.begin sheet.rows) (report_text spec sheet report)
+    walk_where (nat_lt report.begin sheet.rows) (report_boxes spec sheet report)
     (ap (walk no_name Start) (report_grouped (bound_rect sheet report.begin (bound_of spec report)) (box_text (x_of sheet report.begin) 48 (rows_width sheet report.begin report.end)) (report_title spec report))
     ∙ walk_both no_name (bound_rect sheet report.begin (bound_of spec report)) (own_rect spec sheet report) (bound_walk sheet report.begin (bound_of spec report) small.rows (known report refl).begin)
     (own_walk spec sheet report sound small.rows (known report refl)))
 
 pub reports_walk : (spec : Parts) (sheet : Sheet) (reports : List Report) → IsSpec spec → IsSmall sheet → Each IsReportDrawn reports
-    → walk no_name Start (texts_below (reconfiguration_text spec sheet reports) (length reports)) ≡ Start
+    → walk no_name Start (texts_below (reconfiguration_boxes spec sheet reports) (length reports)) ≡ Start
 reports_walk spec sheet reports sound small known =
-    walk_below (reconfiguration_text spec sheet reports) (length reports) (λ n less. report_walk spec sheet (slice_get reports n) sound small (λ report there. known n report there))
+    walk_below (reconfiguration_boxes spec sheet reports) (length reports) (λ n less. report_walk spec sheet (slice_get reports n) sound small (λ report there. known n report there))

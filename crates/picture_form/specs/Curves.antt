@@ -66,13 +66,13 @@ abbrev pub points_text : Sheet → List Row → Curve → List ℕ
 points_text sheet rows curve = texts_below (point_text rows curve) (length rows) ++ curve_end sheet curve.y curve.extremes
 
 -- a line through all rows
-abbrev pub line_text : Sheet → List Row → Curve → List ℕ
-line_text sheet rows curve = curve_begin sheet curve.y ++ points_text sheet rows curve
+abbrev pub curve_line_text : Sheet → List Row → Curve → List ℕ
+curve_line_text sheet rows curve = curve_begin sheet curve.y ++ points_text sheet rows curve
 
 -- a quantity as a line between these extremes, where there are any
 abbrev pub line_between : Sheet → List Row → Quantity → ℕ → Option Extremes → List ℕ
 line_between sheet rows quantity y None = []
-line_between sheet rows quantity y (Some extremes) = line_text sheet rows (record { quantity = quantity; y = y; extremes = extremes })
+line_between sheet rows quantity y (Some extremes) = curve_line_text sheet rows (record { quantity = quantity; y = y; extremes = extremes })
 
 -- a quantity as a line
 abbrev pub curve_text : Sheet → List Row → Quantity → ℕ → List ℕ

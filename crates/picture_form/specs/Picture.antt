@@ -9,7 +9,7 @@ use Rattle.flight_facts.specs.declared.spans.Lane.TheVariants.{Configuration}
 use Rattle.form_base.specs.Texts.{texts_below}
 use Rattle.picture_form.specs.Curves.{curve_names, curve_text}
 use Rattle.picture_form.specs.Lanes.{lanes_text, spans_text}
-use Rattle.picture_form.specs.Reconfigurations.{begin_text, reconfiguration_text}
+use Rattle.picture_form.specs.Reconfigurations.{begin_text, reconfiguration_boxes}
 use Rattle.picture_form.specs.Sheets.{bottom_of, curves_y, rows_of_tick, sheet_height, sheet_of, sheet_width, ticks_of, x_of}
 use Rattle.picture_form.specs.declared.sheets.Sheet.{Sheet}
 use Rattle.picture_form.specs.declared.spans.Strip.{Strip}
@@ -54,7 +54,7 @@ stable_spans spec sheet rows = part_text Names ++ spans_text spec sheet rows con
 
 -- configurations and reconfigurations
 abbrev pub top_text : Parts → Sheet → List Row → List Report → List ℕ
-top_text spec sheet rows reports = stable_spans spec sheet rows ++ texts_below (reconfiguration_text spec sheet reports) (length reports)
+top_text spec sheet rows reports = stable_spans spec sheet rows ++ texts_below (reconfiguration_boxes spec sheet reports) (length reports)
 
 -- what a quantity is called
 abbrev pub quantity_name : Quantity → List ℕ

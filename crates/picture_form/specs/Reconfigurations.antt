@@ -50,13 +50,13 @@ bound_rect sheet begin (Some bound) =
     codes "<rect class=\"bound\"" ++ box_text (x_of sheet begin) 48 (rows_width sheet begin (begin + bound)) ++ codes "/>\n"
 
 -- a reconfiguration from its begin to its end, with its bound
-abbrev pub report_text : Parts → Sheet → Report → List ℕ
-report_text spec sheet report =
+abbrev pub report_boxes : Parts → Sheet → Report → List ℕ
+report_boxes spec sheet report =
     bound_rect sheet report.begin (bound_of spec report) ++ codes "<rect class=\"reconfiguration\""
     ++ box_text (x_of sheet report.begin) 48 (rows_width sheet report.begin report.end) ++ codes "><title>"
     ++ report_title spec report ++ codes "</title></rect>\n"
 
 -- the same of reconfiguration n, where it begins in a row
-abbrev pub reconfiguration_text : Parts → Sheet → List Report → ℕ → List ℕ
-reconfiguration_text spec sheet reports n =
-    option_map_or (λ (report : Report). if nat_lt report.begin sheet.rows then report_text spec sheet report else []) (slice_get reports n) []
+abbrev pub reconfiguration_boxes : Parts → Sheet → List Report → ℕ → List ℕ
+reconfiguration_boxes spec sheet reports n =
+    option_map_or (λ (report : Report). if nat_lt report.begin sheet.rows then report_boxes spec sheet report else []) (slice_get reports n) []

@@ -5,9 +5,9 @@ ghost use Rattle.scram_io.specs.Outside.{Prints};
 ghost use Rattle.form_base.specs.Endings.{Ends, IsTaken};
 ghost use Rattle.form_base.specs.Texts.{texts_below};
 ghost use Rattle.trace_files.specs.Looks.{ViewAnswers};
-ghost use Rattle.picture_form.specs.Curves.{curve_text, line_text, point_text, points_text};
+ghost use Rattle.picture_form.specs.Curves.{curve_text, curve_line_text, point_text, points_text};
 ghost use Rattle.picture_form.specs.Picture.{altitude_text, body_text, curves_text, foot_text, front_text, grid_text, head_text, heading_text, lanes_and_foot, legend_line, legend_text, names_text, open_line, picture_text, quantity_name, quantity_text, quantity_unit, sheet_text, stable_spans, tick_line, tick_text, ticks_text, top_text};
-ghost use Rattle.picture_form.specs.Reconfigurations.{begin_text, reconfiguration_text};
+ghost use Rattle.picture_form.specs.Reconfigurations.{begin_text, reconfiguration_boxes};
 ghost use Rattle.picture_form.specs.Sheets.{IsSheet};
 ghost use Rattle.picture_form.specs.Styles.{part_text};
 
@@ -250,7 +250,7 @@ fn put_reconfigurations<K: Sink>(
     sheet: Sheet,
     reports: &[Report],
 ) -> Result<(), SinkFault>
-    ensures { Prints result (K.state out.old) (K.state out.new) (texts_below (reconfiguration_text spec.now sheet reports.now) (length reports.now)) }
+    ensures { Prints result (K.state out.old) (K.state out.new) (texts_below (reconfiguration_boxes spec.now sheet reports.now) (length reports.now)) }
 {
     for n in 0..reports.len() {
         match out.put(make_reconfiguration(spec, sheet, reports, n).as_bytes()) {
@@ -392,7 +392,7 @@ fn put_curve<K: Sink>(
 
 fn put_line<K: Sink>(out: &mut K, sheet: Sheet, rows: &[Row], curve: Curve) -> Result<(), SinkFault>
     requires { curve.y ≤ 6100 }
-    ensures { Prints result (K.state out.old) (K.state out.new) (line_text sheet rows.now curve) }
+    ensures { Prints result (K.state out.old) (K.state out.new) (curve_line_text sheet rows.now curve) }
 {
     match out.put(make_curve_begin(sheet, curve.y).as_bytes()) {
         Ok(()) => put_points(out, sheet, rows, curve),

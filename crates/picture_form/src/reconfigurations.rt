@@ -2,7 +2,7 @@
 
 ghost use Rattle.std.specs.Prelude.{◌≡◌, ◌<◌, ◌≤◌, ◌+◌, ◌++◌, length};
 ghost use Rattle.scram_types.specs.declared.limits.TheConstants.{MAX_LINE_BYTES};
-ghost use Rattle.picture_form.specs.Reconfigurations.{begin_line, begin_text, bound_rect, end_text, reconfiguration_text, report_text, report_title, route_text, rows_width, times_text};
+ghost use Rattle.picture_form.specs.Reconfigurations.{begin_line, begin_text, bound_rect, end_text, reconfiguration_boxes, report_boxes, report_title, route_text, rows_width, times_text};
 ghost use Rattle.picture_form.specs.Sheets.{IsSheet};
 
 use crate::boxes::{add_box, add_number};
@@ -43,7 +43,7 @@ fn make_begin_line(sheet: Sheet, begin: u32) -> Line
 
 /// Returns reconfiguration `n` with its bound; no bytes where it begins in no row.
 pub fn make_reconfiguration(spec: &Spec, sheet: Sheet, reports: &[Report], n: usize) -> Line
-    ensures { result ≡ reconfiguration_text spec.now sheet reports.now n }
+    ensures { result ≡ reconfiguration_boxes spec.now sheet reports.now n }
 {
     match reports.get(n) {
         Some(report) => if report.begin < sheet.rows {
@@ -57,7 +57,7 @@ pub fn make_reconfiguration(spec: &Spec, sheet: Sheet, reports: &[Report], n: us
 
 fn make_report(spec: &Spec, sheet: Sheet, report: &Report) -> Line
     requires { report.now.begin < sheet.rows }
-    ensures { result ≡ report_text spec.now sheet report.now }
+    ensures { result ≡ report_boxes spec.now sheet report.now }
 {
     let mut line = Line::new();
     add_bound_rect(&mut line, sheet, report.begin, bound_of(spec, report));

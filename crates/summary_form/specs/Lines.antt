@@ -44,8 +44,8 @@ change_line spec rows k =
     codes "  frame " ++ decimal k ++ codes " " ++ difference_or_dash spec (env_before spec rows k) (env_in rows k) ++ codes "\n"
 
 -- the line of application a
-abbrev pub app_line : List Row → ℕ → AppSpec → List ℕ
-app_line rows a app =
+abbrev pub app_summary_line : List Row → ℕ → AppSpec → List ℕ
+app_summary_line rows a app =
     codes "app " ++ app.name ++ codes " ran " ++ decimal (count_acts word.Ran a rows) ++ codes " lost " ++ decimal (count_acts word.Lost a rows)
     ++ codes " off " ++ decimal (count_acts word.Off a rows) ++ gap_text (longest_gap a 0 rows) ++ codes "\n"
 

@@ -7,7 +7,7 @@ use Rattle.scram_types.specs.declared.flights.Row.{Row}
 use Rattle.scram_types.specs.declared.specification.AppSpec.{AppSpec}
 use Rattle.flight_facts.specs.Decisions.{decided_in, differ}
 use Rattle.form_base.specs.Texts.{texts_below}
-use Rattle.summary_form.specs.Lines.{app_line, change_line, flight_line, reconfiguration_line, world_line}
+use Rattle.summary_form.specs.Lines.{app_summary_line, change_line, flight_line, reconfiguration_line, world_line}
 use Rattle.scram_types.specs.Lookups.{env_in, env_before}
 
 -- a line, where anything changed in row k
@@ -42,7 +42,7 @@ reconfiguration_text spec rows reports n =
 
 -- the line of application a
 abbrev pub app_text : Parts → List Row → ℕ → List ℕ
-app_text spec rows a = option_map_or (λ (app : AppSpec). app_line rows a app) (slice_get spec.apps a) []
+app_text spec rows a = option_map_or (λ (app : AppSpec). app_summary_line rows a app) (slice_get spec.apps a) []
 
 -- the lines of the applications and of the world
 abbrev pub totals_text : Parts → List Row → List ℕ

@@ -2,7 +2,7 @@
 
 ghost use Rattle.std.specs.Prelude.{◌≡◌, ◌<◌, ◌≤◌, ◌+◌, ◌++◌, ◌^◌, length};
 ghost use Rattle.scram_types.specs.declared.limits.TheConstants.{MAX_LINE_BYTES};
-ghost use Rattle.summary_form.specs.Lines.{app_line, change_line, count_unfinished, flight_line, has_no_target, ranges_text, reconfiguration_line, world_line};
+ghost use Rattle.summary_form.specs.Lines.{app_summary_line, change_line, count_unfinished, flight_line, has_no_target, ranges_text, reconfiguration_line, world_line};
 
 use flight_facts::acts::{ActWord, count_acts};
 use flight_facts::decisions::{add_cause, add_difference_or_dash};
@@ -92,7 +92,7 @@ pub fn make_change_line(spec: &Spec, rows: &[Row], k: usize) -> Line
 pub fn make_app_line(rows: &[Row], a: usize, app: &AppSpec) -> Line
     requires app { a < 8 }
     requires rows { length rows.now < 2 ^ 32 }
-    ensures { result ≡ app_line rows.now a app.now }
+    ensures { result ≡ app_summary_line rows.now a app.now }
 {
     let mut line = Line::new();
     line.text(b"app ");
