@@ -52,7 +52,7 @@ fn make_text(alloc: Global, spec: &Spec, found: &[Break]) -> Result<Vec<u8>, NoM
     Ok(text)
 }
 
-// Returns the first places, as many as have a line.
+// Returns the places that have a line each: the first 64 at most.
 fn first_of(found: &[Break]) -> &[Break]
     ensures { result.now ≡ take MAX_BREAK_LINES found.now }
 {

@@ -14,7 +14,7 @@ use Rattle.document_explanations.specs.declared.objects.Object.TheVariants as ob
 abbrev pub names_of : Data → Object → List (List ℕ)
 names_of d object = map (λ (m : Member). m.name) (filter (λ (m : Member). is_version_of d m.versions) (members_of object))
 
--- The table has the members that the readers ask for in the version of a document, in their order, and as many as they allow.
+-- The table has the members that the readers ask for in the version of a document, in their order, and no more than they allow.
 pub record TablesAreRead : Type 0 where
   pub specification : (d : Data) → names_of d object.Specification
       ≡ first_members ++ (if has_policy d then codes "policy" ∷ [] else []) ++ (if has_demands d then codes "demands" ∷ [] else [])

@@ -2,7 +2,7 @@
 
 ghost use Rattle.document_explanations.specs.Laws.{FoundIsShort, TablesAreRead};
 
-/// The table of members has those that the readers ask for in the version of a document, and as many as they allow.
+/// The table of members has those that the readers ask for in the version of a document, and no more than they allow.
 pub fn tables_are_read()
     ensures { TablesAreRead }
 {}

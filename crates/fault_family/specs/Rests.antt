@@ -58,4 +58,5 @@ pub record HasFlightFrom (spec : Parts) (b d : ℕ) (script later : ScriptParts)
 
 -- Where a flight is at rest, it does not matter for how long: what comes then may come later.
 abbrev pub RestsMayBeLonger : Type 0
-RestsMayBeLonger = (spec : Parts) (b d : ℕ) (c : ConfId) (script : ScriptParts) → IsAtRest spec script b c → HasFlightFrom spec b d script (later_from b d script)
+RestsMayBeLonger = (spec : Parts) (b d : ℕ) (c : ConfId) (script : ScriptParts) → IsAtRest spec script b c
+    → HasFlightFrom spec b d script (later_from b d script)

@@ -186,7 +186,8 @@ fn restarts(faults: &[Fault]) -> bool
 
 fn add_restarts(line: &mut Line, spec: &Spec, faults: &[Fault])
     requires { length line.old + 15 + 77 * length (filter_map restart_of_fault faults.now) ≤ MAX_LINE_BYTES }
-    ensures text { line.new ≡ line.old ++ codes ",\"restarts\":[" ++ listed_text false (map (spelled_restart spec.now) (filter_map restart_of_fault faults.now)) }
+    ensures text { line.new ≡ line.old ++ codes ",\"restarts\":["
+        ++ listed_text false (map (spelled_restart spec.now) (filter_map restart_of_fault faults.now)) }
     ensures short { length line.new ≤ length line.old + 15 + 77 * length (filter_map restart_of_fault faults.now) }
 {
     line.text(b",\"restarts\":[");

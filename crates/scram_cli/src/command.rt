@@ -46,11 +46,12 @@ use trace_text::lines::Line;
 /// of which the one named may halt in that frame after that number of its steps, `check SPEC` prints whether a
 /// specification is accepted, `bounds SPEC` which bounds it has to give, `props SPEC TRACE` judges a trace, by any
 /// specification, `replay SPEC SCRIPT SCHEDULE` flies a mission by a schedule, `fill SPEC` prints a specification with
-/// the bounds and the window that serve, `explain SPEC` and `explain SPEC SCRIPT` why one of them is refused, `choices SPEC` what each rule chooses, `choose SPEC CONF STATE..` what is chosen
-/// in a state, `summary SPEC TRACE`, `columns SPEC TRACE` and `picture SPEC TRACE` print what a trace shows, `faults SPEC COUNT` prints each script with that number of faults, `flights SPEC SCRIPTS`
-/// flies each line of a file, `gen N`
-/// prints the mission of a number, and `fly N` flies it; `--help` and `--version` describe the program. What is printed
-/// has gone out when the call ends, or the status is 4.
+/// the bounds and the window that serve, `explain SPEC` and `explain SPEC SCRIPT` why one of them is refused,
+/// `choices SPEC` what each rule chooses, `choose SPEC CONF STATE..` what is chosen in a state, `summary SPEC TRACE`,
+/// `columns SPEC TRACE` and `picture SPEC TRACE` print what a trace shows, `faults SPEC COUNT` prints each script with
+/// that number of faults, `flights SPEC SCRIPTS` flies each line of a file, `gen N` prints the mission of a number, and
+/// `fly N` flies it; `--help` and `--version` describe the program. What is printed has gone out when the call ends, or
+/// the status is 4.
 ///
 /// A mission is flown with a thread for each processor; by a schedule and on two units it is flown without threads.
 /// `racks` are the boxes of the processors, and `spares` those of processors that restart.
