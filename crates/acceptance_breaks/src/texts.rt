@@ -52,7 +52,7 @@ fn make_text(alloc: Global, spec: &Spec, found: &[Break]) -> Result<Vec<u8>, NoM
     Ok(text)
 }
 
-// Returns the first places, as many as have a line.
+// Returns the first places, at most `MAX_BREAK_LINES`.
 fn first_of(found: &[Break]) -> &[Break]
     ensures { result.now ≡ take MAX_BREAK_LINES found.now }
 {
