@@ -11,7 +11,7 @@ ghost use Rattle.acceptance_breaks.specs.Lines.{app_missed_text, demand_piece, f
 
 use crate::choice_lines::add_situation;
 use choice_table::choose;
-use condition_breaks::facts::{count_apps, count_confs};
+use coverage_check::places::{count_apps, count_confs};
 use form_base::lines::demand_name;
 use scram_types::bits::{has_bit, is_in};
 use scram_types::{AppId, ConfId, Demand, Env, Mode, Modes, Place, Spec};

@@ -5,7 +5,7 @@ ghost use Rattle.scram_types.specs.declared.limits.TheConstants.{MAX_LINE_BYTES}
 ghost use Rattle.acceptance_breaks.specs.Lines.{empty_line, indent, load_line, need_line, states_line, twin_line, window_line};
 
 use choice_table::states;
-use condition_breaks::facts::{capacity_of, load_on};
+use coverage_check::form::{capacity_of, load_on};
 use coverage_check::greatest_bound;
 use itoa::Buffer;
 use scram_types::limits::MAX_ENVIRONMENTS;

@@ -15,9 +15,9 @@ use crate::lines::{
     add_wide, make_empty_line, make_indent, make_load_line, make_need_line, make_states_line,
     make_twin_line, make_window_line,
 };
-use condition_breaks::facts::count_confs;
 use condition_breaks::{Break, breaks_of};
 use coverage_check::choosing::Requirement;
+use coverage_check::places::count_confs;
 use scram_types::{ConfId, Env, NoMemory, Spec};
 use spec_forms::make_bound_line;
 use std::alloc::Global;

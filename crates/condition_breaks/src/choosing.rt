@@ -2,16 +2,16 @@
 
 ghost use Rattle.std.specs.Prelude.{◌≡◌, ◌++◌, ◌<◌, IfOk, OnOk, length, option_map};
 ghost use Rattle.scram_types.specs.Lookups.{conf_id};
-ghost use Rattle.coverage_check.specs.Choosing.{first_unmet_env, leaves_start, unmet_of_cover};
+ghost use Rattle.coverage_check.specs.Choosing.{first_unmet_env, leaves_start};
 ghost use Rattle.condition_breaks.specs.declared.breaks.Break.TheVariants as broken;
 ghost use Rattle.condition_breaks.specs.Breaks.{start_breaks, unmet_break, unmet_breaks};
 
 use crate::breaks::Break;
-use crate::facts::count_confs;
 use crate::pushes::{push_found, push_if};
 use choice_table::choose;
-use coverage_check::choosing::Requirement;
-use cube_cover::{Cover, cover};
+use coverage_check::choosing::{Requirement, unmet_of_cover};
+use coverage_check::places::count_confs;
+use cube_cover::cover;
 use scram_types::{ConfId, Env, NoMemory, Spec};
 use std::alloc::Global;
 
@@ -45,16 +45,6 @@ fn first_unmet_env(
     let _known = count_confs(spec);
     let found = cover(alloc, spec, c)?;
     Ok(unmet_of_cover(&found, asked))
-}
-
-fn unmet_of_cover(cover: &Cover, asked: Requirement) -> Option<Env>
-    ensures { result ≡ unmet_of_cover cover.now asked }
-{
-    match asked {
-        Requirement::HasRule => cover.unfit,
-        Requirement::CanRun => cover.not_runnable,
-        Requirement::Stays => cover.unsettled,
-    }
 }
 
 fn unmet_in(asked: Requirement, c: ConfId, unmet: Option<Env>) -> Option<Break>

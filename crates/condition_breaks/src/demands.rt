@@ -7,8 +7,8 @@ ghost use Rattle.cube_cover.specs.Demands.{AreMisses};
 ghost use Rattle.condition_breaks.specs.Breaks.{demand_break, demand_breaks, demand_breaks_in, missed_at};
 
 use crate::breaks::Break;
-use crate::facts::count_confs;
 use crate::pushes::push_found;
+use coverage_check::places::count_confs;
 use cube_cover::misses;
 use scram_types::{ConfId, Env, NoMemory, Spec};
 use std::alloc::Global;

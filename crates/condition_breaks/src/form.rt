@@ -5,9 +5,10 @@ ghost use Rattle.condition_breaks.specs.Breaks.{load_break, load_breaks, load_br
 ghost use Rattle.condition_breaks.specs.Form.{first_twin, is_one_of, is_need_off, is_needed};
 
 use crate::breaks::Break;
-use crate::facts::{count_apps, count_confs, count_procs, is_empty, is_overloaded, is_same};
 use crate::pushes::push_if;
 use choice_table::states;
+use coverage_check::form::{is_empty, is_overloaded, is_same};
+use coverage_check::places::{count_apps, count_confs, count_procs};
 use scram_types::limits::MAX_ENVIRONMENTS;
 use scram_types::{AppId, ConfId, NoMemory, ProcId, Spec};
 

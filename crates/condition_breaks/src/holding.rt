@@ -6,7 +6,8 @@ ghost use Rattle.condition_breaks.specs.Ranges.{all_ways};
 
 use crate::breaks::{Break, Unheld, Way};
 use crate::pushes::push_found;
-use crate::ranges::{all_ways, breaks_entering, first_unheld, hull_of};
+use crate::ranges::{all_ways, first_unheld, hull_of};
+use coverage_check::holding::breaks_entering;
 use scram_types::{Invariant, NoMemory, Precondition, Spec};
 use std::alloc::Global;
 

@@ -4,7 +4,6 @@
 pub mod breaks;
 mod choosing;
 mod demands;
-pub mod facts;
 mod finding;
 mod form;
 mod holding;

@@ -3,13 +3,13 @@
 ghost use Rattle.std.specs.Prelude.{◌≡◌, ◌++◌, ◌<◌, ◌≤◌, IfOk, OnOk, length, option_map};
 ghost use Rattle.scram_types.specs.Lookups.{conf_id};
 ghost use Rattle.choice_table.specs.Choices.{has_source};
-ghost use Rattle.coverage_check.specs.Holding.{breaks_entering, holds_range};
+ghost use Rattle.coverage_check.specs.Holding.{holds_range};
 ghost use Rattle.coverage_check.specs.Timing.{targets};
 ghost use Rattle.condition_breaks.specs.Ranges.{all_ways, first_unheld, hull, hull_of, hull_on, interval, is_other_target, is_unheld, other_ways, range_entering, range_asked, range_on, way_to, ways_from};
 
 use crate::breaks::Way;
-use crate::facts::count_confs;
 use app_model::{after_init, during};
+use coverage_check::places::count_confs;
 use coverage_check::targets;
 use flight_facts::extremes::Extremes;
 use scram_types::bits::is_in;
@@ -182,12 +182,4 @@ pub fn range_entering(spec: &Spec, pre: &Precondition, place: Option<Place>) -> 
         }
         None => interval(0, 0),
     }
-}
-
-// Returns whether a precondition can be missed as its configuration is entered.
-pub(crate) fn breaks_entering(spec: &Spec, pre: &Precondition) -> bool
-    ensures { result ≡ breaks_entering spec.now pre.now }
-{
-    let range = range_entering(spec, pre, spec.place_of(pre.conf, pre.app));
-    !(pre.least <= range.least && range.greatest <= pre.greatest)
 }

@@ -2,13 +2,14 @@
 
 ghost use Rattle.std.specs.Prelude.{◌≡◌, ◌++◌, ◌<◌, ◌≤◌, OnOk, length};
 ghost use Rattle.scram_types.specs.Lookups.{conf_id};
-ghost use Rattle.coverage_check.specs.Timing.{asked_bounds, has_short_window, is_bound_asked, is_bounded, lacks_bound};
+ghost use Rattle.coverage_check.specs.Timing.{asked_bounds, has_short_window, is_bound_asked, lacks_bound};
 ghost use Rattle.condition_breaks.specs.Breaks.{bound_break, bound_breaks, bound_breaks_from, window_breaks};
 
 use crate::breaks::Break;
-use crate::facts::count_confs;
 use crate::pushes::push_if;
-use coverage_check::{asked_bounds, greatest_bound, least};
+use coverage_check::places::count_confs;
+use coverage_check::timing::is_bounded;
+use coverage_check::{asked_bounds, greatest_bound};
 use scram_types::bits::is_in;
 use scram_types::{ConfId, NoMemory, Spec};
 use std::alloc::Global;
@@ -60,15 +61,6 @@ fn is_asked(spec: &Spec, set: u16, i: ConfId, j: ConfId) -> bool
     ensures { result ≡ is_bound_asked spec.now i j.0 }
 {
     is_in(set, j.0)
-}
-
-fn is_bounded(spec: &Spec, i: ConfId, j: ConfId) -> bool
-    ensures { result ≡ is_bounded spec.now i j }
-{
-    match spec.bound(i, j) {
-        Some(frames) => least(spec, i, j) <= frames,
-        None => false,
-    }
 }
 
 // A10: appends that the window is too short.

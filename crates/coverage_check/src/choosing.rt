@@ -59,8 +59,8 @@ fn refuse_requirement_of(
     }
 }
 
-// Returns the finding of a cover on a requirement: the first environment in scope in which it is not met.
-fn unmet_of_cover(cover: &Cover, requirement: Requirement) -> Option<Env>
+/// Returns the finding of a cover on a requirement: the first environment in scope in which it is not met.
+pub fn unmet_of_cover(cover: &Cover, requirement: Requirement) -> Option<Env>
     ensures { result ≡ unmet_of_cover cover.now requirement }
 {
     match requirement {

@@ -92,7 +92,8 @@ fn refuse_shape_of(spec: &Spec, c: u8) -> Option<Shown>
     }
 }
 
-fn is_empty(spec: &Spec, c: ConfId) -> bool
+/// Returns whether a configuration has nothing on.
+pub fn is_empty(spec: &Spec, c: ConfId) -> bool
     ensures { result ≡ is_empty spec.now c }
 {
     for a in 0..8 {
@@ -114,7 +115,8 @@ fn refuse_twin_of(spec: &Spec, c: u8) -> Option<Shown>
     None
 }
 
-fn is_same(spec: &Spec, c: ConfId, d: ConfId) -> bool
+/// Returns whether two configurations give each application the same mode and processor.
+pub fn is_same(spec: &Spec, c: ConfId, d: ConfId) -> bool
     ensures { result ≡ is_same spec.now c d }
 {
     for a in 0..8 {
@@ -159,13 +161,15 @@ fn refuse_load_in(spec: &Spec, c: u8) -> Option<Shown>
     None
 }
 
-fn is_overloaded(spec: &Spec, c: ConfId, p: u8) -> bool
+/// Returns whether a configuration loads a processor beyond its capacity.
+pub fn is_overloaded(spec: &Spec, c: ConfId, p: u8) -> bool
     ensures { result ≡ is_overloaded spec.now c p }
 {
     u64::from(capacity_of(spec, p)) < load_on(spec, c, p)
 }
 
-fn capacity_of(spec: &Spec, p: u8) -> u32
+/// Returns the capacity of a processor, in load units; 0 where it does not exist.
+pub fn capacity_of(spec: &Spec, p: u8) -> u32
     ensures { result ≡ capacity_of spec.now p }
 {
     match spec.procs.items().get(usize::from(p)) {
@@ -174,8 +178,8 @@ fn capacity_of(spec: &Spec, p: u8) -> u32
     }
 }
 
-// Returns the load that a configuration puts on a processor, in load units.
-fn load_on(spec: &Spec, c: ConfId, p: u8) -> u64
+/// Returns the load that a configuration puts on a processor, in load units.
+pub fn load_on(spec: &Spec, c: ConfId, p: u8) -> u64
     ensures { result ≡ load_below spec.now c p (length spec.now.apps) }
 {
     let mut load = 0;

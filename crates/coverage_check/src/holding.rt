@@ -179,7 +179,8 @@ fn refuse_precondition_of(spec: &Spec, k: u32, pre: &Precondition) -> Option<Sho
     }
 }
 
-fn breaks_entering(spec: &Spec, pre: &Precondition) -> bool
+/// Returns whether a precondition can be missed as its configuration is entered.
+pub fn breaks_entering(spec: &Spec, pre: &Precondition) -> bool
     ensures { result ≡ breaks_entering spec.now pre.now }
 {
     match spec.place_of(pre.conf, pre.app) {

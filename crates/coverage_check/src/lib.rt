@@ -6,10 +6,10 @@
 pub mod acceptance;
 pub mod choosing;
 mod demands;
-mod form;
-mod holding;
+pub mod form;
+pub mod holding;
 pub mod missions;
-mod places;
+pub mod places;
 pub mod shown;
 pub mod target_sets;
 pub mod timing;

@@ -5,7 +5,8 @@ ghost use Rattle.scram_types.specs.Specification.{IsSpec};
 
 use scram_types::Spec;
 
-pub(crate) fn count_confs(spec: &Spec) -> u8
+/// Returns the number of configurations.
+pub fn count_confs(spec: &Spec) -> u8
     ensures value { result ≡ length spec.now.confs }
     ensures most { result ≤ 12 }
     ensures known { IsSpec spec.now }
@@ -13,14 +14,16 @@ pub(crate) fn count_confs(spec: &Spec) -> u8
     spec.confs.items().len() as u8
 }
 
-pub(crate) fn count_apps(spec: &Spec) -> u8
+/// Returns the number of applications.
+pub fn count_apps(spec: &Spec) -> u8
     ensures value { result ≡ length spec.now.apps }
     ensures most { result ≤ 8 }
 {
     spec.apps.items().len() as u8
 }
 
-pub(crate) fn count_procs(spec: &Spec) -> u8
+/// Returns the number of processors.
+pub fn count_procs(spec: &Spec) -> u8
     ensures value { result ≡ length spec.now.procs }
     ensures most { result ≤ 8 }
 {

@@ -140,7 +140,8 @@ fn can_return(spec: &Spec) -> bool
     0 < further(spec)
 }
 
-fn is_bounded(spec: &Spec, i: ConfId, j: ConfId) -> bool
+/// Returns whether a bound from `i` to `j` is given and serves.
+pub fn is_bounded(spec: &Spec, i: ConfId, j: ConfId) -> bool
     ensures { result ≡ is_bounded spec.now i j }
 {
     match spec.bound(i, j) {
