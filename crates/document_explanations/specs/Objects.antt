@@ -3,7 +3,7 @@ use Rattle.std.specs.Prelude.{ℕ, ℤ, neg_ℤ, pos, List, [], ◌∷◌, Optio
 use Rattle.scram_types.specs.declared.limits.TheConstants.{MAX_ALTITUDE, MAX_APPLICATIONS, MAX_ASSUMED_CHANGES, MAX_ASSUMED_HALTS, MAX_BOUND, MAX_BOUNDS, MAX_CHANGES, MAX_CONFIGURATIONS, MAX_DEMANDS, MAX_FACTORS, MAX_FRAMES, MAX_HEADING, MAX_INTERVAL_END, MAX_INTERVALS, MAX_LOAD, MAX_MODES, MAX_PHASE, MAX_PROCESSORS, MAX_RULES, MAX_VALUES, MAX_WINDOW, MIN_VALUES}
 use Rattle.document_explanations.specs.declared.objects.Element.{Element}
 use Rattle.document_explanations.specs.declared.objects.Element.TheVariants as element
-use Rattle.document_explanations.specs.declared.objects.Length.TheVariants as length
+use Rattle.document_explanations.specs.declared.objects.Length.TheVariants as extent
 use Rattle.document_explanations.specs.declared.objects.Member.{Member as TableMember}
 use Rattle.document_explanations.specs.declared.objects.Number.TheVariants as number
 use Rattle.document_explanations.specs.declared.objects.Object.{Object}
@@ -35,7 +35,7 @@ has name wanted = later name versions.All wanted
 
 -- A list of `least` to `most` elements.
 abbrev pub list : ℕ → ℕ → Element → Wanted
-list least most element = wanted.List (length.Within least most) element
+list least most element = wanted.List (extent.Within least most) element
 
 -- A list of `least` to `most` objects.
 abbrev pub objects : ℕ → ℕ → Object → Wanted
@@ -158,7 +158,7 @@ members_of object.Script =
     has (codes "scram") (wanted.Number number.ScriptVersion) ∷
     has (codes "frames") (whole 0 MAX_FRAMES) ∷
     has (codes "changes") (objects 0 MAX_CHANGES object.Change) ∷
-    has (codes "halts") (wanted.List length.Halts (element.Object object.Halt)) ∷
+    has (codes "halts") (wanted.List extent.Halts (element.Object object.Halt)) ∷
     later (codes "restarts") versions.Second (objects 0 MAX_PROCESSORS object.Restart) ∷
     []
 members_of object.Change =

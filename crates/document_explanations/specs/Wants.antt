@@ -11,7 +11,7 @@ use Rattle.fault_script.specs.Versions.{halts_limit}
 use Rattle.fault_script.specs.declared.version.Version.TheVariants.{First, Second}
 use Rattle.document_explanations.specs.Objects.{Member, members_of}
 use Rattle.document_explanations.specs.declared.objects.Length.{Length}
-use Rattle.document_explanations.specs.declared.objects.Length.TheVariants as length
+use Rattle.document_explanations.specs.declared.objects.Length.TheVariants as extent
 use Rattle.document_explanations.specs.declared.objects.Number.{Number}
 use Rattle.document_explanations.specs.declared.objects.Number.TheVariants as number
 use Rattle.document_explanations.specs.declared.objects.Text.{Text}
@@ -97,8 +97,8 @@ step_after_mark spec = option_map_or (λ (spec : Parts). words spec + 1) spec 0
 
 -- how many elements a list has
 abbrev pub length_wanted : Length → List ℕ
-length_wanted (length.Within least most) = decimal least ++ codes " to " ++ decimal most ++ codes " elements"
-length_wanted length.Halts =
+length_wanted (extent.Within least most) = decimal least ++ codes " to " ++ decimal most ++ codes " elements"
+length_wanted extent.Halts =
     codes "0 to " ++ decimal (halts_limit First) ++ codes " elements, 0 to " ++ decimal (halts_limit Second) ++ codes " where scram is 2"
 
 -- a number in a document, of a script for a specification where there is one
