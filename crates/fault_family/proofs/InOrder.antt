@@ -25,6 +25,7 @@ use Rattle.fault_family.specs.NextFaults.{candidates, factor_changes, faults_in,
 use Rattle.fault_family.specs.Scripts.{is_within, script_of_faults}
 use Rattle.fault_family.proofs.Joined.{stands_in_part, stands_listed, stands_mapped, stands_one, stands_part, stands_where}
 use Rattle.fault_family.proofs.Members.{GoesOn, goes_on}
+use Rattle.fault_family.proofs.MemberScripts.{rest_later}
 
 -- order of lists that are joined
 
@@ -34,21 +35,18 @@ later_cons R x xs first each zero (suc j) y z less p q = subst (λ w. R w z) (sa
 later_cons R x xs first each (suc i) zero y z less p q = absurd (omega (arith, less))
 later_cons R x xs first each (suc i) (suc j) y z less p q = each i j y z (omega (arith, less)) p q
 
-later_tail : {A : Type 0} (R : A → A → Type 0) (x : A) (xs : List A) → EachLater R (x ∷ xs) → EachLater R xs
-later_tail R x xs each i j y z less p q = each (suc i) (suc j) y z (omega (arith, less)) p q
-
 later_joined : {A : Type 0} (R : A → A → Type 0) (xs ys : List A) → EachLater R xs → EachLater R ys → ((x y : A) → StandsFor xs x → StandsFor ys y → R x y) → EachLater R (xs ++ ys)
 later_joined R [] ys first second across = second
 later_joined R (x ∷ xs) ys first second across =
     later_cons R x (xs ++ ys)
     (λ y stands. elim (stands_part xs ys y stands) [ inl earlier ↦ first 0 (suc earlier.0) x y (omega arith) refl earlier.1 | inr later ↦ across x y (0, refl) later ])
-    (later_joined R xs ys (later_tail R x xs first) second (λ w y stands. across w y (suc stands.0, stands.1)))
+    (later_joined R xs ys (rest_later R x xs first) second (λ w y stands. across w y (suc stands.0, stands.1)))
 
 later_parts : {A B : Type 0} (R : A → A → Type 0) (S : B → B → Type 0) (f : A → List B) → ((x : A) → EachLater S (f x))
     → ((x y : A) (a b : B) → R x y → StandsFor (f x) a → StandsFor (f y) b → S a b) → (xs : List A) → EachLater R xs → EachLater S (flat_map f xs)
 later_parts R S f within across [] each = each_later_none S
 later_parts R S f within across (x ∷ xs) each =
-    later_joined S (f x) (flat_map f xs) (within x) (later_parts R S f within across xs (later_tail R x xs each))
+    later_joined S (f x) (flat_map f xs) (within x) (later_parts R S f within across xs (rest_later R x xs each))
     (λ a b first second.
     let part = stands_in_part f xs b second in
     across x part.0 a b (each 0 (suc part.1.0) x part.0 (omega arith) refl part.1.1) first part.2)
@@ -58,7 +56,7 @@ later_mapped R S f lift [] each = each_later_none S
 later_mapped R S f lift (x ∷ xs) each =
     later_cons S (f x) (map f xs)
     (λ b stands. let found = stands_mapped f xs b stands in subst (S (f x)) found.2 (lift x found.0 (each 0 (suc found.1.0) x found.0 (omega arith) refl found.1.1)))
-    (later_mapped R S f lift xs (later_tail R x xs each))
+    (later_mapped R S f lift xs (rest_later R x xs each))
 
 later_one : {A : Type 0} (R : A → A → Type 0) (x : A) → EachLater R (x ∷ [])
 later_one R x = later_cons R x [] (λ y stands. absurd (let none = stands.1 in cc)) (each_later_none R)

@@ -49,7 +49,7 @@ later_more R (Some b) ys first each = at
 rest_each : {A : Type 0} (P : A → Type 0) (x : A) (xs : List A) → Each P (x ∷ xs) → Each P xs
 rest_each P x xs each i y there = each (suc i) y there
 
-rest_later : {A : Type 0} (R : A → A → Type 0) (x : A) (xs : List A) → EachLater R (x ∷ xs) → EachLater R xs
+pub rest_later : {A : Type 0} (R : A → A → Type 0) (x : A) (xs : List A) → EachLater R (x ∷ xs) → EachLater R xs
 rest_later R x xs each i j y z less p q = each (suc i) (suc j) y z (omega (arith, less)) p q
 
 module _ {A B : Type 0} (h : A → Option B) where
