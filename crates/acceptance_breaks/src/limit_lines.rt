@@ -105,7 +105,7 @@ fn add_intervals(line: &mut Line, limits: &Limits)
 }
 
 // Returns the name of a variable of an application, at most 16 bytes; no bytes where its kind does not use it.
-#[tactic(auto, using(crate::proofs::Short::variable_short))]
+#[tactic(auto, using(app_model::proofs::ShortNames::variable_short))]
 fn variable_text(spec: &Spec, app: AppId, variable: u8) -> &'static str
     ensures name { result.now ≡ variable_text spec.now app variable }
     ensures short { length result.now ≤ 16 }

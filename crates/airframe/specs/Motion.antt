@@ -1,6 +1,6 @@
 -- One step of the aircraft. What is read is clamped to its range.
 use Rattle.std.specs.Prelude.{ℕ, ℤ, ◌+ℤ◌, ◌-ℤ◌, ◌≤ℤ◌, pos}
-use Rattle.scram_types.specs.declared.flights.World.{World}
+use Rattle.scram_types.specs.declared.rows.World.{World}
 use Rattle.scram_types.specs.Numbers.{minus, part, modulo}
 use Rattle.scram_types.specs.Ranges.{clamp_in, limit}
 use Rattle.airframe.specs.declared.motion.Motion.{Motion}

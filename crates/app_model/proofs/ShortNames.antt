@@ -36,3 +36,6 @@ variable_names_short (suc (suc (suc (suc (suc (suc kind)))))) = tt
 
 pub mode_short : (kind mode : ℕ) → length (mode_text kind mode) ≤ 16
 mode_short kind mode = name_short (mode_names kind) mode (mode_names_short kind)
+
+pub variable_short : (kind i : ℕ) → length (option_map_or (λ (name : List ℕ). name) (name_in (variable_names kind) i) []) ≤ 16
+variable_short kind i = name_short (variable_names kind) i (variable_names_short kind)

@@ -4,7 +4,7 @@ use Rattle.std.specs.Prelude.{Option, Some, None}
 use Rattle.std.specs.Option.{option_map_or}
 use Rattle.scram_types.specs.Lookups.{conf_id}
 use Rattle.scram_types.specs.Specification.{IsSpec, Parts}
-use Rattle.scram_types.specs.declared.flights.Env.{Env}
+use Rattle.scram_types.specs.declared.rows.Env.{Env}
 use Rattle.cube_cover.specs.declared.shares.Share.{Share}
 use Rattle.cube_cover.specs.Shares.{IsShare, is_ruled_by}
 use Rattle.cube_cover.specs.Sizes.{count_where}

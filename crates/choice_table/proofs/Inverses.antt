@@ -8,7 +8,7 @@ use Rattle.std.proofs.lemmas.Nat.{div_below, div-mul-add, mod-mul-add, mul-add-l
 use Rattle.scram_types.proofs.Naturals.{below_test}
 use Rattle.scram_types.proofs.Equality.{same_env}
 use Rattle.scram_types.proofs.Items.{zeros_everywhere}
-use Rattle.scram_types.specs.declared.flights.Env.{Env}
+use Rattle.scram_types.specs.declared.rows.Env.{Env}
 use Rattle.scram_types.specs.declared.specification.Factor.{Factor}
 use Rattle.scram_types.specs.Specification.{Each, IsFactor, Parts}
 use Rattle.choice_table.specs.Environments.{IsEnv}

@@ -8,7 +8,7 @@ use Rattle.std.proofs.lemmas.Bool.Decides.{nat_tests}
 use Rattle.std.proofs.lemmas.Nat.{and_le_l, and_mod, and_shr}
 use Rattle.scram_types.proofs.Naturals.{equal_test}
 use Rattle.scram_types.proofs.Items.{all_pass, each_passes}
-use Rattle.scram_types.specs.declared.flights.Env.{Env}
+use Rattle.scram_types.specs.declared.rows.Env.{Env}
 use Rattle.scram_types.specs.declared.specification.Place.{Place}
 use Rattle.scram_types.specs.Bits.{has_bit}
 use Rattle.scram_types.proofs.BitSets.{twice, low_bits, bit_cases}

@@ -1,7 +1,7 @@
 -- Which processors are up, and which environments are in scope.
 use Rattle.std.specs.Prelude.{◌≡◌, ℕ, ◌^◌, ◌<◌, ◌≤◌, Bool, not, nat_le, length, slice_get, slice_index, Some}
 use Rattle.scram_types.specs.Bits.{count_below, has_bit}
-use Rattle.scram_types.specs.declared.flights.Env.{Env}
+use Rattle.scram_types.specs.declared.rows.Env.{Env}
 use Rattle.scram_types.specs.declared.specification.Factor.{Factor}
 use Rattle.scram_types.specs.Specification.{Parts}
 

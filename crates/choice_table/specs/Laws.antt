@@ -1,7 +1,7 @@
 -- What the definitions of choice mean.
 use Rattle.std.specs.Prelude.{◌≡◌, ℕ, true, slice_get, Some}
 use Rattle.scram_types.specs.declared.ids.ConfId.{ConfId}
-use Rattle.scram_types.specs.declared.flights.Env.{Env}
+use Rattle.scram_types.specs.declared.rows.Env.{Env}
 use Rattle.scram_types.specs.declared.specification.Place.{Place}
 use Rattle.scram_types.specs.Specification.{Parts}
 use Rattle.scram_types.specs.Bits.{has_bit}

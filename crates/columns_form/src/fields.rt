@@ -158,7 +158,7 @@ fn add_word_field(line: &mut Line, kind: KindId, area: &Area, i: u8)
 }
 
 /// Returns the name of a word of a kind's areas, at most 16 bytes; `None` where the kind does not use the word.
-#[tactic(auto, using(crate::proofs::ShortVariables::variable_short))]
+#[tactic(auto, using(app_model::proofs::ShortNames::variable_short))]
 pub fn name_of_variable(kind: KindId, i: u8) -> Option<&'static str>
     ensures name { option_map (λ s. s.now) result ≡ name_in (variable_names kind.0) i }
     ensures short { IfSome result (λ name. length name.now ≤ 16) }

@@ -8,7 +8,7 @@ use Rattle.std.proofs.lemmas.Bool.{not-true, not-false, not_from_true}
 use Rattle.scram_types.proofs.Naturals.{below, at_most_test, at_most, not_below_test, not_below, below_test, equal_test, equal}
 use Rattle.scram_types.specs.declared.limits.TheConstants.{MAX_ENVIRONMENTS}
 use Rattle.scram_types.specs.declared.ids.ConfId.{ConfId}
-use Rattle.scram_types.specs.declared.flights.Env.{Env}
+use Rattle.scram_types.specs.declared.rows.Env.{Env}
 use Rattle.scram_types.specs.declared.specification.Bound.{Bound}
 use Rattle.scram_types.specs.declared.specification.Demand.{Demand}
 use Rattle.scram_types.specs.declared.specification.Invariant.{Invariant}

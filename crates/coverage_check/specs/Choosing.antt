@@ -2,7 +2,7 @@
 use Rattle.std.specs.Prelude.{ℕ, Bool, not, ◌==◌, length, Option, option_map}
 use Rattle.scram_types.specs.Lookups.{opening_env, conf_id}
 use Rattle.scram_types.specs.declared.ids.ConfId.{ConfId}
-use Rattle.scram_types.specs.declared.flights.Env.{Env}
+use Rattle.scram_types.specs.declared.rows.Env.{Env}
 use Rattle.scram_types.specs.Specification.{Parts}
 use Rattle.scram_types.specs.Searches.{first_below}
 use Rattle.choice_table.specs.Choices.{choose, has_rule, is_runnable}

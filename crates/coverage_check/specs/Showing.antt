@@ -1,7 +1,7 @@
 -- What a refusal shows, by the numbers of its place.
 use Rattle.std.specs.Prelude.{ℕ, Some, None}
 use Rattle.scram_types.specs.Lookups.{conf_id}
-use Rattle.scram_types.specs.declared.flights.Env.{Env}
+use Rattle.scram_types.specs.declared.rows.Env.{Env}
 use Rattle.coverage_check.specs.declared.shown.Shown.{Shown}
 use Rattle.coverage_check.specs.declared.shown.Other.{Other}
 

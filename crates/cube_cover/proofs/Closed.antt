@@ -4,7 +4,7 @@ use mathlib.Core.Logic.{inl, inr}
 use Rattle.std.specs.Prelude.{◌==◌, bit_and, if◌then◌else◌}
 use Rattle.std.specs.Int.{bit_at}
 use Rattle.std.proofs.lemmas.Nat.{and_le_r, one_shl}
-use Rattle.scram_types.specs.declared.flights.Env.{Env}
+use Rattle.scram_types.specs.declared.rows.Env.{Env}
 use Rattle.scram_types.proofs.Booleans.{and_true, by_bool, same_test, true_false}
 use Rattle.scram_types.proofs.BitSets.{bit_cases, bits_are, no_high_bit}
 use Rattle.scram_types.specs.Searches.{all_below}

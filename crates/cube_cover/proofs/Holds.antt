@@ -6,7 +6,7 @@ use Rattle.std.specs.Int.{bit_not, w64}
 use Rattle.std.proofs.lemmas.Nat.{and_le_r}
 use Rattle.scram_types.specs.Bits.{has_bit}
 use Rattle.scram_types.specs.Searches.{all_below}
-use Rattle.scram_types.specs.declared.flights.Env.{Env}
+use Rattle.scram_types.specs.declared.rows.Env.{Env}
 use Rattle.scram_types.proofs.Naturals.{differ_test, equal_test, same_or_not}
 use Rattle.cube_cover.specs.declared.cubes.Cube.{Cube}
 use Rattle.cube_cover.specs.Cubes.{HasDigits, allows, digit_in, field_of, holds}

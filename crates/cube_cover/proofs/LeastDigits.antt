@@ -5,7 +5,7 @@ use Rattle.std.specs.Prelude.{◌==◌, slice_index, nat_lt, if◌then◌else◌
 use Rattle.std.proofs.Math.Nat.{pow-le-pow_right}
 use Rattle.std.proofs.lemmas.Nat.{mul-le}
 use Rattle.std.proofs.lemmas.Option.{slice_get_within}
-use Rattle.scram_types.specs.declared.flights.Env.{Env}
+use Rattle.scram_types.specs.declared.rows.Env.{Env}
 use Rattle.scram_types.specs.declared.specification.Factor.{Factor}
 use Rattle.scram_types.specs.Bits.{bits_below, count_below, has_bit}
 use Rattle.scram_types.specs.Specification.{IsSpec, Parts}

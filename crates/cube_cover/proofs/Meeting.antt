@@ -3,7 +3,7 @@ use Rattle.std.proofs.Common.{◌≡◌, ◌∙◌, ℕ, zero, suc, ◌+◌, ◌
 use mathlib.Core.Logic.{inl, inr}
 use Rattle.std.specs.Prelude.{◌==◌, bit_and, bit_or}
 use Rattle.std.proofs.lemmas.Nat.{and_comm}
-use Rattle.scram_types.specs.declared.flights.Env.{Env}
+use Rattle.scram_types.specs.declared.rows.Env.{Env}
 use Rattle.scram_types.specs.Bits.{bits_below, has_bit}
 use Rattle.scram_types.proofs.Booleans.{and_left, and_right, and_true, or_left, or_right, true_false}
 use Rattle.scram_types.proofs.BitSets.{has_bits, no_bit}

@@ -1,7 +1,7 @@
 -- Splitting cubes, place by place and cube by cube.
 use Rattle.std.proofs.Common.{◌≡◌, ◌∙◌, ℕ, ◌+◌, ◌<◌, refl, ap, sym, Bool, true, false, not, ◌&&◌, List, [], length, take, get_or}
 use Rattle.std.specs.Prelude.{if◌then◌else◌}
-use Rattle.scram_types.specs.declared.flights.Env.{Env}
+use Rattle.scram_types.specs.declared.rows.Env.{Env}
 use Rattle.scram_types.specs.Specification.{IsSpec, Parts}
 use Rattle.scram_types.specs.Searches.{all_below}
 use Rattle.scram_types.proofs.Booleans.{by_bool}

@@ -7,7 +7,7 @@ use Rattle.std.specs.List.{list_any}
 use Rattle.std.proofs.Math.Bool.{or-false, or-true}
 use Rattle.std.proofs.lemmas.Nat.Bits.{bit_at_cat_high, bit_at_cat_low}
 use Rattle.scram_types.specs.declared.ids.ConfId.{ConfId}
-use Rattle.scram_types.specs.declared.flights.Env.{Env}
+use Rattle.scram_types.specs.declared.rows.Env.{Env}
 use Rattle.scram_types.specs.declared.specification.Choice.{Choice}
 use Rattle.scram_types.specs.Bits.{has_bit}
 use Rattle.scram_types.specs.Lookups.{conf_id}

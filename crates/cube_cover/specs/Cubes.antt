@@ -1,7 +1,7 @@
 -- Cubes of environments, and what they hold.
 use Rattle.std.specs.Prelude.{◌≡◌, ℕ, ◌+◌, ◌-◌, ◌*◌, ◌^◌, ◌<◌, ◌≤◌, Bool, true, ◌&&◌, ◌||◌, ◌==◌, nat_lt, List, [], ◌∷◌, length, if◌then◌else◌}
 use Rattle.std.specs.List.{list_any}
-use Rattle.scram_types.specs.declared.flights.Env.{Env}
+use Rattle.scram_types.specs.declared.rows.Env.{Env}
 use Rattle.scram_types.specs.Specification.{Parts}
 use Rattle.scram_types.specs.Bits.{has_bit}
 use Rattle.scram_types.specs.Searches.{all_below}

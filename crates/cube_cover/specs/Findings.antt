@@ -1,7 +1,7 @@
 -- The outcome of a target where it is chosen.
 use Rattle.std.specs.Prelude.{◌≡◌, ℕ, Bool, true, not, ◌&&◌, ◌==◌}
 use Rattle.scram_types.specs.declared.ids.ConfId.{ConfId}
-use Rattle.scram_types.specs.declared.flights.Env.{Env}
+use Rattle.scram_types.specs.declared.rows.Env.{Env}
 use Rattle.scram_types.specs.Lookups.{conf_id}
 use Rattle.scram_types.specs.Specification.{Parts}
 use Rattle.choice_table.specs.Choices.{IsTarget, choose, is_runnable}

@@ -2,7 +2,7 @@
 use Rattle.std.specs.Prelude.{ℕ, zero, suc, ◌+◌, ◌-◌, ◌*◌, ◌^◌, Bool, true, ◌&&◌, List, [], ◌∷◌, length, if◌then◌else◌}
 use Rattle.scram_types.specs.Bits.{count_below, has_bit}
 use Rattle.scram_types.specs.Searches.{all_below}
-use Rattle.scram_types.specs.declared.flights.Env.{Env}
+use Rattle.scram_types.specs.declared.rows.Env.{Env}
 use Rattle.scram_types.specs.declared.specification.Factor.{Factor}
 use Rattle.scram_types.specs.Specification.{Parts}
 use Rattle.choice_table.specs.Numbering.{environments, is_down_in_scope, is_number_in_scope, numbered}

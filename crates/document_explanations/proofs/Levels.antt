@@ -5,7 +5,7 @@ use Rattle.std.proofs.lemmas.List.Elements.{All-from_get_or}
 use Rattle.std.proofs.lemmas.List.Splits.{slice_split_at, slice_split_none}
 use Rattle.trace_text.specs.Pieces.{pieces_of}
 use Rattle.trace_text.proofs.Splitting.{some_piece}
-use Rattle.document_explanations.specs.Paths.{all_but_last, behind_dot, step, wanted_along}
+use Rattle.document_explanations.specs.Paths.{all_but_last, behind_dot, wanted_below, wanted_along}
 use Rattle.document_explanations.specs.declared.objects.Wanted.{Wanted}
 
 abbrev pub Lacks : List ℕ → Type 0
@@ -24,17 +24,17 @@ first_level text level rest parts lacks =
     ap (pieces_of 46) parts ∙ slice_split_at (λ (b : ℕ). b == 46) level 46 rest (no_dots level lacks) (eq-eqb 46 46 refl)
 
 above_more : (level : List ℕ) (levels : List (List ℕ)) (w : Wanted) → 0 < length levels
-    → wanted_along (all_but_last (level ∷ levels)) w ≡ option_and_then (wanted_along (all_but_last levels)) (step w level)
+    → wanted_along (all_but_last (level ∷ levels)) w ≡ option_and_then (wanted_along (all_but_last levels)) (wanted_below w level)
 above_more level [] w some = absurd (omega (arith, some))
 above_more level (next ∷ levels) w some = refl
 
 -- one level below, what is wanted along the levels, and above the last of them
 pub step_whole : (text level rest : List ℕ) (w : Wanted) → pieces_of 46 text ≡ level ∷ pieces_of 46 rest
-    → wanted_along (pieces_of 46 text) w ≡ option_and_then (wanted_along (pieces_of 46 rest)) (step w level)
+    → wanted_along (pieces_of 46 text) w ≡ option_and_then (wanted_along (pieces_of 46 rest)) (wanted_below w level)
 step_whole text level rest w pieces = ap (λ (levels : List (List ℕ)). wanted_along levels w) pieces
 
 pub step_above : (text level rest : List ℕ) (w : Wanted) → pieces_of 46 text ≡ level ∷ pieces_of 46 rest
-    → wanted_along (all_but_last (pieces_of 46 text)) w ≡ option_and_then (wanted_along (all_but_last (pieces_of 46 rest))) (step w level)
+    → wanted_along (all_but_last (pieces_of 46 text)) w ≡ option_and_then (wanted_along (all_but_last (pieces_of 46 rest))) (wanted_below w level)
 step_above text level rest w pieces =
     ap (λ (levels : List (List ℕ)). wanted_along (all_but_last levels) w) pieces ∙ above_more level (pieces_of 46 rest) w (some_piece 46 rest)
 

@@ -35,16 +35,16 @@ wanted_element (element.Object object) = wanted.Object object
 wanted_element (element.Text text) = wanted.Text text
 
 -- what is wanted a level below; of the elements of a list that is one thing, whatever the index
-abbrev pub step : Wanted → List ℕ → Option Wanted
-step (wanted.Object object) level = option_map (λ (member : Member). member.wanted) (member_named (members_of object) level)
-step (wanted.List length element) level = Some (wanted_element element)
-step (wanted.Number number) level = None
-step (wanted.Text text) level = None
+abbrev pub wanted_below : Wanted → List ℕ → Option Wanted
+wanted_below (wanted.Object object) level = option_map (λ (member : Member). member.wanted) (member_named (members_of object) level)
+wanted_below (wanted.List length element) level = Some (wanted_element element)
+wanted_below (wanted.Number number) level = None
+wanted_below (wanted.Text text) level = None
 
 -- what is wanted along levels, from a value on of which this is wanted
 abbrev pub wanted_along : List (List ℕ) → Wanted → Option Wanted
 wanted_along [] w = Some w
-wanted_along (level ∷ levels) w = option_and_then (wanted_along levels) (step w level)
+wanted_along (level ∷ levels) w = option_and_then (wanted_along levels) (wanted_below w level)
 
 -- the levels above the last one
 abbrev pub all_but_last : List (List ℕ) → List (List ℕ)

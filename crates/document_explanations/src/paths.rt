@@ -4,7 +4,7 @@ ghost use Rattle.std.specs.Prelude.{◌≡◌, ◌∷◌, ◌<◌, [], IfSome, M
 ghost use Rattle.serde_json.specs.View.{view};
 ghost use Rattle.trace_text.specs.Pieces.{pieces_of};
 ghost use Rattle.document_explanations.specs.Objects.{member_read};
-ghost use Rattle.document_explanations.specs.Paths.{all_but_last, behind_dot, child, step, value_along, value_at, wanted_along, wanted_at, wanted_element};
+ghost use Rattle.document_explanations.specs.Paths.{all_but_last, behind_dot, child, wanted_below, value_along, value_at, wanted_along, wanted_at, wanted_element};
 
 use crate::objects::{Element, Wanted, find_member};
 use crate::rules::DocumentKind;
@@ -34,8 +34,8 @@ fn split_level(levels: &str) -> Option<(&str, &str)>
     levels.split_once('.')
 }
 
-fn step(wanted: Wanted, level: &str) -> Option<Wanted>
-    ensures { result ≡ step wanted level.now }
+fn wanted_below(wanted: Wanted, level: &str) -> Option<Wanted>
+    ensures { result ≡ wanted_below wanted level.now }
 {
     match wanted {
         Wanted::Object(object) => match find_member(object, level) {
@@ -59,13 +59,13 @@ fn wanted_element(element: Element) -> Wanted
 
 // Returns what is wanted of the value above the last level, and the last level.
 fn descend(start: Wanted, levels: &str) -> Option<(Wanted, &str)>
-    ensures whole { wanted_along (pieces_of 46 levels.now) start ≡ option_and_then (λ end. step end.0 end.1.now) result }
+    ensures whole { wanted_along (pieces_of 46 levels.now) start ≡ option_and_then (λ end. wanted_below end.0 end.1.now) result }
     ensures above { wanted_along (all_but_last (pieces_of 46 levels.now)) start ≡ option_map (λ end. end.0) result }
 {
     let mut wanted = start;
     let mut rest = levels;
     while let Some((level, more)) = split_level(rest) {
-        wanted = step(wanted, level)?;
+        wanted = wanted_below(wanted, level)?;
         rest = more;
     }
     Some((wanted, rest))
@@ -85,7 +85,7 @@ pub fn wanted_at(kind: DocumentKind, rule: u8, path: &Path) -> Option<Wanted>
     if rule == rule::MISSING_MEMBER {
         Some(above)
     } else {
-        step(above, last)
+        wanted_below(above, last)
     }
 }
 

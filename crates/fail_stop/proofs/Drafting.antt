@@ -1,7 +1,7 @@
 -- What a processor makes of a snapshot is the definition's, and in a flight it is the draft of the one-thread trace.
 use Rattle.std.proofs.Common.{◌≡◌, ◌∙◌, ℕ, zero, suc, ◌<◌, refl, ap, sym, subst, arith, length, Bool, true, false, List}
 use Rattle.std.specs.Prelude.{ℤ, Option, Some, None, IfSome, option_map, if◌then◌else◌}
-use Rattle.scram_types.specs.declared.flights.Env.{Env}
+use Rattle.scram_types.specs.declared.rows.Env.{Env}
 use Rattle.scram_types.specs.declared.ids.ProcId.{ProcId}
 use Rattle.scram_types.specs.declared.specification.Place.{Place}
 use Rattle.scram_types.specs.Eights.{eight}

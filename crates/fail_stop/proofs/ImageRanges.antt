@@ -9,7 +9,7 @@ use Rattle.scram_types.specs.declared.orders.Order.TheVariants.{Run, Hold, Halt,
 use Rattle.scram_types.specs.declared.ranges.Range.{Range}
 use Rattle.scram_types.specs.declared.specification.AppSpec.{AppSpec}
 use Rattle.scram_types.specs.declared.specification.Place.{Place}
-use Rattle.scram_types.specs.declared.flights.Env.{Env}
+use Rattle.scram_types.specs.declared.rows.Env.{Env}
 use Rattle.scram_types.specs.declared.ids.ProcId.{ProcId}
 use Rattle.scram_types.specs.Lookups.{kind_of_app, place_of}
 use Rattle.scram_types.specs.Numbers.{IsWord, word}

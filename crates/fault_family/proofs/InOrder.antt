@@ -19,7 +19,7 @@ use Rattle.fault_family.specs.declared.faults.Fault.{Fault}
 use Rattle.fault_family.specs.declared.faults.FaultKind.{FaultKind}
 use Rattle.fault_family.specs.declared.faults.FaultKind.TheVariants.{Change, Halt, Restart}
 use Rattle.fault_family.specs.Families.{extended, may_follow}
-use Rattle.fault_family.specs.Faults.{detail, number, precedes, rank}
+use Rattle.fault_family.specs.Faults.{detail, precedes, rank, subject}
 use Rattle.fault_family.specs.Laws.{ComesFirst, FamiliesAreOrdered, StandsFor, here, further}
 use Rattle.fault_family.specs.NextFaults.{candidates, factor_changes, faults_in, frames_after, frames_behind, gaps, proc_halts, kinds_of, numbers_below, restarts_of, factor_value_count}
 use Rattle.fault_family.specs.Scripts.{is_within, script_of_faults}
@@ -88,16 +88,16 @@ by_rank : (k l : FaultKind) → rank k < rank l → KindBefore k l
 unfolding KindBefore
 by_rank k l less f = or_left (comes_after f (rank k) f (rank l)) _ (after_second f (rank k) (rank l) less)
 
-by_number : (k l : FaultKind) → rank k ≡ rank l → comes_after (number k) (detail k) (number l) (detail l) ≡ true → KindBefore k l
+by_subject : (k l : FaultKind) → rank k ≡ rank l → comes_after (subject k) (detail k) (subject l) (detail l) ≡ true → KindBefore k l
 unfolding KindBefore
-by_number k l same after f =
+by_subject k l same after f =
     let frames : (f == f) ≡ true = grind (arith, nat_tests) in
     let ranks : (rank k == rank l) ≡ true = grind (arith, nat_tests, same) in
     or_right (comes_after f (rank k) f (rank l)) _ (rw (frames, ranks, after) refl)
 
 module _ (spec : Parts) where
   changes_ordered : (x : ℕ) → EachLater KindBefore (factor_changes spec x)
-  changes_ordered x = later_listed KindBefore (λ value. Change (factor_id x) value) (factor_value_count spec x) (λ i j less. by_number (Change (factor_id x) i) (Change (factor_id x) j) refl (after_second x i j less))
+  changes_ordered x = later_listed KindBefore (λ value. Change (factor_id x) value) (factor_value_count spec x) (λ i j less. by_subject (Change (factor_id x) i) (Change (factor_id x) j) refl (after_second x i j less))
 
   all_changes_ordered : EachLater KindBefore (flat_map (factor_changes spec) (numbers_below (length spec.factors)))
   all_changes_ordered =
@@ -105,14 +105,14 @@ module _ (spec : Parts) where
       (λ x y k l less first second.
       let a = stands_listed (λ value. Change (factor_id x) value) (factor_value_count spec x) k first in
       let b = stands_listed (λ value. Change (factor_id y) value) (factor_value_count spec y) l second in
-      subst (λ m. KindBefore m l) a.2 (subst (KindBefore (Change (factor_id x) a.0)) b.2 (by_number (Change (factor_id x) a.0) (Change (factor_id y) b.0) refl (after_first x a.0 y b.0 less))))
+      subst (λ m. KindBefore m l) a.2 (subst (KindBefore (Change (factor_id x) a.0)) b.2 (by_subject (Change (factor_id x) a.0) (Change (factor_id y) b.0) refl (after_first x a.0 y b.0 less))))
       (numbers_below (length spec.factors)) (later_listed (λ (x y : ℕ). x < y) (λ k. k) (length spec.factors) (λ i j less. less))
 
   halts_ordered : (p : ℕ) → EachLater KindBefore (proc_halts spec p)
   halts_ordered p =
       later_cons KindBefore (Halt (proc_id p) 0) (Halt (proc_id p) (words spec + 1) ∷ [])
       (λ k stands. subst (KindBefore (Halt (proc_id p) 0)) (stands_one (Halt (proc_id p) (words spec + 1)) k stands)
-      (by_number (Halt (proc_id p) 0) (Halt (proc_id p) (words spec + 1)) refl (after_second p 0 (words spec + 1) (omega arith))))
+      (by_subject (Halt (proc_id p) 0) (Halt (proc_id p) (words spec + 1)) refl (after_second p 0 (words spec + 1) (omega arith))))
       (later_one KindBefore (Halt (proc_id p) (words spec + 1)))
 
   halt_is : (p : ℕ) (k : FaultKind) → StandsFor (proc_halts spec p) k → (step : ℕ) × (Halt (proc_id p) step ≡ k)
@@ -129,11 +129,11 @@ module _ (spec : Parts) where
       (λ p q k l less first second.
       let a = halt_is p k first in
       let b = halt_is q l second in
-      subst (λ m. KindBefore m l) a.1 (subst (KindBefore (Halt (proc_id p) a.0)) b.1 (by_number (Halt (proc_id p) a.0) (Halt (proc_id q) b.0) refl (after_first p a.0 q b.0 less))))
+      subst (λ m. KindBefore m l) a.1 (subst (KindBefore (Halt (proc_id p) a.0)) b.1 (by_subject (Halt (proc_id p) a.0) (Halt (proc_id q) b.0) refl (after_first p a.0 q b.0 less))))
       (numbers_below (length spec.procs)) (later_listed (λ (x y : ℕ). x < y) (λ k. k) (length spec.procs) (λ i j less. less))
 
   restarts_ordered : EachLater KindBefore (restarts_of spec)
-  restarts_ordered = later_listed KindBefore (λ p. Restart (proc_id p)) (length spec.procs) (λ i j less. by_number (Restart (proc_id i)) (Restart (proc_id j)) refl (after_first i 0 j 0 less))
+  restarts_ordered = later_listed KindBefore (λ p. Restart (proc_id p)) (length spec.procs) (λ i j less. by_subject (Restart (proc_id i)) (Restart (proc_id j)) refl (after_first i 0 j 0 less))
 
   change_rank : (k : FaultKind) → StandsFor (flat_map (factor_changes spec) (numbers_below (length spec.factors))) k → rank k ≡ 0
   change_rank k stands =

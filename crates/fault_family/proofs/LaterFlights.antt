@@ -12,12 +12,12 @@ use Rattle.scram_types.proofs.Eights.{eight_at}
 use Rattle.scram_types.proofs.Searches.{each_all, length_listed}
 use Rattle.scram_types.specs.Lookups.{opening_env, place_of}
 use Rattle.scram_types.specs.Searches.{listed_below}
-use Rattle.scram_types.specs.declared.flights.Report.{Report}
-use Rattle.scram_types.specs.declared.flights.Row.{Row}
+use Rattle.scram_types.specs.declared.rows.Report.{Report}
+use Rattle.scram_types.specs.declared.rows.Row.{Row}
 use Rattle.scram_types.specs.declared.specification.Place.{Place}
 use Rattle.scram_types.specs.declared.orders.Act.TheVariants.{Off}
 use Rattle.scram_types.specs.declared.orders.Order.TheVariants.{Run}
-use Rattle.scram_types.specs.declared.flights.Env.{Env}
+use Rattle.scram_types.specs.declared.rows.Env.{Env}
 use Rattle.scram_types.specs.declared.ids.ConfId.{ConfId}
 use Rattle.scram_types.specs.declared.orders.Act.{Act}
 use Rattle.scram_types.specs.declared.orders.KMode.{KMode}

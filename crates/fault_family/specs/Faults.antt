@@ -12,10 +12,10 @@ rank (Halt proc step) = 1
 rank (Restart proc) = 2
 
 -- The number of the factor that changes, or of the processor.
-abbrev pub number : FaultKind → ℕ
-number (Change factor value) = factor.0
-number (Halt proc step) = proc.0
-number (Restart proc) = proc.0
+abbrev pub subject : FaultKind → ℕ
+subject (Change factor value) = factor.0
+subject (Halt proc step) = proc.0
+subject (Restart proc) = proc.0
 
 -- The number of the value to which a factor changes, or the step after which a processor halts; 0 of a restart.
 abbrev pub detail : FaultKind → ℕ
@@ -28,12 +28,12 @@ abbrev pub precedes : Fault → Fault → Bool
 precedes fault next =
     comes_after fault.frame (rank fault.kind) next.frame (rank next.kind)
     || (fault.frame == next.frame && rank fault.kind == rank next.kind
-    && comes_after (number fault.kind) (detail fault.kind) (number next.kind) (detail next.kind))
+    && comes_after (subject fault.kind) (detail fault.kind) (subject next.kind) (detail next.kind))
 
 -- Two faults are changes of one factor in one frame, halts of one processor, or restarts of one processor.
 abbrev pub repeats : Fault → Fault → Bool
 repeats fault next =
-    rank fault.kind == rank next.kind && number fault.kind == number next.kind && (not (rank fault.kind == 0) || fault.frame == next.frame)
+    rank fault.kind == rank next.kind && subject fault.kind == subject next.kind && (not (rank fault.kind == 0) || fault.frame == next.frame)
 
 -- A fault may come after another one, which is given last: it follows in order, and it does not repeat it.
 abbrev pub may_come_after : Fault → Fault → Bool

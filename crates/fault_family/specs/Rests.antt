@@ -1,7 +1,7 @@
 -- Scripts that go on later after the flight has been at rest.
 use Rattle.std.specs.Prelude.{◌≡◌, ◌≢◌, ℕ, ◌+◌, ◌-◌, ◌<◌, ◌≤◌, true, nat_lt, List, ◌++◌, map, if◌then◌else◌}
 use Rattle.scram_types.specs.Searches.{listed_below}
-use Rattle.scram_types.specs.declared.flights.Report.{Report}
+use Rattle.scram_types.specs.declared.rows.Report.{Report}
 use Rattle.scram_types.specs.declared.ids.ConfId.{ConfId}
 use Rattle.scram_types.specs.declared.scripts.Change.{Change}
 use Rattle.scram_types.specs.declared.scripts.HaltAt.{HaltAt}
@@ -19,16 +19,16 @@ use Rattle.frame_model.specs.Runs.{runs}
 use Rattle.fault_family.specs.Shifts.{mode_later, report_later}
 
 -- A frame as it is before frame b, and from frame b on d frames later.
-abbrev pub moved : ℕ → ℕ → ℕ → ℕ
-moved b d frame = if nat_lt frame b then frame else d + frame
+abbrev pub later_frame : ℕ → ℕ → ℕ → ℕ
+later_frame b d frame = if nat_lt frame b then frame else d + frame
 
 -- The script in which everything from frame b on comes d frames later.
 abbrev pub later_from : ℕ → ℕ → ScriptParts → ScriptParts
 later_from b d script = record {
   frames = d + script.frames;
-  changes = map (λ (change : Change). record { frame = moved b d change.frame; factor = change.factor; value = change.value }) script.changes;
-  halts = map (λ (halt : HaltAt). record { proc = halt.proc; frame = moved b d halt.frame; step = halt.step }) script.halts;
-  restarts = map (λ (restart : RestartAt). record { proc = restart.proc; frame = moved b d restart.frame }) script.restarts;
+  changes = map (λ (change : Change). record { frame = later_frame b d change.frame; factor = change.factor; value = change.value }) script.changes;
+  halts = map (λ (halt : HaltAt). record { proc = halt.proc; frame = later_frame b d halt.frame; step = halt.step }) script.halts;
+  restarts = map (λ (restart : RestartAt). record { proc = restart.proc; frame = later_frame b d restart.frame }) script.restarts;
 }
 
 -- A flight is at rest in configuration c when frame b begins: the phase of the frame before is to run c, its row runs c,

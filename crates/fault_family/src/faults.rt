@@ -2,7 +2,7 @@
 
 ghost use Rattle.std.specs.Prelude.{◌≡◌, ◌++◌, ◌∷◌, ◌<◌, [], length};
 ghost use Rattle.fault_script.specs.Orders.{comes_after};
-ghost use Rattle.fault_family.specs.Faults.{detail, may_come_after, number, precedes, rank, repeats};
+ghost use Rattle.fault_family.specs.Faults.{detail, may_come_after, precedes, rank, repeats, subject};
 
 use arrayvec::ArrayVec;
 use scram_types::{FactorId, ProcId};
@@ -93,8 +93,8 @@ fn rank(kind: &FaultKind) -> u8
 }
 
 // Returns the number of the factor or of the processor.
-fn number(kind: &FaultKind) -> u8
-    ensures { result ≡ number kind.now }
+fn subject(kind: &FaultKind) -> u8
+    ensures { result ≡ subject kind.now }
 {
     match kind {
         FaultKind::Change { factor, .. } => factor.0,
@@ -129,9 +129,9 @@ pub fn precedes(fault: &Fault, next: &Fault) -> bool
         || fault.frame == next.frame
             && rank(&fault.kind) == rank(&next.kind)
             && comes_after(
-                u32::from(number(&fault.kind)),
+                u32::from(subject(&fault.kind)),
                 detail(&fault.kind),
-                u32::from(number(&next.kind)),
+                u32::from(subject(&next.kind)),
                 detail(&next.kind),
             )
 }
@@ -142,7 +142,7 @@ pub fn repeats(fault: &Fault, next: &Fault) -> bool
     ensures { result ≡ repeats fault.now next.now }
 {
     rank(&fault.kind) == rank(&next.kind)
-        && number(&fault.kind) == number(&next.kind)
+        && subject(&fault.kind) == subject(&next.kind)
         && (rank(&fault.kind) != 0 || fault.frame == next.frame)
 }
 

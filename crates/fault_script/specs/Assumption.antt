@@ -1,7 +1,7 @@
 -- The failure assumption: how many processors are down, and how often the environment changes.
 use Rattle.std.specs.Prelude.{◌≡◌, ℕ, zero, suc, ◌+◌, ◌-◌, ◌≤◌, Bool, false, not, ◌&&◌, ◌==◌, nat_lt, length, Option, Some, None, if◌then◌else◌}
 use Rattle.std.specs.Str.{bytes_eq}
-use Rattle.scram_types.specs.declared.flights.Env.{Env}
+use Rattle.scram_types.specs.declared.rows.Env.{Env}
 use Rattle.scram_types.specs.Bits.{count_below}
 use Rattle.scram_types.specs.Searches.{first_below}
 use Rattle.scram_types.specs.Scripts.{ScriptParts}

@@ -1,7 +1,7 @@
 -- The environment of each frame.
 use Rattle.std.specs.Prelude.{ℕ, length}
 use Rattle.scram_types.specs.Bits.{bits_below}
-use Rattle.scram_types.specs.declared.flights.Env.{Env}
+use Rattle.scram_types.specs.declared.rows.Env.{Env}
 use Rattle.scram_types.specs.Scripts.{ScriptParts}
 use Rattle.scram_types.specs.Specification.{Parts}
 use Rattle.fault_script.specs.Times.{factors_at, is_up}

@@ -1,18 +1,17 @@
 -- The canonical text of a script as it is spelled: names stand between quotes as they are.
 use Rattle.std.proofs.Common.{◌≡◌, ◌∙◌, ℕ, suc, ◌+◌, Bool, true, false, List, [], ◌∷◌, ◌++◌, length, map, append_assoc, arith, ap, refl, sym}
-use Rattle.std.specs.Prelude.{◌&&◌, nat_le, nat_lt, slice_get, Option, Some, None, codes, decimal, filter_map}
-use Rattle.std.specs.Char.{is_ascii_lowercase}
+use Rattle.std.specs.Prelude.{◌&&◌, nat_lt, slice_get, Option, Some, None, codes, decimal, filter_map}
 use Rattle.std.specs.List.{cons_option, list_all}
 use Rattle.std.specs.Option.{option_map_or}
-use Rattle.std.proofs.lemmas.Bool.{and_parts}
 use Rattle.std.proofs.lemmas.Bool.Decides.{nat_tests}
 use Rattle.std.proofs.lemmas.Fmt.{decimal_digit}
-use Rattle.json.specs.Print.{escape, escape_byte, quoted}
+use Rattle.json.specs.Print.{quoted}
 use Rattle.serde_json.specs.Data.{Data, Members, member, no_members, string}
 use Rattle.serde_json.specs.View.{items_of}
 use Rattle.serde_json.specs.Written.{comma_if, compact_text, items_text, members_text}
 use Rattle.scram_doc.specs.Canonical.{count_data, list_data}
-use Rattle.scram_doc.specs.Names.{is_letter_of_name, is_spelled_name}
+use Rattle.scram_doc.specs.Names.{is_letter_of_name}
+use Rattle.scram_doc.proofs.QuotedNames.{quoted_found, quoted_letters}
 use Rattle.scram_types.specs.declared.scripts.Change.{Change}
 use Rattle.scram_types.specs.declared.scripts.HaltAt.{HaltAt}
 use Rattle.scram_types.specs.declared.scripts.RestartAt.{RestartAt}
@@ -56,36 +55,6 @@ first_version spec [] none = refl
 first_version spec (restart ∷ restarts) none = absurd (grind (arith, nat_tests, none))
 
 -- names between quotes
-
-byte_as_is : (x : ℕ) → is_letter_of_name x ≡ true → escape_byte x ≡ x ∷ []
-unfolding escape_byte
-byte_as_is x named = grind (arith, nat_tests)
-
-letters_as_is : (text : List ℕ) → list_all is_letter_of_name text ≡ true → escape text ≡ text
-letters_as_is [] named = refl
-letters_as_is (x ∷ xs) named =
-    let parts = and_parts (is_letter_of_name x) (list_all is_letter_of_name xs) named in
-    rw (byte_as_is x parts.0, letters_as_is xs parts.1) refl
-
-quoted_letters : (text : List ℕ) → list_all is_letter_of_name text ≡ true → quoted text ≡ 34 ∷ (text ++ 34 ∷ [])
-quoted_letters text named = ap (λ (inside : List ℕ). 34 ∷ (inside ++ 34 ∷ [])) (letters_as_is text named)
-
-first_letter : (x : ℕ) → is_ascii_lowercase x ≡ true → is_letter_of_name x ≡ true
-first_letter x small = grind (arith, nat_tests)
-
-quoted_name : (text : List ℕ) → is_spelled_name text ≡ true → quoted text ≡ 34 ∷ (text ++ 34 ∷ [])
-quoted_name [] named = refl
-quoted_name (x ∷ xs) named =
-    let parts = and_parts (is_ascii_lowercase x && list_all is_letter_of_name xs) (nat_le (length (x ∷ xs)) 16) named in
-    let bytes = and_parts (is_ascii_lowercase x) (list_all is_letter_of_name xs) parts.0 in
-    let spelled : list_all is_letter_of_name (x ∷ xs) ≡ true = rw (first_letter x bytes.0) bytes.1 in
-    quoted_letters (x ∷ xs) spelled
-
--- what is not there has no letter
-quoted_found : {A : Type 0} (name : A → List ℕ) (found : Option A) → ((x : A) → found ≡ Some x → is_spelled_name (name x) ≡ true)
-    → quoted (option_map_or name found []) ≡ 34 ∷ (option_map_or name found [] ++ 34 ∷ [])
-quoted_found name None named = refl
-quoted_found name (Some x) named = quoted_name (name x) (named x refl)
 
 quoted_value : (found : Option Factor) (value : ℕ) → ((factor : Factor) → found ≡ Some factor → HasValueNames factor)
     → quoted (option_map_or (λ (factor : Factor). value_name factor value) found []) ≡ 34 ∷ (option_map_or (λ (factor : Factor). value_name factor value) found [] ++ 34 ∷ [])

@@ -2,7 +2,7 @@
 use Rattle.std.proofs.Common.{◌≡◌, ℕ, Bool, true, List, [], ◌∷◌, ◌++◌, refl, sym, ap, append_assoc, append-nil, ◌∙◌}
 use Rattle.std.specs.Prelude.{◌||◌, codes, if◌then◌else◌}
 use Rattle.trace_text.specs.Names.{further_joined, joined}
-use Rattle.flight_facts.specs.Differences.{is_any, listed, listed_after}
+use Rattle.flight_facts.specs.Differences.{is_any, comma_joined, comma_joined_after}
 
 further_both : (xs ys : List (List ℕ)) → further_joined (xs ++ ys) ≡ further_joined xs ++ further_joined ys
 further_both [] ys = refl
@@ -11,7 +11,7 @@ further_both (x ∷ xs) ys =
 
 -- what is joined of two lists, the second behind the first, and a dash where both are empty
 pub joined_both : (xs ys : List (List ℕ)) →
-    joined (xs ++ ys) ≡ (listed xs ++ listed_after (is_any xs) ys) ++ (if is_any xs || is_any ys then [] else codes "-")
+    joined (xs ++ ys) ≡ (comma_joined xs ++ comma_joined_after (is_any xs) ys) ++ (if is_any xs || is_any ys then [] else codes "-")
 joined_both [] [] = refl
 joined_both [] (y ∷ ys) = sym (append-nil (y ++ further_joined ys))
 joined_both (x ∷ xs) ys =
@@ -24,12 +24,12 @@ any_both [] ys = refl
 any_both (x ∷ xs) ys = refl
 
 -- both lists were added to a line, and there is something in one of them
-pub both_added : (line values all : List ℕ) (some any : Bool) (xs ys : List (List ℕ)) → values ≡ line ++ listed xs → some ≡ is_any xs
-    → all ≡ values ++ listed_after some ys → any ≡ (some || is_any ys) → any ≡ true → all ≡ line ++ joined (xs ++ ys)
+pub both_added : (line values all : List ℕ) (some any : Bool) (xs ys : List (List ℕ)) → values ≡ line ++ comma_joined xs → some ≡ is_any xs
+    → all ≡ values ++ comma_joined_after some ys → any ≡ (some || is_any ys) → any ≡ true → all ≡ line ++ joined (xs ++ ys)
 both_added line values all some any xs ys first is_some second is_any_of given =
     let there : (is_any xs || is_any ys) ≡ true = ap (λ (b : Bool). b || is_any ys) (sym is_some) ∙ sym is_any_of ∙ given in
-    let joined_is : joined (xs ++ ys) ≡ (listed xs ++ listed_after (is_any xs) ys) ++ [] =
-    joined_both xs ys ∙ ap (λ (b : Bool). (listed xs ++ listed_after (is_any xs) ys) ++ (if b then [] else codes "-")) there in
-    second ∙ ap (λ (b : Bool). values ++ listed_after b ys) is_some ∙ ap (λ (front : List ℕ). front ++ listed_after (is_any xs) ys) first
-    ∙ append_assoc line (listed xs) (listed_after (is_any xs) ys)
-    ∙ ap (λ (tail : List ℕ). line ++ tail) (sym (append-nil (listed xs ++ listed_after (is_any xs) ys)) ∙ sym joined_is)
+    let joined_is : joined (xs ++ ys) ≡ (comma_joined xs ++ comma_joined_after (is_any xs) ys) ++ [] =
+    joined_both xs ys ∙ ap (λ (b : Bool). (comma_joined xs ++ comma_joined_after (is_any xs) ys) ++ (if b then [] else codes "-")) there in
+    second ∙ ap (λ (b : Bool). values ++ comma_joined_after b ys) is_some ∙ ap (λ (front : List ℕ). front ++ comma_joined_after (is_any xs) ys) first
+    ∙ append_assoc line (comma_joined xs) (comma_joined_after (is_any xs) ys)
+    ∙ ap (λ (tail : List ℕ). line ++ tail) (sym (append-nil (comma_joined xs ++ comma_joined_after (is_any xs) ys)) ∙ sym joined_is)

@@ -1,7 +1,7 @@
 -- What an application did in a row, without the frames of a phase.
 use Rattle.std.specs.Prelude.{ℕ, ◌==◌, List, slice_index_or, Option, Some, None, codes}
 use Rattle.std.specs.List.{count_by}
-use Rattle.scram_types.specs.declared.flights.Row.{Row}
+use Rattle.scram_types.specs.declared.rows.Row.{Row}
 use Rattle.scram_types.specs.declared.ids.ProcId.{ProcId}
 use Rattle.scram_types.specs.declared.orders.Act.{Act}
 use Rattle.scram_types.specs.declared.orders.Act.TheVariants as act

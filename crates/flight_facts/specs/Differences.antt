@@ -2,7 +2,7 @@
 use Rattle.std.specs.Prelude.{ℕ, ◌==◌, ◌+◌, ◌%◌, ◌/◌, Bool, true, false, List, [], ◌∷◌, ◌++◌, slice_index, codes, if◌then◌else◌}
 use Rattle.scram_types.specs.Lookups.{value_name}
 use Rattle.scram_types.specs.Specification.{Parts}
-use Rattle.scram_types.specs.declared.flights.Env.{Env}
+use Rattle.scram_types.specs.declared.rows.Env.{Env}
 use Rattle.scram_types.specs.declared.specification.Factor.{Factor}
 use Rattle.scram_types.specs.declared.specification.Proc.{Proc}
 use Rattle.trace_text.specs.Names.{further_joined, joined}
@@ -47,10 +47,10 @@ abbrev pub have_changed : Parts → Env → Env → Bool
 have_changed spec before after = is_any (differences spec before after)
 
 -- texts joined by commas, no byte where there is none
-abbrev pub listed : List (List ℕ) → List ℕ
-listed [] = []
-listed (text ∷ texts) = text ++ further_joined texts
+abbrev pub comma_joined : List (List ℕ) → List ℕ
+comma_joined [] = []
+comma_joined (text ∷ texts) = text ++ further_joined texts
 
 -- texts behind others, where there are such
-abbrev pub listed_after : Bool → List (List ℕ) → List ℕ
-listed_after others texts = if others then further_joined texts else listed texts
+abbrev pub comma_joined_after : Bool → List (List ℕ) → List ℕ
+comma_joined_after others texts = if others then further_joined texts else comma_joined texts

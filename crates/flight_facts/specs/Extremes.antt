@@ -2,8 +2,8 @@
 use Rattle.std.specs.Prelude.{ℕ, ℤ, List, [], ◌∷◌, ◌++◌, codes, Option, Some, None}
 use Rattle.std.specs.Fmt.{signed_decimal}
 use Rattle.std.specs.Int.{int_max, int_min}
-use Rattle.scram_types.specs.declared.flights.Row.{Row}
-use Rattle.scram_types.specs.declared.flights.World.{World}
+use Rattle.scram_types.specs.declared.rows.Row.{Row}
+use Rattle.scram_types.specs.declared.rows.World.{World}
 use Rattle.flight_facts.specs.declared.extremes.Extremes.{Extremes}
 use Rattle.flight_facts.specs.declared.extremes.Quantity.{Quantity}
 use Rattle.flight_facts.specs.declared.extremes.Quantity.TheVariants.{Altitude, Climb, Heading, Bank}

@@ -1,6 +1,6 @@
 -- Gaps: rows on end in which an application neither ran nor was off.
 use Rattle.std.specs.Prelude.{ℕ, zero, suc, ◌+◌, Bool, true, false, List, [], ◌∷◌, ◌++◌, codes, decimal, nat_lt, Option, Some, None, if◌then◌else◌}
-use Rattle.scram_types.specs.declared.flights.Row.{Row}
+use Rattle.scram_types.specs.declared.rows.Row.{Row}
 use Rattle.flight_facts.specs.Acts.{act_of, act_word}
 use Rattle.flight_facts.specs.declared.acts.ActWord.{ActWord}
 use Rattle.flight_facts.specs.declared.acts.ActWord.TheVariants.{Ran, Halting, Preparing, Initialising, Held, Off, Lost}

@@ -2,7 +2,7 @@
 use Rattle.std.specs.Prelude.{ℕ, pos, ◌-◌, ◌-ℤ◌, List, Option, Some, None, codes}
 use Rattle.std.specs.Fmt.{signed_decimal}
 use Rattle.scram_types.specs.Specification.{Parts, bound_in, greatest_bound_in}
-use Rattle.scram_types.specs.declared.flights.Report.{Report}
+use Rattle.scram_types.specs.declared.rows.Report.{Report}
 use Rattle.scram_types.specs.declared.ids.ConfId.{ConfId}
 
 -- the bound on a reconfiguration to a target; where it is unfinished the greatest one from its source

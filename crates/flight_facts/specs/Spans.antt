@@ -1,7 +1,7 @@
 -- Lanes, in which each row of a flight is shown, and spans of rows that are shown alike.
 use Rattle.std.specs.Prelude.{ℕ, zero, suc, ◌+◌, ◌<◌, ◌==◌, ◌&&◌, Bool, true, false, List, [], ◌∷◌, drop, slice_get, slice_index, Option, Some, None, option_and_then, ⊤, if◌then◌else◌}
 use Rattle.scram_types.specs.Bits.{has_bit}
-use Rattle.scram_types.specs.declared.flights.Row.{Row}
+use Rattle.scram_types.specs.declared.rows.Row.{Row}
 use Rattle.scram_types.specs.declared.ids.ConfId.{ConfId}
 use Rattle.scram_types.specs.declared.ids.ProcId.{ProcId}
 use Rattle.scram_types.specs.declared.orders.Act.{Act}

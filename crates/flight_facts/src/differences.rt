@@ -2,7 +2,7 @@
 
 ghost use Rattle.std.specs.Prelude.{◌≡◌, ◌+◌, ◌*◌, ◌≤◌, ◌++◌, ◌||◌, [], length, codes, if◌then◌else◌};
 ghost use Rattle.scram_types.specs.declared.limits.TheConstants.{MAX_LINE_BYTES};
-ghost use Rattle.flight_facts.specs.Differences.{difference_text, have_changed, is_any, listed, listed_after, proc_change, procs_changed, value_change, values_changed};
+ghost use Rattle.flight_facts.specs.Differences.{difference_text, have_changed, is_any, comma_joined, comma_joined_after, proc_change, procs_changed, value_change, values_changed};
 
 use scram_types::{Env, Factor, Proc, Spec};
 use trace_text::lines::Line;
@@ -60,7 +60,7 @@ fn has_proc_changed(spec: &Spec, before: u8, after: u8) -> bool
 // Adds the factors whose values differ, and returns whether there is one.
 fn add_values(line: &mut Line, spec: &Spec, before: &[u8; 6], after: &[u8; 6]) -> bool
     requires { length line.old + 204 ≤ MAX_LINE_BYTES }
-    ensures text { line.new ≡ line.old ++ listed (values_changed spec.now.factors 0 before.now after.now) }
+    ensures text { line.new ≡ line.old ++ comma_joined (values_changed spec.now.factors 0 before.now after.now) }
     ensures any { result ≡ is_any (values_changed spec.now.factors 0 before.now after.now) }
     ensures short { length line.new ≤ length line.old + 204 }
 {
@@ -77,7 +77,7 @@ fn add_values(line: &mut Line, spec: &Spec, before: &[u8; 6], after: &[u8; 6]) -
 // Adds the processors whose states differ behind what differs so far, and returns whether anything differs.
 fn add_procs(line: &mut Line, spec: &Spec, values: bool, before: u8, after: u8) -> bool
     requires { length line.old + 144 ≤ MAX_LINE_BYTES }
-    ensures text { line.new ≡ line.old ++ listed_after values (procs_changed spec.now.procs before after) }
+    ensures text { line.new ≡ line.old ++ comma_joined_after values (procs_changed spec.now.procs before after) }
     ensures any { result ≡ (values || is_any (procs_changed spec.now.procs before after)) }
     ensures short { length line.new ≤ length line.old + 144 }
 {

@@ -2,8 +2,8 @@
 use Rattle.std.specs.Prelude.{ℕ, List, ◌++◌, codes, decimal}
 use Rattle.scram_types.specs.Lookups.{conf_name}
 use Rattle.scram_types.specs.Specification.{Parts}
-use Rattle.scram_types.specs.declared.flights.Report.{Report}
-use Rattle.scram_types.specs.declared.flights.Row.{Row}
+use Rattle.scram_types.specs.declared.rows.Report.{Report}
+use Rattle.scram_types.specs.declared.rows.Row.{Row}
 use Rattle.scram_doc.specs.declared.fault.DocFault.{DocFault}
 use Rattle.fault_script.specs.declared.assumption.Outside.{Outside}
 use Rattle.fault_script.specs.declared.assumption.OutsideKind.{OutsideKind}

@@ -1,7 +1,7 @@
 -- What is printed of a flight.
 use Rattle.std.specs.Prelude.{ℕ, List}
-use Rattle.scram_types.specs.declared.flights.Report.{Report}
-use Rattle.scram_types.specs.declared.flights.Row.{Row}
+use Rattle.scram_types.specs.declared.rows.Report.{Report}
+use Rattle.scram_types.specs.declared.rows.Row.{Row}
 use Rattle.scram_types.specs.Specification.{Parts}
 use Rattle.coverage_check.specs.Missions.{MissionParts}
 use Rattle.frame_model.specs.Flights.{reports_of, rows_of}

@@ -1,7 +1,7 @@
 -- The greatest gap of the applications from one on.
 use Rattle.std.proofs.Common.{◌≡◌, ◌∙◌, ◌<◌, ◌≤◌, ◌+◌, ◌-◌, ℕ, zero, suc, List, [], ◌∷◌, arith, drop, length, refl, sym}
 use Rattle.std.specs.Prelude.{Option}
-use Rattle.scram_types.specs.declared.flights.Row.{Row}
+use Rattle.scram_types.specs.declared.rows.Row.{Row}
 use Rattle.scram_types.specs.declared.specification.AppSpec.{AppSpec}
 use Rattle.flights_form.specs.declared.facts.AppGap.{AppGap}
 use Rattle.flights_form.specs.Facts.{gap_of_app, greater_gap, greatest_gap}

@@ -4,8 +4,8 @@ use Rattle.std.proofs.lemmas.Int.{ints}
 use Rattle.std.specs.Prelude.{Option, Some, None, int_lt, nat_lt, slice_get, option_map, if◌then◌else◌}
 use Rattle.scram_types.specs.Lookups.{app_id}
 use Rattle.scram_types.specs.Specification.{Parts}
-use Rattle.scram_types.specs.declared.flights.Report.{Report}
-use Rattle.scram_types.specs.declared.flights.Row.{Row}
+use Rattle.scram_types.specs.declared.rows.Report.{Report}
+use Rattle.scram_types.specs.declared.rows.Row.{Row}
 use Rattle.scram_types.specs.declared.specification.AppSpec.{AppSpec}
 use Rattle.flight_facts.specs.declared.gaps.Gap.{Gap}
 use Rattle.flight_facts.specs.Gaps.{longest_gap}

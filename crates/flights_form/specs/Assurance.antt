@@ -2,7 +2,7 @@
 use Rattle.std.specs.Prelude.{◌≡◌, ℕ, ℤ, ◌<◌, ◌≤◌, ◌-◌, pos, ◌-ℤ◌, ◌≤ℤ◌, List, [], length, slice_get, Option, Some, Ok}
 use Rattle.scram_types.specs.Scripts.{ScriptParts}
 use Rattle.scram_types.specs.Specification.{Parts, bound_in}
-use Rattle.scram_types.specs.declared.flights.Report.{Report}
+use Rattle.scram_types.specs.declared.rows.Report.{Report}
 use Rattle.scram_types.specs.declared.ids.ConfId.{ConfId}
 use Rattle.scram_io.specs.Outside.{History}
 use Rattle.fault_script.specs.Reading.{script_of}

@@ -3,8 +3,8 @@ use Rattle.std.proofs.Common.{◌≡◌, ◌∙◌, ℕ, ◌<◌, refl, ap, leng
 use Rattle.std.specs.Prelude.{ℤ, Option, Some, None, IfSome, option_and_then, slice_get}
 use Rattle.scram_types.specs.declared.ids.ConfId.{ConfId}
 use Rattle.scram_types.specs.declared.ids.ProcId.{ProcId}
-use Rattle.scram_types.specs.declared.flights.Env.{Env}
-use Rattle.scram_types.specs.declared.flights.Row.{Row}
+use Rattle.scram_types.specs.declared.rows.Env.{Env}
+use Rattle.scram_types.specs.declared.rows.Row.{Row}
 use Rattle.scram_types.specs.declared.orders.Act.{Act}
 use Rattle.scram_types.specs.declared.orders.KMode.{KMode}
 use Rattle.scram_types.specs.declared.orders.Order.{Order}

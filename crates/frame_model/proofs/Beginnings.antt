@@ -4,8 +4,8 @@ use Rattle.std.specs.Prelude.{Option, Some, None, filter, map, nat_lt, if◌then
 use Rattle.std.proofs.lemmas.List.{map-append}
 use Rattle.std.proofs.lemmas.List.Elements.{filter-append}
 use Rattle.scram_types.specs.declared.ids.ConfId.{ConfId}
-use Rattle.scram_types.specs.declared.flights.Report.{Report}
-use Rattle.scram_types.specs.declared.flights.Row.{Row}
+use Rattle.scram_types.specs.declared.rows.Report.{Report}
+use Rattle.scram_types.specs.declared.rows.Row.{Row}
 use Rattle.scram_types.specs.Specification.{Parts}
 use Rattle.scram_types.proofs.Naturals.{not_below_test, below_test}
 use Rattle.frame_model.specs.declared.readings.Reading.{Reading}

@@ -3,7 +3,7 @@ use Rattle.std.proofs.Common.{◌≡◌, ◌∙◌, ℕ, zero, suc, ◌+◌, ◌
 use mathlib.Core.Logic.{inl, inr}
 use Rattle.std.specs.Prelude.{ℤ, pos, Option, Some, None, slice_index_or}
 use Rattle.std.proofs.lemmas.List.{get_or_append_left, get_or-append-add, length-append}
-use Rattle.scram_types.specs.declared.flights.Env.{Env}
+use Rattle.scram_types.specs.declared.rows.Env.{Env}
 use Rattle.scram_types.specs.declared.ids.ProcId.{ProcId}
 use Rattle.scram_types.specs.declared.specification.Place.{Place}
 use Rattle.scram_types.specs.Eights.{eight}

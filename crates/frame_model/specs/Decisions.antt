@@ -1,7 +1,7 @@
 -- What the kernel decides at the start of a frame.
 use Rattle.std.specs.Prelude.{ℕ, ◌-◌, ◌==◌, Bool, nat_lt, Option, Some, None, if◌then◌else◌}
 use Rattle.scram_types.specs.declared.ids.ConfId.{ConfId}
-use Rattle.scram_types.specs.declared.flights.Env.{Env}
+use Rattle.scram_types.specs.declared.rows.Env.{Env}
 use Rattle.scram_types.specs.declared.orders.KMode.{KMode}
 use Rattle.scram_types.specs.declared.orders.KMode.TheVariants.{Stable, Moving}
 use Rattle.scram_types.specs.declared.specification.Policy.{Policy}

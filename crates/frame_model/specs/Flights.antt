@@ -4,8 +4,8 @@ use Rattle.std.specs.Option.{option_map_or}
 use Rattle.scram_types.specs.Eights.{eight}
 use Rattle.scram_types.specs.Searches.{listed_below}
 use Rattle.scram_types.specs.declared.ids.ProcId.{ProcId}
-use Rattle.scram_types.specs.declared.flights.Row.{Row}
-use Rattle.scram_types.specs.declared.flights.Report.{Report}
+use Rattle.scram_types.specs.declared.rows.Row.{Row}
+use Rattle.scram_types.specs.declared.rows.Report.{Report}
 use Rattle.scram_types.specs.declared.orders.KMode.{KMode}
 use Rattle.scram_types.specs.Scripts.{ScriptParts}
 use Rattle.scram_types.specs.Specification.{Parts}

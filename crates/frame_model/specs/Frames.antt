@@ -1,8 +1,8 @@
 -- What a frame makes of a system and its input.
 use Rattle.std.specs.Prelude.{ℕ, suc, Bool, bit_and, bit_or}
 use Rattle.std.specs.Int.{bit_not, w8}
-use Rattle.scram_types.specs.declared.flights.Env.{Env}
-use Rattle.scram_types.specs.declared.flights.Row.{Row}
+use Rattle.scram_types.specs.declared.rows.Env.{Env}
+use Rattle.scram_types.specs.declared.rows.Row.{Row}
 use Rattle.scram_types.specs.Specification.{Parts}
 use Rattle.scram_types.specs.Bits.{has_bit}
 use Rattle.fault_script.specs.declared.inputs.Input.{Input}

@@ -4,9 +4,9 @@ use Rattle.scram_types.specs.Lookups.{kind_of_app, place_of}
 use Rattle.scram_types.specs.Eights.{eight}
 use Rattle.scram_types.specs.declared.ids.ProcId.{ProcId}
 use Rattle.scram_types.specs.declared.ids.Mode.{Mode}
-use Rattle.scram_types.specs.declared.flights.Env.{Env}
-use Rattle.scram_types.specs.declared.flights.Row.{Row}
-use Rattle.scram_types.specs.declared.flights.World.{World}
+use Rattle.scram_types.specs.declared.rows.Env.{Env}
+use Rattle.scram_types.specs.declared.rows.Row.{Row}
+use Rattle.scram_types.specs.declared.rows.World.{World}
 use Rattle.scram_types.specs.declared.orders.Act.{Act}
 use Rattle.scram_types.specs.declared.orders.Act.TheVariants as act
 use Rattle.scram_types.specs.declared.orders.KMode.{KMode}

@@ -5,12 +5,12 @@
 
 pub mod acts;
 pub mod decisions;
-pub mod flights;
 pub mod frames;
 pub mod laws;
 mod outcomes;
 pub mod phases;
 pub mod readings;
+pub mod rows;
 pub mod sights;
 pub mod systems;
 pub mod tasks;
@@ -18,10 +18,10 @@ pub mod tasks;
 pub use acts::{running, runs};
 pub use decisions::decide;
 pub use fault_script::Input;
-pub use flights::rows;
 pub use frames::{frame, has_arrived, world_in};
 pub use outcomes::act_of_order;
 pub use phases::{Phase, phase_at, target};
 pub use readings::{Reading, close, read_row, reports};
+pub use rows::rows;
 pub use systems::Sys;
 pub use tasks::{Task, order_of, tasks_of};

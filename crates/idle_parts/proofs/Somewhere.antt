@@ -2,7 +2,7 @@
 use Rattle.std.proofs.Common.{◌≡◌, ◌∙◌, ap, sym, Bool, true, false}
 use Rattle.std.specs.Prelude.{Option, Some, None, is_some}
 use Rattle.scram_types.specs.Specification.{IsSpec, Parts}
-use Rattle.scram_types.specs.declared.flights.Env.{Env}
+use Rattle.scram_types.specs.declared.rows.Env.{Env}
 use Rattle.scram_types.proofs.Booleans.{and_left, and_right, and_true, by_bool, true_false}
 use Rattle.scram_types.proofs.Searches.{any_below_found, any_below_is}
 use Rattle.choice_table.specs.Environments.{IsEnv, in_scope}

@@ -1,6 +1,6 @@
 -- What holds in some environment in scope.
 use Rattle.std.specs.Prelude.{Bool}
-use Rattle.scram_types.specs.declared.flights.Env.{Env}
+use Rattle.scram_types.specs.declared.rows.Env.{Env}
 use Rattle.scram_types.specs.Searches.{any_below}
 use Rattle.scram_types.specs.Specification.{Parts}
 use Rattle.choice_table.specs.Numbering.{environments}

@@ -2,7 +2,7 @@
 use Rattle.std.specs.Prelude.{ℕ, not, ◌==◌, List, [], ◌∷◌, length, if◌then◌else◌}
 use Rattle.scram_types.specs.Bits.{bits_below, has_bit}
 use Rattle.scram_types.specs.Specification.{Parts}
-use Rattle.scram_types.specs.declared.flights.Env.{Env}
+use Rattle.scram_types.specs.declared.rows.Env.{Env}
 use Rattle.scram_types.specs.declared.specification.Demand.{Demand}
 use Rattle.scram_types.specs.declared.specification.Want.{Want}
 

@@ -8,9 +8,9 @@ use Rattle.std.proofs.lemmas.Option.{slice_get_within}
 use lib.Signed.{mag}
 use Rattle.scram_types.specs.Lookups.{conf_named, number_from, proc_id, proc_named, value_named}
 use Rattle.scram_types.specs.Specification.{Each, IsSpec, Parts, bound_in, greatest_bound_in, mode_in}
-use Rattle.scram_types.specs.declared.flights.Report.{Report}
-use Rattle.scram_types.specs.declared.flights.Row.{Row}
-use Rattle.scram_types.specs.declared.flights.World.{World}
+use Rattle.scram_types.specs.declared.rows.Report.{Report}
+use Rattle.scram_types.specs.declared.rows.Row.{Row}
+use Rattle.scram_types.specs.declared.rows.World.{World}
 use Rattle.scram_types.specs.declared.ids.ConfId.{ConfId}
 use Rattle.scram_types.specs.declared.ids.Mode.{Mode}
 use Rattle.scram_types.specs.declared.ids.ProcId.{ProcId}

@@ -4,8 +4,8 @@ use mathlib.Core.Logic.{inl, inr}
 use Rattle.std.specs.Prelude.{codes, nat_lt}
 use Rattle.std.proofs.lemmas.List.{append_cancel_left}
 use Rattle.scram_types.specs.Specification.{Each, IsSpec, Parts}
-use Rattle.scram_types.specs.declared.flights.Report.{Report}
-use Rattle.scram_types.specs.declared.flights.Row.{Row}
+use Rattle.scram_types.specs.declared.rows.Report.{Report}
+use Rattle.scram_types.specs.declared.rows.Row.{Row}
 use Rattle.scram_types.proofs.Naturals.{below_or_at}
 use Rattle.flight_facts.specs.declared.extremes.Quantity.TheVariants.{Altitude, Heading}
 use Rattle.flight_facts.specs.declared.spans.Lane.TheVariants.{Factor as InFactor, Processor as InProcessor, Application as InApplication}

@@ -4,7 +4,7 @@ use Rattle.std.specs.Prelude.{codes, nat_lt, slice_get, slice_index, ifâ—Œthenâ—
 use Rattle.std.specs.Option.{option_map_or}
 use Rattle.std.proofs.lemmas.List.{append_cancel_left, append_cancel_right}
 use Rattle.scram_types.specs.Specification.{Each, IsSpec, Parts}
-use Rattle.scram_types.specs.declared.flights.Report.{Report}
+use Rattle.scram_types.specs.declared.rows.Report.{Report}
 use Rattle.form_base.specs.Texts.{texts_below}
 use Rattle.flight_facts.specs.Margins.{bound_of}
 use Rattle.picture_form.specs.Laws.{IsReportDrawn, drawn_in, drawn_titles}

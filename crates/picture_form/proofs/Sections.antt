@@ -4,8 +4,8 @@ use Rattle.std.specs.Prelude.{◌==◌, ◌&&◌, codes, nat_lt, slice_get, if�
 use Rattle.std.specs.Option.{option_map_or}
 use Rattle.scram_types.specs.Specification.{Each, IsBound, IsSpec, Parts, bound_in, greater_of, greatest_bound_from}
 use Rattle.scram_types.specs.Lookups.{conf_name}
-use Rattle.scram_types.specs.declared.flights.Report.{Report}
-use Rattle.scram_types.specs.declared.flights.Row.{Row}
+use Rattle.scram_types.specs.declared.rows.Report.{Report}
+use Rattle.scram_types.specs.declared.rows.Row.{Row}
 use Rattle.scram_types.specs.declared.ids.ConfId.{ConfId}
 use Rattle.scram_types.specs.declared.specification.Bound.{Bound}
 use Rattle.trace_text.specs.Names.{conf_or_dash}

@@ -3,7 +3,7 @@ use Rattle.std.specs.Prelude.{ℕ, ℤ, ◌+◌, ◌-◌, ◌*◌, ◌/◌, ◌=
 use Rattle.std.specs.Fmt.{signed_decimal}
 use Rattle.std.specs.Int.{int_gap}
 use Rattle.std.specs.Option.{option_map_or}
-use Rattle.scram_types.specs.declared.flights.Row.{Row}
+use Rattle.scram_types.specs.declared.rows.Row.{Row}
 use Rattle.flight_facts.specs.Extremes.{extremes_of, quantity_of}
 use Rattle.flight_facts.specs.Spans.{row_before}
 use Rattle.flight_facts.specs.declared.extremes.Extremes.{Extremes}

@@ -1,7 +1,7 @@
 -- The lanes of a picture.
 use Rattle.std.specs.Prelude.{ℕ, ◌+◌, List, ◌++◌, length, codes}
 use Rattle.scram_types.specs.Specification.{Parts}
-use Rattle.scram_types.specs.declared.flights.Row.{Row}
+use Rattle.scram_types.specs.declared.rows.Row.{Row}
 use Rattle.form_base.specs.Texts.{texts_below}
 use Rattle.picture_form.specs.Boxes.{name_text}
 use Rattle.picture_form.specs.Sheets.{lane_of, lane_y, lanes_of}

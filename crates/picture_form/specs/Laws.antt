@@ -2,9 +2,9 @@
 use Rattle.std.specs.Prelude.{◌≡◌, ◌<◌, ◌^◌, ℕ, true, List, Option, filter, length, map, nat_lt, option_map, slice_get, slice_index, Some}
 use lib.Signed.{mag}
 use Rattle.scram_types.specs.Specification.{Each, IsSpec, Parts}
-use Rattle.scram_types.specs.declared.flights.Flown.{Flown}
-use Rattle.scram_types.specs.declared.flights.Report.{Report}
-use Rattle.scram_types.specs.declared.flights.Row.{Row}
+use Rattle.scram_types.specs.declared.rows.Flown.{Flown}
+use Rattle.scram_types.specs.declared.rows.Report.{Report}
+use Rattle.scram_types.specs.declared.rows.Row.{Row}
 use Rattle.scram_types.specs.declared.specification.AppSpec.{AppSpec}
 use Rattle.trace_text.specs.Flights.{IsActShown, IsFlight}
 use Rattle.trace_files.specs.Traces.{SaysTrace}

@@ -1,8 +1,8 @@
 -- A trace as a picture.
 use Rattle.std.specs.Prelude.{ℕ, ◌+◌, ◌*◌, List, ◌++◌, length, codes, decimal}
 use Rattle.scram_types.specs.Specification.{Parts}
-use Rattle.scram_types.specs.declared.flights.Report.{Report}
-use Rattle.scram_types.specs.declared.flights.Row.{Row}
+use Rattle.scram_types.specs.declared.rows.Report.{Report}
+use Rattle.scram_types.specs.declared.rows.Row.{Row}
 use Rattle.flight_facts.specs.declared.extremes.Quantity.{Quantity}
 use Rattle.flight_facts.specs.declared.extremes.Quantity.TheVariants.{Altitude, Climb, Heading, Bank}
 use Rattle.flight_facts.specs.declared.spans.Lane.TheVariants.{Configuration}

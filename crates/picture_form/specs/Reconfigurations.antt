@@ -3,7 +3,7 @@ use Rattle.std.specs.Prelude.{ℕ, ◌+◌, ◌-◌, min, List, [], ◌++◌, sl
 use Rattle.std.specs.Option.{option_map_or}
 use Rattle.scram_types.specs.Lookups.{conf_name}
 use Rattle.scram_types.specs.Specification.{Parts}
-use Rattle.scram_types.specs.declared.flights.Report.{Report}
+use Rattle.scram_types.specs.declared.rows.Report.{Report}
 use Rattle.scram_types.specs.declared.ids.ConfId.{ConfId}
 use Rattle.trace_text.specs.Names.{conf_or_dash}
 use Rattle.trace_text.specs.Text.{length_text}

@@ -1,7 +1,7 @@
 -- Where things stand in a picture, in pixels.
 use Rattle.std.specs.Prelude.{ℕ, ◌+◌, ◌*◌, ◌≤◌, ◌/◌, ◌-◌, max, List, length, nat_lt, if◌then◌else◌}
 use Rattle.scram_types.specs.Specification.{Parts}
-use Rattle.scram_types.specs.declared.flights.Row.{Row}
+use Rattle.scram_types.specs.declared.rows.Row.{Row}
 use Rattle.flight_facts.specs.declared.spans.Lane.{Lane}
 use Rattle.flight_facts.specs.declared.spans.Lane.TheVariants.{Factor, Processor, Application}
 use Rattle.picture_form.specs.declared.sheets.Sheet.{Sheet}

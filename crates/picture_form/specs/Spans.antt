@@ -4,7 +4,7 @@ use Rattle.std.specs.Option.{option_map_or}
 use Rattle.scram_types.specs.Bits.{has_bit}
 use Rattle.scram_types.specs.Lookups.{app_name, conf_name, factor_name, kind_of_app, proc_name, value_name}
 use Rattle.scram_types.specs.Specification.{Parts}
-use Rattle.scram_types.specs.declared.flights.Row.{Row}
+use Rattle.scram_types.specs.declared.rows.Row.{Row}
 use Rattle.scram_types.specs.declared.ids.ConfId.{ConfId}
 use Rattle.scram_types.specs.declared.orders.Act.{Act}
 use Rattle.scram_types.specs.declared.orders.Act.TheVariants as act

@@ -10,7 +10,7 @@ use Rattle.serde_json.specs.Data.{string}
 use Rattle.serde_json.specs.Find.{as_i64, of_integer}
 use Rattle.scram_doc.specs.Paths.{member_path}
 use Rattle.scram_doc.specs.Values.{int_within}
-use Rattle.scram_types.specs.declared.flights.Goal.{Goal}
+use Rattle.scram_types.specs.declared.rows.Goal.{Goal}
 use Rattle.scram_types.specs.declared.ids.AppId.{AppId}
 use Rattle.scram_types.specs.declared.ids.ConfId.{ConfId}
 use Rattle.scram_types.specs.declared.specification.AppSpec.{AppSpec}

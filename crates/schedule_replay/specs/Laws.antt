@@ -3,7 +3,7 @@ use Rattle.std.specs.Prelude.{◌≡◌, ◌≢◌, List, Result, Err}
 use Rattle.bank_words.specs.declared.events.Event.{Event}
 use Rattle.scram_types.specs.Scripts.{ScriptParts}
 use Rattle.scram_types.specs.Specification.{Parts}
-use Rattle.scram_types.specs.declared.flights.Flown.{Flown}
+use Rattle.scram_types.specs.declared.rows.Flown.{Flown}
 use Rattle.schedule_replay.specs.declared.replays.ReplayError.{ReplayError}
 use Rattle.schedule_replay.specs.declared.replays.ReplayError.TheVariants.{NoMemory}
 use Rattle.schedule_replay.specs.Replaying.{AnswersReplay}

@@ -1,7 +1,7 @@
 -- The reconfigurations that rows show lie within the flight, and what is printed of a flight is read.
 use Rattle.std.proofs.Common.{◌≡◌, ℕ, zero, suc, ◌<◌, ◌≤◌, ◌+◌, Bool, true, false, cond, List, [], ◌∷◌, ◌++◌, length, arith, refl, subst}
 use Rattle.std.specs.Prelude.{IfSome, Option, Some, None, option_map}
-use Rattle.scram_types.specs.declared.flights.Row.{Row}
+use Rattle.scram_types.specs.declared.rows.Row.{Row}
 use Rattle.scram_types.specs.declared.ids.ConfId.{ConfId}
 use Rattle.scram_types.specs.declared.limits.TheConstants.{MAX_FRAMES}
 use Rattle.scram_types.specs.declared.orders.Act.{Act}

@@ -3,5 +3,6 @@ pub mod Indexes
 pub mod Numbering
 pub mod Parsed
 pub mod Plain
+pub mod QuotedNames
 pub mod ReadBack
 pub mod TextLengths

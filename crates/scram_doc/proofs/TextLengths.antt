@@ -1,12 +1,9 @@
--- How long the text of a value may be. Each byte of a text takes at most six, and a text that spells a name stands as it is,
--- between two quotes.
+-- How long the text of a value may be. Each byte of a text takes at most six.
 use Rattle.std.proofs.Common.{◌≡◌, ◌+◌, ◌*◌, ◌≤◌, ◌<◌, ◌^◌, ◌/◌, ◌%◌, ℕ, suc, Bool, true, false, cond, List, [], ◌∷◌, ◌++◌, length, map, arith, refl}
-use Rattle.std.specs.Prelude.{◌&&◌, nat_le, nat_lt, slice_get, Option, Some, None}
+use Rattle.std.specs.Prelude.{◌&&◌, nat_lt, slice_get, Option, Some, None}
 use Rattle.std.specs.Option.{option_map_or}
-use Rattle.std.specs.Char.{digit_char, is_ascii_lowercase}
+use Rattle.std.specs.Char.{digit_char}
 use Rattle.std.specs.List.{list_all}
-use Rattle.std.proofs.lemmas.Bool.{and_parts, leb-true}
-use Rattle.std.proofs.lemmas.Bool.Decides.{nat_tests}
 use Rattle.std.proofs.lemmas.Fmt.{length-decimal-le}
 use Rattle.std.proofs.lemmas.List.{length-append}
 use Rattle.json.specs.Print.{escape, escape_byte, escape_letter, quoted}
@@ -15,34 +12,15 @@ use Rattle.serde_json.specs.View.{items_of}
 use Rattle.serde_json.specs.Written.{compact_text, items_text, members_text, number_text}
 use Rattle.scram_doc.specs.Canonical.{count_data}
 use Rattle.scram_doc.specs.Names.{is_letter_of_name, is_spelled_name}
-
--- a byte of a name stands in a text as it is
-byte_as_is : (x : ℕ) → is_letter_of_name x ≡ true → escape_byte x ≡ x ∷ []
-unfolding escape_byte
-byte_as_is x named = grind (arith, nat_tests)
-
-as_is : (text : List ℕ) → list_all is_letter_of_name text ≡ true → escape text ≡ text
-as_is [] named = refl
-as_is (x ∷ xs) named =
-    let parts = and_parts (is_letter_of_name x) (list_all is_letter_of_name xs) named in
-    rw (byte_as_is x parts.0, as_is xs parts.1) refl
+use Rattle.scram_doc.proofs.QuotedNames.{name_short, quoted_letters, quoted_name}
 
 -- the bytes and two quotes
 pub quoted_length : (text : List ℕ) → list_all is_letter_of_name text ≡ true → length (quoted text) ≡ length text + 2
-quoted_length text named = rw (as_is text named) (omega (arith, length-append text (34 ∷ [])))
-
-first_byte : (x : ℕ) → is_ascii_lowercase x ≡ true → is_letter_of_name x ≡ true
-first_byte x small = grind (arith, nat_tests)
+quoted_length text named = rw (quoted_letters text named) (omega (arith, length-append text (34 ∷ [])))
 
 -- a name of at most 16 bytes and two quotes
 pub name_length : (text : List ℕ) → is_spelled_name text ≡ true → length (quoted text) ≤ 18
-name_length [] named = omega arith
-name_length (x ∷ xs) named =
-    let parts = and_parts (is_ascii_lowercase x && list_all is_letter_of_name xs) (nat_le (length (x ∷ xs)) 16) named in
-    let bytes = and_parts (is_ascii_lowercase x) (list_all is_letter_of_name xs) parts.0 in
-    let short = leb-true (length (x ∷ xs)) 16 parts.1 in
-    let spelled : list_all is_letter_of_name (x ∷ xs) ≡ true = rw (first_byte x bytes.0) bytes.1 in
-    omega (arith, quoted_length (x ∷ xs) spelled, short)
+name_length text named = rw (quoted_name text named) (omega (arith, length-append text (34 ∷ []), name_short text named))
 
 -- what is not there has no name, and so two quotes alone
 pub found_length : {A : Type 0} (name : A → List ℕ) (found : Option A) → ((x : A) → found ≡ Some x → is_spelled_name (name x) ≡ true) → length (quoted (option_map_or name found [])) ≤ 18

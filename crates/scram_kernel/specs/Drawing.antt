@@ -2,7 +2,7 @@
 use Rattle.std.specs.Prelude.{ℕ, suc, ◌/◌, ◌==◌, ℤ, Bool, List, Option, Some, None, if◌then◌else◌}
 use Rattle.scram_types.specs.Eights.{eight}
 use Rattle.scram_types.specs.Specification.{Parts}
-use Rattle.scram_types.specs.declared.flights.Row.{Row}
+use Rattle.scram_types.specs.declared.rows.Row.{Row}
 use Rattle.scram_types.specs.declared.ids.ProcId.{ProcId}
 use Rattle.scram_types.specs.declared.orders.Act.{Act}
 use Rattle.bank_words.specs.declared.images.KernelImage.{KernelImage}

@@ -1,8 +1,8 @@
 -- What the kernel says of a frame, by the system before it or by the row of the frame before.
 use Rattle.std.specs.Prelude.{◌+◌, List, Option}
 use Rattle.scram_types.specs.Specification.{Parts}
-use Rattle.scram_types.specs.declared.flights.Env.{Env}
-use Rattle.scram_types.specs.declared.flights.Row.{Row}
+use Rattle.scram_types.specs.declared.rows.Env.{Env}
+use Rattle.scram_types.specs.declared.rows.Row.{Row}
 use Rattle.scram_types.specs.declared.ids.ProcId.{ProcId}
 use Rattle.bank_words.specs.declared.images.KernelImage.{KernelImage}
 use Rattle.frame_model.specs.declared.systems.Sys.{Sys}

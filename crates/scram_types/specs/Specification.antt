@@ -6,7 +6,7 @@ use Rattle.scram_types.specs.Numbers.{minus}
 use Rattle.scram_types.specs.declared.ids.AppId.{AppId}
 use Rattle.scram_types.specs.declared.ids.ConfId.{ConfId}
 use Rattle.scram_types.specs.declared.ids.Mode.{Mode}
-use Rattle.scram_types.specs.declared.flights.Goal.{Goal}
+use Rattle.scram_types.specs.declared.rows.Goal.{Goal}
 use Rattle.scram_types.specs.declared.specification.Proc.{Proc}
 use Rattle.scram_types.specs.declared.specification.ModeSpec.{ModeSpec}
 use Rattle.scram_types.specs.declared.specification.AppSpec.{AppSpec}

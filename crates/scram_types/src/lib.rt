@@ -3,7 +3,6 @@
 #![tactic(auto)]
 
 pub mod bits;
-pub mod flights;
 pub mod ids;
 pub mod limits;
 pub mod lists;
@@ -14,10 +13,10 @@ pub mod names;
 pub mod numbers;
 pub mod orders;
 pub mod ranges;
+pub mod rows;
 pub mod scripts;
 pub mod specification;
 
-pub use flights::{Area, Env, Flown, Goal, Image, Report, Row, World};
 pub use ids::{AppId, ConfId, FactorId, KindId, Mode, ProcId};
 pub use lists::List;
 pub use memory::NoMemory;
@@ -25,6 +24,7 @@ pub use mode_lists::Modes;
 pub use names::Name;
 pub use orders::{Act, KMode, Order};
 pub use ranges::Range;
+pub use rows::{Area, Env, Flown, Goal, Image, Report, Row, World};
 pub use scripts::{Change, HaltAt, RestartAt, Script};
 pub use specification::{
     AppSpec, Bound, Choice, Conf, Demand, Factor, Invariant, ModeSpec, Place, Policy, Precondition,

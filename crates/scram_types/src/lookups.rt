@@ -3,9 +3,9 @@
 ghost use Rattle.std.specs.Prelude.{◌≡◌, ◌<◌, ◌≤◌, IfSome, length};
 ghost use Rattle.scram_types.specs.Lookups.{app_name, app_named, conf_name, conf_named, env_before, env_in, factor_name, factor_named, is_on, kind_of_app, mode_of, mode_of_app, number_named, opening_env, place_of, proc_name, proc_named, value_name, value_named};
 
-use crate::flights::{Env, Row};
 use crate::ids::{AppId, ConfId, FactorId, KindId, Mode, ProcId};
 use crate::names::Name;
+use crate::rows::{Env, Row};
 use crate::specification::{Factor, ModeSpec, Place, Spec};
 
 impl Spec {

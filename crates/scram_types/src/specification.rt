@@ -4,11 +4,11 @@ ghost use Rattle.std.specs.Prelude.{◌≡◌, slice_get};
 ghost use Rattle.std.specs.Option.{option_copied};
 ghost use Rattle.scram_types.specs.Specification.{greater_of};
 
-use crate::flights::Goal;
 use crate::ids::{AppId, ConfId, FactorId, KindId, Mode, ProcId};
 use crate::lists::List;
 use crate::mode_lists::Modes;
 use crate::names::Name;
+use crate::rows::Goal;
 
 /// A processor and the load that it can carry, 0 to 1,000,000 load units.
 #[derive(Drop)]

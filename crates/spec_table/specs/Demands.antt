@@ -46,8 +46,8 @@ read_on_app apps at on d =
     Ok (set on a (Some modes))))))))
 
 -- the applications that have to be on: 0 to 8
-abbrev pub read_on : List AppSpec → List ℕ → Data → Result (List (Option (List Mode))) DocFault
-read_on apps at d = chain (list_at 0 8 at d) (λ (ds : Items). folded_from (read_on_app apps) at 0 (replicate 8 None) ds)
+abbrev pub read_modes_on : List AppSpec → List ℕ → Data → Result (List (Option (List Mode))) DocFault
+read_modes_on apps at d = chain (list_at 0 8 at d) (λ (ds : Items). folded_from (read_on_app apps) at 0 (replicate 8 None) ds)
 
 -- the applications that have to be on, as a set
 abbrev pub on_set : List (Option (List Mode)) → ℕ
@@ -59,7 +59,7 @@ read_asked procs apps confs at up down to on off =
     chain (read_procs_set procs 0 (member_path at (codes "up")) up) (λ (up : ℕ).
     chain (read_procs_set procs up (member_path at (codes "down")) down) (λ (down : ℕ).
     chain (read_confs_set confs (member_path at (codes "to")) to) (λ (to : ℕ).
-    chain (read_on apps (member_path at (codes "on")) on) (λ (on : List (Option (List Mode))).
+    chain (read_modes_on apps (member_path at (codes "on")) on) (λ (on : List (Option (List Mode))).
     chain (read_apps_set apps (on_set on) (member_path at (codes "off")) off) (λ (off : ℕ).
     Ok (record { up = up; down = down; to = to; on = on; off = off }))))))
 

@@ -8,7 +8,7 @@ ghost use Rattle.scram_doc.specs.Faults.{Answers};
 ghost use Rattle.scram_doc.specs.Lists.{AllAfter, folded_from};
 ghost use Rattle.spec_members.specs.Found.{AreMembers};
 ghost use Rattle.spec_table.specs.Configurations.{given, read_new_app};
-ghost use Rattle.spec_table.specs.Demands.{on_set, read_asked, read_demand, read_demands, read_on, read_on_app, read_on_mode, read_on_modes};
+ghost use Rattle.spec_table.specs.Demands.{on_set, read_asked, read_demand, read_demands, read_modes_on, read_on_app, read_on_mode, read_on_modes};
 ghost use Rattle.spec_table.specs.Facts.{AreOn, FitsAsked, HasMoreModes, IsNewDemand, IsNewOn, IsOnAfter};
 
 use crate::choices::Wants;
@@ -120,10 +120,10 @@ fn read_on_app(
 }
 
 /// Returns the applications that have to be on, 0 to 8 of them.
-fn read_on(apps: &Numbered<AppSpec, ByName>, v: &Value, at: &Path) -> Result<On, DocFault>
+fn read_modes_on(apps: &Numbered<AppSpec, ByName>, v: &Value, at: &Path) -> Result<On, DocFault>
     requires room { length at.now ≤ 34 }
     requires few { length apps.now ≤ 8 }
-    ensures value { result ≡ read_on apps.now at.now (view v.now) }
+    ensures value { result ≡ read_modes_on apps.now at.now (view v.now) }
     ensures fits { IfOk result (λ on. AreOn apps.now on) }
 {
     let items = list(v, 0, MAX_APPLICATIONS, at)?;
@@ -183,7 +183,7 @@ fn read_asked(
     let down = read_procs_set(procs, up, members.down, &at.member("down"))?;
     let to = read_confs_set(&vocabulary.confs, members.to, &at.member("to"))?;
     let apps = &vocabulary.apps;
-    let on = read_on(apps, members.on, &at.member("on"))?;
+    let on = read_modes_on(apps, members.on, &at.member("on"))?;
     let off = read_apps_set(apps, on_set(&on), members.off, &at.member("off"))?;
     Ok(Asked {
         up,

@@ -10,7 +10,7 @@ use Rattle.scram_types.specs.declared.limits.TheConstants.{MAX_SPECIFICATION_BYT
 use Rattle.scram_types.specs.declared.ids.AppId.{AppId}
 use Rattle.scram_types.specs.declared.ids.ConfId.{ConfId}
 use Rattle.scram_types.specs.declared.ids.Mode.{Mode}
-use Rattle.scram_types.specs.declared.flights.Goal.{Goal}
+use Rattle.scram_types.specs.declared.rows.Goal.{Goal}
 use Rattle.scram_types.specs.declared.specification.AppSpec.{AppSpec}
 use Rattle.scram_types.specs.declared.specification.Bound.{Bound}
 use Rattle.scram_types.specs.declared.specification.Choice.{Choice}

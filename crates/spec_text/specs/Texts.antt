@@ -7,7 +7,7 @@ use Rattle.serde_json.specs.View.{items_of}
 use Rattle.serde_json.specs.Written.{compact_text}
 use Rattle.scram_types.specs.declared.ids.AppId.{AppId}
 use Rattle.scram_types.specs.declared.ids.ConfId.{ConfId}
-use Rattle.scram_types.specs.declared.flights.Goal.{Goal}
+use Rattle.scram_types.specs.declared.rows.Goal.{Goal}
 use Rattle.scram_types.specs.declared.specification.Proc.{Proc}
 use Rattle.scram_types.specs.declared.specification.ModeSpec.{ModeSpec}
 use Rattle.scram_types.specs.declared.specification.AppSpec.{AppSpec}

@@ -1,15 +1,15 @@
 -- What is answered of a specification and a trace that are only looked at, and not judged.
 use Rattle.std.specs.Prelude.{◌≡◌, ◌<◌, ◌^◌, ℕ, List, [], length}
-use Rattle.scram_types.specs.declared.flights.Flown.{Flown}
-use Rattle.scram_types.specs.declared.flights.Report.{Report}
-use Rattle.scram_types.specs.declared.flights.Row.{Row}
+use Rattle.scram_types.specs.declared.rows.Flown.{Flown}
+use Rattle.scram_types.specs.declared.rows.Report.{Report}
+use Rattle.scram_types.specs.declared.rows.Row.{Row}
 use Rattle.scram_types.specs.Specification.{Parts}
 use Rattle.scram_io.specs.Outside.{History}
 use Rattle.form_base.specs.declared.status.TheConstants.{ANSWERED}
 use Rattle.form_base.specs.Answers.{Answer, Gives, WithoutFiles}
 use Rattle.form_base.specs.Assurance.{OfDocument, OfSpecification}
 use Rattle.form_base.specs.Specifications.{AsksSpecification}
-use Rattle.trace_files.specs.declared.flights.Flight.{Flight}
+use Rattle.trace_files.specs.declared.files.Flight.{Flight}
 use Rattle.trace_files.specs.Traces.{AsksTrace, SaysTrace}
 
 -- What is printed of the rows and reports of a flight.

@@ -1,6 +1,6 @@
 -- What is answered of a trace.
 use Rattle.std.specs.Prelude.{◌≡◌, ◌<◌, ◌^◌, ℕ, List, Ok, Err, length}
-use Rattle.scram_types.specs.declared.flights.Flown.{Flown}
+use Rattle.scram_types.specs.declared.rows.Flown.{Flown}
 use Rattle.scram_types.specs.declared.limits.TheConstants.{MAX_TRACE_BYTES}
 use Rattle.scram_types.specs.Specification.{Parts}
 use Rattle.trace_text.specs.declared.rule.TheConstants.{WRONG_END}

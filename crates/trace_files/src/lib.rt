@@ -2,8 +2,8 @@
 #![tactic(auto)]
 
 pub mod documents;
-pub mod flights;
+pub mod files;
 mod lines;
 
 pub use documents::Trace;
-pub use flights::{Flight, TraceFiles, read_flight};
+pub use files::{Flight, TraceFiles, read_flight};

@@ -1,7 +1,7 @@
 -- What is answered with status 0 is assured.
 use Rattle.std.proofs.Common.{◌≡◌, ℕ, List, [], sym}
 use Rattle.std.specs.Prelude.{◌≢◌, Option, Some, None}
-use Rattle.scram_types.specs.declared.flights.Flown.{Flown}
+use Rattle.scram_types.specs.declared.rows.Flown.{Flown}
 use Rattle.scram_types.specs.declared.limits.TheConstants.{MAX_TRACE_BYTES}
 use Rattle.scram_types.specs.Specification.{IsSpec, Parts}
 use Rattle.trace_props.specs.declared.breaks.Broken.{Broken}

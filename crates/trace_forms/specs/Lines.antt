@@ -1,6 +1,6 @@
 -- The lines in which a trace is answered.
 use Rattle.std.specs.Prelude.{ℕ, ◌+◌, List, ◌++◌, codes, decimal}
-use Rattle.scram_types.specs.declared.flights.Flown.{Flown}
+use Rattle.scram_types.specs.declared.rows.Flown.{Flown}
 use Rattle.trace_props.specs.declared.breaks.Broken.{Broken}
 use Rattle.trace_props.specs.Breaks.{property_number}
 use Rattle.form_base.specs.Lines.{counts_text}

@@ -1,7 +1,7 @@
 //! The form `props`: how a finished trace is judged.
 
 ghost use Rattle.std.specs.Prelude.{◌≡◌, ◌⊎◌, ◌∷◌, [], ◌<◌, ◌^◌, ℕ, List, IfOk, length};
-ghost use Rattle.scram_types.specs.declared.flights.Flown.{Flown};
+ghost use Rattle.scram_types.specs.declared.rows.Flown.{Flown};
 ghost use Rattle.form_base.specs.Answers.{WithoutFiles};
 ghost use Rattle.form_base.specs.Endings.{Ends, IsTaken, Prepares};
 ghost use Rattle.form_base.specs.declared.status.TheConstants.{ANSWERED, BROKEN_PROPERTY};

@@ -1,6 +1,6 @@
 -- Phases, orders, acts and rows, and what ties a course's rows to its modes.
 use Rattle.std.specs.Prelude.{◌≡◌, ℕ, suc, ◌+◌, ◌-◌, ◌<◌, ◌≤◌, ◌⊎◌, Bool, true, false, ◌&&◌, Option, Some, None, if◌then◌else◌, nat_eq, nat_lt}
-use Rattle.scram_types.specs.declared.flights.Env.{Env}
+use Rattle.scram_types.specs.declared.rows.Env.{Env}
 use Rattle.scram_types.specs.declared.specification.Place.{Place}
 use Rattle.scram_types.specs.Searches.{least_from, all_below}
 use Rattle.trace_props.proofs.Plans.{Plan, IsAcceptedPlan}

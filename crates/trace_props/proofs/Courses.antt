@@ -1,6 +1,6 @@
 -- Modes, the reading of rows and its reports, over environments and rows as functions of the frame.
 use Rattle.std.specs.Prelude.{◌≡◌, ℕ, zero, suc, ◌+◌, ◌-◌, ◌<◌, ◌≤◌, Bool, true, false, ◌&&◌, Option, Some, None, if◌then◌else◌}
-use Rattle.scram_types.specs.declared.flights.Env.{Env}
+use Rattle.scram_types.specs.declared.rows.Env.{Env}
 use Rattle.trace_props.proofs.Plans.{Plan}
 use Rattle.trace_props.proofs.CourseModes.{CourseMode, course_target, course_is_running, course_decision, course_stable_decision}
 

@@ -2,7 +2,7 @@
 use Rattle.std.proofs.Common.{◌≡◌, ℕ, suc, ◌+◌, ◌-◌, ◌*◌, ◌<◌, ◌≤◌, Bool, true, false, refl, arith, ◌⊎◌, ◌≢◌, sym, ◌∙◌}
 use mathlib.Core.Logic.{inl, inr}
 use Rattle.std.specs.Prelude.{Option, Some, if◌then◌else◌, ◌&&◌}
-use Rattle.scram_types.specs.declared.flights.Env.{Env}
+use Rattle.scram_types.specs.declared.rows.Env.{Env}
 use Rattle.scram_types.proofs.Booleans.{not_false}
 use Rattle.scram_types.proofs.Naturals.{below_or_at}
 use Rattle.trace_props.proofs.Plans.{Plan, IsAcceptedPlan, IsPlanTarget, plan_further, plan_halting, plan_least_bound}

@@ -4,8 +4,8 @@ use mathlib.Core.Logic.{inl, inr}
 use Rattle.std.specs.Prelude.{Option, Some, None, min, slice_get, ◌==◌, ◌&&◌}
 use Rattle.std.proofs.lemmas.Option.{slice_get_past}
 use Rattle.scram_types.specs.declared.ids.ConfId.{ConfId}
-use Rattle.scram_types.specs.declared.flights.Report.{Report}
-use Rattle.scram_types.specs.declared.flights.Row.{Row}
+use Rattle.scram_types.specs.declared.rows.Report.{Report}
+use Rattle.scram_types.specs.declared.rows.Row.{Row}
 use Rattle.scram_types.specs.Specification.{Parts}
 use Rattle.scram_types.proofs.Booleans.{and_left, and_right, true_false, and_true}
 use Rattle.scram_types.proofs.Naturals.{equal, below_or_at, equal_test, low_or_high}

@@ -1,6 +1,6 @@
 -- Since when the environment is that of the row before.
 use Rattle.std.proofs.Common.{◌≡◌, ℕ, zero, suc, ◌+◌, refl, arith, List}
-use Rattle.scram_types.specs.declared.flights.Row.{Row}
+use Rattle.scram_types.specs.declared.rows.Row.{Row}
 use Rattle.trace_props.specs.Judging.{held_by, held_since}
 
 abbrev pub held_before : List Row → ℕ → ℕ

@@ -1,6 +1,6 @@
 -- What a plan says: which configuration is chosen in which environment, and how long phases last.
 use Rattle.std.specs.Prelude.{◌≡◌, ℕ, suc, ◌+◌, ◌*◌, ◌<◌, ◌≤◌, ◌⊎◌, ◌≢◌, Bool, true, false, Option, Some, None, if◌then◌else◌}
-use Rattle.scram_types.specs.declared.flights.Env.{Env}
+use Rattle.scram_types.specs.declared.rows.Env.{Env}
 
 pub record Plan : Type 0 where
   pub configurations : ℕ

@@ -2,7 +2,7 @@
 use Rattle.std.specs.Prelude.{ℕ, Bool, true, false, not, ◌&&◌, ◌==◌, ◌^◌, nat_lt, length, slice_get, Option, Some, None}
 use Rattle.std.specs.Option.{option_map_or}
 use Rattle.scram_types.specs.declared.ids.ConfId.{ConfId}
-use Rattle.scram_types.specs.declared.flights.Env.{Env}
+use Rattle.scram_types.specs.declared.rows.Env.{Env}
 use Rattle.scram_types.specs.declared.orders.KMode.{KMode}
 use Rattle.scram_types.specs.declared.orders.KMode.TheVariants as kmode
 use Rattle.scram_types.specs.declared.specification.Factor.{Factor}

@@ -2,8 +2,8 @@
 use Rattle.std.proofs.Common.{◌≡◌, ℕ, zero, suc, ◌<◌, ◌≤◌, Bool, true, false, refl, arith, ap, sym, ◌∙◌, List, [], ◌++◌, length, ◌⊎◌}
 use mathlib.Core.Logic.{inl, inr}
 use Rattle.std.specs.Prelude.{Option, Some, None, slice_get, option_map, if◌then◌else◌}
-use Rattle.scram_types.specs.declared.flights.Report as told_reports
-use Rattle.scram_types.specs.declared.flights.Row.{Row}
+use Rattle.scram_types.specs.declared.rows.Report as told_reports
+use Rattle.scram_types.specs.declared.rows.Row.{Row}
 use Rattle.scram_types.specs.Scripts.{ScriptParts}
 use Rattle.scram_types.specs.Specification.{Parts}
 use Rattle.scram_types.proofs.Items.{first_part, next_part}

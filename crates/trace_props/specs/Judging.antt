@@ -2,9 +2,9 @@
 use Rattle.std.specs.Prelude.{ℕ, zero, suc, ◌+◌, ◌-◌, ℤ, int_le, min, Bool, true, false, not, ◌&&◌, ◌||◌, ◌==◌, nat_le, nat_lt, List, [], ◌∷◌, length, slice_get, Option, Some, None, is_some, option_and_then, if◌then◌else◌}
 use Rattle.std.specs.List.{list_any}
 use Rattle.scram_types.specs.declared.ids.ConfId.{ConfId}
-use Rattle.scram_types.specs.declared.flights.Env.{Env}
-use Rattle.scram_types.specs.declared.flights.Report.{Report}
-use Rattle.scram_types.specs.declared.flights.Row.{Row}
+use Rattle.scram_types.specs.declared.rows.Env.{Env}
+use Rattle.scram_types.specs.declared.rows.Report.{Report}
+use Rattle.scram_types.specs.declared.rows.Row.{Row}
 use Rattle.scram_types.specs.declared.orders.Act.{Act}
 use Rattle.scram_types.specs.declared.orders.Act.TheVariants as act
 use Rattle.scram_types.specs.declared.specification.Invariant.{Invariant}

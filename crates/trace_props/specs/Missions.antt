@@ -19,7 +19,7 @@ use Rattle.frame_model.specs.Flights.{decided, reports_of, row_at, rows_of}
 use Rattle.frame_model.specs.Phases.{halting_frames}
 use Rattle.frame_model.specs.Readings.{reading_of}
 use Rattle.trace_props.specs.Properties.{HoldsAll}
-use Rattle.scram_types.specs.declared.flights.Flown.{Flown}
+use Rattle.scram_types.specs.declared.rows.Flown.{Flown}
 
 -- All six properties hold of a mission's rows and reports.
 abbrev pub ReconfigurationsAreAssured : Type 0

@@ -2,9 +2,9 @@
 -- are read off the rows, whatever is reported; SP6 speaks of calm rows.
 use Rattle.std.specs.Prelude.{◌≡◌, ◌≢◌, ◌⊎◌, ℕ, suc, ◌<◌, ◌≤◌, ◌+◌, Bool, true, not, List, length, slice_get, Option, Some, None}
 use Rattle.scram_types.specs.declared.ids.ConfId.{ConfId}
-use Rattle.scram_types.specs.declared.flights.Env.{Env}
-use Rattle.scram_types.specs.declared.flights.Report.{Report}
-use Rattle.scram_types.specs.declared.flights.Row.{Row}
+use Rattle.scram_types.specs.declared.rows.Env.{Env}
+use Rattle.scram_types.specs.declared.rows.Report.{Report}
+use Rattle.scram_types.specs.declared.rows.Row.{Row}
 use Rattle.scram_types.specs.declared.orders.Act.TheVariants as act
 use Rattle.scram_types.specs.declared.specification.Invariant.{Invariant}
 use Rattle.scram_types.specs.declared.specification.Policy.TheVariants.{Settle}

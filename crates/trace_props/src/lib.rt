@@ -10,12 +10,12 @@ pub mod breaks;
 mod causes;
 mod comparing;
 mod demanded;
-pub mod flights;
 pub mod judging;
 mod kept;
 pub mod missions;
 mod targets;
+pub mod traces;
 
 pub use breaks::{Broken, Property};
-pub use flights::one_thread;
 pub use judging::props;
+pub use traces::one_thread;

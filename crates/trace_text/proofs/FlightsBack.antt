@@ -5,11 +5,11 @@ use Rattle.std.specs.Prelude.{codes, slice_get, slice_index_or, slice_set}
 use Rattle.std.proofs.lemmas.Bool.{cases_eq, cases_lt, le-ltb, lt-ltb}
 use Rattle.std.proofs.lemmas.List.{ext_get_or, get_or-set_other, get_or-set_same}
 use Rattle.scram_types.specs.Specification.{IsSpec, Parts}
-use Rattle.scram_types.specs.declared.flights.Env.{Env}
-use Rattle.scram_types.specs.declared.flights.Flown.{Flown}
-use Rattle.scram_types.specs.declared.flights.Report.{Report}
-use Rattle.scram_types.specs.declared.flights.Row.{Row}
-use Rattle.scram_types.specs.declared.flights.World.{World}
+use Rattle.scram_types.specs.declared.rows.Env.{Env}
+use Rattle.scram_types.specs.declared.rows.Flown.{Flown}
+use Rattle.scram_types.specs.declared.rows.Report.{Report}
+use Rattle.scram_types.specs.declared.rows.Row.{Row}
+use Rattle.scram_types.specs.declared.rows.World.{World}
 use Rattle.scram_types.specs.declared.limits.TheConstants.{MAX_FRAMES}
 use Rattle.scram_types.specs.declared.orders.Act.{Act}
 use Rattle.scram_types.specs.declared.orders.Act.TheVariants.{Off}

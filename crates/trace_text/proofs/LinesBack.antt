@@ -8,8 +8,8 @@ use Rattle.std.proofs.lemmas.List.Folds.{list_all-append}
 use Rattle.std.proofs.lemmas.Fmt.{length-decimal-le, length_signed_le}
 use Rattle.scram_types.specs.Specification.{Each, IsSpec, Parts}
 use Rattle.scram_types.specs.Lookups.{proc_name}
-use Rattle.scram_types.specs.declared.flights.Report.{Report}
-use Rattle.scram_types.specs.declared.flights.Row.{Row}
+use Rattle.scram_types.specs.declared.rows.Report.{Report}
+use Rattle.scram_types.specs.declared.rows.Row.{Row}
 use Rattle.scram_types.specs.declared.ids.Mode.{Mode}
 use Rattle.scram_types.specs.declared.ids.ProcId.{ProcId}
 use Rattle.scram_types.specs.declared.orders.Act.{Act}

@@ -11,7 +11,7 @@ use native.Mathlib.Nat.{mul-add, mul_assoc}
 use Rattle.scram_types.specs.Specification.{AreSpelled, Each, IsSpec, NamesDiffer, Parts}
 use Rattle.scram_types.specs.Lookups.{value_name}
 use Rattle.scram_types.specs.Names.{is_name}
-use Rattle.scram_types.specs.declared.flights.Env.{Env}
+use Rattle.scram_types.specs.declared.rows.Env.{Env}
 use Rattle.scram_types.specs.declared.specification.Factor.{Factor}
 use Rattle.scram_types.specs.declared.specification.Proc.{Proc}
 use Rattle.scram_types.proofs.Booleans.{not_true}

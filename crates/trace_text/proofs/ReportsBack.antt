@@ -6,8 +6,8 @@ use Rattle.std.proofs.lemmas.Bool.{eq-eqb, le-leb}
 use Rattle.std.proofs.lemmas.Fmt.{length-decimal-le}
 use Rattle.scram_types.specs.Specification.{Each, IsBound, IsIn, IsInIfNamed, IsSpec, Parts, bound_in, greater_of, greatest_bound_from, greatest_bound_in}
 use Rattle.scram_types.specs.Lookups.{conf_name}
-use Rattle.scram_types.specs.declared.flights.Report.{Report}
-use Rattle.scram_types.specs.declared.flights.Row.{Row}
+use Rattle.scram_types.specs.declared.rows.Report.{Report}
+use Rattle.scram_types.specs.declared.rows.Row.{Row}
 use Rattle.scram_types.specs.declared.ids.ConfId.{ConfId}
 use Rattle.scram_types.specs.declared.limits.TheConstants.{MAX_FRAMES}
 use Rattle.scram_types.specs.declared.specification.Bound.{Bound}

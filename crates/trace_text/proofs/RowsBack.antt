@@ -6,10 +6,10 @@ use Rattle.std.specs.List.{list_all}
 use Rattle.std.proofs.lemmas.Bool.{eq-eqb}
 use Rattle.scram_types.specs.Specification.{IsIn, IsInIfNamed, IsSpec, Parts}
 use Rattle.scram_types.specs.Lookups.{conf_name}
-use Rattle.scram_types.specs.declared.flights.Env.{Env}
-use Rattle.scram_types.specs.declared.flights.Report.{Report}
-use Rattle.scram_types.specs.declared.flights.Row.{Row}
-use Rattle.scram_types.specs.declared.flights.World.{World}
+use Rattle.scram_types.specs.declared.rows.Env.{Env}
+use Rattle.scram_types.specs.declared.rows.Report.{Report}
+use Rattle.scram_types.specs.declared.rows.Row.{Row}
+use Rattle.scram_types.specs.declared.rows.World.{World}
 use Rattle.scram_types.specs.declared.ids.ConfId.{ConfId}
 use Rattle.scram_types.specs.declared.limits.TheConstants.{MAX_FRAMES}
 use Rattle.scram_types.specs.declared.orders.KMode.{KMode}

@@ -3,7 +3,7 @@ use Rattle.std.proofs.Common.{ℕ, ◌≡◌, ◌<◌, ◌≤◌, ◌+◌, ◌�
 use Rattle.std.proofs.lemmas.Bool.{le-ltb}
 use Rattle.scram_types.specs.declared.limits.TheConstants.{MAX_TRACE_BYTES}
 use Rattle.scram_types.specs.Specification.{Parts}
-use Rattle.scram_types.specs.declared.flights.Flown.{Flown}
+use Rattle.scram_types.specs.declared.rows.Flown.{Flown}
 use Rattle.trace_text.specs.declared.progress.Stop.{Stop}
 use Rattle.trace_text.specs.declared.progress.Stop.TheVariants.{Rule, NoMemory}
 use Rattle.trace_text.specs.declared.trace_reading.TraceFault.{TraceFault}

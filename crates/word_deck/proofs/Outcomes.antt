@@ -3,8 +3,8 @@ use Rattle.std.proofs.Common.{◌≡◌, ◌∙◌, ◌<◌, ◌≤◌, ap, arit
 use Rattle.std.specs.Prelude.{Some}
 use Rattle.std.proofs.lemmas.Option.{slice_get_within}
 use Rattle.fail_stop.specs.Events.{Place}
-use Rattle.scram_types.specs.declared.flights.Report.{Report}
-use Rattle.scram_types.specs.declared.flights.Row.{Row}
+use Rattle.scram_types.specs.declared.rows.Report.{Report}
+use Rattle.scram_types.specs.declared.rows.Row.{Row}
 use Rattle.scram_types.specs.Scripts.{ScriptParts}
 use Rattle.scram_types.specs.Specification.{IsSpec, Parts}
 use Rattle.coverage_check.specs.Missions.{IsMission, MissionParts, mission_of}

@@ -1,5 +1,5 @@
 use Rattle.std.proofs.Common.{sym, subst}
-use Rattle.scram_types.specs.declared.flights.World.{World}
+use Rattle.scram_types.specs.declared.rows.World.{World}
 use Rattle.airframe.specs.Motion.{IsFlyable}
 use Rattle.airframe.proofs.Flyable.{flyable}
 use Rattle.airframe.proofs.motion.fly.Goals as goal

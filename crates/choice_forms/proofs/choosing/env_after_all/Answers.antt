@@ -1,6 +1,6 @@
 use Rattle.std.proofs.Common.{ap, subst, sym}
 use Rattle.scram_types.specs.Specification.{IsSpec}
-use Rattle.scram_types.specs.declared.flights.Env.{Env}
+use Rattle.scram_types.specs.declared.rows.Env.{Env}
 use Rattle.choice_table.specs.Environments.{IsEnv}
 use Rattle.choice_forms.specs.Choosing.{env_after_all}
 use Rattle.choice_forms.proofs.Envs.{opening_belongs}

@@ -2,7 +2,7 @@ use Rattle.std.proofs.Common.{◌∙◌, ap}
 use Rattle.std.specs.Prelude.{option_map}
 use Rattle.std.specs.Option.{option_to_list}
 use Rattle.scram_types.specs.Lookups.{conf_id}
-use Rattle.scram_types.specs.declared.flights.Env.{Env}
+use Rattle.scram_types.specs.declared.rows.Env.{Env}
 use Rattle.condition_breaks.specs.declared.breaks.Break.TheVariants as broken
 use Rattle.condition_breaks.specs.Breaks.{unmet_break}
 use Rattle.condition_breaks.proofs.Gathering.{gathered_next}

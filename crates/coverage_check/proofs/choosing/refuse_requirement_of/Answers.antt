@@ -1,6 +1,6 @@
 use Rattle.std.proofs.Common.{◌≡◌, Some, None, sym, ap, ◌∙◌}
 use Rattle.std.specs.Prelude.{option_map}
-use Rattle.scram_types.specs.declared.flights.Env.{Env}
+use Rattle.scram_types.specs.declared.rows.Env.{Env}
 use Rattle.scram_types.specs.Lookups.{conf_id}
 use Rattle.coverage_check.specs.Choosing.{first_unmet_env, number_of_requirement, target_shown}
 use Rattle.coverage_check.specs.Showing.{shown_in}

@@ -1,6 +1,6 @@
 use Rattle.std.proofs.Common.{◌≡◌, ◌+◌, ◌&&◌, ◌||◌, not}
 use Rattle.std.specs.Prelude.{◌==◌}
-use Rattle.scram_types.specs.declared.flights.Env.{Env}
+use Rattle.scram_types.specs.declared.rows.Env.{Env}
 use Rattle.scram_types.specs.Bits.{has_bit}
 use Rattle.scram_types.specs.Searches.{all_below}
 use Rattle.cube_cover.specs.Cubes.{HasDigits, digit_in, holds}

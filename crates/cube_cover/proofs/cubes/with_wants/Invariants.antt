@@ -1,6 +1,6 @@
 use Rattle.std.proofs.Common.{◌≡◌, ◌&&◌, drop}
 use Rattle.std.specs.List.{list_all}
-use Rattle.scram_types.specs.declared.flights.Env.{Env}
+use Rattle.scram_types.specs.declared.rows.Env.{Env}
 use Rattle.choice_table.specs.Choices.{has_wanted}
 use Rattle.cube_cover.specs.Cubes.{HasDigits, holds}
 use Rattle.cube_cover.proofs.cubes.with_wants.Given as goal

@@ -1,6 +1,6 @@
 use Rattle.std.proofs.Common.{◌≡◌, ℕ, length}
 use Rattle.std.specs.Prelude.{nat_le, slice_get, Some}
-use Rattle.scram_types.specs.declared.flights.Env.{Env}
+use Rattle.scram_types.specs.declared.rows.Env.{Env}
 use Rattle.cube_cover.specs.declared.shares.Share.{Share}
 use Rattle.cube_cover.specs.Cubes.{IsInScope, holders, once}
 use Rattle.cube_cover.specs.Shares.{IsShare, first_rule, is_ruled_by}

@@ -1,6 +1,6 @@
 use Rattle.std.proofs.Common.{rules, ◌≡◌, ◌∙◌, arith, ap, sym, List, ℕ, None, option_and_then}
 use Rattle.trace_text.specs.Pieces.{pieces_of}
-use Rattle.document_explanations.specs.Paths.{all_but_last, step, wanted_along}
+use Rattle.document_explanations.specs.Paths.{all_but_last, wanted_below, wanted_along}
 use Rattle.document_explanations.proofs.Levels.{and_then_itself, step_above, step_whole}
 use Rattle.document_explanations.proofs.paths.descend.Goals as goal
 
@@ -24,4 +24,4 @@ loop-level-preserved c =
 pub returns-clause-whole : goal.returns-clause-whole
 returns-clause-whole c =
     let l = c.loop-level in
-    l.invariant.1 ∙ ap (λ (levels : List (List ℕ)). wanted_along levels l.wanted) c.in_default.ensures.pieces ∙ and_then_itself (step l.wanted l.rest.now)
+    l.invariant.1 ∙ ap (λ (levels : List (List ℕ)). wanted_along levels l.wanted) c.in_default.ensures.pieces ∙ and_then_itself (wanted_below l.wanted l.rest.now)

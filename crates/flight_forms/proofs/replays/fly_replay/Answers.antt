@@ -2,7 +2,7 @@ use Rattle.std.proofs.Common.{◌∙◌, List, ap, subst}
 use Rattle.std.specs.Prelude.{Result, Err}
 use Rattle.scram_types.specs.Scripts.{ScriptParts}
 use Rattle.scram_types.specs.Specification.{Parts}
-use Rattle.scram_types.specs.declared.flights.Flown.{Flown}
+use Rattle.scram_types.specs.declared.rows.Flown.{Flown}
 use Rattle.bank_words.specs.declared.events.Event.{Event}
 use Rattle.schedule_replay.specs.Replaying.{AnswersReplay}
 use Rattle.schedule_replay.specs.declared.replays.ReplayError.{ReplayError}

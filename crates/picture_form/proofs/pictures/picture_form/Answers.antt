@@ -1,6 +1,6 @@
 use Rattle.std.proofs.Common.{List, subst}
-use Rattle.scram_types.specs.declared.flights.Report.{Report}
-use Rattle.scram_types.specs.declared.flights.Row.{Row}
+use Rattle.scram_types.specs.declared.rows.Report.{Report}
+use Rattle.scram_types.specs.declared.rows.Row.{Row}
 use Rattle.scram_io.specs.Outside.{Prints}
 use Rattle.form_base.proofs.Endings.{answered_tells, found_ends, put_taken}
 use Rattle.picture_form.specs.Picture.{picture_text}

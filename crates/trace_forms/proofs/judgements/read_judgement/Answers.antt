@@ -1,6 +1,6 @@
 use Rattle.std.proofs.Common.{[], ◌∷◌}
 use Rattle.scram_types.specs.Specification.{Parts}
-use Rattle.scram_types.specs.declared.flights.Flown.{Flown}
+use Rattle.scram_types.specs.declared.rows.Flown.{Flown}
 use Rattle.form_base.specs.Answers.{WithoutFiles}
 use Rattle.form_base.proofs.SpecReading.{specification_reads, specification_unread}
 use Rattle.trace_files.specs.Traces.{AsksTrace}

@@ -3,7 +3,7 @@ use Rattle.scram_types.specs.Scripts.{ScriptParts}
 use Rattle.frame_model.specs.Flights.{reports_of, rows_of}
 use Rattle.frame_model.specs.Readings.{reports}
 use Rattle.trace_props.proofs.Sizes.{few_reports}
-use Rattle.trace_props.proofs.flights.one_thread.Goals as goal
+use Rattle.trace_props.proofs.traces.one_thread.Goals as goal
 
 pub rows-requires : goal.rows-requires
 rows-requires g c = record { script = rw (c.spec.ensures, c.script.ensures) c.holds.ensures.mission.fits }

@@ -1,7 +1,7 @@
 //! A trace with the specification of its missions, as two files hold them.
 
 ghost use Rattle.std.specs.Prelude.{◌∷◌, ◌<◌, ◌^◌, [], IfOk, length};
-ghost use Rattle.scram_types.specs.declared.flights.Flown.{Flown};
+ghost use Rattle.scram_types.specs.declared.rows.Flown.{Flown};
 ghost use Rattle.form_base.specs.Answers.{Gives, WithoutFiles};
 ghost use Rattle.form_base.specs.Endings.{Prepares};
 ghost use Rattle.form_base.specs.declared.status.TheConstants.{ANSWERED};

@@ -1,13 +1,13 @@
 use Rattle.std.proofs.Common.{ℕ, List, [], ◌∷◌}
 use Rattle.std.specs.Prelude.{Err, Ok}
 use Rattle.scram_types.specs.Specification.{Parts}
-use Rattle.scram_types.specs.declared.flights.Flown.{Flown}
+use Rattle.scram_types.specs.declared.rows.Flown.{Flown}
 use Rattle.form_base.specs.Answers.{Gives, WithoutFiles}
 use Rattle.form_base.specs.declared.status.TheConstants.{ANSWERED}
 use Rattle.form_base.proofs.SpecReading.{specification_reads, specification_unread}
 use Rattle.trace_files.specs.Looks.{TellsView, View}
 use Rattle.trace_files.specs.Traces.{AsksTrace}
-use Rattle.trace_files.proofs.flights.read_flight.Goals as goal
+use Rattle.trace_files.proofs.files.read_flight.Goals as goal
 
 pub returns-in-Err-clause-reads : goal.returns-in-Err-clause-reads
 returns-in-Err-clause-reads g c = λ (view : View).

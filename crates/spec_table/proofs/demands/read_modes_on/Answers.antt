@@ -2,7 +2,7 @@ use Rattle.std.proofs.Common.{rules}
 use Rattle.scram_doc.proofs.Growing.{step_made}
 use Rattle.spec_table.specs.Demands.{read_on_app}
 use Rattle.spec_table.proofs.Placed.{one_more_on}
-use Rattle.spec_table.proofs.demands.read_on.Goals as goal
+use Rattle.spec_table.proofs.demands.read_modes_on.Goals as goal
 
 pub loop-i-preserved : goal.loop-i-preserved
 loop-i-preserved c = (

@@ -4,7 +4,7 @@ use Rattle.serde_json.specs.View.{items_view}
 use Rattle.scram_doc.specs.Lists.{folded_from}
 use Rattle.spec_table.specs.Demands.{read_on_app}
 use Rattle.spec_table.specs.Facts.{AreOn}
-use Rattle.spec_table.proofs.demands.read_on.Given as goal
+use Rattle.spec_table.proofs.demands.read_modes_on.Given as goal
 
 abbrev pub invariant-loop-i : goal.invariant-loop-i
 invariant-loop-i l =

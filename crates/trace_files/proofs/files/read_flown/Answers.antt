@@ -1,12 +1,12 @@
 use Rattle.std.proofs.Common.{ℕ, List, []}
 use Rattle.std.specs.Prelude.{Ok}
-use Rattle.scram_types.specs.declared.flights.Flown.{Flown}
+use Rattle.scram_types.specs.declared.rows.Flown.{Flown}
 use Rattle.form_base.specs.Answers.{Gives, WithoutFiles}
 use Rattle.form_base.specs.declared.status.TheConstants.{ANSWERED}
 use Rattle.form_base.proofs.Reading.{settled}
 use Rattle.trace_files.specs.Looks.{View}
 use Rattle.trace_files.proofs.FileReading.{trace_reads, trace_unread}
-use Rattle.trace_files.proofs.flights.read_flown.Goals as goal
+use Rattle.trace_files.proofs.files.read_flown.Goals as goal
 
 pub returns-in-Ok-clause-reads : goal.returns-in-Ok-clause-reads
 returns-in-Ok-clause-reads g c = λ (view : View).
