@@ -1,6 +1,6 @@
 -- How long the text of a value may be. Each byte of a text takes at most six.
-use Rattle.std.proofs.Common.{◌≡◌, ◌+◌, ◌*◌, ◌≤◌, ◌<◌, ◌^◌, ◌/◌, ◌%◌, ℕ, suc, Bool, true, false, cond, List, [], ◌∷◌, ◌++◌, length, map, arith, refl}
-use Rattle.std.specs.Prelude.{◌&&◌, nat_lt, slice_get, Option, Some, None}
+use Rattle.std.proofs.Common.{◌≡◌, ◌+◌, ◌*◌, ◌≤◌, ◌<◌, ◌^◌, ◌/◌, ◌%◌, ℕ, suc, Bool, true, false, cond, List, [], ◌∷◌, ◌++◌, length, map, arith, ap, refl}
+use Rattle.std.specs.Prelude.{nat_lt, slice_get, Option, Some, None}
 use Rattle.std.specs.Option.{option_map_or}
 use Rattle.std.specs.Char.{digit_char}
 use Rattle.std.specs.List.{list_all}
@@ -16,11 +16,11 @@ use Rattle.scram_doc.proofs.QuotedNames.{name_short, quoted_letters, quoted_name
 
 -- the bytes and two quotes
 pub quoted_length : (text : List ℕ) → list_all is_letter_of_name text ≡ true → length (quoted text) ≡ length text + 2
-quoted_length text named = rw (quoted_letters text named) (omega (arith, length-append text (34 ∷ [])))
+quoted_length text named = omega (arith, ap length (quoted_letters text named), length-append text (34 ∷ []))
 
 -- a name of at most 16 bytes and two quotes
 pub name_length : (text : List ℕ) → is_spelled_name text ≡ true → length (quoted text) ≤ 18
-name_length text named = rw (quoted_name text named) (omega (arith, length-append text (34 ∷ []), name_short text named))
+name_length text named = omega (arith, ap length (quoted_name text named), length-append text (34 ∷ []), name_short text named)
 
 -- what is not there has no name, and so two quotes alone
 pub found_length : {A : Type 0} (name : A → List ℕ) (found : Option A) → ((x : A) → found ≡ Some x → is_spelled_name (name x) ≡ true) → length (quoted (option_map_or name found [])) ≤ 18
