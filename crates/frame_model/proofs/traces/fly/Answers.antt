@@ -3,7 +3,7 @@ use Rattle.fault_script.specs.Inputs.{input_at}
 use Rattle.fault_script.proofs.Walking.{stands_next}
 use Rattle.frame_model.specs.Frames.{row_given, sys_after}
 use Rattle.frame_model.proofs.Flying.{row_is, stands_more}
-use Rattle.frame_model.proofs.rows.fly.Goals as goal
+use Rattle.frame_model.proofs.traces.fly.Goals as goal
 
 pub returns-clause-row : goal.returns-clause-row
 returns-clause-row g c =

@@ -2,7 +2,7 @@ use Rattle.std.proofs.Common.{◌≡◌}
 use Rattle.scram_types.specs.Searches.{listed_below}
 use Rattle.frame_model.specs.Flights.{row_at}
 use Rattle.frame_model.specs.Standing.{StandsBefore}
-use Rattle.frame_model.proofs.rows.fly_all.Given as goal
+use Rattle.frame_model.proofs.traces.fly_all.Given as goal
 
 abbrev pub invariant-loop-frame : goal.invariant-loop-frame
 invariant-loop-frame g l = record {

@@ -1,7 +1,7 @@
 use Rattle.std.proofs.Common.{sym}
 use Rattle.frame_model.specs.Flights.{row_at}
 use Rattle.frame_model.proofs.Flying.{rows_more, stands_first}
-use Rattle.frame_model.proofs.rows.fly_all.Goals as goal
+use Rattle.frame_model.proofs.traces.fly_all.Goals as goal
 
 pub loop-frame-init : goal.loop-frame-init
 loop-frame-init g c = record {
