@@ -29,7 +29,7 @@ use Rattle.spec_members.specs.declared.rule.TheConstants.{UNKNOWN_APPLICATION, U
 use Rattle.spec_members.specs.Names.{name_of_app, name_of_conf, name_of_demand, name_of_proc}
 use Rattle.spec_table.specs.Choices.{read_want}
 use Rattle.spec_table.specs.Configurations.{given}
-use Rattle.spec_table.specs.Demands.{on_set, read_demand, read_demands, read_on, read_on_app, read_on_mode, read_on_modes}
+use Rattle.spec_table.specs.Demands.{on_set, read_demand, read_demands, read_modes_on, read_on_app, read_on_mode, read_on_modes}
 use Rattle.spec_text.specs.Texts.{demand_data, name_of_app_mode, name_of_mode, on_app_data, on_data, want_data}
 use Rattle.reconf_spec.specs.Writable.{lists_want}
 use Rattle.reconf_spec.proofs.AppsBack.{mode_spelled}
@@ -120,7 +120,7 @@ few_on spec a (None ∷ on) = let rest = few_on spec (suc a) on in omega (arith,
 few_on spec a (Some modes ∷ on) = let rest = few_on spec (suc a) on in omega (arith, rest)
 
 on_back : (spec : Parts) → IsSpec spec → (at : List ℕ) (on : List (Option (List Mode))) → length on ≡ 8 → ((a : ℕ) (modes : List Mode) → given on a ≡ Some modes → IsOn spec.apps a modes)
-    → read_on spec.apps at (array (items_of (on_data spec 0 on))) ≡ Ok on
+    → read_modes_on spec.apps at (array (items_of (on_data spec 0 on))) ≡ Ok on
 on_back spec is at on width fits =
     let count = few_on spec 0 on in
     let read : folded_from (read_on_app spec.apps) at 0 (replicate (length on) None) (items_of (on_data spec 0 on)) ≡ Ok on =
