@@ -1,5 +1,5 @@
 -- Lists of eight, filled from the front.
-use Rattle.std.proofs.Common.{◌≡◌, ◌∙◌, ℕ, ◌+◌, ◌<◌, refl, ap, arith, List, [], ◌∷◌, length, sym, ◌⊎◌}
+use Rattle.std.proofs.Common.{◌≡◌, ◌∙◌, ℕ, ◌+◌, ◌<◌, ◌≤◌, refl, ap, arith, List, [], ◌∷◌, length, sym, ◌⊎◌}
 use mathlib.Core.Logic.{inl, inr}
 use Rattle.std.specs.Prelude.{slice_index_or, slice_set}
 use Rattle.std.proofs.lemmas.Grind.{get_or-set_at}
@@ -54,3 +54,13 @@ all_eight value (a ∷ b ∷ c ∷ d ∷ e ∷ f ∷ g ∷ h ∷ i ∷ more) eig
 
 pub filled_all : {A : Type 0} (value : ℕ → A) (xs : List A) → Filled value xs 8 → xs ≡ eight value
 filled_all value xs filled = all_eight value xs filled.eight filled.front
+
+-- The items from n on are those of another list.
+abbrev pub AreStill : {A : Type 0} → List A → List A → ℕ → Type 0
+AreStill {A} old xs n = (k : ℕ) (d : A) → n ≤ k → slice_index_or xs k d ≡ slice_index_or old k d
+
+pub still_all : {A : Type 0} (xs : List A) → AreStill xs xs 0
+still_all xs k d from = refl
+
+pub still_more : {A : Type 0} (old xs : List A) (n : ℕ) (x : A) → AreStill old xs n → AreStill old (slice_set xs n x) (n + 1)
+still_more old xs n x still k d from = get_or-set_other xs n k x d (λ same. omega (arith, from, same)) ∙ still k d (omega (arith, from))

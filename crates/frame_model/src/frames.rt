@@ -31,34 +31,30 @@ pub fn frame(spec: &Spec, sys: &mut Sys, input: &Input, racks: &mut [Rack]) -> R
     let env = frame_env(sys, input);
     let mode = decide(spec, sys, &env);
     let stage = stage_at(spec, &mode, sys.frame);
-    let seen = seen_by_all(spec, &sys.areas, sys.world, &env);
     let setting = Setting {
-        seen,
+        seen: seen_by_all(spec, &sys.areas, sys.world, &env),
         committing: committing(sys, input),
         stage,
     };
-    let outcomes = perform_all(spec, sys, &setting, racks);
-    let acts = outcomes.acts;
-    let areas = outcomes.areas;
-    let keepers = outcomes.keepers;
-    let world = world_in(spec, sys.world, &areas);
+    let frame = sys.frame;
+    let up = up_after(sys, input);
+    let world = sys.world;
+    let acts = perform_all(spec, sys, &setting, racks);
+    let world = world_in(spec, world, &sys.areas);
+    let areas = sys.areas;
     let row = Row {
-        frame: sys.frame,
+        frame,
         env,
         mode,
         acts,
         areas,
         world,
     };
-    *sys = Sys {
-        frame: sys.frame + 1,
-        mode,
-        areas,
-        keepers,
-        world,
-        up: up_after(sys, input),
-        settled: has_arrived(spec, &row, stage.phase),
-    };
+    sys.settled = has_arrived(spec, &row, stage.phase);
+    sys.frame = frame + 1;
+    sys.mode = mode;
+    sys.world = world;
+    sys.up = up;
     row
 }
 

@@ -24,86 +24,49 @@ pub(crate) struct Setting {
     pub(crate) stage: Stage,
 }
 
-/// What became of each application.
-#[derive(Clone, Copy)]
-pub(crate) struct Outcomes {
-    pub(crate) acts: [Act; 8],
-    pub(crate) areas: [Area; 8],
-    pub(crate) keepers: [Option<ProcId>; 8],
-}
-
-/// What became of one application.
-#[derive(Clone, Copy)]
-struct Outcome {
-    act: Act,
-    area: Area,
-    keeper: Option<ProcId>,
-}
-
-pub(crate) fn perform_all(spec: &Spec, sys: &Sys, setting: &Setting, racks: &mut [Rack]) -> Outcomes
+/// Performs each application in its place: the areas and keepers of `sys` are then those after the frame, and nothing is
+/// said of its other fields. Returns what each one did.
+pub(crate) fn perform_all(spec: &Spec, sys: &mut Sys, setting: &Setting, racks: &mut [Rack]) -> [Act; 8]
     requires offsets { setting.now.stage.offsets ≡ offsets_in spec.now setting.now.stage.phase }
-    ensures acts { let s = setting.now in result.acts ≡ eight (act_made spec.now s.stage.phase s.committing) }
-    ensures areas { let s = setting.now in result.areas ≡ eight (area_made spec.now sys.now s.stage.phase s.committing s.seen) }
-    ensures keepers { let s = setting.now in result.keepers ≡ eight (keeper_made spec.now sys.now s.stage.phase s.committing) }
+    ensures acts { let s = setting.now in result ≡ eight (act_made spec.now s.stage.phase s.committing) }
+    ensures areas { let s = setting.now in sys.new.areas ≡ eight (area_made spec.now sys.old s.stage.phase s.committing s.seen) }
+    ensures keepers { let s = setting.now in sys.new.keepers ≡ eight (keeper_made spec.now sys.old s.stage.phase s.committing) }
 {
-    let mut outcomes = Outcomes {
-        acts: [Act::Off; 8],
-        areas: [[0; 8]; 8],
-        keepers: [None; 8],
-    };
+    let mut acts = [Act::Off; 8];
     for a in 0..8 {
-        let outcome = perform(spec, sys, setting, a, racks);
-        put(&mut outcomes, a, outcome);
+        acts[usize::from(a)] = perform(spec, sys, setting, a, racks);
     }
-    outcomes
+    acts
 }
 
-fn put(outcomes: &mut Outcomes, a: u8, outcome: Outcome)
-    requires { a < 8 }
-    ensures acts { outcomes.new.acts ≡ slice_set outcomes.old.acts a outcome.act }
-    ensures areas { outcomes.new.areas ≡ slice_set outcomes.old.areas a outcome.area }
-    ensures keepers { outcomes.new.keepers ≡ slice_set outcomes.old.keepers a outcome.keeper }
-{
-    let at = usize::from(a);
-    let area = outcome.area;
-    outcomes.acts[at] = outcome.act;
-    outcomes.areas[at] = area;
-    outcomes.keepers[at] = outcome.keeper;
-}
-
-fn perform(spec: &Spec, sys: &Sys, setting: &Setting, a: u8, racks: &mut [Rack]) -> Outcome
+// Performs one application.
+fn perform(spec: &Spec, sys: &mut Sys, setting: &Setting, a: u8, racks: &mut [Rack]) -> Act
     requires a { a < 8 }
     requires offsets { setting.now.stage.offsets ≡ offsets_in spec.now setting.now.stage.phase }
-    ensures act { let s = setting.now in result.act ≡ act_made spec.now s.stage.phase s.committing a }
-    ensures area { let s = setting.now in result.area ≡ area_made spec.now sys.now s.stage.phase s.committing s.seen a }
-    ensures keeper { let s = setting.now in result.keeper ≡ keeper_made spec.now sys.now s.stage.phase s.committing a }
+    ensures act { let s = setting.now in result ≡ act_made spec.now s.stage.phase s.committing a }
+    ensures areas { let s = setting.now in
+        sys.new.areas ≡ slice_set sys.old.areas a (area_made spec.now sys.old s.stage.phase s.committing s.seen a) }
+    ensures keepers { let s = setting.now in
+        sys.new.keepers ≡ slice_set sys.old.keepers a (keeper_made spec.now sys.old s.stage.phase s.committing a) }
 {
+    let at = usize::from(a);
     let task = task_in(spec, &setting.stage, AppId(a));
-    let own = sys.areas[usize::from(a)];
-    let keeper = sys.keepers[usize::from(a)];
     match task.proc {
         Some(proc) => {
             if has(setting.committing, proc.0) {
-                let seen = seen_in(&setting.seen, task.mode, &own);
-                let area = racks_frame(racks, proc, spec.kind_of_app(AppId(a)), task.order, &seen);
-                Outcome {
-                    act: act_of_order(task.order, task.mode, proc),
-                    area,
-                    keeper: Some(proc),
-                }
+                let seen = seen_in(&setting.seen, task.mode, &sys.areas[at]);
+                sys.areas[at] = racks_frame(racks, proc, spec.kind_of_app(AppId(a)), task.order, &seen);
+                sys.keepers[at] = Some(proc);
+                act_of_order(task.order, task.mode, proc)
             } else {
-                Outcome {
-                    act: Act::Lost,
-                    area: own,
-                    keeper,
-                }
+                Act::Lost
             }
         }
-        None => Outcome {
-            act: Act::Off,
-            area: [0; 8],
-            keeper: None,
-        },
+        None => {
+            sys.areas[at] = [0; 8];
+            sys.keepers[at] = None;
+            Act::Off
+        }
     }
 }
 

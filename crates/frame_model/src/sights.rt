@@ -13,14 +13,12 @@ use scram_types::{Area, Env, Image, Mode, Spec, World};
 pub fn seen_by_all(spec: &Spec, areas: &[Area; 8], world: World, env: &Env) -> Seen
     ensures { (state : State) → state.areas ≡ areas.now → state.world ≡ world → result ≡ seen_by_all spec.now env.now state }
 {
-    let lead = leads(spec, areas);
-    let factors = env.factors;
     Seen {
         mode: Mode(0),
         own: [0; 8],
-        lead,
+        lead: leads(spec, areas),
         world,
-        factors,
+        factors: env.factors,
         goal: spec.goal,
     }
 }
