@@ -1,6 +1,7 @@
 -- What becomes of an application in a frame, from what all applications share: the phase, the processors
 -- that commit, as bits, and what all see.
-use Rattle.std.specs.Prelude.{ℕ, ℤ, List, Option}
+use Rattle.std.specs.Prelude.{◌≡◌, ℕ, ℤ, List, Option}
+use Rattle.scram_types.specs.declared.ids.Mode.{Mode}
 use Rattle.scram_types.specs.declared.ids.ProcId.{ProcId}
 use Rattle.scram_types.specs.declared.orders.Act.{Act}
 use Rattle.scram_types.specs.Specification.{Parts}
@@ -8,6 +9,7 @@ use Rattle.scram_types.specs.Bits.{has_bit}
 use Rattle.scram_types.specs.Lookups.{kind_of_app}
 use Rattle.app_model.specs.declared.seen.Seen.{Seen}
 use Rattle.app_model.specs.Law.{law}
+use Rattle.frame_model.specs.declared.outcomes.Setting.{Setting}
 use Rattle.frame_model.specs.declared.phases.Phase.{Phase}
 use Rattle.frame_model.specs.declared.systems.Sys.{Sys}
 use Rattle.frame_model.specs.declared.tasks.Task.{Task}
@@ -30,3 +32,9 @@ area_made spec sys phase committing seen a =
 -- Which processor keeps the area of application a after a frame.
 abbrev pub keeper_made : Parts → Sys → Phase → ℕ → ℕ → Option ProcId
 keeper_made spec sys phase committing a = keeper_on (has_bit committing) (keeper_at sys.keepers a) (task_in spec phase a).proc
+
+-- Two settings are of the same frame: they differ at most in what one application is shown of its own.
+pub record IsSharedAlike (setting other : Setting) : Type 0 where
+  pub stage : other.stage ≡ setting.stage
+  pub committing : other.committing ≡ setting.committing
+  pub seen : (mode : Mode) (own : List ℤ) → seen_in other.seen mode own ≡ seen_in setting.seen mode own

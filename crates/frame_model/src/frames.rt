@@ -31,7 +31,7 @@ pub fn frame(spec: &Spec, sys: &mut Sys, input: &Input, racks: &mut [Rack]) -> R
     let env = frame_env(sys, input);
     let mode = decide(spec, sys, &env);
     let stage = stage_at(spec, &mode, sys.frame);
-    let setting = Setting {
+    let mut setting = Setting {
         seen: seen_by_all(spec, &sys.areas, sys.world, &env),
         committing: committing(sys, input),
         stage,
@@ -39,7 +39,7 @@ pub fn frame(spec: &Spec, sys: &mut Sys, input: &Input, racks: &mut [Rack]) -> R
     let frame = sys.frame;
     let up = up_after(sys, input);
     let world = sys.world;
-    let acts = perform_all(spec, sys, &setting, racks);
+    let acts = perform_all(spec, sys, &mut setting, racks);
     let world = world_in(spec, world, &sys.areas);
     let areas = sys.areas;
     let row = Row {

@@ -5,10 +5,10 @@ ghost use Rattle.scram_types.specs.Bits.{has_bit};
 ghost use Rattle.scram_types.specs.Eights.{eight};
 ghost use Rattle.frame_model.specs.Phases.{offsets_in};
 ghost use Rattle.frame_model.specs.States.{act_of_order, lead_of};
-ghost use Rattle.frame_model.specs.Outcomes.{act_made, area_made, keeper_made};
+ghost use Rattle.frame_model.specs.Outcomes.{IsSharedAlike, act_made, area_made, keeper_made};
 
 use crate::phases::Stage;
-use crate::sights::seen_in;
+use crate::sights::show_in;
 use crate::systems::Sys;
 use crate::tasks::task_in;
 use app_model::racks::racks_frame;
@@ -25,12 +25,17 @@ pub(crate) struct Setting {
 }
 
 /// Performs each application in its place: the areas and keepers of `sys` are then those after the frame, and nothing is
-/// said of its other fields. Returns what each one did.
-pub(crate) fn perform_all(spec: &Spec, sys: &mut Sys, setting: &Setting, racks: &mut [Rack]) -> [Act; 8]
-    requires offsets { setting.now.stage.offsets ≡ offsets_in spec.now setting.now.stage.phase }
-    ensures acts { let s = setting.now in result ≡ eight (act_made spec.now s.stage.phase s.committing) }
-    ensures areas { let s = setting.now in sys.new.areas ≡ eight (area_made spec.now sys.old s.stage.phase s.committing s.seen) }
-    ensures keepers { let s = setting.now in sys.new.keepers ≡ eight (keeper_made spec.now sys.old s.stage.phase s.committing) }
+/// said of its other fields. The setting is then as the last one saw it. Returns what each one did.
+pub(crate) fn perform_all(
+    spec: &Spec,
+    sys: &mut Sys,
+    setting: &mut Setting,
+    racks: &mut [Rack],
+) -> [Act; 8]
+    requires offsets { setting.old.stage.offsets ≡ offsets_in spec.now setting.old.stage.phase }
+    ensures acts { let s = setting.old in result ≡ eight (act_made spec.now s.stage.phase s.committing) }
+    ensures areas { let s = setting.old in sys.new.areas ≡ eight (area_made spec.now sys.old s.stage.phase s.committing s.seen) }
+    ensures keepers { let s = setting.old in sys.new.keepers ≡ eight (keeper_made spec.now sys.old s.stage.phase s.committing) }
 {
     let mut acts = [Act::Off; 8];
     for a in 0..8 {
@@ -40,22 +45,24 @@ pub(crate) fn perform_all(spec: &Spec, sys: &mut Sys, setting: &Setting, racks: 
 }
 
 // Performs one application.
-fn perform(spec: &Spec, sys: &mut Sys, setting: &Setting, a: u8, racks: &mut [Rack]) -> Act
+fn perform(spec: &Spec, sys: &mut Sys, setting: &mut Setting, a: u8, racks: &mut [Rack]) -> Act
     requires a { a < 8 }
-    requires offsets { setting.now.stage.offsets ≡ offsets_in spec.now setting.now.stage.phase }
-    ensures act { let s = setting.now in result ≡ act_made spec.now s.stage.phase s.committing a }
-    ensures areas { let s = setting.now in
+    requires offsets { setting.old.stage.offsets ≡ offsets_in spec.now setting.old.stage.phase }
+    ensures act { let s = setting.old in result ≡ act_made spec.now s.stage.phase s.committing a }
+    ensures areas { let s = setting.old in
         sys.new.areas ≡ slice_set sys.old.areas a (area_made spec.now sys.old s.stage.phase s.committing s.seen a) }
-    ensures keepers { let s = setting.now in
+    ensures keepers { let s = setting.old in
         sys.new.keepers ≡ slice_set sys.old.keepers a (keeper_made spec.now sys.old s.stage.phase s.committing a) }
+    ensures setting { IsSharedAlike setting.old setting.new }
 {
     let at = usize::from(a);
     let task = task_in(spec, &setting.stage, AppId(a));
     match task.proc {
         Some(proc) => {
             if has(setting.committing, proc.0) {
-                let seen = seen_in(&setting.seen, task.mode, &sys.areas[at]);
-                sys.areas[at] = racks_frame(racks, proc, spec.kind_of_app(AppId(a)), task.order, &seen);
+                show_in(&mut setting.seen, task.mode, &sys.areas[at]);
+                let kind = spec.kind_of_app(AppId(a));
+                sys.areas[at] = racks_frame(racks, proc, kind, task.order, &setting.seen);
                 sys.keepers[at] = Some(proc);
                 act_of_order(task.order, task.mode, proc)
             } else {

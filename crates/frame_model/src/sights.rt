@@ -38,15 +38,12 @@ fn leads(spec: &Spec, areas: &[Area; 8]) -> [Area; 8]
     ]
 }
 
-/// Returns the same as one of them sees it, which is in a mode and has an area of its own.
-pub fn seen_in(seen: &Seen, mode: Mode, own: &Area) -> Seen
-    ensures { result ≡ seen_in seen.now mode own.now }
+/// Shows the same to one of them, which is in a mode and has an area of its own.
+pub fn show_in(seen: &mut Seen, mode: Mode, own: &Area)
+    ensures { seen.new ≡ seen_in seen.old mode own.now }
 {
-    let own = *own;
-    let mut seen = *seen;
     seen.mode = mode;
-    seen.own = own;
-    seen
+    seen.own = *own;
 }
 
 /// Returns the slot of an application in an image.
