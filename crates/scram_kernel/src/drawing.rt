@@ -4,38 +4,43 @@ ghost use Rattle.std.specs.Prelude.{◌≡◌, ◌<◌};
 ghost use Rattle.scram_types.specs.Eights.{eight};
 ghost use Rattle.scram_types.specs.Specification.{Parts};
 ghost use Rattle.frame_model.specs.Flights.{image_in, slot_in};
-ghost use Rattle.frame_model.specs.States.{act_after, area_at, keeper_on};
+ghost use Rattle.frame_model.specs.States.{act_after, keeper_on};
 ghost use Rattle.scram_kernel.specs.Drawing.{act_drawn, area_from, areas_drawn, has_committed, keepers_drawn, row_drawn, task_said};
 ghost use Rattle.scram_kernel.specs.Marks.{mark_in};
 
 use bank_words::KernelImage;
-use frame_model::{Task, act_of_order, tasks_of, world_in};
+use frame_model::{Task, act_of_order, world_in};
 use scram_types::{Act, Area, Image, ProcId, Row, Spec};
 
-/// Returns the row of the frame that an image is of, by the areas before that frame, and the keepers after it.
+/// The marks and images of all processors, as a frame left them.
+#[derive(Clone, Copy)]
+pub(crate) struct Stored<'a> {
+    pub(crate) marks: &'a [u64; 8],
+    pub(crate) images: &'a [Image; 8],
+}
+
+/// Returns the row of the frame that an image is of, by what its mode asks of each application. The areas before that
+/// frame become those after it.
 pub(crate) fn draw(
     spec: &Spec,
     image: &KernelImage,
-    areas: &[Area; 8],
-    marks: &[u64; 8],
-    images: &[Image; 8],
-) -> (Row, [Option<ProcId>; 8])
-    ensures row { result.0 ≡ row_drawn spec.now image.now marks.now images.now areas.now }
-    ensures keepers { result.1 ≡ keepers_drawn spec.now image.now marks.now }
+    tasks: &[Task; 8],
+    stored: &Stored<'_>,
+    areas: &mut [Area; 8],
+) -> Row
+    requires tasks { tasks.now ≡ eight (task_said spec.now image.now) }
+    ensures row { result ≡ row_drawn spec.now image.now stored.now.marks.now stored.now.images.now areas.old }
+    ensures areas { areas.new ≡ result.areas }
 {
-    let tasks = tasks_of(spec, &image.mode, image.frame);
-    let acts = acts_drawn(image, &tasks, marks);
-    let areas = areas_drawn(image, &tasks, marks, images, areas);
-    let world = world_in(spec, image.world, &areas);
-    let row = Row {
+    draw_areas(image, tasks, stored, areas);
+    Row {
         frame: image.frame,
         env: image.env,
         mode: image.mode,
-        acts,
-        areas,
-        world,
-    };
-    (row, keepers_drawn(image, &tasks, marks))
+        acts: acts_drawn(image, tasks, stored.marks),
+        areas: *areas,
+        world: world_in(spec, image.world, areas),
+    }
 }
 
 fn acts_drawn(image: &KernelImage, tasks: &[Task; 8], marks: &[u64; 8]) -> [Act; 8]
@@ -53,36 +58,23 @@ fn acts_drawn(image: &KernelImage, tasks: &[Task; 8], marks: &[u64; 8]) -> [Act;
     ]
 }
 
-// The marks and images of all processors, as a frame left them.
-#[derive(Clone, Copy)]
-struct Stored<'a> {
-    marks: &'a [u64; 8],
-    images: &'a [Image; 8],
+// Makes the areas before the frame those after it.
+fn draw_areas(image: &KernelImage, tasks: &[Task; 8], stored: &Stored<'_>, areas: &mut [Area; 8])
+    ensures { (spec : Parts) → tasks.now ≡ eight (task_said spec image.now)
+        → areas.new ≡ areas_drawn spec image.now stored.now.marks.now stored.now.images.now areas.old }
+{
+    for a in 0..8 {
+        let at = usize::from(a);
+        draw_area(&tasks[at], stored, image.frame, a, &mut areas[at]);
+    }
 }
 
-fn areas_drawn(
+/// Returns the processors that keep the areas after the frame.
+pub(crate) fn keepers_drawn(
     image: &KernelImage,
     tasks: &[Task; 8],
     marks: &[u64; 8],
-    images: &[Image; 8],
-    areas: &[Area; 8],
-) -> [Area; 8]
-    ensures { (spec : Parts) → tasks.now ≡ eight (task_said spec image.now) → result ≡ areas_drawn spec image.now marks.now images.now areas.now }
-{
-    let stored = Stored { marks, images };
-    [
-        area_from(&tasks[0], &stored, areas, image.frame, 0),
-        area_from(&tasks[1], &stored, areas, image.frame, 1),
-        area_from(&tasks[2], &stored, areas, image.frame, 2),
-        area_from(&tasks[3], &stored, areas, image.frame, 3),
-        area_from(&tasks[4], &stored, areas, image.frame, 4),
-        area_from(&tasks[5], &stored, areas, image.frame, 5),
-        area_from(&tasks[6], &stored, areas, image.frame, 6),
-        area_from(&tasks[7], &stored, areas, image.frame, 7),
-    ]
-}
-
-fn keepers_drawn(image: &KernelImage, tasks: &[Task; 8], marks: &[u64; 8]) -> [Option<ProcId>; 8]
+) -> [Option<ProcId>; 8]
     ensures { (spec : Parts) → tasks.now ≡ eight (task_said spec image.now) → result ≡ keepers_drawn spec image.now marks.now }
 {
     [
@@ -112,19 +104,18 @@ fn act_after(task: &Task, marks: &[u64; 8], frame: u32) -> Act
     }
 }
 
-fn area_from(task: &Task, stored: &Stored<'_>, areas: &[Area; 8], frame: u32, a: u8) -> Area
+// Makes the area of an application before the frame the one after it. One that is lost stays as it is.
+fn draw_area(task: &Task, stored: &Stored<'_>, frame: u32, a: u8, area: &mut Area)
     requires { a < 8 }
-    ensures { result ≡ area_from (has_committed stored.now.marks.now frame) stored.now.images.now a (area_at areas.now a) task.now.proc }
+    ensures { area.new ≡ area_from (has_committed stored.now.marks.now frame) stored.now.images.now a area.old task.now.proc }
 {
     match task.proc {
         Some(proc) => {
             if has_committed(stored.marks, proc, frame) {
-                slot_of(stored.images, proc, a)
-            } else {
-                areas[usize::from(a)]
+                *area = slot_of(stored.images, proc, a);
             }
         }
-        None => [0; 8],
+        None => *area = [0; 8],
     }
 }
 
@@ -226,17 +217,17 @@ mod tests {
         image[8] = 5;
         image[15] = -3;
         let images = [image; 8];
-        let areas = [[7; 8]; 8];
         let stored = Stored {
             marks: &MARKS,
             images: &images,
         };
-        let made = area_from(&task(Some(ProcId(0))), &stored, &areas, 4, 1);
-        assert_eq!(rt; made, [5, 0, 0, 0, 0, 0, 0, -3]);
-        let lost = area_from(&task(Some(ProcId(1))), &stored, &areas, 4, 1);
-        assert_eq!(rt; lost, [7; 8]);
-        let off = area_from(&task(None), &stored, &areas, 4, 1);
-        assert_eq!(rt; off, [0; 8]);
+        let mut area = [7; 8];
+        draw_area(&task(Some(ProcId(1))), &stored, 4, 1, &mut area);
+        assert_eq!(rt; area, [7; 8]);
+        draw_area(&task(Some(ProcId(0))), &stored, 4, 1, &mut area);
+        assert_eq!(rt; area, [5, 0, 0, 0, 0, 0, 0, -3]);
+        draw_area(&task(None), &stored, 4, 1, &mut area);
+        assert_eq!(rt; area, [0; 8]);
     }
 
     #[test]

@@ -33,11 +33,11 @@ pub(crate) fn image_next(
     ensures { result ≡ image_next spec.now row.now keepers env }
 {
     let phase = phase_at(spec, &row.mode, row.frame);
-    let areas = row.areas;
+    // A decision reads no areas.
     let sys = Sys {
         frame: row.frame + 1,
         mode: row.mode,
-        areas,
+        areas: [[0; 8]; 8],
         keepers,
         world: row.world,
         up: 0,

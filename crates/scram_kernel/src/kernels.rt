@@ -1,10 +1,10 @@
 //! The kernel of a flight, with its log.
 
-use crate::drawing::draw;
+use crate::drawing::{Stored, draw, keepers_drawn};
 use crate::images::{image_given, image_next};
 use bank_words::KernelImage;
 use fault_script::Walk;
-use frame_model::{Reading, Sys, close, read_row};
+use frame_model::{Reading, Sys, close, read_row, tasks_of};
 use scram_types::{Area, Flown, Image, List, NoMemory, Report, Row, Script, Spec};
 use std::alloc::Global;
 
@@ -103,14 +103,15 @@ impl<'a> Kernel<'a> {
         ensures kernel { self.new ≡ kernel_after self.old.spec self.old.script (self.old.past + 1) }
         ensures image { result ≡ kernel_image self.old.spec self.old.script (self.old.past + 1) }
     {
-        let (row, keepers) = draw(self.spec, &self.image, &self.areas, marks, images);
+        let stored = Stored { marks, images };
+        let tasks = tasks_of(self.spec, &self.image.mode, self.image.frame);
+        let keepers = keepers_drawn(&self.image, &tasks, marks);
+        let row = draw(self.spec, &self.image, &tasks, &stored, &mut self.areas);
         let (reading, report) = read_row(self.spec, self.reading, row.frame, &row.acts);
         let walk = self.walk.next(self.spec, self.script);
         let image = image_next(self.spec, &row, keepers, walk.env);
-        let areas = row.areas;
         self.rows.push_reserved(row);
         log(&mut self.reports, report);
-        self.areas = areas;
         self.reading = reading;
         self.walk = walk;
         self.image = image;
