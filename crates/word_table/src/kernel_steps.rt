@@ -82,7 +82,7 @@ impl WordTable {
         kseat.step += 1;
     }
 
-    /// Releases the next frame, and wakes the processors that are parked on it. It does not block.
+    /// Releases the next frame, and wakes the processors that sleep on it. It does not block.
     pub fn release(&self, kseat: &mut KSeat)
         requires seat { IsKernelSeatOf self.now kseat.old }
         requires next { kernel_steps kseat.old ≡ length (mission_in self.now).spec.procs + 20 }
@@ -98,6 +98,6 @@ impl WordTable {
             .store::<Releases>(&mut kseat.inner, 0, release);
         kseat.frame += 1;
         kseat.step = 0;
-        self.table.shared.wake_all(0);
+        self.wake_processors();
     }
 }

@@ -107,7 +107,7 @@ impl WordTable {
         seat.step += 1;
     }
 
-    /// Ends the frame of the seat, and wakes the kernel if it is parked on that. It does not block.
+    /// Ends the frame of the seat, and wakes the kernel if it sleeps on that. It does not block.
     pub fn done(&self, seat: &mut Seat)
         requires seat { IsSeatOf self.now seat.old }
         requires next { next_step self.now seat.old ≡ Some (Done (proc_id (proc_of seat.old))) }
@@ -121,10 +121,10 @@ impl WordTable {
         self.table.shared.store::<Ends>(&mut seat.inner, at, end);
         seat.frame += 1;
         seat.step = 0;
-        self.table.shared.wake_one(at);
+        self.wake_kernel(at);
     }
 
-    /// Halts the seat's processor in its frame, and wakes the kernel if it is parked on that. It does not block.
+    /// Halts the seat's processor in its frame, and wakes the kernel if it sleeps on that. It does not block.
     pub fn halt(&self, seat: &mut Seat)
         requires seat { IsSeatOf self.now seat.old }
         requires next { next_step self.now seat.old ≡ Some (Halt (proc_id (proc_of seat.old))) }
@@ -138,6 +138,6 @@ impl WordTable {
         self.table.shared.store::<Halts>(&mut seat.inner, at, end);
         seat.step = 0;
         seat.halted = true;
-        self.table.shared.wake_one(at);
+        self.wake_kernel(at);
     }
 }

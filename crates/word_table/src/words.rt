@@ -110,7 +110,7 @@ impl<'a> Words<'a> {
         self.table.flip(seat);
     }
 
-    /// Ends the frame of the seat, and wakes the kernel if it is parked on that. It does not block.
+    /// Ends the frame of the seat, and wakes the kernel if it sleeps on that. It does not block.
     pub fn done(&self, seat: &mut Seat)
         requires seat { IsSeatOf self.now.table seat.old }
         requires next { next_step self.now.table seat.old ≡ Some (Done (proc_id (proc_of seat.old))) }
@@ -122,7 +122,7 @@ impl<'a> Words<'a> {
         self.table.done(seat);
     }
 
-    /// Halts the seat's processor in its frame, and wakes the kernel if it is parked on that. It does not block.
+    /// Halts the seat's processor in its frame, and wakes the kernel if it sleeps on that. It does not block.
     pub fn halt(&self, seat: &mut Seat)
         requires seat { IsSeatOf self.now.table seat.old }
         requires next { next_step self.now.table seat.old ≡ Some (Halt (proc_id (proc_of seat.old))) }
@@ -168,7 +168,7 @@ impl<'a> Words<'a> {
         self.table.publish(kseat, i, word);
     }
 
-    /// Releases the next frame, and wakes the processors that are parked on it. It does not block.
+    /// Releases the next frame, and wakes the processors that sleep on it. It does not block.
     pub fn release(&self, kseat: &mut KSeat)
         requires seat { IsKernelSeatOf self.now.table kseat.old }
         requires next { kernel_steps kseat.old ≡ length (mission_in self.now.table).spec.procs + 20 }
