@@ -141,9 +141,13 @@ impl Flyers {
     {
         let _procs = spec.procs.items().len();
         let snap = core.snapshot(p);
-        let draft = self.all[usize::from(p.0)].draft(spec, &snap);
-        self.drafted[usize::from(p.0)] = Some(draft);
-        draft.image
+        let mut image = [0; 64];
+        self.all[usize::from(p.0)].draft(spec, &snap, &mut image);
+        self.drafted[usize::from(p.0)] = Some(Draft {
+            frame: snap.kernel.frame,
+            image,
+        });
+        image
     }
 }
 

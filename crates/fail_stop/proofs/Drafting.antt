@@ -1,6 +1,8 @@
 -- What a processor makes of a snapshot is the definition's, and in a flight it is the draft of the one-thread trace.
-use Rattle.std.proofs.Common.{◌≡◌, ◌∙◌, ℕ, zero, suc, ◌<◌, refl, ap, sym, subst, arith, length, Bool, true, false, List}
-use Rattle.std.specs.Prelude.{ℤ, Option, Some, None, IfSome, option_map, if◌then◌else◌}
+use Rattle.std.proofs.Common.{◌≡◌, ◌∙◌, ℕ, zero, suc, ◌+◌, ◌<◌, refl, ap, sym, subst, arith, length, Bool, true, false, List}
+use native.Mathlib.Decide.{ℕ_discrete}
+use Rattle.std.specs.Prelude.{ℤ, Option, Some, None, IfSome, option_map, if◌then◌else◌, nat_eq, nat_lt}
+use Rattle.std.proofs.lemmas.Bool.Decides.{nat_tests}
 use Rattle.scram_types.specs.declared.rows.Env.{Env}
 use Rattle.scram_types.specs.declared.ids.ProcId.{ProcId}
 use Rattle.scram_types.specs.declared.specification.Place.{Place}
@@ -11,7 +13,6 @@ use Rattle.scram_types.specs.Specification.{IsSpec, Parts}
 use Rattle.scram_types.proofs.Eights.{eight_at, eight_same}
 use Rattle.app_model.specs.declared.seen.Seen.{Seen}
 use Rattle.app_model.specs.Law.{law}
-use Rattle.app_model.proofs.Lengths.{either_eight, law_eight}
 use Rattle.bank_words.specs.declared.images.KernelImage.{KernelImage}
 use Rattle.fault_script.specs.Environments.{env_at}
 use Rattle.fault_script.specs.Times.{commits}
@@ -19,43 +20,58 @@ use Rattle.frame_model.specs.declared.tasks.Task.{Task}
 use Rattle.frame_model.specs.Flights.{decided, draft, image_in, image_of, is_proc, slot_after, slot_drafted, slot_in, state_after, task_given}
 use Rattle.frame_model.specs.Laws.{AreasAreKept, IsSlotOfKeeper}
 use Rattle.frame_model.specs.Phases.{phase_at}
-use Rattle.frame_model.specs.States.{State, area_at, keeper_after, keeper_at, keeper_on, seen_by_all, seen_in, start_keeper_of, zeros}
+use Rattle.frame_model.specs.States.{State, area_at, keeper_after, keeper_at, keeper_on, seen_by_all, seen_in, start_keeper_of}
 use Rattle.frame_model.specs.Tasks.{off_task, task_in, task_of}
 use Rattle.frame_model.proofs.Agreeing.{Exists, place_exists, task_exists}
 use Rattle.frame_model.proofs.Slots.{slot_is}
 use Rattle.fail_stop.specs.declared.snapshots.Snapshot.{Snapshot}
-use Rattle.fail_stop.specs.Drafts.{AreEight, IsSnapshot, area_kept, areas_shown, draft_made, slot_made, state_shown, task_among}
-
--- each slot that is made has eight words
-
-area_eight : (images : List (List ℤ)) (keeper : Option ProcId) (a : ℕ) → length (area_kept images keeper a) ≡ 8
-area_eight images None a = refl
-area_eight images (Some q) a = refl
-
-shown_eight : (snap : Snapshot) (a : ℕ) → a < 8 → length (area_at (areas_shown snap) a) ≡ 8
-shown_eight snap a low =
-    ap length (eight_at (λ b. area_kept snap.images (keeper_at snap.kernel.keepers b) b) a zeros low) ∙ area_eight snap.images (keeper_at snap.kernel.keepers a) a
-
-made_eight : (spec : Parts) (snap : Snapshot) (tasks : List Task) (seen : Seen) (own : List ℤ) (p a : ℕ) → a < 8 → length (slot_made spec tasks seen (areas_shown snap) own p a) ≡ 8
-made_eight spec snap tasks seen own p a low =
-    either_eight _ _ (is_proc p (task_among tasks a).proc)
-    (law_eight (kind_of_app spec a) (task_among tasks a).order (seen_in seen (task_among tasks a).mode (area_at (areas_shown snap) a)) (shown_eight snap a low))
-    refl
-
-pub slots_eight : (spec : Parts) (snap : Snapshot) (tasks : List Task) (seen : Seen) (areas slots : List (List ℤ)) (own : List ℤ) (p : ℕ)
-    → areas ≡ areas_shown snap → slots ≡ eight (slot_made spec tasks seen areas own p) → AreEight (area_at slots)
-slots_eight spec snap tasks seen areas slots own p is_areas is_slots a low =
-    let same : slots ≡ eight (slot_made spec tasks seen (areas_shown snap) own p) = is_slots ∙ ap (λ (shown : List (List ℤ)). eight (slot_made spec tasks seen shown own p)) is_areas in
-    ap (λ (made : List (List ℤ)). length (area_at made a)) same ∙ ap length (eight_at (slot_made spec tasks seen (areas_shown snap) own p) a zeros low) ∙ made_eight spec snap tasks seen own p a low
+use Rattle.fail_stop.specs.Drafts.{IsSnapshot, area_kept, areas_shown, draft_made, slot_made, state_shown, task_among}
+use Rattle.fail_stop.proofs.Joining.{image_same, of_slots}
 
 -- the parts of a draft
 
-pub draft_is : (spec : Parts) (snap : Snapshot) (p : ℕ) (tasks : List Task) (seen : Seen) (areas slots : List (List ℤ)) (own image : List ℤ)
+pub draft_is : (spec : Parts) (snap : Snapshot) (p : ℕ) (tasks : List Task) (seen : Seen) (areas : List (List ℤ)) (own image : List ℤ)
     → tasks ≡ eight (task_of spec snap.kernel.mode snap.kernel.frame) → seen ≡ seen_by_all spec snap.kernel.env (state_shown snap)
     → areas ≡ areas_shown snap → own ≡ image_in snap.images p
-    → slots ≡ eight (slot_made spec tasks seen areas own p) → image ≡ image_of (area_at slots) → image ≡ draft_made spec snap p
-draft_is spec snap p tasks seen areas slots own image is_tasks is_seen is_areas is_own is_slots is_image =
-    is_image ∙ rw (is_slots, is_tasks, is_seen, is_areas, is_own) refl
+    → image ≡ image_of (slot_made spec tasks seen areas own p) → image ≡ draft_made spec snap p
+draft_is spec snap p tasks seen areas own image is_tasks is_seen is_areas is_own is_image = is_image ∙ rw (is_tasks, is_seen, is_areas, is_own) refl
+
+-- the slots of the first n applications are made, and those of the others stand as they stood
+
+abbrev pub MadeBelow : (ℕ → List ℤ) → ℕ → List ℤ → List ℤ → Type 0
+MadeBelow slot n old image = (b : ℕ) → b < 8 → slot_in image b ≡ (if nat_lt b n then slot b else slot_in old b)
+
+pub none_made : (slot : ℕ → List ℤ) (image : List ℤ) → MadeBelow slot 0 image image
+none_made slot image b low = let none : nat_lt b 0 ≡ false = grind (arith, nat_tests) in rw none refl
+
+-- what is made is put in the place of the old slot
+pub one_made : (slot : ℕ → List ℤ) (n : ℕ) (area old image after : List ℤ) → MadeBelow slot n old image → area ≡ slot n → ((b : ℕ) → b < 8 → slot_in after b ≡ (if nat_eq b n then area else slot_in image b))
+    → MadeBelow slot (n + 1) old after
+one_made slot n area old image after before is put b low = put b low ∙ by_place (ℕ_discrete b n) (before b low)
+  where
+    by_place : Dec (b ≡ n) → slot_in image b ≡ (if nat_lt b n then slot b else slot_in old b) → (if nat_eq b n then area else slot_in image b) ≡ (if nat_lt b (n + 1) then slot b else slot_in old b)
+    by_place (yes d) was =
+        let here : nat_eq b n ≡ true = grind (arith, nat_tests, d) in
+        let under : nat_lt b (n + 1) ≡ true = grind (arith, nat_tests, d) in
+        rw (here, under, d) is
+    by_place (no d) was =
+        let other : nat_eq b n ≡ false = grind (arith, nat_tests, d) in
+        let same : nat_lt b (n + 1) ≡ nat_lt b n = grind (arith, nat_tests, d) in
+        rw (other, same) was
+
+-- what is not made stays
+pub one_kept : (slot : ℕ → List ℤ) (n : ℕ) (old image : List ℤ) → MadeBelow slot n old image → slot n ≡ slot_in old n → MadeBelow slot (n + 1) old image
+one_kept slot n old image before is b low = by_place (ℕ_discrete b n) (before b low)
+  where
+    by_place : Dec (b ≡ n) → slot_in image b ≡ (if nat_lt b n then slot b else slot_in old b) → slot_in image b ≡ (if nat_lt b (n + 1) then slot b else slot_in old b)
+    by_place (yes d) was =
+        let not_yet : nat_lt b n ≡ false = grind (arith, nat_tests, d) in
+        let under : nat_lt b (n + 1) ≡ true = grind (arith, nat_tests, d) in
+        was ∙ rw (not_yet, under, d) (sym is)
+    by_place (no d) was = let same : nat_lt b (n + 1) ≡ nat_lt b n = grind (arith, nat_tests, d) in was ∙ rw same refl
+
+pub all_made : (slot : ℕ → List ℤ) (old image : List ℤ) → length image ≡ 64 → MadeBelow slot 8 old image → image ≡ image_of slot
+all_made slot old image long made = of_slots image long ∙ image_same (slot_in image) slot (λ b low. let under : nat_lt b 8 ≡ true = grind (arith, nat_tests, low) in made b low ∙ rw under refl)
 
 -- keepers exist
 
@@ -131,16 +147,3 @@ module _ (spec : Parts) (is : IsSpec spec) (script : ScriptParts) (f : ℕ) (sna
 
   pub draft_same : (p : ℕ) → p < length spec.procs → draft_made spec snap p ≡ draft spec script p f
   draft_same p there = image_same _ _ (λ a low. made_same p a there low)
-    where
-      image_same : (slot other : ℕ → List ℤ) → ((a : ℕ) → a < 8 → slot a ≡ other a) → image_of slot ≡ image_of other
-      image_same slot other same =
-          rw (
-            same 0 (omega arith),
-            same 1 (omega arith),
-            same 2 (omega arith),
-            same 3 (omega arith),
-            same 4 (omega arith),
-            same 5 (omega arith),
-            same 6 (omega arith),
-            same 7 (omega arith),
-          ) refl

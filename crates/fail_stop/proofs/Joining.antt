@@ -1,29 +1,15 @@
 -- Eight slots, one after another, word by word.
-use Rattle.std.proofs.Common.{◌≡◌, ◌∙◌, ℕ, ◌+◌, ◌*◌, ◌/◌, ◌%◌, ◌<◌, refl, ap, sym, arith, length, List, ◌++◌, get_or}
+use Rattle.std.proofs.Common.{◌≡◌, ◌∙◌, ◌⊎◌, ℕ, ◌+◌, ◌*◌, ◌/◌, ◌%◌, ◌<◌, ◌≤◌, refl, ap, sym, arith, length, List, ◌++◌, get_or, true, false}
 use mathlib.Core.Logic.{inl, inr}
-use Rattle.std.specs.Prelude.{ℤ, pos, slice_index_or, slice_set}
+use native.Mathlib.Decide.{dec_le, ℕ_discrete}
+use Rattle.std.specs.Prelude.{ℤ, pos, slice_index_or, slice_set, if◌then◌else◌, nat_eq}
+use Rattle.std.proofs.lemmas.Bool.Decides.{nat_tests}
 use Rattle.std.proofs.lemmas.Grind.{get_or-set_at}
 use Rattle.std.proofs.lemmas.List.{ext_get_or, get_or-set_other, length-append, length-set}
-use Rattle.scram_types.proofs.Eights.{eight_at}
+use Rattle.scram_types.proofs.Eights.{eight_at, eight_same}
 use Rattle.scram_types.proofs.Naturals.{below_or_at}
-use Rattle.frame_model.specs.Flights.{image_of}
-use Rattle.frame_model.specs.States.{area_at}
+use Rattle.frame_model.specs.Flights.{image_of, slot_in}
 use Rattle.frame_model.proofs.Slots.{slot_found}
-
--- The first n of 64 words are those of the slots.
-pub record Joined (slots : List (List ℤ)) (image : List ℤ) (n : ℕ) : Type 0 where
-  pub long : length image ≡ 64
-  pub front : (k : ℕ) → k < n → get_or image k (pos 0) ≡ get_or (area_at slots (k / 8)) (k % 8) (pos 0)
-
-front_more : (slots : List (List ℤ)) (image : List ℤ) (n : ℕ) (v : ℤ) → Joined slots image n → n < 64 → v ≡ get_or (area_at slots (n / 8)) (n % 8) (pos 0)
-    → (k : ℕ) → k < n + 1 → get_or (slice_set image n v) k (pos 0) ≡ get_or (area_at slots (k / 8)) (k % 8) (pos 0)
-front_more slots image n v joined low is k under = elim (below_or_at k n (omega arith)) [
-  | inl before ↦ get_or-set_other image n k v (pos 0) (λ same. omega arith) ∙ joined.front k before
-  | inr here ↦ let inside : n < length image = rw joined.long low in get_or-set_at image n k v (pos 0) here inside ∙ is ∙ ap (λ (j : ℕ). get_or (area_at slots (j / 8)) (j % 8) (pos 0)) (sym here)
-]
-
-pub joined_more : (slots : List (List ℤ)) (image : List ℤ) (n : ℕ) (v : ℤ) → Joined slots image n → n < 64 → v ≡ get_or (area_at slots (n / 8)) (n % 8) (pos 0) → Joined slots (slice_set image n v) (n + 1)
-joined_more slots image n v joined low is = record { long = length-set image n v ∙ joined.long; front = front_more slots image n v joined low is }
 
 -- an image has 64 words, and each is that of its slot
 
@@ -44,10 +30,65 @@ word_found : (slot : ℕ → List ℤ) → ((a : ℕ) → a < 8 → length (slot
 word_found slot is a i low small =
     sym (eight_at (λ j. slice_index_or (image_of slot) (8 * a + j) (pos 0)) i (pos 0) small) ∙ ap (λ (area : List ℤ). slice_index_or area i (pos 0)) (slot_found slot is a low)
 
-pub joined_all : (slots : List (List ℤ)) (image : List ℤ) → ((a : ℕ) → a < 8 → length (area_at slots a) ≡ 8) → Joined slots image 64 → image ≡ image_of (area_at slots)
-joined_all slots image is joined =
-    ext_get_or (pos 0) image (image_of (area_at slots)) (joined.long ∙ sym (image_long (area_at slots) is))
+-- an image is that of its slots
+pub of_slots : (image : List ℤ) → length image ≡ 64 → image ≡ image_of (slot_in image)
+of_slots image long =
+    ext_get_or (pos 0) image (image_of (slot_in image)) (long ∙ sym (image_long (slot_in image) (λ a low. refl)))
     (λ k low.
-    let under : k < 64 = rw joined.long at low in
+    let under : k < 64 = rw long at low in
     let place : 8 * (k / 8) + k % 8 ≡ k = omega arith in
-    joined.front k under ∙ sym (word_found (area_at slots) is (k / 8) (k % 8) (omega arith) (omega arith)) ∙ ap (λ (j : ℕ). get_or (image_of (area_at slots)) j (pos 0)) place)
+    ap (λ (j : ℕ). get_or image j (pos 0)) (sym place)
+    ∙ sym (eight_at (λ i. slice_index_or image (8 * (k / 8) + i) (pos 0)) (k % 8) (pos 0) (omega arith))
+    ∙ sym (word_found (slot_in image) (λ a low. refl) (k / 8) (k % 8) (omega arith) (omega arith))
+    ∙ ap (λ (j : ℕ). get_or (image_of (slot_in image)) j (pos 0)) place)
+
+-- images of the same slots are the same
+pub image_same : (slot other : ℕ → List ℤ) → ((a : ℕ) → a < 8 → slot a ≡ other a) → image_of slot ≡ image_of other
+image_same slot other same =
+    rw (
+      same 0 (omega arith),
+      same 1 (omega arith),
+      same 2 (omega arith),
+      same 3 (omega arith),
+      same 4 (omega arith),
+      same 5 (omega arith),
+      same 6 (omega arith),
+      same 7 (omega arith),
+    ) refl
+
+-- The first n words of the slot of application a in an image are these, and the slots of others stand as they stood.
+pub record IsPut (a n : ℕ) (area old image : List ℤ) : Type 0 where
+  pub long : length image ≡ 64
+  pub put : (i : ℕ) → i < n → slice_index_or image (8 * a + i) (pos 0) ≡ slice_index_or area i (pos 0)
+  pub lower : (k : ℕ) → k < 8 * a → slice_index_or image k (pos 0) ≡ slice_index_or old k (pos 0)
+  pub upper : (k : ℕ) → 8 * a + 8 ≤ k → slice_index_or image k (pos 0) ≡ slice_index_or old k (pos 0)
+
+pub none_put : (a : ℕ) (area image : List ℤ) → length image ≡ 64 → IsPut a 0 area image image
+none_put a area image long = record { long = long; put = λ i low. absurd (omega (arith, low)); lower = λ k low. refl; upper = λ k high. refl }
+
+pub more_put : (a n : ℕ) (area old image : List ℤ) (x : ℤ) → IsPut a n area old image → a < 8 → n < 8 → x ≡ slice_index_or area n (pos 0) → IsPut a (n + 1) area old (slice_set image (8 * a + n) x)
+more_put a n area old image x before few low is = record {
+  long = length-set image (8 * a + n) x ∙ before.long;
+  put = λ i most. by_place i most (below_or_at i n (omega (arith, most)));
+  lower = λ k under. get_or-set_other image (8 * a + n) k x (pos 0) (λ same. omega (arith, same, under)) ∙ before.lower k under;
+  upper = λ k over. get_or-set_other image (8 * a + n) k x (pos 0) (λ same. omega (arith, same, over, low)) ∙ before.upper k over;
+} where
+  by_place : (i : ℕ) → i < n + 1 → (i < n) ⊎ (i ≡ n) → slice_index_or (slice_set image (8 * a + n) x) (8 * a + i) (pos 0) ≡ slice_index_or area i (pos 0)
+  by_place i most (inl front) = get_or-set_other image (8 * a + n) (8 * a + i) x (pos 0) (λ same. omega (arith, same, front)) ∙ before.put i front
+  by_place i most (inr here) =
+      get_or-set_at image (8 * a + n) (8 * a + i) x (pos 0) (omega (arith, here)) (omega (arith, few, low, before.long)) ∙ is ∙ ap (λ (j : ℕ). slice_index_or area j (pos 0)) (sym here)
+
+pub all_put : (a : ℕ) (area old image : List ℤ) → length area ≡ 8 → IsPut a 8 area old image → (b : ℕ) → b < 8 → slot_in image b ≡ (if nat_eq b a then area else slot_in old b)
+all_put a area old image long put b low = by_place (ℕ_discrete b a)
+  where
+    by_place : Dec (b ≡ a) → slot_in image b ≡ (if nat_eq b a then area else slot_in old b)
+    by_place (yes d) =
+        let same : nat_eq b a ≡ true = grind (arith, nat_tests, d) in
+        rw (same, d) (ext_get_or (pos 0) (slot_in image a) area (sym long) (λ k small. eight_at (λ i. slice_index_or image (8 * a + i) (pos 0)) k (pos 0) small ∙ put.put k small))
+    by_place (no d) =
+        let other : nat_eq b a ≡ false = grind (arith, nat_tests, d) in
+        rw other (eight_same (λ i. slice_index_or image (8 * b + i) (pos 0)) (λ i. slice_index_or old (8 * b + i) (pos 0)) (λ i small. by_side i small (dec_le a b)))
+      where
+        by_side : (i : ℕ) → i < 8 → Dec (a ≤ b) → slice_index_or image (8 * b + i) (pos 0) ≡ slice_index_or old (8 * b + i) (pos 0)
+        by_side i small (yes e) = put.upper (8 * b + i) (omega (arith, d, e))
+        by_side i small (no e) = put.lower (8 * b + i) (omega (arith, e, small))

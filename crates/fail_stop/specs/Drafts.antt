@@ -14,10 +14,6 @@ use Rattle.frame_model.specs.Storage.{kernel_image}
 use Rattle.frame_model.specs.Tasks.{off_task, task_of}
 use Rattle.fail_stop.specs.declared.snapshots.Snapshot.{Snapshot}
 
--- Each of eight slots has eight words.
-abbrev pub AreEight : (ℕ → List ℤ) → Type 0
-AreEight slot = (a : ℕ) → a < 8 → length (slot a) ≡ 8
-
 -- The task of application a among eight.
 abbrev pub task_among : List Task → ℕ → Task
 task_among tasks a = slice_index_or tasks a off_task
@@ -35,12 +31,14 @@ areas_shown snap = eight (λ a. area_kept snap.images (keeper_at snap.kernel.kee
 abbrev pub state_shown : Snapshot → State
 state_shown snap = record { mode = snap.kernel.mode; arrived = false; areas = areas_shown snap; keepers = snap.kernel.keepers; world = snap.kernel.world }
 
+-- The area of application a after a frame with these tasks, by the law.
+abbrev pub area_made : Parts → List Task → Seen → List (List ℤ) → ℕ → List ℤ
+area_made spec tasks seen areas a = law (kind_of_app spec a) (task_among tasks a).order (seen_in seen (task_among tasks a).mode (area_at areas a))
+
 -- The slot of application a that processor p makes: the law's where the task names p, else the old one.
 abbrev pub slot_made : Parts → List Task → Seen → List (List ℤ) → List ℤ → ℕ → ℕ → List ℤ
 slot_made spec tasks seen areas image p a =
-    if is_proc p (task_among tasks a).proc
-    then law (kind_of_app spec a) (task_among tasks a).order (seen_in seen (task_among tasks a).mode (area_at areas a))
-    else slot_in image a
+    if is_proc p (task_among tasks a).proc then area_made spec tasks seen areas a else slot_in image a
 
 -- The image that processor p makes of a snapshot.
 abbrev pub draft_made : Parts → Snapshot → ℕ → List ℤ

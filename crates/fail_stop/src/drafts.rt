@@ -1,10 +1,9 @@
 //! What a processor makes of what it sees in a frame.
 
-ghost use Rattle.std.specs.Prelude.{◌≡◌, ◌<◌};
-ghost use Rattle.scram_types.specs.Eights.{eight};
-ghost use Rattle.frame_model.specs.Flights.{image_of, is_proc};
-ghost use Rattle.frame_model.specs.States.{area_at, keeper_at};
-ghost use Rattle.fail_stop.specs.Drafts.{AreEight, area_kept, areas_shown, slot_made};
+ghost use Rattle.std.specs.Prelude.{◌≡◌, ◌<◌, if◌then◌else◌, nat_eq, ℕ};
+ghost use Rattle.frame_model.specs.Flights.{image_of, is_proc, slot_in};
+ghost use Rattle.frame_model.specs.States.{keeper_at};
+ghost use Rattle.fail_stop.specs.Drafts.{area_kept, area_made, areas_shown, slot_made, task_among};
 
 use crate::snapshots::Snapshot;
 use app_model::racks::rack_frame;
@@ -15,10 +14,11 @@ use scram_types::{AppId, Area, Image, ProcId, Spec};
 
 /// What all applications of a frame share: their tasks, what they see, and their areas before the frame.
 #[derive(Clone, Copy)]
-pub(crate) struct Setting {
+pub(crate) struct Setting<'a> {
+    pub(crate) spec: &'a Spec,
     pub(crate) tasks: [Task; 8],
-    pub(crate) seen: Seen,
-    pub(crate) areas: [Area; 8],
+    pub(crate) seen: &'a Seen,
+    pub(crate) areas: &'a [Area; 8],
 }
 
 /// Returns the areas that a snapshot shows.
@@ -50,56 +50,46 @@ fn area_kept(snap: &Snapshot, a: u8) -> Area
     }
 }
 
-/// Returns the slots that processor `proc` makes, one call of a box for each application that it hosts.
-pub(crate) fn make_slots(
-    spec: &Spec,
-    proc: ProcId,
-    rack: &mut Rack,
-    setting: &Setting,
-    image: &Image,
-) -> [Area; 8]
-    ensures slots { let s = setting.now in result ≡ eight (slot_made spec.now s.tasks s.seen s.areas image.now proc.0) }
+/// Replaces the slots of the applications that processor `proc` hosts in its image of the frame before, one call of a
+/// box for each.
+pub(crate) fn make_slots(proc: ProcId, rack: &mut Rack, setting: &Setting<'_>, image: &mut Image)
+    ensures image { let s = setting.now in image.new ≡ image_of (slot_made s.spec.now s.tasks s.seen.now s.areas.now image.old proc.0) }
 {
-    let draft = Draft {
-        spec,
-        proc,
-        setting,
-        image,
-    };
-    [
-        make_slot(&draft, rack, 0),
-        make_slot(&draft, rack, 1),
-        make_slot(&draft, rack, 2),
-        make_slot(&draft, rack, 3),
-        make_slot(&draft, rack, 4),
-        make_slot(&draft, rack, 5),
-        make_slot(&draft, rack, 6),
-        make_slot(&draft, rack, 7),
-    ]
-}
-
-// What a processor makes its slots from: what it has to do and what it saw, and its image of the frame before.
-#[derive(Clone, Copy)]
-struct Draft<'a> {
-    spec: &'a Spec,
-    proc: ProcId,
-    setting: &'a Setting,
-    image: &'a Image,
-}
-
-fn make_slot(draft: &Draft<'_>, rack: &mut Rack, a: u8) -> Area
-    requires a { a < 8 }
-    ensures slot { let s = draft.now.setting.now in
-        result ≡ slot_made draft.now.spec.now s.tasks s.seen s.areas draft.now.image.now draft.now.proc.0 a }
-{
-    let setting = draft.setting;
-    let task = setting.tasks[usize::from(a)];
-    if is_proc(draft.proc, task.proc) {
-        let seen = seen_in(&setting.seen, task.mode, &setting.areas[usize::from(a)]);
-        rack_frame(rack, draft.spec.kind_of_app(AppId(a)), task.order, &seen)
-    } else {
-        slot_in(draft.image, a)
+    for a in 0..8 {
+        if hosts(proc, setting, a) {
+            let area = area_made(rack, setting, a);
+            put_slot(image, a, &area);
+        }
     }
+}
+
+// Returns the area of an application after the frame, by a call of its box.
+fn area_made(rack: &mut Rack, setting: &Setting<'_>, a: u8) -> Area
+    requires a { a < 8 }
+    ensures area { let s = setting.now in result ≡ area_made s.spec.now s.tasks s.seen.now s.areas.now a }
+{
+    let task = setting.tasks[usize::from(a)];
+    let seen = seen_in(setting.seen, task.mode, &setting.areas[usize::from(a)]);
+    rack_frame(rack, setting.spec.kind_of_app(AppId(a)), task.order, &seen)
+}
+
+// Replaces the slot of an application in an image.
+fn put_slot(image: &mut Image, a: u8, area: &Area)
+    requires a { a < 8 }
+    ensures slots { (b : ℕ) → b < 8 → slot_in image.new b ≡ (if nat_eq b a then area.now else slot_in image.old b) }
+{
+    let first = 8 * usize::from(a);
+    for i in 0..8 {
+        image[first + i] = area[i];
+    }
+}
+
+// Returns whether a processor hosts an application in the frame.
+fn hosts(proc: ProcId, setting: &Setting<'_>, a: u8) -> bool
+    requires a { a < 8 }
+    ensures { result ≡ is_proc proc.0 (task_among setting.now.tasks a).proc }
+{
+    is_proc(proc, setting.tasks[usize::from(a)].proc)
 }
 
 fn is_proc(proc: ProcId, named: Option<ProcId>) -> bool
@@ -109,16 +99,4 @@ fn is_proc(proc: ProcId, named: Option<ProcId>) -> bool
         Some(named) => named.0 == proc.0,
         None => false,
     }
-}
-
-/// Returns the image that has these slots, one after another.
-pub(crate) fn image_of(slots: &[Area; 8]) -> Image
-    requires { AreEight (area_at slots.now) }
-    ensures { result ≡ image_of (area_at slots.now) }
-{
-    let mut image = [0; 64];
-    for k in 0..64 {
-        image[k] = slots[k / 8][k % 8];
-    }
-    image
 }

@@ -11,10 +11,10 @@ ghost use Rattle.fail_stop.specs.Events.{At};
 ghost use Rattle.fail_stop.specs.Flights.{Flight};
 ghost use Rattle.fail_stop.specs.Flyers.{AreFlyersAt, flyer_halted, flyer_started, is_down, unit_proc, unit_rack};
 
-use crate::snapshots::{Draft, Snapshot};
+use crate::snapshots::Snapshot;
 use crate::units::{Halted, Live};
 use app_model::Rack;
-use scram_types::{NoMemory, ProcId, Spec};
+use scram_types::{Image, NoMemory, ProcId, Spec};
 use std::alloc::Global;
 use std::vec::IntoIter;
 
@@ -89,20 +89,19 @@ impl Flyer {
         }
     }
 
-    /// Returns what the processor, which lives, drafts after a snapshot, as [`Live::draft`] has it.
-    pub fn draft(&mut self, spec: &Spec, snap: &Snapshot) -> Draft
+    /// Makes `image` what the processor, which lives, drafts after a snapshot, as [`Live::draft`] has it.
+    pub fn draft(&mut self, spec: &Spec, snap: &Snapshot, image: &mut Image)
         requires lives { is_down self.old.unit ≡ false }
         requires few { unit_proc self.old.unit < 8 }
-        ensures frame { result.frame ≡ snap.now.kernel.frame }
-        ensures image { result.image ≡ draft_made spec.now snap.now (unit_proc self.old.unit) }
+        ensures image { image.new ≡ draft_made spec.now snap.now (unit_proc self.old.unit) }
         ensures trace { (script : ScriptParts) (f : ℕ) → IsSpec spec.now → unit_proc self.old.unit < length spec.now.procs
-            → IsSnapshot spec.now script f snap.now → result.image ≡ draft spec.now script (unit_proc self.old.unit) f }
+            → IsSnapshot spec.now script f snap.now → image.new ≡ draft spec.now script (unit_proc self.old.unit) f }
         ensures lives { is_down self.new.unit ≡ false }
         ensures proc { unit_proc self.new.unit ≡ unit_proc self.old.unit }
         ensures spare { self.new.spare ≡ self.old.spare }
     {
         match &mut self.unit {
-            Unit::Up(live) => live.draft(spec, snap),
+            Unit::Up(live) => live.draft(spec, snap, image),
             Unit::Down(_) => unreachable!(),
         }
     }

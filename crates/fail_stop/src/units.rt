@@ -6,13 +6,13 @@ ghost use Rattle.scram_types.specs.Specification.{IsSpec};
 ghost use Rattle.frame_model.specs.Flights.{draft};
 ghost use Rattle.fail_stop.specs.Drafts.{IsSnapshot, draft_made};
 
-use crate::drafts::{Setting, areas_shown, image_of, make_slots};
+use crate::drafts::{Setting, areas_shown, make_slots};
 use crate::law::drafts_are_of_traces;
-use crate::snapshots::{Draft, Snapshot};
+use crate::snapshots::Snapshot;
 use app_model::Rack;
 use frame_model::sights::seen_by_all;
 use frame_model::tasks_of;
-use scram_types::{ProcId, Spec};
+use scram_types::{Image, ProcId, Spec};
 
 /// A processor that has not halted, with its boxes.
 #[derive(Drop)]
@@ -47,31 +47,28 @@ impl Live {
         self.proc
     }
 
-    /// Returns the image of this processor after the snapshot's frame: the area of each application that it hosts
-    /// there is what one call of its rack answers, and the other words are as they were. Where the snapshot is that
-    /// of a frame of a script, it is what the one-thread trace drafts in that frame.
-    pub fn draft(&mut self, spec: &Spec, snap: &Snapshot) -> Draft
+    /// Makes `image` the image of this processor after the snapshot's frame: the area of each application that it hosts
+    /// there is what one call of its rack answers, and the other words are as they were in its image of the snapshot.
+    /// Where the snapshot is that of a frame of a script, it is what the one-thread trace drafts in that frame.
+    pub fn draft(&mut self, spec: &Spec, snap: &Snapshot, image: &mut Image)
         requires proc { self.old.proc.0 < 8 }
-        ensures frame { result.frame ≡ snap.now.kernel.frame }
-        ensures image { result.image ≡ draft_made spec.now snap.now self.old.proc.0 }
+        ensures image { image.new ≡ draft_made spec.now snap.now self.old.proc.0 }
         ensures trace { (script : ScriptParts) (f : ℕ) → IsSpec spec.now → self.old.proc.0 < length spec.now.procs → IsSnapshot spec.now script f snap.now
-            → result.image ≡ draft spec.now script self.old.proc.0 f }
+            → image.new ≡ draft spec.now script self.old.proc.0 f }
         ensures proc { self.new.proc ≡ self.old.proc }
     {
-        let kernel = snap.kernel;
+        let kernel = &snap.kernel;
         let areas = areas_shown(snap);
+        let seen = seen_by_all(spec, &areas, kernel.world, &kernel.env);
         let setting = Setting {
+            spec,
             tasks: tasks_of(spec, &kernel.mode, kernel.frame),
-            seen: seen_by_all(spec, &areas, kernel.world, &kernel.env),
-            areas,
+            seen: &seen,
+            areas: &areas,
         };
-        let own = &snap.images[usize::from(self.proc.0)];
-        let slots = make_slots(spec, self.proc, &mut self.rack, &setting, own);
+        *image = snap.images[usize::from(self.proc.0)];
+        make_slots(self.proc, &mut self.rack, &setting, image);
         drafts_are_of_traces();
-        Draft {
-            frame: kernel.frame,
-            image: image_of(&slots),
-        }
     }
 
     /// Halts the processor in this frame, and drops its boxes.

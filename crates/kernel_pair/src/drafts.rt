@@ -58,9 +58,10 @@ fn draft_frame(
     ensures flyer { IsFlyerAt (flight_by setup.now) p.0 (after_frame frame ((flight_by setup.now).halt p.0 frame)) flyer.new }
 {
     flyer.start();
-    let draft = flyer.draft(setup.spec, snap);
+    let mut image = [0; 64];
+    flyer.draft(setup.spec, snap, &mut image);
     halt_after(flyer, halt_in(setup.script, p, frame), frame);
-    image_encoded(&draft.image)
+    image_encoded(&image)
 }
 
 // A processor halts in a frame, where it has a halt there.

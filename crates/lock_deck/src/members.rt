@@ -109,5 +109,10 @@ fn draft_by(mission: &Mission, flyer: &mut Flyer, snap: &Snapshot) -> Draft
     ensures spare { flyer.new.spare ≡ flyer.old.spare }
 {
     mission.holds();
-    flyer.draft(mission.spec(), snap)
+    let mut image = [0; 64];
+    flyer.draft(mission.spec(), snap, &mut image);
+    Draft {
+        frame: snap.kernel.frame,
+        image,
+    }
 }

@@ -78,12 +78,8 @@ fn fly_all(
     for _frame in 0..14u32 {
         let input = input_of(sys.frame);
         let snap = snapshot(spec, &sys, &input, &images);
-        let first = one.draft(spec, &snap);
-        let second = two.draft(spec, &snap);
-        let image = first.image;
-        images[0] = image;
-        let image = second.image;
-        images[1] = image;
+        one.draft(spec, &snap, &mut images[0]);
+        two.draft(spec, &snap, &mut images[1]);
         let row = frame(spec, &mut sys, &input, racks);
         print_frame(rt, spec, &row, &images)?;
         print_areas(rt, &sys, &row, &images)?;

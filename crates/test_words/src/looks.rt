@@ -25,7 +25,8 @@ pub fn look(rt: &HostRuntime, words: &Words, seat: &mut Seat) -> io::Result<()>
     }
     match words.started(seat) {
         Some(_) => {
-            let image = words.look(seat, ProcId(0));
+            let mut image = [0; 64];
+            words.look(seat, ProcId(0), &mut image);
             print_image(rt, mission.spec(), 0, &image)
         }
         None => println!(rt; "not released"),

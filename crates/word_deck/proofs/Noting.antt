@@ -40,6 +40,13 @@ noted_more mission k n noted mark image is low eight_marks eight_images same_mar
   images = set_more (λ p. image_after mission.spec mission.script p (suc k)) noted.images [] n image is.images (rw eight_images low) same_image;
 }
 
+-- where the next one may not be noted, its image stands as it stood
+pub noted_still : (mission : MissionParts) (k n : ℕ) (noted : Noted) (image : List ℤ) → AreNoted mission k n noted → AreNoted mission k n (record { marks = noted.marks; images = slice_set noted.images n image })
+noted_still mission k n noted image is = record {
+  marks = is.marks;
+  images = λ p low. get_or-set_other noted.images n p image [] (λ same. omega (arith, same, low)) ∙ is.images p low;
+}
+
 pub noted_on : (mission : MissionParts) (k f n : ℕ) (noted : Noted) (mark : ℕ) (image : List ℤ) → f ≡ k → AreNoted mission k n noted → n < 8 → length noted.marks ≡ 8 → length noted.images ≡ 8
     → mark ≡ mark_after mission.spec mission.script n (f + 1) → image ≡ image_after mission.spec mission.script n (f + 1)
     → AreNoted mission k (n + 1) (record { marks = slice_set noted.marks n mark; images = slice_set noted.images n image })
@@ -51,6 +58,9 @@ noted_on mission k f n noted mark image same is low eight_marks eight_images of_
 
 pub below : (procs : ℕ) (kseat : KSeat) → kernel_steps kseat < procs → frames_noted procs kseat ≡ kernel_frame kseat
 below procs kseat low = let e : nat_lt (kernel_steps kseat) procs ≡ true = grind (arith, nat_tests) in rw e refl
+
+pub fresh : (procs : ℕ) (one other : KSeat) → 0 < procs → other ≡ one → (kernel_frame one ≡ 0) × (kernel_steps one ≡ 0) → frames_noted procs other ≡ 0
+fresh procs one other some same at = below procs other (omega (arith, some, ap kernel_steps same, at.1)) ∙ ap kernel_frame same ∙ at.0
 
 pub all : (procs : ℕ) (kseat : KSeat) → kernel_steps kseat ≡ procs → frames_noted procs kseat ≡ suc (kernel_frame kseat)
 all procs kseat same = let e : nat_lt (kernel_steps kseat) procs ≡ false = grind (arith, nat_tests) in rw e refl

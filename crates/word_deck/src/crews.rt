@@ -8,7 +8,7 @@ ghost use Rattle.word_table.specs.Tables.{IsAwaitedImage, frame_end, proc_of, se
 use crate::frames::{commit, halt_after, look_at_all};
 use crate::turns::Turn;
 use app_model::Rack;
-use bank_words::KernelImage;
+use bank_words::{KernelImage, kernel_decode};
 use coverage_check::Mission;
 use fail_stop::law::flights_are_of_traces;
 use fail_stop::{Flyer, Snapshot};
@@ -16,11 +16,13 @@ use fault_script::{halt_in, restart_of};
 use scram_types::Image;
 use word_table::{Seat, WordTable};
 
-/// A processor of a flight on words, at its seat.
+/// A processor of a flight on words, at its seat, with what it saw and drafted last.
 #[derive(Drop)]
 pub struct Crew {
     pub seat: Seat,
     pub flyer: Flyer,
+    pub(crate) snap: Snapshot,
+    pub(crate) image: Image,
     ghost keeps: { IsUnitAt (proc_of seat) (seat_place seat) flyer.unit },
 }
 
@@ -49,7 +51,16 @@ impl Crew {
         ensures fits { (words : word_tables.WordTable) → IsSeatOf words seat → CrewFits words result }
     {
         let flyer = Flyer::new(seat.proc(), rack, spare);
-        Crew { seat, flyer }
+        let snap = Snapshot {
+            kernel: kernel_decode(&[0; 20]),
+            images: [[0; 64]; 8],
+        };
+        Crew {
+            seat,
+            flyer,
+            snap,
+            image: [0; 64],
+        }
     }
 
     /// Tries to fly the frame that the processor waits for, whole or up to its halt in it. A processor that has
@@ -132,30 +143,32 @@ impl Crew {
     {
         mission.holds();
         let procs = mission.spec().procs.items().len() as u8;
-        let images = look_at_all(words, procs, &mut self.seat);
-        let image = self.draft(mission, &Snapshot { kernel, images });
-        self.end(mission, words, &image);
+        self.snap.kernel = kernel;
+        look_at_all(words, procs, &mut self.seat, &mut self.snap.images);
+        self.draft(mission);
+        self.end(mission, words);
     }
 
-    // Returns what the unit, which lives, drafts in the frame of this snapshot.
+    // Makes the image that which the unit, which lives, drafts in the frame of what it saw last.
     #[tactic(auto, using(crate::proofs::Steps::drafted_by))]
-    fn draft(&mut self, mission: &Mission, snap: &Snapshot) -> Image
+    fn draft(&mut self, mission: &Mission)
         requires lives { is_halted (seat_place self.old.seat) ≡ false }
         requires known { proc_of self.old.seat < length mission.now.spec.procs }
-        requires snap { IsSnapshot mission.now.spec mission.now.script (frame_of (seat_place self.old.seat)) snap.now }
-        ensures image { result ≡ draft mission.now.spec mission.now.script (proc_of self.old.seat) (frame_of (seat_place self.old.seat)) }
+        requires snap { IsSnapshot mission.now.spec mission.now.script (frame_of (seat_place self.old.seat)) self.old.snap }
+        ensures image { self.new.image ≡ draft mission.now.spec mission.now.script (proc_of self.old.seat) (frame_of (seat_place self.old.seat)) }
         ensures seat { self.new.seat ≡ self.old.seat }
         ensures spare { self.new.flyer.spare ≡ self.old.flyer.spare }
     {
         mission.holds();
-        self.flyer.draft(mission.spec(), snap).image
+        self.flyer
+            .draft(mission.spec(), &self.snap, &mut self.image);
     }
 
-    // Ends the frame whose draft this is: commits it, or halts where the script has a halt in it.
-    fn end(&mut self, mission: &Mission, words: &WordTable, image: &Image)
+    // Ends the frame that it has drafted: commits it, or halts where the script has a halt in it.
+    fn end(&mut self, mission: &Mission, words: &WordTable)
         requires mission { mission_in words.now ≡ mission.now }
         requires flies { CrewFlies words.now (length mission.now.spec.procs + 1) self.old }
-        requires image { image.now ≡ draft mission.now.spec mission.now.script (proc_of self.old.seat) (frame_of (seat_place self.old.seat)) }
+        requires image { self.old.image ≡ draft mission.now.spec mission.now.script (proc_of self.old.seat) (frame_of (seat_place self.old.seat)) }
         ensures fits { CrewFits words.now self.new }
         ensures proc { proc_of self.new.seat ≡ proc_of self.old.seat }
         ensures place { seat_place self.new.seat ≡ frame_end words.now self.old.seat }
@@ -167,10 +180,11 @@ impl Crew {
         let frame = self.seat.frame();
         match halt_in(mission.script(), self.seat.proc(), frame) {
             Some(halt) => {
-                halt_after(words, &mut self.seat, image, width, u32::from(halt.step));
+                let step = u32::from(halt.step);
+                halt_after(words, &mut self.seat, &self.image, width, step);
                 self.flyer.halt(frame);
             }
-            None => commit(words, &mut self.seat, image, width),
+            None => commit(words, &mut self.seat, &self.image, width),
         }
     }
 }

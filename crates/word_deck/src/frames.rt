@@ -11,9 +11,10 @@ use bank_words::encode;
 use scram_types::{Image, ProcId};
 use word_table::{Seat, WordTable};
 
-/// Looks at each processor: the images as the seat's frame begins. What stands past the last processor is zero.
+/// Looks at each processor: fills the images with those as the seat's frame begins. What stands past the last processor
+/// stays as it was.
 #[tactic(auto, using(crate::proofs::Steps::looks_on, crate::proofs::Noting::set_more))]
-pub(crate) fn look_at_all(words: &WordTable, procs: u8, seat: &mut Seat) -> [Image; 8]
+pub(crate) fn look_at_all(words: &WordTable, procs: u8, seat: &mut Seat, images: &mut [Image; 8])
     requires seat { IsSeatOf words.now seat.old }
     requires procs { procs ≡ length (mission_in words.now).spec.procs }
     requires few { procs ≤ 8 }
@@ -22,13 +23,11 @@ pub(crate) fn look_at_all(words: &WordTable, procs: u8, seat: &mut Seat) -> [Ima
     ensures proc { proc_of seat.new ≡ proc_of seat.old }
     ensures place { seat_place seat.new ≡ At (frame_of (seat_place seat.old)) (procs + 1) }
     ensures tries { tries_of seat.new ≡ tries_of seat.old }
-    ensures images { (q : ℕ) → q < procs → image_in result q ≡ committed_image words.now q (frame_of (seat_place seat.old)) }
+    ensures images { (q : ℕ) → q < procs → image_in images.new q ≡ committed_image words.now q (frame_of (seat_place seat.old)) }
 {
-    let mut images = [[0; 64]; 8];
     for q in 0..procs {
-        images[usize::from(q)] = words.look(seat, ProcId(q));
+        words.look(seat, ProcId(q), &mut images[usize::from(q)]);
     }
-    images
 }
 
 /// Stores the first words of what the processor drafts in the seat's frame.

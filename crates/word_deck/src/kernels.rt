@@ -131,12 +131,9 @@ fn note_all(words: &WordTable, procs: u32, kseat: &mut KSeat, noted: &mut Noted)
     ensures noted { AreNoted (mission_in words.now) (kernel_frame kseat.new) (kernel_steps kseat.new) noted.new }
 {
     for p in kseat.steps()..procs {
-        match words.gone(kseat, ProcId(p as u8)) {
-            Some(marked) => {
-                let image = marked.image;
-                noted.marks[p as usize] = marked.mark;
-                noted.images[p as usize] = image;
-            }
+        let image = &mut noted.images[p as usize];
+        match words.gone(kseat, ProcId(p as u8), image) {
+            Some(marked) => noted.marks[p as usize] = marked.mark,
             None => return,
         }
     }

@@ -109,7 +109,12 @@ pub(crate) fn fly_crew<R: Wait>(
             Turn::Worked => {}
             Turn::NotYet => words.rest(rt, &crew.seat),
             Turn::Finished => {
-                let Crew { seat, flyer: _ } = crew;
+                let Crew {
+                    seat,
+                    flyer: _,
+                    snap: _,
+                    image: _,
+                } = crew;
                 return seat;
             }
         }

@@ -45,6 +45,7 @@ impl WordTable {
             width: _,
             restarts: _,
             spins: _,
+            sleepers: _,
         } = self;
         let closed = table.close_with(all);
         let last = last_words(&closed, procs, width);

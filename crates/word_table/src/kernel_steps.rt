@@ -12,19 +12,18 @@ use fail_stop::notes::may_note;
 use fail_stop::words::{bank_index, end_index, kernel_index, mark_index};
 use scram_types::{Image, ProcId};
 
-/// What a processor has committed by the end of a frame: whether it has halted, its mark, and the image that this names.
+/// What a processor has committed by the end of a frame: whether it has halted, and its mark.
 #[derive(Clone, Copy, Debug)]
 pub struct Marked {
     pub halted: bool,
     pub mark: u64,
-    pub image: Image,
 }
 
 impl WordTable {
     /// Tries to note that a processor is done with the kernel's frame or has halted: `Some` is what it has committed
-    /// by the end of that frame. `None` comes only where the end word that this call loads does not allow the note.
-    /// It does not block.
-    pub fn gone(&self, kseat: &mut KSeat, p: ProcId) -> Option<Marked>
+    /// by the end of that frame, and then the image is that which the mark names. `None` comes only where the end word
+    /// that this call loads does not allow the note, and then the image stays as it was. It does not block.
+    pub fn gone(&self, kseat: &mut KSeat, p: ProcId, image: &mut Image) -> Option<Marked>
         requires seat { IsKernelSeatOf self.now kseat.old }
         requires frame { kernel_frame kseat.old < (mission_in self.now).script.frames }
         requires p { p.0 < length (mission_in self.now).spec.procs }
@@ -35,7 +34,7 @@ impl WordTable {
         ensures tries { MatchOption result (kernel_tries kseat.new ≡ kernel_tries kseat.old + 1) (λ marked. kernel_tries kseat.new ≡ kernel_tries kseat.old) }
         ensures halted { IfSome result (λ marked. marked.halted ≡ has_halted_by (flight_in self.now) p.0 (kernel_frame kseat.old)) }
         ensures mark { IfSome result (λ marked. marked.mark ≡ committed_mark self.now p.0 (kernel_frame kseat.old + 1)) }
-        ensures image { IfSome result (λ marked. marked.image ≡ committed_image self.now p.0 (kernel_frame kseat.old + 1)) }
+        ensures image { MatchOption result (image.new ≡ image.old) (λ marked. image.new ≡ committed_image self.now p.0 (kernel_frame kseat.old + 1)) }
     {
         let end = self
             .table
@@ -47,11 +46,10 @@ impl WordTable {
         kseat.step += 1;
         let mark = self.load(&mut kseat.inner, mark_index(p));
         let bank = (mark % 2) as usize;
-        let image = self.read_image(&mut kseat.inner, bank_index(p, bank), 0);
+        self.read_image(&mut kseat.inner, bank_index(p, bank), 0, image);
         Some(Marked {
             halted: end % 2 == 1,
             mark,
-            image,
         })
     }
 
@@ -82,7 +80,7 @@ impl WordTable {
         kseat.step += 1;
     }
 
-    /// Releases the next frame, and wakes the processors that are parked on it. It does not block.
+    /// Releases the next frame, and wakes the processors that sleep on it. It does not block.
     pub fn release(&self, kseat: &mut KSeat)
         requires seat { IsKernelSeatOf self.now kseat.old }
         requires next { kernel_steps kseat.old ≡ length (mission_in self.now).spec.procs + 20 }
@@ -98,6 +96,6 @@ impl WordTable {
             .store::<Releases>(&mut kseat.inner, 0, release);
         kseat.frame += 1;
         kseat.step = 0;
-        self.table.shared.wake_all(0);
+        self.wake_processors();
     }
 }

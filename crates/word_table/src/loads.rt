@@ -29,8 +29,15 @@ impl WordTable {
         self.table.shared.load::<Reads>(seat, i)
     }
 
-    /// Returns the words of an image from word `from` on, which stand from place `at` on.
-    pub(crate) fn read_image(&self, seat: &mut Seat<(), View>, at: usize, from: usize) -> Image
+    /// Fills an image with the words from word `from` on, which stand from place `at` on; what stands past the last one
+    /// becomes zero.
+    pub(crate) fn read_image(
+        &self,
+        seat: &mut Seat<(), View>,
+        at: usize,
+        from: usize,
+        image: &mut Image,
+    )
         requires table { seat.old.table_id ≡ self.now.table.shared.table_id }
         requires holds { IsFlown (mission_in self.now) }
         requires mission { seat.old.me.0.mission ≡ Some (mission_in self.now) }
@@ -39,13 +46,16 @@ impl WordTable {
         requires from { from ≤ 1 }
         ensures table { seat.new.table_id ≡ seat.old.table_id }
         ensures same { seat.new.me ≡ seat.old.me }
-        ensures read { AreRead (flight_in self.now) seat.old.me.0.actors at from (flight_in self.now).width result }
+        ensures read { AreRead (flight_in self.now) seat.old.me.0.actors at from (flight_in self.now).width image.new }
     {
-        let mut image = [0; 64];
-        for i in from..self.width as usize {
-            image[i] = decode(self.load(seat, at + i));
+        let width = self.width as usize;
+        for i in from..64 {
+            if i < width {
+                image[i] = decode(self.load(seat, at + i));
+            } else {
+                image[i] = 0;
+            }
         }
-        image
     }
 
     /// Returns the bank of a processor that a reader in a frame takes.

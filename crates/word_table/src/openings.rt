@@ -13,6 +13,7 @@ ghost use Rattle.word_table.specs.Tables.{AreOpening, AreSeatsOf, IsKernelSeatOf
 ghost use Rattle.word_table.specs.declared.actors.Actor.TheVariants.{Kernel};
 
 use crate::actors::{Deals, View, WordRule};
+use crate::rests::Sleepers;
 use crate::seats::{KSeat, Seat};
 use crate::tables::WordTable;
 use atomic_table::Table;
@@ -70,6 +71,7 @@ impl WordTable {
             width: words(spec),
             restarts: restarts_of(script),
             spins: 0,
+            sleepers: Sleepers::new(),
         };
         Ok((words, seat))
     }

@@ -1,5 +1,11 @@
 //! Waiting until there may be something to do: a wait spins, and then parks. Nothing is promised: it may end without
 //! a cause.
+//!
+//! A wake is a call of the system, so it is made only where somebody sleeps. A sleeper counts itself before it looks at
+//! its word for the last time, and who stores the word looks at the count after the store. All these steps are
+//! sequentially consistent. So either that last look comes after the store, and finds it, or the count was raised before
+//! the store, and whoever stores the word finds it raised and wakes the sleeper; and it parks only while the word is
+//! still the one that it saw.
 
 ghost use Rattle.std.specs.Prelude.{◌≡◌, ◌<◌};
 ghost use Rattle.fail_stop.specs.Listed.{places_of_words};
@@ -10,8 +16,42 @@ use crate::tables::WordTable;
 use fail_stop::words::end_index;
 use scram_types::ProcId;
 use std::sync::Wait;
+use std::sync::atomic::{AtomicU64, Ordering};
+
+/// How many threads sleep on words of a table, or are about to: the kernel's, and those of processors.
+#[derive(Drop)]
+pub(crate) struct Sleepers {
+    kernel: AtomicU64,
+    processors: AtomicU64,
+}
+
+impl Sleepers {
+    /// Returns the counts of a table on which nobody sleeps.
+    pub(crate) fn new() -> Sleepers {
+        Sleepers {
+            kernel: AtomicU64::new(0),
+            processors: AtomicU64::new(0),
+        }
+    }
+}
 
 impl WordTable {
+    /// Wakes the kernel where it sleeps on the word at place `at`, which has been stored.
+    pub(crate) fn wake_kernel(&self, at: usize)
+        requires { at < places_of_words }
+    {
+        if self.sleepers.kernel.load(Ordering::SeqCst) != 0 {
+            self.table.shared.wake_one(at);
+        }
+    }
+
+    /// Wakes the processors that sleep on the release, which has been stored.
+    pub(crate) fn wake_processors(&self) {
+        if self.sleepers.processors.load(Ordering::SeqCst) != 0 {
+            self.table.shared.wake_all(0);
+        }
+    }
+
     /// Spins and then parks while the release does not show the frame for which the seat waits. It may end without a
     /// cause.
     pub fn rest<R: Wait>(&self, rt: &R, seat: &Seat)
@@ -23,12 +63,14 @@ impl WordTable {
                 return;
             }
         }
+        self.sleepers.processors.fetch_add(1, Ordering::SeqCst);
         let release = self.table.shared.peek(0);
         if release <= frame {
             self.table
                 .shared
                 .park(rt, 0, (release & 0xffff_ffff) as u32);
         }
+        self.sleepers.processors.fetch_sub(1, Ordering::SeqCst);
     }
 
     /// Spins and then parks while the processor whose note is next may not be noted. It may end without a cause.
@@ -43,9 +85,11 @@ impl WordTable {
                 return;
             }
         }
+        self.sleepers.kernel.fetch_add(1, Ordering::SeqCst);
         let end = self.table.shared.peek(at);
         if !self.may_note(p, kseat.frame, end) {
             self.table.shared.park(rt, at, (end & 0xffff_ffff) as u32);
         }
+        self.sleepers.kernel.fetch_sub(1, Ordering::SeqCst);
     }
 }

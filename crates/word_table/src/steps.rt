@@ -55,8 +55,8 @@ impl WordTable {
         }
     }
 
-    /// Returns the image of a processor as the frame of the seat begins. It does not block.
-    pub fn look(&self, seat: &mut Seat, q: ProcId) -> Image
+    /// Fills an image with that of a processor as the frame of the seat begins. It does not block.
+    pub fn look(&self, seat: &mut Seat, q: ProcId, image: &mut Image)
         requires seat { IsSeatOf self.now seat.old }
         requires q { q.0 < length (mission_in self.now).spec.procs }
         requires next { next_step self.now seat.old ≡ Some (Look (proc_id (proc_of seat.old)) q) }
@@ -64,14 +64,13 @@ impl WordTable {
         ensures proc { proc_of seat.new ≡ proc_of seat.old }
         ensures place { seat_place seat.new ≡ one_on (seat_place seat.old) }
         ensures tries { tries_of seat.new ≡ tries_of seat.old }
-        ensures image { result ≡ committed_image self.now q.0 (frame_of (seat_place seat.old)) }
+        ensures image { image.new ≡ committed_image self.now q.0 (frame_of (seat_place seat.old)) }
     {
         let bank = self.bank_picked(&mut seat.inner, seat.frame, q);
         let at = bank_index(q, bank);
-        let mut image = self.read_image(&mut seat.inner, at, 1);
+        self.read_image(&mut seat.inner, at, 1, image);
         image[0] = decode(self.table.shared.load::<Looks>(&mut seat.inner, at));
         seat.step += 1;
-        image
     }
 
     /// Stores word `i` of the draft of the seat's frame in the bank that the mark does not name. It does not block.
@@ -107,7 +106,7 @@ impl WordTable {
         seat.step += 1;
     }
 
-    /// Ends the frame of the seat, and wakes the kernel if it is parked on that. It does not block.
+    /// Ends the frame of the seat, and wakes the kernel if it sleeps on that. It does not block.
     pub fn done(&self, seat: &mut Seat)
         requires seat { IsSeatOf self.now seat.old }
         requires next { next_step self.now seat.old ≡ Some (Done (proc_id (proc_of seat.old))) }
@@ -121,10 +120,10 @@ impl WordTable {
         self.table.shared.store::<Ends>(&mut seat.inner, at, end);
         seat.frame += 1;
         seat.step = 0;
-        self.table.shared.wake_one(at);
+        self.wake_kernel(at);
     }
 
-    /// Halts the seat's processor in its frame, and wakes the kernel if it is parked on that. It does not block.
+    /// Halts the seat's processor in its frame, and wakes the kernel if it sleeps on that. It does not block.
     pub fn halt(&self, seat: &mut Seat)
         requires seat { IsSeatOf self.now seat.old }
         requires next { next_step self.now seat.old ≡ Some (Halt (proc_id (proc_of seat.old))) }
@@ -138,6 +137,6 @@ impl WordTable {
         self.table.shared.store::<Halts>(&mut seat.inner, at, end);
         seat.step = 0;
         seat.halted = true;
-        self.table.shared.wake_one(at);
+        self.wake_kernel(at);
     }
 }

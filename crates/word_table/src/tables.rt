@@ -3,6 +3,7 @@
 ghost use Rattle.word_table.specs.Keeping.{TableKeeps};
 
 use crate::actors::{View, WordRule};
+use crate::rests::Sleepers;
 use atomic_table::Table;
 use coverage_check::Mission;
 use std::alloc::Global;
@@ -16,6 +17,7 @@ pub struct WordTable {
     pub(crate) width: u32,
     pub(crate) restarts: [Option<u32>; 8],
     pub(crate) spins: u32,
+    pub(crate) sleepers: Sleepers,
     pub(crate) ghost keeps: { TableKeeps table.shared.key table.shared.table_id frames procs width restarts },
 }
 

@@ -70,8 +70,8 @@ impl<'a> Words<'a> {
         self.table.started(seat)
     }
 
-    /// Returns the image of a processor as the frame of the seat begins. It does not block.
-    pub fn look(&self, seat: &mut Seat, q: ProcId) -> Image
+    /// Fills an image with that of a processor as the frame of the seat begins. It does not block.
+    pub fn look(&self, seat: &mut Seat, q: ProcId, image: &mut Image)
         requires seat { IsSeatOf self.now.table seat.old }
         requires q { q.0 < length (mission_in self.now.table).spec.procs }
         requires next { next_step self.now.table seat.old ≡ Some (Look (proc_id (proc_of seat.old)) q) }
@@ -79,9 +79,9 @@ impl<'a> Words<'a> {
         ensures proc { proc_of seat.new ≡ proc_of seat.old }
         ensures place { seat_place seat.new ≡ one_on (seat_place seat.old) }
         ensures tries { tries_of seat.new ≡ tries_of seat.old }
-        ensures image { result ≡ committed_image self.now.table q.0 (frame_of (seat_place seat.old)) }
+        ensures image { image.new ≡ committed_image self.now.table q.0 (frame_of (seat_place seat.old)) }
     {
-        self.table.look(seat, q)
+        self.table.look(seat, q, image);
     }
 
     /// Stores word `i` of the draft of the seat's frame in the bank that the mark does not name. It does not block.
@@ -110,7 +110,7 @@ impl<'a> Words<'a> {
         self.table.flip(seat);
     }
 
-    /// Ends the frame of the seat, and wakes the kernel if it is parked on that. It does not block.
+    /// Ends the frame of the seat, and wakes the kernel if it sleeps on that. It does not block.
     pub fn done(&self, seat: &mut Seat)
         requires seat { IsSeatOf self.now.table seat.old }
         requires next { next_step self.now.table seat.old ≡ Some (Done (proc_id (proc_of seat.old))) }
@@ -122,7 +122,7 @@ impl<'a> Words<'a> {
         self.table.done(seat);
     }
 
-    /// Halts the seat's processor in its frame, and wakes the kernel if it is parked on that. It does not block.
+    /// Halts the seat's processor in its frame, and wakes the kernel if it sleeps on that. It does not block.
     pub fn halt(&self, seat: &mut Seat)
         requires seat { IsSeatOf self.now.table seat.old }
         requires next { next_step self.now.table seat.old ≡ Some (Halt (proc_id (proc_of seat.old))) }
@@ -135,9 +135,9 @@ impl<'a> Words<'a> {
     }
 
     /// Tries to note that a processor is done with the kernel's frame or has halted: `Some` is what it has committed
-    /// by the end of that frame. `None` comes only where the end word that this call loads does not allow the note.
-    /// It does not block.
-    pub fn gone(&self, kseat: &mut KSeat, p: ProcId) -> Option<Marked>
+    /// by the end of that frame, and then the image is that which the mark names. `None` comes only where the end word
+    /// that this call loads does not allow the note, and then the image stays as it was. It does not block.
+    pub fn gone(&self, kseat: &mut KSeat, p: ProcId, image: &mut Image) -> Option<Marked>
         requires seat { IsKernelSeatOf self.now.table kseat.old }
         requires frame { kernel_frame kseat.old < (mission_in self.now.table).script.frames }
         requires p { p.0 < length (mission_in self.now.table).spec.procs }
@@ -148,9 +148,9 @@ impl<'a> Words<'a> {
         ensures tries { MatchOption result (kernel_tries kseat.new ≡ kernel_tries kseat.old + 1) (λ marked. kernel_tries kseat.new ≡ kernel_tries kseat.old) }
         ensures halted { IfSome result (λ marked. marked.halted ≡ has_halted_by (flight_in self.now.table) p.0 (kernel_frame kseat.old)) }
         ensures mark { IfSome result (λ marked. marked.mark ≡ committed_mark self.now.table p.0 (kernel_frame kseat.old + 1)) }
-        ensures image { IfSome result (λ marked. marked.image ≡ committed_image self.now.table p.0 (kernel_frame kseat.old + 1)) }
+        ensures image { MatchOption result (image.new ≡ image.old) (λ marked. image.new ≡ committed_image self.now.table p.0 (kernel_frame kseat.old + 1)) }
     {
-        self.table.gone(kseat, p)
+        self.table.gone(kseat, p, image)
     }
 
     /// Stores word `i` of what the kernel says of the next frame. It does not block.
@@ -168,7 +168,7 @@ impl<'a> Words<'a> {
         self.table.publish(kseat, i, word);
     }
 
-    /// Releases the next frame, and wakes the processors that are parked on it. It does not block.
+    /// Releases the next frame, and wakes the processors that sleep on it. It does not block.
     pub fn release(&self, kseat: &mut KSeat)
         requires seat { IsKernelSeatOf self.now.table kseat.old }
         requires next { kernel_steps kseat.old ≡ length (mission_in self.now.table).spec.procs + 20 }

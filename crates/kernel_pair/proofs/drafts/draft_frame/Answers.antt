@@ -12,8 +12,8 @@ use Rattle.kernel_pair.proofs.drafts.draft_frame.Goals as goal
 pub start-requires : goal.start-requires
 start-requires g c = let stands = c.requires.stands in record { few = subst (λ (n : ℕ). n < 8) (sym stands.1.unit.number) c.requires.few }
 
-pub draft-draft-requires-clause-few : goal.draft-draft-requires-clause-few
-draft-draft-requires-clause-few g c =
+pub draft-requires-clause-few : goal.draft-requires-clause-few
+draft-requires-clause-few g c =
     let stands = c.requires.stands in
     let number = ap (λ flyer. unit_proc flyer.unit) c.start.ensures
     ∙ (begun_at (flight_of c.args.setup.now.spec.now c.args.setup.now.script.now) c.args.p.0 c.args.frame stands.0 c.args.flyer.now stands.1 stands.2).number in
@@ -25,8 +25,8 @@ returns-clause-words g c =
     let stands = c.requires.stands in
     let number = ap (λ flyer. unit_proc flyer.unit) c.start.ensures
     ∙ (begun_at (flight_of setup.spec.now setup.script.now) c.args.p.0 c.args.frame stands.0 c.args.flyer.now stands.1 stands.2).number in
-    let image : c.draft-draft.result.image ≡ draft setup.spec.now setup.script.now c.args.p.0 c.args.frame =
-    c.draft-draft.ensures.trace setup.script.now c.args.frame c.requires.facts (subst (λ (n : ℕ). n < length setup.spec.now.procs) (sym number) c.requires.known) c.requires.snap
+    let image : c.draft.new.image ≡ draft setup.spec.now setup.script.now c.args.p.0 c.args.frame =
+    c.draft.ensures.trace setup.script.now c.args.frame c.requires.facts (subst (λ (n : ℕ). n < length setup.spec.now.procs) (sym number) c.requires.known) c.requires.snap
     ∙ ap (λ (n : ℕ). draft setup.spec.now setup.script.now n c.args.frame) number in
     λ i. c.image_encoded.ensures i ∙ ap (λ (image : List ℤ). word_in (image_words image) i) image
 
@@ -34,6 +34,6 @@ pub returns-clause-flyer : goal.returns-clause-flyer
 returns-clause-flyer g c =
     let setup = c.args.setup.now in
     let stands = c.requires.stands in
-    flown (flight_of setup.spec.now setup.script.now) c.args.p.0 c.args.frame stands.0 c.args.flyer.now c.start.new.self c.draft-draft.new.self c.halt_after.new.flyer
-    stands.1 stands.2 c.start.ensures c.draft-draft.ensures.lives c.draft-draft.ensures.proc c.draft-draft.ensures.spare
-    (c.halt_after.ensures ∙ ap (λ (halt : Option HaltAt). flyer_after (option_map (λ (halt : HaltAt). halt.step) halt) c.args.frame c.draft-draft.new.self) c.halt_in.ensures)
+    flown (flight_of setup.spec.now setup.script.now) c.args.p.0 c.args.frame stands.0 c.args.flyer.now c.start.new.self c.draft.new.self c.halt_after.new.flyer
+    stands.1 stands.2 c.start.ensures c.draft.ensures.lives c.draft.ensures.proc c.draft.ensures.spare
+    (c.halt_after.ensures ∙ ap (λ (halt : Option HaltAt). flyer_after (option_map (λ (halt : HaltAt). halt.step) halt) c.args.frame c.draft.new.self) c.halt_in.ensures)

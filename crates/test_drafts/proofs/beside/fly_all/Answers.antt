@@ -8,6 +8,6 @@ loop-frame-preserved g c =
     let at = c.loop-frame.invariant.at in
     record {
       at = omega (arith, next, at);
-      one_there = rw c.draft-first.ensures.proc c.loop-frame.invariant.one_there;
-      two_there = rw c.draft-second.ensures.proc c.loop-frame.invariant.two_there;
+      one_there = rw c.draft.ensures.proc c.loop-frame.invariant.one_there;
+      two_there = rw c.draft-in-loop-frame.ensures.proc c.loop-frame.invariant.two_there;
     }

@@ -16,13 +16,13 @@ loop-p-preserved c =
     let marks : length c.loop-p.noted.marks ≡ 8 = search rules in
     let images : length c.loop-p.noted.images ≡ 8 = search rules in
     let mark : c.in-Some.marked.mark ≡ mark_after (mission_in c.args.words.now).spec (mission_in c.args.words.now).script c.loop-p.p (kernel_frame c.loop-p.kseat + 1) = search rules in
-    let image : c.in-Some.marked.image ≡ image_after (mission_in c.args.words.now).spec (mission_in c.args.words.now).script c.loop-p.p (kernel_frame c.loop-p.kseat + 1) = search rules in
+    let image : c.gone.new.image ≡ image_after (mission_in c.args.words.now).spec (mission_in c.args.words.now).script c.loop-p.p (kernel_frame c.loop-p.kseat + 1) = search rules in
     record {
       seated = c.in-Some.ensures.seat;
       frame = c.in-Some.ensures.frame ∙ c.loop-p.invariant.frame;
       steps = c.in-Some.ensures.steps ∙ ap (λ n. n + 1) c.loop-p.invariant.steps;
       more = omega (arith, more);
       tries = λ same. absurd (omega (arith, same, more));
-      are_noted = noted_on (mission_in c.args.words.now) (kernel_frame c.args.kseat.now) (kernel_frame c.loop-p.kseat) c.loop-p.p c.loop-p.noted c.in-Some.marked.mark c.in-Some.marked.image
+      are_noted = noted_on (mission_in c.args.words.now) (kernel_frame c.args.kseat.now) (kernel_frame c.loop-p.kseat) c.loop-p.p c.loop-p.noted c.in-Some.marked.mark c.gone.new.image
           c.loop-p.invariant.frame c.loop-p.invariant.are_noted low marks images mark image;
     }

@@ -9,8 +9,8 @@ use Rattle.word_deck.proofs.crews.Crew.end.Goals as goal
 pub halt_after-requires-clause-step : goal.halt_after-requires-clause-step
 halt_after-requires-clause-step g c =
     let there : halt_in c.args.mission.now.script c.proc.result.0 c.frame-frame.result ≡ Some c.in-Some.halt = search rules in
-    halt_in_width c.args.mission.now.spec c.args.mission.now.script c.proc.result.0 c.frame-frame.result c.in-Some.halt c.from.result c.words-width.result
-    (c.flights_are_of_traces.ensures c.args.mission.now.spec c.args.mission.now.script c.holds.ensures.mission.fits).flies there c.from.ensures (c.words-width.ensures ∙ ap words c.spec.ensures)
+    halt_in_width c.args.mission.now.spec c.args.mission.now.script c.proc.result.0 c.frame-frame.result c.in-Some.halt c.from-step.result c.words-width.result
+    (c.flights_are_of_traces.ensures c.args.mission.now.spec c.args.mission.now.script c.holds.ensures.mission.fits).flies there c.from-step.ensures (c.words-width.ensures ∙ ap words c.spec.ensures)
 
 pub invariant_of-self : goal.invariant_of-self
 invariant_of-self g c =

@@ -62,8 +62,8 @@ returns-clause-image c =
     let bank = bank_of_mark (mission_in words) c.requires.seat.holds.fits c.args.p.0 (suc kseat.frame) c.load-mark.result mark in
     let next : suc kseat.frame ≡ kseat.frame + 1 = omega arith in
     let actors = ap (λ (me : Sat). me.0.actors) c.load-mark.ensures.same ∙ noted in
-    let read : AreRead (flight_in words) (Kernel kseat.frame (suc c.args.p.0) ∷ []) c.bank_index.result 0 (flight_in words).width c.read_image-image.result =
-    subst (λ (l : List Actor). AreRead (flight_in words) l c.bank_index.result 0 (flight_in words).width c.read_image-image.result) actors c.read_image-image.ensures.read in
-    image_noted (mission_in words) c.requires.seat.holds.fits c.requires.seat.holds.facts kseat.frame c.args.p.0 c.bank_index.result c.read_image-image.result c.requires.p
+    let read : AreRead (flight_in words) (Kernel kseat.frame (suc c.args.p.0) ∷ []) c.bank_index.result 0 (flight_in words).width c.read_image.new.image =
+    subst (λ (l : List Actor). AreRead (flight_in words) l c.bank_index.result 0 (flight_in words).width c.read_image.new.image) actors c.read_image.ensures.read in
+    image_noted (mission_in words) c.requires.seat.holds.fits c.requires.seat.holds.facts kseat.frame c.args.p.0 c.bank_index.result c.read_image.new.image c.requires.p
     (omega (arith, c.bank_index.ensures, bank)) read
     ∙ ap (image_after (mission_in words).spec (mission_in words).script c.args.p.0) next
