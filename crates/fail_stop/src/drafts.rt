@@ -2,23 +2,22 @@
 
 ghost use Rattle.std.specs.Prelude.{◌≡◌, ◌<◌, if◌then◌else◌, nat_eq, ℕ};
 ghost use Rattle.frame_model.specs.Flights.{image_of, is_proc, slot_in};
-ghost use Rattle.frame_model.specs.States.{keeper_at};
+ghost use Rattle.frame_model.specs.States.{ShowAlike, keeper_at};
 ghost use Rattle.fail_stop.specs.Drafts.{area_kept, area_made, areas_shown, slot_made, task_among};
 
 use crate::snapshots::Snapshot;
 use app_model::racks::rack_frame;
 use app_model::{Rack, Seen};
 use frame_model::Task;
-use frame_model::sights::{seen_in, slot_in};
+use frame_model::sights::{show_in, slot_in};
 use scram_types::{AppId, Area, Image, ProcId, Spec};
 
-/// What all applications of a frame share: their tasks, what they see, and their areas before the frame.
+/// What all applications of a frame share: their tasks, and the snapshot that shows their areas before the frame.
 #[derive(Clone, Copy)]
 pub(crate) struct Setting<'a> {
     pub(crate) spec: &'a Spec,
     pub(crate) tasks: [Task; 8],
-    pub(crate) seen: &'a Seen,
-    pub(crate) areas: &'a [Area; 8],
+    pub(crate) snap: &'a Snapshot,
 }
 
 /// Returns the areas that a snapshot shows.
@@ -51,26 +50,33 @@ fn area_kept(snap: &Snapshot, a: u8) -> Area
 }
 
 /// Replaces the slots of the applications that processor `proc` hosts in its image of the frame before, one call of a
-/// box for each.
-pub(crate) fn make_slots(proc: ProcId, rack: &mut Rack, setting: &Setting<'_>, image: &mut Image)
-    ensures image { let s = setting.now in image.new ≡ image_of (slot_made s.spec.now s.tasks s.seen.now s.areas.now image.old proc.0) }
+/// box for each. `seen` is then as the last one saw it.
+pub(crate) fn make_slots(
+    proc: ProcId,
+    rack: &mut Rack,
+    setting: &Setting<'_>,
+    seen: &mut Seen,
+    image: &mut Image,
+)
+    ensures image { let s = setting.now in image.new ≡ image_of (slot_made s.spec.now s.tasks seen.old (areas_shown s.snap.now) image.old proc.0) }
 {
     for a in 0..8 {
         if hosts(proc, setting, a) {
-            let area = area_made(rack, setting, a);
+            let area = area_made(rack, setting, seen, a);
             put_slot(image, a, &area);
         }
     }
 }
 
 // Returns the area of an application after the frame, by a call of its box.
-fn area_made(rack: &mut Rack, setting: &Setting<'_>, a: u8) -> Area
+fn area_made(rack: &mut Rack, setting: &Setting<'_>, seen: &mut Seen, a: u8) -> Area
     requires a { a < 8 }
-    ensures area { let s = setting.now in result ≡ area_made s.spec.now s.tasks s.seen.now s.areas.now a }
+    ensures area { let s = setting.now in result ≡ area_made s.spec.now s.tasks seen.old (areas_shown s.snap.now) a }
+    ensures seen { ShowAlike seen.old seen.new }
 {
     let task = setting.tasks[usize::from(a)];
-    let seen = seen_in(setting.seen, task.mode, &setting.areas[usize::from(a)]);
-    rack_frame(rack, setting.spec.kind_of_app(AppId(a)), task.order, &seen)
+    show_in(seen, task.mode, &area_kept(setting.snap, a));
+    rack_frame(rack, setting.spec.kind_of_app(AppId(a)), task.order, seen)
 }
 
 // Replaces the slot of an application in an image.

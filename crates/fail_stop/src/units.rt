@@ -59,15 +59,14 @@ impl Live {
     {
         let kernel = &snap.kernel;
         let areas = areas_shown(snap);
-        let seen = seen_by_all(spec, &areas, kernel.world, &kernel.env);
+        let mut seen = seen_by_all(spec, &areas, kernel.world, &kernel.env);
         let setting = Setting {
             spec,
             tasks: tasks_of(spec, &kernel.mode, kernel.frame),
-            seen: &seen,
-            areas: &areas,
+            snap,
         };
         *image = snap.images[usize::from(self.proc.0)];
-        make_slots(self.proc, &mut self.rack, &setting, image);
+        make_slots(self.proc, &mut self.rack, &setting, &mut seen, image);
         drafts_are_of_traces();
     }
 

@@ -1,7 +1,6 @@
 -- What becomes of an application in a frame, from what all applications share: the phase, the processors
 -- that commit, as bits, and what all see.
 use Rattle.std.specs.Prelude.{◌≡◌, ℕ, ℤ, List, Option}
-use Rattle.scram_types.specs.declared.ids.Mode.{Mode}
 use Rattle.scram_types.specs.declared.ids.ProcId.{ProcId}
 use Rattle.scram_types.specs.declared.orders.Act.{Act}
 use Rattle.scram_types.specs.Specification.{Parts}
@@ -13,7 +12,7 @@ use Rattle.frame_model.specs.declared.outcomes.Setting.{Setting}
 use Rattle.frame_model.specs.declared.phases.Phase.{Phase}
 use Rattle.frame_model.specs.declared.systems.Sys.{Sys}
 use Rattle.frame_model.specs.declared.tasks.Task.{Task}
-use Rattle.frame_model.specs.States.{act_after, area_at, area_on, keeper_at, keeper_on, seen_in}
+use Rattle.frame_model.specs.States.{ShowAlike, act_after, area_at, area_on, keeper_at, keeper_on, seen_in}
 use Rattle.frame_model.specs.Tasks.{task_in}
 
 -- What application a does in a phase, where these processors commit.
@@ -37,4 +36,4 @@ keeper_made spec sys phase committing a = keeper_on (has_bit committing) (keeper
 pub record IsSharedAlike (setting other : Setting) : Type 0 where
   pub stage : other.stage ≡ setting.stage
   pub committing : other.committing ≡ setting.committing
-  pub seen : (mode : Mode) (own : List ℤ) → seen_in other.seen mode own ≡ seen_in setting.seen mode own
+  pub seen : ShowAlike setting.seen other.seen

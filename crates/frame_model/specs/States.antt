@@ -1,5 +1,5 @@
 -- What a frame makes of the state, by its environment and by the processors that commit it.
-use Rattle.std.specs.Prelude.{ℕ, ◌-◌, ◌==◌, ℤ, pos, Bool, false, ◌&&◌, List, [], ◌∷◌, replicate, slice_index_or, Option, Some, None, option_map, if◌then◌else◌}
+use Rattle.std.specs.Prelude.{◌≡◌, ℕ, ◌-◌, ◌==◌, ℤ, pos, Bool, false, ◌&&◌, List, [], ◌∷◌, replicate, slice_index_or, Option, Some, None, option_map, if◌then◌else◌}
 use Rattle.scram_types.specs.Lookups.{kind_of_app, place_of}
 use Rattle.scram_types.specs.Eights.{eight}
 use Rattle.scram_types.specs.declared.ids.ProcId.{ProcId}
@@ -73,6 +73,10 @@ seen_by_all spec v state = record {
 -- The same as one of them sees it, which is in a mode and has an area of its own.
 abbrev pub seen_in : Seen → Mode → List ℤ → Seen
 seen_in seen mode own = record seen { mode = mode; own = own }
+
+-- What all applications see is the same by two sights, which differ at most in what one is shown of its own.
+abbrev pub ShowAlike : Seen → Seen → Type 0
+ShowAlike seen other = (mode : Mode) (own : List ℤ) → seen_in other mode own ≡ seen_in seen mode own
 
 -- What application a sees in its mode.
 abbrev pub seen_by : Parts → Env → State → Mode → ℕ → Seen
