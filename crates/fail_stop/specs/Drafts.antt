@@ -32,13 +32,13 @@ abbrev pub state_shown : Snapshot → State
 state_shown snap = record { mode = snap.kernel.mode; arrived = false; areas = areas_shown snap; keepers = snap.kernel.keepers; world = snap.kernel.world }
 
 -- The area of application a after a frame with these tasks, by the law.
-abbrev pub area_made : Parts → List Task → Seen → List (List ℤ) → ℕ → List ℤ
-area_made spec tasks seen areas a = law (kind_of_app spec a) (task_among tasks a).order (seen_in seen (task_among tasks a).mode (area_at areas a))
+abbrev pub area_drafted : Parts → List Task → Seen → List (List ℤ) → ℕ → List ℤ
+area_drafted spec tasks seen areas a = law (kind_of_app spec a) (task_among tasks a).order (seen_in seen (task_among tasks a).mode (area_at areas a))
 
 -- The slot of application a that processor p makes: the law's where the task names p, else the old one.
 abbrev pub slot_made : Parts → List Task → Seen → List (List ℤ) → List ℤ → ℕ → ℕ → List ℤ
 slot_made spec tasks seen areas image p a =
-    if is_proc p (task_among tasks a).proc then area_made spec tasks seen areas a else slot_in image a
+    if is_proc p (task_among tasks a).proc then area_drafted spec tasks seen areas a else slot_in image a
 
 -- The image that processor p makes of a snapshot.
 abbrev pub draft_made : Parts → Snapshot → ℕ → List ℤ

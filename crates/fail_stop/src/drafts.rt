@@ -3,7 +3,7 @@
 ghost use Rattle.std.specs.Prelude.{◌≡◌, ◌<◌, if◌then◌else◌, nat_eq, ℕ};
 ghost use Rattle.frame_model.specs.Flights.{image_of, is_proc, slot_in};
 ghost use Rattle.frame_model.specs.States.{ShowAlike, keeper_at};
-ghost use Rattle.fail_stop.specs.Drafts.{area_kept, area_made, areas_shown, slot_made, task_among};
+ghost use Rattle.fail_stop.specs.Drafts.{area_kept, area_drafted, areas_shown, slot_made, task_among};
 
 use crate::snapshots::Snapshot;
 use app_model::racks::rack_frame;
@@ -62,16 +62,16 @@ pub(crate) fn make_slots(
 {
     for a in 0..8 {
         if hosts(proc, setting, a) {
-            let area = area_made(rack, setting, seen, a);
+            let area = area_drafted(rack, setting, seen, a);
             put_slot(image, a, &area);
         }
     }
 }
 
 // Returns the area of an application after the frame, by a call of its box.
-fn area_made(rack: &mut Rack, setting: &Setting<'_>, seen: &mut Seen, a: u8) -> Area
+fn area_drafted(rack: &mut Rack, setting: &Setting<'_>, seen: &mut Seen, a: u8) -> Area
     requires a { a < 8 }
-    ensures area { let s = setting.now in result ≡ area_made s.spec.now s.tasks seen.old (areas_shown s.snap.now) a }
+    ensures area { let s = setting.now in result ≡ area_drafted s.spec.now s.tasks seen.old (areas_shown s.snap.now) a }
     ensures seen { ShowAlike seen.old seen.new }
 {
     let task = setting.tasks[usize::from(a)];

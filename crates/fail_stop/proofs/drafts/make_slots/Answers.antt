@@ -16,7 +16,7 @@ loop-a-preserved g c =
       long = search rules;
       alike = elim c.if-hosts.branch [
         | then-hosts w ↦
-            subst (ShowAlike c.args.seen.now) (sym w.seen-is) (λ mode own. w.area_made-area.ensures.seen mode own ∙ c.loop-a.invariant.alike mode own)
+            subst (ShowAlike c.args.seen.now) (sym w.seen-is) (λ mode own. w.area_drafted-area.ensures.seen mode own ∙ c.loop-a.invariant.alike mode own)
         | else-hosts w ↦ subst (ShowAlike c.args.seen.now) (sym w.seen-is) c.loop-a.invariant.alike
       ];
       made = elim c.if-hosts.branch [
@@ -24,8 +24,8 @@ loop-a-preserved g c =
             let yes : is_proc c.args.proc.0 (task_among s.tasks c.loop-a.a).proc ≡ true = search rules in
             let task = task_among s.tasks c.loop-a.a in
             let same = ap (law (kind_of_app s.spec.now c.loop-a.a) task.order) (c.loop-a.invariant.alike task.mode (area_at (areas_shown s.snap.now) c.loop-a.a)) in
-            let is : w.area_made-area.result ≡ slot c.loop-a.a = w.area_made-area.ensures.area ∙ same ∙ rw yes refl in
-            subst (MadeBelow slot (c.loop-a.a + 1) c.args.image.now) (sym w.image-is) (one_made slot c.loop-a.a w.area_made-area.result c.args.image.now c.loop-a.image w.put_slot.new.image c.loop-a.invariant.made is w.put_slot.ensures.slots)
+            let is : w.area_drafted-area.result ≡ slot c.loop-a.a = w.area_drafted-area.ensures.area ∙ same ∙ rw yes refl in
+            subst (MadeBelow slot (c.loop-a.a + 1) c.args.image.now) (sym w.image-is) (one_made slot c.loop-a.a w.area_drafted-area.result c.args.image.now c.loop-a.image w.put_slot.new.image c.loop-a.invariant.made is w.put_slot.ensures.slots)
         | else-hosts w ↦
             let no : is_proc c.args.proc.0 (task_among s.tasks c.loop-a.a).proc ≡ false = search rules in
             subst (MadeBelow slot (c.loop-a.a + 1) c.args.image.now) (sym w.image-is) (one_kept slot c.loop-a.a c.args.image.now c.loop-a.image c.loop-a.invariant.made (rw no refl))

@@ -1,19 +1,14 @@
 use Rattle.std.proofs.Common.{rules, ◌≡◌, ◌∙◌, ◌<◌, ap, arith, length, []}
-use Rattle.std.specs.Prelude.{None, slice_index_or}
+use Rattle.std.specs.Prelude.{slice_index_or}
 use Rattle.std.proofs.lemmas.List.{get_or_default}
-use Rattle.scram_types.specs.declared.orders.Order.TheVariants.{Run}
 use Rattle.scram_types.specs.Eights.{eight}
 use Rattle.frame_model.specs.declared.tasks.Task.{Task}
 use Rattle.frame_model.specs.States.{area_at, zeros}
-use Rattle.frame_model.specs.Tasks.{off_task}
+use Rattle.frame_model.proofs.TaskLists.{no_task, task_read}
 use Rattle.frame_model.proofs.Eights.{filled_all, filled_more, still_more}
 use Rattle.scram_kernel.specs.Drawing.{area_from, has_committed}
 use Rattle.scram_kernel.proofs.Areas.{area_by_tasks}
 use Rattle.scram_kernel.proofs.drawing.draw_areas.Goals as goal
-
--- what a task is where a list of tasks has none at a place
-abbrev no_task : Task
-no_task = record { order = Run; mode = record { 0 = 0 }; proc = None }
 
 pub loop-a-preserved : goal.loop-a-preserved
 loop-a-preserved c =
@@ -28,9 +23,9 @@ loop-a-preserved c =
     let before = get_or_default areas at [] zeros there ∙ c.loop-a.invariant.still at zeros (omega arith) in
     let is : c.draw_area.new.area ≡ made at =
     c.draw_area.ensures
-    ∙ ap (λ i. drawn (slice_index_or areas i []) (slice_index_or tasks i no_task).proc) c.from-at.ensures
-    ∙ ap (λ old. drawn old (slice_index_or tasks at no_task).proc) before
-    ∙ ap (λ (task : Task). drawn (area_at c.args.areas.now at) task.proc) (get_or_default tasks at no_task off_task known) in
+    ∙ ap (λ i. drawn (slice_index_or areas i []) (slice_index_or tasks c.from-at.result no_task).proc) c.from-at.ensures
+    ∙ ap (λ old. drawn old (slice_index_or tasks c.from-at.result no_task).proc) before
+    ∙ ap (λ (task : Task). drawn (area_at c.args.areas.now at) task.proc) (task_read tasks c.from-at.result at c.from-at.ensures known) in
     record {
       drawn = rw (c.from-at.ensures) (filled_more made areas at _ c.loop-a.invariant.drawn (omega arith) is);
       still = rw (c.from-at.ensures) (still_more c.args.areas.now areas at _ c.loop-a.invariant.still);
