@@ -12,7 +12,7 @@
 //!
 //! | Name | Number | Where it is not said |
 //! |---|---|---|
-//! | `turns` | how often a wait looks before it parks | 2,000, none on one processor |
+//! | `turns` | how often a wait looks before it parks | 10,000 as on words, none on one processor |
 //! | `line` | on how many bytes of their own the words of different writers stand, 8 for none | 64 |
 //! | `halt` | the frame in which the first processor halts for good, before its mark | in none |
 //! | `work` | nanoseconds of computation that each actor adds to a frame | 0 |
@@ -240,7 +240,7 @@ fn mix(sum: u64, word: u64) -> u64 {
     sum.rotate_left(5) ^ word
 }
 
-/// Looks so many turns, without a hint to the processor, as a rest on words does; then parks.
+/// Looks for this number of turns, without a hint to the processor, as a rest on words does; then parks.
 fn wait(turns: u64, may_go_on: impl Fn() -> bool) {
     if !spin(turns, &may_go_on) {
         while !may_go_on() {
@@ -352,7 +352,7 @@ fn flight_of(words: &[String]) -> Option<Flight> {
     let flight = Flight {
         frames: words.first()?.parse().ok()?,
         processors: words.get(1)?.parse().ok()?,
-        turns: named(words, "turns", if is_alone { 0 } else { 2_000 })?,
+        turns: named(words, "turns", if is_alone { 0 } else { 10_000 })?,
         line,
         halt: named(words, "halt", u64::MAX)?,
         work: steps_of(named(words, "work", 0)?),

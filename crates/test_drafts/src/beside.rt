@@ -15,36 +15,36 @@ use std::io::{self, ErrorKind};
 use std::rt::HostRuntime;
 use test_kit::{Counters, print_image};
 
-/// Flies `uav`: the racks are those of its processors, and the one thread has racks without boxes.
+/// Flies `uav`, and prints how often the autopilots were called: the racks are those of its processors, and the one
+/// thread has racks without boxes.
 pub fn start(rt: &HostRuntime, rack: Rack, other: Rack, counters: &Counters) -> io::Result<()> {
     let racks = empty_racks(rt.alloc())?;
     let one = Live::new(ProcId(0), rack);
     let two = Live::new(ProcId(1), other);
     match uav(rt.alloc()) {
-        Ok(spec) => fly(rt, &spec, one, two, racks, counters),
-        Err(_) => Err(ErrorKind::OutOfMemory.into()),
+        Ok(spec) => fly(rt, &spec, one, two, racks)?,
+        Err(_) => return Err(ErrorKind::OutOfMemory.into()),
     }
+    println!(rt;
+        "autopilots called {} and {} times",
+        counters.own(0).of_kind(KIND),
+        counters.own(1).of_kind(KIND)
+    )
 }
 
-/// Flies the frames, and prints how often the autopilots were called.
+/// Flies the frames, and halts the second processor after them.
 fn fly(
     rt: &HostRuntime,
     spec: &Spec,
     mut one: Live,
     mut two: Live,
     mut racks: Vec<Rack>,
-    counters: &Counters,
 ) -> io::Result<()>
     requires one_there { one.proc.0 < 8 }
     requires two_there { two.proc.0 < 8 }
 {
     fly_all(rt, spec, &mut one, &mut two, &mut racks)?;
-    print_return(rt, two, racks.pop())?;
-    println!(rt;
-        "autopilots called {} and {} times",
-        counters.own(0).of_kind(KIND),
-        counters.own(1).of_kind(KIND)
-    )
+    print_return(rt, two, racks.pop())
 }
 
 /// Halts a processor after the last frame, and restarts it where there is a rack for it.

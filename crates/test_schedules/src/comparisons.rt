@@ -6,7 +6,6 @@ use crate::choices::Rule;
 use crate::halts::{Halt, Halts};
 use crate::ruled::fly;
 use crate::scripts::{rule_named, script_of};
-use app_model::racks::empty_racks;
 use scram_types::{Flown, Report, Script, Spec};
 use std::io::{self, ErrorKind};
 use std::rt::HostRuntime;
@@ -109,9 +108,7 @@ fn compare(rt: &HostRuntime, case: &Case, rule: Rule, compared: &mut Compared) -
 fn fly_by(rt: &HostRuntime, spec: &Spec, script: &Script, rule: Rule) -> io::Result<(usize, Flown)>
     requires { Fits spec.now script.now }
 {
-    let racks = empty_racks(rt.alloc())?;
-    let spares = empty_racks(rt.alloc())?;
-    match fly(rt.alloc(), spec, script, racks, spares, rule) {
+    match fly(rt.alloc(), spec, script, rule) {
         Ok(core) => {
             let events = core.history().len();
             Ok((events, core.finish()))

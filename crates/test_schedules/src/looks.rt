@@ -5,7 +5,6 @@ ghost use Rattle.fault_script.specs.Fits.{Fits};
 use crate::halts::Halts;
 use crate::ruled::fly_some;
 use crate::scripts::{rule_named, script_of};
-use app_model::racks::empty_racks;
 use bank_words::Event;
 use event_core::{Core, Illegal};
 use scram_types::{ProcId, Script, Spec};
@@ -33,9 +32,7 @@ fn look(rt: &HostRuntime, spec: &Spec, script: &Script, line: &str) -> io::Resul
     let (events, rest) = split_word(line);
     let (rule, word) = split_word(rest);
     let (rule, events) = (rule_named(rule)?, number(events)?);
-    let racks = empty_racks(rt.alloc())?;
-    let spares = empty_racks(rt.alloc())?;
-    match fly_some(rt.alloc(), spec, script, racks, spares, rule, events) {
+    match fly_some(rt.alloc(), spec, script, rule, events) {
         Ok(mut core) => print_word(rt, spec, &mut core, word),
         Err(_) => Err(ErrorKind::OutOfMemory.into()),
     }

@@ -1,7 +1,7 @@
-//! Flights of a core to its end by a rule, with live processors, their boxes and their spare racks. Whatever the rule, the
-//! core that comes out is that of the specification and the script, and is over.
+//! Flights of a core to its end by a rule, with live processors, whose racks have no boxes. Whatever the rule, the core
+//! that comes out is that of the specification and the script, and is over.
 
-ghost use Rattle.std.specs.Prelude.{◌≡◌, ◌<◌, ◌≤◌, ◌⊎◌, ◌++◌, [], ◌∷◌, IfOk, length, vec_len};
+ghost use Rattle.std.specs.Prelude.{◌≡◌, ◌<◌, ◌≤◌, ◌⊎◌, ◌++◌, [], ◌∷◌, IfOk, length};
 ghost use Rattle.event_core.specs.Cores.{HappensIn, IsNextIn, IsWordIn, flown, standing, standing_words};
 ghost use Rattle.event_core.specs.Flyers.{FlyBy};
 ghost use Rattle.event_core.specs.Rooms.{events_left};
@@ -10,15 +10,15 @@ ghost use Rattle.fault_script.specs.Fits.{Fits};
 ghost use Rattle.test_schedules.specs.Ruled.{IsByRule};
 
 use crate::choices::{Chooser, Rule};
-use app_model::Rack;
+use app_model::racks::empty_racks;
 use bank_words::Event;
 use event_core::Core;
 use event_core::flyers::Flyers;
 use scram_types::{NoMemory, Script, Spec};
 use std::alloc::Global;
 
-/// Flies a specification and a script to the end by a rule. Rack `p` is that of processor `p`, and spare rack `p` is for
-/// its restart. The core that comes out is over, so `finish` gives the one-thread trace.
+/// Flies a specification and a script to the end by a rule. The core that comes out is over, so `finish` gives the
+/// one-thread trace.
 ///
 /// # Errors
 ///
@@ -27,18 +27,16 @@ pub fn fly<'a>(
     alloc: Global,
     spec: &'a Spec,
     script: &'a Script,
-    racks: Vec<Rack>,
-    spares: Vec<Rack>,
     rule: Rule,
 ) -> Result<Core<'a>, NoMemory>
     requires script { Fits spec.now script.now }
-    requires racks { vec_len racks ≡ 8 }
-    requires spares { vec_len spares ≡ 8 }
     ensures spec { IfOk result (λ core. core.spec ≡ spec.now) }
     ensures script { IfOk result (λ core. core.script ≡ script.now) }
     ensures rule { IfOk result (λ core. IsByRule (flown core) rule core.history (standing core) (standing_words core)) }
     ensures over { IfOk result (λ core. IsOver (flown core) (standing core)) }
 {
+    let racks = empty_racks(alloc)?;
+    let spares = empty_racks(alloc)?;
     let core = Core::open(alloc, spec, script)?;
     let mut flyers = Flyers::open(alloc, racks, spares)?;
     Ok(fly_on(core, spec, &mut flyers, rule))
@@ -54,19 +52,17 @@ pub fn fly_some<'a>(
     alloc: Global,
     spec: &'a Spec,
     script: &'a Script,
-    racks: Vec<Rack>,
-    spares: Vec<Rack>,
     rule: Rule,
     events: u32,
 ) -> Result<Core<'a>, NoMemory>
     requires script { Fits spec.now script.now }
-    requires racks { vec_len racks ≡ 8 }
-    requires spares { vec_len spares ≡ 8 }
     ensures spec { IfOk result (λ core. core.spec ≡ spec.now) }
     ensures script { IfOk result (λ core. core.script ≡ script.now) }
     ensures rule { IfOk result (λ core. IsByRule (flown core) rule core.history (standing core) (standing_words core)) }
     ensures count { IfOk result (λ core. (length core.history ≡ events) ⊎ (IsOver (flown core) (standing core) × (length core.history < events))) }
 {
+    let racks = empty_racks(alloc)?;
+    let spares = empty_racks(alloc)?;
     let core = Core::open(alloc, spec, script)?;
     let mut flyers = Flyers::open(alloc, racks, spares)?;
     Ok(fly_events(core, spec, &mut flyers, rule, events))

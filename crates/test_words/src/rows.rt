@@ -45,26 +45,19 @@ fn open(rt: &HostRuntime, mission: &Mission, row: &str) -> io::Result<()> {
     match Words::open(rt.alloc(), mission) {
         Ok((words, kseat, seats)) => {
             let pair = pair_of(&words.table, seats, racks, spares)?;
-            fly(rt, mission, words, kseat, pair, row)
+            fly(rt, words, kseat, pair, row)
         }
         Err(_) => Err(ErrorKind::OutOfMemory.into()),
     }
 }
 
-fn fly(
-    rt: &HostRuntime,
-    mission: &Mission,
-    words: Words,
-    kseat: KSeat,
-    pair: Pair,
-    row: &str,
-) -> io::Result<()>
-    requires mission { mission_in words.table ≡ mission.now }
+fn fly(rt: &HostRuntime, words: Words, kseat: KSeat, pair: Pair, row: &str) -> io::Result<()>
     requires kernel { IsKernelSeatOf words.table kseat }
     requires frame { kernel_frame kseat ≡ 0 }
     requires steps { kernel_steps kseat ≡ 0 }
     requires fits { PairFits words.table pair }
 {
+    let mission = words.mission;
     mission.holds();
     match Kernel::new(rt.alloc(), mission.spec(), mission.script()) {
         Ok(kernel) => {
