@@ -11,7 +11,11 @@ use std::alloc::Global;
 use std::rt::HostRuntime;
 use std::test::Fail;
 
-/// Returns the processors of a small document: `scram`, and a list of 1 to 8 objects with `name` and `capacity`.
+/// Tests a small document: `scram`, and a list of 1 to 8 objects with `name` and `capacity`.
+///
+/// # Errors
+///
+/// The first rule that it breaks.
 fn read_document(v: &Value) -> Result<(), DocFault> {
     let root = Path::root();
     object(v, &root)?;

@@ -6,7 +6,7 @@ use kernel_pair::UnitHalt;
 use std::io::{self, ErrorKind};
 use test_kit::{line_after, number, number_after};
 
-/// The numbers of units, frames and steps, each from 0 up.
+/// The halts of a row: one for each unit, frame and step below these counts.
 #[derive(Clone, Copy, Debug)]
 pub(crate) struct Halts {
     units: u32,
@@ -17,7 +17,7 @@ pub(crate) struct Halts {
 }
 
 impl Halts {
-    /// Those of a row, if it has any.
+    /// Returns the halts of a row, or `None` where it has none.
     pub(crate) fn of_row(row: &str) -> io::Result<Option<Halts>> {
         let units = number_after(row, "units ", 0)?;
         let frames = number_after(row, "frames ", 1)?;
