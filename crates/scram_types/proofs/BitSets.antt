@@ -19,7 +19,7 @@ bit_of b = if b then 1 else 0
 pub bit_cases : (set p : ℕ) → (bit_at set p ≡ 0) ⊎ (bit_at set p ≡ 1)
 bit_cases set p = let low : bit_at set p < 2 = mod_below (set / 2 ^ p) 2 (omega arith) in grind arith
 
--- no bit stands at or past the end
+-- no bit is set at or past the end
 pub no_bit : (set n p : ℕ) → set < 2 ^ n → n ≤ p → bit_at set p ≡ 0
 no_bit set n p few past =
     let wide : 2 ^ n ≤ 2 ^ p = pow-le-pow_right (omega arith) past in
@@ -32,7 +32,7 @@ no_bit_past set n p few past = rw (no_bit set n p few past) refl
 pub no_high_bit : (set p : ℕ) → set < 256 → 8 ≤ p → has_bit set p ≡ false
 no_high_bit set p few high = rw (no_bit set 8 p few high) refl
 
--- a bit more of a number
+-- the lower bits of a number, with one further bit
 pub low_bits : (set n : ℕ) → set % 2 ^ suc n ≡ bit_at set n * 2 ^ n + set % 2 ^ n
 low_bits set n = let e : suc n ≡ 1 + n = omega arith in rw e (mod-pow-add set 1 n)
 
@@ -103,7 +103,7 @@ bits_but s t n few =
     (λ i under. bit_at_and (bits_below s n) (bit_not w8 (bits_below t n)) i
     ∙ rw (bit_at_not w8 (bits_below t n) i (within t n few) (omega arith), bit_is s n i under, bit_is t n i under) (but (s i) (t i)))
 
--- a number more
+-- adding a number to a set
 pub bit_more : (set p : ℕ) → p < 8 → set < 2 ^ p → bit_or set ((1 * 2 ^ p) % 256) ≡ set + 2 ^ p
 bit_more set p low few =
     let shifted : (1 * 2 ^ p) % 256 ≡ 2 ^ p = one_shl p 8 low in
@@ -119,7 +119,7 @@ all_ones (suc n) = let before = all_ones n in rw (twice n) (omega arith)
 pub bits_all : (n : ℕ) → 2 ^ n - 1 ≡ bits_below (λ i. true) n
 bits_all n = let all = all_ones n in omega arith
 
--- a number of a set with one more number
+-- the members of a set after adding a number
 pub has_more : (set k n : ℕ) → has_bit (bit_or set (2 ^ k)) n ≡ true → (has_bit set n ≡ true) ⊎ (n ≡ k)
 has_more set k n is = elim (same_or_not n k) [
   | inl same ↦ inr same
@@ -128,7 +128,7 @@ has_more set k n is = elim (same_or_not n k) [
       sym (ap (λ (b : ℕ). b == 1) beside) ∙ is)
 ]
 
--- how many numbers pass
+-- counts of the numbers that pass
 
 bit_most : (b : Bool) → bit_of b ≤ 1
 bit_most true = omega arith
@@ -148,7 +148,7 @@ rises_by s t n false true e f more before = (n, omega arith, e, f)
 rises_by s t n false false e f more before = let found = before (omega arith) in (found.0, omega arith, found.2, found.3)
 rises_by s t n true b e f more before = let most = bit_most b in let found = before (omega arith) in (found.0, omega arith, found.2, found.3)
 
--- where more numbers pass the second test, one passes it that does not pass the first
+-- if more numbers pass the second test, some number passes it and not the first
 pub count_rises : (s t : ℕ → Bool) (n : ℕ) → count_below s n < count_below t n → (k : ℕ) × (k < n) × (s k ≡ false) × (t k ≡ true)
 count_rises s t zero h = absurd (omega arith)
 count_rises s t (suc n) h = rises_by s t n (s n) (t n) refl refl h (count_rises s t n)
@@ -157,7 +157,7 @@ last_more : (b t : Bool) (c : ℕ) → (b ≡ true → t ≡ false) → c + bit_
 last_more true t c f = rw (f refl) (omega arith)
 last_more false t c f = omega arith
 
--- a number more passes, where one that did not does now
+-- the count rises by one if a number passes that did not pass before
 pub count_more : (s : ℕ → Bool) (q n : ℕ) (b : Bool) → q < n → (b ≡ true → s q ≡ false) → count_below (λ p. (q == p && b) || s p) n ≡ count_below s n + bit_of b
 count_more s q zero b less apart = absurd (omega arith)
 count_more s q (suc n) b less apart = elim (below_or_at q n less) [

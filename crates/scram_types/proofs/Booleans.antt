@@ -1,4 +1,4 @@
--- What tests say when they are joined. The values of `b && true`, `b || true` and their like are in std's Math.Bool.
+-- Facts on tests that are joined. The values of `b && true`, `b || true` and their like are in std's Math.Bool.
 use Rattle.std.proofs.Common.{◌≡◌, Bool, true, false, refl, sym}
 use Rattle.std.specs.Prelude.{◌&&◌}
 pub use Rattle.std.proofs.lemmas.Bool.{and_from as and_true, and_left as left_false, and_right as right_false, or_left, or_right, or_cases, or_parts as or_false, false_from_ne_true as not_true, true_from_ne_false as not_false}
@@ -28,7 +28,7 @@ same_test true b h k = sym (h refl)
 same_test false true h k = k refl
 same_test false false h k = refl
 
--- the second test fails wherever the first one passes
+-- the second test fails if the first one passes
 pub both_false : (a b : Bool) → (a ≡ true → b ≡ false) → (a && b) ≡ false
 both_false true b f = f refl
 both_false false b f = refl

@@ -1,4 +1,4 @@
--- What is clamped, and what is read around the circle, lies in its range.
+-- Clamped numbers, and remainders around the circle, are within their ranges.
 use Rattle.std.proofs.Common.{◌≡◌, ◌≤ℤ◌, ◌%◌, refl, ℤ, pos, negsuc, ◌<◌, Bool, true, false, if◌then◌else◌, int_lt, arith}
 use Rattle.std.proofs.lemmas.Int.{ints}
 use native.Mathlib.Nat.{mod-lt}
@@ -6,7 +6,7 @@ use Rattle.scram_types.specs.declared.ranges.Range.{Range}
 use Rattle.scram_types.specs.Numbers.{minus, clamp, modulo}
 use Rattle.scram_types.specs.Ranges.{clamp_in, limit}
 
--- x lies in the range.
+-- The number x is within the range.
 pub record IsInRange (r : Range) (x : ℤ) : Type 0 where
   pub least : minus r.below ≤ℤ x
   pub greatest : x ≤ℤ pos r.above

@@ -1,4 +1,4 @@
--- Eight things, one by one.
+-- Lists of eight elements, element by element.
 use Rattle.std.proofs.Common.{◌≡◌, ℕ, zero, suc, ◌<◌, refl, arith}
 use Rattle.std.specs.Prelude.{slice_index_or}
 use Rattle.scram_types.specs.Eights.{eight}

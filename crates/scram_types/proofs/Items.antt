@@ -1,4 +1,4 @@
--- Tests of lists, and items by their places.
+-- Tests of lists, and items by their indexes.
 use Rattle.std.proofs.Common.{◌≡◌, ℕ, zero, suc, ◌<◌, Bool, true, false, refl, arith, List, [], ◌∷◌, ◌++◌, length, get_or}
 use mathlib.Core.Logic.{inl, inr}
 use Rattle.std.specs.Prelude.{◌||◌, Some, replicate, slice_get}
@@ -9,7 +9,7 @@ use Rattle.scram_types.specs.Specification.{Each}
 use Rattle.scram_types.proofs.Booleans.{and_left, and_right, or_cases}
 use Rattle.scram_types.proofs.Options.{same_some}
 
--- an item that stands in a list
+-- an item of a list
 pub some_item : {A P : Type 0} (xs : List A) (i : ℕ) → i < length xs → ((x : A) → slice_get xs i ≡ Some x → P) → P
 some_item [] i less then = absurd (omega (arith, less))
 some_item (x ∷ xs) zero less then = then x refl
@@ -61,7 +61,7 @@ pub all_pass : {A : Type 0} (test : A → Bool) (xs : List A) → ((i : ℕ) (x 
 all_pass test [] h = refl
 all_pass test (x ∷ xs) h = rw (h 0 x refl, all_pass test xs (λ i y e. h (suc i) y e)) refl
 
--- items of what is appended
+-- items of lists that are joined
 
 pub first_part : {A : Type 0} (xs ys : List A) (k : ℕ) (x : A) → slice_get xs k ≡ Some x → slice_get (xs ++ ys) k ≡ Some x
 first_part {A} [] ys k x h = let past = slice_get_within {A = A} [] k x h in absurd (omega arith)
@@ -78,7 +78,7 @@ each_end {A} Fact [] x known new (suc i) y there = let none = slice_get_within {
 each_end Fact (first ∷ xs) x known new zero y there = known zero y there
 each_end Fact (first ∷ xs) x known new (suc i) y there = each_end Fact xs x (λ k z here. known (suc k) z here) new i y there
 
--- zeros stand everywhere in a list of zeros, and past it
+-- a list of zeros has 0 at every index, and so has the default past its end
 pub zeros_everywhere : (n x : ℕ) → ◌≡◌ {A = ℕ} (get_or (replicate n 0) x 0) 0
 zeros_everywhere zero x = refl
 zeros_everywhere (suc n) zero = refl

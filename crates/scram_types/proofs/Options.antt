@@ -1,4 +1,4 @@
--- What an option says.
+-- Facts on options.
 use Rattle.std.proofs.Common.{◌≡◌, false, refl, ◌⊎◌}
 use mathlib.Core.Logic.{inl, inr}
 use Rattle.std.specs.Prelude.{Option, Some, None, is_some}

@@ -1,4 +1,4 @@
--- What is read from a list, and where a configuration places applications.
+-- Items read from a list, and the places of applications in a configuration.
 use Rattle.std.proofs.Common.{◌≡◌, ℕ, ◌<◌, refl, arith, true, List, length}
 use Rattle.std.specs.Prelude.{Option, Some, None, IfSome, nat_lt, slice_get, slice_index_or}
 use Rattle.std.proofs.lemmas.Bool.Decides.{nat_tests}

@@ -1,4 +1,4 @@
--- What a search through the numbers below n finds.
+-- Results of a search through the numbers below n.
 use Rattle.std.proofs.Common.{◌≡◌, ℕ, zero, suc, ◌+◌, ◌-◌, ◌<◌, ◌≤◌, Bool, true, false, refl, arith, ap, sym, ◌∙◌, ◌⊎◌, [], ◌∷◌, ◌++◌, length}
 use mathlib.Core.Logic.{inl, inr}
 use Rattle.std.specs.Prelude.{Option, Some, None, is_some, max, slice_get}
@@ -28,7 +28,7 @@ each_all test (suc n) each = rw (each_all test n (λ k less. each k (omega arith
 pub all_false : (test : ℕ → Bool) (n k : ℕ) → k < n → test k ≡ false → all_below test n ≡ false
 all_false test n k less here = by_bool (all_below test n) (λ t. true_false (test k) (all_each test n k t less) here) (λ f. f)
 
--- where not all pass, one fails
+-- if not all pass, one fails
 pub fails_below : (test : ℕ → Bool) (n : ℕ) → all_below test n ≡ false → (k : ℕ) × (k < n) × (test k ≡ false)
 fails_below test zero h = absurd (cc)
 fails_below test (suc n) h = elim (and_cases (all_below test n) (test n) h) [
@@ -55,7 +55,7 @@ any_below_found test (suc n) e = elim (or_cases (any_below test n) (test n) e) [
   | inr here ↦ (n, omega arith, here)
 ]
 
--- where none passes from `low` on, nothing is to be found there
+-- if none passes from `low` on, the search below n is the search below `low`
 pub any_skip : (test : ℕ → Bool) (n low : ℕ) → low ≤ n → ((k : ℕ) → low ≤ k → k < n → test k ≡ false) → any_below test n ≡ any_below test low
 any_skip test zero low h none = let least : zero ≡ low = omega arith in ap (any_below test) least
 any_skip test (suc n) low h none = elim (at_or_below low n h) [
@@ -123,7 +123,7 @@ greatest_most value (suc n) k less = elim (below_or_at k n less) [
 max_or : (a b : ℕ) → (max a b ≡ a) ⊎ (max a b ≡ b)
 max_or a b = grind arith
 
--- the greatest value is 0 or that of some number
+-- the greatest value is 0 or the value of some number
 pub greatest_reached : (value : ℕ → ℕ) (n : ℕ) → (greatest_below value n ≡ 0) ⊎ ((k : ℕ) × (k < n) × (greatest_below value n ≡ value k))
 greatest_reached value zero = inl refl
 greatest_reached value (suc n) = elim (max_or (value n) (greatest_below value n)) [

@@ -11,7 +11,7 @@ abbrev pub bits_below : (ℕ → Bool) → ℕ → ℕ
 bits_below test zero = 0
 bits_below test (suc n) = bits_below test n + (if test n then 2 ^ n else 0)
 
--- How many numbers below n pass a test.
+-- The number of numbers below n that pass a test.
 abbrev pub count_below : (ℕ → Bool) → ℕ → ℕ
 count_below test zero = 0
 count_below test (suc n) = count_below test n + (if test n then 1 else 0)

@@ -3,19 +3,19 @@ use Rattle.std.specs.Prelude.{◌≡◌, ℕ, ◌-◌, ◌≤◌, ◌==◌, Bool
 use Rattle.std.specs.List.{list_any}
 use Rattle.scram_types.specs.declared.ids.Mode.{Mode}
 
--- A mode stands among modes.
+-- A mode is in a list of modes.
 abbrev pub is_among : List Mode → ℕ → Bool
 is_among modes mode = list_any (λ (listed : Mode). listed.0 == mode) modes
 
--- what stands in the places that are not used
+-- The mode in the unused elements of the array.
 abbrev pub unused_mode : Mode
 unused_mode = record { 0 = 0 }
 
--- modes, and what fills the array behind them
+-- The modes, followed by unused modes up to the array's length.
 abbrev pub padded : List Mode → List Mode
 padded modes = modes ++ replicate (3 - length modes) unused_mode
 
--- The first `count` items of an array of three are modes, and the others are unused.
+-- The first `count` elements of an array of three are modes, and the others are unused.
 pub record IsPadded (count : ℕ) (items : List Mode) : Type 0 where
   pub few : count ≤ 3
   pub counted : length (take count items) ≡ count

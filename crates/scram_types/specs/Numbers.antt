@@ -2,11 +2,11 @@
 use Rattle.std.specs.Prelude.{ℕ, ℤ, pos, neg_ℤ, ◌≤ℤ◌, int_div, int_lt, List, slice_index_or, if◌then◌else◌}
 use Rattle.std.specs.Int.{int_rem_euclid}
 
--- The number below zero that lies n from it.
+-- The integer -n.
 abbrev pub minus : ℕ → ℤ
 minus n = neg_ℤ (pos n)
 
--- x where it lies between both ends, else the end that is nearer.
+-- The number x, restricted to the range from `low` to `high`, inclusive.
 unfoldable pub clamp : ℤ → ℤ → ℤ → ℤ
 clamp x low high = if int_lt x low then low else (if int_lt high x then high else x)
 
@@ -14,15 +14,15 @@ clamp x low high = if int_lt x low then low else (if int_lt high x then high els
 unfoldable pub part : ℤ → ℕ → ℤ
 part x n = int_div x (pos n)
 
--- What is left of x after whole steps of n: from 0 up to n - 1, also below zero.
+-- The remainder of x divided by n, from 0 to n - 1, also for negative x.
 unfoldable pub modulo : ℤ → ℕ → ℤ
 modulo x n = int_rem_euclid x (pos n)
 
--- word i of an area
+-- Word i of an area.
 unfoldable pub word : List ℤ → ℕ → ℤ
 word area i = slice_index_or area i (pos 0)
 
--- z is small enough for sums of a few such numbers to fit 64 bits
+-- The number z is small enough that sums of a few such numbers fit 64 bits.
 pub record IsWord (z : ℤ) : Type 0 where
   pub low : minus 4294967296 ≤ℤ z
   pub high : z ≤ℤ pos 4294967296

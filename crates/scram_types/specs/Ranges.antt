@@ -1,12 +1,12 @@
--- A range from -below to above: each holds 0.
+-- Ranges from `-below` to `above`: each holds 0.
 use Rattle.std.specs.Prelude.{ℕ, ℤ, pos}
 use Rattle.scram_types.specs.declared.ranges.Range.{Range}
 use Rattle.scram_types.specs.Numbers.{clamp, minus}
 
--- From minus a up to b.
+-- The range from -a to b.
 abbrev pub limit : ℕ → ℕ → Range
 limit a b = record { below = a; above = b }
 
--- x brought into a range.
+-- The number x, restricted to a range.
 unfoldable pub clamp_in : Range → ℤ → ℤ
 clamp_in r x = clamp x (minus r.below) (pos r.above)

@@ -1,4 +1,4 @@
--- A specification as plain data, and what every specification keeps.
+-- A specification as plain data, and the invariant of every specification.
 use Rattle.std.specs.Prelude.{◌≡◌, ℕ, ℤ, pos, true, false, ◌==◌, ◌&&◌, ◌^◌, ◌<◌, ◌≤◌, ◌≤ℤ◌, nat_lt, List, [], ◌∷◌, length, slice_get, slice_index_or, Option, Some, None, IsSome, IfSome, IsTrue, option_and_then, if◌then◌else◌}
 use Rattle.scram_types.specs.Bits.{has_bit}
 use Rattle.scram_types.specs.Names.{is_name}
@@ -39,42 +39,42 @@ pub record Parts : Type 0 where
   pub changes : ℕ
   pub window : ℕ
 
--- Where a configuration places application a: nowhere where it is off, or past the last.
+-- The place of application a in a configuration, or nothing if a is off or does not exist.
 abbrev pub place_in : Conf → ℕ → Option Place
 place_in conf a = option_and_then (λ (place : Option Place). place) (slice_get conf.places a)
 
--- The modes of which a demand has application a on in one, any mode where there are none; nothing where the application
--- need not be on, or past the last.
+-- The modes that a demand allows for application a, empty if any mode will do, or nothing if a need not be on or does
+-- not exist.
 abbrev pub modes_on : Demand → ℕ → Option (List Mode)
 modes_on demand a = option_and_then (λ (modes : Option (List Mode)). modes) (slice_get demand.on a)
 
--- What a mode costs: the first of the listed modes that has this number.
+-- The costs of a mode: the first entry of the list with this mode, or nothing if there is none.
 abbrev pub mode_in : List ModeSpec → ℕ → Option ModeSpec
 mode_in [] mode = None
 mode_in (listed ∷ modes) mode = if listed.mode.0 == mode then Some listed else mode_in modes mode
 
--- The bound that is given for a pair of configurations: the first, where there are several.
+-- The first bound that is given for a pair of configurations, or nothing if there is none.
 abbrev pub bound_in : List Bound → ℕ → ℕ → Option ℕ
 bound_in [] from to = None
 bound_in (bound ∷ bounds) from to =
     if bound.from.0 == from && bound.to.0 == to then Some bound.frames else bound_in bounds from to
 
--- The greater of a bound and of the greatest one before it, where there is one.
+-- The maximum of a bound and the greatest bound so far, if there is one.
 abbrev pub greater_of : Option ℕ → ℕ → ℕ
 greater_of (Some most) frames = if nat_lt most frames then frames else most
 greater_of None frames = frames
 
--- The greatest bound that is given from a configuration, `greatest` being that of the bounds before.
+-- The greatest bound that is given from a configuration, where `greatest` is the greatest of the preceding bounds.
 abbrev pub greatest_bound_from : Option ℕ → List Bound → ℕ → Option ℕ
 greatest_bound_from greatest [] from = greatest
 greatest_bound_from greatest (bound ∷ bounds) from =
     greatest_bound_from (if bound.from.0 == from then Some (greater_of greatest bound.frames) else greatest) bounds from
 
--- The greatest bound that is given from a configuration; nothing where none is.
+-- The greatest bound that is given from a configuration, or nothing if there is none.
 abbrev pub greatest_bound_in : List Bound → ℕ → Option ℕ
 greatest_bound_in bounds from = greatest_bound_from None bounds from
 
--- How many modes a kind has, kind n at place n; they are numbered from 1.
+-- The number of modes of a kind; the modes are numbered from 1.
 unfoldable pub modes_of_kind : ℕ → ℕ
 modes_of_kind kind = slice_index_or (2 ∷ 2 ∷ 3 ∷ 2 ∷ 2 ∷ 3 ∷ []) kind 0
 
@@ -83,7 +83,7 @@ pub record HasLength {A : Type 0} (low high : ℕ) (xs : List A) : Type 0 where
   pub enough : low ≤ length xs
   pub few : length xs ≤ high
 
--- Each item of a list keeps a fact.
+-- The property holds for each item of a list.
 abbrev pub Each : {A : Type 0} → (A → Type 0) → List A → Type 0
 Each {A} Fact xs = (i : ℕ) (x : A) → slice_get xs i ≡ Some x → Fact x
 
@@ -92,15 +92,15 @@ abbrev pub NamesDiffer : {A : Type 0} → (A → List ℕ) → List A → Type 0
 NamesDiffer {A} name xs =
     (i j : ℕ) (x y : A) → slice_get xs i ≡ Some x → slice_get xs j ≡ Some y → name x ≡ name y → i ≡ j
 
--- What names the items of a list are names.
+-- The name of each item of a list is spelled as a name.
 abbrev pub AreSpelled : {A : Type 0} → (A → List ℕ) → List A → Type 0
 AreSpelled {A} name xs = Each (λ (x : A). IsTrue (is_name (name x))) xs
 
--- The values of a factor have names.
+-- The name of each value of a factor is spelled as a name.
 abbrev pub HasValueNames : Factor → Type 0
 HasValueNames factor = AreSpelled (λ (value : List ℕ). value) factor.values
 
--- Each name in a specification is a name.
+-- Each name in a specification is spelled as a name.
 pub record HasNames (spec : Parts) : Type 0 where
   pub procs : AreSpelled (λ (proc : Proc). proc.name) spec.procs
   pub apps : AreSpelled (λ (app : AppSpec). app.name) spec.apps
@@ -109,7 +109,7 @@ pub record HasNames (spec : Parts) : Type 0 where
   pub values : Each HasValueNames spec.factors
   pub demands : AreSpelled (λ (demand : Demand). demand.name) spec.demands
 
--- What a processor keeps: its capacity in load units.
+-- The capacity of a processor, in load units, is within its limit.
 pub record IsProc (proc : Proc) : Type 0 where
   pub capacity : proc.capacity ≤ 1000000
 
@@ -118,7 +118,7 @@ pub record IsPhase (frames : ℕ) : Type 0 where
   pub least : 1 ≤ frames
   pub most : frames ≤ 16
 
--- A mode that an application lists is one of its kind, and its load and its phases lie in their ranges.
+-- A mode that an application lists is a mode of its kind, and its load and its phases are within their ranges.
 pub record IsModeSpec (kind : ℕ) (listed : ModeSpec) : Type 0 where
   pub on : 1 ≤ listed.mode.0
   pub of_kind : listed.mode.0 ≤ modes_of_kind kind
@@ -133,7 +133,7 @@ pub record IsNeeded (apps : List AppSpec) (app : AppSpec) (needed : AppId) : Typ
   pub there : slice_get apps needed.0 ≡ Some lower
   pub falls : lower.rank < app.rank
 
--- An application is of a kind that is built, needs only what has a lower rank, and lists one to three modes.
+-- An application is of a kind that is built, needs only applications of a lower rank, and lists one to three modes.
 pub record IsAppSpec (apps : List AppSpec) (app : AppSpec) : Type 0 where
   pub kind : app.kind.0 < 6
   pub rank : app.rank < 8
@@ -149,25 +149,25 @@ pub record IsPlace (procs : List Proc) (apps : List AppSpec) (a : ℕ) (place : 
   pub there : slice_get apps a ≡ Some app
   pub listed : IsSome (mode_in app.modes place.mode.0)
 
--- A configuration has a place or none for each of eight applications, and each place can be flown.
+-- A configuration has a place or none for each of eight applications, and each place is valid.
 pub record IsConf (procs : List Proc) (apps : List AppSpec) (conf : Conf) : Type 0 where
   pub width : length conf.places ≡ 8
   pub places : (a : ℕ) (place : Place) → place_in conf a ≡ Some place → IsPlace procs apps a place
 
--- A factor has two to four values, and no two of them have one name.
+-- A factor has two to four values, and no two of them have the same name.
 pub record IsFactor (factor : Factor) : Type 0 where
   pub count : HasLength 2 4 factor.values
   pub differ : NamesDiffer (λ (name : List ℕ). name) factor.values
 
--- A configuration exists; so does any that is named, where one is.
+-- A configuration exists.
 abbrev pub IsIn : List Conf → ConfId → Type 0
 IsIn confs c = c.0 < length confs
 
--- Where a configuration is named, it exists.
+-- If a configuration is named, it exists.
 abbrev pub IsInIfNamed : List Conf → Option ConfId → Type 0
 IsInIfNamed confs c = IfSome c (IsIn confs)
 
--- What a rule requires of a factor is a value that this factor has.
+-- The value that a rule requires of a factor is one of the factor's values.
 pub record IsWant (factors : List Factor) (want : Want) : Type 0 where
   pub factor : Factor
   pub there : slice_get factors want.factor.0 ≡ Some factor
@@ -181,21 +181,21 @@ pub record IsChoice (procs : List Proc) (confs : List Conf) (factors : List Fact
   pub up : rule.up < 2 ^ length procs
   pub to : IsIn confs rule.to
 
--- A bound is for configurations that exist, and from 1 to 1000 frames.
+-- A bound is between configurations that exist, and is from 1 to 1000 frames.
 pub record IsBound (confs : List Conf) (bound : Bound) : Type 0 where
   pub from : IsIn confs bound.from
   pub to : IsIn confs bound.to
   pub least : 1 ≤ bound.frames
   pub most : bound.frames ≤ 1000
 
--- The altitude of a goal in feet and its heading in tenths of a degree lie in their ranges.
+-- The altitude of a goal, in feet, and its heading, in tenths of a degree, are within their ranges.
 pub record IsGoal (goal : Goal) : Type 0 where
   pub lowest : pos 0 ≤ℤ goal.altitude
   pub highest : goal.altitude ≤ℤ pos 40000
   pub first : pos 0 ≤ℤ goal.heading
   pub last : goal.heading ≤ℤ pos 3599
 
--- The ends of an interval for a variable of an application that exists.
+-- An interval is for a variable of an application that exists, and its ends are within their limits.
 pub record IsInterval (apps : List AppSpec) (app : AppId) (variable : ℕ) (low high : ℤ) : Type 0 where
   pub there : app.0 < length apps
   pub is_variable : variable ≤ 7
@@ -204,17 +204,18 @@ pub record IsInterval (apps : List AppSpec) (app : AppId) (variable : ℕ) (low 
   pub high_least : minus 1000000000 ≤ℤ high
   pub high_most : high ≤ℤ pos 1000000000
 
--- An invariant is for one configuration that exists or for all, and its interval is one.
+-- An invariant is for one configuration that exists or for all, and its interval is valid.
 pub record IsInvariant (apps : List AppSpec) (confs : List Conf) (inv : Invariant) : Type 0 where
   pub from : IsInIfNamed confs inv.from
   pub interval : IsInterval apps inv.app inv.variable inv.least inv.greatest
 
--- A precondition is for a configuration that exists, and its interval is one.
+-- A precondition is for a configuration that exists, and its interval is valid.
 pub record IsPrecondition (apps : List AppSpec) (confs : List Conf) (pre : Precondition) : Type 0 where
   pub conf : IsIn confs pre.conf
   pub interval : IsInterval apps pre.app pre.variable pre.least pre.greatest
 
--- An application that has to be on exists, and it lists each mode of which it has to be in one; no mode stands twice.
+-- An application that a demand requires to be on exists and lists each mode that the demand allows. No mode is listed
+-- twice.
 pub record IsOn (apps : List AppSpec) (a : ℕ) (modes : List Mode) : Type 0 where
   pub app : AppSpec
   pub there : slice_get apps a ≡ Some app
@@ -222,7 +223,7 @@ pub record IsOn (apps : List AppSpec) (a : ℕ) (modes : List Mode) : Type 0 whe
   pub listed : Each (λ (mode : Mode). IsSome (mode_in app.modes mode.0)) modes
   pub differ : (i j : ℕ) (m n : Mode) → slice_get modes i ≡ Some m → slice_get modes j ≡ Some n → m.0 ≡ n.0 → i ≡ j
 
--- A demand names configurations, values, processors and applications that exist; no processor has to be both up and
+-- A demand names configurations, values, processors and applications that exist. No processor has to be both up and
 -- down, and no application both on and off.
 pub record IsDemand (procs : List Proc) (apps : List AppSpec) (confs : List Conf) (factors : List Factor) (demand : Demand) : Type 0 where
   pub from : demand.from < 2 ^ length confs
@@ -237,7 +238,7 @@ pub record IsDemand (procs : List Proc) (apps : List AppSpec) (confs : List Conf
   pub off : demand.off < 2 ^ length apps
   pub one : (a : ℕ) → has_bit demand.off a ≡ true → modes_on demand a ≡ None
 
--- The specification's invariant.
+-- The invariant of a specification.
 pub record IsSpec (spec : Parts) : Type 0 where
   pub names : HasNames spec
   pub procs_count : HasLength 1 8 spec.procs

@@ -1,18 +1,18 @@
-//! Numbers that name things: each counts from 0 in the list of its class.
+//! Numbers of applications, processors, configurations, factors, kinds and modes.
 
-/// An application, by its place among the specification's applications; the first one by default.
+/// An application, as an index into the specification's applications. The default is the first application.
 #[derive(Clone, Copy, Debug, Default, PartialEq, Eq)]
 pub struct AppId(pub u8);
 
-/// A processor, by its place among the specification's processors.
+/// A processor, as an index into the specification's processors.
 #[derive(Clone, Copy, Debug, PartialEq, Eq)]
 pub struct ProcId(pub u8);
 
-/// A configuration, by its place among the specification's configurations.
+/// A configuration, as an index into the specification's configurations.
 #[derive(Clone, Copy, Debug, PartialEq, Eq)]
 pub struct ConfId(pub u8);
 
-/// An environment factor, by its place among the specification's factors.
+/// An environment factor, as an index into the specification's factors.
 #[derive(Clone, Copy, Debug, PartialEq, Eq)]
 pub struct FactorId(pub u8);
 

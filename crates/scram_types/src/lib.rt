@@ -1,5 +1,5 @@
-//! The plain types of SCRAM. Every `Spec` keeps its invariant, so no crate above tests an index, a limit or a name
-//! again.
+//! The plain types of SCRAM. Every `Spec` keeps its invariant, so other crates need not check an index, a limit or a
+//! name again.
 #![tactic(auto)]
 
 pub mod bits;

@@ -1,9 +1,9 @@
-//! A list whose value is its items alone.
+//! A list that contracts see as its items alone.
 
 ghost use Rattle.std.specs.Prelude.{◌≡◌};
 
-/// Items in order. Contracts see the items and nothing of the room behind them, so a value that holds
-/// a list can equal a definition's value.
+/// Items in order. Contracts see the items but not the capacity, so a value that holds a list can equal the value of a
+/// definition.
 #[derive(Drop)]
 pub struct List<T> {
     items: Vec<T>,

@@ -1,4 +1,4 @@
-//! What stands in a specification, by number and by name.
+//! Lookups in a specification, by number and by name.
 
 ghost use Rattle.std.specs.Prelude.{◌≡◌, ◌<◌, ◌≤◌, IfSome, length};
 ghost use Rattle.scram_types.specs.Lookups.{app_name, app_named, conf_name, conf_named, env_before, env_in, factor_name, factor_named, is_on, kind_of_app, mode_of, mode_of_app, number_named, opening_env, place_of, proc_name, proc_named, value_name, value_named};
@@ -9,7 +9,7 @@ use crate::rows::{Env, Row};
 use crate::specification::{Factor, ModeSpec, Place, Spec};
 
 impl Spec {
-    /// Returns the application of this name.
+    /// Returns the application of this name, or `None` if there is none.
     pub fn app_named(&self, text: &[u8]) -> Option<AppId>
         ensures app { result ≡ app_named self.now text.now }
         ensures below { IfSome result (λ app. app.0 < length self.now.apps) }
@@ -22,7 +22,7 @@ impl Spec {
         None
     }
 
-    /// Returns the processor of this name.
+    /// Returns the processor of this name, or `None` if there is none.
     pub fn proc_named(&self, text: &[u8]) -> Option<ProcId>
         ensures proc { result ≡ proc_named self.now text.now }
         ensures below { IfSome result (λ proc. proc.0 < length self.now.procs) }
@@ -35,7 +35,7 @@ impl Spec {
         None
     }
 
-    /// Returns the configuration of this name.
+    /// Returns the configuration of this name, or `None` if there is none.
     pub fn conf_named(&self, text: &[u8]) -> Option<ConfId>
         ensures conf { result ≡ conf_named self.now text.now }
         ensures below { IfSome result (λ conf. conf.0 < length self.now.confs) }
@@ -48,7 +48,7 @@ impl Spec {
         None
     }
 
-    /// Returns the factor of this name.
+    /// Returns the factor of this name, or `None` if there is none.
     pub fn factor_named(&self, text: &[u8]) -> Option<FactorId>
         ensures factor { result ≡ factor_named self.now text.now }
         ensures below { IfSome result (λ factor. factor.0 < length self.now.factors) }
@@ -61,7 +61,7 @@ impl Spec {
         None
     }
 
-    /// Returns the name of an application, at most 16 bytes; no bytes where it does not exist.
+    /// Returns the name of an application, at most 16 bytes, or an empty string if there is no such application.
     pub fn app_name(&self, app: AppId) -> &str
         ensures name { result.now ≡ app_name self.now app.0 }
         ensures short { length result.now ≤ 16 }
@@ -72,7 +72,7 @@ impl Spec {
         }
     }
 
-    /// Returns the name of a processor, at most 16 bytes; no bytes where it does not exist.
+    /// Returns the name of a processor, at most 16 bytes, or an empty string if there is no such processor.
     pub fn proc_name(&self, proc: ProcId) -> &str
         ensures name { result.now ≡ proc_name self.now proc.0 }
         ensures short { length result.now ≤ 16 }
@@ -83,7 +83,7 @@ impl Spec {
         }
     }
 
-    /// Returns the name of a configuration, at most 16 bytes; no bytes where it does not exist.
+    /// Returns the name of a configuration, at most 16 bytes, or an empty string if there is no such configuration.
     pub fn conf_name(&self, conf: ConfId) -> &str
         ensures name { result.now ≡ conf_name self.now conf.0 }
         ensures short { length result.now ≤ 16 }
@@ -94,7 +94,7 @@ impl Spec {
         }
     }
 
-    /// Returns the name of a factor, at most 16 bytes; no bytes where it does not exist.
+    /// Returns the name of a factor, at most 16 bytes, or an empty string if there is no such factor.
     pub fn factor_name(&self, factor: FactorId) -> &str
         ensures name { result.now ≡ factor_name self.now factor.0 }
         ensures short { length result.now ≤ 16 }
@@ -105,7 +105,7 @@ impl Spec {
         }
     }
 
-    /// Returns the kind of an application; 0 where it does not exist.
+    /// Returns the kind of an application, or 0 if there is no such application.
     pub fn kind_of_app(&self, app: AppId) -> KindId
         ensures kind { result.0 ≡ kind_of_app self.now app.0 }
         ensures built { result.0 < 6 }
@@ -116,7 +116,7 @@ impl Spec {
         }
     }
 
-    /// Returns where a configuration places an application, or `None` where it is off.
+    /// Returns the place of an application in a configuration, or `None` if the application is off there.
     pub fn place_of(&self, c: ConfId, app: AppId) -> Option<Place>
         ensures place { result ≡ place_of self.now c app.0 }
         ensures proc { IfSome result (λ place. place.proc.0 < 8) }
@@ -134,14 +134,14 @@ impl Spec {
         self.place_of(conf, app).is_some()
     }
 
-    /// Returns what a mode of an application costs, or `None` where the application does not list it.
+    /// Returns the costs of a mode of an application, or `None` if the application does not list the mode.
     pub fn mode_of_app(&self, app: AppId, mode: Mode) -> Option<ModeSpec>
         ensures { result ≡ mode_of_app self.now app.0 mode.0 }
     {
         self.app(app)?.mode(mode)
     }
 
-    /// Returns what the mode of an application in a configuration costs, or `None` where it is off.
+    /// Returns the costs of an application's mode in a configuration, or `None` if the application is off there.
     pub fn mode_of(&self, conf: ConfId, app: AppId) -> Option<ModeSpec>
         ensures { result ≡ mode_of self.now conf app.0 }
     {
@@ -149,7 +149,7 @@ impl Spec {
         self.mode_of_app(app, place.mode)
     }
 
-    /// Returns the environment that a flight opens in: each processor is up, each factor has its first value.
+    /// Returns the environment at the start of a flight: each processor is up and each factor has its first value.
     pub fn opening_env(&self) -> Env
         ensures { result ≡ opening_env self.now }
     {
@@ -161,7 +161,7 @@ impl Spec {
 }
 
 impl Factor {
-    /// Returns the number of the value of this name, of at most 255 values.
+    /// Returns the number of the value of this name, or `None` if there is none. The factor has at most 255 values.
     pub fn value_named(&self, text: &[u8]) -> Option<u8>
         requires { length self.now.values ≤ 255 }
         ensures { result ≡ value_named self.now text.now }
@@ -169,7 +169,7 @@ impl Factor {
         number_of_name(self.values.items(), text)
     }
 
-    /// Returns the name of a value, at most 16 bytes; no bytes where the factor has no such value.
+    /// Returns the name of a value, at most 16 bytes, or an empty string if the factor has no such value.
     pub fn value_name(&self, value: u8) -> &str
         ensures name { result.now ≡ value_name self.now value }
         ensures short { length result.now ≤ 16 }
@@ -193,7 +193,7 @@ fn number_of_name(names: &[Name], text: &[u8]) -> Option<u8>
     None
 }
 
-/// Returns the environment of a row, or `None` where there is no such row.
+/// Returns the environment of row `k`, or `None` if there is no such row.
 pub fn env_in(rows: &[Row], k: usize) -> Option<Env>
     ensures { result ≡ env_in rows.now k }
 {
@@ -203,7 +203,7 @@ pub fn env_in(rows: &[Row], k: usize) -> Option<Env>
     }
 }
 
-/// Returns the environment of the row before row `k`; before the first one that in which a flight opens.
+/// Returns the environment of the row preceding row `k`, or the environment at the start of a flight if `k` is 0.
 pub fn env_before(spec: &Spec, rows: &[Row], k: usize) -> Option<Env>
     ensures { result ≡ env_before spec.now rows.now k }
 {

@@ -1,11 +1,11 @@
-//! A few modes of an application, in their order.
+//! Short lists of modes.
 
 ghost use Rattle.std.specs.Prelude.{◌≡◌, ◌<◌, ◌≤◌, ◌++◌, List, [], ◌∷◌, length};
 ghost use Rattle.scram_types.specs.ModeLists.{is_among};
 
 use crate::ids::Mode;
 
-/// Up to three modes, in their order. Contracts see the list of them.
+/// Up to three modes, in order. Contracts see the list of them.
 #[derive(Clone, Copy)]
 pub struct Modes {
     items: [Mode; 3],
@@ -29,7 +29,7 @@ impl std::marker::Model for Modes {
 }
 
 impl Modes {
-    /// Returns no modes.
+    /// Creates an empty list of modes.
     pub fn new() -> Modes
         ensures { result ≡ [] }
     {
@@ -39,7 +39,7 @@ impl Modes {
         }
     }
 
-    /// Puts a mode behind the others.
+    /// Appends a mode.
     pub fn push(&mut self, mode: Mode)
         requires { length self.old < 3 }
         ensures { self.new ≡ self.old ++ mode ∷ [] }
@@ -48,14 +48,14 @@ impl Modes {
         self.count += 1;
     }
 
-    /// Returns whether a mode is one of them.
+    /// Returns whether a mode is in the list.
     pub fn has(&self, mode: Mode) -> bool
         ensures { result ≡ is_among self.now mode.0 }
     {
         self.as_slice().iter().any(|listed| listed.0 == mode.0)
     }
 
-    /// Returns the modes, in their order.
+    /// Returns the modes, in order.
     pub fn as_slice(&self) -> &[Mode]
         ensures modes { result.now ≡ self.now }
         ensures few { length result.now ≤ 3 }

@@ -7,7 +7,7 @@ ghost use Rattle.scram_types.specs.Names.{is_name, is_name_byte, name_of};
 use arrayvec::ArrayString;
 use std::fmt;
 
-/// A name: 1 to 16 bytes, a lower-case letter first and then lower-case letters, digits or `_`.
+/// A name: 1 to 16 lower-case letters, digits or `_`, of which the first is a letter.
 #[derive(Debug, Drop)]
 pub struct Name {
     text: ArrayString<16>,
@@ -25,7 +25,7 @@ impl std::marker::Model for Name {
 }
 
 impl Name {
-    /// Returns the name that is spelled so, or `None` where the text is no name.
+    /// Returns the name that `text` spells, or `None` if `text` is not a name.
     pub fn of(text: &str) -> Option<Name>
         ensures { result ≡ name_of text.now }
     {
@@ -38,7 +38,7 @@ impl Name {
         }
     }
 
-    /// Returns the name's spelling.
+    /// Returns the spelling of the name.
     pub fn as_str(&self) -> &str
         ensures text { result.now ≡ self.now }
         ensures short { length result.now ≤ 16 }
@@ -56,7 +56,7 @@ impl Name {
 }
 
 impl Default for Name {
-    /// Returns the name `a`, which stands in the unused places of a list of fixed length.
+    /// Returns the name `a`, which fills the unused elements of a list of fixed length.
     fn default() -> Name {
         let mut text = ArrayString::new();
         text.push('a');

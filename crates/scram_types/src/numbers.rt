@@ -1,10 +1,10 @@
-//! Whole numbers: clamping, sums and differences that fit.
+//! Whole numbers: clamping, and sums and differences that do not overflow.
 #![tactic(auto, unfolding(crate::specs::Numbers::clamp))]
 
 ghost use Rattle.std.specs.Prelude.{◌-ℤ◌, ◌+ℤ◌, pos, ◌≡◌, ◌≤ℤ◌};
 ghost use Rattle.scram_types.specs.Numbers.{IsWord, clamp, minus};
 
-/// Returns `x`, but at least `low` and at most `high`.
+/// Returns `x`, restricted to the range from `low` to `high`, inclusive.
 pub fn clamped(x: i64, low: i64, high: i64) -> i64
     requires { low ≤ℤ high }
     ensures value { result ≡ clamp x low high }
@@ -20,7 +20,7 @@ pub fn clamped(x: i64, low: i64, high: i64) -> i64
     }
 }
 
-/// Returns `x + y` of two numbers within 2^32 of 0.
+/// Returns `x + y`, where both numbers are within 2^32 of 0.
 pub fn sum(x: i64, y: i64) -> i64
     requires x { IsWord x }
     requires y { IsWord y }
@@ -31,7 +31,7 @@ pub fn sum(x: i64, y: i64) -> i64
     x + y
 }
 
-/// Returns how far `target` lies above `x`, both within 2^32 of 0.
+/// Returns `target - x`, where both numbers are within 2^32 of 0.
 pub fn gap(x: i64, target: i64) -> i64
     requires x { IsWord x }
     requires target { IsWord target }

@@ -1,4 +1,4 @@
-//! What the kernel decides, what it orders, and what an application did.
+//! The kernel's modes, its orders, and the acts of applications.
 
 use crate::ids::{ConfId, Mode, ProcId};
 
@@ -9,19 +9,19 @@ pub enum KMode {
     Stable(ConfId),
     /// A reconfiguration is under way.
     Moving {
-        /// The configuration that was left.
+        /// The configuration that the reconfiguration leaves.
         from: ConfId,
         /// The configuration whose applications halt, or none.
         halting: Option<ConfId>,
         /// The target.
         to: ConfId,
-        /// The frame in which the halting phase began; the age of frame `f` is `f - since` frames.
+        /// The frame in which the halting phase began. The age of frame `f` is `f - since` frames.
         since: u32,
     },
 }
 
-/// What an application is to do in a frame. In `Halt`, `Prepare` and `Init` the first number counts
-/// the phase's frames from 0 and is below the second, which is their number, 1 to 16.
+/// What an application is to do in a frame. In `Halt`, `Prepare` and `Init` the first number is the frame of the phase,
+/// counted from 0. The second is the phase's length in frames, 1 to 16.
 #[derive(Clone, Copy, Debug, PartialEq, Eq)]
 pub enum Order {
     Run,
@@ -32,17 +32,17 @@ pub enum Order {
     Off,
 }
 
-/// What an application did in a frame, where, and in which frame of which phase (as in [`Order`]).
+/// What an application did in a frame, on which processor, and in which frame of which phase, as in [`Order`].
 #[derive(Clone, Copy, Debug, PartialEq, Eq)]
 pub enum Act {
-    /// It ran in this mode on this processor.
+    /// The application ran in this mode on this processor.
     Ran(Mode, ProcId),
     Halting(u8, u8, ProcId),
     Held,
     Preparing(u8, u8, ProcId),
     Initialising(u8, u8, ProcId),
-    /// It is off.
+    /// The application is off.
     Off,
-    /// Its processor did not commit the frame, so its area stays as it was.
+    /// The application's processor did not commit the frame, so the application's area is unchanged.
     Lost,
 }

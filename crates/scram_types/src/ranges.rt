@@ -7,21 +7,21 @@ ghost use Rattle.scram_types.specs.Ranges.{clamp_in, limit};
 
 use crate::numbers::clamped;
 
-/// The whole numbers from `-below` to `above`: each range of a quantity holds 0.
+/// The whole numbers from `-below` to `above`, inclusive. Each range of a quantity holds 0.
 #[derive(Clone, Copy, Debug, PartialEq, Eq)]
 pub struct Range {
     pub below: u32,
     pub above: u32,
 }
 
-/// Returns the range from `-below` to `above`.
+/// Creates the range from `-below` to `above`.
 pub const fn make_range(below: u32, above: u32) -> Range
     ensures { result ≡ limit below above }
 {
     Range { below, above }
 }
 
-/// Returns `x`, but at least and at most the range's ends.
+/// Returns `x`, restricted to `range`.
 pub fn clamped_in(range: Range, x: i64) -> i64
     ensures value { result ≡ clamp_in range x }
     ensures low { minus range.below ≤ℤ result }

@@ -1,4 +1,4 @@
-//! What a flight shows: areas, the world, the environment, rows and reports.
+//! The contents of a trace: areas, the world, the environment, rows and reports.
 
 use crate::ids::ConfId;
 use crate::lists::List;
@@ -20,15 +20,14 @@ pub struct World {
     pub bank: i64,
 }
 
-/// Where the mission sends the aircraft: `altitude` in feet, 0 to 40,000, and `heading` in tenths of a degree, 0 to
-/// 3,599.
+/// The goal of the mission: `altitude` in feet, 0 to 40,000, and `heading` in tenths of a degree, 0 to 3,599.
 #[derive(Clone, Copy, Debug, PartialEq, Eq)]
 pub struct Goal {
     pub altitude: i64,
     pub heading: i64,
 }
 
-/// What the table chooses by. Bit `p` of `up` is set where processor `p` is up; bits past the last
+/// The environment, by which the table chooses. Bit `p` of `up` is set if processor `p` is up; bits past the last
 /// processor are clear. `factors` holds the number of each factor's value, and 0 past the last factor.
 #[derive(Clone, Copy, Debug, PartialEq, Eq)]
 pub struct Env {
@@ -36,9 +35,8 @@ pub struct Env {
     pub factors: [u8; 6],
 }
 
-/// One frame of the trace: the environment and the kernel's mode of the frame, and what each
-/// application did, with its area and the world at the frame's end. Past the last application acts are
-/// `Off` and areas zeros.
+/// One frame of the trace: the frame's environment and kernel mode, the act and the area of each application, and the
+/// world at the end of the frame. Past the last application the acts are `Off` and the areas are zeros.
 #[derive(Clone, Copy, Debug, PartialEq, Eq)]
 pub struct Row {
     pub frame: u32,
@@ -49,8 +47,8 @@ pub struct Row {
     pub world: World,
 }
 
-/// A reconfiguration: the frames in which it began and ended. One that the script cut off has no
-/// target, and its end is the number of frames.
+/// A reconfiguration, with the frames in which it began and ended. A reconfiguration that the end of the script cut off
+/// has no target, and its end is the number of frames.
 #[derive(Clone, Copy, Debug, PartialEq, Eq)]
 pub struct Report {
     pub from: ConfId,

@@ -1,9 +1,9 @@
-//! Fault scripts: what goes wrong in a flight, and when.
+//! Fault scripts: the faults of a flight and their frames.
 
 use crate::ids::{FactorId, ProcId};
 use crate::lists::List;
 
-/// From this frame on the factor has this value (its number among the factor's values).
+/// A change of a factor: from this frame on the factor has this value, which is an index into the factor's values.
 #[derive(Clone, Copy, Debug, PartialEq, Eq)]
 pub struct Change {
     pub frame: u32,
@@ -11,8 +11,8 @@ pub struct Change {
     pub value: u8,
 }
 
-/// The processor halts in this frame after `step` stores, `step` being 0 to `W`, or after its mark,
-/// `step` being `W + 1`; `W` is eight times the number of applications.
+/// A halt of a processor in this frame: after `step` stores if `step` is at most `W`, or after its mark if `step` is `W
+/// + 1`. `W` is eight times the number of applications.
 #[derive(Clone, Copy, Debug, PartialEq, Eq)]
 pub struct HaltAt {
     pub proc: ProcId,
@@ -20,14 +20,14 @@ pub struct HaltAt {
     pub step: u8,
 }
 
-/// The processor, halted before, is up again from this frame on.
+/// A restart: the processor, halted before, is up again from this frame on.
 #[derive(Clone, Copy, Debug, PartialEq, Eq)]
 pub struct RestartAt {
     pub proc: ProcId,
     pub frame: u32,
 }
 
-/// A fault script of at most 20,000 frames: its changes, halts and restarts, each list by frame.
+/// A fault script of at most 20,000 frames, with its changes, halts and restarts, each list in the order of frames.
 #[derive(Drop)]
 pub struct Script {
     pub frames: u32,

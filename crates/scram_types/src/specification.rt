@@ -10,15 +10,15 @@ use crate::mode_lists::Modes;
 use crate::names::Name;
 use crate::rows::Goal;
 
-/// A processor and the load that it can carry, 0 to 1,000,000 load units.
+/// A processor, with its capacity, 0 to 1,000,000 load units.
 #[derive(Drop)]
 pub struct Proc {
     pub name: Name,
     pub capacity: u32,
 }
 
-/// What an application's mode costs: its load, 0 to 1,000,000 load units, and how many frames its
-/// halt, prepare and init phases take, 1 to 16 each.
+/// The costs of an application's mode: its load, 0 to 1,000,000 load units, and the lengths of its halt, prepare and
+/// init phases, 1 to 16 frames each.
 #[derive(Clone, Copy, Debug, PartialEq, Eq)]
 pub struct ModeSpec {
     pub mode: Mode,
@@ -28,8 +28,8 @@ pub struct ModeSpec {
     pub init: u8,
 }
 
-/// An application: its kind, what it needs, and the modes of its kind that it may be in. The rank of
-/// an application is above that of each that it needs.
+/// An application: its kind, the applications that it needs, and the modes of its kind that it may be in. Its rank is
+/// above the rank of each application that it needs.
 #[derive(Drop)]
 pub struct AppSpec {
     pub name: Name,
@@ -46,29 +46,30 @@ pub struct Place {
     pub proc: ProcId,
 }
 
-/// A configuration: the place of each application, in their order, `None` where it is off.
+/// A configuration: the place of each application, in the order of the applications, or `None` if the application is
+/// off.
 #[derive(Drop)]
 pub struct Conf {
     pub name: Name,
     pub places: [Option<Place>; 8],
 }
 
-/// An environment factor and the values that it can have; it begins with the first.
+/// An environment factor and its possible values. At the start of a flight it has the first.
 #[derive(Drop)]
 pub struct Factor {
     pub name: Name,
     pub values: List<Name>,
 }
 
-/// A required value of a factor, by its number among the factor's values.
+/// A required value of a factor, as an index into the factor's values.
 #[derive(Clone, Copy, Debug, PartialEq, Eq)]
 pub struct Want {
     pub factor: FactorId,
     pub value: u8,
 }
 
-/// A rule of the choice table. It fits where the source is `from` (`None` for any), each required factor has the
-/// required value, and each processor whose bit is set in `up` is up; its target is `to`.
+/// A rule of the choice table, whose target is `to`. The rule fits if the source is `from` (`None` for any), each
+/// required factor has the required value, and each processor whose bit is set in `up` is up.
 #[derive(Drop)]
 pub struct Choice {
     pub from: Option<ConfId>,
@@ -77,7 +78,7 @@ pub struct Choice {
     pub to: ConfId,
 }
 
-/// The most frames, 1 to 1,000, that a reconfiguration between two configurations may take.
+/// The maximum length of a reconfiguration between two configurations, 1 to 1,000 frames.
 #[derive(Clone, Copy, Debug, PartialEq, Eq)]
 pub struct Bound {
     pub from: ConfId,
@@ -85,7 +86,7 @@ pub struct Bound {
     pub frames: u32,
 }
 
-/// While a reconfiguration leaves `from` (`None` for any configuration), this variable of this
+/// An invariant: while a reconfiguration leaves `from` (`None` for any configuration), this variable of this
 /// application lies between `least` and `greatest`, both within 1,000,000,000 of 0.
 #[derive(Clone, Copy, Debug, PartialEq, Eq)]
 pub struct Invariant {
@@ -96,7 +97,7 @@ pub struct Invariant {
     pub greatest: i64,
 }
 
-/// As a configuration begins to run, this variable of this application lies between `least` and
+/// A precondition: when a configuration begins to run, this variable of this application lies between `least` and
 /// `greatest`, both within 1,000,000,000 of 0.
 #[derive(Clone, Copy, Debug, PartialEq, Eq)]
 pub struct Precondition {
@@ -107,20 +108,21 @@ pub struct Precondition {
     pub greatest: i64,
 }
 
-/// What a failure during a reconfiguration does to its target: `Retarget` chooses anew with each
-/// change, `Settle` keeps the target while it can run.
+/// The effect of a failure during a reconfiguration on its target. `Retarget` chooses anew with each change; `Settle`
+/// keeps the target while it can run.
 #[derive(Clone, Copy, Debug, PartialEq, Eq)]
 pub enum Policy {
     Retarget,
     Settle,
 }
 
-/// What has to run where: where the environment has each value of `wants`, each processor of `up` is up and each of
-/// `down` is down, a choice from a configuration of `from` has to be one of `to` in which each application of `on` is on
-/// and each of `off` is off. An empty `from` or `to` stands for every configuration. Sets are bits by number.
+/// A demand on the choices in some environments. It applies if the environment has each value of `wants`, each
+/// processor of `up` is up and each of `down` is down. Then a choice from a configuration of `from` has to be one of
+/// `to` in which each application of `on` is on and each of `off` is off. An empty `from` or `to` means every
+/// configuration. The sets are kept as bits.
 ///
-/// `on` has for each application `None` where it need not be on, and else the modes of which it has to be in one, any
-/// mode where there are none.
+/// For each application, `on` has `None` if the application need not be on. Otherwise it has the modes that are
+/// allowed, or an empty list for any mode.
 #[derive(Drop)]
 pub struct Demand {
     pub name: Name,
@@ -133,8 +135,8 @@ pub struct Demand {
     pub off: u8,
 }
 
-/// A specification. Its maker proves `IsSpec` of it: names differ within their class, indexes are in range, the
-/// limits hold, a needed application has a lower rank, modes are modes of their kind, and a placed mode is one that
+/// A specification. Its creator proves `IsSpec`: names differ within their class, indexes are in range, the limits
+/// hold, and a needed application has a lower rank. Modes are modes of their kind, and the mode of a place is one that
 /// its application lists.
 ///
 /// `halts`, `changes` and `window` are the failure assumption: at most `halts` processors are down at
@@ -204,7 +206,7 @@ impl std::marker::Model for Spec {
 impl Conf {
     ghost use Rattle.scram_types.specs.Specification.{place_in};
 
-    /// Returns where the configuration places an application, or `None` where it is off.
+    /// Returns the place of an application in the configuration, or `None` if the application is off.
     pub fn place(&self, app: AppId) -> Option<Place>
         ensures { result ≡ place_in self.now app.0 }
     {
@@ -218,8 +220,8 @@ impl Conf {
 impl Demand {
     ghost use Rattle.scram_types.specs.Specification.{modes_on};
 
-    /// Returns the modes of which an application has to be on in one, any mode where there are none; `None` where it
-    /// need not be on.
+    /// Returns the modes that the demand allows for an application, empty if any mode will do, or `None` if the
+    /// application need not be on.
     pub fn modes_on(&self, app: AppId) -> Option<Modes>
         ensures { result ≡ modes_on self.now app.0 }
     {
@@ -233,7 +235,7 @@ impl Demand {
 impl AppSpec {
     ghost use Rattle.scram_types.specs.Specification.{mode_in};
 
-    /// Returns what a mode of the application costs, or `None` where it does not list the mode.
+    /// Returns the costs of a mode of the application, or `None` if the application does not list the mode.
     pub fn mode(&self, mode: Mode) -> Option<ModeSpec>
         ensures { result ≡ mode_in self.now.modes mode.0 }
     {
@@ -249,7 +251,8 @@ impl AppSpec {
 impl Spec {
     ghost use Rattle.scram_types.specs.Specification.{bound_in, greatest_bound_in};
 
-    /// Returns the bound, in frames, on a reconfiguration from one configuration to another, if one is given.
+    /// Returns the bound, in frames, on a reconfiguration from one configuration to another, or `None` if none is
+    /// given.
     pub fn bound(&self, from: ConfId, to: ConfId) -> Option<u32>
         ensures { result ≡ bound_in self.now.bounds from.0 to.0 }
     {
@@ -261,7 +264,7 @@ impl Spec {
         None
     }
 
-    /// Returns the greatest bound, in frames, that is given from a configuration to any other.
+    /// Returns the greatest bound, in frames, that is given from a configuration, or `None` if none is given.
     pub fn greatest_bound(&self, from: ConfId) -> Option<u32>
         ensures { result ≡ greatest_bound_in self.now.bounds from.0 }
     {
@@ -274,28 +277,28 @@ impl Spec {
         greatest
     }
 
-    /// Returns the processor of this number, if there is one.
+    /// Returns the processor of this number, or `None` if there is none.
     pub fn proc(&self, proc: ProcId) -> Option<&Proc>
         ensures { option_copied result ≡ slice_get self.now.procs proc.0 }
     {
         self.procs.items().get(usize::from(proc.0))
     }
 
-    /// Returns the application of this number, if there is one.
+    /// Returns the application of this number, or `None` if there is none.
     pub fn app(&self, app: AppId) -> Option<&AppSpec>
         ensures { option_copied result ≡ slice_get self.now.apps app.0 }
     {
         self.apps.items().get(usize::from(app.0))
     }
 
-    /// Returns the configuration of this number, if there is one.
+    /// Returns the configuration of this number, or `None` if there is none.
     pub fn conf(&self, conf: ConfId) -> Option<&Conf>
         ensures { option_copied result ≡ slice_get self.now.confs conf.0 }
     {
         self.confs.items().get(usize::from(conf.0))
     }
 
-    /// Returns the factor of this number, if there is one.
+    /// Returns the factor of this number, or `None` if there is none.
     pub fn factor(&self, factor: FactorId) -> Option<&Factor>
         ensures { option_copied result ≡ slice_get self.now.factors factor.0 }
     {
