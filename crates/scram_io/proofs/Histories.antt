@@ -1,4 +1,4 @@
--- Reads one after another: the lemmas that show how the history grows over several files.
+-- Reads in sequence: lemmas on the growth of the history over several files.
 use Rattle.std.proofs.Common.{[], ◌∷◌, ◌++◌, Option, Some, None, IfSome, append_assoc, append-nil, sym, ◌∙◌, ap, refl, arith}
 use Rattle.scram_io.specs.Outside.{Agrees, FileMap, FilesState, Grew, History}
 

@@ -1,4 +1,4 @@
--- Puts one after another: the lemmas that show the clause of `put` for all bytes of several puts.
+-- Puts in sequence: lemmas that show the contract of `put` for all bytes of several puts.
 use Rattle.std.proofs.Common.{◌≡◌, ℕ, ◌+◌, ◌-◌, ◌<◌, ◌≤◌, List, [], ◌++◌, length, Option, Some, None, Result, Ok, Err, IfSome, append_assoc, append-nil, length-append, arith, sym, ◌∙◌, ap, refl}
 use Rattle.scram_io.specs.Outside.{CutOff, Printed, Prints, Rose, SinkState, TakesSurely, Took, TookPrefix, Unrisen, greatest_count, taken}
 
@@ -15,7 +15,7 @@ prefix_after old mid new a b first second = record {
   took = took_more old mid new a second.front first second.took;
 }
 
--- a prefix of a is one of what begins with a
+-- a prefix of a is a prefix of each text that begins with a
 pub prefix_more : (old new : SinkState) (a b : List ℕ) → TookPrefix old new a → TookPrefix old new (a ++ b)
 prefix_more old new a b first = record {
   front = first.front;
@@ -24,7 +24,7 @@ prefix_more old new a b first = record {
   took = first.took;
 }
 
--- a count that rose is none that did not rise
+-- no count both rose and did not rise
 pub risen : (before now : ℕ) → Rose before now → Unrisen before now → ⊥
 risen before now rose unrisen = omega (arith, unrisen.same, unrisen.below)
 

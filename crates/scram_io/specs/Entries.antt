@@ -1,8 +1,8 @@
--- What the entries of files in memory stand for.
+-- The entries of files in memory, as lists of bytes.
 use Rattle.std.specs.Prelude.{ℕ, List, map, string_bytes, String}
 use Rattle.std.specs.Prelude.{Vec}
 use Rattle.scram_io.specs.Outside.{FileMap}
 
--- names and bytes, as lists
+-- The names and bytes of entries, as lists.
 abbrev pub entries_of : {A B : Type 0} → List (String A × Vec ℕ B) → FileMap
 entries_of entries = map (λ entry. (string_bytes entry.0, entry.1.items)) entries

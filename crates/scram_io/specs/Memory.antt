@@ -1,15 +1,16 @@
--- Files and a sink in memory: what they hold, and what a call makes of it.
+-- Files and a sink in memory: their state, and the effect of a call.
 use Rattle.std.specs.Prelude.{ℕ, ◌+◌, ◌-◌, nat_eq, nat_lt, nat_le, Bool, not, ◌&&◌, ◌||◌, List, [], ◌∷◌, ◌++◌, length, Option, Some, None, Result, Ok, Err, if◌then◌else◌, is_none}
 use Rattle.std.specs.List.{list_any}
 use Rattle.scram_io.specs.Outside.{FileMap, FilesState, History, SinkState, file_at, counted, greatest_count}
 use Rattle.scram_io.specs.declared.files.ReadFault.{ReadFault}
 use Rattle.scram_io.specs.declared.files.ReadFault.TheVariants.{Failed, TooLong}
 
--- the call of this number is among those that are to fail
+-- The call of this number is listed as one that fails.
 abbrev pub is_listed : List ℕ → ℕ → Bool
 is_listed failing call = list_any (λ (n : ℕ). nat_eq n call) failing
 
--- files in memory: what was read, the map, the numbers of the reads that are to fail, and how many reads and faults there were
+-- Files in memory: the history, the map, the numbers of the reads that are to fail, the number of reads and the number
+-- of faults.
 pub record FilesHeld : Type 0 where
   pub history : History
   pub map : FileMap
@@ -17,11 +18,11 @@ pub record FilesHeld : Type 0 where
   pub reads : ℕ
   pub faults : ℕ
 
--- files that were not read yet
+-- Files in memory with no read and no fault yet.
 abbrev pub unread_files : FileMap → List ℕ → FilesHeld
 unread_files map failing = record { history = []; map = map; failing = failing; reads = 0; faults = 0 }
 
--- as files of any kind
+-- The state of files in memory, as files of any kind.
 abbrev pub files_state : FilesHeld → FilesState
 files_state held = record {
   history = held.history;
@@ -30,29 +31,29 @@ files_state held = record {
   faults = held.faults;
 }
 
--- what a look at a file with this limit of bytes gives
+-- The result of a read with this limit of bytes, given the file's bytes if there is such a file.
 abbrev pub within_limit : ℕ → Option (List ℕ) → Result (List ℕ) ReadFault
 within_limit limit None = Err Failed
 within_limit limit (Some bytes) = if nat_le (length bytes) limit then Ok bytes else Err TooLong
 
--- what the next read gives, unless out of memory
+-- The result of the next read, unless out of memory.
 abbrev pub read_of : FilesHeld → List ℕ → ℕ → Result (List ℕ) ReadFault
 read_of held name limit = if is_listed held.failing held.reads then Err Failed else within_limit limit (file_at name held.map)
 
--- the next read fails: its number is listed, or no file has the name
+-- The next read fails, because its number is listed or no file has the name.
 abbrev pub read_fails : FilesHeld → List ℕ → Bool
 read_fails held name = is_listed held.failing held.reads || is_none (file_at name held.map)
 
--- the file with this name that is found, with its bytes
+-- The history entry of the file, with its name and bytes, or no entry if there is no such file.
 abbrev pub found_as : List ℕ → Option (List ℕ) → History
 found_as name None = []
 found_as name (Some bytes) = (name, bytes) ∷ []
 
--- what the next read finds, also where it is longer than the limit
+-- The history entry of the file that the next read finds, also if the file is longer than the limit.
 abbrev pub found_by : FilesHeld → List ℕ → History
 found_by held name = if is_listed held.failing held.reads then [] else found_as name (file_at name held.map)
 
--- the files after a read of this name that adds this to the history
+-- The files after a read of this name that adds these entries to the history.
 abbrev pub after_read : FilesHeld → List ℕ → History → FilesHeld
 after_read held name read = record held {
   history = held.history ++ read;
@@ -60,7 +61,8 @@ after_read held name read = record held {
   faults = if read_fails held name then counted held.faults else held.faults;
 }
 
--- a sink in memory: the bytes taken, the room for them, the numbers of the puts that are to fail, and how many puts and faults there were
+-- A sink in memory: the bytes taken, its capacity, the numbers of the puts that are to fail, the number of puts and the
+-- number of faults.
 pub record SinkHeld : Type 0 where
   pub bytes : List ℕ
   pub room : ℕ
@@ -68,24 +70,25 @@ pub record SinkHeld : Type 0 where
   pub puts : ℕ
   pub faults : ℕ
 
--- a sink that has taken nothing
+-- A sink that has taken nothing.
 abbrev pub empty_sink : ℕ → List ℕ → SinkHeld
 empty_sink room failing = record { bytes = []; room = room; failing = failing; puts = 0; faults = 0 }
 
--- the next put takes these bytes: its number is not listed, and they do not pass the room
+-- The next put takes these bytes: its number is not listed, and they fit the capacity.
 abbrev pub put_takes : SinkHeld → List ℕ → Bool
 put_takes held bytes = not (is_listed held.failing held.puts) && nat_le (length held.bytes + length bytes) held.room
 
--- the sink after a put of these bytes
+-- The sink after a put of these bytes.
 abbrev pub after_put : SinkHeld → List ℕ → SinkHeld
 after_put held bytes =
     if put_takes held bytes then record held { bytes = held.bytes ++ bytes; puts = counted held.puts }
     else record held { puts = counted held.puts; faults = counted held.faults }
 
--- the number of bytes that the sink surely takes, where no put is to fail and the count of faults is below the greatest
+-- The number of bytes that the sink surely takes, known if no put is to fail and the count of faults is below the
+-- maximum.
 abbrev pub surely_takes : SinkHeld → Option ℕ
 surely_takes held = if nat_eq (length held.failing) 0 && nat_lt held.faults greatest_count then Some (held.room - length held.bytes) else None
 
--- as a sink of any kind: it holds nothing back
+-- The state of a sink in memory, as a sink of any kind. It holds nothing back.
 abbrev pub sink_state : SinkHeld → SinkState
 sink_state held = record { sent = held.bytes; held = []; surely = surely_takes held; faults = held.faults }

@@ -1,22 +1,22 @@
--- The files of the system and standard output, as clauses see them.
+-- The files of the system and standard output, as contracts see them.
 use Rattle.std.specs.Prelude.{ℕ, List, None, false}
 use Rattle.scram_io.specs.Outside.{FilesState, History, SinkState}
 
--- the files of the system: what was read of them
+-- The files of the system: the history of reads and the count of faults.
 pub record FilesSeen : Type 0 where
   pub history : History
   pub faults : ℕ
 
--- they have no map known beforehand, and are not steady
+-- The state of the system's files, which have no map known beforehand and are not steady.
 abbrev pub real_files : FilesSeen → FilesState
 real_files seen = record { history = seen.history; told = None; steady = false; faults = seen.faults }
 
--- standard output: what went out, and what is held back
+-- Standard output: the bytes sent, the bytes held back and the count of faults.
 pub record SinkSeen : Type 0 where
   pub sent : List ℕ
   pub held : List ℕ
   pub faults : ℕ
 
--- it has no known number of bytes that it surely takes
+-- The state of standard output, which has no known number of bytes that it surely takes.
 abbrev pub real_sink : SinkSeen → SinkState
 real_sink seen = record { sent = seen.sent; held = seen.held; surely = None; faults = seen.faults }

@@ -1,4 +1,4 @@
-//! The reading side of the outside.
+//! Files that are read.
 ghost use Rattle.std.specs.Prelude.{◌≡◌, ◌≢◌, ◌∷◌, ◌<◌, ◌≤◌, [], IsTrue, IfOk, IsErrOf, length};
 ghost use Rattle.scram_io.specs.declared.files.ReadFault.TheVariants.{Failed, NoMemory, TooLong};
 ghost use Rattle.std.specs.IoError.{error_kind};
@@ -10,7 +10,7 @@ use std::io;
 use std::io::ErrorKind;
 use thiserror::Error;
 
-/// Why a file was not read. Out of memory is never merged with another cause.
+/// The cause for which a file was not read. Out of memory is never merged with another cause.
 #[derive(Clone, Copy, Debug, PartialEq, Eq, Error)]
 pub enum ReadFault {
     /// The file could not be read. The count of faults rose.
@@ -19,7 +19,7 @@ pub enum ReadFault {
     /// The file has more bytes than the limit.
     #[error("the file is longer than the limit")]
     TooLong,
-    /// Out of memory. It can come wherever the read would otherwise return the bytes.
+    /// Out of memory. It can occur wherever the read would otherwise return the bytes.
     #[error("out of memory")]
     NoMemory,
 }
@@ -43,18 +43,17 @@ impl From<AllocError> for ReadFault {
     }
 }
 
-/// Files that can be read whole, by name. Clauses see their `state`: the history of what was read, the map of names
-/// to bytes where it is known beforehand, whether they are steady, and the count of faults, which never falls and
-/// stays at the greatest `u64`. Files that are steady, and have a map with the name, do not fail.
+/// Files that can be read whole, by name. Contracts see their `state`: the history of reads, the map of names to bytes
+/// if it is known beforehand, whether the files are steady, and the count of faults. The count never falls and stays at
+/// the maximum `u64`. Reads of steady files do not fail if the map has the name.
 pub trait Files {
     ghost state: { Self → FilesState };
 
-    /// Reads the file `name`, of at most `limit` bytes. The history grows by each read that found the file, and by no
-    /// other.
+    /// Reads the file `name`, of at most `limit` bytes. The history grows by this read if the result is `Ok` or
+    /// `TooLong`.
     ///
-    /// `TooLong` comes exactly where the read did not fail, memory sufficed, and the file has more bytes than
-    /// `limit`: an `Ok` has no more. Then more than `limit` bytes were read, and files without a known map count it
-    /// as a fault.
+    /// The error is `TooLong` if the read did not fail, memory sufficed, and the file has more bytes than `limit`. Then
+    /// more than `limit` bytes were read, and files without a known map count it as a fault.
     fn read(&mut self, alloc: Global, name: &str, limit: usize) -> Result<Vec<u8>, ReadFault>
         ensures grew { IfOk result (λ bytes. Grew (state self.old) (state self.new) ((name.now, bytes.items) ∷ [])) }
         ensures limited { IfOk result (λ bytes. length bytes.items ≤ limit) }

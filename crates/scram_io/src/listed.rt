@@ -2,7 +2,7 @@
 ghost use Rattle.std.specs.Prelude.{◌≡◌};
 ghost use Rattle.scram_io.specs.Memory.{is_listed};
 
-/// Returns whether the call of this number is among those that are to fail.
+/// Returns whether the call of this number is listed as one that is to fail.
 pub(crate) fn is_listed_call(failing: &[u32], call: u64) -> bool
     ensures { result ≡ is_listed failing.now call }
 {

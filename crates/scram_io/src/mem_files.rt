@@ -14,9 +14,9 @@ use std::marker::Model;
 
 /// Files in memory, for tests and for callers that have the bytes already.
 ///
-/// Contracts see the history, the map, the numbers of the reads that are to fail, and how many reads and faults
-/// there were. The reads are numbered from 0, each call of `read` being one; both counts stay at the
-/// greatest `u64`, which is above every number that can be listed.
+/// Contracts see the history, the map, the numbers of the reads that are to fail, the number of reads and the number of
+/// faults. Each call of `read` is a read, numbered from 0. Both counts stay at the maximum `u64`, which is above every
+/// number that can be listed.
 #[derive(Drop)]
 pub struct MemFiles {
     files: Vec<(String, Vec<u8>)>,
@@ -33,7 +33,7 @@ impl Model for MemFiles {
 }
 
 impl MemFiles {
-    /// Returns the files with these names and bytes; of two entries with one name the first counts. The reads whose
+    /// Creates files with these names and bytes. Of two entries with the same name the first counts. The reads whose
     /// numbers are in `failing` fail.
     pub fn new(files: Vec<(String, Vec<u8>)>, failing: Vec<u32>) -> MemFiles
         ensures { result ≡ unread_files (entries_of files.items) failing.items }
@@ -51,9 +51,8 @@ impl MemFiles {
 impl Files for MemFiles {
     ghost state = { files_state };
 
-    /// Fails exactly where the read's number is listed or no file has the name, and raises the
-    /// count of faults exactly then. Else it is `TooLong` exactly where the file has more bytes than
-    /// `limit`.
+    /// Fails exactly if the read's number is listed or no file has the name, and only then raises the count of faults.
+    /// Otherwise the error is `TooLong` exactly if the file has more bytes than `limit`.
     fn read(&mut self, alloc: Global, name: &str, limit: usize) -> Result<Vec<u8>, ReadFault>
         ensures after { ¬ IsErrOf result ReadFault.NoMemory → self.new ≡ after_read self.old name.now (found_by self.old name.now) }
         ensures whole { IfOk result (λ bytes. read_of self.old name.now limit ≡ Ok bytes.items) }
@@ -80,14 +79,14 @@ impl Files for MemFiles {
     ghost steady_below = { λ held. Prim.search rules };
 }
 
-/// Returns the bytes of the first entry of this name, where the read is not to fail.
+/// Returns the bytes of the first entry of this name, or `None` if the read is to fail or there is no such entry.
 fn find_unless<'a>(listed: bool, files: &'a [(String, Vec<u8>)], name: &str) -> Option<&'a [u8]>
     ensures { option_map (λ bytes. bytes.now) result ≡ (if listed then None else file_at name.now (entries_of files.now)) }
 {
     if listed { None } else { find_file(files, name) }
 }
 
-/// Returns the bytes of the first entry of this name.
+/// Returns the bytes of the first entry of this name, or `None` if there is none.
 fn find_file<'a>(files: &'a [(String, Vec<u8>)], name: &str) -> Option<&'a [u8]>
     ensures { option_map (λ bytes. bytes.now) result ≡ file_at name.now (entries_of files.now) }
 {

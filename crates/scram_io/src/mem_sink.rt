@@ -10,11 +10,12 @@ use scram_types::NoMemory;
 use std::alloc::Global;
 use std::marker::Model;
 
-/// A sink that keeps the bytes in memory, all of which it takes as it is made. What it takes has gone out.
+/// A sink that keeps the bytes in memory, whose buffer is allocated when it is created. The bytes that it takes count
+/// as sent.
 ///
-/// Contracts see the bytes, the room, the numbers of the puts that are to fail, and how many puts
-/// and faults there were. The puts are numbered from 0, each call of `put` being one; both counts
-/// stay at the greatest `u64`, which is above every number that can be listed.
+/// Contracts see the bytes, the capacity, the numbers of the puts that are to fail, the number of puts and the number
+/// of faults. Each call of `put` is a put, numbered from 0. Both counts stay at the maximum `u64`, which is above every
+/// number that can be listed.
 #[derive(Drop)]
 pub struct MemSink {
     bytes: Vec<u8>,
@@ -33,7 +34,7 @@ impl Model for MemSink {
 }
 
 impl MemSink {
-    /// Returns a sink with room for `room` bytes. The puts whose numbers are in `failing` fail.
+    /// Creates a sink with a capacity of `room` bytes. The puts whose numbers are in `failing` fail.
     pub fn new(alloc: Global, room: usize, failing: Vec<u32>) -> Result<MemSink, NoMemory>
         ensures { IfOk result (λ sink. sink ≡ empty_sink room failing.items) }
     {
@@ -47,7 +48,7 @@ impl MemSink {
         })
     }
 
-    /// Returns the bytes taken, no more than there was room for.
+    /// Returns the bytes taken, at most the capacity.
     pub fn bytes(&self) -> &[u8]
         ensures shown { result.now ≡ self.now.bytes }
         ensures within { length result.now ≤ self.now.room }
@@ -59,8 +60,8 @@ impl MemSink {
 impl Sink for MemSink {
     ghost state = { sink_state };
 
-    /// Fails exactly where the put's number is listed or the bytes would pass the room; then it
-    /// takes nothing and raises the count of faults.
+    /// Fails exactly if the put's number is listed or the bytes do not fit the capacity. Then it takes nothing and
+    /// raises the count of faults.
     fn put(&mut self, bytes: &[u8]) -> Result<(), SinkFault>
         ensures prints { Prints result (sink_state self.old) (sink_state self.new) bytes.now }
         ensures after { self.new ≡ after_put self.old bytes.now }
@@ -79,7 +80,7 @@ impl Sink for MemSink {
         }
     }
 
-    /// Does nothing: what was taken has gone out.
+    /// Does nothing, since the bytes taken count as sent.
     fn flush(&mut self) -> Result<(), SinkFault>
         ensures same { self.new ≡ self.old }
         ensures ok { IsOk result }

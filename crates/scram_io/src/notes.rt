@@ -1,4 +1,4 @@
-//! What was read, as ghost data: it takes no byte, and no call here does anything when it runs.
+//! Reads, noted as ghost data: a note takes no memory, and its calls do nothing at run time.
 ghost use Rattle.std.specs.Prelude.{◌≡◌, ◌++◌, [], ◌∷◌, List, ℕ};
 ghost use Rattle.std.specs.Borrow.{ftrue};
 
@@ -15,14 +15,14 @@ impl Model for NotedReads {
 }
 
 impl NotedReads {
-    /// Creates the note of no reads.
+    /// Creates an empty note of reads.
     pub fn new() -> NotedReads
         ensures { result.reads ≡ [] }
     {
         NotedReads {}
     }
 
-    /// Notes that the file of this name had these bytes, behind the reads that were noted before.
+    /// Notes that the file of this name had these bytes, after the reads noted so far.
     pub fn note(&mut self, _name: &[u8], _bytes: &[u8])
         ensures { self.new.reads ≡ self.old.reads ++ (_name.now, _bytes.now) ∷ [] }
     {}

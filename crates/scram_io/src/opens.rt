@@ -1,4 +1,4 @@
-//! What opens streams by name.
+//! Openers of streams by name.
 ghost use Rattle.std.specs.Prelude.{◌≡◌, ◌++◌, ◌∷◌, ◌≤◌, [], ℕ, List, Option, None, Some, IfOk, IfSome, IsErrOf, length};
 ghost use Rattle.scram_io.specs.Streams.{NotedLonger};
 ghost use Rattle.scram_io.specs.declared.files.ReadFault.TheVariants.{Failed, NoMemory, TooLong};
@@ -11,7 +11,7 @@ use std::fs::File;
 use std::io::Read;
 use std::{io, rt};
 
-/// What opens streams by name. `bytes` is what the stream of a name gives, where that is known.
+/// An opener of streams by name. `bytes` gives the contents of the stream of a name, if they are known.
 pub(crate) trait Opens {
     type Stream: Read + Drop;
 
@@ -22,7 +22,7 @@ pub(crate) trait Opens {
         ensures { IfOk result (λ stream. IfSome (bytes self.now name.now) (λ all. Self.Stream.remaining stream ≡ Some all)) };
 }
 
-/// The files of a runtime.
+/// The files of a runtime, as an opener.
 #[derive(Drop)]
 pub(crate) struct System<'a, R> {
     pub rt: &'a R,

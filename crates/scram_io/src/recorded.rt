@@ -1,4 +1,4 @@
-//! A writer, with the bytes that its writes took.
+//! A writer with a record of the bytes written.
 ghost use Rattle.std.specs.Borrow.{ftrue};
 ghost use Rattle.std.specs.Prelude.{◌≡◌, ◌++◌, [], List, Some, ℕ};
 ghost use Rattle.std.specs.Io.{WritesAtMost};
@@ -8,7 +8,8 @@ use std::io;
 use std::io::Write;
 use std::marker::Model;
 
-/// Bytes, in the order in which they were noted: ghost data, which takes no byte. Only a `Recorded` notes any.
+/// Bytes, in the order in which they were noted. They are ghost data, which takes no memory. Only a `Recorded` notes
+/// any.
 #[derive(Drop)]
 pub struct NotedBytes {
     pub ghost bytes: { List ℕ },
@@ -19,21 +20,21 @@ impl Model for NotedBytes {
 }
 
 impl NotedBytes {
-    /// Creates the note of no bytes.
+    /// Creates an empty note of bytes.
     fn new() -> NotedBytes
         ensures { result.bytes ≡ [] }
     {
         NotedBytes {}
     }
 
-    /// Notes these bytes behind those that were noted before.
+    /// Notes these bytes after the bytes noted so far.
     fn note(&mut self, _bytes: &[u8])
         ensures { self.new.bytes ≡ self.old.bytes ++ _bytes.now }
     {}
 }
 
-/// A writer, with a note of all the bytes that its writes took. Its `contents` are known by that, and where those of
-/// `inner` are known too, they are shown to grow alike.
+/// A writer with a note of all the bytes that its writes took. The note gives its `contents`. If the contents of
+/// `inner` are known too, both are shown to grow alike.
 #[derive(Drop)]
 pub struct Recorded<W> {
     inner: W,
@@ -41,7 +42,7 @@ pub struct Recorded<W> {
 }
 
 impl<W> Recorded<W> {
-    /// Returns the writer, with nothing written yet.
+    /// Creates a recorder around a writer, with nothing written yet.
     pub fn new(inner: W) -> Recorded<W>
         ensures inner { result.inner ≡ inner }
         ensures empty { result.taken.bytes ≡ [] }

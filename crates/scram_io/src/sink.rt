@@ -1,25 +1,25 @@
-//! The writing side of the outside.
+//! Sinks that are written.
 ghost use Rattle.std.specs.Prelude.{◌<◌, IfSome};
 ghost use Rattle.scram_io.specs.Outside.{Flushes, Prints, SinkState, greatest_count};
 
 use thiserror::Error;
 
-/// Bytes were not taken, or not sent. The count of faults rose.
+/// The error of bytes that were not taken or not sent. The count of faults rose.
 #[derive(Clone, Copy, Debug, PartialEq, Eq, Error)]
 #[error("the bytes could not be written")]
 pub struct SinkFault;
 
-/// A sink of bytes, which allocates nothing. Clauses see its `state`: the bytes that went out, those that it took and
-/// holds back still, how many more it surely takes and sends, where that is known, and the count of faults, which
-/// never falls and stays at the greatest `u64`.
+/// A sink of bytes, which allocates nothing. Contracts see its `state`: the bytes sent, the bytes taken but still held
+/// back, the number of further bytes that it surely takes and sends, if known, and the count of faults. The count never
+/// falls and stays at the maximum `u64`.
 pub trait Sink {
     ghost state: { Self → SinkState };
 
-    /// Takes all of `bytes`, or a prefix of them where it fails. They may go out now or later.
+    /// Takes all of `bytes`, or a prefix of them if it fails. The bytes may be sent now or later.
     fn put(&mut self, bytes: &[u8]) -> Result<(), SinkFault>
         ensures { Prints result (state self.old) (state self.new) bytes.now };
 
-    /// Sends all that was taken. After an `Ok` nothing is held back.
+    /// Sends all bytes taken. After an `Ok` nothing is held back.
     fn flush(&mut self) -> Result<(), SinkFault>
         ensures { Flushes result (state self.old) (state self.new) };
 

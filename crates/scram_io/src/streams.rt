@@ -1,4 +1,4 @@
-//! Whole reads of a stream and whole writes to one, whatever the stream is.
+//! Reading a whole stream and writing a whole buffer, for any kind of stream.
 ghost use Rattle.std.specs.Prelude.{◌≡◌, ◌+◌, ◌≤◌, IfOk, IfSome, OnErr, OnOk, length};
 ghost use Rattle.std.specs.Io.KnownBytes.{Appends, Consumes};
 ghost use Rattle.scram_io.specs.Streams.{AppendsPrefix, ConsumesAtMost};
@@ -8,13 +8,12 @@ use std::alloc::Global;
 use std::io;
 use std::io::{Read, Write};
 
-/// The most bytes that one turn of a read asks for.
+/// The maximum number of bytes that one call of `read` asks for.
 const PIECE: usize = 4096;
 
 /// Reads a stream to its end, or until it has given more than `limit` bytes.
 ///
-/// It asks for at most `limit + 1` bytes in all, takes at least one in each turn, and ends where a
-/// read gives none. It fails where one read fails.
+/// It asks for at most `limit + 1` bytes in all and ends when a read gives none. It fails if a read fails.
 pub fn read_past<I: Read>(alloc: Global, input: &mut I, limit: usize) -> io::Result<Vec<u8>>
     ensures whole { IfOk result (λ bytes. length bytes.items ≤ limit → IfSome (I.remaining input.old) (λ all. bytes.items ≡ all)) }
     ensures lost { IfOk result (λ bytes. Consumes (I.remaining input.old) (I.remaining input.new) bytes.items) }
@@ -33,7 +32,7 @@ pub fn read_past<I: Read>(alloc: Global, input: &mut I, limit: usize) -> io::Res
     Ok(bytes)
 }
 
-/// Writes all the bytes to a stream, which need not pass them on. A write that takes nothing fails.
+/// Writes all the bytes to a stream, which need not pass them on. Fails if a write takes nothing.
 pub fn write_whole<O: Write>(output: &mut O, bytes: &[u8]) -> Result<(), SinkFault>
     ensures whole { OnOk result (Appends (O.contents output.old) (O.contents output.new) bytes.now) }
     ensures prefix { OnErr result (AppendsPrefix (O.contents output.old) (O.contents output.new) bytes.now) }

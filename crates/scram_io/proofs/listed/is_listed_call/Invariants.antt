@@ -1,4 +1,4 @@
--- What the numbers that are left say is what all of them say.
+-- The call is listed among the remaining numbers exactly if it is listed among all.
 use Rattle.std.proofs.Common.{◌≡◌, drop}
 use Rattle.scram_io.specs.Memory.{is_listed}
 use Rattle.scram_io.proofs.listed.is_listed_call.Given as goal

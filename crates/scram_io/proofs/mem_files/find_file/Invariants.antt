@@ -1,4 +1,4 @@
--- What the entries that are left hold at the name is what all of them hold.
+-- The first entry of the name among the remaining entries is the first among all.
 use Rattle.std.proofs.Common.{◌≡◌, drop}
 use Rattle.scram_io.specs.Outside.{file_at}
 use Rattle.scram_io.specs.Entries.{entries_of}

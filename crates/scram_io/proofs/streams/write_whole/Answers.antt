@@ -1,4 +1,4 @@
--- A write that took some bytes lengthens the front; one that took none leaves it.
+-- A write that took some bytes lengthens the front; a write that took none leaves it.
 use Rattle.std.proofs.Common.{◌+◌, arith, length-drop}
 use Rattle.std.proofs.lemmas.List.{length-take}
 use Rattle.scram_io.proofs.KnownBytes.{appends_kept, appends_part, prefix_taken}
