@@ -1,4 +1,4 @@
--- A frame looks only at processors that exist.
+-- A frame depends only on processors that exist.
 use Rattle.std.proofs.Common.{◌≡◌, ◌∙◌, ℕ, ◌<◌, refl, ap, length, Bool, List}
 use Rattle.std.specs.Prelude.{ℤ, Option, Some, None, IfSome, option_and_then, slice_get}
 use Rattle.scram_types.specs.declared.ids.ConfId.{ConfId}

@@ -1,4 +1,4 @@
--- Where reconfigurations began.
+-- The beginnings of reconfigurations.
 use Rattle.std.proofs.Common.{◌≡◌, ◌∙◌, ℕ, suc, ◌+◌, ◌<◌, ◌≤◌, refl, ap, sym, arith, append_assoc, length, Bool, true, false, List, [], ◌∷◌, ◌++◌}
 use Rattle.std.specs.Prelude.{Option, Some, None, filter, map, nat_lt, if◌then◌else◌}
 use Rattle.std.proofs.lemmas.List.{map-append}
@@ -19,7 +19,7 @@ use Rattle.frame_model.proofs.ReadLaws.{ended_append, reading_append}
 abbrev below : ℕ → List Report → List (ConfId × ℕ)
 below m reports = map beginning (filter (begins_below m) reports)
 
--- what is below_test way counts by its begin alone
+-- whether a report counts depends on its begin alone
 open_same : (b : Bool) (x y : Report) → beginning x ≡ beginning y → map beginning (if b then x ∷ [] else []) ≡ map beginning (if b then y ∷ [] else [])
 open_same true x y same = ap (λ z. z ∷ []) same
 open_same false x y same = refl
@@ -32,7 +32,7 @@ first_kept : (b : Bool) (x y : Report) (rest : List Report) → beginning x ≡ 
 first_kept true x y rest same none = rw (same, none) refl
 first_kept false x y rest same none = none
 
--- what ends from a reading on, and what is cut off after n frames
+-- the reconfigurations that end from a reading on, and the one that is cut off after n frames
 abbrev shown_from : Parts → ℕ → ℕ → Reading → List Row → List Report
 shown_from spec g n r rows = ended_in spec r g rows ++ as_list (close (reading_after spec r g rows) n)
 
@@ -53,7 +53,7 @@ later spec m g n r [] le = closed_same m n m r
 later spec m g n (Steady c) (row ∷ rows) le = steady_more spec m g n c rows (runs spec row.acts c) le (λ r. later spec m (suc g) n r rows (omega arith))
 later spec m g n (Leaving c s) (row ∷ rows) le = leaving_more spec m g n c s rows (running spec row.acts) (λ r. later spec m (suc g) n r rows (omega arith))
 
--- what is below_test way began before frame f
+-- a reconfiguration under way began before frame f
 Opened : Reading → ℕ → Type 0
 Opened (Steady c) f = Unit {0}
 Opened (Leaving c s) f = s < f

@@ -1,4 +1,4 @@
--- Areas and their keepers' slots.
+-- Areas and the slots of their keepers.
 use Rattle.std.proofs.Common.{◌≡◌, ◌∙◌, ℕ, zero, suc, refl, sym, arith, Bool, true, false, List}
 use mathlib.Core.Logic.{inl, inr}
 use Rattle.std.specs.Prelude.{ℤ, ◌==◌, Option, Some, None, option_map, if◌then◌else◌}

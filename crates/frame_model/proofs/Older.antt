@@ -1,4 +1,4 @@
--- Without restarts, and under a policy that chooses anew.
+-- Flights without restarts, and policies that choose anew.
 use Rattle.std.proofs.Common.{◌≡◌, ◌∙◌, ℕ, zero, suc, ◌+◌, ◌-◌, ◌≤◌, refl, ap, sym, arith, Bool, true, false, not, ◌&&◌, ◌||◌, List, [], ◌∷◌}
 use Rattle.std.specs.Prelude.{◌==◌, nat_le, nat_lt, Some, None, if◌then◌else◌}
 use Rattle.std.specs.List.{list_any}

@@ -1,4 +1,5 @@
--- What becomes of one application is the same where its own area and keeper are the same, and the settings are of one frame.
+-- The outcome for one application is the same if its own area and keeper are the same and the settings are of one
+-- frame.
 use Rattle.std.proofs.Common.{◌≡◌, ◌∙◌, ℕ, ap, refl}
 use Rattle.scram_types.specs.Bits.{has_bit}
 use Rattle.scram_types.specs.Lookups.{kind_of_app}

@@ -1,4 +1,4 @@
--- The slots of images: each has eight words, and is found in the image.
+-- The slots of images: each has eight words and is found in the image.
 use Rattle.std.proofs.Common.{◌≡◌, ◌∙◌, ℕ, zero, suc, ◌+◌, ◌*◌, ◌<◌, refl, ap, sym, arith, length, Bool, List, [], ◌∷◌, ◌++◌, ◌⊎◌}
 use mathlib.Core.Logic.{inl, inr}
 use Rattle.std.specs.Prelude.{ℤ, pos, Option, Some, None, slice_index_or}

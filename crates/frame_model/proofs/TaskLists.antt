@@ -1,4 +1,4 @@
--- What is read at a place of a list of tasks is the task there.
+-- The task at an index of a list of tasks is the task there.
 use Rattle.std.proofs.Common.{◌≡◌, ◌∙◌, ◌<◌, ℕ, List, ap, length}
 use Rattle.std.specs.Prelude.{None, slice_index_or}
 use Rattle.std.proofs.lemmas.List.{get_or_default}
@@ -6,7 +6,7 @@ use Rattle.scram_types.specs.declared.orders.Order.TheVariants.{Run}
 use Rattle.frame_model.specs.declared.tasks.Task.{Task}
 use Rattle.frame_model.specs.Tasks.{off_task}
 
--- What stands for a task past the end of a list that is read.
+-- The task that is read past the end of a list.
 abbrev pub no_task : Task
 no_task = record { order = Run; mode = record { 0 = 0 }; proc = None }
 

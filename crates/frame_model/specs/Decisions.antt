@@ -1,4 +1,4 @@
--- What the kernel decides at the start of a frame.
+-- The kernel's decision at the start of a frame.
 use Rattle.std.specs.Prelude.{ℕ, ◌-◌, ◌==◌, Bool, nat_lt, Option, Some, None, if◌then◌else◌}
 use Rattle.scram_types.specs.declared.ids.ConfId.{ConfId}
 use Rattle.scram_types.specs.declared.rows.Env.{Env}
@@ -10,33 +10,35 @@ use Rattle.scram_types.specs.Specification.{Parts}
 use Rattle.choice_table.specs.Choices.{choose, is_runnable}
 use Rattle.frame_model.specs.Phases.{halting_frames}
 
--- Where c runs and t is chosen: c stays, or is left for t.
+-- The mode if c runs and t is chosen: c stays stable if it is t, or else is left for t.
 abbrev pub leave_for : ConfId → ConfId → ℕ → KMode
 leave_for c t frame = if t.0 == c.0 then Stable c else Moving c (Some c) t frame
 
--- In a stable mode: the configuration stays, or is left for what the table chooses.
+-- The decision in a stable mode: the configuration stays, or is left for the configuration that the table chooses.
 abbrev pub stable_decision : Parts → ConfId → ℕ → Env → KMode
 stable_decision spec c frame v = leave_for c (choose spec c v) frame
 
--- The target that the policy chooses: the one chosen from the source, unless the old one is kept while it can run.
+-- The target that the policy chooses: the target chosen from the source, unless the old target is kept while it can
+-- run.
 abbrev pub wanted : Policy → Parts → ConfId → ConfId → Env → ConfId
 wanted Retarget spec from to v = choose spec from v
 wanted Settle spec from to v = if is_runnable spec to v then to else choose spec from v
 
--- Under way to another target than t: while something halts only the target changes; else a new
--- reconfiguration begins, in which the old target halts where it was to run, and nothing where it was not.
+-- The mode if a reconfiguration under way turns to another target t. While something halts only the target changes.
+-- Otherwise a new reconfiguration begins, in which the old target halts if it was to run, and nothing halts if it was
+-- not.
 abbrev pub turn_to : Parts → ℕ → ConfId → Option ConfId → ConfId → ℕ → Bool → ConfId → KMode
 turn_to spec frame from halting to since settled t =
     if nat_lt (frame - since) (halting_frames spec halting) then Moving from halting t since
     else (if settled then Moving from (Some to) t frame else Moving from None t frame)
 
--- In a moving mode: it goes on where the policy chooses the target that it has, else it turns to the chosen one.
+-- The decision in a moving mode: the mode stays if the policy chooses its target, or else turns to the chosen one.
 abbrev pub moving_decision : Parts → ℕ → ConfId → Option ConfId → ConfId → ℕ → Bool → ConfId → KMode
 moving_decision spec frame from halting to since settled t =
     if t.0 == to.0 then Moving from halting to since else turn_to spec frame from halting to since settled t
 
--- The decision at the start of a frame, from the mode of the frame before, whether that frame was
--- settled, and whether it was settled and its row ran the target.
+-- The decision at the start of a frame, from the mode of the preceding frame, whether that frame was settled, and
+-- whether it was settled and its row ran the target.
 abbrev pub decision : Parts → ℕ → KMode → Bool → Bool → Env → KMode
 decision spec frame (Stable c) settled arrived v = stable_decision spec c frame v
 decision spec frame (Moving from halting to since) settled arrived v =

@@ -1,4 +1,4 @@
--- What the definitions in this crate's contracts mean.
+-- Laws on the definitions in this crate's contracts.
 use Rattle.std.specs.Prelude.{◌≡◌, ℕ, suc, ◌+◌, ◌<◌, ℤ, Bool, true, false, not, ◌&&◌, ◌==◌, nat_lt, List, [], ◌∷◌, ◌++◌, All, filter, length, map, Option, Some, None, if◌then◌else◌}
 use Rattle.std.specs.List.{list_any}
 use Rattle.scram_types.specs.declared.ids.ConfId.{ConfId}
@@ -24,7 +24,7 @@ use Rattle.frame_model.specs.Readings.{as_list, ended, ended_in, read_row, readi
 use Rattle.frame_model.specs.Runs.{runs}
 use Rattle.frame_model.specs.States.{area_at, keeper_at, zeros}
 
--- An area is the slot of its keeper, and zeros without a keeper.
+-- An area equals the slot in its keeper's image, or is zeros if it has no keeper.
 abbrev pub IsSlotOfKeeper : Option ProcId → List ℤ → (ℕ → List ℤ) → Type 0
 IsSlotOfKeeper None area slot = area ≡ zeros
 IsSlotOfKeeper (Some proc) area slot = area ≡ slot proc.0
@@ -34,12 +34,12 @@ abbrev pub AreasAreKept : Type 0
 AreasAreKept = (spec : Parts) (script : ScriptParts) (f a : ℕ) → a < 8
     → IsSlotOfKeeper (keeper_at (state_after spec script f).keepers a) (area_at (state_after spec script f).areas a) (λ p. slot_after spec script p f a)
 
--- Where two scripts say the same up to frame f, frame f has the same row and leaves the same state.
+-- If two scripts agree up to frame f, frame f has the same row and leaves the same state.
 abbrev pub LaterIsUnseenInRows : Type 0
 LaterIsUnseenInRows = (spec : Parts) (one other : ScriptParts) (f : ℕ) → AgreeUpTo f one other
     → (row_at spec one f ≡ row_at spec other f) × (state_after spec one (suc f) ≡ state_after spec other (suc f))
 
--- A processor halts in a frame below f.
+-- Processor p halts in a frame below f.
 abbrev pub has_halted : ScriptParts → ℕ → ℕ → Bool
 has_halted script p f = list_any (λ (halt : HaltAt). halt.proc.0 == p && nat_lt halt.frame f) script.halts
 
@@ -47,23 +47,23 @@ has_halted script p f = list_any (λ (halt : HaltAt). halt.proc.0 == p && nat_lt
 abbrev pub HaltsLastWithoutRestarts : Type 0
 HaltsLastWithoutRestarts = (script : ScriptParts) → script.restarts ≡ [] → (p f : ℕ) → is_up script p f ≡ not (has_halted script p f)
 
--- The decision where each change of the environment chooses the target anew.
+-- The decision if each change of the environment chooses the target anew.
 abbrev pub choosing_anew : Parts → ℕ → KMode → Bool → Bool → Env → KMode
 choosing_anew spec frame (Stable c) settled arrived v = stable_decision spec c frame v
 choosing_anew spec frame (Moving from halting to since) settled arrived v =
     if arrived then stable_decision spec to frame v else moving_decision spec frame from halting to since settled (choose spec from v)
 
--- Under the policy of retargeting, every frame of a reconfiguration decides by what the table chooses in it.
+-- Under the policy of retargeting, every frame of a reconfiguration decides by the table's choice in that frame.
 abbrev pub RetargetChoosesAnew : Type 0
 RetargetChoosesAnew = (spec : Parts) → spec.policy ≡ Retarget → (frame : ℕ) (mode : KMode) (settled arrived : Bool) (v : Env)
     → decision spec frame mode settled arrived v ≡ choosing_anew spec frame mode settled arrived v
 
--- A reconfiguration is settled exactly where its phase is to run the target.
+-- A reconfiguration is settled exactly if its phase is to run the target.
 abbrev pub SettlesWithItsPhases : Type 0
 SettlesWithItsPhases = (spec : Parts) (from : ConfId) (halting : Option ConfId) (to : ConfId) (since f : ℕ)
     → is_settled spec (Moving from halting to since) f ≡ is_running (phase_at spec (Moving from halting to since) f)
 
--- The row runs the configuration; the row runs none.
+-- A row runs the configuration.
 abbrev pub Runs : Parts → ConfId → Row → Type 0
 Runs spec c row = runs spec row.acts c ≡ true
 
@@ -71,15 +71,15 @@ Runs spec c row = runs spec row.acts c ≡ true
 abbrev pub RunsNone : Parts → Row → Type 0
 RunsNone spec row = (c : ℕ) → c < length spec.confs → runs spec row.acts (conf_id c) ≡ false
 
--- The row runs configuration j, and none with a lesser number.
+-- The row runs configuration j, and none with a smaller number.
 pub record RunsFirst (spec : Parts) (j : ConfId) (row : Row) : Type 0 where
   pub inside : j.0 < length spec.confs
   pub here : runs spec row.acts j ≡ true
   pub least : (c : ℕ) → c < j.0 → runs spec row.acts (conf_id c) ≡ false
 
--- What is read off rows from frame f on, c running before them.
+-- The reconfigurations that are read off rows from frame f on, if c runs before them.
 pub record ReadsAsTold (spec : Parts) (c : ConfId) (f : ℕ) : Type 0 where
-  -- where each row runs c, nothing is read
+  -- if each row runs c, no reconfiguration is read
   pub quiet : (rows : List Row) → All (Runs spec c) rows → (ended_in spec (Steady c) f rows ≡ []) × (reading_after spec (Steady c) f rows ≡ Steady c)
   -- the first row that does not run c begins a reconfiguration, which is under way while rows run none
   pub begins : (before : List Row) (left : Row) (between : List Row) → All (Runs spec c) before → runs spec left.acts c ≡ false → All (RunsNone spec) between
@@ -94,11 +94,11 @@ pub record ReadsAsTold (spec : Parts) (c : ConfId) (f : ℕ) : Type 0 where
       ≡ record { from = c; to = Some j; begin = f + length before; end = e } ∷ ended_in spec (Steady j) (e + 1) rest)
       × (reading_after spec (Steady c) f (before ++ (left ∷ (between ++ (arrived ∷ rest)))) ≡ reading_after spec (Steady j) (e + 1) rest)
 
--- In every specification the rows are read in this way, from any configuration and frame on.
+-- The rows of every specification are read in this way, from any configuration and frame on.
 abbrev pub ReadsReconfigurations : Type 0
 ReadsReconfigurations = (spec : Parts) (c : ConfId) (f : ℕ) → ReadsAsTold spec c f
 
--- One row more goes on with what was read so far.
+-- A further row continues the reading of the rows so far.
 abbrev pub ReadsRowByRow : Type 0
 ReadsRowByRow = (spec : Parts) (rows : List Row) (row : Row)
     → (reading_of spec (rows ++ row ∷ []) ≡ read_row spec (reading_of spec rows) (length rows) row.acts)
@@ -108,11 +108,11 @@ ReadsRowByRow = (spec : Parts) (rows : List Row) (row : Row)
 abbrev pub begins_below : ℕ → Report → Bool
 begins_below m report = nat_lt report.begin m
 
--- From where and when a reconfiguration began.
+-- The source of a reconfiguration, and the frame in which it began.
 abbrev pub beginning : Report → ConfId × ℕ
 beginning report = (report.from, report.begin)
 
--- The reconfigurations that began in the first rows are those that these rows show.
+-- The reconfigurations that began in the first rows are the reconfigurations that these rows show by themselves.
 abbrev pub BeginningsAreRead : Type 0
 BeginningsAreRead = (spec : Parts) (front back : List Row)
     → map beginning (filter (begins_below (length front)) (reports spec (front ++ back))) ≡ map beginning (reports spec front)

@@ -1,4 +1,4 @@
--- How far a mode has come in a frame.
+-- The phases of a mode.
 use Rattle.std.specs.Prelude.{ℕ, ◌+◌, ◌-◌, Bool, true, false, nat_le, nat_lt, List, replicate, Option, Some, None, if◌then◌else◌}
 use Rattle.scram_types.specs.declared.ids.ConfId.{ConfId}
 use Rattle.scram_types.specs.declared.orders.KMode.{KMode}
@@ -8,52 +8,52 @@ use Rattle.dep_order.specs.Timetables.{halting_time, initialising_time, preparin
 use Rattle.frame_model.specs.declared.phases.Phase.{Phase}
 use Rattle.frame_model.specs.declared.phases.Phase.TheVariants.{Running, Halting, Preparing, Initialising}
 
--- The configuration that a mode runs, or comes to run.
+-- The configuration that a mode runs or moves to.
 abbrev pub target : KMode → ConfId
 target (Stable c) = c
 target (Moving from halting to since) = to
 
--- How many frames the halting phase takes, where a configuration halts or none.
+-- The length of the halting phase, in frames, or 0 if no configuration halts.
 abbrev pub halting_frames : Parts → Option ConfId → ℕ
 halting_frames spec None = 0
 halting_frames spec (Some c) = halting_time spec c
 
--- The phase a number of frames after all have halted: preparing, then initialising, then running.
+-- The phase `age` frames after all have halted: preparing, then initialising, then running.
 abbrev pub after_halting : Parts → ConfId → ℕ → Phase
 after_halting spec to age =
     if nat_lt age (preparing_time spec to) then Preparing to age
     else (if nat_lt (age - preparing_time spec to) (initialising_time spec to) then Initialising to (age - preparing_time spec to)
     else Running to)
 
--- The phase a number of frames after a mode began: halting what has to halt comes first.
+-- The phase `age` frames after a mode began, in which the halting phase comes first.
 abbrev pub moving_phase : Parts → Option ConfId → ConfId → ℕ → Phase
 moving_phase spec None to age = after_halting spec to age
 moving_phase spec (Some c) to age =
     if nat_lt age (halting_time spec c) then Halting c age else after_halting spec to (age - halting_time spec c)
 
--- First one configuration halts, then the target prepares, then it initialises, then it is to run.
+-- The phase of a mode in frame f: one configuration halts, then the target prepares, initialises and runs.
 abbrev pub phase_at : Parts → KMode → ℕ → Phase
 phase_at spec (Stable c) f = Running c
 phase_at spec (Moving from halting to since) f = moving_phase spec halting to (f - since)
 
--- A reconfiguration is past its phases: its target is to run.
+-- A reconfiguration is past its phases, so that its target is to run.
 abbrev pub is_past : Parts → Option ConfId → ConfId → ℕ → ℕ → Bool
 is_past spec halting to since f =
     nat_le (halting_frames spec halting + preparing_time spec to + initialising_time spec to) (f - since)
 
--- Frame f is settled: a reconfiguration is under way, and past its phases.
+-- In frame f a reconfiguration is under way and past its phases.
 abbrev pub is_settled : Parts → KMode → ℕ → Bool
 is_settled spec (Stable c) f = false
 is_settled spec (Moving from halting to since) f = is_past spec halting to since f
 
--- The frame of the phase in which each application's turn comes.
+-- The frame of the phase in which each application's turn begins.
 abbrev pub offsets_in : Parts → Phase → List ℕ
 offsets_in spec (Running c) = replicate 8 0
 offsets_in spec (Halting c age) = (timetable spec c).halt
 offsets_in spec (Preparing c age) = replicate 8 0
 offsets_in spec (Initialising c age) = (timetable spec c).init
 
--- The phase is the last one, in which all that is placed runs.
+-- The phase is the last one, in which each application that has a place runs.
 abbrev pub is_running : Phase → Bool
 is_running (Running c) = true
 is_running (Halting c age) = false

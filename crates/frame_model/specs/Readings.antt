@@ -9,49 +9,49 @@ use Rattle.frame_model.specs.declared.readings.Reading.{Reading}
 use Rattle.frame_model.specs.declared.readings.Reading.TheVariants.{Steady, Leaving}
 use Rattle.frame_model.specs.Runs.{running, runs}
 
--- How the reading goes on after a row of a reconfiguration: it ends where the row runs a configuration.
+-- The reading after a row of a reconfiguration, which ends if the row runs a configuration.
 abbrev pub arrive : ConfId → ℕ → Option ConfId → Reading
 arrive c begin None = Leaving c begin
 arrive c begin (Some j) = Steady j
 
--- What is read with the row of frame f: c is left in the first row that does not run it, and reading
--- goes on from the configuration that a later row runs.
+-- The reading after the row of frame f. The first row that does not run c leaves c, and the first later row that runs a
+-- configuration makes the reading steady again.
 abbrev pub read_row : Parts → Reading → ℕ → List Act → Reading
 read_row spec (Steady c) f acts = if runs spec acts c then Steady c else Leaving c f
 read_row spec (Leaving c begin) f acts = arrive c begin (running spec acts)
 
--- The reconfiguration that ends in frame f, where the row runs a configuration.
+-- The reconfiguration that ends in frame f, or nothing if the row runs no configuration.
 abbrev pub arrival : ConfId → ℕ → ℕ → Option ConfId → Option Report
 arrival c begin f None = None
 arrival c begin f (Some j) = Some (record { from = c; to = Some j; begin = begin; end = f })
 
--- The reconfiguration that ends with the row of frame f.
+-- The reconfiguration that ends with the row of frame f, or nothing if none does.
 abbrev pub report_of : Parts → Reading → ℕ → List Act → Option Report
 report_of spec (Steady c) f acts = None
 report_of spec (Leaving c begin) f acts = arrival c begin f (running spec acts)
 
--- The reconfiguration that is cut off after this number of frames.
+-- The reconfiguration that is cut off after this number of frames, or nothing if none is under way.
 abbrev pub close : Reading → ℕ → Option Report
 close (Steady c) frames = None
 close (Leaving c begin) frames = Some (record { from = c; to = None; begin = begin; end = frames })
 
--- One item, or none.
+-- The list of the option's value, or the empty list.
 abbrev pub as_list : {A : Type 0} → Option A → List A
 as_list None = []
 as_list (Some x) = x ∷ []
 
--- What has been read after rows, the first of which is that of frame f.
+-- The reading after these rows, the first of which is the row of frame f.
 abbrev pub reading_after : Parts → Reading → ℕ → List Row → Reading
 reading_after spec reading f [] = reading
 reading_after spec reading f (row ∷ rows) = reading_after spec (read_row spec reading f row.acts) (suc f) rows
 
--- The reconfigurations that end in rows, the first of which is that of frame f.
+-- The reconfigurations that end in these rows, the first of which is the row of frame f.
 abbrev pub ended_in : Parts → Reading → ℕ → List Row → List Report
 ended_in spec reading f [] = []
 ended_in spec reading f (row ∷ rows) =
     as_list (report_of spec reading f row.acts) ++ ended_in spec (read_row spec reading f row.acts) (suc f) rows
 
--- The same from the first frame on, where the start configuration runs.
+-- The reading after the rows of a flight, which begins with the start configuration running.
 abbrev pub reading_of : Parts → List Row → Reading
 reading_of spec rows = reading_after spec (Steady spec.start) 0 rows
 
@@ -59,6 +59,6 @@ reading_of spec rows = reading_after spec (Steady spec.start) 0 rows
 abbrev pub ended : Parts → List Row → List Report
 ended spec rows = ended_in spec (Steady spec.start) 0 rows
 
--- All reconfigurations that rows show, the last of which may be cut off.
+-- All reconfigurations that rows show. The last of them may be cut off.
 abbrev pub reports : Parts → List Row → List Report
 reports spec rows = ended spec rows ++ as_list (close (reading_of spec rows) (length rows))

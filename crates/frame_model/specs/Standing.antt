@@ -1,4 +1,4 @@
--- Where a system stands in a flight, and which processors are up there.
+-- The state of a system before a frame of a flight, and the processors that are up.
 use Rattle.std.specs.Prelude.{◌≡◌, ℕ, zero, suc, Bool, true, not, ◌&&◌, length}
 use Rattle.scram_types.specs.Scripts.{ScriptParts}
 use Rattle.scram_types.specs.Specification.{Parts}
@@ -10,7 +10,7 @@ use Rattle.frame_model.specs.declared.systems.Sys.{Sys}
 use Rattle.frame_model.specs.Flights.{state_after}
 use Rattle.frame_model.specs.Frames.{state_of}
 
--- Processor p has not halted by the end of the frame before f, as far as it was up in that frame.
+-- Processor p was up in the frame preceding f and did not halt in it, or f is 0.
 abbrev pub is_up_before : ScriptParts → ℕ → ℕ → Bool
 is_up_before script p zero = true
 is_up_before script p (suc f) = is_up script p f && not (halts_in script p f)

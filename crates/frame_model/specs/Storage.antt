@@ -1,4 +1,4 @@
--- What stable storage holds of a script: what the kernel says of each frame, and the marks of the processors.
+-- The contents of stable storage in a flight: the kernel's images and the marks of the processors.
 use Rattle.std.specs.Prelude.{ℕ, zero, suc, ◌-◌, if◌then◌else◌}
 use Rattle.scram_types.specs.Scripts.{ScriptParts}
 use Rattle.scram_types.specs.Specification.{Parts}
@@ -8,8 +8,8 @@ use Rattle.fault_script.specs.Environments.{env_at}
 use Rattle.fault_script.specs.Times.{commits}
 use Rattle.frame_model.specs.Flights.{decided, state_after}
 
--- What the kernel says of frame f, also of the frame after the last one: its mode and its environment, and the keepers
--- and the world as they stand before it.
+-- The kernel's image for frame f, which may be the frame after the last one: its mode, its environment, and the keepers
+-- and the world before it.
 abbrev pub kernel_image : Parts → ScriptParts → ℕ → KernelImage
 kernel_image spec script f = record {
   frame = f;
@@ -19,12 +19,12 @@ kernel_image spec script f = record {
   world = (state_after spec script f).world;
 }
 
--- How many frames there are up to the last one below f that processor p commits; 0 where there is none.
+-- The number of frames up to and including the last frame below f that processor p commits, or 0 if there is none.
 abbrev pub last_count : Parts → ScriptParts → ℕ → ℕ → ℕ
 last_count spec script p zero = 0
 last_count spec script p (suc f) = if commits spec script p f then suc f else last_count spec script p f
 
--- The bank that holds the image of processor p after the first f frames: the other one after each commit.
+-- The bank that holds the image of processor p after the first f frames. Each commit switches to the other bank.
 abbrev pub image_bank_after : Parts → ScriptParts → ℕ → ℕ → ℕ
 image_bank_after spec script p zero = 0
 image_bank_after spec script p (suc f) = if commits spec script p f then 1 - image_bank_after spec script p f else image_bank_after spec script p f

@@ -1,4 +1,4 @@
--- What a phase asks of each application.
+-- The task of each application in a phase.
 use Rattle.std.specs.Prelude.{ℕ, ◌-◌, nat_lt, Option, Some, None, if◌then◌else◌}
 use Rattle.scram_types.specs.declared.orders.KMode.{KMode}
 use Rattle.scram_types.specs.declared.orders.Order.{Order}
@@ -16,34 +16,34 @@ use Rattle.frame_model.specs.Phases.{phase_at}
 abbrev pub off_task : Task
 off_task = record { order = Off; mode = record { 0 = 0 }; proc = None }
 
--- An order for an application that is on at a place.
+-- The task of an order for an application at a place.
 abbrev pub task_at : Order → Place → Task
 task_at order place = record { order = order; mode = place.mode; proc = Some place.proc }
 
--- An order for an application at its place; off where it has none.
+-- The task of an order for an application at its place, or the off task if it has none.
 abbrev pub task_for : Order → Option Place → Task
 task_for order None = off_task
 task_for order (Some place) = task_at order place
 
--- It runs up to its offset, halts for its time, then holds.
+-- The order to run up to the offset, then to halt for `time` frames, then to hold.
 abbrev pub halting_order : ℕ → ℕ → ℕ → Order
 halting_order offset time age = if nat_lt age offset then Run else (if nat_lt (age - offset) time then Halt (age - offset) time else Hold)
 
--- It prepares for its time, then holds.
+-- The order to prepare for `time` frames, then to hold.
 abbrev pub preparing_order : ℕ → ℕ → Order
 preparing_order time age = if nat_lt age time then Prepare age time else Hold
 
--- It holds up to its offset, initialises for its time, then holds.
+-- The order to hold up to the offset, then to initialise for `time` frames, then to hold.
 abbrev pub initialising_order : ℕ → ℕ → ℕ → Order
 initialising_order offset time age = if nat_lt age offset then Hold else (if nat_lt (age - offset) time then Init (age - offset) time else Hold)
 
--- The table of orders: what a phase asks of application a.
+-- The task of application a in a phase.
 abbrev pub task_in : Parts → Phase → ℕ → Task
 task_in spec (Running c) a = task_for Run (place_of spec c a)
 task_in spec (Halting c age) a = task_for (halting_order (halt_offset spec c a) (halt_time spec c a) age) (place_of spec c a)
 task_in spec (Preparing c age) a = task_for (preparing_order (prepare_time spec c a) age) (place_of spec c a)
 task_in spec (Initialising c age) a = task_for (initialising_order (init_offset spec c a) (init_time spec c a) age) (place_of spec c a)
 
--- What the mode asks of application a in frame f.
+-- The task of application a in frame f of a mode.
 abbrev pub task_of : Parts → KMode → ℕ → ℕ → Task
 task_of spec mode f a = task_in spec (phase_at spec mode f) a

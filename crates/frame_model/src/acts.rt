@@ -1,4 +1,4 @@
-//! Which configuration a row runs.
+//! The configuration that a row runs.
 
 ghost use Rattle.std.specs.Prelude.{◌≡◌, ◌<◌, IfSome};
 ghost use Rattle.frame_model.specs.Runs.{act_at, is_off, is_ran_at, is_run_by, running, runs};
@@ -6,7 +6,7 @@ ghost use Rattle.frame_model.specs.Runs.{act_at, is_off, is_ran_at, is_run_by, r
 use scram_types::{Act, AppId, ConfId, Place, Spec};
 
 /// Returns whether the acts of a row run configuration `c`: each application that is on in `c` ran in its mode and on
-/// its processor there, and each other one was off.
+/// its processor there, and each other application was off.
 pub fn runs(spec: &Spec, acts: &[Act; 8], c: ConfId) -> bool
     ensures { result ≡ runs spec.now acts.now c }
 {
@@ -18,7 +18,7 @@ pub fn runs(spec: &Spec, acts: &[Act; 8], c: ConfId) -> bool
     true
 }
 
-/// Returns the least-numbered configuration that the acts of a row run, or `None` where they run none.
+/// Returns the configuration with the smallest number that the acts of a row run, or `None` if they run none.
 pub fn running(spec: &Spec, acts: &[Act; 8]) -> Option<ConfId>
     ensures { result ≡ running spec.now acts.now }
 {

@@ -1,4 +1,4 @@
-//! What the kernel decides at the start of a frame.
+//! The kernel's decision at the start of a frame.
 
 ghost use Rattle.std.specs.Prelude.{◌≡◌, ◌-◌};
 ghost use Rattle.frame_model.specs.Decisions.{leave_for, moving_decision, stable_decision, turn_to, wanted};
@@ -21,13 +21,13 @@ struct Move {
     frame: u32,
 }
 
-/// Returns the mode that the kernel decides on at the start of a frame, from the state before the frame and the
-/// frame's environment.
+/// Returns the kernel's mode at the start of a frame, decided from the state before the frame and the frame's
+/// environment.
 ///
-/// A stable configuration stays where the choice table chooses it, and is left where it chooses another. A
-/// reconfiguration that was settled, and whose row ran the target, leaves the target stable, which is then judged so.
-/// Else the target stays where the policy still chooses it. Where it chooses another one, only the target changes
-/// while something halts; after that the old target halts where it was settled, and nothing halts where it was not.
+/// A stable configuration stays if the choice table chooses it, and is left otherwise. If a reconfiguration was settled
+/// and its row ran the target, the target is judged as a stable configuration. Otherwise the target stays if the policy
+/// still chooses it. If the policy chooses another, only the target changes while something halts. After that, the old
+/// target halts if it was settled, and nothing halts if it was not.
 pub fn decide(spec: &Spec, sys: &Sys, env: &Env) -> KMode
     ensures { result ≡ mode_decided spec.now sys.now.frame env.now (state_of sys.now) }
 {

@@ -20,9 +20,9 @@ use app_model::kinds::flight_control;
 use fault_script::Input;
 use scram_types::{Area, Env, KMode, Row, Spec, World};
 
-/// Flies one frame: a processor that restarts is up; the kernel decides on the frame's environment; each application
-/// does what it is asked where its processor commits, and is lost where that is not up or halts before its mark; then
-/// the airframe makes a step. The row shows it, and `sys` is the state after the frame.
+/// Flies one frame and returns its row; `sys` is then the state after the frame. A processor that restarts is up. The
+/// kernel decides on the frame's environment. Each application carries out its order if its processor commits; it is
+/// lost if the processor is not up or halts before its mark. Then the airframe makes a step.
 pub fn frame(spec: &Spec, sys: &mut Sys, input: &Input, racks: &mut [Rack]) -> Row
     requires frame { sys.old.frame < MAX_FRAMES }
     ensures row { result ≡ row_given spec.now sys.old input.now }

@@ -1,6 +1,6 @@
-//! The one-thread trace: what the kernel decides and orders in each frame, what becomes of areas, keepers and world
-//! under halts and restarts, the row that shows it, and the reconfigurations that are read off the rows, each exactly
-//! as defined, for every specification and every fitting script.
+//! The one-thread trace: the kernel's decisions and orders in each frame, the areas, keepers and world under halts and
+//! restarts, the row of the frame, and the reconfigurations that are read off the rows. Each is proved as defined, for
+//! every specification and every fitting script.
 #![tactic(auto)]
 
 pub mod acts;

@@ -1,4 +1,4 @@
-//! What becomes of each application in a frame.
+//! The outcome of a frame for each application.
 
 ghost use Rattle.std.specs.Prelude.{◌≡◌, ◌<◌, slice_set};
 ghost use Rattle.scram_types.specs.Bits.{has_bit};
@@ -15,8 +15,8 @@ use app_model::racks::racks_frame;
 use app_model::{Rack, Seen};
 use scram_types::{Act, AppId, Area, Mode, Order, ProcId, Spec};
 
-/// What all applications of a frame share: what they see, but for their modes and their own areas; the
-/// processors that commit the frame, as bits; and what the mode asks for.
+/// What all applications of a frame share: what they see, except for their modes and their own areas; the processors
+/// that commit the frame, as bits; and the phase.
 #[derive(Clone, Copy)]
 pub(crate) struct Setting {
     pub(crate) seen: Seen,
@@ -24,8 +24,8 @@ pub(crate) struct Setting {
     pub(crate) stage: Stage,
 }
 
-/// Performs each application in its place: the areas and keepers of `sys` are then those after the frame, and nothing is
-/// said of its other fields. The setting is then as the last one saw it. Returns what each one did.
+/// Performs each application in its place and returns the act of each. The areas and keepers of `sys` are then those
+/// after the frame; its other fields are unspecified. The setting is left as the last application saw it.
 pub(crate) fn perform_all(
     spec: &Spec,
     sys: &mut Sys,
@@ -77,7 +77,7 @@ fn perform(spec: &Spec, sys: &mut Sys, setting: &mut Setting, a: u8, racks: &mut
     }
 }
 
-/// Returns what an application does of an order, where its processor commits.
+/// Returns the act that carries out an order, if the processor commits.
 pub fn act_of_order(order: Order, mode: Mode, proc: ProcId) -> Act
     ensures { result ≡ act_of_order order mode proc }
 {
@@ -99,7 +99,7 @@ fn has(set: u8, p: u8) -> bool
     set >> p & 1 == 1
 }
 
-/// Returns the area of the least-numbered application of a kind, zeros without one.
+/// Returns the area of the application of a kind with the smallest number, or zeros if there is none.
 pub(crate) fn lead_of(spec: &Spec, areas: &[Area; 8], kind: u8) -> Area
     ensures { result ≡ lead_of spec.now areas.now kind }
 {

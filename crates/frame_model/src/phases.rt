@@ -1,4 +1,4 @@
-//! How far a mode has come in a frame.
+//! The phases of a mode.
 
 ghost use Rattle.std.specs.Prelude.{◌≡◌, ◌<◌, replicate};
 ghost use Rattle.frame_model.specs.declared.phases.Phase.TheVariants.{Running};
@@ -7,8 +7,7 @@ ghost use Rattle.frame_model.specs.Phases.{after_halting, halting_frames, is_pas
 use dep_order::timetable;
 use scram_types::{ConfId, KMode, Spec};
 
-/// What a mode asks for in a frame, and of which configuration. The number counts the frames of the
-/// phase from 0.
+/// The phase of a mode in a frame, with its configuration. The number counts the frames of the phase from 0.
 #[derive(Clone, Copy, Debug, PartialEq, Eq)]
 pub enum Phase {
     /// The configuration is to run.
@@ -18,8 +17,8 @@ pub enum Phase {
     Initialising(ConfId, u32),
 }
 
-/// A phase, and for each application the frame of the phase in which its turn comes: its offset while a
-/// configuration halts or initialises, and 0 in the other phases.
+/// A phase, with the frame of the phase in which each application's turn begins: its offset while a configuration halts
+/// or initialises, and 0 in the other phases.
 #[derive(Clone, Copy, Debug)]
 pub(crate) struct Stage {
     pub(crate) phase: Phase,
@@ -101,7 +100,7 @@ fn stage_after_halting(spec: &Spec, to: ConfId, age: u32) -> Stage
     running_stage(to)
 }
 
-/// Returns how many frames the halting phase takes, where a configuration halts or none.
+/// Returns the length of the halting phase, in frames, or 0 if no configuration halts.
 pub(crate) fn halting_frames(spec: &Spec, halting: Option<ConfId>) -> u32
     ensures frames { result ≡ halting_frames spec.now halting }
     ensures few { result < 65536 }
@@ -112,7 +111,7 @@ pub(crate) fn halting_frames(spec: &Spec, halting: Option<ConfId>) -> u32
     }
 }
 
-/// Returns the configuration that a mode runs, or comes to run.
+/// Returns the configuration that a mode runs or moves to.
 pub fn target(mode: &KMode) -> ConfId
     ensures { result ≡ target mode.now }
 {

@@ -7,7 +7,7 @@ use crate::acts::{running, runs};
 use scram_types::{Act, ConfId, NoMemory, Report, Row, Spec};
 use std::alloc::Global;
 
-/// What has been read off the rows so far.
+/// The state of the reading after the rows so far.
 #[derive(Clone, Copy, Debug, PartialEq, Eq)]
 pub enum Reading {
     /// Each row since the last reconfiguration runs this configuration.
@@ -16,9 +16,9 @@ pub enum Reading {
     Leaving(ConfId, u32),
 }
 
-/// Reads the row of a frame: `Leaving` comes with the first row that does not run the configuration that ran, and
-/// `Steady` with the first later row that runs some configuration (the least-numbered one), and that ends a
-/// reconfiguration.
+/// Reads the row of a frame. The first row that does not run the configuration makes the reading `Leaving`. The first
+/// later row that runs some configuration (the one with the smallest number counts) makes the reading `Steady` and ends
+/// the reconfiguration.
 pub fn read_row(
     spec: &Spec,
     reading: Reading,
@@ -58,7 +58,7 @@ fn arrive(from: ConfId, begin: u32, frame: u32, to: Option<ConfId>) -> (Reading,
     }
 }
 
-/// Returns the reconfiguration that is cut off after `frames` frames, if one is under way.
+/// Returns the reconfiguration that is cut off after `frames` frames, or `None` if none is under way.
 pub fn close(reading: Reading, frames: u32) -> Option<Report>
     ensures { result ≡ close reading frames }
 {
@@ -73,8 +73,9 @@ pub fn close(reading: Reading, frames: u32) -> Option<Report>
     }
 }
 
-/// Returns the reconfigurations that rows show, the first row being that of frame 0: read from the start
-/// configuration, in order, and last the one that the end of the rows cuts off. The only error is out of memory.
+/// Returns the reconfigurations that rows show, in order, where the first row is the row of frame 0 and the start
+/// configuration runs before it. The last reconfiguration may be cut off by the end of the rows. The only error is out
+/// of memory.
 pub fn reports(alloc: Global, spec: &Spec, rows: &[Row]) -> Result<Vec<Report>, NoMemory>
     requires { length rows.now < 2 ^ 32 }
     ensures { IfOk result (λ list. list.items ≡ reports spec.now rows.now) }

@@ -1,4 +1,4 @@
-//! What an application is shown, and the slots of images.
+//! The data that an application is shown, and the slots of images.
 
 ghost use Rattle.std.specs.Prelude.{◌≡◌, ◌<◌};
 ghost use Rattle.scram_types.specs.Eights.{eight};
@@ -9,7 +9,7 @@ use crate::outcomes::lead_of;
 use app_model::Seen;
 use scram_types::{Area, Env, Image, Mode, Spec, World};
 
-/// Returns what all applications see in a frame of this environment, before which the areas and the world are these.
+/// Returns what all applications see in a frame of this environment, given the areas and the world before the frame.
 pub fn seen_by_all(spec: &Spec, areas: &[Area; 8], world: World, env: &Env) -> Seen
     ensures { (state : State) → state.areas ≡ areas.now → state.world ≡ world → result ≡ seen_by_all spec.now env.now state }
 {
@@ -38,7 +38,7 @@ fn leads(spec: &Spec, areas: &[Area; 8]) -> [Area; 8]
     ]
 }
 
-/// Shows the same to one of them, which is in a mode and has an area of its own.
+/// Adapts `seen` to one application, with its mode and its own area.
 pub fn show_in(seen: &mut Seen, mode: Mode, own: &Area)
     ensures { seen.new ≡ seen_in seen.old mode own.now }
 {

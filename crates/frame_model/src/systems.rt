@@ -16,10 +16,10 @@ pub const START_WORLD: World = World {
     bank: 0,
 };
 
-/// The state before frame `frame`, with the mode of the frame before (before frame 0 the start configuration is
-/// stable). `keepers` names for each application the processor in whose image its area stands, `up` the processors
-/// that had not halted by the end of the frame before. `settled` says whether the frame before was past the phases of
-/// a reconfiguration and its row ran the target.
+/// The state before frame `frame`, with the mode of the preceding frame (before frame 0 the start configuration is
+/// stable). `keepers` has for each application the processor whose image holds its area. `up` has the processors that
+/// were up and had not halted by the end of the preceding frame. `settled` is `true` if the preceding frame was past
+/// the phases of a reconfiguration and its row ran the target.
 #[derive(Clone, Copy, Debug)]
 pub struct Sys {
     pub frame: u32,
@@ -32,8 +32,8 @@ pub struct Sys {
 }
 
 impl Sys {
-    /// Returns the state before frame 0: every processor is up, and an application that is on in the start
-    /// configuration has its start area there; others have zeros and no keeper.
+    /// Returns the state before frame 0. Every processor is up. An application that is on in the start configuration
+    /// has its start area there; the others have zeros and no keeper.
     pub fn start(spec: &Spec) -> Sys
         ensures { result ≡ sys_of 0 (2 ^ length spec.now.procs - 1) (start_state spec.now) }
     {

@@ -1,4 +1,4 @@
-//! What a mode asks of an application in a frame.
+//! The task of each application in a frame.
 
 ghost use Rattle.std.specs.Prelude.{◌≡◌, ◌<◌, IfSome};
 ghost use Rattle.dep_order.specs.Timetables.{halt_time, init_time, prepare_time};
@@ -9,8 +9,8 @@ ghost use Rattle.frame_model.specs.Tasks.{halting_order, initialising_order, pre
 use crate::phases::{Phase, Stage, stage_at};
 use scram_types::{AppId, ConfId, KMode, Mode, Order, Place, ProcId, Spec};
 
-/// What an application is to do in a frame, in which mode and on which processor. One that is off has
-/// the order `Off`, mode 0 and no processor.
+/// An application's order in a frame, with its mode and its processor. An application that is off has the order `Off`,
+/// mode 0 and no processor.
 #[derive(Clone, Copy, Debug, PartialEq, Eq)]
 pub struct Task {
     pub order: Order,
@@ -18,10 +18,9 @@ pub struct Task {
     pub proc: Option<ProcId>,
 }
 
-/// Returns what the kernel's mode asks of an application in a frame: a configuration that is stable runs; else one
-/// configuration halts (each application from its halt offset on, and until then it runs), then the target prepares,
-/// initialises (each application from its init offset on) and runs. An application that has nothing of its own to do
-/// in a phase holds.
+/// Returns the task of an application in a frame of the kernel's mode. A stable configuration runs. Otherwise one
+/// configuration halts (each application runs until its halt offset), then the target prepares, initialises (each
+/// application from its init offset on) and runs. An application that has nothing to do in a phase holds.
 pub fn order_of(spec: &Spec, mode: &KMode, frame: u32, app: AppId) -> Task
     requires { app.0 < 8 }
     ensures { result ≡ task_of spec.now mode.now frame app.0 }
@@ -29,7 +28,7 @@ pub fn order_of(spec: &Spec, mode: &KMode, frame: u32, app: AppId) -> Task
     task_in(spec, &stage_at(spec, mode, frame), app)
 }
 
-/// Returns what the kernel's mode asks of each application in a frame, by one timetable.
+/// Returns the task of each application in a frame of the kernel's mode, by one timetable.
 pub fn tasks_of(spec: &Spec, mode: &KMode, frame: u32) -> [Task; 8]
     ensures { result ≡ eight (task_of spec.now mode.now frame) }
 {
@@ -46,7 +45,7 @@ pub fn tasks_of(spec: &Spec, mode: &KMode, frame: u32) -> [Task; 8]
     ]
 }
 
-/// Returns what a phase asks of an application.
+/// Returns the task of an application in a phase.
 pub(crate) fn task_in(spec: &Spec, stage: &Stage, app: AppId) -> Task
     requires app { app.0 < 8 }
     requires offsets { stage.now.offsets ≡ offsets_in spec.now stage.now.phase }
