@@ -34,7 +34,7 @@ use Rattle.trace_props.proofs.Tests.{by_test}
 use Rattle.trace_props.proofs.Builds.{all_at}
 use Rattle.trace_props.proofs.Products.{has_value, is_env, plan_of, settles_under}
 
--- what a rule chooses exists
+-- the target of a rule exists
 target_known : (n : ℕ) (c : ConfId) (v : Env) (rules : List Choice) → ((k : ℕ) (rule : Choice) → slice_get rules k ≡ Some rule → rule.to.0 < n) → c.0 < n → (target_among rules c v).0 < n
 target_known n c v [] to known = known
 target_known n c v (rule ∷ rules) to known =
@@ -52,7 +52,7 @@ pub further_same : (policy : Policy) (n : ℕ) → (if settles_under policy then
 further_same Retarget n = refl
 further_same Settle n = refl
 
--- where not each number fails a test, one passes
+-- if not every number fails a test, one passes
 pub some_passes : (test : ℕ → Bool) (n : ℕ) → all_below (λ a. not (test a)) n ≡ false → (a : ℕ) × (a < n) × (test a ≡ true)
 some_passes test n h = let found = fails_below (λ a. not (test a)) n h in (found.0, found.1, not-false (test found.0) found.2)
 
@@ -63,7 +63,7 @@ on_placed (Some p) h = (p, refl)
 pub placed : (spec : Parts) (c : ConfId) (a : ℕ) → is_on spec c a ≡ true → (p : Place) × (place_of spec c a ≡ Some p)
 placed spec c a h = on_placed (place_of spec c a) h
 
--- where an application is placed, the configuration and the application exist
+-- if an application has a place, the configuration and the application exist
 pub record IsThere (spec : Parts) (c : ConfId) (a : ℕ) (p : Place) : Type 0 where
   pub conf : Conf
   pub there : slice_get spec.confs c.0 ≡ Some conf
@@ -85,7 +85,7 @@ app_known spec sound c a p h =
     let at = (sound.confs c.0 t.conf t.there).places a p t.place in
     slice_get_within spec.apps a at.app at.there
 
--- the test that an environment belongs is what belonging is
+-- the test that an environment belongs decides whether it belongs
 value_of : (spec : Parts) (v : Env) (x : ℕ) (o : Option Factor) → slice_get spec.factors x ≡ o → has_value spec v x ≡ true → nat_lt (factor_in v x) (option_map_or (λ (factor : Factor). length factor.values) o 1) ≡ true
 value_of spec v x o e h = rw e at h
 

@@ -15,7 +15,7 @@ use Rattle.trace_props.proofs.Deadlines.{Deadlines}
 use Rattle.trace_props.proofs.Coupling.{LeavingIn, Coupled, coupled, by_arrival}
 use Rattle.trace_props.proofs.Builds.{all_at, place_same, flown}
 
--- an area lies in the ranges of what wrote it last
+-- an area is within the ranges of the act that wrote it last
 lies_after : (laws : AreaLaws) (a : ℕ) (act : CourseAct) (w : Written) (old new : CourseArea) → laws.lies a w old ≡ true → IsAreaFilled laws a act old new → laws.lies a (written_after act w) new ≡ true
 lies_after laws a (Ran p) w old new h filled = filled
 lies_after laws a (Halted k n p) w old new h filled = filled
@@ -25,7 +25,7 @@ lies_after laws a (Initialised k n p) w old new h filled = filled.0
 lies_after laws a WasOff w old new h filled = filled
 lies_after laws a Lost w old new h filled = rw filled h
 
--- in a configuration that runs an application was run or initialised at its place, or is off
+-- in a running configuration an application was run or initialised at its place, or is off
 abbrev pub OwnAt : Option Place → Written → Type 0
 OwnAt None w = w ≡ Zeros
 OwnAt (Some p) w = (w ≡ DidRun p) ⊎ (w ≡ DidInit p)
@@ -55,7 +55,7 @@ own_listed : (plan : Plan) (build : Build) (i a : ℕ) (w : Written) (o : Option
 own_listed plan build i a w None e own = rw own (inl e)
 own_listed plan build i a w (Some p) e own = elim own [ inl k ↦ rw k (inl e) | inr k ↦ rw k (inl e) ]
 
--- which phases a reconfiguration from i can be in
+-- the phases in which a reconfiguration from i can be
 abbrev pub FromIn : Plan → ℕ → CoursePhase → Type 0
 FromIn plan i (Running c) = (c ≡ i) ⊎ IsPlanTarget plan i c
 FromIn plan i (Halting c age) = (c ≡ i) ⊎ IsPlanTarget plan i c
@@ -178,7 +178,7 @@ module _ (plan : Plan) (build : Build) (course : Course) (commits : ℕ → ℕ 
   known_in f (Leaving c s) (Stable k) h = absurd h.moves
   known_in f (Leaving c s) (Moving from halting to since) h = rw h.moves.0 at h.moves.1.from_in
 
-  -- what wrote an area is listed for the configuration that is left, or may be
+  -- the writer of an area is listed for the configuration that is left, or may be left
   listed_before : (f : ℕ) (rd : CourseReading) → WrittenAs f rd → (a : ℕ) → a < build.apps → IsListed plan build (source_of rd) a (written f a)
   listed_before f (Steady c) h a known = own_listed plan build c a (written f a) (build.place c a) refl (h a known)
   listed_before f (Leaving c s) h a known = h a known
@@ -285,7 +285,7 @@ module _ (plan : Plan) (build : Build) (course : Course) (commits : ℕ → ℕ 
         let was : acts g a ≡ WasOff = act ∙ (rw off refl) in
         rw next at (rw was at (filled.writes g a (omega arith) known))
 
--- what a report says of the reading and of the row in which it ends
+-- facts on the reading, and on the row in which a reported reconfiguration ends
 pub record Reported (course : Course) (f : ℕ) (rd : CourseReading) (r : CourseReport) : Type 0 where
   pub reading : rd ≡ Leaving r.from r.begin
   pub row : course.running f ≡ Some r.to

@@ -1,4 +1,4 @@
--- What the coupling gives of each reconfiguration.
+-- Consequences of the coupling for each reconfiguration.
 use Rattle.std.proofs.Common.{◌≡◌, ℕ, suc, ◌-◌, ◌<◌, ◌≤◌, refl, arith, subst}
 use Rattle.std.specs.Prelude.{Option, Some, None}
 use Rattle.trace_props.proofs.Plans.{Plan, IsAcceptedPlan}

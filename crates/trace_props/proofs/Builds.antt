@@ -1,4 +1,4 @@
--- Rows that are made by orders show what the law asks of them.
+-- Rows that are made by orders show what the law requires.
 use Rattle.std.proofs.Common.{◌≡◌, ℕ, zero, suc, ◌+◌, ◌-◌, ◌<◌, ◌≤◌, Bool, true, false, refl, arith, ◌⊎◌, ap, sym, ◌∙◌}
 use mathlib.Core.Logic.{inl, inr}
 use Rattle.std.specs.Prelude.{Option, Some, None, if◌then◌else◌, nat_eq, nat_lt, nat_le, ◌&&◌}
@@ -73,7 +73,7 @@ idle_preparing time age p = by_test Idle (nat_lt age time) _ _ (λ h. tt) (λ h.
 idle_init : (offset time age : ℕ) (p : Place) → Idle (course_initialising_order offset time age (Some p))
 idle_init offset time age p = by_test Idle (nat_lt age offset) _ _ (λ e. tt) (λ e. by_test Idle (nat_lt (age - offset) time) _ _ (λ h. tt) (λ h. tt))
 
--- which configuration a phase is in, and whether it runs it
+-- the configuration of a phase, and whether the phase runs it
 abbrev pub conf_of : CoursePhase → ℕ
 conf_of (Running c) = c
 conf_of (Halting c age) = c
@@ -95,7 +95,7 @@ place_same p q h = place_made p.mode.0 p.proc.0 q.mode.0 q.proc.0 (equal p.mode.
 pub place_self : (p : Place) → place_eq p p ≡ true
 place_self p = and_true _ _ (equal_test p.mode.0 p.mode.0 refl) (equal_test p.proc.0 p.proc.0 refl)
 
--- a running order that was committed fits just its place
+-- a running order that was committed fits exactly its place
 ran_none : (b : Bool) (p : Place) → course_is_off (if b then Ran p else Lost) ≡ true → ⊥
 ran_none true p h = true_false false h refl
 ran_none false p h = true_false false h refl
@@ -114,7 +114,7 @@ fits_running commits None (Some p) h = absurd (true_false false h refl)
 fits_running commits (Some p) None h = absurd (ran_none (commits p.proc.0) p h)
 fits_running commits (Some p) (Some q) h = ap Some (ran_some (commits p.proc.0) p q h)
 
--- it does not fit its own only where it was not committed
+-- an order does not fit its own place only if it was not committed
 lost_running : (commits : ℕ → Bool) (there : Option Place) → course_fits_place there (course_act_of commits (course_running_order there)) ≡ false → (p : Place) × (there ≡ Some p) × (commits p.proc.0 ≡ false)
 lost_running commits None h = absurd (true_false true refl h)
 lost_running commits (Some p) h = (p, refl, ran_not (commits p.proc.0) p h)
@@ -175,7 +175,7 @@ module _ (plan : Plan) (course : Course) (accepted : IsAcceptedPlan plan) where
   ranged (suc f) = ranged_step f (course_mode_at plan course f) (ranged f)
 
   module _ (build : Build) (commits : ℕ → ℕ → Bool) (built : IsBuilt plan build) (run : IsRun plan build course commits) where
-    -- a phase that does not run leaves an application that is on without a run
+    -- a phase that does not run leaves some application that is on without a run
     busy : (acts : ℕ → CourseAct) (committed : ℕ → Bool) (ph : CoursePhase) (j : ℕ) → conf_of ph < plan.configurations → runs_in ph ≡ false → ((a : ℕ) → acts a ≡ course_act_of committed (course_order_in build ph a)) → course_runs build acts j ≡ true → ⊥
     busy acts committed (Running c) j known idle is h = true_false true refl idle
     busy acts committed (Halting c age) j known idle is h =
@@ -191,7 +191,7 @@ module _ (plan : Plan) (course : Course) (accepted : IsAcceptedPlan plan) where
         let fits = all_at (λ a. course_fits_place (build.place j a) (acts a)) build.apps h on.0 on.2 in
         true_false _ fits (rw (is on.0, on.3) (idle_fits committed (course_initialising_order (build.init_offset c on.0) (build.init_time c on.0) age (Some on.1)) (build.place j on.0) (idle_init (build.init_offset c on.0) (build.init_time c on.0) age on.1)))
 
-    -- a running phase runs its configuration alone
+    -- a running phase runs its configuration and no other
     alone : (acts : ℕ → CourseAct) (committed : ℕ → Bool) (c j : ℕ) → c < plan.configurations → ((a : ℕ) → acts a ≡ course_act_of committed (course_running_order (build.place c a))) → course_runs build acts j ≡ true → c ≡ j
     alone acts committed c j known is h =
         let same : (a : ℕ) → a < build.apps → build.place j a ≡ build.place c a = λ a below.
@@ -206,7 +206,7 @@ module _ (plan : Plan) (course : Course) (accepted : IsAcceptedPlan plan) where
     only_in acts committed (Preparing c age) j known is h = absurd (busy acts committed (Preparing c age) j known refl is h)
     only_in acts committed (Initialising c age) j known is h = absurd (busy acts committed (Initialising c age) j known refl is h)
 
-    -- where the running phase does not run its configuration, a processor that it uses did not commit
+    -- if the running phase does not run its configuration, a processor that the configuration uses did not commit
     lost_in : (acts : ℕ → CourseAct) (committed : ℕ → Bool) (ph : CoursePhase) → runs_in ph ≡ true → ((a : ℕ) → acts a ≡ course_act_of committed (course_order_in build ph a)) → course_runs build acts (conf_of ph) ≡ false
         → (a : ℕ) × (p : Place) × (a < build.apps) × (build.place (conf_of ph) a ≡ Some p) × (committed p.proc.0 ≡ false)
     lost_in acts committed (Running c) r is h =
@@ -217,7 +217,7 @@ module _ (plan : Plan) (course : Course) (accepted : IsAcceptedPlan plan) where
     lost_in acts committed (Preparing c age) r is h = absurd (true_false false r refl)
     lost_in acts committed (Initialising c age) r is h = absurd (true_false false r refl)
 
-    -- what the law asks of row f
+    -- the facts that the law requires of row f
     row_under : (f : ℕ) → f < course.frames → (m : CourseMode) → course_mode_at plan course f ≡ m → Ranged plan m → CourseRowUnder plan course f m
     row_under f inside m moded r = record {
       only = λ j h. let o = only_in acts (commits f) ph j i.1 is (rw (run.runs_is f j inside) at h) in (rw i.0 at o.0, sym (i.2 o.0) ∙ o.1);

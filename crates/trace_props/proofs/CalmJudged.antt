@@ -1,4 +1,4 @@
--- The frame in which SP6 is broken: the least calm row in which what runs does not satisfy the demands.
+-- The frame in which SP6 is broken: the first calm row that does not satisfy the demands.
 use Rattle.std.proofs.Common.{◌≡◌, ℕ, zero, suc, ◌-◌, ◌<◌, ◌≤◌, Bool, true, false, not, refl, arith, ap, sym, ◌∙◌, List, [], ◌∷◌, length}
 use mathlib.Core.Logic.{inl, inr}
 use Rattle.std.specs.Prelude.{Option, Some, None, slice_get, option_map, nat_le}
@@ -31,7 +31,7 @@ not_of_false : (b : Bool) → not b ≡ false → b ≡ true
 not_of_false true h = refl
 not_of_false false h = cc
 
--- what a row loses
+-- the lost applications of a row
 lost_is : (x : Act) → is_lost x ≡ true → x ≡ act.Lost
 lost_is (act.Ran mode proc) h = absurd (true_false false h refl)
 lost_is (act.Halting k n proc) h = absurd (true_false false h refl)
@@ -50,7 +50,7 @@ lost_none : (acts : List Act) → ((a : ℕ) → act_at acts a ≡ act.Lost → 
 lost_none [] whole = refl
 lost_none (x ∷ xs) whole = rw (not_true (is_lost x) (λ h. whole 0 (lost_is x h)), lost_none xs (λ a. whole (suc a))) refl
 
--- an environment that is not another is the same
+-- environments that do not differ are the same
 unchanged : (v : Env) (o before : Option Env) → o ≡ Some v → is_another_env o before ≡ false → before ≡ o
 unchanged v None before e h = cc
 unchanged v (Some w) None e h = absurd (true_false true refl h)

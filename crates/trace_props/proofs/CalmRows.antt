@@ -113,6 +113,6 @@ module _ (spec : Parts) (script : ScriptParts) (sound : IsSpec spec) (t : ℕ) (
         (accepts.demanded settled.conf row.env settled.known (env_of_test spec sound row.env (and_left (is_env spec row.env) _ in_scope_there))
         (and_right (is_env spec row.env) _ in_scope_there) k demand there asks speaks))
 
-    -- what rests meets the demands
+    -- a configuration at rest meets the demands
     pub satisfied : Accepts spec → is_satisfied spec row ≡ true
     satisfied accepts = ap (satisfies spec row.env) settled.runs ∙ all_pass (meets spec settled.conf row.env) spec.demands (meets_each accepts)

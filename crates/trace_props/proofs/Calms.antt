@@ -12,7 +12,7 @@ use Rattle.trace_props.proofs.Counting.{count_changed, count_le, count_same}
 use Rattle.trace_props.proofs.Deadlines.{Deadlines, bound_of, in_bound, kept_in, further_cases}
 use Rattle.trace_props.proofs.Coupling.{Coupled, changed_when, coupled}
 
--- what is known of the mode of frame f, whatever rows were read
+-- facts on the mode of frame f that do not depend on the rows read
 abbrev pub TimedIn : Plan → Course → ℕ → CourseMode → Type 0
 TimedIn plan course f (Stable c) = (plan.choose c (course.env f) ≡ c) × (c < plan.configurations)
 TimedIn plan course f (Moving from halting to since) = (first : ℕ) × Deadlines plan course first f from halting to since
@@ -23,14 +23,14 @@ timed_in plan course f (Steady c) (Moving from halting to since) h = (f, h.deadl
 timed_in plan course f (Leaving c s) (Stable k) h = absurd h.moves
 timed_in plan course f (Leaving c s) (Moving from halting to since) h = (h.first, h.moves.1)
 
--- where a window has at most one change: a reconfiguration begins with it and sees no other, and its target is kept
+-- if a window has at most one change: a reconfiguration begins with it and sees no other, and its target is kept
 abbrev pub AloneIn : Plan → Course → ℕ → CourseMode → Type 0
 AloneIn plan course f (Stable c) = Unit {0}
 AloneIn plan course f (Moving from halting to since) =
     (p : ℕ) × (since ≡ suc p) × (course_changes_at plan course.env (suc p) ≡ true) × (course_changes_upto plan course.env f ≡ course_changes_upto plan course.env since) × (plan.choose to (course.env f) ≡ to)
 
 module _ (plan : Plan) (course : Course) (accepted : IsAcceptedPlan plan) (within : IsCourseWithin plan course) where
-  -- one decision, where the target is kept: a moving mode arrives in it or goes on
+  -- a decision that keeps the target: a moving mode arrives in it or continues
   by_decision : (good : CourseMode → Type 0) (f from : ℕ) (halting : Option ℕ) (to since : ℕ)
       → course_wanted plan from to (course.env (suc f)) ≡ to
       → good (course_stable_decision (suc f) to (plan.choose to (course.env (suc f))))
@@ -47,7 +47,7 @@ module _ (plan : Plan) (course : Course) (accepted : IsAcceptedPlan plan) (withi
   same_env : (f : ℕ) → course_changes_at plan course.env (suc f) ≡ false → course.env f ≡ course.env (suc f)
   same_env f calm = accepted.tells (course.env f) (course.env (suc f)) calm
 
-  -- a stable mode stays, where its configuration is chosen again
+  -- a stable mode stays if its configuration is chosen again
   stays_stable : (good : CourseMode → Type 0) (f c : ℕ) → good (Stable c) → plan.choose c (course.env (suc f)) ≡ c → good (course_stable_decision (suc f) c (plan.choose c (course.env (suc f))))
   stays_stable good f c stable rests = by_test good (nat_eq (plan.choose c (course.env (suc f))) c) _ _ (λ e. stable) (λ e. absurd (differ _ _ e rests))
 
@@ -88,7 +88,7 @@ module _ (plan : Plan) (course : Course) (accepted : IsAcceptedPlan plan) (withi
   alone flown none (suc f) inside =
       alone_step f inside none (course_mode_at plan course f) (timed flown f (omega arith)) (alone flown none f (omega arith))
 
-  -- where the target is not what the table now chooses, bounds allow for two further changes or more
+  -- if the target is not what the table now chooses, bounds allow for two further changes or more
   put_off : IsCourseFlown plan course → (f first from : ℕ) (halting : Option ℕ) (to since : ℕ) → f ≤ course.frames → Deadlines plan course first f from halting to since
       → course_mode_at plan course f ≡ Moving from halting to since → plan.choose to (course.env f) ≢ to → 2 ≤ plan_further plan
   put_off flown f first from halting to since inside d moded away = elim (further_cases plan) [
@@ -138,7 +138,7 @@ module _ (plan : Plan) (course : Course) (accepted : IsAcceptedPlan plan) (withi
     soon_at f (Stable c) is h = tt
     soon_at f (Moving from halting to since) is h = let now = h.1.now in inl (omega arith)
 
-    -- where a reconfiguration ends in what is not chosen again, the one that follows is over in time
+    -- if a reconfiguration ends in a target that is not chosen again, the next reconfiguration ends in time
     follows_soon : (f first from : ℕ) (halting : Option ℕ) (to since : ℕ) → suc f ≤ course.frames → course.env f ≡ course.env (suc f) → course_mode_at plan course f ≡ Moving from halting to since
         → Deadlines plan course first f from halting to since → since ≤ s → plan.choose to (course.env (suc f)) ≢ to
         → SoonIn plan course s b (suc f) (Moving to (Some to) (plan.choose to (course.env (suc f))) (suc f))

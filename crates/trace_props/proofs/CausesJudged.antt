@@ -1,4 +1,4 @@
--- The frame in which one reconfiguration breaks SP5, or that it keeps it.
+-- The frame in which a reconfiguration breaks SP5, or a proof that it keeps SP5.
 use Rattle.std.proofs.Common.{◌≡◌, ℕ, zero, suc, ◌+◌, ◌-◌, ◌<◌, ◌≤◌, true, false, refl, arith, ap, sym, ◌∙◌, List, [], ◌∷◌, length, ◌⊎◌, subst}
 use mathlib.Core.Logic.{inl, inr}
 use Rattle.std.specs.Prelude.{Option, Some, None, slice_get, ◌==◌, ◌&&◌, ◌||◌, nat_le, is_some, option_map}

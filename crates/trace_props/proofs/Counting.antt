@@ -7,7 +7,7 @@ use Rattle.scram_types.proofs.Naturals.{at_or_below}
 use Rattle.trace_props.proofs.Plans.{Plan}
 use Rattle.trace_props.proofs.Courses.{course_changes_at, course_changes_upto}
 
--- a frame adds one where it is a change frame
+-- a frame adds one if it is a change frame
 pub count_changed : (plan : Plan) (env : ℕ → Env) (f : ℕ) → course_changes_at plan env (suc f) ≡ true → course_changes_upto plan env (suc f) ≡ suc (course_changes_upto plan env f)
 count_changed plan env f h = rw h (omega arith)
 
@@ -49,7 +49,7 @@ between_step plan tells env c t a b h was not before = elim (at_or_below a b h) 
   | inr e ↦ absurd (not (rw e at was))
 ]
 
--- what is chosen differs in two frames only where there is a change frame between them
+-- the choices in two frames differ only if there is a change frame between them
 pub change_between : (plan : Plan) → ((v w : Env) → plan.differ v w ≡ false → v ≡ w) → (env : ℕ → Env) (c t a b : ℕ) → a ≤ b → plan.choose c (env a) ≡ t → (plan.choose c (env b) ≡ t → ⊥) → ChangeBetween plan env a b
 change_between plan tells env c t a zero h was not = absurd (not (let e : a ≡ 0 = omega arith in rw e at was))
 change_between plan tells env c t a (suc b) h was not = between_step plan tells env c t a b h was not (change_between plan tells env c t a b)

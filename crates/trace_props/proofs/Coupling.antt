@@ -1,4 +1,4 @@
--- The reading of rows goes along with the mode.
+-- The reading of rows agrees with the mode.
 use Rattle.std.proofs.Common.{◌≡◌, ℕ, zero, suc, ◌+◌, ◌-◌, ◌<◌, ◌≤◌, true, false, refl, arith, ◌≢◌, sym, ◌∙◌, subst}
 use mathlib.Core.Logic.{inl, inr}
 use Rattle.std.specs.Prelude.{Option, Some, None, nat_eq, nat_lt, ◌&&◌}
@@ -12,7 +12,7 @@ use Rattle.trace_props.proofs.Tests.{by_test}
 use Rattle.trace_props.proofs.Counting.{ChangeBetween, change_between}
 use Rattle.trace_props.proofs.Deadlines.{Deadlines, begins, stays, turns_early, turns_anew, wanted_runs, room_of}
 
--- the mode of frame f goes on with a reconfiguration from `from` whose first moving frame is `first`
+-- the mode of frame f continues a reconfiguration from `from` whose first moving frame is `first`
 abbrev pub MovesOn : Plan → Course → ℕ → ℕ → ℕ → CourseMode → Type 0
 MovesOn plan course first f c (Stable k) = ⊥
 MovesOn plan course first f c (Moving from halting to since) = (from ≡ c) × Deadlines plan course first f from halting to since
@@ -75,7 +75,7 @@ module _ (plan : Plan) (course : Course) (accepted : IsAcceptedPlan plan) (withi
       (λ e. let away = differ (plan.choose c (course.env f)) c e in
       record { same = refl; new = refl; deadlines = begins plan course accepted within f c inside known away (room_of plan course accepted within f (change away)); cause = cause away })
 
-  -- what is chosen changes only in a change frame
+  -- the choice changes only in a change frame
   pub changed_when : (f c : ℕ) → plan.choose c (course.env f) ≡ c → plan.choose c (course.env (suc f)) ≢ c → course_changes_at plan course.env (suc f) ≡ true
   changed_when f c was away = not_false (course_changes_at plan course.env (suc f)) (λ calm. away (let same = accepted.tells (course.env f) (course.env (suc f)) calm in cc))
 
@@ -109,7 +109,7 @@ module _ (plan : Plan) (course : Course) (accepted : IsAcceptedPlan plan) (withi
       (λ arrived. absurd (true_false _ (and_right _ _ arrived) (left (and_left _ _ arrived))))
       (λ e. moves_on first f from halting to since inside d moded (λ running. row.lost running (left running) d.runnable))
 
-  -- the first moving frame, where the row before ran its configuration
+  -- the first moving frame, if the preceding row ran its configuration
   pub after_start : (f c from : ℕ) (halting : Option ℕ) (to since : ℕ) → suc f ≤ course.frames → Starts plan course f c from halting to since
       → CourseRowUnder plan course f (Moving from halting to since) → course_mode_at plan course f ≡ Moving from halting to since
       → Coupled plan course (suc f) (course_read_row course f (Steady c)) (course_decision_after plan course f (Moving from halting to since))
@@ -200,7 +200,7 @@ module _ (plan : Plan) (course : Course) (accepted : IsAcceptedPlan plan) (withi
   coupled_step f inside (Leaving c s) (Moving from halting to since) h row reported moded =
       after_leaving f c s h.first from halting to since inside h.from_begin h.by_next h.first_is h.moves.0 h.moves.1 h.cause row moded reported
 
-  -- in each frame the reading goes along with the mode
+  -- in each frame the reading agrees with the mode
   pub coupled : IsCourseFlown plan course → (f : ℕ) → f ≤ course.frames → Coupled plan course f (course_reading_before plan course f) (course_mode_at plan course f)
   coupled flown zero inside =
       let opens : plan.choose plan.start (course.env 0) ≡ plan.start = rw within.opens accepted.starts in

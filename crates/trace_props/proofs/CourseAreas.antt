@@ -8,7 +8,7 @@ use Rattle.trace_props.proofs.CourseRows.{CourseAct, CourseAct.Ran, CourseAct.Ha
 abbrev pub CourseArea : Type 0
 CourseArea = List ℤ
 
--- what wrote an area last; a start area counts as one that was initialised
+-- the act that wrote an area last; a start area counts as initialised
 pub data Written : Type 0 where
   DidRun : Place → Written
   DidHalt : Place → Written
@@ -33,7 +33,8 @@ abbrev pub written_by : (ℕ → CourseAct) → Written → ℕ → Written
 written_by acts w zero = w
 written_by acts w (suc f) = written_after (acts f) (written_by acts w f)
 
--- lies a w v: the area v of a is in the ranges of what wrote it; initialised a p v: in those after a whole initialisation
+-- lies a w v: the area v of a is in the ranges of its writer w; initialised a p v: in the ranges after a whole
+-- initialisation
 pub record AreaLaws : Type 0 where
   pub lies : ℕ → Written → CourseArea → Bool
   pub initialised : ℕ → Place → CourseArea → Bool
@@ -47,7 +48,7 @@ IsAreaFilled laws a (Initialised k n p) old new = (laws.lies a (DidInit p) new �
 IsAreaFilled laws a WasOff old new = laws.lies a Zeros new ≡ true
 IsAreaFilled laws a Lost old new = new ≡ old
 
--- area f a: what a has after f frames
+-- area f a: the area of a after f frames
 pub record AreAreasFilled (plan : Plan) (build : Build) (course : Course) (commits : ℕ → ℕ → Bool) (laws : AreaLaws) (area : ℕ → ℕ → CourseArea) : Type 0 where
   pub opens : (a : ℕ) → a < build.apps → laws.lies a (opening_written (build.place plan.start a)) (area 0 a) ≡ true
   pub writes : (f a : ℕ) → f < course.frames → a < build.apps → IsAreaFilled laws a (course_acts_at plan build course commits f a) (area f a) (area (suc f) a)
@@ -66,7 +67,7 @@ abbrev pub SpeaksOfSource : Option ℕ → ℕ → Type 0
 SpeaksOfSource None i = Unit {0}
 SpeaksOfSource (Some c) i = c ≡ i
 
--- the application stands so in i, or in a possible target of i
+-- the application has this place in i, or in a possible target of i
 abbrev pub IsPlacedInTarget : Plan → Build → ℕ → ℕ → Option Place → Type 0
 IsPlacedInTarget plan build i a o = (j : ℕ) × IsPlanTarget plan i j × (build.place j a ≡ o)
 

@@ -4,7 +4,7 @@ use Rattle.scram_types.specs.declared.rows.Env.{Env}
 use Rattle.trace_props.proofs.Plans.{Plan}
 use Rattle.trace_props.proofs.CourseModes.{CourseMode, course_target, course_is_running, course_decision, course_stable_decision}
 
--- runs f c: row f runs c; running f: the least configuration that row f runs
+-- runs f c: row f runs c; running f: the configuration with the smallest number that row f runs
 pub record Course : Type 0 where
   pub frames : ℕ
   pub env : ℕ → Env
@@ -15,7 +15,7 @@ abbrev pub course_changes_at : Plan → (ℕ → Env) → ℕ → Bool
 course_changes_at plan env zero = false
 course_changes_at plan env (suc f) = plan.differ (env f) (env (suc f))
 
--- how many change frames there are up to a frame
+-- the number of change frames up to a frame
 abbrev pub course_changes_upto : Plan → (ℕ → Env) → ℕ → ℕ
 course_changes_upto plan env zero = 0
 course_changes_upto plan env (suc f) = course_changes_upto plan env f + (if plan.differ (env f) (env (suc f)) then 1 else 0)
@@ -66,7 +66,7 @@ pub record IsCourseWithin (plan : Plan) (course : Course) : Type 0 where
   pub scope : (f : ℕ) → f ≤ course.frames → plan.in_scope (course.env f) ≡ true
   pub few : (f : ℕ) → f ≤ course.frames → course_changes_upto plan course.env f ≤ course_changes_upto plan course.env (f - plan.window) + plan.changes + 1
 
--- what row f shows under a mode
+-- the contents of row f under a mode
 pub record CourseRowUnder (plan : Plan) (course : Course) (f : ℕ) (mode : CourseMode) : Type 0 where
   pub only : (j : ℕ) → course.runs f j ≡ true → (course_is_running plan mode f ≡ true) × (course_target mode ≡ j)
   pub lost : course_is_running plan mode f ≡ true → course.runs f (course_target mode) ≡ false → plan.is_runnable (course_target mode) (course.env f) ≡ true → plan.is_runnable (course_target mode) (course.env (suc f)) ≡ false

@@ -10,13 +10,13 @@ use Rattle.trace_props.proofs.CourseModes.{CourseMode.Moving, course_wanted}
 use Rattle.trace_props.proofs.Courses.{Course, IsCourseWithin, course_changes_at, course_changes_upto, course_mode_at}
 use Rattle.trace_props.proofs.Counting.{count_changed, count_grows, count_le}
 
--- frame g has this mode, and what the target uses is up in it and in the next one
+-- frame g has this mode, and the processors that the target uses are up in it and in the next frame
 pub record IsWhole (plan : Plan) (course : Course) (g from : ℕ) (halting : Option ℕ) (to since : ℕ) : Type 0 where
   pub moded : course_mode_at plan course g ≡ Moving from halting to since
   pub before : plan.is_runnable to (course.env g) ≡ true
   pub behind : plan.is_runnable to (course.env (suc g)) ≡ true
 
--- what holds in frame f of a mode `Moving from halting to since` whose first moving frame is `first`
+-- facts on frame f in a mode `Moving from halting to since` whose first moving frame is `first`
 pub record Deadlines (plan : Plan) (course : Course) (first f from : ℕ) (halting : Option ℕ) (to since : ℕ) : Type 0 where
   pub from_in : from < plan.configurations
   pub to_in : to < plan.configurations
@@ -48,7 +48,7 @@ in_time f first since halted h q x d p i t a b c e = let m : d * q ≤ x * q = g
 pub later : (f first since halted h q d p i k : ℕ) → f ≤ since + halted + p + i → since + halted ≤ first + h + d * q → p + i + 1 + k ≤ q → suc f + k ≤ first + h + suc d * q
 later f first since halted h q d p i k a b c = omega arith
 
--- what the policy chooses: the target kept, or the choice made anew
+-- the policy's choice: the target kept, or the choice made anew
 wanted_by : (a b : Bool) (to t : ℕ) → ((a ≡ true) × (b ≡ true) × ((if (a && b) then to else t) ≡ to)) ⊎ (((a ≡ false) ⊎ (b ≡ false)) × ((if (a && b) then to else t) ≡ t))
 wanted_by true true to t = inl (refl, refl, refl)
 wanted_by true false to t = inr (inr refl, refl)
@@ -89,7 +89,7 @@ module _ (plan : Plan) (course : Course) (accepted : IsAcceptedPlan plan) (withi
       let below = count_le plan course.env (g - plan.window) m (omega arith) in
       omega arith
 
-  -- where the choice is followed at once, a reconfiguration begins moving in a change frame
+  -- if the choice is followed at once, a reconfiguration begins moving in a change frame
   pub room_of : (m : ℕ) → (plan.settles ≡ false → (p : ℕ) × (m ≡ suc p) × (course_changes_at plan course.env (suc p) ≡ true)) → (g : ℕ) → g ≤ course.frames → g < m + plan.window → course_changes_upto plan course.env g ≤ course_changes_upto plan course.env m + plan_further plan
   room_of m begins g inside near = elim (further_cases plan) [
     | inl e ↦ rw e.1 (room_anywhere m g inside near)
@@ -168,7 +168,7 @@ module _ (plan : Plan) (course : Course) (accepted : IsAcceptedPlan plan) (withi
     | inr e ↦ rw e.1 (accepted.choose_in from v known)
   ]
 
-  -- when the target of the policy was chosen
+  -- the frame in which the target of the policy was chosen
   pub chosen_when : (first f from : ℕ) (halting : Option ℕ) (to since : ℕ) → Deadlines plan course first f from halting to since
       → (t : ℕ) × (first ≤ t) × (t ≤ suc f) × (plan.choose from (course.env t) ≡ course_wanted plan from to (course.env (suc f))) × (plan.settles ≡ false → t ≡ suc f)
   chosen_when first f from halting to since d = elim (wanted_cases plan from to (course.env (suc f))) [
@@ -210,8 +210,7 @@ module _ (plan : Plan) (course : Course) (accepted : IsAcceptedPlan plan) (withi
         room = d.room;
       }
 
-  -- the policy chooses another target: the phases that lead to it count from `start`, and their halting phase is not
-  -- over
+  -- the policy chooses another target: the phases up to it count from `start`, and their halting phase is not over
   turns : (first f from : ℕ) (halting new : Option ℕ) (to since start : ℕ) (inside : suc f ≤ course.frames) (d : Deadlines plan course first f from halting to since)
       → course_wanted plan from to (course.env (suc f)) ≢ to → ((h : ℕ) → new ≡ Some h → (h < plan.configurations) × ((h ≡ from) ⊎ IsPlanTarget plan from h))
       → first ≤ start → start ≤ suc f → suc f ≤ start + plan_halting plan new
@@ -243,7 +242,7 @@ module _ (plan : Plan) (course : Course) (accepted : IsAcceptedPlan plan) (withi
         room = d.room;
       }
 
-  -- where the policy chooses another target, the environment has changed
+  -- if the policy chooses another target, the environment has changed
   turn_changes : (first f from : ℕ) (halting : Option ℕ) (to since : ℕ) (inside : suc f ≤ course.frames) (d : Deadlines plan course first f from halting to since)
       → course_wanted plan from to (course.env (suc f)) ≢ to → suc d.more ≤ (next_count first f from halting to since inside d).next
   turn_changes first f from halting to since inside d other =

@@ -1,4 +1,4 @@
--- What is reported, compared with what is read.
+-- The reports, compared with the reconfigurations that are read.
 use Rattle.std.proofs.Common.{◌≡◌, ℕ, zero, suc, ◌+◌, ◌-◌, ◌<◌, ◌≤◌, true, false, refl, arith, ap, sym, ◌∙◌, List, [], ◌∷◌, length, ◌⊎◌}
 use mathlib.Core.Logic.{inl, inr}
 use Rattle.std.specs.Prelude.{Option, Some, None, min, slice_get, ◌==◌, ◌&&◌}
@@ -65,7 +65,7 @@ same_list (x ∷ xs) (y ∷ ys) h =
     let tail = same_list xs ys (λ k. h (suc k)) in
     cc
 
--- what is reported agrees with all at the first places; or where they first differ is known
+-- the reports agree with the first reconfigurations, or the place of their first difference is known
 abbrev pub Agrees : List Report → List Report → ℕ → Agreement → Type 0
 Agrees told all place (Alike n) = (n ≡ place) × ((k : ℕ) → k < place → slice_get told k ≡ slice_get all k)
 Agrees told all place (Apart frame) = BreaksSp1 told all frame
@@ -106,7 +106,7 @@ agrees_all spec rows told all (r ∷ read) place rest s h =
     let here : slice_get all place ≡ Some r = ap (slice_get all) (omega arith) ∙ rest 0 in
     agrees_all spec rows told all read (suc place) (λ k. ap (slice_get all) (omega arith) ∙ rest (suc k)) (judge spec rows told s (Some r)) (agrees_next told all place r here s.agreement h)
 
--- where two lists differ there is one first place, and one frame
+-- two lists that differ have one first difference, in one frame
 places : (a b : ℕ) → (a < b) ⊎ ((b < a) ⊎ (a ≡ b))
 places a b = grind arith
 

@@ -61,7 +61,7 @@ spec_of bounds policy invariants preconditions = spec_with_demands bounds policy
 abbrev pub spec : Parts
 spec = spec_of (bound 0 0 8 ∷ bound 0 1 8 ∷ bound 1 0 8 ∷ bound 1 1 8 ∷ []) Retarget [] []
 
--- rows in the order of their frames: the environment, what the monitor did, and its first two words
+-- rows in the order of their frames: the environment, the monitor's act, and its first two words
 abbrev env : ℕ → ℕ → Env
 env up value = record { up = up; factors = value ∷ replicate 5 0 }
 
@@ -84,7 +84,7 @@ before = env 1 0
 abbrev after : Env
 after = env 1 1
 
--- a quiet change of the environment: another processor set, by which the table does not choose
+-- a quiet change of the environment: another set of processors, by which the table does not choose
 abbrev other : Env
 other = env 0 0
 
@@ -189,7 +189,7 @@ causeless = row after (ran 1) 1 10 ∷ row after (ran 1) 1 10 ∷ row after act.
 no_cause : first_break spec causeless (moved 1 2 4 ∷ []) ≡ broken Sp5 2
 no_cause = refl
 
--- frame 0 is compared with the environment in which a flight opens, and a change in the next row will do
+-- frame 0 is compared with the environment in which a flight opens, and a change in the next row suffices
 at_once : first_break spec (row before act.Held 1 10 ∷ row before act.Held 1 10 ∷ []) (cut_off 0 2 ∷ []) ≡ broken Sp5 0
 at_once = refl
 
@@ -202,7 +202,7 @@ caused_next = refl
 not_asked : first_break spec (row before (ran 1) 1 10 ∷ row before act.Lost 1 10 ∷ []) (cut_off 1 2 ∷ []) ≡ None
 not_asked = refl
 
--- a reconfiguration that begins as another one ends, which saw a change; settled targets may be left so
+-- a reconfiguration that begins as another one ends, which saw a change; settled targets may be left in this way
 abbrev followed : List Row
 followed =
     row before (ran 1) 1 10 ∷ row after act.Held 1 10 ∷ row before act.Held 4 10 ∷ row before (ran 2) 1 10 ∷ row before act.Held 1 10 ∷ row before act.Held 4 10 ∷ row before (ran 1) 1 10 ∷ []
@@ -216,7 +216,7 @@ settled = refl
 chosen_anew : first_break (spec_of (bound 0 1 8 ∷ bound 1 0 8 ∷ []) Retarget [] []) followed (moved 1 1 3 ∷ back ∷ []) ≡ broken Sp5 4
 chosen_anew = refl
 
--- SP6, in a calm row: everywhere the second configuration is demanded, whatever was chosen from
+-- SP6, in a calm row: the second configuration is demanded everywhere, from every source
 abbrev second_wanted : Demand
 second_wanted = record { name = []; from = 0; wants = []; up = 0; down = 0; to = 2; on = replicate 8 None; off = 0 }
 
@@ -251,7 +251,7 @@ nothing_asked = refl
 lost_not_calm : first_break (demanding (bound 0 1 2 ∷ []) second_wanted) (steady before ∷ steady before ∷ row before act.Lost 1 10 ∷ []) (cut_off 2 3 ∷ []) ≡ None
 lost_not_calm = refl
 
--- the least frame comes first, and in one frame the least number
+-- the first frame comes first, and in one frame the smallest number
 earlier_frame : first_break spec (row before (ran 1) 1 10 ∷ row before act.Held 1 10 ∷ row before act.Held 4 10 ∷ row before (ran 2) 1 10 ∷ []) (moved 1 1 3 ∷ []) ≡ broken Sp5 1
 earlier_frame = refl
 

@@ -1,4 +1,4 @@
--- The least of the frames, and the first of the breaks, of which a fact holds.
+-- The first frame, and the first break, for which a proposition holds.
 use Rattle.std.proofs.Common.{◌≡◌, ℕ, zero, suc, ◌+◌, ◌<◌, ◌≤◌, Bool, true, false, refl, arith, ap, sym, ◌∙◌, ◌⊎◌, subst}
 use mathlib.Core.Logic.{inl, inr}
 use Rattle.std.specs.Prelude.{Option, Some, None, min, nat_eq, nat_lt}
@@ -28,7 +28,7 @@ pub first_moved : (A B : Property → ℕ → Type 0) → ((p : Property) (g : �
 first_moved A B to from None h = λ p g b. h p g (from p g b)
 first_moved A B to from (Some x) h = (to x.property x.frame h.0, λ p g b. h.1 p g (from p g b))
 
--- the lesser of two least frames
+-- the smaller of two first frames
 le_cases : (a b : ℕ) → (a ≤ b) ⊎ (b ≤ a)
 le_cases a b = grind arith
 
@@ -50,7 +50,7 @@ least_lesser A B None (Some f) h k = (inr k.0, λ g e. elim e [ inl x ↦ absurd
 least_lesser A B (Some f) None h k = (inl h.0, λ g e. elim e [ inl x ↦ h.1 g x | inr y ↦ absurd (k g y) ])
 least_lesser A B (Some f) (Some g) h k = (lesser_of A B f g h.0 k.0 (min f g) refl, λ n e. either_le A B f g n h.1 k.1 e)
 
--- which of two breaks comes before
+-- the order of two breaks
 same_or_less : (a b : ℕ) → a ≤ b → (a < b) ⊎ (a ≡ b)
 same_or_less a b h = grind arith
 

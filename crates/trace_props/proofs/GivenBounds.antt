@@ -1,4 +1,4 @@
--- The greatest bound that is given from a configuration is at least each that is given.
+-- The greatest bound that is given from a configuration is at least each bound that is given.
 use Rattle.std.proofs.Common.{◌≡◌, ℕ, ◌≤◌, true, refl, arith, List, [], ◌∷◌}
 use Rattle.std.specs.Prelude.{Option, Some, None, nat_lt, ◌&&◌, ◌==◌, if◌then◌else◌}
 use Rattle.scram_types.specs.declared.specification.Bound.{Bound}
@@ -20,7 +20,7 @@ greater_new : (greatest : Option ℕ) (frames : ℕ) → frames ≤ greater_of g
 greater_new None frames = omega arith
 greater_new (Some most) frames = by_test (λ n. frames ≤ n) (nat_lt most frames) _ _ (λ e. omega arith) (λ e. not_below most frames e)
 
--- what is greatest so far stays at most the greatest
+-- the greatest bound so far is at most the greatest of all
 at_least : (most t i : ℕ) (bounds : List Bound) → t ≤ most → IsAtLeast (greatest_bound_from (Some most) bounds i) t
 at_least most t i [] enough = record { bound = most; is = refl; enough = enough }
 at_least most t i (bound ∷ bounds) enough =

@@ -1,4 +1,4 @@
--- Since when the environment is that of the row before.
+-- The frame since which the environment has held, from row to row.
 use Rattle.std.proofs.Common.{◌≡◌, ℕ, zero, suc, ◌+◌, refl, arith, List}
 use Rattle.scram_types.specs.declared.rows.Row.{Row}
 use Rattle.trace_props.specs.Judging.{held_by, held_since}

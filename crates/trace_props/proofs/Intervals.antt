@@ -1,4 +1,4 @@
--- Invariants and preconditions of an accepted specification hold what the law asks of them.
+-- Invariants and preconditions of an accepted specification hold what the law requires of them.
 use Rattle.std.proofs.Common.{◌≡◌, ℕ, ◌<◌, true, refl, arith, ap, List, length}
 use mathlib.Core.Logic.{inl, inr}
 use Rattle.std.specs.Prelude.{Option, Some, None, ℤ, pos, slice_get, ◌&&◌}
@@ -24,7 +24,7 @@ use Rattle.trace_props.proofs.Products.{build_of, is_env, halting_number, plan_o
 use Rattle.trace_props.specs.Judging.{lies_in}
 use Rattle.trace_props.proofs.Ranging.{area_of, area_test, laws_of, lies_held, range_of}
 
--- an invariant, and a precondition, in the words of the law
+-- an invariant, and a precondition, as the law states them
 abbrev pub invariant_of : told_invariants.Invariant → CourseInvariant
 invariant_of inv = record { source = halting_number inv.from; app = inv.app.0; holds = λ v. lies_in inv.least inv.greatest (word v inv.variable) }
 
@@ -53,7 +53,7 @@ module _ (spec : Parts) (sound : IsSpec spec) (accepts : Accepts spec) where
     small : inv.variable < 8
     small = let few = (sound.invariants k inv there).interval.is_variable in omega arith
 
-    -- the ranges of an act in a mode are held where the interval holds them
+    -- the ranges of an act in a mode are held if the interval holds them
     held_during : (act mode : ℕ) (v : List ℤ) → holds_during spec inv act mode ≡ true → area_test (during (kind_of_app spec inv.app.0) act mode) v ≡ true → lies_in inv.least inv.greatest (word v inv.variable) ≡ true
     held_during act mode v h lies =
         lies_held inv.least inv.greatest _ _ (word v inv.variable) h (area_of (during (kind_of_app spec inv.app.0) act mode) v lies inv.variable small)
@@ -61,7 +61,7 @@ module _ (spec : Parts) (sound : IsSpec spec) (accepts : Accepts spec) where
     held_off : (v : List ℤ) → holds_off inv ≡ true → area_test (λ i. (pos 0, pos 0)) v ≡ true → lies_in inv.least inv.greatest (word v inv.variable) ≡ true
     held_off v h lies = lies_held inv.least inv.greatest (pos 0) (pos 0) (word v inv.variable) h (area_of (λ i. (pos 0, pos 0)) v lies inv.variable small)
 
-    -- what is held while a place is left, and while it is reached
+    -- the ranges that are held while a place is left, and while it is reached
     init_held : (p : Place) → holds_leaving spec inv (Some p) ≡ true → holds_during spec inv 4 p.mode.0 ≡ true
     init_held p h = and_left (holds_during spec inv 4 p.mode.0) (holds_during spec inv 1 p.mode.0) (and_left (holds_during spec inv 4 p.mode.0 && holds_during spec inv 1 p.mode.0) _ h)
 
@@ -82,7 +82,7 @@ module _ (spec : Parts) (sound : IsSpec spec) (accepts : Accepts spec) where
       kept : acceptance.IsKept spec inv (conf_id i)
       kept = accepts.kept k inv there (conf_id i) known (source_is inv.from i speaks)
 
-      -- where the application stands so in i or in a possible target of i
+      -- if the application has this place in i or in a possible target of i
       left_at : (o : Option Place) → IsPlacedInEither (plan_of spec) (build_of spec) i inv.app.0 o → holds_leaving spec inv o ≡ true
       left_at o site = elim site [
         | inl here ↦ rw here at kept.leaving

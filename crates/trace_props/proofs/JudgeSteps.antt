@@ -1,4 +1,4 @@
--- Judging what is read row by row.
+-- Judging the reconfigurations that are read, row by row.
 use Rattle.std.proofs.Common.{◌≡◌, ◌∙◌, ℕ, suc, ◌+◌, ◌<◌, ◌≤◌, ap, arith, drop, length, refl, sym, List, [], ◌∷◌, ◌++◌}
 use Rattle.std.specs.Prelude.{Option, Some, None, get_or}
 use Rattle.std.proofs.Math.Seq.{drop-cons}
@@ -42,7 +42,7 @@ module _ (spec : Parts) (rows : List Row) (told : List Report) where
       ∙ sym (judge_row spec rows told s rd f (get_or rows i d) (drop (suc i) rows) (length rows))
       ∙ same_judged s s rd rd f f (get_or rows i d ∷ drop (suc i) rows) (drop i rows) (length rows) (length rows) refl refl refl (sym (drop-cons rows i d inside)) refl
 
-  -- and its end
+  -- the end of the loop
   pub judge_last : (s : Judgement) (rd : Reading) (f i : ℕ) → f ≡ i → length rows ≤ i → i ≤ length rows
       → judge spec rows told s (close rd f) ≡ judge_all spec rows told s (still_read spec rd f (drop i rows) (length rows))
   judge_last s rd f i at past end =

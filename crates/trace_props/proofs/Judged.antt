@@ -1,4 +1,4 @@
--- What is found of all reconfigurations is the first break, or that all six properties hold.
+-- The judgement of all reconfigurations gives the first break, or a proof that all six properties hold.
 use Rattle.std.proofs.Common.{◌≡◌, ℕ, suc, ◌+◌, ◌<◌, ◌≤◌, refl, arith, ap, sym, ◌∙◌, List, [], ◌∷◌, ◌⊎◌, subst}
 use mathlib.Core.Logic.{inl, inr}
 use Rattle.std.specs.Prelude.{Option, Some, None, slice_get, ◌↔◌}
@@ -25,7 +25,7 @@ use Rattle.trace_props.proofs.AreasJudged.{sp4_kept, sp4_least}
 use Rattle.trace_props.proofs.CalmJudged.{sp6_least}
 use Rattle.trace_props.proofs.CausesJudged.{IsJustBefore, sp5_judged}
 
--- a reconfiguration keeps what SP2 to SP5 ask of it
+-- a reconfiguration keeps SP2 to SP5
 record Keeps (spec : Parts) (rows : List Row) (r : Report) : Type 0 where
   sp2 : KeepsSp2 spec rows r
   sp3 : KeepsSp3 spec r
@@ -91,7 +91,7 @@ record BreaksBelow (spec : Parts) (rows : List Row) (all : List Report) (n : ℕ
   there : slice_get all place ≡ Some r
   broken : BreaksIn spec rows r p g
 
--- what is known after the first reconfigurations; low: where the last of them has ended
+-- the facts after the first reconfigurations; low: the frame in which the last of them ended
 record IsJudged (spec : Parts) (rows : List Row) (all : List Report) (n low : ℕ) (s : Judgement) : Type 0 where
   first : IsFirstOf (BreaksBelow spec rows all n) s.broken
   kept : s.broken ≡ None → (k : ℕ) (x : Report) → k < n → slice_get all k ≡ Some x → Keeps spec rows x
@@ -244,7 +244,7 @@ module _ (spec : Parts) (rows : List Row) (told : List Report) where
             (none_at Sp6 (unsatisfied_at spec rows) (none_right (first_in_reports spec rows told) (broken_at Sp6 (unsatisfied_at spec rows)) all));
       }
 
-  -- where all hold nothing is broken
+  -- if all hold, nothing is broken
   pub unbroken_of : HoldsAll spec rows told → (p : Property) (g : ℕ) → BreaksAt spec rows told p g → ⊥
   unbroken_of h Sp1 g b = b.differ (ap (λ xs. slice_get xs b.place) h.sp1)
   unbroken_of h Sp2 g b = b.broken.0 (h.sp2 b.place b.reconfiguration b.there)

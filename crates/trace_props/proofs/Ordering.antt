@@ -1,4 +1,4 @@
--- The reconfigurations that are read off rows come one after another.
+-- The reconfigurations that are read off rows do not overlap.
 use Rattle.std.proofs.Common.{◌≡◌, ℕ, zero, suc, ◌+◌, ◌≤◌, arith, sym, ◌∙◌, List, [], ◌∷◌, ◌++◌, length}
 use Rattle.std.specs.Prelude.{Option, Some, None, slice_get}
 use Rattle.std.proofs.lemmas.Option.{slice_get_past}
@@ -12,7 +12,7 @@ use Rattle.frame_model.specs.Readings.{arrival, arrive, as_list, close, ended_in
 use Rattle.frame_model.specs.Runs.{running, runs}
 use Rattle.trace_props.proofs.Tests.{by_test}
 
--- what is still to be read in rows, the first of which is that of frame f, and after n rows in all
+-- the reconfigurations still to be read in rows, the first of which is the row of frame f, and after n rows in all
 abbrev pub still_read : Parts → Reading → ℕ → List Row → ℕ → List Report
 still_read spec rd f rows n = ended_in spec rd f rows ++ as_list (close (reading_after spec rd f rows) n)
 
@@ -21,12 +21,12 @@ abbrev pub Ordered : ℕ → List Report → Type 0
 Ordered low [] = Unit {0}
 Ordered low (r ∷ read) = (low ≤ r.begin) × (r.begin ≤ r.end) × Ordered (suc r.end) read
 
--- what is under way began at or after a frame and before another
+-- the reconfiguration under way began at or after a frame and before another
 abbrev BeginsIn : Reading → ℕ → ℕ → Type 0
 BeginsIn (Steady c) low f = low ≤ f
 BeginsIn (Leaving c begin) low f = (low ≤ begin) × (begin ≤ f)
 
--- one that is under way ends in a row, or goes on
+-- a reconfiguration under way ends in a row, or continues
 arrived : (spec : Parts) (rows : List Row) (c : ConfId) (begin low f n : ℕ) (o : Option ConfId) → low ≤ begin → begin ≤ f
     → Ordered low (still_read spec (Leaving c begin) (suc f) rows n) → ((j : ConfId) → Ordered (suc f) (still_read spec (Steady j) (suc f) rows n))
     → Ordered low ((as_list (arrival c begin f o) ++ ended_in spec (arrive c begin o) (suc f) rows) ++ as_list (close (reading_after spec (arrive c begin o) (suc f) rows) n))

@@ -1,4 +1,4 @@
--- What a plan says: which configuration is chosen in which environment, and how long phases last.
+-- Plans: the choices in each environment, and the lengths of phases.
 use Rattle.std.specs.Prelude.{◌≡◌, ℕ, suc, ◌+◌, ◌*◌, ◌<◌, ◌≤◌, ◌⊎◌, ◌≢◌, Bool, true, false, Option, Some, None, if◌then◌else◌}
 use Rattle.scram_types.specs.declared.rows.Env.{Env}
 
@@ -19,16 +19,16 @@ pub record Plan : Type 0 where
   pub differ : Env → Env → Bool
   pub bound : ℕ → ℕ → Option ℕ
 
--- how many further changes a reconfiguration may see
+-- the number of further changes that a reconfiguration may see
 abbrev pub plan_further : Plan → ℕ
 plan_further plan = if plan.settles then suc plan.changes else plan.changes
 
--- how long the halting phase of a configuration, or of none, lasts
+-- the length of the halting phase of a configuration, or of none
 abbrev pub plan_halting : Plan → Option ℕ → ℕ
 plan_halting plan None = 0
 plan_halting plan (Some c) = plan.halting c
 
--- the least bound that serves a change from i to j
+-- the smallest bound that suffices for a change from i to j
 abbrev pub plan_least_bound : Plan → ℕ → ℕ → ℕ
 plan_least_bound plan i j = 1 + plan.halting i + plan_further plan * plan.slowest + plan.preparing j + plan.initialising j
 
@@ -38,7 +38,7 @@ pub record IsPlanTarget (plan : Plan) (i j : ℕ) : Type 0 where
   pub scope : plan.in_scope seen ≡ true
   pub chosen : plan.choose i seen ≡ j
 
--- what is known of a plan that is accepted
+-- the facts on an accepted plan
 pub record IsAcceptedPlan (plan : Plan) : Type 0 where
   pub start_in : plan.start < plan.configurations
   pub choose_in : (c : ℕ) (v : Env) → c < plan.configurations → plan.choose c v < plan.configurations

@@ -27,7 +27,7 @@ use Rattle.trace_props.proofs.CourseModes.{CourseMode, CourseMode.Stable, Course
 use Rattle.trace_props.proofs.Courses.{Course}
 use Rattle.trace_props.proofs.CourseRows.{CoursePhase, CoursePhase.Running, CoursePhase.Halting, CoursePhase.Preparing, CoursePhase.Initialising, Build}
 
--- Factor x has one of its values, and 0 where there is no such factor.
+-- Factor x has one of its values, or 0 if there is no such factor.
 abbrev pub has_value : Parts → Env → ℕ → Bool
 has_value spec v x = nat_lt (factor_in v x) (option_map_or (λ (factor : Factor). length factor.values) (slice_get spec.factors x) 1)
 

@@ -1,10 +1,10 @@
--- What is promised of each reconfiguration that is read off the rows.
+-- The promises for each reconfiguration that is read off the rows.
 use Rattle.std.specs.Prelude.{◌≡◌, ℕ, suc, ◌+◌, ◌-◌, ◌*◌, ◌<◌, ◌≤◌, ◌⊎◌, true, false, Option, Some}
 use Rattle.trace_props.proofs.Plans.{Plan, IsAcceptedPlan, plan_further, plan_halting}
 use Rattle.trace_props.proofs.CourseModes.{CourseMode, CourseMode.Stable, CourseMode.Moving}
 use Rattle.trace_props.proofs.Courses.{Course, CourseReading, CourseReading.Steady, CourseReading.Leaving, CourseReport, course_reading_before, course_report_at, course_changes_at, course_changes_upto, course_mode_at, IsCourseWithin, IsCourseFlown}
 
--- a reconfiguration that begins at s follows on another one, which saw a change after its begin
+-- a reconfiguration that begins at s follows another one, which saw a change after its begin
 pub record CourseFollows (plan : Plan) (course : Course) (s : ℕ) : Type 0 where
   pub settles : plan.settles ≡ true
   pub before : CourseReport
@@ -29,7 +29,7 @@ pub record IsCourseAssured (plan : Plan) (course : Course) (r : CourseReport) : 
   pub in_time : r.end ≤ r.begin + bound
   pub cause : CourseHasCause plan course r.begin
 
--- SP3, SP5 of one that the course's end cuts off
+-- SP3, SP5 of a reconfiguration that the course's end cuts off
 pub record IsCourseCutOff (plan : Plan) (course : Course) (c s : ℕ) : Type 0 where
   pub to : ℕ
   pub bound : ℕ
@@ -52,7 +52,7 @@ course_first_moving_in (Moving from halting to since) s = s
 abbrev pub course_first_moving : Plan → Course → ℕ → ℕ
 course_first_moving plan course s = course_first_moving_in (course_mode_at plan course s) s
 
--- where the reconfiguration began to which a moving frame belongs
+-- the begin of the reconfiguration to which a moving frame belongs
 abbrev pub course_begin_of : CourseReading → ℕ → ℕ
 course_begin_of (Steady c) f = f
 course_begin_of (Leaving c s) f = s

@@ -1,4 +1,4 @@
--- Areas lie in the ranges of the acts that wrote them: what the laws of the kinds give the law of areas.
+-- Areas are within the ranges of the acts that wrote them: the laws of the kinds imply the law of areas.
 use Rattle.std.proofs.Common.{◌≡◌, ℕ, zero, suc, ◌+◌, ◌-◌, ◌<◌, Bool, true, false, refl, arith, ap, sym, ◌∙◌, subst, List}
 use Rattle.std.specs.Prelude.{Option, Some, None, ℤ, pos, ◌≤ℤ◌, int_le, slice_get, slice_index_or, nat_lt, ◌&&◌, if◌then◌else◌}
 use Rattle.std.specs.Option.{option_map_or}
@@ -48,7 +48,7 @@ lies_is low high x h = and_true (int_le low x) (int_le x high) (int_is low x h.l
 pub lies_of : (low high x : ℤ) → lies_in low high x ≡ true → Between (low, high) x
 lies_of low high x h = record { least = int_of low x (and_left (int_le low x) _ h); greatest = int_of x high (and_right (int_le low x) _ h) }
 
--- an interval that holds a range holds what lies in the range
+-- an interval that holds a range holds each number within the range
 pub lies_held : (low high least most x : ℤ) → (int_le low least && int_le most high) ≡ true → Between (least, most) x → lies_in low high x ≡ true
 lies_held low high least most x h between =
     let l = int_of low least (and_left (int_le low least) _ h) in
@@ -65,7 +65,7 @@ area_is range area h = each_all (λ i. lies_in (range i).0 (range i).1 (word are
 pub area_of : (range : ℕ → ℤ × ℤ) (area : List ℤ) → area_test range area ≡ true → (i : ℕ) → i < 8 → Between (range i) (word area i)
 area_of range area h i below = lies_of (range i).0 (range i).1 (word area i) (all_at (λ i. lies_in (range i).0 (range i).1 (word area i)) 8 h i below)
 
--- the ranges of what wrote an area last
+-- the ranges of the act that wrote an area last
 abbrev pub range_of : ℕ → Written → ℕ → ℤ × ℤ
 range_of kind (DidRun p) = during kind 1 p.mode.0
 range_of kind (DidHalt p) = during kind 2 p.mode.0
@@ -112,7 +112,7 @@ eight_or value d (suc (suc (suc (suc (suc (suc zero)))))) h = refl
 eight_or value d (suc (suc (suc (suc (suc (suc (suc zero))))))) h = refl
 eight_or value d (suc (suc (suc (suc (suc (suc (suc (suc a)))))))) h = absurd (omega arith)
 
--- what an order asks, in the words of frames
+-- the task of an order
 abbrev pub task_of_order : CourseOrder → Task
 task_of_order (Run p) = tasks.task_at order.Run p
 task_of_order (Halt k n p) = tasks.task_at (order.Halt k n) p
@@ -152,7 +152,7 @@ task_same spec (told.Halting c age) a = halting_task (halt_offset spec c a) (hal
 task_same spec (told.Preparing c age) a = preparing_task (prepare_time spec c a) age (place_of spec c a)
 task_same spec (told.Initialising c age) a = init_task (init_offset spec c a) (init_time spec c a) age (place_of spec c a)
 
--- what is known of the laws of the kinds
+-- the facts on the laws of the kinds
 pub record KindsLie : Type 0 where
   pub during : LawLiesDuring
   pub initialised : LawLiesAfterInit

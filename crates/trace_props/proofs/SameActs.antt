@@ -27,7 +27,7 @@ use Rattle.trace_props.proofs.CourseRows.{CoursePhase, CourseOrder, CourseAct, C
 use Rattle.trace_props.proofs.Products.{build_of, course_of, course_mode_of, course_phase_of, plan_of, runs_in_row}
 use Rattle.trace_props.proofs.SameModes.{same_mode}
 
--- what a row shows of an act
+-- the act that a row shows
 abbrev pub shown : CourseAct → told_acts.Act
 shown (Ran p) = act.Ran p.mode p.proc
 shown (Halted k n p) = act.Halting k n p.proc
@@ -132,11 +132,11 @@ eight_at value (suc (suc (suc (suc (suc (suc zero)))))) h = refl
 eight_at value (suc (suc (suc (suc (suc (suc (suc zero))))))) h = refl
 eight_at value (suc (suc (suc (suc (suc (suc (suc (suc a)))))))) h = absurd (omega arith)
 
--- which processors commit, by the frame
+-- the processors that commit, by the frame
 abbrev pub committed : Parts → ScriptParts → ℕ → ℕ → Bool
 committed spec script f p = commits spec script p f
 
--- what a row shows of each application
+-- the act of each application in a row
 pub row_act : (spec : Parts) (script : ScriptParts) (f a : ℕ) → a < 8
     → act_at (row_at spec script f).acts a ≡ shown (course_acts_at (plan_of spec) (build_of spec) (course_of spec script) (committed spec script) f a)
 row_act spec script f a below =

@@ -60,7 +60,7 @@ module _ (spec : Parts) (script : ScriptParts) where
         ∙ ap (λ rd. readings.read_row spec rd n (row_at spec script n).acts) (reading_same n)
         ∙ read_same n (course_reading_before (plan_of spec) (course_of spec script) n)
 
-    -- what a row more ends
+    -- the reconfigurations that end with a further row
     pub ended_more : (n : ℕ) → readings.ended spec (rows_below spec script (suc n))
         ≡ readings.ended spec (rows_below spec script n) ++ readings.as_list (option_map told_report (course_report_at (plan_of spec) (course_of spec script) n))
     ended_more n =
@@ -90,7 +90,7 @@ module _ (spec : Parts) (script : ScriptParts) where
         (each_option (IsEnded frames) (option_map told_report (course_report_at (plan_of spec) (course_of spec script) n)) (ended_one frames n (omega arith) (course_report_at (plan_of spec) (course_of spec script) n) refl))
         k x (ap (λ xs. slice_get xs k) (sym (ended_more n)) ∙ h)
 
-    -- and each of the law's has a place in the list
+    -- each of the law's reconfigurations has an index in the list
     below_or_last : (k n : ℕ) → k < suc n → (k < n) ⊎ (k ≡ n)
     below_or_last k n h = grind arith
 

@@ -1,4 +1,4 @@
--- The frame in which one reconfiguration breaks SP2 or SP3, or that it keeps them.
+-- The frame in which a reconfiguration breaks SP2 or SP3, or a proof that it keeps them.
 use Rattle.std.proofs.Common.{◌≡◌, ℕ, ◌+◌, ◌-◌, ◌<◌, ◌≤◌, Bool, true, false, refl, arith, ap, sym, ◌∙◌, List}
 use Rattle.std.specs.Prelude.{Option, Some, None, slice_get, ◌==◌, nat_le, option_map}
 use Rattle.scram_types.specs.declared.ids.ConfId.{ConfId}

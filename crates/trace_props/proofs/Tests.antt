@@ -1,4 +1,4 @@
--- To prove something of an `if`: at each of its branches, from what the test then says.
+-- Proofs on an `if`, branch by branch.
 use Rattle.std.proofs.Common.{◌≡◌, Bool, true, false, refl}
 use Rattle.std.specs.Prelude.{if◌then◌else◌}
 

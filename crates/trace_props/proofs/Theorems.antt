@@ -1,4 +1,4 @@
--- The theorem: all properties hold of every mission, and the central facts in each of its moving frames.
+-- The theorem: all properties hold for every mission, and the central facts in each of its moving frames.
 use Rattle.std.proofs.Common.{◌≡◌, ℕ, ◌+◌, ◌*◌, ◌≤◌, false, refl, ap, sym, ◌∙◌}
 use Rattle.std.specs.Prelude.{Option}
 use Rattle.scram_types.specs.declared.ids.ConfId.{ConfId}

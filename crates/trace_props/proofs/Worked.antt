@@ -152,7 +152,8 @@ is_mission = record {
 moves_once : reports_of spec script ≡ moved 1 3 6 ∷ []
 moves_once = refl
 
--- its last row is calm, since the greatest bound is 8 and the environment the same from frame 3 on, and runs what is chosen
+-- its last row is calm, since the greatest bound is 8 and the environment the same from frame 3 on, and runs the chosen
+-- configuration
 settled_last : running spec (row_at spec script 11).acts ≡ Some (record { 0 = 1 })
 settled_last = refl
 

@@ -1,4 +1,4 @@
--- What calm rows of a mission show.
+-- Calm rows of a mission.
 use Rattle.std.specs.Prelude.{◌≡◌, ℕ, ◌<◌, length, Some}
 use Rattle.scram_types.specs.declared.ids.ConfId.{ConfId}
 use Rattle.scram_types.specs.declared.rows.Row.{Row}

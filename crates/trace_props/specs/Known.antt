@@ -1,11 +1,11 @@
--- What the theorem takes from the other crates.
+-- The facts that the theorem takes from the other crates.
 use Rattle.choice_table.specs.Laws.{RunsWherePlacesAreUp}
 use Rattle.dep_order.specs.Timetables.{PhasesEndInTime}
 use Rattle.app_model.specs.Areas.{AllTablesNarrow, LawLiesAfterInit, LawLiesDuring, StartLiesAfterInit}
 use Rattle.fault_script.specs.Laws.{EnvironmentsShow, LossesShow}
 use Rattle.frame_model.specs.Laws.{ReadsRowByRow}
 
--- What choice, time, scripts, rows and kinds promise, together.
+-- The facts on choice, time, scripts, rows and kinds, together.
 pub record IsKnown : Type 0 where
   pub runs_up : RunsWherePlacesAreUp
   pub timed : PhasesEndInTime

@@ -1,4 +1,4 @@
--- What missions keep: an accepted specification, and a script that fits it and keeps to its assumption.
+-- Theorems on missions: accepted specifications with a script that fits and keeps to the failure assumption.
 use Rattle.std.specs.Prelude.{◌≡◌, ℕ, suc, ◌+◌, ◌-◌, ◌*◌, ◌≤◌, true, length, Option}
 use Rattle.scram_types.specs.declared.ids.ConfId.{ConfId}
 use Rattle.scram_types.specs.declared.orders.KMode.{KMode}
@@ -21,41 +21,41 @@ use Rattle.frame_model.specs.Readings.{reading_of}
 use Rattle.trace_props.specs.Properties.{HoldsAll}
 use Rattle.scram_types.specs.declared.rows.Flown.{Flown}
 
--- All six properties hold of a mission's rows and reports.
+-- All six properties hold for a mission's rows and reports.
 abbrev pub ReconfigurationsAreAssured : Type 0
 ReconfigurationsAreAssured = (spec : Parts) (script : ScriptParts) → IsSpec spec → IsMission (mission_of spec script)
     → HoldsAll spec (rows_of spec script) (reports_of spec script)
 
--- Where the reconfiguration began of which frame f is a part, by the rows before f.
+-- The frame in which the reconfiguration of frame f began, given the reading of the rows before f.
 abbrev pub begin_in : Reading → ℕ → ℕ
 begin_in (Steady c) f = f
 begin_in (Leaving c begin) f = begin
 
--- The same of a mission.
+-- The frame in which the reconfiguration of frame f of a mission began.
 abbrev pub begin_at : Parts → ScriptParts → ℕ → ℕ
 begin_at spec script f = begin_in (reading_of spec (listed_below (row_at spec script) f)) f
 
--- Its first moving frame: the begin or the frame after it.
+-- The first moving frame of a reconfiguration: its begin, or the frame after it.
 abbrev pub first_moving_in : KMode → ℕ → ℕ
 first_moving_in (Stable c) begin = suc begin
 first_moving_in (Moving from halting to since) begin = begin
 
--- The same of a mission.
+-- The first moving frame of the reconfiguration of frame f of a mission.
 abbrev pub first_moving : Parts → ScriptParts → ℕ → ℕ
 first_moving spec script f = first_moving_in (decided spec script (begin_at spec script f)) (begin_at spec script f)
 
--- How many change frames there are after the first moving one and up to f.
+-- The number of change frames after the first moving frame, up to and including f.
 abbrev pub changes_since : Parts → ScriptParts → ℕ → ℕ
 changes_since spec script f = changes_upto spec script f - changes_upto spec script (first_moving spec script f)
 
--- A fact of each moving frame of a mission, the frame after the last one included.
+-- The property holds for each moving frame of a mission, including the frame after the last one.
 abbrev pub InMovingFrames : (Parts → ScriptParts → ℕ → ConfId → Option ConfId → ConfId → ℕ → Type 0) → Type 0
 InMovingFrames Fact = (spec : Parts) (script : ScriptParts) → IsSpec spec → IsMission (mission_of spec script)
     → (f : ℕ) (from : ConfId) (halting : Option ConfId) (to : ConfId) (since : ℕ) → f ≤ script.frames → decided spec script f ≡ Moving from halting to since
     → Fact spec script f from halting to since
 
--- The target can run, and was chosen from the source in an environment seen since the first moving frame;
--- where targets are chosen anew, in this frame's.
+-- The target can run, and was chosen from the source in an environment seen since the first moving frame. Under
+-- `Retarget` it was chosen in this frame's environment.
 pub record IsTargetChosen (spec : Parts) (script : ScriptParts) (f : ℕ) (from : ConfId) (halting : Option ConfId) (to : ConfId) (since : ℕ) : Type 0 where
   pub can_run : is_runnable spec to (env_at spec script f) ≡ true
   pub chosen_at : ℕ
@@ -64,37 +64,37 @@ pub record IsTargetChosen (spec : Parts) (script : ScriptParts) (f : ℕ) (from 
   pub chosen : choose spec from (env_at spec script chosen_at) ≡ to
   pub anew : spec.policy ≡ Retarget → choose spec from (env_at spec script f) ≡ to
 
--- In each frame of a reconfiguration of a mission its target was chosen.
+-- In each moving frame of a mission the target can run and was chosen.
 abbrev pub TargetsAreChosen : Type 0
 TargetsAreChosen = InMovingFrames IsTargetChosen
 
--- The halting phase ends in time: each further change puts it off by at most the slowest turn.
+-- The halting phase ends in time: each further change delays it by at most the slowest turn.
 abbrev pub HaltsInTime : Parts → ScriptParts → ℕ → ConfId → Option ConfId → ConfId → ℕ → Type 0
 HaltsInTime spec script f from halting to since =
     since + halting_frames spec halting ≤ first_moving spec script f + halting_time spec from + changes_since spec script f * slowest spec
 
--- In each frame of a reconfiguration of a mission its halting ends in time.
+-- In each moving frame of a mission the halting phase ends in time.
 abbrev pub HaltingEndsInTime : Type 0
 HaltingEndsInTime = InMovingFrames HaltsInTime
 
--- No frame is later than the one in which the phases are past.
+-- Frame f is no later than the frame in which the phases are past.
 abbrev pub SettlesInTime : Parts → ScriptParts → ℕ → ConfId → Option ConfId → ConfId → ℕ → Type 0
 SettlesInTime spec script f from halting to since = f ≤ since + halting_frames spec halting + preparing_time spec to + initialising_time spec to
 
--- In each frame of a reconfiguration of a mission its phases are past in time.
+-- Each moving frame of a mission is no later than its phases allow.
 abbrev pub PhasesArePastInTime : Type 0
 PhasesArePastInTime = InMovingFrames SettlesInTime
 
--- There are no more further changes than the bounds allow for.
+-- The number of further changes is within the number that the bounds allow for.
 abbrev pub SeesFewChanges : Parts → ScriptParts → ℕ → ConfId → Option ConfId → ConfId → ℕ → Type 0
 SeesFewChanges spec script f from halting to since = changes_since spec script f ≤ further spec.policy spec.changes
 
--- In each frame of a reconfiguration of a mission the environment has changed at most as often as assumed.
+-- In each moving frame of a mission the number of further changes is within the number that the bounds allow for.
 abbrev pub FurtherChangesAreFew : Type 0
 FurtherChangesAreFew = InMovingFrames SeesFewChanges
 
--- What comes of flying a mission: the one-thread trace, a row for each frame and no more reconfigurations than rows; all properties
--- hold of it.
+-- A finished flight is the one-thread trace of a mission, for which all properties hold. It has a row for each frame
+-- and at most as many reconfigurations as rows.
 pub record IsTraceOf (mission : MissionParts) (flown : Flown) : Type 0 where
   pub rows : flown.rows ≡ rows_of mission.spec mission.script
   pub reports : flown.reports ≡ reports_of mission.spec mission.script

@@ -1,5 +1,5 @@
--- The six properties of rows, and of what is reported of them. SP1 to SP5 speak of the reconfigurations that
--- are read off the rows, whatever is reported; SP6 speaks of calm rows.
+-- The six properties of rows and reports. SP1 to SP5 are properties of the reconfigurations that are read off the rows;
+-- SP6 is one of calm rows.
 use Rattle.std.specs.Prelude.{◌≡◌, ◌≢◌, ◌⊎◌, ℕ, suc, ◌<◌, ◌≤◌, ◌+◌, Bool, true, not, List, length, slice_get, Option, Some, None}
 use Rattle.scram_types.specs.declared.ids.ConfId.{ConfId}
 use Rattle.scram_types.specs.declared.rows.Env.{Env}
@@ -20,12 +20,12 @@ use Rattle.frame_model.specs.Readings.{reports}
 use Rattle.frame_model.specs.Runs.{act_at, running}
 use Rattle.frame_model.specs.States.{area_at}
 
--- There is a row f, and its environment is another than the one before.
+-- There is a row f, and its environment differs from that of the preceding row.
 pub record ChangesIn (spec : Parts) (rows : List Row) (f : ℕ) : Type 0 where
   pub inside : f < length rows
   pub differ : env_in rows f ≢ env_before spec rows f
 
--- SP1: what is reported is exactly what is read off the rows.
+-- SP1: the reports are exactly the reconfigurations that are read off the rows.
 abbrev pub HoldsSp1 : Parts → List Row → List Report → Type 0
 HoldsSp1 spec rows told = told ≡ reports spec rows
 
@@ -38,31 +38,32 @@ pub record IsChosen (spec : Parts) (rows : List Row) (r : Report) (j : ConfId) :
   pub stands : env_in rows frame ≡ Some seen
   pub chosen : choose spec r.from seen ≡ j
 
--- SP2 of a reconfiguration: its target was chosen meanwhile. An unfinished one has none.
+-- SP2 of a reconfiguration: its target was chosen during it. An unfinished reconfiguration has no target.
 abbrev pub KeepsSp2 : Parts → List Row → Report → Type 0
 KeepsSp2 spec rows r = (j : ConfId) → r.to ≡ Some j → IsChosen spec rows r j
 
--- The bound on a reconfiguration; on an unfinished one the greatest that is given from its source.
+-- The bound on a reconfiguration, or the greatest bound given from its source if it is unfinished.
 abbrev pub bound_on : Parts → ConfId → Option ConfId → Option ℕ
 bound_on spec from None = greatest_bound_in spec.bounds from.0
 bound_on spec from (Some j) = bound_in spec.bounds from.0 j.0
 
--- SP3 of a reconfiguration: a bound is given, and it took no longer. An unfinished one ends with the rows.
+-- SP3 of a reconfiguration: a bound is given, and the reconfiguration took no longer. An unfinished one ends with the
+-- rows.
 pub record KeepsSp3 (spec : Parts) (r : Report) : Type 0 where
   pub bound : ℕ
   pub given : bound_on spec r.from r.to ≡ Some bound
   pub in_time : r.end ≤ r.begin + bound
 
--- An invariant, or a precondition, holds in a row.
+-- A row keeps an invariant: the variable is within its interval.
 abbrev pub InvariantHolds : Invariant → Row → Type 0
 InvariantHolds inv row = Between (inv.least, inv.greatest) (word (area_at row.areas inv.app.0) inv.variable)
 
--- A row meets a precondition: the variable lies in its interval.
+-- A row meets a precondition: the variable is within its interval.
 abbrev pub PreconditionHolds : Precondition → Row → Type 0
 PreconditionHolds pre row = Between (pre.least, pre.greatest) (word (area_at row.areas pre.app.0) pre.variable)
 
--- SP4 of a reconfiguration: the invariants for its source hold in its rows, from the begin to the end or
--- to the last row; the preconditions of its target hold in the row before its end.
+-- SP4 of a reconfiguration: the invariants for its source hold in its rows, from the begin to the end or to the last
+-- row. The preconditions of its target hold in the row before its end.
 pub record KeepsSp4 (spec : Parts) (rows : List Row) (r : Report) : Type 0 where
   pub throughout : Each (λ (inv : Invariant). has_source inv.from r.from ≡ true → (f : ℕ) (row : Row) → r.begin ≤ f → f ≤ r.end
       → slice_get rows f ≡ Some row → InvariantHolds inv row) spec.invariants
@@ -81,12 +82,12 @@ pub record FollowsAnother (spec : Parts) (rows : List Row) (r : Report) : Type 0
   pub up_to : change ≤ before.end
   pub changes : ChangesIn spec rows change
 
--- SP5 of a reconfiguration: the environment changes as it begins, or in the row after; where targets are
--- settled first, it may have changed during the reconfiguration just before. Not asked in the last row.
+-- SP5 of a reconfiguration: the environment changes in its begin or in the row after it. Where targets are settled, it
+-- may also have changed during the reconfiguration just before. A begin in the last row is exempt.
 abbrev pub KeepsSp5 : Parts → List Row → Report → Type 0
 KeepsSp5 spec rows r = suc r.begin < length rows → ChangesIn spec rows r.begin ⊎ ChangesIn spec rows (suc r.begin) ⊎ FollowsAnother spec rows r
 
--- SP2 to SP5 of all reconfigurations that are read off the rows.
+-- Each reconfiguration that the rows show has a target that was chosen during it.
 abbrev pub HoldsSp2 : Parts → List Row → Type 0
 HoldsSp2 spec rows = Each (KeepsSp2 spec rows) (reports spec rows)
 
@@ -106,25 +107,24 @@ HoldsSp5 spec rows = Each (KeepsSp5 spec rows) (reports spec rows)
 abbrev pub LosesNone : Row → Type 0
 LosesNone row = (a : ℕ) → act_at row.acts a ≢ act.Lost
 
--- Row t is calm: its environment has been the same for as many frames as the greatest bound has, and no
--- application is lost in it.
+-- Row t is calm: its environment has held for the greatest bound, and no application is lost in it.
 pub record IsCalm (spec : Parts) (rows : List Row) (t : ℕ) (row : Row) : Type 0 where
   pub there : slice_get rows t ≡ Some row
   pub late : greatest_bound spec.bounds ≤ t
   pub still : (f : ℕ) → t ≤ f + greatest_bound spec.bounds → f ≤ t → env_in rows f ≡ Some row.env
   pub whole : LosesNone row
 
--- What runs in an environment satisfies the demands: it meets each one that speaks of the environment and asks of it;
--- where nothing runs, none speaks of the environment.
+-- The running configuration meets the demands that match the environment. If no configuration runs, no demand matches
+-- the environment.
 abbrev pub satisfies : Parts → Env → Option ConfId → Bool
 satisfies spec v None = not (is_spoken_of spec v)
 satisfies spec v (Some c) = meets_all spec c v
 
--- What runs in a row satisfies the demands.
+-- The configuration that runs in a row satisfies the demands.
 abbrev pub is_satisfied : Parts → Row → Bool
 is_satisfied spec row = satisfies spec row.env (running spec row.acts)
 
--- SP6: what runs in each calm row satisfies the demands.
+-- SP6: the configuration that runs in each calm row satisfies the demands.
 abbrev pub HoldsSp6 : Parts → List Row → Type 0
 HoldsSp6 spec rows = (t : ℕ) (row : Row) → IsCalm spec rows t row → is_satisfied spec row ≡ true
 

@@ -1,4 +1,4 @@
-//! Which property is broken, and where.
+//! Breaks of properties, and their frames.
 
 ghost use Rattle.std.specs.Prelude.{◌≡◌};
 ghost use Rattle.trace_props.specs.Breaks.{property_number};
@@ -7,17 +7,17 @@ ghost use Rattle.trace_props.specs.Judging.{broken_at, comes_before, earlier};
 /// One of the six properties of a flight.
 #[derive(Clone, Copy, Debug, PartialEq, Eq)]
 pub enum Property {
-    /// What is reported is exactly what is read off the rows.
+    /// The reports are exactly the reconfigurations that are read off the rows.
     Sp1,
     /// The target was chosen in the environment of some row of the reconfiguration.
     Sp2,
     /// A bound is given, and the reconfiguration took no longer.
     Sp3,
-    /// The invariants for the source hold throughout, the target's preconditions before the end.
+    /// The invariants for the source hold throughout, and the target's preconditions hold before the end.
     Sp4,
     /// The reconfiguration begins because the environment changed.
     Sp5,
-    /// What runs in each calm row satisfies the demands.
+    /// The configuration that runs in each calm row satisfies the demands.
     Sp6,
 }
 
@@ -40,14 +40,14 @@ impl Property {
     }
 }
 
-/// A property that does not hold, and a frame in which it is broken.
+/// A property that does not hold, with a frame in which it is broken.
 #[derive(Clone, Copy, Debug, PartialEq, Eq)]
 pub struct Broken {
     pub property: Property,
     pub frame: u32,
 }
 
-// Returns a break of a property, if there is a frame in which it is broken.
+// Returns the break of a property in a frame, or `None` if there is no frame.
 pub(crate) fn broken_at(property: Property, frame: Option<u32>) -> Option<Broken>
     ensures { result ≡ broken_at property frame }
 {
@@ -57,7 +57,7 @@ pub(crate) fn broken_at(property: Property, frame: Option<u32>) -> Option<Broken
     }
 }
 
-// Returns the one of two breaks that comes first.
+// Returns the break that comes first of two, or the only one.
 pub(crate) fn earlier(one: Option<Broken>, other: Option<Broken>) -> Option<Broken>
     ensures { result ≡ earlier one other }
 {

@@ -1,4 +1,4 @@
-//! Whether a reconfiguration began because the environment changed.
+//! The causes of reconfigurations: changes of the environment (SP5).
 
 ghost use Rattle.std.specs.Prelude.{◌≡◌, ◌+◌, ◌-◌};
 ghost use Rattle.scram_types.specs.Searches.{least_from};
@@ -8,8 +8,8 @@ ghost use Rattle.trace_props.specs.Judging.{causeless_at, changes_in, follows, h
 use scram_types::lookups::{env_before, env_in};
 use scram_types::{Env, Policy, Report, Row, Spec};
 
-// Returns the frame in which SP5 is broken: the begin, where the environment changed neither in it nor in the next,
-// and not in a reconfiguration just before either. It is not asked in the last row.
+// Returns the frame in which SP5 is broken, or `None` if it is kept. The frame is the begin, if the environment changed
+// neither in it, nor in the next frame, nor during a reconfiguration just before. A begin in the last row is exempt.
 pub(crate) fn causeless_at(
     spec: &Spec,
     rows: &[Row],
@@ -35,8 +35,8 @@ fn has_cause(spec: &Spec, rows: &[Row], before: Option<Report>, read: Report) ->
         || follows(spec, rows, before, read)
 }
 
-// Returns whether the targets are settled, and another reconfiguration ended in the row before and saw a change after
-// its begin.
+// Returns whether the targets are settled, and another reconfiguration ended in the preceding row and saw a change
+// after its begin.
 fn follows(spec: &Spec, rows: &[Row], before: Option<Report>, read: Report) -> bool
     ensures { result ≡ follows spec.now rows.now before read }
 {
@@ -59,7 +59,8 @@ fn settles(policy: Policy) -> bool
     }
 }
 
-// Returns the first row of a reconfiguration after its begin in which the environment changes.
+// Returns the first row of a reconfiguration after its begin in which the environment changes, or `None` if there is
+// none.
 fn first_change(spec: &Spec, rows: &[Row], read: Report) -> Option<usize>
     ensures { result ≡ least_from (changes_in spec.now rows.now) (read.begin + 1) (read.end + 1 - (read.begin + 1)) }
 {
@@ -71,7 +72,7 @@ fn first_change(spec: &Spec, rows: &[Row], read: Report) -> Option<usize>
     None
 }
 
-// Returns whether there is a row of this frame, and its environment is another than the one before.
+// Returns whether row `frame` exists and its environment differs from that of the preceding row.
 fn changes_in(spec: &Spec, rows: &[Row], frame: usize) -> bool
     ensures { result ≡ changes_in spec.now rows.now frame }
 {

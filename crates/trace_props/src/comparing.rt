@@ -1,20 +1,20 @@
-//! What is reported, compared with what is read off the rows.
+//! The reports, compared with the reconfigurations that are read off the rows (SP1).
 
 ghost use Rattle.std.specs.Prelude.{◌≡◌};
 ghost use Rattle.trace_props.specs.Judging.{compare, difference, is_same_report, is_same_target};
 
 use scram_types::{ConfId, Report};
 
-/// How far two lists have been found to agree.
+/// The agreement of two lists that has been found so far.
 #[derive(Clone, Copy, Debug, PartialEq, Eq)]
 pub(crate) enum Agreement {
-    /// This number of reconfigurations are reported as they are read.
+    /// The first reconfigurations, of this number, are reported as they are read.
     Alike(usize),
-    /// The next one is not: the frame in which it began.
+    /// The next reconfiguration is not reported as it is read. The frame is the smaller begin of the two.
     Apart(u32),
 }
 
-// Compares the next reconfiguration that is read with the report of it.
+// Compares the next reconfiguration that is read with its report.
 pub(crate) fn compare(told: &[Report], so_far: Agreement, read: Report) -> Agreement
     ensures { result ≡ compare told.now so_far read }
 {
@@ -33,7 +33,8 @@ pub(crate) fn compare(told: &[Report], so_far: Agreement, read: Report) -> Agree
     }
 }
 
-// Returns where the lists differ once all is read: what is reported beyond is not as it is read either.
+// Returns the frame in which the lists differ once all is read, or `None` if they agree. Any further report is a
+// difference.
 pub(crate) fn difference(told: &[Report], so_far: Agreement) -> Option<u32>
     ensures { result ≡ difference told.now so_far }
 {

@@ -1,4 +1,4 @@
-//! Whether what runs satisfies the demands once the environment has held for the greatest bound.
+//! The demands on the running configuration once the environment has held for the greatest bound (SP6).
 
 ghost use Rattle.std.specs.Prelude.{◌≡◌, ◌<◌, ◌^◌, length, slice_get};
 ghost use Rattle.trace_props.specs.Judging.{breaks_after, held_by, is_lost, is_unsatisfied, loses_some, unsatisfied_at, unsatisfied_in};
@@ -11,7 +11,7 @@ use frame_model::running;
 use scram_types::lookups::env_in;
 use scram_types::{Act, ConfId, Env, Row, Spec};
 
-// Returns the frame of the first calm row in which what runs does not satisfy the demands.
+// Returns the frame of the first calm row that does not satisfy the demands, or `None` if there is none.
 pub(crate) fn unsatisfied_at(spec: &Spec, rows: &[Row]) -> Option<u32>
     requires { length rows.now < 2 ^ 32 }
     ensures { result ≡ unsatisfied_at spec.now rows.now }
@@ -27,7 +27,7 @@ pub(crate) fn unsatisfied_at(spec: &Spec, rows: &[Row]) -> Option<u32>
     None
 }
 
-// Returns the frame since which the environment is that of a row, by the one since which it is that of the row before.
+// Returns the first frame from which on the environment is that of row `frame`, given that frame for the preceding row.
 fn held_by(rows: &[Row], frame: usize, since: usize) -> usize
     ensures { result ≡ held_by rows.now frame since }
 {
@@ -90,7 +90,7 @@ fn is_satisfied(spec: &Spec, row: &Row) -> bool
     satisfies(spec, &row.env, running(spec, &row.acts))
 }
 
-// Returns whether what runs in an environment satisfies the demands.
+// Returns whether the running configuration satisfies the demands in an environment.
 fn satisfies(spec: &Spec, env: &Env, running: Option<ConfId>) -> bool
     ensures { result ≡ satisfies spec.now env.now running }
 {

@@ -1,4 +1,4 @@
-//! A finished trace, judged by the six properties.
+//! The judgement of a finished trace by the six properties.
 
 ghost use Rattle.std.specs.Prelude.{◌≡◌, ◌<◌, ◌^◌, ◌↔◌, IfErr, IsOk, length};
 ghost use Rattle.trace_props.specs.Breaks.{HoldsWhereUnbroken, IsFirstBreak};
@@ -14,15 +14,15 @@ use crate::targets::{late_at, unchosen_at};
 use frame_model::{Reading, close, read_row};
 use scram_types::{Report, Row, Spec};
 
-/// Judges rows, the first of which is that of frame 0, and what is reported of them, by SP1 to SP6. It judges by any
-/// specification, also by one that is not accepted.
+/// Judges rows, the first of which is the row of frame 0, and their reports by SP1 to SP6. The specification need not
+/// be accepted.
 ///
 /// # Errors
 ///
-/// The first break: the least frame in which a property is broken, and of several that are broken in it
-/// the one with the least number. SP1 is broken in the lesser begin at the first place where what is
-/// reported and what is read differ, SP2 in the end of a reconfiguration, SP3 in the end or the last row,
-/// SP4 in a row, SP5 in the begin, SP6 in a calm row.
+/// Returns the first break: the first frame in which a property is broken and, of the properties that are broken in it,
+/// the one with the smallest number. SP1 is broken in the smaller begin at the first index at which reports and rows
+/// differ. SP2 is broken in the end of a reconfiguration, SP3 in the end or the last row, SP4 in a row, SP5 in the
+/// begin, and SP6 in a calm row.
 pub fn props(spec: &Spec, rows: &[Row], told: &[Report]) -> Result<(), Broken>
     requires { length rows.now < 2 ^ 32 }
     ensures holds { IsOk result ↔ HoldsAll spec.now rows.now told.now }
@@ -34,15 +34,15 @@ pub fn props(spec: &Spec, rows: &[Row], told: &[Report]) -> Result<(), Broken>
     }
 }
 
-/// SP1 to SP6 hold exactly where none of them is broken in any frame.
+/// SP1 to SP6 hold exactly if none of them is broken in any frame.
 pub fn holds_where_unbroken()
     ensures { HoldsWhereUnbroken }
 {}
 
-/// What has been judged so far.
+/// The judgement of the reconfigurations so far.
 #[derive(Clone, Copy, Debug, PartialEq, Eq)]
 pub(crate) struct Judgement {
-    /// How far what is reported agrees with what is read.
+    /// The agreement of the reports with the reconfigurations that are read.
     pub agreement: Agreement,
     /// The first break of SP2 to SP5.
     pub broken: Option<Broken>,
@@ -60,7 +60,7 @@ fn first_break(spec: &Spec, rows: &[Row], told: &[Report]) -> Option<Broken>
     )
 }
 
-// Returns the first break of SP1 to SP5.
+// Returns the first break of SP1 to SP5, or `None` if they hold.
 fn first_in_reports(spec: &Spec, rows: &[Row], told: &[Report]) -> Option<Broken>
     requires { length rows.now < 2 ^ 32 }
     ensures { result ≡ first_in_reports spec.now rows.now told.now }
@@ -104,7 +104,8 @@ fn judge(
     }
 }
 
-// Returns the first break of SP2 to SP5 by a reconfiguration, where `before` was read just before it.
+// Returns the first break of SP2 to SP5 by a reconfiguration, given the reconfiguration `before` that was read just
+// before it.
 fn broken_in(spec: &Spec, rows: &[Row], before: Option<Report>, read: Report) -> Option<Broken>
     ensures { result ≡ broken_in spec.now rows.now before read }
 {

@@ -1,4 +1,4 @@
-//! Whether a reconfiguration's rows keep the invariants for its source and meet its target's preconditions.
+//! The invariants for a reconfiguration's source and the preconditions of its target (SP4).
 
 ghost use Rattle.std.specs.Prelude.{◌≡◌, ◌+◌, ◌-◌};
 ghost use Rattle.scram_types.specs.Searches.{least_from};
@@ -9,8 +9,8 @@ ghost use Rattle.trace_props.specs.Judging.{breaks_at, breaks_target_preconditio
 
 use scram_types::{AppId, Area, ConfId, Invariant, Precondition, Report, Row, Spec};
 
-// Returns the least frame in which SP4 is broken: that of a row that does not keep an invariant, or the one before
-// the end, where a precondition of the target is not met.
+// Returns the first frame in which SP4 is broken, or `None` if it is kept. The row of the frame does not keep an
+// invariant, or it is the row before the end and does not meet a precondition of the target.
 pub(crate) fn unkept_at(spec: &Spec, rows: &[Row], read: Report) -> Option<u32>
     ensures { result ≡ unkept_at spec.now rows.now read }
 {
@@ -21,7 +21,7 @@ pub(crate) fn unkept_at(spec: &Spec, rows: &[Row], read: Report) -> Option<u32>
     least
 }
 
-// Returns the least frame in which an invariant is broken, if it speaks of the source.
+// Returns the first frame in which an invariant is broken, or `None` if it is kept or is not for the source.
 fn unkept_from(rows: &[Row], read: Report, inv: &Invariant) -> Option<u32>
     ensures { result ≡ unkept_from rows.now read inv.now }
 {
@@ -58,7 +58,7 @@ fn breaks_invariant(row: &Row, inv: &Invariant) -> bool
     !lies_in(inv.least, inv.greatest, word_in(row, inv.app, inv.variable))
 }
 
-// Returns the frame before the end, where its row does not meet some precondition of the target.
+// Returns the frame before the end if its row does not meet some precondition of the target.
 fn unmet_at(spec: &Spec, rows: &[Row], read: Report) -> Option<u32>
     ensures { result ≡ unmet_at spec.now rows.now read }
 {
@@ -110,7 +110,7 @@ fn goes_to(to: Option<ConfId>, conf: ConfId) -> bool
     }
 }
 
-// Returns a word of an application's area, 0 where there is none.
+// Returns a word of an application's area, or 0 if there is no such word.
 fn word_in(row: &Row, app: AppId, variable: u8) -> i64
     ensures { result ≡ word (area_at row.now.areas app.0) variable }
 {
@@ -139,7 +139,7 @@ fn lies_in(low: i64, high: i64, word: i64) -> bool
     low <= word && word <= high
 }
 
-// Returns the lesser of two frames, or the one that is there.
+// Returns the smaller of two frames, or the only one.
 fn lesser_frame(one: Option<u32>, other: Option<u32>) -> Option<u32>
     ensures { result ≡ lesser_frame one other }
 {

@@ -1,9 +1,8 @@
-//! What reconfigurations keep: for every accepted specification and every script within its assumption,
-//! each reconfiguration that the rows show goes to a target that the table chose meanwhile, ends within
-//! the table's frames, keeps its invariants throughout and meets the target's preconditions at its end,
-//! and begins because the environment changed, unless it begins in the last row; and once the environment
-//! has held for the greatest bound, what runs satisfies the demands. A finished trace is judged by the same
-//! properties.
+//! The properties of reconfigurations, for every accepted specification and every script within its assumption. Each
+//! reconfiguration that the rows show goes to a target that the table chose during it, and ends within the given bound.
+//! It keeps its invariants throughout and meets the target's preconditions at its end. It begins because the
+//! environment changed, unless it begins in the last row. Once the environment has held for the greatest bound, the
+//! running configuration satisfies the demands. A finished trace is judged by the same properties.
 #![tactic(auto)]
 
 pub mod breaks;

@@ -1,4 +1,4 @@
-//! Whether a reconfiguration's target was chosen meanwhile, and whether it ended in time.
+//! The choice of a reconfiguration's target, and its bound (SP2 and SP3).
 
 ghost use Rattle.std.specs.Prelude.{◌≡◌, ◌+◌, ◌-◌};
 ghost use Rattle.scram_types.specs.Searches.{least_from};
@@ -9,7 +9,7 @@ ghost use Rattle.trace_props.specs.Properties.{bound_on};
 use choice_table::choose;
 use scram_types::{ConfId, Report, Row, Spec};
 
-// Returns the frame in which SP2 is broken: the end, where no row's environment chooses the target.
+// Returns the frame in which SP2 is broken: the end, if no row's environment chooses the target.
 pub(crate) fn unchosen_at(spec: &Spec, rows: &[Row], read: Report) -> Option<u32>
     ensures { result ≡ unchosen_at spec.now rows.now read }
 {
@@ -22,7 +22,8 @@ pub(crate) fn unchosen_at(spec: &Spec, rows: &[Row], read: Report) -> Option<u32
     }
 }
 
-// Returns the first frame of a reconfiguration in whose environment the table chooses a configuration.
+// Returns the first frame of a reconfiguration in whose environment the table chooses configuration `to`, or `None` if
+// there is none.
 fn first_choice(spec: &Spec, rows: &[Row], read: Report, to: ConfId) -> Option<usize>
     ensures { result ≡ least_from (chooses spec.now rows.now read.from to) read.begin (read.end + 1 - read.begin) }
 {
@@ -43,7 +44,7 @@ fn chooses(spec: &Spec, rows: &[Row], from: ConfId, to: ConfId, frame: usize) ->
     }
 }
 
-// Returns the frame in which SP3 is broken: the last one, where no bound is given or it took longer.
+// Returns the frame in which SP3 is broken: the last frame, if no bound is given or the reconfiguration took longer.
 pub(crate) fn late_at(spec: &Spec, read: Report) -> Option<u32>
     ensures { result ≡ late_at spec.now read }
 {
