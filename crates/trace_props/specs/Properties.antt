@@ -114,8 +114,8 @@ pub record IsCalm (spec : Parts) (rows : List Row) (t : ℕ) (row : Row) : Type 
   pub still : (f : ℕ) → t ≤ f + greatest_bound spec.bounds → f ≤ t → env_in rows f ≡ Some row.env
   pub whole : LosesNone row
 
--- The running configuration meets the demands that match the environment. If no configuration runs, no demand matches
--- the environment.
+-- The running configuration meets each demand that matches the environment and applies to the configuration. If no
+-- configuration runs, no demand matches the environment.
 abbrev pub satisfies : Parts → Env → Option ConfId → Bool
 satisfies spec v None = not (is_spoken_of spec v)
 satisfies spec v (Some c) = meets_all spec c v
