@@ -1,4 +1,4 @@
--- Worked missions: computed, and compared with what another program made of their numbers.
+-- Worked missions, computed and compared with the results of another program.
 use Rattle.std.proofs.Common.{◌≡◌, refl, ℕ, List, [], ◌∷◌, length}
 use Rattle.std.specs.Prelude.{replicate}
 use Rattle.scram_types.specs.declared.scripts.Change.{Change}

@@ -1,4 +1,4 @@
--- The script of a mission's number fits a specification with the factors and processors that it names.
+-- The script of a mission fits each specification with the factors and processors that it names.
 use Rattle.std.proofs.Common.{◌≡◌, refl, ap, sym, ◌∙◌, ℕ, zero, suc, ◌+◌, ◌*◌, ◌<◌, ◌≤◌, arith, List, [], ◌∷◌, length, subst, replicate}
 use Rattle.std.specs.Prelude.{Bool, true, false, Some, if◌then◌else◌, map, nat_lt, slice_get}
 use Rattle.std.proofs.Math.Nat.{mod-lt}
@@ -13,8 +13,8 @@ use Rattle.mission_gen.specs.Changes.{change_by, changes_by, count_of_values, fr
 use Rattle.mission_gen.specs.Turns.{Turn, turns_to}
 use Rattle.mission_gen.proofs.Ordering.{AreTurns, IsTurn, Precedes, Sorted, turns_kept}
 
--- What a generated script asks of a specification: two processors, three applications, a failure assumption, and two
--- factors of two values and four of four.
+-- The counts that a generated script requires of a specification: two processors, three applications, a failure
+-- assumption, and two factors of two values and four of four.
 pub record HasCounts (spec : Parts) : Type 0 where
   pub procs : length spec.procs ≡ 2
   pub apps : length spec.apps ≡ 3

@@ -1,11 +1,11 @@
--- The turns of a mission: in which frames they are, and in which order.
+-- The turns of a mission: their frames and their order.
 use Rattle.std.proofs.Common.{◌≡◌, refl, ℕ, zero, suc, ◌+◌, ◌-◌, ◌*◌, ◌/◌, ◌%◌, ◌<◌, ◌≤◌, arith, List, [], ◌∷◌, ◌++◌, length, inl, inr}
 use Rattle.std.specs.Prelude.{Bool, true, false, if◌then◌else◌, ◌==◌}
 use Rattle.fault_script.specs.Fits.{Before}
 use Rattle.mission_gen.specs.Blocks.{alternator, delay, first_frame, random, turns_both}
 use Rattle.mission_gen.specs.Turns.{Turn, turn, turns_in, turns_to}
 
--- A turn of a factor that there is, in a frame from low on and below high.
+-- A turn of a factor that exists, in a frame from low on and below high.
 pub record IsTurn (low high : ℕ) (t : Turn) : Type 0 where
   pub from : low ≤ t.frame
   pub below : t.frame < high
@@ -24,7 +24,7 @@ abbrev pub Sorted : List Turn → Type 0
 Sorted [] = Unit {0}
 Sorted (t ∷ ts) = Precedes t ts × Sorted ts
 
--- What is kept of a list of turns.
+-- The invariant of a list of turns.
 pub record Kept (low high most : ℕ) (ts : List Turn) : Type 0 where
   pub turns : AreTurns low high ts
   pub sorted : Sorted ts
@@ -55,7 +55,7 @@ length_more : (xs ys : List Turn) → length (xs ++ ys) ≡ length xs + length y
 length_more [] ys = omega arith
 length_more (x ∷ xs) ys = let known = length_more xs ys in omega (arith, known)
 
--- the turns of a block, by what its three tests say
+-- the turns of a block, by the results of its three tests
 block_kept : (k x : ℕ) (fifth third other : Bool) →
     Kept (60 * k) (60 * k + 16) 3
     (if fifth then []

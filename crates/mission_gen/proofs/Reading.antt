@@ -37,7 +37,7 @@ abbrev pub is_ok : {A E : Type 0} → Result A E → Bool
 is_ok (Ok a) = true
 is_ok (Err e) = false
 
--- how many processors and applications there are, what the failure assumption is, and how many values each factor has
+-- the numbers of processors and applications, the failure assumption, and the number of values of each factor
 abbrev pub counts_in : Parts → List ℕ
 counts_in spec = length spec.procs ∷ length spec.apps ∷ spec.halts ∷ spec.changes ∷ spec.window ∷ map (λ (factor : Factor). length factor.values) spec.factors
 
@@ -107,7 +107,7 @@ generated_counts spec given =
     let read : counts (Ok spec) ≡ counts (reading generated_text) = ap counts (sym given ∙ plain_read generated_text generated_is_plain) in
     has_counts spec (same_Some _ _ (read ∙ generated_reads))
 
--- the canonical text of what was read
+-- the canonical text of the specification that was read
 abbrev canonical : Result Parts DocFault → List ℕ
 canonical (Ok spec) = spec_text spec
 canonical (Err fault) = []

@@ -28,7 +28,7 @@ turned_more a b c xs ys first second = record {
       ∙ sym (ap (λ (changes : List Change). a.changes.items ++ changes) (changes_more a.values xs ys));
 }
 
--- The blocks 1 to k were gone through.
+-- The walk has passed the blocks 1 to k.
 pub record Walked (n k : ℕ) (walk : Walk) : Type 0 where
   pub random : walk.random ≡ random n k
   pub values : walk.values ≡ values_after (replicate 6 0) (turns_to n k)

@@ -23,7 +23,8 @@ use Rattle.mission_gen.specs.Changes.{changes_by, changes_of, frames_of, generat
 use Rattle.mission_gen.specs.Turns.{Turn, turn, turns_in, turns_to}
 use Rattle.mission_gen.proofs.Fitting.{HasCounts}
 
--- In a block there are two frames in which the environment may change: in the fifth, the halt's next one alone.
+-- In a block there are two frames in which the environment may change; in the fifth block, only the frame after the
+-- halt.
 
 abbrev first_event : ℕ → ℕ → ℕ
 first_event n k = first_frame k (random n k)
@@ -70,7 +71,7 @@ turns_are_events n (suc k) =
     events_more n (turns_to n k) (turns_in (suc k) (random n (suc k))) (turns_are_events n k)
     (block_events n (suc k) (suc k == 5) (suc k % 3 == 0) (turns_both (random n (suc k))) refl)
 
--- Where nothing turns in a frame, the factors keep their values.
+-- If nothing turns in a frame, the factors keep their values.
 
 abbrev turns_at : ℕ → List Turn → Bool
 turns_at f ts = list_any (λ (t : Turn). t.frame == f) ts
@@ -131,7 +132,7 @@ few_down : (frames : ℕ) (changes : List Change) (h : HaltAt) (f : ℕ) → dow
 few_down frames changes h f =
     rw (up_is frames changes h 0 f, up_is frames changes h 1 f) (one_down (h.proc.0 == 0) (h.proc.0 == 1) (nat_lt h.frame f) (apart_of h.proc.0))
 
--- The environment changes in the frames of events alone.
+-- The environment changes only in the frames of events.
 
 same_env : (v w : Env) → v ≡ w → is_same_env v w ≡ true
 same_env v w same = rw (← same) (both_same (v.up == v.up) (bytes_eq v.factors v.factors) (itself v.up) ((bytes_eq-Decides v.factors v.factors).1 refl))
@@ -244,7 +245,7 @@ two_changes spec script first second g (suc m) only =
           omega (arith, before, was, came, p))
     ]
 
--- Forty frames hold events of one block alone.
+-- Forty frames hold events of only one block.
 
 delay_few : (x : ℕ) (fifth : Bool) → (if fifth then 1 else delay x) ≤ 8
 delay_few x true = omega arith

@@ -1,4 +1,4 @@
--- The changes that turns make, and the script of a mission's number.
+-- The changes that turns make, and the script of mission n.
 use Rattle.std.specs.Prelude.{ℕ, ◌+◌, ◌-◌, ◌*◌, ◌/◌, ◌%◌, List, [], ◌∷◌, nat_lt, replicate, set, slice_index, if◌then◌else◌}
 use Rattle.scram_types.specs.declared.scripts.Change.{Change}
 use Rattle.scram_types.specs.declared.scripts.HaltAt.{HaltAt}
@@ -6,49 +6,49 @@ use Rattle.scram_types.specs.Scripts.{ScriptParts}
 use Rattle.mission_gen.specs.Blocks.{first_frame, random}
 use Rattle.mission_gen.specs.Turns.{Turn, turns_to}
 
--- The two alternators have two values, and the further factors four.
+-- The number of values of a factor: two for each of the two alternators, and four for each further factor.
 abbrev pub count_of_values : ℕ → ℕ
 count_of_values factor = if nat_lt factor 2 then 2 else 4
 
--- the value after this one, and the first one after the last
+-- The value after this one, or the first value after the last.
 abbrev pub next_value : ℕ → ℕ → ℕ
 next_value factor value = (value + 1) % count_of_values factor
 
--- the value to which a factor goes from those in force
+-- The value that a turn gives its factor, from the current values.
 abbrev pub value_by : List ℕ → Turn → ℕ
 value_by values turn = next_value turn.factor (slice_index values turn.factor)
 
--- The change that a turn makes, where the factors have these values.
+-- The change that a turn makes, from the current values.
 abbrev pub change_by : List ℕ → Turn → Change
 change_by values turn = record { frame = turn.frame; factor = record { 0 = turn.factor }; value = value_by values turn }
 
--- the values in force after a turn
+-- The values after a turn.
 abbrev pub values_by : List ℕ → Turn → List ℕ
 values_by values turn = set values turn.factor (value_by values turn)
 
--- The changes that turns make one after another, where the factors have these values before them.
+-- The changes that turns make in order, from the values before them.
 abbrev pub changes_by : List ℕ → List Turn → List Change
 changes_by values [] = []
 changes_by values (turn ∷ turns) = change_by values turn ∷ changes_by (values_by values turn) turns
 
--- the values in force after some turns
+-- The values after some turns.
 abbrev pub values_after : List ℕ → List Turn → List ℕ
 values_after values [] = values
 values_after values (turn ∷ turns) = values_after (values_by values turn) turns
 
--- A script has 1,000 to 19,000 frames.
+-- The number of frames of a script, 1,000 to 19,000.
 abbrev pub frames_of : ℕ → ℕ
 frames_of n = 1000 + 1000 * (n % 19)
 
--- The last block k with 60 k + 20 up to the number of frames.
+-- The last block k such that 60 k + 20 is at most the number of frames.
 abbrev pub last_block : ℕ → ℕ
 last_block frames = (frames - 20) / 60
 
--- Each factor begins with its first value.
+-- The changes of a script, in which each factor begins with its first value.
 abbrev pub changes_of : ℕ → ℕ → List Change
 changes_of n frames = changes_by (replicate 6 0) (turns_to n (last_block frames))
 
--- the halt in the fifth block
+-- The halt in the fifth block.
 abbrev pub generated_halt : ℕ → HaltAt
 generated_halt n = record { proc = record { 0 = n % 2 }; frame = first_frame 5 (random n 5); step = random n 5 % 26 }
 

@@ -1,4 +1,4 @@
--- The texts of the specifications and of missions, and what texts give.
+-- The texts of the specifications and of missions, and the specifications that texts give.
 use Rattle.std.specs.Prelude.{◌≡◌, ℕ, List, [], ◌∷◌, ◌++◌, Ok, codes}
 use Rattle.scram_types.specs.declared.specification.Factor.{Factor}
 use Rattle.scram_types.specs.Scripts.{ScriptParts}
@@ -8,24 +8,24 @@ use Rattle.reconf_spec.specs.Documents.{spec_of}
 use Rattle.spec_text.specs.Texts.{spec_text}
 use Rattle.mission_gen.specs.declared.texts.TheConstants.{GENERATED, UAV}
 
--- the aircraft with two alternators and two computers
+-- The text of the aircraft with two alternators and two computers.
 unfoldable pub uav_text : List ℕ
 uav_text = UAV.now
 
--- the same aircraft with four further factors
+-- The text of the same aircraft with four further factors.
 unfoldable pub generated_text : List ℕ
 generated_text = GENERATED.now
 
--- the canonical texts of a specification and of a script, a line each
+-- The canonical texts of a specification and of a script, a line each.
 abbrev pub mission_text : Parts → ScriptParts → List ℕ
 mission_text spec script = spec_text spec ++ codes "\n" ++ script_text spec script ++ codes "\n"
 
--- The text is that of a specification.
+-- The text is the text of a specification.
 pub record GivesSpecification (text : List ℕ) : Type 0 where
   pub spec : Parts
   pub given : spec_of text ≡ Ok spec
 
--- a further factor, with four values
+-- A further factor, which has four values.
 abbrev pub further_factor : List ℕ → Factor
 further_factor name = record { name = name; values = codes "v0" ∷ codes "v1" ∷ codes "v2" ∷ codes "v3" ∷ [] }
 

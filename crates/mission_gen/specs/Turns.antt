@@ -1,8 +1,8 @@
--- Which factors a mission's blocks turn, and when.
+-- The turns of a mission's blocks: which factors change, and in which frames.
 use Rattle.std.specs.Prelude.{ℕ, zero, suc, ◌+◌, ◌-◌, ◌/◌, ◌%◌, ◌==◌, List, [], ◌∷◌, ◌++◌, if◌then◌else◌}
 use Rattle.mission_gen.specs.Blocks.{alternator, delay, first_frame, random, turns_both}
 
--- In a frame, a factor goes to its next value.
+-- A turn: in this frame, the factor changes to its next value.
 pub record Turn : Type 0 where
   pub frame : ℕ
   pub factor : ℕ
@@ -11,21 +11,21 @@ pub record Turn : Type 0 where
 abbrev pub turn : ℕ → ℕ → Turn
 turn frame factor = record { frame = frame; factor = factor }
 
--- Every third block turns one of the four further factors.
+-- The turn of one of the four further factors, in every third block.
 abbrev pub aux_turns : ℕ → ℕ → List Turn
 aux_turns k frame = if k % 3 == 0 then turn frame (2 + (k / 3) % 4) ∷ [] else []
 
--- Where a block turns both alternators, the second one turns after a delay.
+-- The turn of the other alternator after a delay, if the block turns both.
 abbrev pub other_turns : ℕ → ℕ → List Turn
 other_turns frame x = if turns_both x then turn (frame + delay x) (1 - alternator x) ∷ [] else []
 
--- In the fifth block a processor halts, and nothing turns.
+-- The turns of block k, whose random number is x. In the fifth block a processor halts and nothing turns.
 abbrev pub turns_in : ℕ → ℕ → List Turn
 turns_in k x =
     if k == 5 then []
     else (turn (first_frame k x) (alternator x) ∷ aux_turns k (first_frame k x) ++ other_turns (first_frame k x) x)
 
--- what the blocks 1 to k turn
+-- The turns of the blocks 1 to k.
 abbrev pub turns_to : ℕ → ℕ → List Turn
 turns_to n zero = []
 turns_to n (suc k) = turns_to n k ++ turns_in (suc k) (random n (suc k))

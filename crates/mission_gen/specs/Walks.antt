@@ -1,17 +1,17 @@
--- What the generator does from block to block.
+-- The effect of turns and blocks on the generator's state.
 use Rattle.std.specs.Prelude.{◌≡◌, ℕ, List, ◌++◌}
 use Rattle.mission_gen.specs.declared.walks.Walk.{Walk}
 use Rattle.mission_gen.specs.Blocks.{next_random}
 use Rattle.mission_gen.specs.Changes.{changes_by, values_after}
 use Rattle.mission_gen.specs.Turns.{Turn, turns_in}
 
--- Some turns were made, and their changes added.
+-- The turns were made, and their changes added.
 pub record Turned (before after : Walk) (turns : List Turn) : Type 0 where
   pub random : after.random ≡ before.random
   pub values : after.values ≡ values_after before.values turns
   pub changes : after.changes.items ≡ before.changes.items ++ changes_by before.values turns
 
--- So were those of block k, by the next random number.
+-- The turns of block k, by the next random number, were made, and their changes added.
 pub record WalkedBlock (k : ℕ) (before after : Walk) : Type 0 where
   pub random : after.random ≡ next_random before.random
   pub values : after.values ≡ values_after before.values (turns_in k (next_random before.random))

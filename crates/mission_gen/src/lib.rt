@@ -1,5 +1,5 @@
-//! Missions made from a number: one specification for all of them, and a script that follows from the number alone,
-//! fits that specification and keeps to its failure assumption. Any mission is written as its two canonical texts.
+//! Missions made from a number: one specification for all of them, and a script that depends on the number alone, fits
+//! the specification and keeps to its failure assumption. A mission is written as its two canonical texts.
 #![tactic(auto)]
 
 mod missions;

@@ -1,4 +1,4 @@
-//! The aircraft's specification, and missions from a number.
+//! The aircraft's specification, and missions made from a number.
 
 ghost use Rattle.std.specs.Prelude.{◌≡◌, Ok, IfOk};
 ghost use Rattle.scram_doc.specs.Chain.{ok_map};
@@ -29,8 +29,8 @@ fn read_text(alloc: Global, text: &str) -> Result<Spec, NoMemory>
     }
 }
 
-/// Returns the specification of the aircraft: an autopilot that needs a flight control, a power monitor, two
-/// computers, two alternators that may fail.
+/// Returns the specification of the aircraft: an autopilot that needs a flight control, a power monitor, two computers,
+/// and two alternators that may fail.
 ///
 /// # Errors
 ///
@@ -75,8 +75,8 @@ fn make_script(alloc: Global, n: u32) -> Result<Script, NoMemory>
     })
 }
 
-/// Returns the mission of a number: the aircraft with four further factors, and a script of 1,000 to 19,000 frames,
-/// which fits that specification and keeps to its failure assumption.
+/// Returns mission `n`: the aircraft with four further factors, and a script of 1,000 to 19,000 frames, which fits that
+/// specification and keeps to its failure assumption.
 ///
 /// # Errors
 ///

@@ -1,9 +1,9 @@
-//! The generator's random numbers, and what each says of its block.
+//! The generator's random numbers, and the events of a block that follow from each.
 
 ghost use Rattle.std.specs.Prelude.{◌≡◌, ◌<◌, ◌≤◌, ◌^◌};
 ghost use Rattle.mission_gen.specs.Blocks.{alternator, choice, delay, first_frame, next_random, random, turns_both};
 
-/// Returns the random number that follows, below 2^31.
+/// Returns the random number that follows `x`, below 2^31.
 pub(crate) fn next_random(x: u32) -> u32
     ensures value { result ≡ next_random x }
     ensures small { result < 2 ^ 31 }
@@ -22,7 +22,7 @@ pub(crate) fn random(n: u32, k: u32) -> u32
     x
 }
 
-/// Returns the frame in which something first happens in block `k`, whose random number is `x`.
+/// Returns the frame of the first event in block `k`, whose random number is `x`.
 pub(crate) fn first_frame(k: u32, x: u32) -> u32
     requires { k ≤ 1000 }
     ensures { result ≡ first_frame k x }
@@ -30,7 +30,7 @@ pub(crate) fn first_frame(k: u32, x: u32) -> u32
     60 * k + x / 256 % 8
 }
 
-/// Returns how many frames after that the other alternator changes.
+/// Returns the number of frames after which the other alternator changes.
 pub(crate) fn delay(x: u32) -> u32
     ensures value { result ≡ delay x }
     ensures most { result ≤ 8 }

@@ -1,5 +1,5 @@
-//! The canonical texts of the specifications: compact JSON, in which the members of an object stand in the order
-//! of their bytes.
+//! The canonical texts of the specifications: compact JSON, in which the members of an object are sorted by their
+//! bytes.
 
 ghost use Rattle.std.specs.Prelude.{◌≡◌};
 ghost use Rattle.mission_gen.specs.Specifications.{generated_text, uav_text};
@@ -109,10 +109,10 @@ macro_rules! aircraft {
     };
 }
 
-/// An aircraft with two alternators and two computers.
+/// The text of an aircraft with two alternators and two computers.
 const UAV: &str = aircraft!();
 
-/// The same aircraft with four further factors, which the generated scripts change.
+/// The text of the same aircraft with four further factors, which the generated scripts change.
 const GENERATED: &str = aircraft!(
     r#",{"name":"aux0","values":["v0","v1","v2","v3"]}"#,
     r#",{"name":"aux1","values":["v0","v1","v2","v3"]}"#,

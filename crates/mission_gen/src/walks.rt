@@ -1,4 +1,4 @@
-//! The changes of a generated script, block after block.
+//! The changes of a generated script, block by block.
 
 ghost use Rattle.std.specs.Prelude.{◌≡◌, ◌<◌, ◌≤◌, ◌∷◌, [], IfOk, OnOk};
 ghost use Rattle.scram_types.specs.declared.limits.TheConstants.{MAX_FRAMES};
@@ -11,7 +11,7 @@ use crate::random::{alternator, delay, first_frame, next_random, turns_both};
 use scram_types::{Change, FactorId, NoMemory};
 use std::alloc::Global;
 
-/// How far the generator is: the random number of its last block, the values in force, and the changes so far.
+/// The state of the generator: the random number of its last block, the current values, and the changes so far.
 #[derive(Drop)]
 pub(crate) struct Walk {
     random: u32,
@@ -19,8 +19,8 @@ pub(crate) struct Walk {
     changes: Vec<Change>,
 }
 
-/// Returns the value after `value`, and the first one after the last; alternators have two values, the further
-/// factors four.
+/// Returns the value after `value`, or the first value after the last. Alternators have two values, the further factors
+/// four.
 fn next_value(factor: u8, value: u8) -> u8
     ensures { result ≡ next_value factor value }
 {
@@ -28,7 +28,7 @@ fn next_value(factor: u8, value: u8) -> u8
     ((u32::from(value) + 1) % count) as u8
 }
 
-/// Moves a factor to its next value in a frame.
+/// Changes a factor to its next value in a frame.
 fn add_turn(walk: &mut Walk, frame: u32, factor: u8) -> Result<(), NoMemory>
     requires { factor < 6 }
     ensures { OnOk result (Turned walk.old walk.new (turn frame factor ∷ [])) }
@@ -43,7 +43,7 @@ fn add_turn(walk: &mut Walk, frame: u32, factor: u8) -> Result<(), NoMemory>
     Ok(())
 }
 
-/// Adds the change of one of the further factors, in every third block.
+/// Adds the change of one of the further factors in every third block.
 fn add_aux_turn(walk: &mut Walk, k: u32, frame: u32) -> Result<(), NoMemory>
     ensures { OnOk result (Turned walk.old walk.new (aux_turns k frame)) }
 {
@@ -54,7 +54,7 @@ fn add_aux_turn(walk: &mut Walk, k: u32, frame: u32) -> Result<(), NoMemory>
     }
 }
 
-/// Adds the change of the other alternator some frames later, in some blocks.
+/// Adds the later change of the other alternator if the block with random number `x` turns both.
 fn add_other_turn(walk: &mut Walk, frame: u32, x: u32) -> Result<(), NoMemory>
     requires { frame ≤ 100000 }
     ensures { OnOk result (Turned walk.old walk.new (other_turns frame x)) }
@@ -66,7 +66,7 @@ fn add_other_turn(walk: &mut Walk, frame: u32, x: u32) -> Result<(), NoMemory>
     }
 }
 
-/// Returns the changes of block `k`, whose random number is the walk's.
+/// Adds the changes of block `k`, whose random number is the walk's.
 fn add_turns(walk: &mut Walk, k: u32) -> Result<(), NoMemory>
     requires { k ≤ 1000 }
     ensures { OnOk result (Turned walk.old walk.new (turns_in k walk.old.random)) }
@@ -81,7 +81,7 @@ fn add_turns(walk: &mut Walk, k: u32) -> Result<(), NoMemory>
     add_other_turn(walk, frame, x)
 }
 
-/// Moves on by a block: draws the next random number, and adds the changes that it gives.
+/// Advances by a block: draws the next random number and adds the changes of block `k`.
 fn add_block(walk: &mut Walk, k: u32) -> Result<(), NoMemory>
     requires { k ≤ 1000 }
     ensures { OnOk result (WalkedBlock k walk.old walk.new) }
@@ -106,8 +106,7 @@ pub(crate) fn make_changes(alloc: Global, n: u32, frames: u32) -> Result<Vec<Cha
     Ok(walk.changes)
 }
 
-/// Returns the last block that a script with `frames` frames has: the twentieth frame after its first is none after
-/// the end.
+/// Returns the last block of a script with `frames` frames: the last that begins at least 20 frames before the end.
 fn last_block(frames: u32) -> u32
     requires { frames ≤ MAX_FRAMES }
     ensures value { result ≡ last_block frames }
