@@ -1,4 +1,4 @@
--- A line that is read as an application's is the text of what it did.
+-- A line that is read as an application's line is the text of its act and area.
 use Rattle.std.proofs.Common.{ℕ, ℤ, suc, zero, ◌≡◌, ◌+◌, ◌∙◌, Bool, true, false, cond, List, [], ◌∷◌, ◌++◌, Some, None, Ok, Err, length, decimal, map, refl, sym, ap}
 use Rattle.std.specs.Prelude.{◌==◌, ◌&&◌, bytes_eq, codes, nat_le, nat_lt, option_map, slice_get}
 use Rattle.std.specs.Fmt.{signed_decimal}
@@ -49,7 +49,7 @@ sides_text text left right (a ∷ b ∷ []) is h =
     sym (join_with_byte-slice_split 47 text) ∙ ap (join_with_byte 47) is ∙ rw (one, two) refl
 sides_text text left right (a ∷ b ∷ c ∷ more) is h = absurd (let e = h in cc)
 
--- what is found of a line that is read as that of application a
+-- the facts on a line that is read as the line of application a
 pub record AppRead (spec : Parts) (a : ℕ) (line : List ℕ) (told : Done) : Type 0 where
   pub app : AppSpec
   pub there : slice_get spec.apps a ≡ Some app

@@ -10,7 +10,7 @@ abbrev pub told_by : {A : Type 0} → Result A ℕ → Option ℕ
 told_by (Ok a) = None
 told_by (Err rule) = Some rule
 
--- of rules that are kept or not, `rule` being the number of the first, the least that is not
+-- of rules that are kept or not, the first that is not, where `rule` is the number of the first
 abbrev pub least_from : ℕ → List Bool → Option ℕ
 least_from rule [] = None
 least_from rule (kept ∷ more) = cond kept (least_from (suc rule) more) (Some rule)

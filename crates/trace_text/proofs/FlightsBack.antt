@@ -1,4 +1,4 @@
--- What is printed of a flight is read, line by line, and is never too long.
+-- The printed text of a flight is read, line by line, and is never too long.
 use Rattle.std.proofs.Common.{ℕ, ℤ, pos, suc, zero, ◌≡◌, ◌<◌, ◌≤◌, ◌+◌, ◌*◌, ◌∙◌, Bool, true, false, List, [], ◌∷◌, ◌++◌, Some, Result, Ok, length, replicate, arith, refl, sym, ap, subst, length-append, append_assoc, append-nil, length-set}
 use mathlib.Core.Logic.{inl, inr}
 use Rattle.std.specs.Prelude.{codes, slice_get, slice_index_or, slice_set}
@@ -28,7 +28,7 @@ use Rattle.trace_text.proofs.Splitting.{some_piece}
 use Rattle.trace_text.proofs.Walk.{line_then, of_length}
 use Rattle.trace_text.proofs.WordBytes.{line_split}
 
--- from what was read so far on, a text is read as a flight, and it has at most this number of bytes
+-- from this state on, a text is read as a flight, and it has at most this number of bytes
 record Reads (spec : Parts) (s : SoFar) (text : List ℕ) (flown : Flown) (most : ℕ) : Type 0 where
   read : (k : ℕ) → trace_from spec k s (pieces_of 10 text) ≡ Ok flown
   short : length text ≤ most
@@ -36,7 +36,7 @@ record Reads (spec : Parts) (s : SoFar) (text : List ℕ) (flown : Flown) (most 
 after_plain : (spec : Parts) (s t : SoFar) (text : List ℕ) (most : ℕ) (back : LineBack spec s t text most) → after_line spec s back.line ≡ Ok t
 after_plain spec s t text most back = rw back.plain back.read
 
--- one line more before the others
+-- a further line before the others
 before_lines : (spec : Parts) (s t : SoFar) (text rest : List ℕ) (flown : Flown) (most more : ℕ) → LineBack spec s t text most → Reads spec t rest flown more →
     Reads spec s (text ++ rest) flown (most + more)
 before_lines spec s t text rest flown most more back reads =
@@ -173,7 +173,7 @@ part_whole spec f row part shown is =
     (λ i late low. is.areas_rest i late low ∙ sym (shown.empty i late low)) in
     same_row part.frame row.frame part.env row.env part.mode row.mode part.acts row.acts part.areas row.areas part.world row.world is.frame is.env is.mode acts areas is.world
 
--- an application's line, behind which the others are read
+-- an application's line, after which the others are read
 one_app : (spec : Parts) (rows : List Row) (reports : List Report) (row part : Row) (a : ℕ) (app : AppSpec) (apps : List AppSpec) (t : SoFar) (rest : List ℕ) (flown : Flown) (more : ℕ) →
     LineBack spec (in_apps rows reports a part) t (app_line_in spec row app a) 140 → Reads spec t (app_lines spec row apps (a + 1) ++ rest) flown (140 * length apps + more) →
     Reads spec (in_apps rows reports a part) (app_lines spec row (app ∷ apps) a ++ rest) flown (140 * suc (length apps) + more)

@@ -1,4 +1,4 @@
--- What is found by its name has that name.
+-- An item that is found by a name has that name.
 use Rattle.std.proofs.Common.{ℕ, suc, ◌≡◌, ◌+◌, Bool, true, false, cond, List, [], ◌∷◌, Option, Some, None, arith, refl, sym, ap}
 use Rattle.std.specs.Prelude.{bytes_eq, codes, option_map, slice_get}
 use Rattle.std.specs.Option.{option_map_or}

@@ -1,4 +1,4 @@
--- The finding on a line, form by form, is the first rule that it does not keep.
+-- The result of reading a line, form by form, is the first rule that it does not keep.
 use Rattle.std.proofs.Common.{ℕ, ℤ, ◌≡◌, ◌+◌, ◌-◌, ◌^◌, ◌∙◌, Bool, true, false, cond, List, [], ◌∷◌, Option, Some, None, Result, Ok, Err, length, refl, sym, ap}
 use Rattle.std.specs.Prelude.{◌==◌, ◌&&◌, ◌||◌, ⊤, bytes_eq, codes, is_some, nat_le, nat_lt, option_and_then}
 use Rattle.scram_types.specs.declared.limits.TheConstants.{MAX_FRAMES, MAX_PHASE}
@@ -79,7 +79,7 @@ phase_case (Some a) (Some p) (Some i) None v n phase = refl
 phase_case (Some a) (Some p) (Some i) (Some j) None n phase = refl
 phase_case (Some a) (Some p) (Some i) (Some j) (Some v) n phase = phase_last (a == n) (nat_lt i j && nat_le j MAX_PHASE) (done (phase_act phase i j p) v)
 
--- rules 3 to 9 where the form is known
+-- rules 3 to 9 for a line whose form is known
 abbrev least_of : Parts → SoFar → Words → Option Form → Option ℕ
 least_of spec s words form =
     least_from 3 (is_some form ∷ keeps form (knows_names spec words) ∷ keeps form (spells_numbers words) ∷ keeps form (is_due spec s words)
@@ -310,7 +310,7 @@ end_formed spec line words first =
     let c : begins line (codes "reconfiguration") ≡ false = other_word (word_at (words_of line) 0) (codes "end") (codes "reconfiguration") first refl in
     rw (a, b, c) refl
 
--- what is read into the trace gives the rule of the line
+-- a line that is read into the trace gives the rule of the line
 
 row_told : (s : SoFar) (read : Result Row ℕ) → told_by (with_row s read) ≡ told_by read
 row_told s (Ok row) = refl
@@ -353,7 +353,7 @@ end_line_least spec s line first =
     end_told s (end_read (length s.rows) (length s.reports) line)
     ∙ line_least spec s line (end_in (length s.rows) (length s.reports)) (end_least spec s (words_of line) ∙ ap (least_of spec s (words_of line)) (end_formed spec line (words_of line) first))
 
--- rules 2 to 9, `placed` being whether rule 2 is kept
+-- rules 2 to 9, where `placed` is whether rule 2 is kept
 abbrev placed_least : Parts → SoFar → List ℕ → Bool → Option ℕ
 placed_least spec s line placed = cond placed (least_of spec s (words_of line) (line_form spec line)) (Some OUT_OF_PLACE)
 
@@ -375,7 +375,7 @@ due_case : (spec : Parts) (s : SoFar) (a : ℕ) (row : Row) (line : List ℕ) (a
 due_case spec s a row line true due first = app_line_least spec s a row line due first
 due_case spec s a row line false due first = refl
 
--- what is kept of rules 2 to 9
+-- which of rules 2 to 9 are kept
 abbrev kept_behind : Parts → SoFar → Standing → List ℕ → List Bool
 kept_behind spec s standing line =
     is_in_place standing line ∷ has_form spec standing line ∷ keeps (asked_form spec standing line) (knows_names spec (words_of line))

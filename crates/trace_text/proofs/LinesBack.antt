@@ -1,4 +1,4 @@
--- Each application's line that is printed of a flight is read.
+-- Each printed line of an application is read.
 use Rattle.std.proofs.Common.{ℕ, ℤ, suc, ◌≡◌, ◌<◌, ◌≤◌, ◌*◌, ◌^◌, ◌∙◌, true, false, List, [], ◌∷◌, ◌++◌, Some, Ok, length, map, decimal, arith, refl, sym, subst, length-append}
 use Rattle.std.specs.Prelude.{◌==◌, bytes_eq, codes, nat_le, slice_get}
 use Rattle.std.specs.Fmt.{signed_decimal}
@@ -32,7 +32,7 @@ use Rattle.trace_text.proofs.Shapes.{bare_shape, ran_shape}
 use Rattle.trace_text.proofs.Spelling.{number_some, signed_some}
 use Rattle.trace_text.proofs.WordBytes.{all_over, decimal_over, decimal_visible, is_visible, line_length, line_of, line_plain, name_short, name_visible, over, pieces_back, signed_visible, width, words_back, words_in_back}
 
--- a printed line: what it is without its line feed, what is read after it, and the most bytes that it has
+-- a printed line: its text without the line feed, the state after it, and its maximum number of bytes
 pub record LineBack (spec : Parts) (s t : SoFar) (text : List ℕ) (most : ℕ) : Type 0 where
   pub line : List ℕ
   pub text_is : text ≡ line ++ codes "\n"

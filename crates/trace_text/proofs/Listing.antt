@@ -1,4 +1,4 @@
--- What is left to write of names joined by commas, some being written already or none.
+-- The text that is still to be written of names joined by commas.
 use Rattle.std.specs.Prelude.{ℕ, Bool, List, if◌then◌else◌}
 use Rattle.trace_text.specs.Names.{joined, further_joined}
 

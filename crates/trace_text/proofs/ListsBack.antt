@@ -66,7 +66,7 @@ pub items_back : (names : List (List ℕ)) → are_names names ≡ true → item
 items_back [] e = refl
 items_back (name ∷ names) e = rw (first_not_dash name names e) (joined_pieces_back name names e)
 
--- how long joined names are
+-- the length of joined names
 pub joined_short : (most : ℕ) (names : List (List ℕ)) → are_names names ≡ true → length names ≤ most → length (joined names) ≤ 1 + 17 * most
 joined_short most [] e few = omega arith
 joined_short most (name ∷ names) e few =
@@ -148,7 +148,7 @@ apart : (proc : Proc) (procs : List Proc) → NamesDiffer (λ (p : Proc). p.name
 apart proc procs differ i other there =
     not_true _ (λ t. let same : 0 ≡ suc i = differ 0 (suc i) proc other refl there (same_text proc.name other.name t) in absurd (omega (arith, same)))
 
--- the bits of the names, `bit` being the first
+-- the bits of the names, where `bit` is the first
 up_back : (procs : List Proc) (bit sum up : ℕ) → NamesDiffer (λ (proc : Proc). proc.name) procs → up < 2 ^ length procs →
     up_from procs (names_up procs up) bit sum ≡ Some (sum + bit * up)
 up_back [] bit sum up differ below =
@@ -195,7 +195,7 @@ abbrev filled_from : List Factor → ℕ → List ℕ → List ℕ → List ℕ
 filled_from [] i set values = set
 filled_from (factor ∷ factors) i set values = filled_from factors (i + 1) (slice_set set i (slice_index values i)) values
 
--- the value of each of these factors, `i` being the number of the first, is one that the factor has
+-- the value of each of these factors is one that the factor has, where `i` is the number of the first
 abbrev HaveValues : List Factor → ℕ → List ℕ → Type 0
 HaveValues factors i values = (x : ℕ) (factor : Factor) → slice_get factors x ≡ Some factor → slice_index values (i + x) < length factor.values
 
@@ -232,7 +232,7 @@ values_count : (factors : List Factor) (i : ℕ) (values : List ℕ) → length 
 values_count [] i values = refl
 values_count (factor ∷ factors) i values = ap suc (values_count factors (i + 1) values)
 
--- the list that is filled has the values, where those before and behind were there
+-- the list that is filled has the values, if those before and after were there
 filled_width : (factors : List Factor) (i : ℕ) (set values : List ℕ) → length (filled_from factors i set values) ≡ length set
 filled_width [] i set values = refl
 filled_width (factor ∷ factors) i set values = filled_width factors (i + 1) (slice_set set i (slice_index values i)) values ∙ length-set set i (slice_index values i)

@@ -12,7 +12,7 @@ none_left : (names : List (List ℕ)) (bit up : ℕ) → 0 < length names → up
 none_left [] bit up h = absurd (omega arith)
 none_left (name ∷ names) bit up h = refl
 
--- names that are left behind the last processor
+-- names that are left after the last processor
 pub names_over : (procs : List Proc) (i : ℕ) (left : Option (Bor (List ℕ))) (names : Bor (List ℕ)) (bit up : ℕ) (read : Option ℕ) →
     length procs ≤ i → left ≡ Some names →
     up_from (drop i procs) (pieces_behind 44 (option_map (λ (b : Bor (List ℕ)). b.now) left)) bit up ≡ read → None ≡ read

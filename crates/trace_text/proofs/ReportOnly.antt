@@ -1,4 +1,4 @@
--- A line that is read as a reconfiguration's is its text, and one that is read as the end line is the end line.
+-- A line that is read as a reconfiguration's line is its text, and a line that is read as the end line is the end line.
 use Rattle.std.proofs.Common.{ℕ, ◌≡◌, ◌-◌, ◌^◌, ◌∙◌, Bool, true, false, cond, List, [], ◌∷◌, ◌++◌, Option, Some, None, Ok, Err, length, decimal, refl, sym, ap}
 use Rattle.std.specs.Prelude.{◌==◌, ◌&&◌, bytes_eq, codes, nat_le, option_map, ⊤}
 use Rattle.std.specs.List.{join_with_byte}
@@ -36,7 +36,7 @@ bounds_same None (Some b) h = absurd (let e = h in cc)
 bounds_same (Some a) None h = absurd (let e = h in cc)
 bounds_same (Some a) (Some b) h = ap Some (eqb-true a b h)
 
--- what the end of a report's reading says
+-- the facts from reading the end of a report
 record ReportEnd (ws : List (List ℕ)) (from : ConfId) (to : Option ConfId) (end : ℕ) (given : Option ℕ) (report : Report) : Type 0 where
   begin : ℕ
   begun : word_at ws 5 ≡ decimal begin

@@ -1,11 +1,11 @@
--- The text of a line is its words with one space between each two, and a line feed.
+-- The text of a line is its words, separated by one space each, and a line feed.
 use Rattle.std.proofs.Common.{ℕ, ℤ, ◌≡◌, ◌∙◌, List, [], ◌∷◌, ◌++◌, append_assoc, append-nil, refl, sym, ap, map}
 use Rattle.std.specs.Prelude.{codes}
 use Rattle.std.specs.Fmt.{signed_decimal}
 use Rattle.std.specs.List.{join_with_byte}
 use Rattle.trace_text.specs.Text.{area_text}
 
--- texts put behind one another, in any order of putting
+-- texts that are joined, in any nesting
 data Tree : Type 0 where
   leaf : List ℕ → Tree
   fork : Tree → Tree → Tree
@@ -26,7 +26,7 @@ before_flat (fork a b) more = before_flat a (before b more) ∙ ap (λ (rest : L
 flattened : (t : Tree) → before t [] ≡ flat t
 flattened t = before_flat t [] ∙ append-nil (flat t)
 
--- one tree behind another, as `++` nests
+-- one tree after another, as `++` nests
 abbrev chain : Tree → List Tree → Tree
 chain t [] = t
 chain t (u ∷ us) = chain (fork t u) us
@@ -64,7 +64,7 @@ moving_shape f c d e s v u a b h k =
     ∷ say (codes " env ") ∷ say v ∷ say (codes " up ") ∷ say u ∷ say (codes " world ")
     ∷ chain (say a) (say (codes " ") ∷ say b ∷ say (codes " ") ∷ say h ∷ say (codes " ") ∷ say k ∷ []) ∷ say (codes "\n") ∷ []))
 
--- the words of an area behind another word
+-- the words of an area after another word
 abbrev area_ended : List ℤ → List ℕ
 area_ended [] = codes "\n"
 area_ended (z ∷ zs) = 32 ∷ (signed_decimal z ++ area_ended zs)

@@ -43,7 +43,7 @@ pub no_separator : (separator : ℕ) (bytes : List ℕ) → position (λ (b : �
 no_separator separator bytes h =
     whole separator bytes (none_says (nat_lt (position_or_len (λ (b : ℕ). b == separator) bytes) (length bytes)) (position_or_len (λ (b : ℕ). b == separator) bytes) h)
 
--- there is a piece at least
+-- there is at least one piece
 pub some_piece : (separator : ℕ) (bytes : List ℕ) → 0 < length (pieces_of separator bytes)
 some_piece separator bytes = rw (length-slice_split (λ (b : ℕ). b == separator) bytes) (omega arith)
 

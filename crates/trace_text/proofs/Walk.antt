@@ -1,4 +1,4 @@
--- One line more of a trace.
+-- A further line of a trace.
 use Rattle.std.proofs.Common.{ℕ, ◌≡◌, ◌<◌, ◌≤◌, ◌+◌, ◌∙◌, List, [], ◌∷◌, Result, Ok, Err, length, arith, refl, sym, ap}
 use Rattle.std.proofs.lemmas.Bool.{le-ltb}
 use Rattle.scram_types.specs.declared.limits.TheConstants.{MAX_TRACE_BYTES}
@@ -20,7 +20,7 @@ line_then spec k s line (next ∷ lines) h = refl
 pub of_length : (spec : Parts) (bytes : List ℕ) → length bytes ≤ MAX_TRACE_BYTES → trace_of spec bytes ≡ trace_from spec 1 before_first (pieces_of 10 bytes)
 of_length spec bytes h = rw (le-ltb MAX_TRACE_BYTES (length bytes) h) refl
 
--- the reading goes on behind a line that is taken
+-- the reading continues after a line that is taken
 pub taken : (spec : Parts) (k : ℕ) (s t : SoFar) (text rest behind : List ℕ) (read : Result Flown TraceFault) →
     pieces_of 10 rest ≡ text ∷ pieces_of 10 behind → after_line spec s text ≡ Ok t → trace_from spec k s (pieces_of 10 rest) ≡ read →
     trace_from spec (k + 1) t (pieces_of 10 behind) ≡ read

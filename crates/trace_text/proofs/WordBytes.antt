@@ -1,4 +1,4 @@
--- The bytes of printed words, and the words that come back out of a line.
+-- The bytes of printed words, and the recovery of the words from a line.
 use Rattle.std.proofs.Common.{ℕ, ℤ, pos, negsuc, suc, ◌≡◌, ◌<◌, ◌≤◌, ◌+◌, ◌^◌, ◌∙◌, Bool, true, false, List, [], ◌∷◌, ◌++◌, Some, All, length, decimal, arith, refl, ap, length-append}
 use mathlib.Core.Logic.{inl, inr}
 use Rattle.std.specs.Prelude.{◌==◌, ◌&&◌, ◌||◌, nat_le}
@@ -35,7 +35,7 @@ pub all_over_less : (low high : ℕ) (text : List ℕ) → low ≤ high → all_
 all_over_less low high [] h e = refl
 all_over_less low high (b ∷ text) h e = let p = and_parts _ _ e in and_from _ _ (over_less low high b h p.0) (all_over_less low high text h p.1)
 
--- a lesser byte does not stand there
+-- a smaller byte does not occur there
 none_at : (separator least : ℕ) (text : List ℕ) → separator < least → all_over least text ≡ true → All (λ (b : ℕ). (b == separator) ≡ false) text
 none_at separator least [] h e = All-nil (λ (b : ℕ). (b == separator) ≡ false)
 none_at separator least (b ∷ text) h e =
@@ -44,7 +44,7 @@ none_at separator least (b ∷ text) h e =
     let k = leb-true least b q.0 in
     All-cons (λ (c : ℕ). (c == separator) ≡ false) b text (ne_eqb b separator (λ same. omega (arith, same, k, h))) (none_at separator least text h p.1)
 
--- pieces without the separator come back out of their joining
+-- pieces without the separator are recovered from their join
 pub pieces_back : (separator least : ℕ) (piece : List ℕ) (pieces : List (List ℕ)) → separator < least → list_all (all_over least) (piece ∷ pieces) ≡ true →
     pieces_of separator (join_with_byte separator (piece ∷ pieces)) ≡ piece ∷ pieces
 pieces_back separator least piece [] h e = slice_split_none (λ (b : ℕ). b == separator) piece (none_at separator least piece h (and_parts _ _ e).0)
@@ -53,7 +53,7 @@ pieces_back separator least piece (next ∷ pieces) h e =
     slice_split_at (λ (b : ℕ). b == separator) piece separator (join_with_byte separator (next ∷ pieces)) (none_at separator least piece h p.0) (eq-eqb separator separator refl)
     ∙ ap (λ (rest : List (List ℕ)). piece ∷ rest) (pieces_back separator least next pieces h p.1)
 
--- a word that can stand in a line
+-- a word that can occur in a line
 abbrev pub is_visible : List ℕ → Bool
 is_visible word = is_filled word && all_over 33 word
 
@@ -83,7 +83,7 @@ joined_printable word (next ∷ words) e =
     list_all-append (over 32) word (32 ∷ line_of (next ∷ words))
     ∙ and_from _ _ (all_over_less 32 33 word (omega arith) q.1) (joined_printable next words p.1)
 
--- how many bytes a line has with its line feed
+-- the number of bytes of a line, including its line feed
 abbrev pub width : List (List ℕ) → ℕ
 width [] = 0
 width (word ∷ words) = length word + 1 + width words

@@ -1,4 +1,4 @@
--- What the line of an application says.
+-- Reading the line of an application.
 use Rattle.std.specs.Prelude.{ℕ, ℤ, ◌==◌, ◌&&◌, Bool, List, codes, length, nat_le, nat_lt, Option, Some, None, Result, Ok, Err, bytes_eq, if◌then◌else◌}
 use Rattle.scram_types.specs.declared.limits.TheConstants.{MAX_PHASE}
 use Rattle.scram_types.specs.Specification.{Parts}
@@ -16,39 +16,39 @@ use Rattle.trace_text.specs.Rules.{unless}
 use Rattle.trace_text.specs.Spelling.{signed_from, spelled_number}
 use Rattle.trace_text.specs.declared.rule.TheConstants.{NOT_NEXT, NO_FORM, OUT_OF_ORDER, UNKNOWN_NAME, WRONG_NUMBER}
 
--- what an application did, with its area
+-- An application's act, with its area.
 abbrev pub done : Act → List ℤ → Done
 done act area = record { act = act; area = area }
 
--- the words of an act on a processor: the eight words of the area follow the sixth word, which is `:`
+-- The words have the form of an act on a processor: the sixth word is `:`, and the eight words of the area follow it.
 abbrev pub is_placed_form : List (List ℕ) → Bool
 is_placed_form words = (length words == 14) && is_word words 5 (codes ":")
 
--- the words of an act without a processor: the area follows the fourth word, which is `:`
+-- The words have the form of an act without a processor: the fourth word is `:`, and the area follows it.
 abbrev pub is_bare_form : List (List ℕ) → Bool
 is_bare_form words = (length words == 12) && is_word words 3 (codes ":")
 
--- the phase that a word names
+-- The phase that a word names, or nothing if it names none.
 abbrev pub phase_named : List ℕ → Option Phase
 phase_named tag =
     if bytes_eq tag (codes "halting") then Some Halting
     else (if bytes_eq tag (codes "preparing") then Some Preparing
     else (if bytes_eq tag (codes "initialising") then Some Initialising else None))
 
--- the act of frame k of the n frames of a phase
+-- The act of frame k of the n frames of a phase.
 abbrev pub phase_act : Phase → ℕ → ℕ → ProcId → Act
 phase_act Halting k n proc = act.Halting k n proc
 phase_act Preparing k n proc = act.Preparing k n proc
 phase_act Initialising k n proc = act.Initialising k n proc
 
--- an act that names no processor
+-- The act without a processor that a word names, or nothing if it names none.
 abbrev pub bare_act : List ℕ → Option Act
 bare_act tag =
     if bytes_eq tag (codes "held") then Some act.Held
     else (if bytes_eq tag (codes "off") then Some act.Off
     else (if bytes_eq tag (codes "lost") then Some act.Lost else None))
 
--- what the line of an application that ran says: its names, its area, and that it is the next
+-- The result of reading the line of an application that ran: its names, its area, and whether it is the next one.
 abbrev pub ran_line : Parts → ℕ → List (List ℕ) → Result Done ℕ
 ran_line spec next words =
     unless UNKNOWN_NAME (app_number spec (word_at words 1)) (λ (app : ℕ).
@@ -57,7 +57,7 @@ ran_line spec next words =
     unless WRONG_NUMBER (signed_from 8 6 words) (λ (area : List ℤ).
     if app == next then Ok (done (act.Ran mode proc) area) else Err NOT_NEXT))))
 
--- what the line of an application in a phase says, whose frames are the two sides of a slash
+-- The result of reading the line of an application in a phase, given the two sides of the slash between its frames.
 abbrev pub phase_line : Parts → ℕ → List (List ℕ) → Phase → List ℕ × List ℕ → Result Done ℕ
 phase_line spec next words phase fraction =
     unless UNKNOWN_NAME (app_number spec (word_at words 1)) (λ (app : ℕ).
@@ -69,14 +69,14 @@ phase_line spec next words phase fraction =
     (if nat_lt k n && nat_le n MAX_PHASE then Ok (done (phase_act phase k n proc) area) else Err OUT_OF_ORDER)
     else Err NOT_NEXT)))))
 
--- what the line of an application without a processor says
+-- The result of reading the line of an application without a processor.
 abbrev pub bare_line : Parts → ℕ → List (List ℕ) → Act → Result Done ℕ
 bare_line spec next words told =
     unless UNKNOWN_NAME (app_number spec (word_at words 1)) (λ (app : ℕ).
     unless WRONG_NUMBER (signed_from 8 4 words) (λ (area : List ℤ).
     if app == next then Ok (done told area) else Err NOT_NEXT))
 
--- what the line of an act on a processor says: `ran`, or the phase that it names
+-- The result of reading the line of an act on a processor: `ran`, or the phase that it names.
 abbrev pub placed_line : Parts → ℕ → List (List ℕ) → Result Done ℕ
 placed_line spec next words =
     if is_word words 2 (codes "ran") then ran_line spec next words
@@ -84,12 +84,12 @@ placed_line spec next words =
     unless NO_FORM (phase_named (word_at words 2)) (λ (phase : Phase).
     unless NO_FORM (sides_of (word_at words 3)) (phase_line spec next words phase))
 
--- what the words of an application's line say
+-- The result of reading the words of an application's line.
 abbrev pub app_in : Parts → ℕ → List (List ℕ) → Result Done ℕ
 app_in spec next words =
     if is_placed_form words then placed_line spec next words
     else (if is_bare_form words then unless NO_FORM (bare_act (word_at words 2)) (bare_line spec next words) else Err NO_FORM)
 
--- what a line says that is to be the one of application `next`
+-- The result of reading the line of application `next`.
 abbrev pub app_read : Parts → ℕ → List ℕ → Result Done ℕ
 app_read spec next line = unless NO_FORM (words_in line) (app_in spec next)

@@ -1,4 +1,4 @@
--- What holds of the rows and reconfigurations of every flight, by the ranges of its specification.
+-- The properties of the rows and reconfigurations of every flight, by the ranges of its specification.
 use Rattle.std.specs.Prelude.{◌≡◌, ◌<◌, ◌≤◌, ◌^◌, ⊤, ℕ, ℤ, pos, List, [], length, replicate, slice_get, slice_index, slice_index_or, Option, Some, None, IsSome, Ok}
 use lib.Signed.{mag}
 use Rattle.scram_types.specs.declared.rows.Env.{Env}
@@ -26,23 +26,23 @@ pub record IsMove (spec : Parts) (from : ConfId) (halting : Option ConfId) (to :
   pub target : IsIn spec.confs to
   pub begun : since < MAX_FRAMES
 
--- The mode of a row is one of configurations that exist.
+-- The configurations of a row's mode exist.
 abbrev pub IsModeShown : Parts → KMode → Type 0
 IsModeShown spec (Stable c) = IsIn spec.confs c
 IsModeShown spec (Moving from halting to since) = IsMove spec from halting to since
 
--- The processors that are up exist; each factor has one of its values, and zeros stand past the last.
+-- The processors that are up exist, each factor has one of its values, and the entries past the last factor are 0.
 pub record IsEnvShown (spec : Parts) (env : Env) : Type 0 where
   pub up : env.up < 2 ^ length spec.procs
   pub width : length env.factors ≡ 6
   pub values : (x : ℕ) (factor : Factor) → slice_get spec.factors x ≡ Some factor → slice_index env.factors x < length factor.values
   pub rest : (x : ℕ) → length spec.factors ≤ x → slice_index env.factors x ≡ 0
 
--- A number that a flight shows lies between minus a million and a million.
+-- A number that a flight shows is between minus a million and a million.
 abbrev pub IsShown : ℤ → Type 0
 IsShown z = mag z ≤ 1000000
 
--- The aircraft's numbers.
+-- The aircraft's numbers are in range.
 pub record IsWorldShown (world : World) : Type 0 where
   pub alt : IsShown world.alt
   pub climb : IsShown world.climb
@@ -60,7 +60,7 @@ pub record IsStep (spec : Parts) (k n : ℕ) (proc : ProcId) : Type 0 where
   pub most : n ≤ MAX_PHASE
   pub on : proc.0 < length spec.procs
 
--- What an application can have done.
+-- An application's act is valid.
 abbrev pub IsActShown : Parts → AppSpec → Act → Type 0
 IsActShown spec app (Ran mode proc) = IsRun spec app mode proc
 IsActShown spec app (Halting k n proc) = IsStep spec k n proc
@@ -70,12 +70,13 @@ IsActShown spec app (Initialising k n proc) = IsStep spec k n proc
 IsActShown spec app Off = ⊤
 IsActShown spec app Lost = ⊤
 
--- An area has eight words.
+-- An area has eight words, each in range.
 pub record IsAreaShown (area : List ℤ) : Type 0 where
   pub width : length area ≡ 8
   pub words : Each IsShown area
 
--- The row of frame f: of each application an act and an area, and past the last application acts are off and areas zeros.
+-- A row is the valid row of frame f. It has an act and an area for each application; past the last application acts are
+-- off and areas zeros.
 pub record IsRowShown (spec : Parts) (f : ℕ) (row : Row) : Type 0 where
   pub frame : row.frame ≡ f
   pub mode : IsModeShown spec row.mode
@@ -88,12 +89,12 @@ pub record IsRowShown (spec : Parts) (f : ℕ) (row : Row) : Type 0 where
   pub idle : (a : ℕ) → length spec.apps ≤ a → slice_index_or row.acts a Off ≡ Off
   pub empty : (a : ℕ) → length spec.apps ≤ a → a < 8 → slice_index_or row.areas a [] ≡ replicate 8 (pos 0)
 
--- A reconfiguration that ended did so in a frame of a flight; one that was cut off ends with the frames.
+-- A reconfiguration that ended did so in a frame of a flight, and one that was cut off ends with the frames.
 abbrev pub IsEndShown : ℕ → Option ConfId → ℕ → Type 0
 IsEndShown frames None end = end ≡ frames
 IsEndShown frames (Some to) end = end < MAX_FRAMES
 
--- A reconfiguration of a flight with this number of frames.
+-- A reconfiguration is valid in a flight with this number of frames.
 pub record IsReportShown (spec : Parts) (frames : ℕ) (report : Report) : Type 0 where
   pub source : IsIn spec.confs report.from
   pub target : IsInIfNamed spec.confs report.to
@@ -101,14 +102,14 @@ pub record IsReportShown (spec : Parts) (frames : ℕ) (report : Report) : Type 
   pub ordered : report.begin ≤ report.end
   pub ended : IsEndShown frames report.to report.end
 
--- The rows of a flight are those of its frames in their order, and it has no more reconfigurations than rows.
+-- The rows of a flight are the rows of its frames in order, and it has at most as many reconfigurations as rows.
 pub record IsFlight (spec : Parts) (rows : List Row) (reports : List Report) : Type 0 where
   pub frames : length rows ≤ MAX_FRAMES
   pub rows_shown : (f : ℕ) (row : Row) → slice_get rows f ≡ Some row → IsRowShown spec f row
   pub few : length reports ≤ length rows
   pub reports_shown : Each (IsReportShown spec (length rows)) reports
 
--- What is printed of a flight is read as its rows and reconfigurations.
+-- The printed text of a flight is read as its rows and reconfigurations.
 abbrev pub PrintedIsRead : Type 0
 PrintedIsRead = (spec : Parts) (rows : List Row) (reports : List Report) → IsSpec spec → IsFlight spec rows reports
     → trace_of spec (text_of spec rows reports) ≡ Ok (record { rows = rows; reports = reports })

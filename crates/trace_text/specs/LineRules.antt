@@ -1,4 +1,4 @@
--- Which rules a line breaks. What a rule asks of names, numbers and counts it asks by the form of the line.
+-- The rules that a line breaks. The rules on names, numbers and counts depend on the form of the line.
 use Rattle.std.specs.Prelude.{ℕ, ◌≡◌, ◌<◌, ◌==◌, ◌-◌, ◌^◌, ◌&&◌, ◌||◌, not, Bool, true, false, List, codes, length, nat_le, nat_lt, Option, Some, None, is_some, option_and_then, Result, Ok, Err, if◌then◌else◌}
 use Rattle.scram_types.specs.declared.limits.TheConstants.{MAX_FRAMES, MAX_PHASE}
 use Rattle.scram_types.specs.Specification.{Parts, bound_in, greatest_bound_in}
@@ -15,8 +15,8 @@ use Rattle.trace_text.specs.RowReading.{env_names, is_moving_form, is_stable_for
 use Rattle.trace_text.specs.Spelling.{signed_from, spelled_number}
 use Rattle.trace_text.specs.TraceReading.{SoFar, after_line, begins, is_plain}
 
--- The forms of lines: a row with a stable or a moving mode; an application that ran, that is in a phase, or that has no
--- processor; a reconfiguration that ended, or that was cut off; the end line.
+-- The forms of lines: a row with a stable or a moving mode; an application that ran, is in a phase, or has no
+-- processor; a reconfiguration that ended or was cut off; and the end line.
 pub data Form : Type 0 where
   StableRow : Form
   MovingRow : Form
@@ -27,27 +27,27 @@ pub data Form : Type 0 where
   Unfinished : Form
   Ending : Form
 
--- the words of a line
+-- The words of a line.
 abbrev pub Words : Type 0
 Words = List (List ℕ)
 
--- whether a value is given, and is as it has to be
+-- The value is given, and passes a test.
 abbrev pub is_told : {A : Type 0} → Option A → (A → Bool) → Bool
 is_told None ask = false
 is_told (Some a) ask = ask a
 
--- Rule 2: the first word of the line may stand here. After the end line no word is looked at.
+-- Rule 2: the first word of the line is allowed here. After the end line no word is tested.
 abbrev pub is_in_place : Standing → List ℕ → Bool
 is_in_place Rows line = begins line (codes "frame") || begins line (codes "reconfiguration") || begins line (codes "end")
 is_in_place (Apps a row) line = begins line (codes "app")
 is_in_place Reports line = begins line (codes "reconfiguration") || begins line (codes "end")
 is_in_place Over line = true
 
--- the form of the words of a row
+-- The form of the words of a row.
 abbrev pub row_form : Parts → Words → Option Form
 row_form spec words = if is_stable_form spec words then Some StableRow else (if is_moving_form spec words then Some MovingRow else None)
 
--- the form of the words of an application
+-- The form of the words of an application.
 abbrev pub app_form : Words → Option Form
 app_form words =
     if is_placed_form words then
@@ -55,7 +55,7 @@ app_form words =
     else (if is_some (phase_named (word_at words 2)) && is_some (sides_of (word_at words 3)) then Some PhaseApp else None))
     else (if is_bare_form words && is_some (bare_act (word_at words 2)) then Some BareApp else None)
 
--- the form of the words of a reconfiguration
+-- The form of the words of a reconfiguration.
 abbrev pub report_form : Words → Option Form
 report_form words =
     if is_report_form words then
@@ -63,22 +63,22 @@ report_form words =
     else (if is_word words 7 (codes "-") then None else Some Finished))
     else None
 
--- the form of the words of the end line
+-- The form of the words of the end line.
 abbrev pub end_form : Words → Option Form
 end_form words = if is_end_form words then Some Ending else None
 
--- the form of the words of a line, by its first word
+-- The form of the words of a line, by its first word.
 abbrev pub form_by : Parts → List ℕ → Words → Option Form
 form_by spec line words =
     if begins line (codes "frame") then row_form spec words
     else (if begins line (codes "app") then app_form words
     else (if begins line (codes "reconfiguration") then report_form words else end_form words))
 
--- the form of a line, if it has one: no word is empty, and they are those of a form
+-- The form of a line, or nothing if a word is empty or the words match no form.
 abbrev pub line_form : Parts → List ℕ → Option Form
 line_form spec line = option_and_then (form_by spec line) (words_in line)
 
--- Rule 3: the words of the line are those of a form.
+-- Rule 3: the words of the line match a form.
 abbrev pub has_form : Parts → Standing → List ℕ → Bool
 has_form spec Rows line = is_some (line_form spec line)
 has_form spec (Apps a row) line = is_some (line_form spec line)
@@ -99,15 +99,15 @@ knows_names spec words Finished = is_some (conf_named spec (word_at words 1)) &&
 knows_names spec words Unfinished = is_some (conf_named spec (word_at words 1))
 knows_names spec words Ending = true
 
--- whether a word spells the number of a frame
+-- The word spells the number of a frame.
 abbrev pub is_frame_number : List ℕ → Bool
 is_frame_number word = is_some (spelled_number MAX_FRAMES word)
 
--- whether a word spells a count of 32 bits
+-- The word spells a count of 32 bits.
 abbrev pub is_count : List ℕ → Bool
 is_count word = is_some (spelled_number (2 ^ 32) word)
 
--- whether both sides of a slash spell a number of 8 bits
+-- Both sides of a slash spell a number of 8 bits.
 abbrev pub are_bytes : List ℕ × List ℕ → Bool
 are_bytes sides = is_some (spelled_number 256 sides.0) && is_some (spelled_number 256 sides.1)
 
@@ -123,22 +123,22 @@ spells_numbers words Finished =
 spells_numbers words Unfinished = is_frame_number (word_at words 5) && is_count (word_at words 9) && is_some (bound_or_none (word_at words 11))
 spells_numbers words Ending = is_count (word_at words 2) && is_count (word_at words 4)
 
--- the application whose line is due
+-- The number of the application whose line is due.
 abbrev pub app_due : Standing → ℕ
 app_due Rows = 0
 app_due (Apps a row) = a
 app_due Reports = 0
 app_due Over = 0
 
--- whether this is the frame after those of the rows so far
+-- The line's frame is the frame after the rows so far.
 abbrev pub is_frame_due : SoFar → Words → Bool
 is_frame_due s words = is_told (spelled_number MAX_FRAMES (word_at words 1)) (λ (frame : ℕ). frame == length s.rows)
 
--- whether this application is the one whose line is due
+-- The line's application is the one whose line is due.
 abbrev pub is_app_due : Parts → SoFar → Words → Bool
 is_app_due spec s words = is_told (app_number spec (word_at words 1)) (λ (app : ℕ). app == app_due s.standing)
 
--- Rule 6: the frame or the application is the next.
+-- Rule 6: the frame or the application is the next one.
 abbrev pub is_due : Parts → SoFar → Words → Form → Bool
 is_due spec s words StableRow = is_frame_due s words
 is_due spec s words MovingRow = is_frame_due s words
@@ -149,12 +149,12 @@ is_due spec s words Finished = true
 is_due spec s words Unfinished = true
 is_due spec s words Ending = true
 
--- whether frame K is one of the N frames of a phase, which has at most 16
+-- The frame k is below the length n of a phase, which is at most 16.
 abbrev pub is_in_phase : List ℕ × List ℕ → Bool
 is_in_phase sides =
     is_told (spelled_number 256 sides.0) (λ (k : ℕ). is_told (spelled_number 256 sides.1) (λ (n : ℕ). nat_lt k n && nat_le n MAX_PHASE))
 
--- Rule 7: the frame of a phase is one of its frames; processors stand in their order.
+-- Rule 7: the frame of a phase is below its length, and processors are in order.
 abbrev pub is_in_order : Parts → Words → Form → Bool
 is_in_order spec words StableRow = is_some (up_in spec.procs (word_at words 7))
 is_in_order spec words MovingRow = is_some (up_in spec.procs (word_at words 10))
@@ -165,7 +165,7 @@ is_in_order spec words Finished = true
 is_in_order spec words Unfinished = true
 is_in_order spec words Ending = true
 
--- whether a reconfiguration begins by its end, says how long it took, and shows the bound that is given
+-- The reconfiguration begins no later than its end, and shows its length and the bound that is given.
 abbrev pub is_measured : Words → ℕ → Option ℕ → Bool
 is_measured words end given =
     is_told (spelled_number MAX_FRAMES (word_at words 5)) (λ (begin : ℕ).
@@ -173,7 +173,7 @@ is_measured words end given =
     is_told (bound_or_none (word_at words 11)) (λ (bound : Option ℕ).
     nat_le begin end && (took == end - begin) && same_bound bound given)))
 
--- Rule 8: lengths, bounds and counts are what they have to be.
+-- Rule 8: lengths, bounds and counts are right.
 abbrev pub counts_rightly : Parts → SoFar → Words → Form → Bool
 counts_rightly spec s words StableRow = true
 counts_rightly spec s words MovingRow = true
@@ -197,19 +197,19 @@ is_open (Apps a row) = true
 is_open Reports = true
 is_open Over = false
 
--- whether a line that has a form keeps what is asked by it; of a line without a form, and after the end line, nothing is asked
+-- A line with a form passes the test on its form. A line without a form passes, as does a line after the end line.
 abbrev pub keeps : {A : Type 0} → Option A → (A → Bool) → Bool
 keeps None ask = true
 keeps (Some form) ask = ask form
 
--- the form by which rules 4 to 8 ask
+-- The form that rules 4 to 8 test, or nothing if they do not apply.
 abbrev pub asked_form : Parts → Standing → List ℕ → Option Form
 asked_form spec Rows line = line_form spec line
 asked_form spec (Apps a row) line = line_form spec line
 asked_form spec Reports line = line_form spec line
 asked_form spec Over line = None
 
--- Whether a line, behind those that were read so far, breaks the rule of this number.
+-- A line, read after the lines so far, breaks the rule of this number.
 abbrev pub breaks_rule : Parts → SoFar → List ℕ → ℕ → Bool
 breaks_rule spec s line rule =
     if rule == BROKEN_LINE then not (is_plain line)
@@ -222,11 +222,11 @@ breaks_rule spec s line rule =
     else (if rule == WRONG_COUNT then not (keeps (asked_form spec s.standing line) (counts_rightly spec s (words_of line)))
     else (if rule == WRONG_END then not (is_open s.standing) else false))))))))
 
--- A reading answers where no rule is broken, and else reports the least rule that is.
+-- The result of a reading is `Ok` if no rule is broken, or else the first rule that is broken.
 abbrev pub TellsLeast : {A : Type 0} → (ℕ → Bool) → Result A ℕ → Type 0
 TellsLeast breaks (Ok a) = (rule : ℕ) → breaks rule ≡ false
 TellsLeast breaks (Err least) = (breaks least ≡ true) × ((rule : ℕ) → rule < least → breaks rule ≡ false)
 
--- A line that breaks no rule is read, and of any other the least rule that it breaks is reported.
+-- A line that breaks no rule is read, and for any other line the first rule that it breaks is reported.
 abbrev pub LeastRuleIsTold : Type 0
 LeastRuleIsTold = (spec : Parts) (s : SoFar) (line : List ℕ) → TellsLeast (breaks_rule spec s line) (after_line spec s line)

@@ -1,4 +1,4 @@
--- The names that a trace shows; nothing for what does not exist.
+-- The names that a trace shows.
 use Rattle.scram_types.specs.Lookups.{value_name, conf_name}
 use Rattle.std.specs.Prelude.{ℕ, ◌==◌, ◌+◌, ◌%◌, ◌/◌, List, [], ◌∷◌, ◌++◌, slice_index, Option, Some, None, codes, if◌then◌else◌}
 use Rattle.scram_types.specs.Specification.{Parts}
@@ -6,27 +6,27 @@ use Rattle.scram_types.specs.declared.ids.ConfId.{ConfId}
 use Rattle.scram_types.specs.declared.specification.Factor.{Factor}
 use Rattle.scram_types.specs.declared.specification.Proc.{Proc}
 
--- a configuration's name, or `-` without one
+-- The name of a configuration, or `-` if there is none.
 abbrev pub conf_or_dash : Parts → Option ConfId → List ℕ
 conf_or_dash spec None = codes "-"
 conf_or_dash spec (Some c) = conf_name spec c.0
 
--- names after the first, a comma before each
+-- The names after the first, each preceded by a comma.
 abbrev pub further_joined : List (List ℕ) → List ℕ
 further_joined [] = []
 further_joined (name ∷ names) = codes "," ++ name ++ further_joined names
 
--- names joined by commas, or `-` where there is none
+-- The names joined by commas, or `-` if there are none.
 abbrev pub joined : List (List ℕ) → List ℕ
 joined [] = codes "-"
 joined (name ∷ names) = name ++ further_joined names
 
--- the names of the values that the factors have, `i` being the number of the first factor
+-- The names of the factors' values, where `i` is the number of the first factor.
 abbrev pub values_named : List Factor → ℕ → List ℕ → List (List ℕ)
 values_named [] i values = []
 values_named (factor ∷ factors) i values = value_name factor (slice_index values i) ∷ values_named factors (i + 1) values
 
--- the names of the processors whose bits are set, the first processor's bit being the lowest of `up`
+-- The names of the processors whose bits are set, where the lowest bit of `up` is the first processor's.
 abbrev pub names_up : List Proc → ℕ → List (List ℕ)
 names_up [] up = []
 names_up (proc ∷ procs) up = if up % 2 == 1 then proc.name ∷ names_up procs (up / 2) else names_up procs (up / 2)

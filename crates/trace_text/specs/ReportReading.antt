@@ -1,4 +1,4 @@
--- What the line of a reconfiguration says, and the end line.
+-- Reading the line of a reconfiguration, and the end line.
 use Rattle.std.specs.Prelude.{ℕ, ◌==◌, ◌-◌, ◌^◌, ◌&&◌, Bool, true, false, ⊤, List, codes, length, nat_le, option_map, Option, Some, None, Result, Ok, Err, bytes_eq, if◌then◌else◌}
 use Rattle.scram_types.specs.declared.limits.TheConstants.{MAX_FRAMES}
 use Rattle.scram_types.specs.Specification.{Parts, bound_in, greatest_bound_in}
@@ -10,24 +10,24 @@ use Rattle.trace_text.specs.Rules.{unless}
 use Rattle.trace_text.specs.Spelling.{spelled_number}
 use Rattle.trace_text.specs.declared.rule.TheConstants.{NO_FORM, UNKNOWN_NAME, WRONG_COUNT, WRONG_NUMBER}
 
--- the twelve words of a reconfiguration
+-- The words have the form of a reconfiguration.
 abbrev pub is_report_form : List (List ℕ) → Bool
 is_report_form words =
     (length words == 12) && is_word words 2 (codes ">") && is_word words 4 (codes "begin") && is_word words 6 (codes "end")
     && is_word words 8 (codes "took") && is_word words 10 (codes "of")
 
--- a bound, or none for `-`
+-- The bound that a text spells, no bound for `-`, or nothing if it spells none.
 abbrev pub bound_or_none : List ℕ → Option (Option ℕ)
 bound_or_none text = if bytes_eq text (codes "-") then Some None else option_map (λ (b : ℕ). Some b) (spelled_number (2 ^ 32) text)
 
--- whether two bounds are the same, or both are missing
+-- Two bounds are the same, or both are missing.
 abbrev pub same_bound : Option ℕ → Option ℕ → Bool
 same_bound None None = true
 same_bound None (Some b) = false
 same_bound (Some a) None = false
 same_bound (Some a) (Some b) = a == b
 
--- rules 5 and 8, but for the spelling of the end
+-- The result of rules 5 and 8, except for the spelling of the end.
 abbrev pub report_end : List (List ℕ) → ConfId → Option ConfId → ℕ → Option ℕ → Result Report ℕ
 report_end words from to end given =
     unless WRONG_NUMBER (spelled_number MAX_FRAMES (word_at words 5)) (λ (begin : ℕ).
@@ -37,7 +37,7 @@ report_end words from to end given =
     Ok (record { from = from; to = to; begin = begin; end = end })
     else Err WRONG_COUNT)))
 
--- a reconfiguration that has ended shows its target, its end and the bound of the pair
+-- The result of reading a reconfiguration that ended, which shows its target, its end and the bound of the pair.
 abbrev pub finished_report : Parts → List (List ℕ) → Result Report ℕ
 finished_report spec words =
     unless UNKNOWN_NAME (conf_named spec (word_at words 1)) (λ (from : ConfId).
@@ -45,13 +45,13 @@ finished_report spec words =
     unless WRONG_NUMBER (spelled_number MAX_FRAMES (word_at words 7)) (λ (end : ℕ).
     report_end words from (Some to) end (bound_in spec.bounds from.0 to.0))))
 
--- one that the end of the flight cut off ends with the frames
+-- The result of reading a reconfiguration that was cut off, which ends with the frames of the flight.
 abbrev pub unfinished_report : Parts → ℕ → List (List ℕ) → Result Report ℕ
 unfinished_report spec frames words =
     unless UNKNOWN_NAME (conf_named spec (word_at words 1)) (λ (from : ConfId).
     report_end words from None frames (greatest_bound_in spec.bounds from.0))
 
--- what the words of a reconfiguration say: either both its target and its end are `-`, or neither is
+-- The result of reading the words of a reconfiguration, of which the target and the end are both `-` or neither is.
 abbrev pub report_in : Parts → ℕ → List (List ℕ) → Result Report ℕ
 report_in spec frames words =
     if is_report_form words then
@@ -60,15 +60,15 @@ report_in spec frames words =
     else (if is_word words 7 (codes "-") then Err NO_FORM else finished_report spec words))
     else Err NO_FORM
 
--- the reconfiguration that a line gives for a flight with this number of frames
+-- The result of reading the line of a reconfiguration of a flight with this number of frames.
 abbrev pub report_read : Parts → ℕ → List ℕ → Result Report ℕ
 report_read spec frames line = unless NO_FORM (words_in line) (report_in spec frames)
 
--- the five words of the end line
+-- The words have the form of the end line.
 abbrev pub is_end_form : List (List ℕ) → Bool
 is_end_form words = (length words == 5) && is_word words 1 (codes "frames") && is_word words 3 (codes "reconfigurations")
 
--- whether words are those of the end line, with these counts
+-- The result of reading the words of the end line, which has to show these counts.
 abbrev pub end_in : ℕ → ℕ → List (List ℕ) → Result ⊤ ℕ
 end_in frames reports words =
     if is_end_form words then
@@ -77,6 +77,6 @@ end_in frames reports words =
     if (f == frames) && (r == reports) then Ok tt else Err WRONG_COUNT))
     else Err NO_FORM
 
--- whether a line ends a trace with these numbers of rows and reports
+-- The result of reading the end line of a trace with these numbers of rows and reports.
 abbrev pub end_read : ℕ → ℕ → List ℕ → Result ⊤ ℕ
 end_read frames reports line = unless NO_FORM (words_in line) (end_in frames reports)

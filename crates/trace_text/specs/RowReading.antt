@@ -1,4 +1,4 @@
--- What the first line of a row says.
+-- Reading the first line of a row.
 use Rattle.std.specs.Prelude.{ℕ, ℤ, pos, ◌==◌, ◌+◌, ◌*◌, ◌&&◌, Bool, true, false, List, [], ◌∷◌, replicate, length, codes, slice_set, option_and_then, option_map, Option, Some, None, Result, Ok, Err, bytes_eq, if◌then◌else◌}
 use Rattle.std.specs.List.{list_all}
 use Rattle.std.specs.Option.{option_map_or}
@@ -21,88 +21,88 @@ use Rattle.trace_text.specs.Rules.{unless}
 use Rattle.trace_text.specs.Spelling.{signed_of, spelled_number}
 use Rattle.trace_text.specs.declared.rule.TheConstants.{NOT_NEXT, NO_FORM, OUT_OF_ORDER, UNKNOWN_NAME, WRONG_NUMBER}
 
--- as many values as there are factors; `-` without factors
+-- The list has as many values as there are factors, or is `-` if there are no factors.
 abbrev pub are_values : List Factor → List ℕ → Bool
 are_values [] list = bytes_eq list (codes "-")
 are_values (factor ∷ factors) list = length (pieces_of 44 list) == length (factor ∷ factors)
 
--- the environment from word `at` on
+-- The words from index `at` on have the form of an environment.
 abbrev pub is_env_form : Parts → List (List ℕ) → ℕ → Bool
 is_env_form spec words at =
     is_word words at (codes "env") && are_values spec.factors (word_at words (at + 1)) && is_word words (at + 2) (codes "up")
     && is_word words (at + 4) (codes "world")
 
--- the words of a row whose mode is stable
+-- The words have the form of a row whose mode is stable.
 abbrev pub is_stable_form : Parts → List (List ℕ) → Bool
 is_stable_form spec words = (length words == 13) && is_word words 2 (codes "stable") && is_env_form spec words 4
 
--- the words of a row whose mode moves
+-- The words have the form of a row whose mode is moving.
 abbrev pub is_moving_form : Parts → List (List ℕ) → Bool
 is_moving_form spec words = (length words == 16) && is_word words 2 (codes "moving") && is_env_form spec words 7
 
--- `values` with the numbers of the named values, from factor i on
+-- The list `values` with the numbers of the named values, from factor i on, or nothing if a name is unknown or missing.
 abbrev pub values_from : List Factor → List (List ℕ) → ℕ → List ℕ → Option (List ℕ)
 values_from [] names i values = Some values
 values_from (factor ∷ factors) [] i values = None
 values_from (factor ∷ factors) (name ∷ names) i values =
     option_and_then (λ (v : ℕ). values_from factors names (i + 1) (slice_set values i v)) (value_named factor name)
 
--- the numbers of the values that a list names, one of each factor, and zeros past the last factor
+-- The numbers of the values that a list names, one for each factor, and zeros past the last factor.
 abbrev pub values_in : List Factor → List ℕ → Option (List ℕ)
 values_in factors list = values_from factors (pieces_of 44 list) 0 (replicate 6 0)
 
--- whether a processor has this name
+-- A processor has this name.
 abbrev pub is_proc_name : Parts → List ℕ → Bool
 is_proc_name spec name = option_map_or (λ (p : ProcId). true) (proc_named spec name) false
 
--- the values of an environment that has no unknown name
+-- The values of an environment, or nothing if it has an unknown name.
 abbrev pub env_names : Parts → List (List ℕ) → ℕ → Option (List ℕ)
 env_names spec words at =
     if list_all (is_proc_name spec) (items_of (word_at words (at + 3))) then values_in spec.factors (word_at words (at + 1)) else None
 
--- whether the next name is this processor's
+-- The next name is this processor's.
 abbrev pub is_next : Proc → List (List ℕ) → Bool
 is_next proc [] = false
 is_next proc (name ∷ names) = bytes_eq proc.name name
 
--- the names that are left when the processor has had its turn
+-- The names that are left after the processor has been passed.
 abbrev pub left_behind : Proc → List (List ℕ) → List (List ℕ)
 left_behind proc [] = []
 left_behind proc (name ∷ names) = if bytes_eq proc.name name then names else name ∷ names
 
--- `up` with a processor's bit, where it is named
+-- The bits `up`, with the processor's bit if the processor is named.
 abbrev pub with_bit : Bool → ℕ → ℕ → ℕ
 with_bit named bit up = if named then up + bit else up
 
--- the bits of the named processors, where the names stand in the order of the processors: `bit` is that of the first
--- processor, and `up` those of the processors before it
+-- The bits of the named processors, or nothing if the names are not in the order of the processors. Here `bit` is the
+-- bit of the first processor, and `up` has the bits of the preceding ones.
 abbrev pub up_from : List Proc → List (List ℕ) → ℕ → ℕ → Option ℕ
 up_from [] [] bit up = Some up
 up_from [] (name ∷ names) bit up = None
 up_from (proc ∷ procs) names bit up =
     up_from procs (left_behind proc names) (bit * 2) (with_bit (is_next proc names) bit up)
 
--- the bits of the processors that a list names in their order
+-- The bits of the processors that a list names in order, or nothing if the names are not in order.
 abbrev pub up_in : List Proc → List ℕ → Option ℕ
 up_in procs list = up_from procs (items_of list) 1 0
 
--- the world that four words from a place on give
+-- The world that the four words from index `at` on spell, or nothing if one spells no number.
 abbrev pub world_at : List (List ℕ) → ℕ → Option World
 world_at words at =
     option_and_then (λ (alt : ℤ). option_and_then (λ (climb : ℤ). option_and_then (λ (heading : ℤ). option_map (λ (bank : ℤ).
     record { alt = alt; climb = climb; heading = heading; bank = bank })
     (signed_of (word_at words (at + 3)))) (signed_of (word_at words (at + 2)))) (signed_of (word_at words (at + 1)))) (signed_of (word_at words at))
 
--- an environment of these parts
+-- The environment of these parts.
 abbrev pub env_read : ℕ → List ℕ → Env
 env_read up values = record { up = up; factors = values }
 
--- a row before the lines of its applications
+-- The row before the lines of its applications.
 abbrev pub row_begun : ℕ → KMode → Env → World → Row
 row_begun frame mode env world =
     record { frame = frame; env = env; mode = mode; acts = replicate 8 Off; areas = replicate 8 (replicate 8 (pos 0)); world = world }
 
--- rules 5 to 7, but for `since`
+-- The result of rules 5 to 7, except for `since`.
 abbrev pub row_end : Parts → ℕ → List (List ℕ) → ℕ → KMode → List ℕ → Result Row ℕ
 row_end spec next words at mode values =
     unless WRONG_NUMBER (spelled_number MAX_FRAMES (word_at words 1)) (λ (frame : ℕ).
@@ -111,14 +111,14 @@ row_end spec next words at mode values =
     unless OUT_OF_ORDER (up_in spec.procs (word_at words (at + 3))) (λ (up : ℕ). Ok (row_begun frame mode (env_read up values) world))
     else Err NOT_NEXT))
 
--- the row that a line with a stable mode begins
+-- The result of reading the first line of a row whose mode is stable.
 abbrev pub stable_row : Parts → ℕ → List (List ℕ) → Result Row ℕ
 stable_row spec next words =
     unless UNKNOWN_NAME (conf_named spec (word_at words 3)) (λ (conf : ConfId).
     unless UNKNOWN_NAME (env_names spec words 4) (λ (values : List ℕ).
     row_end spec next words 4 (Stable conf) values))
 
--- the row that a line with a moving mode begins
+-- The result of reading the first line of a row whose mode is moving.
 abbrev pub moving_row : Parts → ℕ → List (List ℕ) → Result Row ℕ
 moving_row spec next words =
     unless UNKNOWN_NAME (conf_named spec (word_at words 3)) (λ (from : ConfId).
@@ -128,12 +128,12 @@ moving_row spec next words =
     unless WRONG_NUMBER (spelled_number MAX_FRAMES (word_at words 6)) (λ (since : ℕ).
     row_end spec next words 7 (Moving from halting to since) values)))))
 
--- the row that words begin, in one of the two forms
+-- The result of reading the words of a row's first line, in one of the two forms.
 abbrev pub row_of_words : Parts → ℕ → List (List ℕ) → Result Row ℕ
 row_of_words spec next words =
     if is_stable_form spec words then stable_row spec next words
     else (if is_moving_form spec words then moving_row spec next words else Err NO_FORM)
 
--- the row that a line begins, where its frame is to be `next`
+-- The result of reading the first line of row `next`.
 abbrev pub row_read : Parts → ℕ → List ℕ → Result Row ℕ
 row_read spec next line = unless NO_FORM (words_in line) (row_of_words spec next)

@@ -15,39 +15,39 @@ use Rattle.app_model.specs.Names.{mode_text}
 use Rattle.trace_text.specs.Names.{conf_or_dash, joined, values_named, names_up}
 use Rattle.scram_types.specs.Lookups.{proc_name, conf_name}
 
--- the mode of a row: the configuration that is stable, or where it moves from and to, what halts, and since when
+-- The mode of a row: the stable configuration, or the source, the halting configuration, the target and `since`.
 abbrev pub kernel_mode_text : Parts → KMode → List ℕ
 kernel_mode_text spec (Stable c) = codes "stable " ++ conf_name spec c.0
 kernel_mode_text spec (Moving from halting to since) =
     codes "moving " ++ conf_name spec from.0 ++ codes " " ++ conf_or_dash spec halting
     ++ codes " " ++ conf_name spec to.0 ++ codes " " ++ decimal since
 
--- the names of the values that the factors have
+-- The names of the factors' values.
 abbrev pub values_text : Parts → List ℕ → List ℕ
 values_text spec values = joined (values_named spec.factors 0 values)
 
--- the names of the processors that are up
+-- The names of the processors that are up.
 abbrev pub up_text : Parts → ℕ → List ℕ
 up_text spec up = joined (names_up spec.procs up)
 
--- altitude, climb, heading and bank
+-- Altitude, climb, heading and bank.
 abbrev pub world_text : World → List ℕ
 world_text world =
     signed_decimal world.alt ++ codes " " ++ signed_decimal world.climb ++ codes " "
     ++ signed_decimal world.heading ++ codes " " ++ signed_decimal world.bank
 
--- the first line of a row: frame, mode, environment and world
+-- The first line of a row: frame, mode, environment and world.
 abbrev pub row_line : Parts → Row → List ℕ
 row_line spec row =
     codes "frame " ++ decimal row.frame ++ codes " " ++ kernel_mode_text spec row.mode
     ++ codes " env " ++ values_text spec row.env.factors ++ codes " up " ++ up_text spec row.env.up
     ++ codes " world " ++ world_text row.world ++ codes "\n"
 
--- frame k of the n frames of a phase, and where
+-- Frame k of the n frames of a phase, and the processor.
 abbrev pub phase_text : Parts → ℕ → ℕ → ℕ → List ℕ
 phase_text spec k n proc = decimal k ++ codes "/" ++ decimal n ++ codes " " ++ proc_name spec proc
 
--- what an application of a kind did, with its mode and its processor where it has them
+-- The act of an application of a kind, with its mode and its processor if it has them.
 abbrev pub act_text : Parts → ℕ → Act → List ℕ
 act_text spec kind (Ran mode proc) = codes "ran " ++ mode_text kind mode.0 ++ codes " " ++ proc_name spec proc.0
 act_text spec kind (Halting k n proc) = codes "halting " ++ phase_text spec k n proc.0
@@ -57,45 +57,46 @@ act_text spec kind (Initialising k n proc) = codes "initialising " ++ phase_text
 act_text spec kind Off = codes "off"
 act_text spec kind Lost = codes "lost"
 
--- each word after a space
+-- The words of an area, each preceded by a space.
 abbrev pub area_text : List ℤ → List ℕ
 area_text [] = []
 area_text (word ∷ words) = codes " " ++ signed_decimal word ++ area_text words
 
--- the line of an application: what it did, and its area
+-- The line of an application: its act and its area.
 abbrev pub app_line : Parts → AppSpec → Act → List ℤ → List ℕ
 app_line spec app act area =
     codes "app " ++ app.name ++ codes " " ++ act_text spec app.kind.0 act ++ codes " :" ++ area_text area ++ codes "\n"
 
--- the line of application a in a row
+-- The line of application a in a row.
 abbrev pub app_line_in : Parts → Row → AppSpec → ℕ → List ℕ
 app_line_in spec row app a = app_line spec app (slice_index_or row.acts a Off) (slice_index_or row.areas a [])
 
--- the lines of the applications from number a on
+-- The lines of the applications from number a on.
 abbrev pub app_lines : Parts → Row → List AppSpec → ℕ → List ℕ
 app_lines spec row [] a = []
 app_lines spec row (app ∷ apps) a =
     app_line_in spec row app a ++ app_lines spec row apps (a + 1)
 
--- the lines of a row, its own and that of each application
+-- The lines of a row: its own, and one for each application.
 abbrev pub row_text : Parts → Row → List ℕ
 row_text spec row = row_line spec row ++ app_lines spec row spec.apps 0
 
--- the lines of rows, one row behind the other
+-- The lines of rows, in order.
 abbrev pub rows_text : Parts → List Row → List ℕ
 rows_text spec [] = []
 rows_text spec (row ∷ rows) = row_text spec row ++ rows_text spec rows
 
--- a bound, or `-` where none is given
+-- A bound, or `-` if none is given.
 abbrev pub bound_text : Option ℕ → List ℕ
 bound_text None = codes "-"
 bound_text (Some frames) = decimal frames
 
--- how long it took, and the bound on that
+-- The length of a reconfiguration and the bound on it.
 abbrev pub length_text : Report → Option ℕ → List ℕ
 length_text report bound = codes " took " ++ decimal (report.end - report.begin) ++ codes " of " ++ bound_text bound
 
--- the target and the end; an unfinished one has neither, and shows the greatest bound from its source
+-- The target and the end of a reconfiguration. An unfinished one has neither, and shows the greatest bound from its
+-- source.
 abbrev pub target_text : Parts → Report → Option ConfId → List ℕ
 target_text spec report None =
     codes " > - begin " ++ decimal report.begin ++ codes " end -"
@@ -104,24 +105,24 @@ target_text spec report (Some to) =
     codes " > " ++ conf_name spec to.0 ++ codes " begin " ++ decimal report.begin ++ codes " end " ++ decimal report.end
     ++ length_text report (bound_in spec.bounds report.from.0 to.0)
 
--- the line of a reconfiguration
+-- The line of a reconfiguration.
 abbrev pub report_line : Parts → Report → List ℕ
 report_line spec report =
     codes "reconfiguration " ++ conf_name spec report.from.0 ++ target_text spec report report.to ++ codes "\n"
 
--- the lines of reconfigurations, in their order
+-- The lines of reconfigurations, in order.
 abbrev pub reports_text : Parts → List Report → List ℕ
 reports_text spec [] = []
 reports_text spec (report ∷ reports) = report_line spec report ++ reports_text spec reports
 
--- the line that ends a trace with these numbers of rows and reconfigurations
+-- The end line of a trace with these numbers of rows and reconfigurations.
 abbrev pub end_line : ℕ → ℕ → List ℕ
 end_line frames reports = codes "end frames " ++ decimal frames ++ codes " reconfigurations " ++ decimal reports ++ codes "\n"
 
--- what follows the lines of this number of rows
+-- The text after the lines of this number of rows.
 abbrev pub ending_text : Parts → ℕ → List Report → List ℕ
 ending_text spec frames reports = reports_text spec reports ++ end_line frames (length reports)
 
--- the whole text
+-- The whole text of a trace.
 abbrev pub text_of : Parts → List Row → List Report → List ℕ
 text_of spec rows reports = rows_text spec rows ++ ending_text spec (length rows) reports

@@ -1,4 +1,4 @@
--- The trace that bytes are, or the first line that breaks a rule, with the least rule that it breaks.
+-- Reading a trace: its rows and reports, or the first line that breaks a rule with the first rule that the line breaks.
 use Rattle.std.specs.Prelude.{ℕ, ℤ, ◌≡◌, ◌+◌, ◌-◌, ◌&&◌, Bool, List, [], ◌∷◌, ◌++◌, length, codes, nat_le, nat_lt, slice_set, ⊤, Result, Ok, Err, bytes_eq, if◌then◌else◌}
 use Rattle.std.specs.List.{list_all}
 use Rattle.scram_types.specs.declared.limits.TheConstants.{MAX_FRAMES, MAX_LINE_BYTES, MAX_TRACE_BYTES}
@@ -21,73 +21,73 @@ use Rattle.trace_text.specs.ReportReading.{report_read, end_read}
 use Rattle.trace_text.specs.RowReading.{row_read}
 use Rattle.trace_text.specs.declared.rule.TheConstants.{BROKEN_LINE, OUT_OF_PLACE, WRONG_END}
 
--- what the lines so far say, and what may stand next
+-- The contents of the lines so far, and the lines that may come next.
 pub record SoFar : Type 0 where
   pub rows : List Row
   pub reports : List Report
   pub standing : Standing
 
--- at most this number of rows have been read, frames being below 20,000
+-- The maximum number of rows that have been read, since frames are below 20,000.
 abbrev pub rows_before : Standing → ℕ
 rows_before Rows = MAX_FRAMES
 rows_before (Apps a row) = MAX_FRAMES - 1
 rows_before Reports = MAX_FRAMES
 rows_before Over = MAX_FRAMES
 
--- before the first line nothing has been said, and a row may begin
+-- The state before the first line, in which a row may begin.
 abbrev pub before_first : SoFar
 before_first = record { rows = []; reports = []; standing = Rows }
 
--- whether a byte is one of the printable ones, the space among them
+-- The byte is printable; the space is.
 abbrev pub is_printable : ℕ → Bool
 is_printable b = nat_le 32 b && nat_le b 126
 
--- rule 1 of a line that has its line feed
+-- Rule 1 for a line that has its line feed: it is short enough, and each byte is printable.
 abbrev pub is_plain : List ℕ → Bool
 is_plain line = nat_le (length line) MAX_LINE_BYTES && list_all is_printable line
 
--- whether this is the first word of a line
+-- The first word of the line is this one.
 abbrev pub begins : List ℕ → List ℕ → Bool
 begins line text = bytes_eq (word_at (words_of line) 0) text
 
--- a row with what application a did
+-- The row with the act and the area of application a.
 abbrev pub with_app : Row → ℕ → Act → List ℤ → Row
 with_app row a act area =
     record { frame = row.frame; env = row.env; mode = row.mode; acts = slice_set row.acts a act; areas = slice_set row.areas a area; world = row.world }
 
--- a row is whole after its last application
+-- The state after application a of a row, which is complete after its last application.
 abbrev pub after_app : Parts → SoFar → ℕ → Row → SoFar
 after_app spec s a row =
     if nat_lt (a + 1) (length spec.apps) then record { rows = s.rows; reports = s.reports; standing = Apps (a + 1) row }
     else record { rows = s.rows ++ row ∷ []; reports = s.reports; standing = Rows }
 
--- after the first line of a row its applications are due
+-- The state after the first line of a row, whose applications are due.
 abbrev pub with_row : SoFar → Result Row ℕ → Result SoFar ℕ
 with_row s (Ok row) = Ok (record { rows = s.rows; reports = s.reports; standing = Apps 0 row })
 with_row s (Err rule) = Err rule
 
--- after the line of application a its row has what it did
+-- The state after the line of application a, whose act and area are added to the row.
 abbrev pub with_done : Parts → SoFar → ℕ → Row → Result Done ℕ → Result SoFar ℕ
 with_done spec s a row (Ok done) = Ok (after_app spec s a (with_app row a done.act done.area))
 with_done spec s a row (Err rule) = Err rule
 
--- after a reconfiguration no row stands any more
+-- The state after a reconfiguration, after which no row may come.
 abbrev pub with_report : SoFar → Result Report ℕ → Result SoFar ℕ
 with_report s (Ok report) = Ok (record { rows = s.rows; reports = s.reports ++ report ∷ []; standing = Reports })
 with_report s (Err rule) = Err rule
 
--- after the end line nothing stands any more
+-- The state after the end line, after which no line may come.
 abbrev pub with_end : SoFar → Result ⊤ ℕ → Result SoFar ℕ
 with_end s (Ok done) = Ok (record { rows = s.rows; reports = s.reports; standing = Over })
 with_end s (Err rule) = Err rule
 
--- a report or the end line
+-- The state after a report or the end line.
 abbrev pub closing : Parts → SoFar → List ℕ → Result SoFar ℕ
 closing spec s line =
     if begins line (codes "reconfiguration") then with_report s (report_read spec (length s.rows) line)
     else (if begins line (codes "end") then with_end s (end_read (length s.rows) (length s.reports) line) else Err OUT_OF_PLACE)
 
--- what is read after one more printable line, by what may stand here
+-- The state after a further printable line, by the lines that may come here.
 abbrev pub standing_line : Parts → SoFar → Standing → List ℕ → Result SoFar ℕ
 standing_line spec s Rows line =
     if begins line (codes "frame") then with_row s (row_read spec (length s.rows) line) else closing spec s line
@@ -96,54 +96,54 @@ standing_line spec s (Apps a row) line =
 standing_line spec s Reports line = closing spec s line
 standing_line spec s Over line = Err WRONG_END
 
--- what is read after one more line, or the least rule that the line breaks
+-- The state after a further line, or the first rule that the line breaks.
 abbrev pub after_line : Parts → SoFar → List ℕ → Result SoFar ℕ
 after_line spec s line = if is_plain line then standing_line spec s s.standing line else Err BROKEN_LINE
 
--- a fault in a line of a number, counted from 1
+-- The fault of breaking a rule in a line, counted from 1.
 abbrev pub fault_at : ℕ → ℕ → TraceFault
 fault_at line rule = record { line = line; rule = rule }
 
--- rule 9: the end line is missing
+-- The result at the end of the bytes, where rule 9 requires that the end line has been read.
 abbrev pub at_end : ℕ → SoFar → Standing → Result Flown TraceFault
 at_end k s Over = Ok (record { rows = s.rows; reports = s.reports })
 at_end k s Rows = Err (fault_at k WRONG_END)
 at_end k s (Apps a row) = Err (fault_at k WRONG_END)
 at_end k s Reports = Err (fault_at k WRONG_END)
 
--- rule 1: the last line lacks its line feed
+-- The result after the last line feed, where rule 1 requires that no bytes follow.
 abbrev pub at_last : ℕ → SoFar → List ℕ → Result Flown TraceFault
 at_last k s last = if is_filled last then Err (fault_at k BROKEN_LINE) else at_end k s s.standing
 
--- the reading goes on behind a line that is read, and ends at line k where that one breaks a rule
+-- The result after line k: the reading continues, or ends with a fault if the line breaks a rule.
 abbrev pub go_on : ℕ → Result SoFar ℕ → (SoFar → Result Flown TraceFault) → Result Flown TraceFault
 go_on k (Ok s) next = next s
 go_on k (Err rule) next = Err (fault_at k rule)
 
--- from line k on: the lines and what follows the last line feed
+-- The result of reading from line k on, given the lines and the bytes after the last line feed.
 abbrev pub trace_from : Parts → ℕ → SoFar → List (List ℕ) → Result Flown TraceFault
 trace_from spec k s [] = at_end k s s.standing
 trace_from spec k s (last ∷ []) = at_last k s last
 trace_from spec k s (line ∷ next ∷ lines) =
     go_on k (after_line spec s line) (λ (t : SoFar). trace_from spec (k + 1) t (next ∷ lines))
 
--- a file that is too long breaks rule 9 at line 0
+-- The result of reading bytes as a trace. Bytes that are too many break rule 9 at line 0.
 abbrev pub trace_of : Parts → List ℕ → Result Flown TraceFault
 trace_of spec bytes =
     if nat_lt MAX_TRACE_BYTES (length bytes) then Err (fault_at 0 WRONG_END) else trace_from spec 1 before_first (pieces_of 10 bytes)
 
--- where a line was not taken
+-- The error of stopping at a line.
 abbrev pub stopped : ℕ → Stop → TraceError
 stopped line (stop.Rule rule) = Fault (fault_at line rule)
 stopped line stop.NoMemory = NoMemory
 
--- An answer of the reader: it is the reading's, or out of memory.
+-- The reader's result for a line is the result of the definition, or out of memory.
 abbrev pub AnswersLine : Result SoFar ℕ → Result SoFar Stop → Type 0
 AnswersLine reading (Ok s) = reading ≡ Ok s
 AnswersLine reading (Err (stop.Rule rule)) = reading ≡ Err rule
 AnswersLine reading (Err stop.NoMemory) = ⊤
 
--- the same for a whole trace
+-- The reader's result for a whole trace is the result of the definition, or out of memory.
 abbrev pub AnswersTrace : Result Flown TraceFault → Result Flown TraceError → Type 0
 AnswersTrace reading (Ok flown) = reading ≡ Ok flown
 AnswersTrace reading (Err (Fault fault)) = reading ≡ Err fault

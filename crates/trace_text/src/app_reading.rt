@@ -1,4 +1,4 @@
-//! What the line of an application says, or the least rule that it breaks.
+//! Reading the line of an application.
 
 ghost use Rattle.std.specs.Prelude.{◌≡◌, ◌<◌, ◌≤◌, IfOk, length};
 ghost use Rattle.trace_text.specs.AppReading.{app_in, app_read, bare_act, bare_line, is_bare_form, is_placed_form, phase_act, phase_line, phase_named, placed_line, ran_line};
@@ -12,7 +12,7 @@ use crate::words::Words;
 use scram_types::limits::MAX_PHASE;
 use scram_types::{Act, Area, ProcId, Spec};
 
-/// What an application did in a frame, and its area.
+/// An application's act in a frame, with its area.
 #[derive(Clone, Copy, Debug, PartialEq, Eq)]
 pub struct Done {
     pub act: Act,
@@ -27,10 +27,10 @@ pub enum Phase {
     Initialising,
 }
 
-// The numbers of a phase's frames lie below this.
+// The numbers of a phase's frames are below this limit.
 const PHASE_LIMIT: u64 = 256;
 
-/// Returns what a line says, which is to be that of application `next`.
+/// Reads the line of application `next`. Returns its act and area, or the first rule that the line breaks.
 pub fn read_app(spec: &Spec, next: u8, line: &[u8]) -> Result<Done, u8>
     ensures done { result ≡ app_read spec.now next line.now }
     ensures below { IfOk result (λ done. next < length spec.now.apps) }
@@ -69,7 +69,7 @@ fn is_bare(words: &Words<'_>) -> bool
     words.len() == 12 && words.is(3, b":")
 }
 
-// Returns the act without a processor that a word names.
+// Returns the act without a processor that a word names, or `None` if it names none.
 fn find_bare(tag: &[u8]) -> Option<Act>
     ensures { result ≡ bare_act tag.now }
 {

@@ -1,5 +1,4 @@
-//! The text of a trace: each line goes out as one piece, whole or, at a fault of the sink, up to a
-//! prefix.
+//! The text of a trace. Each line is written as one piece, whole or, if the sink fails, up to a prefix.
 #![tactic(auto)]
 
 pub mod app_reading;

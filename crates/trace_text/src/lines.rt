@@ -1,4 +1,4 @@
-//! One line of text, made without memory.
+//! One line of text, made without allocating.
 
 ghost use Rattle.std.specs.Prelude.{◌≡◌, ◌+◌, ◌≤◌, ◌++◌, [], ℕ, length, decimal};
 ghost use Rattle.std.specs.Fmt.{signed_decimal};
@@ -8,7 +8,7 @@ use arrayvec::ArrayVec;
 use itoa::Buffer;
 use scram_types::limits::MAX_LINE_BYTES;
 
-/// Bytes of one line, at most [`MAX_LINE_BYTES`]. No line of a trace is longer.
+/// A line of at most [`MAX_LINE_BYTES`] bytes. No line of a trace is longer.
 #[derive(Drop)]
 pub struct Line {
     bytes: ArrayVec<u8, MAX_LINE_BYTES>,
@@ -23,7 +23,7 @@ impl std::marker::Model for Line {
 }
 
 impl Line {
-    /// Returns the empty line.
+    /// Creates an empty line.
     pub fn new() -> Line
         ensures { result ≡ [] }
     {
@@ -57,7 +57,7 @@ impl Line {
         self.text(buffer.format(number).as_bytes());
     }
 
-    /// Appends a number in decimal, `-` first where it is negative.
+    /// Appends a number in decimal, preceded by `-` if it is negative.
     pub fn signed(&mut self, number: &i64)
         requires { length self.old + 20 ≤ MAX_LINE_BYTES }
         ensures text { self.new ≡ self.old ++ signed_decimal number.now }

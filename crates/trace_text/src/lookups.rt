@@ -1,4 +1,4 @@
-//! What a name stands for in a specification.
+//! Lookups of names in a specification.
 
 ghost use Rattle.std.specs.Prelude.{◌≡◌, ◌<◌, IfSome, length};
 ghost use Rattle.trace_text.specs.Lookups.{app_number, conf_or_none, mode_from, listed_mode};
@@ -7,7 +7,7 @@ use crate::pieces::is_dash;
 use crate::row_lines::name_of_mode;
 use scram_types::{ConfId, KindId, Mode, ModeSpec, Spec};
 
-/// Returns the configuration of this name, or none for `-`.
+/// Returns the configuration of this name, `Some(None)` for `-`, or `None` if the name is unknown.
 pub fn find_conf_or_none(spec: &Spec, text: &[u8]) -> Option<Option<ConfId>>
     ensures { result ≡ conf_or_none spec.now text.now }
 {
@@ -20,7 +20,7 @@ pub fn find_conf_or_none(spec: &Spec, text: &[u8]) -> Option<Option<ConfId>>
     }
 }
 
-/// Returns the number of the application of this name.
+/// Returns the number of the application of this name, or `None` if there is none.
 pub fn find_app(spec: &Spec, text: &[u8]) -> Option<usize>
     ensures app { result ≡ app_number spec.now text.now }
     ensures below { IfSome result (λ a. a < length spec.now.apps) }
@@ -31,7 +31,7 @@ pub fn find_app(spec: &Spec, text: &[u8]) -> Option<usize>
     }
 }
 
-/// Returns the mode of this name that an application lists.
+/// Returns the mode of this name that application `app` lists, or `None` if it lists no such mode.
 pub fn find_mode(spec: &Spec, app: usize, text: &[u8]) -> Option<Mode>
     ensures { result ≡ listed_mode spec.now app text.now }
 {

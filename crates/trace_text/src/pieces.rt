@@ -1,10 +1,10 @@
-//! Bytes in pieces: a file in lines, a line in words, a list in names.
+//! Splitting bytes into pieces: a file into lines, a line into words, a list into names.
 
 ghost use Rattle.std.specs.Prelude.{◌≡◌, ◌<◌, ◌+◌, ◌==◌, ◌∷◌, [], IfSome, MatchOption, bytes_eq, codes, drop, length, option_map, take};
 ghost use Rattle.std.specs.List.{position};
 ghost use Rattle.trace_text.specs.Pieces.{pieces_of, pieces_behind, sides_of};
 
-// Returns where the first separator stands.
+// Returns the index of the first separator, or `None` if there is none.
 fn separator_place(bytes: &[u8], separator: u8) -> Option<usize>
     ensures { result ≡ position (λ b. b == separator) bytes.now }
 {
@@ -26,7 +26,7 @@ fn behind(bytes: &[u8], at: usize) -> &[u8]
     &bytes[at + 1..]
 }
 
-/// Returns the bytes before the first separator and those behind it, or `None` where there is no separator.
+/// Returns the bytes before and after the first separator, or `None` if there is no separator.
 #[tactic(auto, using(crate::proofs::Splitting::no_separator, crate::proofs::Splitting::first_piece, crate::proofs::Splitting::place_below))]
 pub fn split_once(bytes: &[u8], separator: u8) -> Option<(&[u8], &[u8])>
     ensures pieces { MatchOption result (pieces_of separator bytes.now ≡ bytes.now ∷ [])
@@ -39,7 +39,7 @@ pub fn split_once(bytes: &[u8], separator: u8) -> Option<(&[u8], &[u8])>
     }
 }
 
-/// Returns the first piece, and the bytes behind its separator where there is one.
+/// Returns the first piece, and the bytes after its separator if there is one.
 pub fn first_piece(bytes: &[u8], separator: u8) -> (&[u8], Option<&[u8]>)
     ensures pieces { pieces_of separator bytes.now ≡ result.0.now ∷ pieces_behind separator (option_map (λ b. b.now) result.1) }
     ensures shorter { IfSome result.1 (λ behind. length behind.now < length bytes.now) }
@@ -50,14 +50,14 @@ pub fn first_piece(bytes: &[u8], separator: u8) -> (&[u8], Option<&[u8]>)
     }
 }
 
-/// Returns whether a word is the dash, which stands for none.
+/// Returns whether a word is the dash, which means none.
 pub fn is_dash(word: &[u8]) -> bool
     ensures { result ≡ bytes_eq word.now (codes "-") }
 {
     word == b"-".as_slice()
 }
 
-/// Returns the two sides of the one slash of a word, or `None` where it has none or several.
+/// Returns the two sides of the only slash of a word, or `None` if the word has no slash or several.
 pub fn slash_sides(word: &[u8]) -> Option<(&[u8], &[u8])>
     ensures { option_map (λ halves. (halves.0.now, halves.1.now)) result ≡ sides_of word.now }
 {

@@ -1,4 +1,4 @@
-//! What the lines of a trace say so far, and what may stand next.
+//! The state of reading a trace: the contents of the lines so far, and the lines that may come next.
 
 ghost use Rattle.std.specs.Prelude.{◌≡◌, ◌≤◌, ◌<◌, Ok, length};
 ghost use Rattle.std.specs.List.{list_all};
@@ -16,23 +16,23 @@ use scram_types::limits::MAX_LINE_BYTES;
 use scram_types::{Report, Row, Spec};
 use std::alloc::Global;
 
-/// What may stand next.
+/// The lines that may come next.
 #[derive(Clone, Copy, Debug, PartialEq, Eq)]
 pub enum Standing {
     /// The first line of a row, a reconfiguration or the end line.
     Rows,
-    /// The line of the application of this number, in a row that has begun.
+    /// The line of the application of this number, in a row whose reading has begun.
     Apps(u8, Row),
     /// A reconfiguration or the end line.
     Reports,
-    /// Nothing: the end line has been read.
+    /// No line, since the end line has been read.
     Over,
 }
 
-/// Why a line was not taken.
+/// The cause for which a line was not accepted.
 #[derive(Clone, Copy, Debug, PartialEq, Eq)]
 pub enum Stop {
-    /// The least rule that it breaks.
+    /// The first rule that the line breaks.
     Rule(u8),
     /// Out of memory for a row or a report.
     NoMemory,
@@ -69,7 +69,7 @@ impl Progress {
         }
     }
 
-    /// Reads one more line, which stands here without its line feed.
+    /// Reads a further line, given without its line feed.
     pub fn read_line(self, spec: &Spec, line: &[u8]) -> Result<Progress, Stop>
         ensures { AnswersLine (after_line spec.now self line.now) result }
     {
@@ -102,7 +102,7 @@ impl Progress {
         }
     }
 
-    // Reads a line where that of application `a` is to stand.
+    // Reads a line in the place of the line of application `a`.
     fn read_app_line(self, spec: &Spec, a: u8, row: Row, line: &[u8]) -> Result<Progress, Stop>
         requires { length self.rows < MAX_FRAMES }
         ensures { AnswersLine (standing_line spec.now self (Apps a row) line.now) result }
@@ -116,7 +116,7 @@ impl Progress {
         }
     }
 
-    // Takes what application `a` did into the row, which is whole after its last application.
+    // Adds the act and the area of application `a` to the row. The row is complete after its last application.
     fn take_done(mut self, spec: &Spec, a: u8, row: Row, done: &Done) -> Result<Progress, Stop>
         requires rows { length self.rows < MAX_FRAMES }
         requires app { a < length spec.now.apps }
@@ -136,7 +136,7 @@ impl Progress {
         Ok(self)
     }
 
-    // Reads a line where a report or the end line may stand.
+    // Reads a line where a report or the end line may come.
     fn read_closing(self, spec: &Spec, line: &[u8]) -> Result<Progress, Stop>
         requires { length self.rows ≤ MAX_FRAMES }
         ensures { AnswersLine (closing spec.now self line.now) result }
@@ -173,7 +173,7 @@ impl Progress {
     }
 }
 
-// Returns the row with what application `a` did.
+// Returns the row with the act and the area of application `a`.
 fn row_with(row: Row, a: u8, done: &Done) -> Row
     requires { a < 8 }
     ensures { result ≡ with_app row a done.now.act done.now.area }

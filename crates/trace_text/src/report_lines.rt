@@ -1,4 +1,4 @@
-//! The line of a reconfiguration, and the line that ends a trace.
+//! The line of a reconfiguration, and the end line of a trace.
 
 ghost use Rattle.std.specs.Prelude.{◌≡◌, ◌+◌, ◌≤◌, ◌++◌, length};
 ghost use Rattle.trace_text.specs.Text.{bound_text, length_text, target_text, report_line, end_line};
@@ -7,7 +7,7 @@ ghost use Rattle.scram_types.specs.declared.limits.TheConstants.{MAX_LINE_BYTES}
 use crate::lines::Line;
 use scram_types::{ConfId, Report, Spec};
 
-/// Returns the line of a reconfiguration: where it led, how long it took, and the bound on it.
+/// Returns the line of a reconfiguration: its target, its length and the bound on it.
 pub fn make_report_line(spec: &Spec, report: &Report) -> Line
     ensures { result ≡ report_line spec.now report.now }
 {
@@ -19,7 +19,7 @@ pub fn make_report_line(spec: &Spec, report: &Report) -> Line
     line
 }
 
-/// Returns the line that ends a trace, with the numbers of its rows and of its reports.
+/// Returns the end line of a trace, with the numbers of its rows and of its reports.
 pub fn make_end_line(frames: u32, reports: u32) -> Line
     ensures { result ≡ end_line frames reports }
 {
@@ -32,7 +32,7 @@ pub fn make_end_line(frames: u32, reports: u32) -> Line
     line
 }
 
-/// Adds where a reconfiguration led, when it began and ended, how long it took and the bound on it: at most 90 bytes.
+/// Appends the target of a reconfiguration, its begin, its end, its length and the bound on it: at most 90 bytes.
 pub fn add_target(line: &mut Line, spec: &Spec, report: &Report)
     requires { length line.old + 90 ≤ MAX_LINE_BYTES }
     ensures text { line.new ≡ line.old ++ target_text spec.now report.now report.now.to }
@@ -69,7 +69,7 @@ fn add_unfinished(line: &mut Line, spec: &Spec, report: &Report)
     add_length(line, report, spec.greatest_bound(report.from));
 }
 
-/// Adds how long a reconfiguration took, and the bound on that.
+/// Appends the length of a reconfiguration and the bound on it.
 pub fn add_length(line: &mut Line, report: &Report, bound: Option<u32>)
     requires { length line.old + 30 ≤ MAX_LINE_BYTES }
     ensures text { line.new ≡ line.old ++ length_text report.now bound }
@@ -81,7 +81,7 @@ pub fn add_length(line: &mut Line, report: &Report, bound: Option<u32>)
     add_bound(line, bound);
 }
 
-/// Adds a bound in frames, or `-` for none.
+/// Appends a bound in frames, or `-` if there is none.
 pub fn add_bound(line: &mut Line, bound: Option<u32>)
     requires { length line.old + 10 ≤ MAX_LINE_BYTES }
     ensures text { line.new ≡ line.old ++ bound_text bound }

@@ -1,4 +1,4 @@
-//! What the line of a reconfiguration says, and the end line, or the least rule that they break.
+//! Reading the line of a reconfiguration, and the end line.
 
 ghost use Rattle.std.specs.Prelude.{◌≡◌, ◌<◌};
 ghost use Rattle.trace_text.specs.ReportReading.{bound_or_none, end_in, end_read, finished_report, is_end_form, is_report_form, report_end, report_in, report_read, same_bound, unfinished_report};
@@ -10,10 +10,11 @@ use crate::words::Words;
 use scram_types::limits::MAX_FRAMES;
 use scram_types::{ConfId, Report, Spec};
 
-// Numbers of 32 bits lie below this.
+// Numbers of 32 bits are below this limit.
 const COUNT_LIMIT: u64 = 4_294_967_296;
 
-/// Returns the reconfiguration that a line gives for a flight with this number of frames.
+/// Reads the line of a reconfiguration of a flight with this number of frames. Returns the reconfiguration, or the
+/// first rule that the line breaks.
 pub fn read_report(spec: &Spec, frames: u32, line: &[u8]) -> Result<Report, u8>
     ensures { result ≡ report_read spec.now frames line.now }
 {
@@ -103,7 +104,7 @@ fn read_report_end(
     }
 }
 
-// Returns the number of frames that a bound is spelled as, or none for `-`.
+// Returns the bound that a text spells, `Some(None)` for `-`, or `None` if it spells none.
 fn read_bound(text: &[u8]) -> Option<Option<u32>>
     ensures { result ≡ bound_or_none text.now }
 {
@@ -127,7 +128,8 @@ fn is_same_bound(one: Option<u32>, other: Option<u32>) -> bool
     }
 }
 
-/// Returns whether a line ends a trace with these numbers of rows and reports.
+/// Reads the end line of a trace with these numbers of rows and reports. Fails with the first rule that the line
+/// breaks.
 pub fn read_end(frames: usize, reports: usize, line: &[u8]) -> Result<(), u8>
     ensures { result ≡ end_read frames reports line.now }
 {

@@ -12,7 +12,7 @@ use scram_types::{
     Act, AppSpec, Area, ConfId, Factor, KMode, KindId, Mode, Name, ProcId, Row, Spec, World,
 };
 
-/// Returns the line that begins a row: frame, mode, environment and world.
+/// Returns the first line of a row: frame, mode, environment and world.
 pub fn make_row_line(spec: &Spec, row: &Row) -> Line
     ensures { result ≡ row_line spec.now row.now }
 {
@@ -31,7 +31,7 @@ pub fn make_row_line(spec: &Spec, row: &Row) -> Line
     line
 }
 
-/// Returns the line of an application in a row: what it did, and its area.
+/// Returns the line of an application in a row: its act and its area.
 pub fn make_app_line(spec: &Spec, app: &AppSpec, act: &Act, area: &Area) -> Line
     ensures { result ≡ app_line spec.now app.now act.now area.now }
 {
@@ -57,7 +57,7 @@ pub fn name_of_mode(kind: KindId, mode: Mode) -> &'static str
     }
 }
 
-/// Adds the name of a configuration, or `-` for none.
+/// Appends the name of a configuration, or `-` for none.
 pub fn add_conf_or_dash(line: &mut Line, spec: &Spec, conf: Option<ConfId>)
     requires { length line.old + 16 ≤ MAX_LINE_BYTES }
     ensures text { line.new ≡ line.old ++ conf_or_dash spec.now conf }
@@ -123,7 +123,7 @@ fn add_further_values(line: &mut Line, factors: &[Factor], values: &[u8; 6])
     }
 }
 
-/// Adds the names of the processors that are up, or `-` for none.
+/// Appends the names of the processors that are up, or `-` for none.
 pub fn add_up(line: &mut Line, spec: &Spec, up: u8)
     requires { length line.old + 137 ≤ MAX_LINE_BYTES }
     ensures text { line.new ≡ line.old ++ up_text spec.now up }

@@ -1,4 +1,4 @@
-//! What the first line of a row says, or the least rule that it breaks.
+//! Reading the first line of a row.
 
 ghost use Rattle.std.specs.Prelude.{◌≡◌, ◌≤◌, ◌<◌, IfOk};
 ghost use Rattle.trace_text.specs.RowReading.{are_values, env_names, is_env_form, is_moving_form, is_stable_form, moving_row, row_end, row_of_words, row_read, stable_row, world_at};
@@ -13,7 +13,8 @@ use crate::words::Words;
 use scram_types::limits::MAX_FRAMES;
 use scram_types::{Act, Env, Factor, KMode, Row, Spec, World};
 
-/// Returns the row that a line begins, its frame being `next`; its applications are still to come.
+/// Reads the first line of row `next`. Returns the row, still without its applications, or the first rule that the line
+/// breaks.
 pub fn read_row(spec: &Spec, next: usize, line: &[u8]) -> Result<Row, u8>
     ensures row { result ≡ row_read spec.now next line.now }
     ensures below { IfOk result (λ row. next < MAX_FRAMES) }
@@ -115,7 +116,7 @@ fn read_moving(spec: &Spec, next: usize, words: &Words<'_>) -> Result<Row, u8>
     read_row_end(spec, next, words, 7, Begun { mode, values })
 }
 
-// Returns the values of an environment whose words begin at a place, where it has no unknown name.
+// Returns the values of the environment whose words begin at index `at`, or `None` if a name is unknown.
 fn find_environment(spec: &Spec, words: &Words<'_>, at: usize) -> Option<[u8; 6]>
     requires { at ≤ 7 }
     ensures { result ≡ env_names spec.now words.now at }
@@ -126,7 +127,7 @@ fn find_environment(spec: &Spec, words: &Words<'_>, at: usize) -> Option<[u8; 6]
     find_values(spec, words.word_at(at + 1))
 }
 
-/// What the first words of a row's line name: its mode and the values of the factors.
+/// The mode and the values of the factors that the first words of a row's line name.
 #[derive(Clone, Copy)]
 struct Begun {
     mode: KMode,

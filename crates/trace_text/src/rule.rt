@@ -1,27 +1,27 @@
-//! The numbers of the rules of a trace. A fault shows its number, so they never change.
+//! The numbers of the rules of a trace. A fault shows its rule's number, so the numbers never change.
 
 /// The line lacks its line feed, has a byte that is not printable, or is too long.
 pub const BROKEN_LINE: u8 = 1;
 
-/// The line's first word may not stand here.
+/// The line's first word is not allowed here.
 pub const OUT_OF_PLACE: u8 = 2;
 
-/// The line's words are not those of a form.
+/// The line's words do not match any form.
 pub const NO_FORM: u8 = 3;
 
 /// A name is unknown in its place.
 pub const UNKNOWN_NAME: u8 = 4;
 
-/// A number is not spelled as printed, or leaves its range.
+/// A number is not spelled as printed, or is out of its range.
 pub const WRONG_NUMBER: u8 = 5;
 
-/// The frame or the application is not the next.
+/// The frame or the application is not the next one.
 pub const NOT_NEXT: u8 = 6;
 
-/// The frames of a phase are not counted up to its last, or processors are not in their order.
+/// The frame of a phase is not below the phase's length, or processors are out of order.
 pub const OUT_OF_ORDER: u8 = 7;
 
-/// A length, a bound or a count is not what it has to be, or a reconfiguration begins after its end.
+/// A length, a bound or a count is wrong, or a reconfiguration begins after its end.
 pub const WRONG_COUNT: u8 = 8;
 
 /// The end line is missing, a line follows it, or the trace is too long.

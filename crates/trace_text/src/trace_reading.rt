@@ -1,4 +1,4 @@
-//! A trace read from its bytes.
+//! Reading a trace from its bytes.
 
 ghost use Rattle.std.specs.Prelude.{◌≡◌, ◌≤◌, IfOk, Ok, length};
 ghost use Rattle.trace_text.specs.Text.{text_of};
@@ -11,23 +11,23 @@ use scram_types::limits::MAX_TRACE_BYTES;
 use scram_types::{Flown, List, Spec};
 use std::alloc::Global;
 
-/// The first line, counted from 1, that breaks a rule, with the least rule, 1 to 9, that it breaks. A
-/// trace that is too long breaks rule 9 at line 0.
+/// The first line, counted from 1, that breaks a rule, and the first rule, 1 to 9, that the line breaks. A trace that
+/// is too long breaks rule 9 at line 0.
 #[derive(Clone, Copy, Debug, PartialEq, Eq)]
 pub struct TraceFault {
     pub line: u32,
     pub rule: u8,
 }
 
-/// Why bytes were not read as a trace.
+/// The error of reading bytes as a trace.
 #[derive(Clone, Copy, Debug, PartialEq, Eq)]
 pub enum TraceError {
     Fault(TraceFault),
     NoMemory,
 }
 
-/// Returns the rows and reports of which the bytes are the text, or the first line that breaks a rule with the least
-/// rule that it breaks.
+/// Reads a trace from its bytes. Returns its rows and reports, or the first line that breaks a rule with the first rule
+/// that the line breaks.
 pub fn read_trace(alloc: Global, bytes: &[u8], spec: &Spec) -> Result<Flown, TraceError>
     ensures read { AnswersTrace (trace_of spec.now bytes.now) result }
     ensures text { IfOk result (λ flown. bytes.now ≡ text_of spec.now flown.rows flown.reports) }
@@ -77,7 +77,7 @@ fn stopped_at(line: u32, stop: Stop) -> TraceError
     }
 }
 
-// Returns what was read, where the end line has been and nothing follows the last line feed.
+// Returns the flight that was read, provided the end line has been read and nothing follows the last line feed.
 fn finish(progress: Progress, line: u32, last: &[u8]) -> Result<Flown, TraceError>
     ensures { AnswersTrace (at_last line progress last.now) result }
 {

@@ -6,7 +6,7 @@ ghost use Rattle.trace_text.specs.Pieces.{words_of, words_in, is_word, word_at};
 use crate::pieces::first_piece;
 use arrayvec::ArrayVec;
 
-/// The words of a line, at most 16, none of them empty.
+/// The words of a line: at most 16, none of them empty.
 #[derive(Drop)]
 pub struct Words<'a> {
     words: ArrayVec<&'a [u8], 16>,
@@ -20,7 +20,7 @@ impl<'a> std::marker::Model for Words<'a> {
     ghost view = { λ a. map (λ w. w.now) a.words.items };
 }
 
-/// Returns the first word of a line, which is empty where the line begins with a space.
+/// Returns the first word of a line, which is empty if the line begins with a space.
 pub fn first_word(line: &[u8]) -> &[u8]
     ensures { result.now ≡ slice_index_or (words_of line.now) 0 [] }
 {
@@ -28,7 +28,7 @@ pub fn first_word(line: &[u8]) -> &[u8]
 }
 
 impl<'a> Words<'a> {
-    /// Returns the words of a line, or `None` where one is empty or they are more than 16.
+    /// Returns the words of a line, or `None` if a word is empty or there are more than 16.
     pub fn of(line: &'a [u8]) -> Option<Words<'a>>
         ensures { result ≡ words_in line.now }
     {
@@ -45,7 +45,7 @@ impl<'a> Words<'a> {
         self.words.as_slice().len()
     }
 
-    /// Returns the word at a place, and no bytes where there is none.
+    /// Returns the word at an index, or an empty slice if there is none.
     pub fn word_at(&self, at: usize) -> &[u8]
         ensures { result.now ≡ word_at self.now at }
     {
@@ -55,7 +55,7 @@ impl<'a> Words<'a> {
         }
     }
 
-    /// Returns whether this word stands at a place.
+    /// Returns whether the word at an index is `text`.
     pub fn is(&self, at: usize, text: &[u8]) -> bool
         ensures { result ≡ is_word self.now at text.now }
     {
