@@ -38,7 +38,7 @@ pub record IsEnvShown (spec : Parts) (env : Env) : Type 0 where
   pub values : (x : ℕ) (factor : Factor) → slice_get spec.factors x ≡ Some factor → slice_index env.factors x < length factor.values
   pub rest : (x : ℕ) → length spec.factors ≤ x → slice_index env.factors x ≡ 0
 
--- A number that a flight shows is between minus a million and a million.
+-- A number that a flight shows is between -1,000,001 and 1,000,000, inclusive.
 abbrev pub IsShown : ℤ → Type 0
 IsShown z = mag z ≤ 1000000
 
