@@ -9,7 +9,7 @@ further_both [] ys = refl
 further_both (x ∷ xs) ys =
     ap (λ (tail : List ℕ). codes "," ++ x ++ tail) (further_both xs ys) ∙ sym (append_assoc (codes "," ++ x) (further_joined xs) (further_joined ys))
 
--- what is joined of two lists, the second behind the first, and a dash where both are empty
+-- the join of two lists, one after the other, with a dash if both are empty
 pub joined_both : (xs ys : List (List ℕ)) →
     joined (xs ++ ys) ≡ (comma_joined xs ++ comma_joined_after (is_any xs) ys) ++ (if is_any xs || is_any ys then [] else codes "-")
 joined_both [] [] = refl
@@ -18,12 +18,12 @@ joined_both (x ∷ xs) ys =
     ap (λ (tail : List ℕ). x ++ tail) (further_both xs ys) ∙ sym (append_assoc x (further_joined xs) (further_joined ys))
     ∙ sym (append-nil ((x ++ further_joined xs) ++ further_joined ys))
 
--- whether there is anything in one of two lists
+-- one of two lists is not empty
 pub any_both : (xs ys : List (List ℕ)) → is_any (xs ++ ys) ≡ (is_any xs || is_any ys)
 any_both [] ys = refl
 any_both (x ∷ xs) ys = refl
 
--- both lists were added to a line, and there is something in one of them
+-- both lists were added to a line, and one of them is not empty
 pub both_added : (line values all : List ℕ) (some any : Bool) (xs ys : List (List ℕ)) → values ≡ line ++ comma_joined xs → some ≡ is_any xs
     → all ≡ values ++ comma_joined_after some ys → any ≡ (some || is_any ys) → any ≡ true → all ≡ line ++ joined (xs ++ ys)
 both_added line values all some any xs ys first is_some second is_any_of given =

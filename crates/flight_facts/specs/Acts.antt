@@ -1,4 +1,4 @@
--- What an application did in a row, without the frames of a phase.
+-- Acts of applications, without the frames of a phase.
 use Rattle.std.specs.Prelude.{ℕ, ◌==◌, List, slice_index_or, Option, Some, None, codes}
 use Rattle.std.specs.List.{count_by}
 use Rattle.scram_types.specs.declared.rows.Row.{Row}
@@ -8,11 +8,11 @@ use Rattle.scram_types.specs.declared.orders.Act.TheVariants as act
 use Rattle.flight_facts.specs.declared.acts.ActWord.{ActWord}
 use Rattle.flight_facts.specs.declared.acts.ActWord.TheVariants.{Ran, Halting, Preparing, Initialising, Held, Off, Lost}
 
--- what application a did in a row
+-- The act of application a in a row.
 abbrev pub act_of : Row → ℕ → Act
 act_of row a = slice_index_or row.acts a act.Off
 
--- the first word of an act
+-- The first word of an act.
 abbrev pub act_word : Act → ActWord
 act_word (act.Ran mode proc) = Ran
 act_word (act.Halting k n proc) = Halting
@@ -22,7 +22,7 @@ act_word (act.Initialising k n proc) = Initialising
 act_word act.Off = Off
 act_word act.Lost = Lost
 
--- how a trace spells it
+-- The word as a trace spells it.
 abbrev pub word_text : ActWord → List ℕ
 word_text Ran = codes "ran"
 word_text Halting = codes "halting"
@@ -32,7 +32,7 @@ word_text Held = codes "held"
 word_text Off = codes "off"
 word_text Lost = codes "lost"
 
--- numbers that tell them apart
+-- The number of the word, which differs for each word.
 abbrev pub word_number : ActWord → ℕ
 word_number Ran = 0
 word_number Halting = 1
@@ -42,7 +42,7 @@ word_number Held = 4
 word_number Off = 5
 word_number Lost = 6
 
--- the mode in which it ran; 0, which is no mode that is on, where it did not
+-- The mode in which an application ran, or 0, off, if it did not run.
 abbrev pub mode_of_act : Act → ℕ
 mode_of_act (act.Ran mode proc) = mode.0
 mode_of_act (act.Halting k n proc) = 0
@@ -52,7 +52,7 @@ mode_of_act (act.Initialising k n proc) = 0
 mode_of_act act.Off = 0
 mode_of_act act.Lost = 0
 
--- the processor on which it did it, where there is one
+-- The processor that an act names, or nothing if it names none.
 abbrev pub proc_of_act : Act → Option ProcId
 proc_of_act (act.Ran mode proc) = Some proc
 proc_of_act (act.Halting k n proc) = Some proc
@@ -62,6 +62,6 @@ proc_of_act (act.Initialising k n proc) = Some proc
 proc_of_act act.Off = None
 proc_of_act act.Lost = None
 
--- in how many rows application a did this
+-- The number of rows in which the first word of application a's act is this one.
 abbrev pub count_acts : ActWord → ℕ → List Row → ℕ
 count_acts what a rows = count_by (λ (row : Row). word_number (act_word (act_of row a)) == word_number what) rows

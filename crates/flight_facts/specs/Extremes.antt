@@ -1,4 +1,4 @@
--- The least and the greatest of a quantity of the aircraft.
+-- The minimum and the maximum of a quantity of the aircraft.
 use Rattle.std.specs.Prelude.{ℕ, ℤ, List, [], ◌∷◌, ◌++◌, codes, Option, Some, None}
 use Rattle.std.specs.Fmt.{signed_decimal}
 use Rattle.std.specs.Int.{int_max, int_min}
@@ -8,23 +8,23 @@ use Rattle.flight_facts.specs.declared.extremes.Extremes.{Extremes}
 use Rattle.flight_facts.specs.declared.extremes.Quantity.{Quantity}
 use Rattle.flight_facts.specs.declared.extremes.Quantity.TheVariants.{Altitude, Climb, Heading, Bank}
 
--- a quantity of the aircraft
+-- A quantity of the aircraft.
 abbrev pub quantity_of : Quantity → World → ℤ
 quantity_of Altitude world = world.alt
 quantity_of Climb world = world.climb
 quantity_of Heading world = world.heading
 quantity_of Bank world = world.bank
 
--- the extremes of one more number
+-- The extremes after adding a number.
 abbrev pub widened : ℤ → Option Extremes → Extremes
 widened number None = record { least = number; greatest = number }
 widened number (Some so_far) = record { least = int_min number so_far.least; greatest = int_max number so_far.greatest }
 
--- the least and the greatest of all rows; none without a row
+-- The minimum and the maximum over all rows, or nothing if there are no rows.
 abbrev pub extremes_of : Quantity → List Row → Option Extremes
 extremes_of quantity [] = None
 extremes_of quantity (row ∷ rows) = Some (widened (quantity_of quantity row.world) (extremes_of quantity rows))
 
--- from the least to the greatest
+-- The text of the range from the minimum to the maximum.
 abbrev pub extremes_text : Extremes → List ℕ
 extremes_text extremes = signed_decimal extremes.least ++ codes " to " ++ signed_decimal extremes.greatest

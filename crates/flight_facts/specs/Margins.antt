@@ -1,24 +1,24 @@
--- The margin of a reconfiguration: how far it stayed below its bound.
+-- The margin of a reconfiguration: its bound minus its length.
 use Rattle.std.specs.Prelude.{ℕ, pos, ◌-◌, ◌-ℤ◌, List, Option, Some, None, codes}
 use Rattle.std.specs.Fmt.{signed_decimal}
 use Rattle.scram_types.specs.Specification.{Parts, bound_in, greatest_bound_in}
 use Rattle.scram_types.specs.declared.rows.Report.{Report}
 use Rattle.scram_types.specs.declared.ids.ConfId.{ConfId}
 
--- the bound on a reconfiguration to a target; where it is unfinished the greatest one from its source
+-- The bound on a reconfiguration to a target, or the greatest bound from its source if it is unfinished.
 abbrev pub bound_to : Parts → ConfId → Option ConfId → Option ℕ
 bound_to spec from None = greatest_bound_in spec.bounds from.0
 bound_to spec from (Some to) = bound_in spec.bounds from.0 to.0
 
--- the bound on a reconfiguration
+-- The bound on a reconfiguration.
 abbrev pub bound_of : Parts → Report → Option ℕ
 bound_of spec report = bound_to spec report.from report.to
 
--- the bound less the frames that it took, below zero where it took longer; `-` where there is no bound
+-- The bound minus the frames taken, negative if there were more frames, or `-` if there is no bound.
 abbrev pub margin_text : Option ℕ → ℕ → List ℕ
 margin_text None took = codes "-"
 margin_text (Some bound) took = signed_decimal (pos bound -ℤ pos took)
 
--- the margin of a reconfiguration
+-- The margin of a reconfiguration.
 abbrev pub margin_of : Parts → Report → List ℕ
 margin_of spec report = margin_text (bound_of spec report) (report.end - report.begin)

@@ -1,11 +1,11 @@
-//! What an application did in a row, without the frames of a phase.
+//! Acts of applications, without the frames of a phase.
 
 ghost use Rattle.std.specs.Prelude.{◌≡◌, ◌<◌, ◌≤◌, ◌^◌, length};
 ghost use Rattle.flight_facts.specs.Acts.{act_word, count_acts, mode_of_act, proc_of_act, word_number, word_text};
 
 use scram_types::{Act, Mode, ProcId, Row, Spec};
 
-/// The first word of an act: what an application did in a frame.
+/// The first word of an act, which says what an application did in a frame.
 #[derive(Clone, Copy, Debug, PartialEq, Eq)]
 pub enum ActWord {
     Ran,
@@ -49,7 +49,7 @@ impl ActWord {
         }
     }
 
-    /// Returns its number, 0 to 6, which no other one has.
+    /// Returns the number of the word, 0 to 6, which differs for each word.
     pub fn number(self) -> u8
         ensures number { result ≡ word_number self }
         ensures below { result < 7 }
@@ -66,7 +66,7 @@ impl ActWord {
     }
 }
 
-/// Returns the mode in which an application ran; mode 0, off, where it did not run.
+/// Returns the mode in which an application ran, or mode 0, off, if it did not run.
 pub fn mode_of_act(act: &Act) -> Mode
     ensures { result.0 ≡ mode_of_act act.now }
 {
@@ -81,7 +81,7 @@ pub fn mode_of_act(act: &Act) -> Mode
     }
 }
 
-/// Returns the processor that an act names.
+/// Returns the processor that an act names, or `None` if it names none.
 pub fn proc_of_act(act: &Act) -> Option<ProcId>
     ensures { result ≡ proc_of_act act.now }
 {
@@ -104,7 +104,7 @@ pub fn count_apps(spec: &Spec) -> usize
     spec.apps.items().len()
 }
 
-/// Returns the number of rows in which an application did this.
+/// Returns the number of rows in which the first word of an application's act is `what`.
 pub fn count_acts(what: ActWord, app: usize, rows: &[Row]) -> u32
     requires app { app < 8 }
     requires rows { length rows.now < 2 ^ 32 }

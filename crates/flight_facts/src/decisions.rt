@@ -1,4 +1,4 @@
-//! How a reconfiguration came about: the row in which it is decided, and its cause.
+//! The decision of a reconfiguration: its row and its cause.
 
 ghost use Rattle.std.specs.Prelude.{◌≡◌, ◌≤◌, ◌+◌, ◌++◌, length, option_and_then};
 ghost use Rattle.scram_types.specs.declared.limits.TheConstants.{MAX_LINE_BYTES};
@@ -10,8 +10,9 @@ use scram_types::lookups::{env_before, env_in};
 use scram_types::{Env, KMode, Report, Row, Spec};
 use trace_text::lines::Line;
 
-/// Returns the row in which a reconfiguration is decided that begins in row `begin`: that one where it moves, else, since
-/// something was lost in it, the next one, which may not exist.
+/// Returns the row in which the reconfiguration that begins in row `begin` is decided. It is row `begin` if a
+/// reconfiguration is under way in it. Otherwise something was lost in row `begin`, and it is the next row, which may
+/// not exist.
 pub fn decided_in(rows: &[Row], begin: u32) -> usize
     ensures { result ≡ decided_in rows.now begin }
 {
@@ -26,7 +27,7 @@ pub fn decided_in(rows: &[Row], begin: u32) -> usize
     }
 }
 
-/// Returns whether anything differs between two environments that are there.
+/// Returns whether two environments exist and differ.
 pub fn differ(spec: &Spec, before: Option<Env>, after: Option<Env>) -> bool
     ensures { result ≡ differ spec.now before after }
 {
@@ -38,7 +39,7 @@ pub fn differ(spec: &Spec, before: Option<Env>, after: Option<Env>) -> bool
     }
 }
 
-/// Adds the difference between two environments, `-` where one is missing.
+/// Appends the difference between two environments, or `-` if one is missing.
 pub fn add_difference_or_dash(line: &mut Line, spec: &Spec, before: Option<Env>, after: Option<Env>)
     requires { length line.old + 348 ≤ MAX_LINE_BYTES }
     ensures text { line.new ≡ line.old ++ difference_or_dash spec.now before after }
@@ -52,8 +53,9 @@ pub fn add_difference_or_dash(line: &mut Line, spec: &Spec, before: Option<Env>,
     }
 }
 
-/// Adds the cause of a reconfiguration that begins in row `begin`: what changed in the row in which it is decided, or,
-/// where nothing did, since the reconfiguration before it was decided, if that one is finished in the row before.
+/// Appends the cause of a reconfiguration that begins in row `begin`: what changed in the row in which it is decided.
+/// If nothing did, the cause is what changed since the reconfiguration `earlier` was decided, if that one ended in the
+/// preceding row.
 pub fn add_cause(line: &mut Line, spec: &Spec, rows: &[Row], earlier: Option<Report>, begin: u32)
     requires { length line.old + 348 ≤ MAX_LINE_BYTES }
     ensures text { line.new ≡ line.old ++ cause_text spec.now rows.now earlier begin }
@@ -83,7 +85,8 @@ fn is_under_way(mode: &KMode) -> bool
     }
 }
 
-// Returns the environment in which the reconfiguration before was decided, where it is finished in the row before `begin`.
+// Returns the environment in which the reconfiguration `earlier` was decided, or `None` if it did not end in the row
+// preceding `begin`.
 fn put_off_env(rows: &[Row], earlier: Option<Report>, begin: u32) -> Option<Env>
     ensures { result ≡ option_and_then (env_in rows.now) (put_off_in rows.now earlier begin) }
 {

@@ -7,9 +7,10 @@ ghost use Rattle.flight_facts.specs.Differences.{difference_text, have_changed, 
 use scram_types::{Env, Factor, Proc, Spec};
 use trace_text::lines::Line;
 
-/// Adds the difference between two environments: each factor whose value differs, as `FACTOR=VALUE` with the second
-/// value, then each processor whose state differs, as `-PROC` where it is down in the second and as `+PROC` where it is
-/// up; joined by commas, `-` where nothing differs. It has at most 348 bytes.
+/// Appends the difference between two environments, at most 348 bytes. Each factor whose value differs is written as
+/// `FACTOR=VALUE` with the second value. Then each processor whose state differs is written as `-PROC` if it is down in
+/// the second environment and as `+PROC` if it is up. The parts are joined by commas; if nothing differs, `-` is
+/// written.
 pub fn add_difference(line: &mut Line, spec: &Spec, before: &Env, after: &Env)
     requires { length line.old + 348 ≤ MAX_LINE_BYTES }
     ensures text { line.new ≡ line.old ++ difference_text spec.now before.now after.now }
@@ -57,7 +58,7 @@ fn has_proc_changed(spec: &Spec, before: u8, after: u8) -> bool
     false
 }
 
-// Adds the factors whose values differ, and returns whether there is one.
+// Appends the factors whose values differ, and returns whether there are any.
 fn add_values(line: &mut Line, spec: &Spec, before: &[u8; 6], after: &[u8; 6]) -> bool
     requires { length line.old + 204 ≤ MAX_LINE_BYTES }
     ensures text { line.new ≡ line.old ++ comma_joined (values_changed spec.now.factors 0 before.now after.now) }
@@ -74,7 +75,7 @@ fn add_values(line: &mut Line, spec: &Spec, before: &[u8; 6], after: &[u8; 6]) -
     any
 }
 
-// Adds the processors whose states differ behind what differs so far, and returns whether anything differs.
+// Appends the processors whose states differ after the factors, and returns whether anything differs.
 fn add_procs(line: &mut Line, spec: &Spec, values: bool, before: u8, after: u8) -> bool
     requires { length line.old + 144 ≤ MAX_LINE_BYTES }
     ensures text { line.new ≡ line.old ++ comma_joined_after values (procs_changed spec.now.procs before after) }
@@ -108,7 +109,7 @@ fn add_value(line: &mut Line, is_further: bool, factor: &Factor, value: u8)
     line.text(factor.value_name(value).as_bytes());
 }
 
-// The lowest bit of `later` says whether the processor is up.
+// Appends a processor whose state differs. The lowest bit of `later` is 1 if the processor is up.
 fn add_proc(line: &mut Line, is_further: bool, proc: &Proc, later: u8)
     requires { length line.old + 18 ≤ MAX_LINE_BYTES }
     ensures text { line.new ≡ line.old ++ (if is_further then codes "," else []) ++ proc_change proc.now later }

@@ -1,4 +1,4 @@
-//! The least and the greatest of a quantity of the aircraft.
+//! The minimum and the maximum of a quantity of the aircraft.
 
 ghost use Rattle.std.specs.Prelude.{◌≡◌, ◌≤◌, ◌+◌, ◌++◌, Some, length};
 ghost use Rattle.scram_types.specs.declared.limits.TheConstants.{MAX_LINE_BYTES};
@@ -7,20 +7,20 @@ ghost use Rattle.flight_facts.specs.Extremes.{extremes_of, extremes_text, quanti
 use scram_types::{Row, World};
 use trace_text::lines::Line;
 
-/// What a row says of the aircraft.
+/// A quantity of the aircraft that a row shows.
 #[derive(Clone, Copy, Debug, PartialEq, Eq)]
 pub enum Quantity {
-    /// In feet.
+    /// The altitude, in feet.
     Altitude,
-    /// In tenths of a foot per frame.
+    /// The climb, in tenths of a foot per frame.
     Climb,
-    /// In tenths of a degree.
+    /// The heading, in tenths of a degree.
     Heading,
-    /// In tenths of a degree.
+    /// The bank, in tenths of a degree.
     Bank,
 }
 
-/// The least and the greatest of some numbers.
+/// The minimum and the maximum of some numbers.
 #[derive(Clone, Copy, Debug, PartialEq, Eq)]
 pub struct Extremes {
     pub least: i64,
@@ -39,7 +39,7 @@ pub fn quantity_of(quantity: Quantity, world: &World) -> i64
     }
 }
 
-/// Returns the least and the greatest of all rows, or `None` where there is no row.
+/// Returns the minimum and the maximum over all rows, or `None` if there are no rows.
 pub fn extremes_of(quantity: Quantity, rows: &[Row]) -> Option<Extremes>
     ensures { result ≡ extremes_of quantity rows.now }
 {
@@ -67,7 +67,7 @@ fn widened(number: i64, so_far: Option<Extremes>) -> Extremes
     }
 }
 
-/// Adds the least and the greatest.
+/// Appends the minimum and the maximum.
 pub fn add_extremes(line: &mut Line, extremes: &Extremes)
     requires { length line.old + 44 ≤ MAX_LINE_BYTES }
     ensures text { line.new ≡ line.old ++ extremes_text extremes.now }

@@ -1,4 +1,4 @@
-//! Gaps: rows on end in which an application neither ran nor was off.
+//! Gaps: consecutive rows in which an application neither ran nor was off.
 
 ghost use Rattle.std.specs.Prelude.{◌≡◌, ◌<◌, ◌≤◌, ◌+◌, ◌++◌, ◌^◌, length};
 ghost use Rattle.scram_types.specs.declared.limits.TheConstants.{MAX_LINE_BYTES};
@@ -8,14 +8,14 @@ use crate::acts::{ActWord, act_word};
 use scram_types::Row;
 use trace_text::lines::Line;
 
-/// Rows on end in which an application neither ran nor was off: their number and the first one.
+/// Consecutive rows in which an application neither ran nor was off: their number and the first of them.
 #[derive(Clone, Copy, Debug, PartialEq, Eq)]
 pub struct Gap {
     pub frames: u32,
     pub at: u32,
 }
 
-/// Returns the longest gap of an application, the first of several.
+/// Returns the longest gap of an application, the first if there are several, or `None` if there is none.
 pub fn longest_gap(rows: &[Row], app: usize) -> Option<Gap>
     requires app { app < 8 }
     requires rows { length rows.now < 2 ^ 32 }
@@ -36,7 +36,7 @@ pub fn longest_gap(rows: &[Row], app: usize) -> Option<Gap>
     longest
 }
 
-/// Adds the frames of a gap and its first frame.
+/// Appends the number of frames of a gap and its first frame.
 pub fn add_gap(line: &mut Line, gap: Option<Gap>)
     requires { length line.old + 29 ≤ MAX_LINE_BYTES }
     ensures text { line.new ≡ line.old ++ gap_text gap }

@@ -1,4 +1,4 @@
-//! What a flight came to, read off its rows and reports: differences between environments, decisions and their
+//! Facts about a flight, derived from its rows and reports: differences between environments, decisions and their
 //! causes, margins, gaps, extremes and spans.
 #![tactic(auto)]
 

@@ -1,4 +1,4 @@
-//! The margin of a reconfiguration: how far it stayed below its bound.
+//! The margin of a reconfiguration: its bound minus its length.
 
 ghost use Rattle.std.specs.Prelude.{◌≡◌, ◌≤◌, ◌+◌, ◌++◌, length};
 ghost use Rattle.scram_types.specs.declared.limits.TheConstants.{MAX_LINE_BYTES};
@@ -7,8 +7,8 @@ ghost use Rattle.flight_facts.specs.Margins.{bound_of, margin_of, margin_text};
 use scram_types::{Report, Spec};
 use trace_text::lines::Line;
 
-/// Returns the bound on a reconfiguration, in frames: that of its pair, or the greatest one from its source where it is
-/// unfinished; `None` where none is given.
+/// Returns the bound on a reconfiguration, in frames, or `None` if none is given. An unfinished reconfiguration has the
+/// greatest bound from its source.
 pub fn bound_of(spec: &Spec, report: &Report) -> Option<u32>
     ensures { result ≡ bound_of spec.now report.now }
 {
@@ -18,7 +18,7 @@ pub fn bound_of(spec: &Spec, report: &Report) -> Option<u32>
     }
 }
 
-/// Adds the margin of a reconfiguration: its bound less the frames that it took, `-` without a bound.
+/// Appends the margin of a reconfiguration: its bound minus its length in frames, or `-` without a bound.
 pub fn add_margin(line: &mut Line, spec: &Spec, report: &Report)
     requires { length line.old + 20 ≤ MAX_LINE_BYTES }
     ensures text { line.new ≡ line.old ++ margin_of spec.now report.now }

@@ -1,4 +1,4 @@
-//! Lanes, in which each row of a flight is shown, and spans of rows that are shown alike.
+//! Lanes, in which each row of a flight is shown, and spans of consecutive rows that look alike.
 
 ghost use Rattle.std.specs.Prelude.{◌≡◌, ◌<◌, ◌≤◌, ◌^◌, length, option_map};
 ghost use Rattle.flight_facts.specs.Spans.{IsLane, alike_rows, are_alike, is_new, row_before, same_bit, same_conf, same_doing, same_proc, span_at, stable_conf};
@@ -7,8 +7,8 @@ use crate::acts::{act_word, mode_of_act, proc_of_act};
 use scram_types::bits::has_bit;
 use scram_types::{Act, ConfId, KMode, ProcId, Row};
 
-/// What is shown of each row: the configuration that is stable, the value of a factor, whether a processor is up, or
-/// what an application did.
+/// The part of each row that a lane shows: the stable configuration, the value of a factor, whether a processor is up,
+/// or the act of an application.
 #[derive(Clone, Copy, Debug, PartialEq, Eq)]
 pub enum Lane {
     Configuration,
@@ -20,8 +20,8 @@ pub enum Lane {
     Application(u8),
 }
 
-/// Returns the number of rows of the span that row `k` begins: it and those on end behind it that are shown as it is;
-/// `None` where it is shown as the row before it.
+/// Returns the number of rows of the span that begins with row `k`: row `k` and the consecutive rows after it that look
+/// alike. Returns `None` if row `k` looks like the preceding row, or does not exist.
 pub fn span_at(lane: Lane, rows: &[Row], k: usize) -> Option<u32>
     requires lane { IsLane lane }
     requires rows { length rows.now < 2 ^ 32 }
@@ -37,7 +37,7 @@ pub fn span_at(lane: Lane, rows: &[Row], k: usize) -> Option<u32>
     }
 }
 
-/// Returns the row before row `k`.
+/// Returns the row preceding row `k`, or `None` if there is none.
 pub fn row_before(rows: &[Row], k: usize) -> Option<&Row>
     ensures { option_map (λ row. row.now) result ≡ row_before rows.now k }
 {
@@ -54,7 +54,7 @@ fn is_new(lane: Lane, before: Option<&Row>, row: &Row) -> bool
     }
 }
 
-// Returns how many rows on end from the first on are shown as a row.
+// Returns the number of consecutive rows, from the first on, that look like `row`.
 fn alike_rows(lane: Lane, row: &Row, rows: &[Row]) -> u32
     requires lane { IsLane lane }
     requires rows { length rows.now < 2 ^ 32 }
@@ -89,7 +89,7 @@ fn are_alike(lane: Lane, row: &Row, other: &Row) -> bool
     }
 }
 
-/// Returns the configuration that is stable, or `None` where a reconfiguration is under way.
+/// Returns the stable configuration, or `None` if a reconfiguration is under way.
 pub fn stable_conf(mode: &KMode) -> Option<ConfId>
     ensures { result ≡ stable_conf mode.now }
 {
