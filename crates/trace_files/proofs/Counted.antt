@@ -21,7 +21,7 @@ use Rattle.trace_text.specs.RowReading.{row_read}
 use Rattle.trace_text.specs.TraceReading.{SoFar, after_app, after_line, at_end, before_first, begins, closing, fault_at, go_on, is_plain, standing_line, trace_from, trace_of, with_app, with_done, with_end, with_report, with_row}
 use Rattle.trace_text.specs.Pieces.{is_filled}
 
--- one more row at most, and one more report
+-- at most one further row, and at most one further report
 abbrev AddsOne : SoFar → SoFar → Type 0
 AddsOne s t = (length t.rows ≤ length s.rows + 1) × (length t.reports ≤ length s.reports + 1)
 

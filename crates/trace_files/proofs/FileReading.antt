@@ -1,4 +1,4 @@
--- From the trace in a file to what is answered of them.
+-- From the trace in a file to the answer.
 use Rattle.std.proofs.Common.{◌≡◌, ℕ, List, ◌∷◌}
 use Rattle.std.specs.Prelude.{Result}
 use Rattle.scram_types.specs.declared.rows.Flown.{Flown}
@@ -14,7 +14,7 @@ use Rattle.form_base.specs.Refusals.{told}
 use Rattle.form_base.proofs.Reading.{document_reads, refused_reads}
 use Rattle.trace_files.specs.Traces.{AsksTrace, BreaksTrace, SaysTrace, long_trace}
 
--- the trace was read, and then what is answered of it
+-- the trace was read, and then answered
 pub trace_reads : {U : Type 0} (spec : Parts) (name : List ℕ) (names : List (List ℕ)) (Then : Flown → Answer) (Rest : U → ℕ → List ℕ → Type 0) (value : Flown) (before mid after : FilesState) (result : Result U Refusal)
     → HasRead MAX_TRACE_BYTES name (SaysTrace spec value) before mid → StaysSteady before mid name → Prepares (Then value) Rest names mid after result
     → Prepares (AsksTrace spec name Then) Rest (name ∷ names) before after result

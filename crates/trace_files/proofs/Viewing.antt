@@ -1,4 +1,4 @@
--- What is answered with status 0 by a view is assured.
+-- An answer with status 0 by a view is assured.
 use Rattle.std.proofs.Common.{◌≡◌, ℕ, List, [], sym}
 use Rattle.std.specs.Prelude.{◌≢◌}
 use Rattle.scram_types.specs.Specification.{Parts}

@@ -1,7 +1,7 @@
--- The line in which a trace is refused.
+-- The line that refuses a trace.
 use Rattle.std.specs.Prelude.{ℕ, List, ◌++◌, codes, decimal}
 use Rattle.trace_text.specs.declared.trace_reading.TraceFault.{TraceFault}
 
--- a trace breaks a rule in a line
+-- The line that refuses a trace that breaks a rule.
 abbrev pub trace_line : TraceFault → List ℕ
 trace_line fault = codes "refused: trace rule " ++ decimal fault.rule ++ codes " at line " ++ decimal fault.line ++ codes "\n"

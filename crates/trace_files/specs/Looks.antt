@@ -1,4 +1,4 @@
--- What is answered of a specification and a trace that are only looked at, and not judged.
+-- The answers of forms that show a trace without judging it.
 use Rattle.std.specs.Prelude.{◌≡◌, ◌<◌, ◌^◌, ℕ, List, [], length}
 use Rattle.scram_types.specs.declared.rows.Flown.{Flown}
 use Rattle.scram_types.specs.declared.rows.Report.{Report}
@@ -12,23 +12,24 @@ use Rattle.form_base.specs.Specifications.{AsksSpecification}
 use Rattle.trace_files.specs.declared.files.Flight.{Flight}
 use Rattle.trace_files.specs.Traces.{AsksTrace, SaysTrace}
 
--- What is printed of the rows and reports of a flight.
+-- A text that is printed of the rows and reports of a flight.
 abbrev pub View : Type 0
 View = Parts → List Row → List Report → List ℕ
 
--- The answer by a view to the names of a specification's file and of a trace's; the specification need not be accepted.
+-- The answer by a view to the names of the files of a specification and of a trace. The specification need not be
+-- accepted.
 abbrev pub ViewAnswers : View → List ℕ → List ℕ → Answer
 ViewAnswers view specification trace =
     AsksSpecification specification (λ (spec : Parts). AsksTrace spec trace (λ (flown : Flown).
     WithoutFiles (Gives (ANSWERED, view spec flown.rows flown.reports))))
 
--- Status 0 assures that the text is the view of the trace, and that no further file was read.
+-- The text is the view of the trace, and no further file was read; status 0 assures this.
 abbrev pub AssuresView : View → List ℕ → List ℕ → History → List ℕ → Type 0
 AssuresView view specification trace =
     OfSpecification specification (λ (spec : Parts). OfDocument (SaysTrace spec) trace (λ (flown : Flown) (reads : History) (text : List ℕ).
     (reads ≡ []) × (text ≡ view spec flown.rows flown.reports)))
 
--- The text is the view of a flight.
+-- The status and the text are the answer that shows the view of a flight.
 abbrev pub TellsView : View → Flight → ℕ → List ℕ → Type 0
 TellsView view flight = Gives (ANSWERED, view flight.spec flight.flown.rows flight.flown.reports)
 

@@ -1,4 +1,4 @@
-//! A trace with the specification of its missions, as two files hold them.
+//! A trace with the specification of its missions, read from two files.
 
 ghost use Rattle.std.specs.Prelude.{◌∷◌, ◌<◌, ◌^◌, [], IfOk, length};
 ghost use Rattle.scram_types.specs.declared.rows.Flown.{Flown};
@@ -16,7 +16,7 @@ use scram_io::Files;
 use scram_types::{Flown, Spec};
 use std::alloc::Global;
 
-/// The files of a specification and of a trace of its missions.
+/// The names of the files of a specification and of a trace of its missions.
 #[derive(Clone, Copy)]
 pub struct TraceFiles<'a> {
     pub specification: &'a str,
@@ -30,7 +30,7 @@ pub struct Flight {
     pub flown: Flown,
 }
 
-/// Reads a specification and a trace, of which a text is to be printed.
+/// Reads a specification and a trace, or returns the refusal.
 pub fn read_flight<F: Files>(
     alloc: Global,
     named: TraceFiles<'_>,

@@ -1,4 +1,4 @@
-//! Traces, as files hold them with the specification of their missions: what each form stands on that looks at a trace.
+//! Traces in files, with the specification of their missions: the base of each form that reads a trace.
 #![tactic(auto)]
 
 pub mod documents;

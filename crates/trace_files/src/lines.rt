@@ -1,4 +1,4 @@
-//! The line in which a trace is refused, made without memory.
+//! The line that refuses a trace, made without allocating.
 
 ghost use Rattle.std.specs.Prelude.{◌≡◌};
 ghost use Rattle.trace_files.specs.Lines.{trace_line};
@@ -6,7 +6,7 @@ ghost use Rattle.trace_files.specs.Lines.{trace_line};
 use trace_text::TraceFault;
 use trace_text::lines::Line;
 
-/// Returns the line for a trace that breaks a rule.
+/// Returns the line that refuses a trace that breaks a rule.
 pub fn make_trace_line(fault: TraceFault) -> Line
     ensures { result ≡ trace_line fault }
 {
