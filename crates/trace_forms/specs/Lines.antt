@@ -1,14 +1,14 @@
--- The lines in which a trace is answered.
+-- The lines that answer on a trace.
 use Rattle.std.specs.Prelude.{ℕ, ◌+◌, List, ◌++◌, codes, decimal}
 use Rattle.scram_types.specs.declared.rows.Flown.{Flown}
 use Rattle.trace_props.specs.declared.breaks.Broken.{Broken}
 use Rattle.trace_props.specs.Breaks.{property_number}
 use Rattle.form_base.specs.Lines.{counts_text}
 
--- the six properties hold of a trace
+-- The line for a trace for which the six properties hold.
 abbrev pub holds_line : Flown → List ℕ
 holds_line flown = codes "holds:" ++ counts_text flown.rows flown.reports ++ codes "\n"
 
--- the property that a trace breaks first, and where
+-- The line for a trace that breaks a property: the first such property, and its frame.
 abbrev pub broken_line : Broken → List ℕ
 broken_line broken = codes "broken: SP" ++ decimal (property_number broken.property) ++ codes " at frame " ++ decimal broken.frame ++ codes "\n"

@@ -1,4 +1,4 @@
-//! The form `props`: how a finished trace is judged.
+//! The form `props`, which judges a finished trace.
 
 ghost use Rattle.std.specs.Prelude.{◌≡◌, ◌⊎◌, ◌∷◌, [], ◌<◌, ◌^◌, ℕ, List, IfOk, length};
 ghost use Rattle.scram_types.specs.declared.rows.Flown.{Flown};
@@ -22,14 +22,14 @@ use trace_files::{Trace, TraceFiles};
 use trace_props::props;
 use trace_text::lines::Line;
 
-/// How a trace is judged: status and line.
+/// The judgement of a trace: a status and a line.
 #[derive(Drop)]
 struct Judgement {
     code: u8,
     line: Line,
 }
 
-/// Prints whether the properties of reconfigurations hold of the trace in a file, or which one it breaks first.
+/// Prints whether the properties of reconfigurations hold for the trace in a file, or the first one that it breaks.
 pub fn props_form<F: Files, K: Sink>(
     alloc: Global,
     named: TraceFiles<'_>,

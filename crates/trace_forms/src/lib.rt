@@ -1,4 +1,4 @@
-//! The form in which a finished trace is judged: `props`. What it prints is the answer to the bytes of the files that its
+//! The form `props`, which judges a finished trace. What it prints is the answer to the bytes of the files that its
 //! words name.
 #![tactic(auto)]
 
