@@ -19,37 +19,37 @@ use Rattle.flight_facts.specs.declared.extremes.Extremes.{Extremes}
 use Rattle.flight_facts.specs.declared.extremes.Quantity.TheVariants.{Altitude, Climb, Bank}
 use Rattle.form_base.specs.Lines.{counts_text}
 
--- whether a reconfiguration has no target, being cut off by the end of the flight
+-- A reconfiguration has no target, since the end of the flight cut it off.
 abbrev pub has_no_target : Option ConfId → Bool
 has_no_target None = true
 has_no_target (Some to) = false
 
--- how many reconfigurations are unfinished
+-- The number of unfinished reconfigurations.
 abbrev pub count_unfinished : List Report → ℕ
 count_unfinished reports = count_by (λ (report : Report). has_no_target report.to) reports
 
--- the line of the flight
+-- The line of the flight.
 abbrev pub flight_line : List Row → List Report → List ℕ
 flight_line rows reports = codes "flight" ++ counts_text rows reports ++ codes " unfinished " ++ decimal (count_unfinished reports) ++ codes "\n"
 
--- the line of a reconfiguration, `earlier` being the one before it
+-- The line of a reconfiguration, where `earlier` is the preceding one.
 abbrev pub reconfiguration_line : Parts → List Row → Option Report → Report → List ℕ
 reconfiguration_line spec rows earlier report =
     codes "reconfiguration " ++ conf_name spec report.from.0 ++ target_text spec report report.to ++ codes " margin " ++ margin_of spec report
     ++ codes " cause " ++ cause_text spec rows earlier report.begin ++ codes "\n"
 
--- the line of what changed in row k
+-- The line of the changes in row k.
 abbrev pub change_line : Parts → List Row → ℕ → List ℕ
 change_line spec rows k =
     codes "  frame " ++ decimal k ++ codes " " ++ difference_or_dash spec (env_before spec rows k) (env_in rows k) ++ codes "\n"
 
--- the line of application a
+-- The line of application a.
 abbrev pub app_summary_line : List Row → ℕ → AppSpec → List ℕ
 app_summary_line rows a app =
     codes "app " ++ app.name ++ codes " ran " ++ decimal (count_acts word.Ran a rows) ++ codes " lost " ++ decimal (count_acts word.Lost a rows)
     ++ codes " off " ++ decimal (count_acts word.Off a rows) ++ gap_text (longest_gap a 0 rows) ++ codes "\n"
 
--- the ranges of altitude, climb and bank, `-` where there is no row
+-- The ranges of altitude, climb and bank, or `-` if there are no rows.
 abbrev pub ranges_text : Option Extremes → Option Extremes → Option Extremes → List ℕ
 ranges_text None climb bank = codes " -"
 ranges_text (Some altitude) None bank = codes " -"
@@ -57,6 +57,6 @@ ranges_text (Some altitude) (Some climb) None = codes " -"
 ranges_text (Some altitude) (Some climb) (Some bank) =
     codes " altitude " ++ extremes_text altitude ++ codes " climb " ++ extremes_text climb ++ codes " bank " ++ extremes_text bank
 
--- the line of the world
+-- The line of the world.
 abbrev pub world_line : List Row → List ℕ
 world_line rows = codes "world" ++ ranges_text (extremes_of Altitude rows) (extremes_of Climb rows) (extremes_of Bank rows) ++ codes "\n"

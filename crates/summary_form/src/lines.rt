@@ -1,4 +1,4 @@
-//! The lines of a summary, made without memory.
+//! The lines of a summary, made without allocating.
 
 ghost use Rattle.std.specs.Prelude.{◌≡◌, ◌<◌, ◌≤◌, ◌+◌, ◌++◌, ◌^◌, length};
 ghost use Rattle.scram_types.specs.declared.limits.TheConstants.{MAX_LINE_BYTES};
@@ -15,7 +15,7 @@ use scram_types::{AppSpec, ConfId, Flown, Report, Row, Spec};
 use trace_text::lines::Line;
 use trace_text::report_lines::add_target;
 
-/// Returns the line of the flight: the numbers of its frames and reconfigurations, and of those that are unfinished.
+/// Returns the line of the flight: the numbers of its frames, its reconfigurations and its unfinished reconfigurations.
 pub fn make_flight_line(flown: &Flown) -> Line
     requires rows { length flown.now.rows < 2 ^ 32 }
     requires reports { length flown.now.reports < 2 ^ 32 }
@@ -30,7 +30,7 @@ pub fn make_flight_line(flown: &Flown) -> Line
     line
 }
 
-/// Returns how many reconfigurations are unfinished.
+/// Returns the number of unfinished reconfigurations.
 pub fn count_unfinished(reports: &[Report]) -> u32
     requires { length reports.now < 2 ^ 32 }
     ensures { result ≡ count_unfinished reports.now }
@@ -53,7 +53,7 @@ fn has_no_target(to: Option<ConfId>) -> bool
     }
 }
 
-/// Returns the line of a reconfiguration, `earlier` being the one before it.
+/// Returns the line of a reconfiguration, where `earlier` is the preceding one.
 pub fn make_reconfiguration_line(
     spec: &Spec,
     rows: &[Row],
@@ -74,7 +74,7 @@ pub fn make_reconfiguration_line(
     line
 }
 
-/// Returns the line of what changed in a row.
+/// Returns the line of the changes in row `k`.
 pub fn make_change_line(spec: &Spec, rows: &[Row], k: usize) -> Line
     requires { k < 2 ^ 32 }
     ensures { result ≡ change_line spec.now rows.now k }
@@ -88,7 +88,7 @@ pub fn make_change_line(spec: &Spec, rows: &[Row], k: usize) -> Line
     line
 }
 
-/// Returns the line of an application: in how many rows it ran, was lost and was off, and its longest gap.
+/// Returns the line of an application: the numbers of rows in which it ran, was lost and was off, and its longest gap.
 pub fn make_app_line(rows: &[Row], a: usize, app: &AppSpec) -> Line
     requires app { a < 8 }
     requires rows { length rows.now < 2 ^ 32 }
@@ -108,7 +108,7 @@ pub fn make_app_line(rows: &[Row], a: usize, app: &AppSpec) -> Line
     line
 }
 
-/// Returns the line of the world: the least and the greatest altitude, climb and bank.
+/// Returns the line of the world: the minimum and the maximum of altitude, climb and bank.
 pub fn make_world_line(rows: &[Row]) -> Line
     ensures { result ≡ world_line rows.now }
 {

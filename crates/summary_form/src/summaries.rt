@@ -1,4 +1,4 @@
-//! The form `summary`: what a flight came to.
+//! The form `summary`, which prints the summary of a flight.
 
 ghost use Rattle.std.specs.Prelude.{◌≡◌, ◌<◌, ◌≤◌, ◌+◌, ◌∷◌, ◌^◌, [], length};
 ghost use Rattle.scram_io.specs.Outside.{Prints};
@@ -20,7 +20,7 @@ use scram_types::{Flown, Report, Row, Spec};
 use std::alloc::Global;
 use trace_files::{TraceFiles, read_flight};
 
-/// Prints what the flight came to whose trace is in a file.
+/// Prints the summary of the flight whose trace is in a file.
 pub fn summary_form<F: Files, K: Sink>(
     alloc: Global,
     named: TraceFiles<'_>,
@@ -51,7 +51,7 @@ fn put_summary<K: Sink>(out: &mut K, spec: &Spec, flown: &Flown) -> Result<(), S
     }
 }
 
-// Puts what stands behind the line of the flight.
+// Writes the lines after the line of the flight.
 fn put_behind<K: Sink>(
     out: &mut K,
     spec: &Spec,
@@ -174,7 +174,7 @@ fn put_change<K: Sink>(out: &mut K, spec: &Spec, rows: &[Row], k: usize) -> Resu
     }
 }
 
-// Puts the lines of the applications and of the world.
+// Writes the lines of the applications and of the world.
 fn put_totals<K: Sink>(out: &mut K, spec: &Spec, rows: &[Row]) -> Result<(), SinkFault>
     requires rows { length rows.now < 2 ^ 32 }
     ensures { Prints result (K.state out.old) (K.state out.new) (totals_text spec.now rows.now) }
