@@ -18,53 +18,54 @@ use Rattle.app_model.specs.Names.{mode_text, name_in, variable_names}
 use Rattle.flight_facts.specs.Acts.{act_of, act_word, mode_of_act, proc_of_act, word_text}
 use Rattle.form_base.specs.Texts.{texts_below}
 
--- a configuration's name, or no byte without one
+-- The name of a configuration, or the empty text if there is none.
 abbrev pub conf_field : Parts → Option ConfId → List ℕ
 conf_field spec None = []
 conf_field spec (Some c) = conf_name spec c.0
 
--- whether a row moves, from where, what halts, to where and since when; where it is stable there is the configuration alone
+-- The fields of a mode: whether it is moving, the source, the halting configuration, the target and `since`. A stable
+-- mode has only its configuration, in the field of the source.
 abbrev pub mode_fields : Parts → KMode → List ℕ
 mode_fields spec (Stable c) = codes ",0," ++ conf_name spec c.0 ++ codes ",,,"
 mode_fields spec (Moving from halting to since) =
     codes ",1," ++ conf_name spec from.0 ++ codes "," ++ conf_field spec halting ++ codes "," ++ conf_name spec to.0 ++ codes "," ++ decimal since
 
--- the value of each factor, `i` being the number of the first one
+-- The value of each factor, where `i` is the number of the first factor.
 abbrev pub value_fields : List Factor → ℕ → List ℕ → List ℕ
 value_fields [] i values = []
 value_fields (factor ∷ factors) i values = codes "," ++ value_name factor (slice_index values i) ++ value_fields factors (i + 1) values
 
--- whether each processor is up; the first one's bit is the lowest of `up`
+-- A field for each processor, 1 if it is up, where the lowest bit of `up` is the first processor's.
 abbrev pub up_fields : List Proc → ℕ → List ℕ
 up_fields [] up = []
 up_fields (proc ∷ procs) up = (if up % 2 == 1 then codes ",1" else codes ",0") ++ up_fields procs (up / 2)
 
--- altitude, climb, heading and bank
+-- Altitude, climb, heading and bank.
 abbrev pub world_fields : World → List ℕ
 world_fields world =
     codes "," ++ signed_decimal world.alt ++ codes "," ++ signed_decimal world.climb ++ codes "," ++ signed_decimal world.heading
     ++ codes "," ++ signed_decimal world.bank
 
--- the fields of a row's own line
+-- The fields of the row itself: frame, mode, environment and world.
 abbrev pub row_fields : Parts → Row → List ℕ
 row_fields spec row =
     decimal row.frame ++ mode_fields spec row.mode ++ value_fields spec.factors 0 row.env.factors ++ up_fields spec.procs row.env.up ++ world_fields row.world
 
--- a processor's name, or no byte without one
+-- The name of a processor, or the empty text if there is none.
 abbrev pub proc_field : Parts → Option ProcId → List ℕ
 proc_field spec None = []
 proc_field spec (Some p) = proc_name spec p.0
 
--- the first word of an act, its mode and its processor, where it has them
+-- The first word of an act, with its mode and its processor if it has them.
 abbrev pub act_fields : Parts → ℕ → Act → List ℕ
 act_fields spec kind act =
     codes "," ++ word_text (act_word act) ++ codes "," ++ mode_text kind (mode_of_act act) ++ codes "," ++ proc_field spec (proc_of_act act)
 
--- a word of an application's area, where its kind uses the word
+-- The field of word i of an application's area, or the empty text if the kind does not use the word.
 abbrev pub word_field : ℕ → List ℤ → ℕ → List ℕ
 word_field kind area i = option_map_or (λ (variable : List ℕ). codes "," ++ signed_decimal (slice_index_or area i (pos 0))) (name_in (variable_names kind) i) []
 
--- the fields of application a in a row
+-- The fields of application a in a row.
 abbrev pub app_fields : Parts → Row → ℕ → AppSpec → List ℕ
 app_fields spec row a app =
     act_fields spec app.kind.0 (act_of row a) ++ texts_below (word_field app.kind.0 (slice_index_or row.areas a [])) 8

@@ -8,26 +8,26 @@ use Rattle.scram_types.specs.declared.specification.Proc.{Proc}
 use Rattle.app_model.specs.Names.{name_in, variable_names}
 use Rattle.form_base.specs.Texts.{texts_below}
 
--- a column for each factor
+-- The name of the column of each factor.
 abbrev pub factor_heads : List Factor → List ℕ
 factor_heads [] = []
 factor_heads (factor ∷ factors) = codes ",env." ++ factor.name ++ factor_heads factors
 
--- a column for each processor
+-- The name of the column of each processor.
 abbrev pub proc_heads : List Proc → List ℕ
 proc_heads [] = []
 proc_heads (proc ∷ procs) = codes ",up." ++ proc.name ++ proc_heads procs
 
--- the columns of a row's own line
+-- The names of the columns of the row itself: frame, mode, environment and world.
 abbrev pub row_head : Parts → List ℕ
 row_head spec =
     codes "frame,moving,from,halting,to,since" ++ factor_heads spec.factors ++ proc_heads spec.procs ++ codes ",altitude,climb,heading,bank"
 
--- the column of a word of an application's area, where its kind uses the word
+-- The name of the column of word i of an application's area, or the empty text if its kind does not use the word.
 abbrev pub word_head : AppSpec → ℕ → List ℕ
 word_head app i = option_map_or (λ (variable : List ℕ). codes "," ++ app.name ++ codes "." ++ variable) (name_in (variable_names app.kind.0) i) []
 
--- the columns of an application
+-- The names of the columns of an application.
 abbrev pub app_head : AppSpec → List ℕ
 app_head app =
     codes "," ++ app.name ++ codes ".act," ++ app.name ++ codes ".mode," ++ app.name ++ codes ".proc" ++ texts_below (word_head app) 8

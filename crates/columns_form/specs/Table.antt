@@ -9,34 +9,34 @@ use Rattle.form_base.specs.Texts.{texts_below}
 use Rattle.columns_form.specs.Fields.{app_fields, row_fields}
 use Rattle.columns_form.specs.Heads.{app_head, row_head}
 
--- the columns of application a
+-- The names of the columns of application a, or the empty text if there is none.
 abbrev pub app_head_text : Parts → ℕ → List ℕ
 app_head_text spec a = option_map_or app_head (slice_get spec.apps a) []
 
--- the columns of the applications, and the end of the line
+-- The names of the columns of the applications, and the end of the line.
 abbrev pub heads_end : Parts → List ℕ
 heads_end spec = texts_below (app_head_text spec) (length spec.apps) ++ codes "\n"
 
--- the line of names
+-- The line of names.
 abbrev pub heads_text : Parts → List ℕ
 heads_text spec = row_head spec ++ heads_end spec
 
--- the fields of application a in a row
+-- The fields of application a in a row, or the empty text if there is none.
 abbrev pub app_fields_text : Parts → Row → ℕ → List ℕ
 app_fields_text spec row a = option_map_or (λ (app : AppSpec). app_fields spec row a app) (slice_get spec.apps a) []
 
--- the fields of the applications, and the end of the line
+-- The fields of the applications, and the end of the line.
 abbrev pub fields_end : Parts → Row → List ℕ
 fields_end spec row = texts_below (app_fields_text spec row) (length spec.apps) ++ codes "\n"
 
--- the line of a row
+-- The line of a row.
 abbrev pub fields_text : Parts → Row → List ℕ
 fields_text spec row = row_fields spec row ++ fields_end spec row
 
--- the line of row k
+-- The line of row k, or the empty text if there is none.
 abbrev pub row_line_text : Parts → List Row → ℕ → List ℕ
 row_line_text spec rows k = option_map_or (fields_text spec) (slice_get rows k) []
 
--- the table
+-- The table of the rows: a line of names, and a line for each row.
 abbrev pub columns_text : Parts → List Row → List Report → List ℕ
 columns_text spec rows reports = heads_text spec ++ texts_below (row_line_text spec rows) (length rows)

@@ -1,4 +1,4 @@
-//! The names of columns, made without memory.
+//! The names of columns, made without allocating.
 
 ghost use Rattle.std.specs.Prelude.{◌≡◌, ◌<◌, ◌≤◌, ◌+◌, ◌*◌, ◌++◌, length};
 ghost use Rattle.scram_types.specs.declared.limits.TheConstants.{MAX_LINE_BYTES};
@@ -9,7 +9,7 @@ use crate::fields::name_of_variable;
 use scram_types::{AppSpec, Spec};
 use trace_text::lines::Line;
 
-/// Returns the columns of a row's own line.
+/// Returns the names of the columns of the row itself: frame, mode, environment and world.
 pub fn make_row_head(spec: &Spec) -> Line
     ensures { result ≡ row_head spec.now }
 {
@@ -43,7 +43,7 @@ fn add_proc_heads(line: &mut Line, spec: &Spec)
     }
 }
 
-/// Returns the columns of an application.
+/// Returns the names of the columns of an application.
 pub fn make_app_head(app: &AppSpec) -> Line
     ensures { result ≡ app_head app.now }
 {

@@ -1,4 +1,4 @@
-//! The form `columns`: a trace as a table of comma-separated values.
+//! The form `columns`, which prints a trace as a table of comma-separated values.
 
 ghost use Rattle.std.specs.Prelude.{◌≡◌, ◌<◌, ◌∷◌, [], length};
 ghost use Rattle.scram_io.specs.Outside.{Prints};
