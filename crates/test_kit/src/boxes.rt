@@ -8,11 +8,11 @@ use scram_types::{Area, KindId, Order};
 use std::hint::spin_loop;
 use std::sync::atomic::Ordering;
 
-/// How many turns a box waits for another at most.
+/// The maximum number of times that a waiting box checks for the awaited call.
 const TURNS: u32 = 50_000_000;
 
-/// A box that answers what another answers, counts its calls, and waits in each until a box of the other rack has been
-/// called, where it is to.
+/// A wrapper of a box that counts its calls and gives the wrapped box's results. If it has a rack to wait for, each
+/// call first spins until a box of that rack has been called.
 #[derive(Drop)]
 pub struct Counted<B: App> {
     app: B,
@@ -21,7 +21,8 @@ pub struct Counted<B: App> {
 }
 
 impl<B: App> Counted<B> {
-    /// Returns a box that counts there, and waits for that one, if there is one.
+    /// Creates a box that counts its calls in `calls` and, if `awaited` is given, waits for a call that is counted
+    /// there.
     pub fn new(app: B, calls: &'static Calls, awaited: Option<&'static Calls>) -> Counted<B> {
         Counted {
             app,
@@ -55,7 +56,7 @@ fn count(calls: &Calls, kind: KindId) {
     }
 }
 
-/// Waits until a box was called, but not for ever, and returns whether one was.
+/// Spins until a box has been called, at most `TURNS` times, and returns whether one has.
 fn wait_for(calls: &Calls) -> bool {
     for _ in 0..TURNS {
         if calls.any() {

@@ -1,16 +1,16 @@
-//! How often boxes were called.
+//! Counts of the calls of boxes.
 
 use std::alloc::{AllocError, Global};
 use std::io;
 use std::rt::HostRuntime;
 use std::sync::atomic::{AtomicU64, Ordering};
 
-/// How often the boxes of a rack were called, by their kinds, and how often they waited in vain.
+/// The numbers of calls of a rack's boxes, by kind, and the number of calls that waited in vain.
 #[derive(Drop)]
 pub struct Calls {
-    /// The calls of the boxes of kind `k`, at place `k`.
+    /// The number of calls of the boxes of each kind: `kinds[k]` is that of kind `k`.
     pub kinds: [AtomicU64; 5],
-    /// How many calls waited for one that did not come.
+    /// The number of calls that waited for a call that did not come.
     pub in_vain: AtomicU64,
 }
 
@@ -28,7 +28,7 @@ impl Calls {
         }
     }
 
-    /// Returns how often the boxes of one kind, below 5, were called; 0 for another number.
+    /// Returns the number of calls of the boxes of a kind below 5, or 0 for any other kind.
     pub fn of_kind(&self, kind: u8) -> u64 {
         match self.kinds.get(usize::from(kind)) {
             Some(calls) => calls.load(Ordering::SeqCst),
@@ -36,7 +36,7 @@ impl Calls {
         }
     }
 
-    /// Returns whether any box was called.
+    /// Returns whether any box has been called.
     pub fn any(&self) -> bool {
         let mut any = false;
         for kind in 0..5 {
@@ -57,8 +57,8 @@ impl Calls {
     }
 }
 
-/// The calls of the boxes of the first processor, of the second, and of all others, and those of their spare racks. They
-/// live as long as the program, since boxes do that are sent to threads.
+/// The counts of the boxes of the first processor, of the second, and of all others, and of their spare racks. The
+/// counts live as long as the program, as do the boxes that are sent to threads.
 #[derive(Drop)]
 pub struct Counters {
     first: &'static Calls,
@@ -70,7 +70,7 @@ pub struct Counters {
 }
 
 impl Counters {
-    /// Counters at 0.
+    /// Creates counters that are all 0.
     ///
     /// # Errors
     ///
@@ -86,7 +86,7 @@ impl Counters {
         })
     }
 
-    /// Returns where the boxes of a processor count.
+    /// Returns the counts of the boxes of a processor.
     pub fn own(&self, proc: u32) -> &'static Calls {
         match proc {
             0 => self.first,
@@ -95,7 +95,7 @@ impl Counters {
         }
     }
 
-    /// Returns where the boxes of a processor's spare rack count.
+    /// Returns the counts of the boxes of a processor's spare rack.
     pub fn spare(&self, proc: u32) -> &'static Calls {
         match proc {
             0 => self.first_spare,
@@ -104,7 +104,7 @@ impl Counters {
         }
     }
 
-    /// For whose calls they wait.
+    /// Returns the counts of the boxes that the boxes of a processor wait for, or `None` if they wait for none.
     pub fn awaited(&self, proc: u32) -> Option<&'static Calls> {
         match proc {
             0 => Some(self.second),

@@ -1,15 +1,15 @@
-//! Images, as the programs print them.
+//! Printing images.
 
 use frame_model::sights::slot_in;
 use scram_types::{Area, Image, Spec};
 use std::io;
 use std::rt::HostRuntime;
 
-/// Prints the image of the processor of a number, below 8: a line for the area of each application.
+/// Prints the image of processor `proc`, below 8: a line for the area of each application.
 ///
 /// # Errors
 ///
-/// Where a line cannot be printed.
+/// Returns an error if a line cannot be printed.
 pub fn print_image(rt: &HostRuntime, spec: &Spec, proc: u8, image: &Image) -> io::Result<()> {
     for (a, app) in spec.apps.items().iter().enumerate() {
         if a < 8 {

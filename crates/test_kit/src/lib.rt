@@ -1,7 +1,7 @@
-//! What the programs of tests share: rows and their lines, missions of texts, flights on one thread, images as they are
-//! printed, and boxes that count their calls. A flight in which a box of one processor waits until one of another was called,
-//! and the other way round, ends in time only where both processors have threads. No contract says so: how often a box is
-//! called is a matter of test.
+//! Helpers of the test programs: rows and their lines, missions made from texts, flights on one thread, printing
+//! images, and boxes that count their calls. If a box of one processor waits until a box of another has been called,
+//! and the other way round, the flight ends in time only if both processors have threads. No contract states this: the
+//! number of calls of a box is a matter of test.
 #![tactic(auto)]
 
 pub mod boxes;

@@ -1,9 +1,9 @@
-//! The lines of a row, each of which begins with the word that says what it is.
+//! The lines of a row, each of which begins with a word that tells its kind.
 
 use std::alloc::Global;
 use std::io::{self, ErrorKind};
 
-/// Returns what stands behind these words in the first line of a row that begins with them.
+/// Returns the text after `words` in the first line of a row that begins with them, or `None` if there is no such line.
 pub fn line_after<'a>(row: &'a str, words: &str) -> Option<&'a str> {
     for line in row.split('\n') {
         if let Some(rest) = line.strip_prefix(words) {
@@ -13,12 +13,12 @@ pub fn line_after<'a>(row: &'a str, words: &str) -> Option<&'a str> {
     None
 }
 
-/// Returns the number that stands behind these words in the first line of a row that begins with them, or `other` where
-/// there is no such line.
+/// Returns the number after `words` in the first line of a row that begins with them, or `other` if there is no such
+/// line.
 ///
 /// # Errors
 ///
-/// Where something else than a number of 32 bits stands there.
+/// Returns an error if the text there is not a number of 32 bits.
 pub fn number_after(row: &str, words: &str, other: u32) -> io::Result<u32> {
     match line_after(row, words) {
         Some(digits) => number(digits),
@@ -26,11 +26,11 @@ pub fn number_after(row: &str, words: &str, other: u32) -> io::Result<u32> {
     }
 }
 
-/// Returns the number of 32 bits of these digits.
+/// Parses a number of 32 bits.
 ///
 /// # Errors
 ///
-/// Where there is none.
+/// Returns an error if `digits` is not such a number.
 pub fn number(digits: &str) -> io::Result<u32> {
     match digits.parse::<u32>() {
         Ok(number) => Ok(number),
@@ -38,12 +38,13 @@ pub fn number(digits: &str) -> io::Result<u32> {
     }
 }
 
-/// Returns the first word of a line, and what stands behind the space after it.
+/// Returns the first word of a line, and the text after the space that follows it.
 pub fn split_word(line: &str) -> (&str, &str) {
     line.split_once(' ').unwrap_or((line, ""))
 }
 
-/// Returns a text with a number in the first place of a word, or the text where the word does not stand in it.
+/// Returns a text in which the first occurrence of a word is replaced by a number, or the text itself if the word does
+/// not occur.
 ///
 /// # Errors
 ///
@@ -56,11 +57,11 @@ pub fn fill(alloc: Global, text: &str, word: &str, number: u32) -> io::Result<St
     Ok(filled)
 }
 
-/// Returns a text with `new` in the first place of a piece.
+/// Returns a text in which the first occurrence of a piece is replaced by `new`.
 ///
 /// # Errors
 ///
-/// Where the piece does not stand in the text; out of memory.
+/// Returns an error if the piece does not occur in the text, or if out of memory.
 pub fn change_piece(alloc: Global, text: &str, piece: &str, new: &str) -> io::Result<String> {
     match text.split_once(piece) {
         Some((before, after)) => Ok(format!(in alloc; "{before}{new}{after}")?),

@@ -1,7 +1,7 @@
-//! The macros that make racks of boxes that count. They are macros, since no function may make boxes and hand them out;
-//! each `?` in them returns from the function around them where it is out of memory.
+//! Macros that make racks of boxes that count. They are macros, since no function can make boxes and return them. Each
+//! `?` in them returns from the calling function if out of memory.
 
-/// A rack of five boxes that count in `$own`, and wait for a call that is counted in `$awaited`, if that is there.
+/// Makes a rack of five boxes that count in `$own` and, if `$awaited` is given, wait for a call that is counted there.
 #[macro_export]
 macro_rules! counted_rack {
     ($rt:expr, $own:expr, $awaited:expr) => {{
@@ -21,7 +21,8 @@ macro_rules! counted_rack {
     }};
 }
 
-/// Eight racks of boxes that count in these `Counters`, in which those of the first two processors wait for one another.
+/// Makes eight racks of boxes that count in these `Counters`. The boxes of the first two processors wait for each
+/// other.
 #[macro_export]
 macro_rules! counted_racks {
     ($rt:expr, $counters:expr) => {{
@@ -33,7 +34,8 @@ macro_rules! counted_racks {
     }};
 }
 
-/// Eight racks for restarts, of boxes that count in these `Counters`, each for its own processor, and wait for none.
+/// Makes eight racks for restarts, of boxes that count in these `Counters`, each for its own processor, and do not
+/// wait.
 #[macro_export]
 macro_rules! counted_spares {
     ($rt:expr, $counters:expr) => {{

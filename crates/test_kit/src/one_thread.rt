@@ -12,11 +12,11 @@ use std::alloc::Global;
 use std::io::{self, ErrorKind};
 use trace_props::one_thread;
 
-/// Returns what a call gave.
+/// Returns the value of a result that may be out of memory.
 ///
 /// # Errors
 ///
-/// Where the call ran out of memory.
+/// Returns an error if the call ran out of memory.
 pub fn given<T>(answer: Result<T, NoMemory>) -> io::Result<T>
     ensures { IfOk result (λ value. answer ≡ Ok value) }
 {
@@ -26,7 +26,7 @@ pub fn given<T>(answer: Result<T, NoMemory>) -> io::Result<T>
     }
 }
 
-/// Flies a mission: its rows, and the reconfigurations that are read off them.
+/// Flies a mission. Returns its rows, and the reconfigurations that are read off them.
 ///
 /// # Errors
 ///
@@ -39,8 +39,8 @@ pub fn fly_alone(alloc: Global, mission: &Mission) -> io::Result<Flown>
     given(one_thread(alloc, mission, racks))
 }
 
-/// Flies a script frame by frame, whether or not it keeps to the failure assumption: its rows, and the reconfigurations
-/// that are read off them.
+/// Flies a script frame by frame, whether or not it keeps to the failure assumption. Returns its rows, and the
+/// reconfigurations that are read off them.
 ///
 /// # Errors
 ///
@@ -61,7 +61,7 @@ pub fn fly_frames(alloc: Global, spec: &Spec, script: &Script) -> io::Result<Flo
     }
 }
 
-/// Returns whether two flights gave equal rows and reports.
+/// Returns whether two flights have equal rows and reports.
 pub fn is_same(one: &Flown, other: &Flown) -> bool {
     one.rows.items() == other.rows.items() && one.reports.items() == other.reports.items()
 }

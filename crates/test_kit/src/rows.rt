@@ -1,14 +1,15 @@
-//! The rows that a program answers.
+//! The rows that a test program answers.
 
 use std::rt::HostRuntime;
 use std::{fs, io};
 
-/// Answers the rows of `rows.txt`, in order. A blank line parts two rows, and the first line of a row is its title. Each
-/// title is printed behind `> `; then `answer` is called with it and with the lines below it.
+/// Answers the rows of `rows.txt`, in order. Rows are separated by a blank line, and the first line of a row is its
+/// title. For each row, the title is printed after `> `, and then `answer` is called with the title and the lines below
+/// it.
 ///
 /// # Errors
 ///
-/// Where `rows.txt` cannot be read or a title cannot be printed, and the first error of `answer`.
+/// Returns an error if `rows.txt` cannot be read or a title cannot be printed, or the first error of `answer`.
 pub fn each_row<F: Fn(&str, &str) -> io::Result<()>>(rt: &HostRuntime, answer: F) -> io::Result<()>
     requires { F.IsAlwaysCallable answer }
 {

@@ -1,4 +1,4 @@
-//! Specifications, scripts and missions of texts.
+//! Specifications, scripts and missions made from texts.
 
 ghost use Rattle.std.specs.Prelude.{IfOk};
 ghost use Rattle.fault_script.specs.Fits.{Fits};
@@ -34,11 +34,12 @@ fn canonical_text(alloc: Global, spec: &Spec) -> io::Result<String> {
     }
 }
 
-/// Returns the specification of a row: that of the file that its line `on ` names, or `uav` where there is no such line.
+/// Returns the specification of a row: the one in the file that its line `on ` names, or `uav` if there is no such
+/// line.
 ///
 /// # Errors
 ///
-/// Where the file cannot be read or is no specification; out of memory.
+/// Returns an error if the file cannot be read or is not a specification, or if out of memory.
 pub fn spec_of_row(rt: &HostRuntime, row: &str) -> io::Result<Spec> {
     match line_after(row, "on ") {
         Some(name) => spec_of_file(rt, name),
@@ -55,7 +56,7 @@ fn spec_of_file(rt: &HostRuntime, name: &str) -> io::Result<Spec> {
 ///
 /// # Errors
 ///
-/// Where the text is no script for the specification; out of memory.
+/// Returns an error if the text is not a script for the specification, or if out of memory.
 pub fn script_of_text(alloc: Global, spec: &Spec, text: &str) -> io::Result<Script>
     ensures { IfOk result (λ script. Fits spec.now script) }
 {
@@ -69,7 +70,7 @@ pub fn script_of_text(alloc: Global, spec: &Spec, text: &str) -> io::Result<Scri
 ///
 /// # Errors
 ///
-/// Where the text is no specification; out of memory.
+/// Returns an error if the text is not a specification, or if out of memory.
 pub fn spec_of_text(alloc: Global, text: &str) -> io::Result<Spec> {
     match read_spec(alloc, text.as_bytes()) {
         Ok(spec) => Ok(spec),
@@ -77,11 +78,11 @@ pub fn spec_of_text(alloc: Global, text: &str) -> io::Result<Spec> {
     }
 }
 
-/// Returns the mission of the texts of a specification and of a script.
+/// Returns the mission that the texts of a specification and of a script give.
 ///
 /// # Errors
 ///
-/// Where they are none, or the mission is not accepted; out of memory.
+/// Returns an error if a text is not valid or the mission is not accepted, or if out of memory.
 pub fn mission_of_texts(alloc: Global, spec: &str, script: &str) -> io::Result<Mission> {
     let spec = spec_of_text(alloc, spec)?;
     match script_of_text(alloc, &spec, script) {
