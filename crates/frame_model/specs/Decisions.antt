@@ -37,8 +37,8 @@ abbrev pub moving_decision : Parts → ℕ → ConfId → Option ConfId → Conf
 moving_decision spec frame from halting to since settled t =
     if t.0 == to.0 then Moving from halting to since else turn_to spec frame from halting to since settled t
 
--- The decision at the start of a frame, from the mode of the preceding frame, whether that frame was settled, and
--- whether it was settled and its row ran the target.
+-- The decision at the start of a frame. `settled` is whether the preceding frame was settled, and `arrived` whether it
+-- was settled and its row ran the target.
 abbrev pub decision : Parts → ℕ → KMode → Bool → Bool → Env → KMode
 decision spec frame (Stable c) settled arrived v = stable_decision spec c frame v
 decision spec frame (Moving from halting to since) settled arrived v =

@@ -85,7 +85,7 @@ pub record ReadsAsTold (spec : Parts) (c : ConfId) (f : ℕ) : Type 0 where
   pub begins : (before : List Row) (left : Row) (between : List Row) → All (Runs spec c) before → runs spec left.acts c ≡ false → All (RunsNone spec) between
       → (ended_in spec (Steady c) f (before ++ (left ∷ between)) ≡ [])
       × (reading_after spec (Steady c) f (before ++ (left ∷ between)) ≡ Leaving c (f + length before))
-  -- the first later row that runs some configuration ends it, and reading goes on from the least-numbered one
+  -- the first later row that runs some configuration ends it, and reading goes on from the one with the smallest number
   pub ends : (before : List Row) (left : Row) (between : List Row) (arrived : Row) (rest : List Row) (j : ConfId) → All (Runs spec c) before
       → runs spec left.acts c ≡ false
       → All (RunsNone spec) between → RunsFirst spec j arrived

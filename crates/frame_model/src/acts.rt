@@ -5,7 +5,7 @@ ghost use Rattle.frame_model.specs.Runs.{act_at, is_off, is_ran_at, is_run_by, r
 
 use scram_types::{Act, AppId, ConfId, Place, Spec};
 
-/// Returns whether the acts of a row run configuration `c`: each application that is on in `c` ran in its mode and on
+/// Returns whether the acts of a row run configuration `c`. Each application that is on in `c` ran in its mode and on
 /// its processor there, and each other application was off.
 pub fn runs(spec: &Spec, acts: &[Act; 8], c: ConfId) -> bool
     ensures { result ≡ runs spec.now acts.now c }

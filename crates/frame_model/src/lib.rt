@@ -1,6 +1,6 @@
-//! The one-thread trace: the kernel's decisions and orders in each frame, the areas, keepers and world under halts and
-//! restarts, the row of the frame, and the reconfigurations that are read off the rows. Each is proved as defined, for
-//! every specification and every fitting script.
+//! The one-thread trace: the kernel's decisions and orders in each frame, the resulting areas, keepers, world and row
+//! under halts and restarts, and the reconfigurations that rows show. Each is proved as defined, for every
+//! specification and every fitting script.
 #![tactic(auto)]
 
 pub mod acts;

@@ -33,8 +33,8 @@ abbrev pub file_at : List ℕ → FileMap → Option (List ℕ)
 file_at name [] = None
 file_at name (entry ∷ rest) = if bytes_eq entry.0 name then Some entry.1 else file_at name rest
 
--- The state of files: the history of reads, the map of names to bytes if it is known beforehand, whether reads of names
--- in the map surely succeed, and the count of faults.
+-- The state of files: the history of reads, the map of names to bytes if it is known beforehand, and the count of
+-- faults. If the files are steady, a read of a name in the map does not fail.
 pub record FilesState : Type 0 where
   pub history : History
   pub told : Option FileMap
@@ -65,8 +65,8 @@ pub record FoundLonger (old new : FilesState) (name : List ℕ) (limit : ℕ) : 
 abbrev pub StaysSteady : FilesState → FilesState → List ℕ → Type 0
 StaysSteady old new name = IsTrue old.steady → IfSome old.told (λ map. IsSome (file_at name map) → Unrisen old.faults new.faults × IsTrue new.steady)
 
--- The state of a sink: the bytes sent, the bytes taken but still held back, the number of further bytes that it surely
--- takes and sends, if known, and the count of faults.
+-- The state of a sink: the bytes sent, the bytes held back, the number of further bytes that it surely takes and sends,
+-- if known, and the count of faults.
 pub record SinkState : Type 0 where
   pub sent : List ℕ
   pub held : List ℕ

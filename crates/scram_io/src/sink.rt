@@ -9,9 +9,9 @@ use thiserror::Error;
 #[error("the bytes could not be written")]
 pub struct SinkFault;
 
-/// A sink of bytes, which allocates nothing. Contracts see its `state`: the bytes sent, the bytes taken but still held
-/// back, the number of further bytes that it surely takes and sends, if known, and the count of faults. The count never
-/// falls and stays at the maximum `u64`.
+/// A sink of bytes, which allocates nothing. Contracts see its `state`: the bytes sent, the bytes held back, the number
+/// of further bytes that it surely takes and sends, if known, and the count of faults. The count never falls and stays
+/// at the maximum `u64`.
 pub trait Sink {
     ghost state: { Self → SinkState };
 

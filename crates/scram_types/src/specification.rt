@@ -139,9 +139,8 @@ pub struct Demand {
 /// hold, and a needed application has a lower rank. Modes are modes of their kind, and the mode of a place is one that
 /// its application lists.
 ///
-/// `halts`, `changes` and `window` are the failure assumption: at most `halts` processors are down at
-/// once, and any `window` consecutive frames hold at most `changes + 1` frames in which the
-/// environment changes.
+/// `halts`, `changes` and `window` are the failure assumption. At most `halts` processors are down at once, and any
+/// `window` consecutive frames hold at most `changes + 1` frames in which the environment changes.
 #[derive(Drop)]
 pub struct Spec {
     pub procs: List<Proc>,

@@ -82,8 +82,8 @@ pub record FollowsAnother (spec : Parts) (rows : List Row) (r : Report) : Type 0
   pub up_to : change ≤ before.end
   pub changes : ChangesIn spec rows change
 
--- SP5 of a reconfiguration: the environment changes in its begin or in the row after it. Where targets are settled, it
--- may also have changed during the reconfiguration just before. A begin in the last row is exempt.
+-- SP5 of a reconfiguration: the environment changes in its begin or in the row after it. If targets are settled, it may
+-- also have changed during the reconfiguration just before. A begin in the last row is exempt.
 abbrev pub KeepsSp5 : Parts → List Row → Report → Type 0
 KeepsSp5 spec rows r = suc r.begin < length rows → ChangesIn spec rows r.begin ⊎ ChangesIn spec rows (suc r.begin) ⊎ FollowsAnother spec rows r
 

@@ -26,8 +26,8 @@ pub fn targets_are_chosen()
     know();
 }
 
-/// The halting phase ends within this number of frames after the first moving frame: the halting time of the source
-/// and, for each further change of the environment, the slowest turn.
+/// The halting phase ends within this number of frames after the first moving frame: the halting time of the source,
+/// plus the slowest turn for each further change of the environment.
 pub fn halting_ends_in_time()
     ensures { HaltingEndsInTime }
 {

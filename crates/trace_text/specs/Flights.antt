@@ -102,7 +102,8 @@ pub record IsReportShown (spec : Parts) (frames : ℕ) (report : Report) : Type 
   pub ordered : report.begin ≤ report.end
   pub ended : IsEndShown frames report.to report.end
 
--- The rows of a flight are the rows of its frames in order, and it has at most as many reconfigurations as rows.
+-- The rows of a flight are the rows of its frames in order, and the number of its reconfigurations is at most the
+-- number of its rows.
 pub record IsFlight (spec : Parts) (rows : List Row) (reports : List Report) : Type 0 where
   pub frames : length rows ≤ MAX_FRAMES
   pub rows_shown : (f : ℕ) (row : Row) → slice_get rows f ≡ Some row → IsRowShown spec f row

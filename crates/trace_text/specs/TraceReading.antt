@@ -104,14 +104,14 @@ after_line spec s line = if is_plain line then standing_line spec s s.standing l
 abbrev pub fault_at : ℕ → ℕ → TraceFault
 fault_at line rule = record { line = line; rule = rule }
 
--- The result at the end of the bytes, where rule 9 requires that the end line has been read.
+-- The result at the end of the bytes. Rule 9 requires that the end line has been read.
 abbrev pub at_end : ℕ → SoFar → Standing → Result Flown TraceFault
 at_end k s Over = Ok (record { rows = s.rows; reports = s.reports })
 at_end k s Rows = Err (fault_at k WRONG_END)
 at_end k s (Apps a row) = Err (fault_at k WRONG_END)
 at_end k s Reports = Err (fault_at k WRONG_END)
 
--- The result after the last line feed, where rule 1 requires that no bytes follow.
+-- The result after the last line feed. Rule 1 requires that no bytes follow it.
 abbrev pub at_last : ℕ → SoFar → List ℕ → Result Flown TraceFault
 at_last k s last = if is_filled last then Err (fault_at k BROKEN_LINE) else at_end k s s.standing
 
