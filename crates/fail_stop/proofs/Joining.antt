@@ -56,7 +56,7 @@ image_same slot other same =
       same 7 (omega arith),
     ) refl
 
--- The first `n` words of the slot of application `a` in an image are those of the area, and all other words are as they
+-- The first `n` words of the slot of application `a` in an image are those of the area, and the other slots are as they
 -- were.
 pub record IsPut (a n : ℕ) (area old image : List ℤ) : Type 0 where
   pub long : length image ≡ 64

@@ -58,7 +58,7 @@ pub record IsUnitAt {X : Type 0} {Y : X → Type 0} (p : ℕ) (place : Place) (u
   pub down : is_down unit ≡ is_halted place
   pub frame : is_down unit ≡ true → unit_frame unit ≡ frame_of place
 
--- Processor `p`, which is or has halted in a frame, has the rack for a restart that is still to come.
+-- If processor `p`, which is in a frame or has halted there, has a later restart, the rack for it is there.
 abbrev pub HasSpare : {R : Type 0} → Flight → ℕ → ℕ → Option R → Type 0
 HasSpare m p f spare = (r : ℕ) → m.restart p ≡ Some r → f < r → is_some spare ≡ true
 
