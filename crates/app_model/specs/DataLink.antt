@@ -11,11 +11,11 @@ use Rattle.app_model.specs.declared.kinds.navigator.TheConstants as navigator
 use Rattle.app_model.specs.declared.kinds.power_monitor.TheConstants as power_monitor
 use Rattle.app_model.specs.Reads.{own_word, lead_word, ticks_after}
 
--- The number of messages that a kind hands over: 1 if its status is 1, else 0.
+-- The number of new messages of a kind: 1 if its status is 1, else 0.
 unfoldable pub fresh_of : ℕ → Seen → ℤ
 fresh_of kind seen = if int_eq (lead_word kind seen STATUS) (pos 1) then pos 1 else pos 0
 
--- The number of messages that the other kinds hand over in this frame.
+-- The number of new messages of kinds 0 to 3 in this frame.
 unfoldable pub fresh : Seen → ℤ
 fresh seen = ((fresh_of autopilot.KIND seen +ℤ fresh_of flight_control.KIND seen) +ℤ fresh_of power_monitor.KIND seen) +ℤ fresh_of navigator.KIND seen
 

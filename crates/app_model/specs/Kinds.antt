@@ -11,8 +11,8 @@ use Rattle.app_model.specs.declared.kinds.navigator.TheConstants.{ROUTE}
 use Rattle.app_model.specs.declared.kinds.data_link.TheConstants.{FAST}
 use Rattle.app_model.specs.declared.kinds.task.TheConstants.{FULL}
 
--- A word of a kind's area: its name, or `None` if the kind does not use it, its ranges by mode, its ranges after the
--- last frame of an init phase, whether a halt brings it to 0, and its value at the start.
+-- A word of a kind's area: its name, or `None` if unused, its ranges by mode, its ranges after an init phase, whether a
+-- halt brings it to 0, and its start value.
 pub record Variable : Type 0 where
   pub name : Option (List ℕ)
   pub ranges : List Range

@@ -1,4 +1,4 @@
--- Which racks fit. The functions that read a box's kind and a rack's boxes are parameters.
+-- The condition on racks. The functions that read a box's kind and a rack's boxes are parameters.
 use Rattle.std.specs.Prelude.{◌≡◌, ℕ, List, [], ◌∷◌, length, map, All, slice_get}
 
 -- There are five boxes, and the box at index `k` is of kind `k`.

@@ -1,7 +1,7 @@
 //! The kinds of application: their numbers, their modes and the contents of the words of their areas.
 //!
-//! Word 0 of every area is the status: 1 while the application runs, 2 while it halts, 3 while it prepares, 4 while it
-//! initialises, and 0 if it is off. Word 6 counts the frames in which the application ran, 0 to 1,000,000.
+//! Word 0 of every area is the status: 0 off, 1 running, 2 halting, 3 preparing, 4 initialising. Word 6 counts the
+//! frames in which the application ran, 0 to 1,000,000.
 
 /// The words that the areas of all kinds have in common.
 pub mod every_kind {
@@ -13,8 +13,7 @@ pub mod every_kind {
     pub const MOST_TICKS: u32 = 1_000_000;
 }
 
-/// The autopilot: it commands pitch and roll so that the aircraft comes to a target altitude and a
-/// target heading.
+/// The autopilot: it commands pitch and roll to reach a target altitude and a target heading.
 pub mod autopilot {
     /// The kind's number.
     pub const KIND: u8 = 0;
@@ -89,7 +88,7 @@ pub mod navigator {
     pub const ON_COURSE: usize = 3;
 }
 
-/// The data link: it sends a message for each application whose status is 1.
+/// The data link: it sends a message for each of the kinds 0 to 3 whose status is 1.
 pub mod data_link {
     /// The kind's number.
     pub const KIND: u8 = 4;

@@ -14,7 +14,7 @@ pub enum Break {
     ManyStates,
     /// A configuration has no application on.
     NothingOn(ConfId),
-    /// A configuration is the same as an earlier one, and the second is the first such configuration.
+    /// A configuration is the same as an earlier configuration, the first of which is given.
     SameAgain(ConfId, ConfId),
     /// A configuration loads a processor beyond its capacity.
     Overloaded(ConfId, ProcId),

@@ -28,7 +28,7 @@ pub(crate) fn all_ways(alloc: Global, spec: &Spec) -> Result<Vec<Way>, NoMemory>
     Ok(ways)
 }
 
-// Appends the ways from configuration `i`, where `set` is the set of its possible targets.
+// Appends the ways from configuration `i`, whose possible targets are the set `set`.
 fn add_ways_from(ways: &mut Vec<Way>, spec: &Spec, set: u16, i: u8) -> Result<(), NoMemory>
     requires { set ≡ targets spec.now (conf_id i) }
     ensures { OnOk result (ways.new.items ≡ ways.old.items ++ ways_from spec.now i) }

@@ -9,8 +9,8 @@ pub record Chart : Type 0 where
   pub before : ℕ → ℕ → Bool
   pub time : ℕ → ℕ
 
--- The time that application `b` adds to a chain before `a`: its own time plus the sum up to it, or 0 if `b` is off or
--- does not go before `a`.
+-- The time that application `b` adds to a chain before `a`. It is its own time plus the sum up to it, or 0 if `b` is
+-- off or does not go before `a`.
 abbrev pub time_added : Chart → (ℕ → ℕ) → ℕ → ℕ → ℕ
 time_added chart summed a b = if chart.on b && chart.before b a then chart.time b + summed b else 0
 

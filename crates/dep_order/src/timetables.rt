@@ -51,7 +51,8 @@ pub fn timetable(spec: &Spec, c: ConfId) -> Times
     }
 }
 
-// Returns the offset of each application, or 0 if nothing goes before it. Every round allows chains of one more link.
+// Returns the offset of each application, or 0 if there is no application of a number. Every round allows chains of one
+// more link.
 fn offsets_in(spec: &Spec, phase: Phase, times: &[u8; 8]) -> [u16; 8]
     requires { AtMost 16 (length spec.now.apps) times.now }
     ensures offsets { Holds (offset (timed_chart spec.now phase times.now)) (length spec.now.apps) result }

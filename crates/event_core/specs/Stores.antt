@@ -7,8 +7,8 @@ use Rattle.event_core.specs.Places.{CanGoOn, kept_place}
 use Rattle.fail_stop.specs.Events.{Places, frame_of}
 use Rattle.fail_stop.specs.Flights.{Flight, word_in}
 
--- A word is valid for an event. With a store it is a word of the draft, with a store of the kernel a word of the
--- kernel's next image, and with any other event it is arbitrary.
+-- A word is valid for an event. A store needs a word of the draft, and a store of the kernel needs a word of the
+-- kernel's next image. With any other event the word is arbitrary.
 abbrev pub IsEventWord : Flight → Places → Event → ℕ → Type 0
 IsEventWord m at (Store p i) word = word ≡ word_in (m.draft p.0 (frame_of (at.proc p.0))) i
 IsEventWord m at (KStore i) word = word ≡ word_in (m.kernel_image (suc at.frame)) i
@@ -20,7 +20,7 @@ IsEventWord m at (Halt p) word = Unit {0}
 IsEventWord m at (KNote p) word = Unit {0}
 IsEventWord m at Release word = Unit {0}
 
--- The numbers of an event are in range: the processor that acts or is noted is below 8, and the index of a stored word
+-- The numbers of an event are in range. The processor that acts or is noted is below 8, and the index of a stored word
 -- is within the bank or the kernel's words.
 abbrev pub IsInside : Event → Type 0
 IsInside (Store p i) = (p.0 < 8) × (i < 64)

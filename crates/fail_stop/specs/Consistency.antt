@@ -22,8 +22,8 @@ Reads at p f n = (at.proc p ≡ At f n) × (0 < n)
 abbrev pub NoRestart : Flight → ℕ → ℕ → ℕ → Type 0
 NoRestart m p h k = (r : ℕ) → m.restart p ≡ Some r → h < r → k < r
 
--- The facts of the invariant, with the kernel in its frame: marks and banks by the commits of their processor, the
--- places of processors and kernel, the meaning of a note, the kernel's words, and the words that a reader sees.
+-- The facts of the invariant, with the kernel in its frame. They are on marks and banks, the places of processors and
+-- kernel, notes, the kernel's words, and the words that a reader sees.
 pub record IsConsistent (m : Flight) (at : Places) (words : Word → ℕ) : Type 0 where
   pub mark : (p : ℕ) → p < m.procs → words (MarkWord p) ≡ mark_word (last_commit m p (marked m (at.proc p))) (commit_count m p (marked m (at.proc p)) % 2)
   pub marked_bank : (p i : ℕ) → p < m.procs → i < m.width → words (BankWord p (commit_count m p (marked m (at.proc p)) % 2) i)

@@ -14,8 +14,8 @@ pub fn opening_keeps()
     ensures { OpeningKeeps }
 {}
 
-/// The list of words with which a flight opens holds the opening word of each place: the release, the kernel's words,
-/// and the mark, the end word and both banks of each processor.
+/// The list of words with which a flight opens holds the opening word of each place. The places are those of the
+/// release, of the kernel's words, and of the mark, the end word and both banks of each processor.
 pub fn opening_lists_are_of_scripts()
     ensures { OpeningListsAreOfScripts }
 {}

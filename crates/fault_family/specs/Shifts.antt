@@ -46,7 +46,7 @@ mode_later d (Moving from halting to since) = Moving from halting to (d + since)
 abbrev pub report_later : ℕ → Report → Report
 report_later d report = record { from = report.from; to = report.to; begin = d + report.begin; end = d + report.end }
 
--- The flight of `later` is that of `script`, `d` frames later: each row has the acts and the mode of the row `d` frames
+-- The flight of `later` is that of `script`, `d` frames later. Each row has the acts and the mode of the row `d` frames
 -- before, and the reconfigurations come `d` frames later. Worlds and areas may differ.
 pub record HasFlightLater (spec : Parts) (d : ℕ) (script later : ScriptParts) : Type 0 where
   pub acts : (f : ℕ) → (row_at spec later (d + f)).acts ≡ (row_at spec script f).acts

@@ -35,14 +35,14 @@ pub fn later_scripts_show_the_same()
 {}
 
 /// For an accepted specification, a script in which everything comes some frames later has the same reconfigurations,
-/// later by that number of frames, and the same acts and modes in its rows. Worlds and areas may differ.
+/// later by that number of frames. Its rows have the same acts and modes. Worlds and areas may differ.
 pub fn later_scripts_fly_the_same()
     ensures { LaterScriptsFlyTheSame }
 {}
 
-/// The length of a rest does not matter. If a flight is at rest, a script in which everything from then on comes some
-/// frames later has the same flight up to there, and afterwards the same reconfigurations, later by that number of
-/// frames.
+/// The length of a rest does not matter. Suppose that a flight is at rest, and that in another script everything from
+/// then on comes some frames later. The flight of that script is the same up to there, and afterwards has the same
+/// reconfigurations, later by that number of frames.
 pub fn rests_may_be_longer()
     ensures { RestsMayBeLonger }
 {}

@@ -142,8 +142,8 @@ fn are_halts_over(script: &FaultScript<'_>, p: u8, frame: u32) -> bool
     true
 }
 
-// Returns whether a processor is up in a frame as far as one fault decides: the fault is no halt of it before the
-// frame, or it has restarted since.
+// Returns whether a fault leaves a processor up in a frame: it is not a halt of the processor before the frame, or the
+// processor has restarted since.
 fn is_over(script: &FaultScript<'_>, fault: &Fault, p: u8, frame: u32) -> bool
     ensures { result ≡ list_all (is_over (faults_in_frames script.now.frames script.now.faults.now) p frame) (filter_map halt_of_fault (fault.now ∷ [])) }
 {

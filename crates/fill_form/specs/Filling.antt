@@ -47,7 +47,7 @@ filled_bounds spec = map (raised spec) spec.bounds ++ missing_bounds spec
 abbrev pub filled_window : Parts → ℕ
 filled_window spec = max spec.window (greatest_bound (filled_bounds spec) + 1)
 
--- The same specification with these bounds and this window.
+-- The specification with its bounds and its window replaced by these.
 abbrev pub with_times : Parts → List Bound → ℕ → Parts
 with_times spec bounds window = record {
   procs = spec.procs;

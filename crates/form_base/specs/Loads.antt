@@ -22,7 +22,7 @@ ReadsAs Says Breaks bytes (Ok value) = Says value bytes
 ReadsAs Says Breaks bytes (Err refusal) = Breaks (told refusal) bytes ⊎ IsOutOfMemory (told refusal)
 
 -- A file was not loaded: its bytes break a rule, it is too long, the files failed, or the allocator was out of memory
--- before or after the file was read.
+-- before or after the reading.
 abbrev pub IsUnloaded : (ℕ × List ℕ → List ℕ → Type 0) → ℕ → ℕ × List ℕ → List ℕ → FilesState → FilesState → ℕ × List ℕ → Type 0
 IsUnloaded Breaks limit long name before after refusal =
     HasRead limit name (Breaks refusal) before after

@@ -65,7 +65,7 @@ impl<'a> LockFlight<'a> {
     }
 
     /// Flies the mission until the flight is over, with a thread for each processor and the kernel on the caller's
-    /// thread. The caller flies processors whose threads cannot be started round-robin. It may block.
+    /// thread. Processors whose threads cannot be started are flown round-robin by the caller. It may block.
     pub fn run<R: Threads + Wait + Sync>(self, rt: &R) -> Core<'a>
         requires fits { All (λ member. MemberFits self.mission.now member.value) self.members.items }
         ensures spec { result.spec ≡ self.entry.mission.now.spec }
@@ -76,8 +76,8 @@ impl<'a> LockFlight<'a> {
         self.run_on(rt, [true; 8])
     }
 
-    /// Flies the mission like `run`, but with threads for the processors in `asked` alone. The caller flies the others
-    /// round-robin.
+    /// Flies the mission like `run`, but with threads only for the processors that `asked` selects. The caller flies
+    /// the others round-robin.
     pub fn run_on<R: Threads + Wait + Sync>(self, rt: &R, asked: [bool; 8]) -> Core<'a>
         requires fits { All (λ member. MemberFits self.mission.now member.value) self.members.items }
         ensures spec { result.spec ≡ self.entry.mission.now.spec }

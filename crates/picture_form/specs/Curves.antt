@@ -19,14 +19,14 @@ use Rattle.picture_form.specs.declared.sheets.Sheet.{Sheet}
 abbrev pub distance : ℤ → ℤ → ℕ
 distance a b = int_gap a b + int_gap b a
 
--- The position of a number between the extremes, in tenths of a pixel from the top: 480 for the minimum, 0 for the
--- maximum, and 240 if the extremes are equal.
+-- The position of a number between the extremes, in tenths of a pixel from the top. It is 480 for the minimum, 0 for
+-- the maximum, and 240 if the extremes are equal.
 abbrev pub drop_of : Extremes → ℤ → ℕ
 drop_of extremes number =
     if distance extremes.least extremes.greatest == 0 then 240
     else 480 - distance extremes.least number * 480 / distance extremes.least extremes.greatest
 
--- Whether a heading crosses north between two rows, where the line is interrupted.
+-- Whether a heading crosses north between two rows, which interrupts the line.
 abbrev pub crosses_north : Quantity → ℤ → ℤ → Bool
 crosses_north Altitude before number = false
 crosses_north Climb before number = false

@@ -1,4 +1,4 @@
--- What the marks show about the frame that has ended.
+-- The commits of the frame that has ended, by the marks.
 use Rattle.std.proofs.Common.{◌≡◌, ◌∙◌, ℕ, zero, suc, ◌-◌, ◌/◌, ◌<◌, ◌≤◌, ap, arith, length, Bool, true, false, List}
 use Rattle.std.specs.Prelude.{◌==◌, if◌then◌else◌}
 use Rattle.std.proofs.lemmas.Bool.Decides.{nat_tests}

@@ -28,8 +28,8 @@ kernel_after spec script f = record { spec = spec; script = script; past = f }
 abbrev pub rows_below : Parts → ScriptParts → ℕ → List Row
 rows_below spec script f = listed_below (row_at spec script) f
 
--- A kernel after `f` frames holds the image of frame `f`, the areas before it, the rows of the first `f` frames, their
--- reading, and the reports of the reconfigurations that ended in them.
+-- A kernel after `f` frames holds the image of frame `f` and the areas before it. It holds the rows of the first `f`
+-- frames, their reading, and the reports of the reconfigurations that ended in them.
 pub record Stands (spec : Parts) (script : ScriptParts) (f : ℕ) (image : KernelImage) (areas : List (List ℤ))
     (reading : Reading) (rows : List Row) (reports : List Report) : Type 0 where
   pub image_is : image ≡ kernel_image spec script f

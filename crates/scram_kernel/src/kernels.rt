@@ -8,7 +8,7 @@ use frame_model::{Reading, Sys, close, read_row, tasks_of};
 use scram_types::{Area, Flown, Image, List, NoMemory, Report, Row, Script, Spec};
 use std::alloc::Global;
 
-/// The kernel of a flight by a specification and a script, after some frames. It calls no application: it takes the
+/// The kernel of a flight by a specification and a script, after some frames. It calls no application. It takes the
 /// acts of a frame from the marks and the images of the processors after it, and the environment of the next frame from
 /// the script, along which it walks. It keeps the image of the running frame, the areas before that frame, and the rows
 /// and the reconfigurations of the frames that have ended.
