@@ -1,23 +1,23 @@
--- One step of the aircraft. What is read is clamped to its range.
+-- One step of the aircraft. Each number that is read is clamped to its range.
 use Rattle.std.specs.Prelude.{ℕ, ℤ, ◌+ℤ◌, ◌-ℤ◌, ◌≤ℤ◌, pos}
 use Rattle.scram_types.specs.declared.rows.World.{World}
 use Rattle.scram_types.specs.Numbers.{minus, part, modulo}
 use Rattle.scram_types.specs.Ranges.{clamp_in, limit}
 use Rattle.airframe.specs.declared.motion.Motion.{Motion}
 
--- x, moved toward the target by one part in n of what is between
+-- The number `x`, moved toward the target by one part in `n` of the difference.
 unfoldable pub toward : ℤ → ℤ → ℕ → ℤ
 toward x target n = x +ℤ part (target -ℤ x) n
 
--- x and a tenth of y.
+-- The number `x` plus a tenth of `y`.
 unfoldable pub plus_tenth : ℤ → ℤ → ℤ
 plus_tenth x y = x +ℤ part y 10
 
--- The climb, moved towards the elevator.
+-- The climb, moved toward the elevator.
 unfoldable pub climb_after : Motion → ℤ
 climb_after m = clamp_in (limit 300 300) (toward (clamp_in (limit 300 300) m.world.climb) (clamp_in (limit 300 300) m.elevator) 4)
 
--- The bank, moved towards the aileron.
+-- The bank, moved toward the aileron.
 unfoldable pub bank_after : Motion → ℤ
 bank_after m = clamp_in (limit 300 300) (toward (clamp_in (limit 300 300) m.world.bank) (clamp_in (limit 300 300) m.aileron) 2)
 
@@ -29,15 +29,15 @@ alt_after m = clamp_in (limit 0 40000) (plus_tenth (clamp_in (limit 0 40000) m.w
 unfoldable pub heading_after : Motion → ℤ
 heading_after m = modulo (plus_tenth (clamp_in (limit 0 3599) m.world.heading) (bank_after m)) 3600
 
--- Where the aircraft is one frame later.
+-- The world one frame later.
 unfoldable pub world_after : Motion → World
 world_after m = record { alt = alt_after m; climb = climb_after m; heading = heading_after m; bank = bank_after m }
 
--- Where an aircraft is one frame later with this elevator and aileron.
+-- The world one frame later with this elevator and this aileron.
 abbrev pub step_of : World → ℤ → ℤ → World
 step_of world elevator aileron = world_after (record { world = world; elevator = elevator; aileron = aileron })
 
--- A world whose every number lies in its range.
+-- Every number of a world lies in its range.
 pub record IsFlyable (world : World) : Type 0 where
   pub lowest : pos 0 ≤ℤ world.alt
   pub highest : world.alt ≤ℤ pos 40000

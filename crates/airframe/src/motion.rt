@@ -128,12 +128,11 @@ fn fly(motion: &Motion) -> World
 }
 
 /// Returns the world of the next frame, whose numbers lie in their ranges. The surfaces are in tenths of a degree and
-/// are read clamped to -300 to 300; altitude (feet, 0 to 40,000), climb (tenths of a foot per frame, -300 to 300),
-/// heading (tenths of a degree, 0 to 3,599) and bank (tenths of a degree, -300 to 300) are read clamped to their
-/// ranges.
+/// are clamped to -300 to 300. Altitude (feet, 0 to 40,000), climb (tenths of a foot per frame, -300 to 300), heading
+/// (tenths of a degree, 0 to 3,599) and bank (tenths of a degree, -300 to 300) are clamped to their ranges.
 ///
-/// The climb goes a quarter of the way to the elevator, the bank half of the way to the aileron, the altitude gains a
-/// tenth of the new climb, and the heading turns by a tenth of the new bank, around the circle.
+/// The climb goes a quarter of the way to the elevator, and the bank half of the way to the aileron. The altitude gains
+/// a tenth of the new climb, and the heading turns by a tenth of the new bank, around the circle.
 pub fn step(world: World, elevator: i64, aileron: i64) -> World
     ensures world { result ≡ step_of world elevator aileron }
     ensures flyable { IsFlyable result }

@@ -1,4 +1,4 @@
--- What `==` says of arrays of numbers.
+-- The meaning of `==` on arrays of numbers.
 use Rattle.std.proofs.Common.{◌≡◌, ℕ, ℤ, Bool, List, eqb, refl}
 use Rattle.std.specs.Bool.{Decides}
 use Rattle.std.specs.Ordering.{int_eq}

@@ -1,4 +1,4 @@
--- Where one item of a list is replaced, the others are as they were.
+-- If one element of a list is replaced, the others stay as they were.
 use Rattle.std.proofs.Common.{◌≡◌, ◌∙◌, refl, ap, ℕ, zero, suc, List, [], ◌∷◌, slice_set}
 use Rattle.std.specs.Prelude.{slice_get}
 use Rattle.app_model.specs.Racks.{OthersStay}

@@ -1,4 +1,4 @@
--- What each kind's run leaves lies in the ranges of its mode.
+-- The area after a run of each kind lies in the ranges of its mode.
 use Rattle.std.proofs.Common.{◌≡◌, refl, ℕ, ℤ, pos, ◌+ℤ◌, ◌-ℤ◌, ◌≤ℤ◌, ◌<◌, ◌==◌, if◌then◌else◌, arith}
 use Rattle.std.proofs.lemmas.Int.{ints, clamps}
 use Rattle.app_model.specs.declared.seen.Seen.{Seen}

@@ -1,4 +1,4 @@
--- Names and numbers lead to one another, where no name stands twice in a table.
+-- Names and numbers agree in a table in which no name occurs twice.
 use Rattle.std.proofs.Common.{◌≡◌, ◌∙◌, refl, ap, subst, ℕ, zero, suc, ◌+◌, ◌<◌, ◌≤◌, length, Bool, true, false, ◌&&◌, ◌||◌, not, if◌then◌else◌, List, [], ◌∷◌, Option, Some, None, IsSome, arith}
 use Rattle.std.specs.Prelude.{codes}
 use Rattle.std.specs.Str.{bytes_eq}
@@ -10,7 +10,7 @@ use Rattle.scram_types.proofs.Booleans.{and_right}
 use Rattle.scram_types.proofs.Equality.{same_text}
 use Rattle.app_model.proofs.Within.{each_kind}
 
--- a text stands in a table
+-- a text occurs in a table
 abbrev stands : List (Option (List ℕ)) → List ℕ → Bool
 stands [] text = false
 stands (name ∷ names) text = is_spelled name text || stands names text
@@ -19,7 +19,7 @@ abbrev is_new : Option (List ℕ) → List (Option (List ℕ)) → Bool
 is_new None names = true
 is_new (Some name) names = not (stands names name)
 
--- no name stands twice
+-- no name occurs twice
 abbrev differ : List (Option (List ℕ)) → Bool
 differ [] = true
 differ (name ∷ names) = is_new name names && differ names
@@ -132,7 +132,7 @@ few_variables (suc (suc (suc (suc zero)))) = omega arith
 few_variables (suc (suc (suc (suc (suc zero))))) = omega arith
 few_variables (suc (suc (suc (suc (suc (suc kind)))))) = omega arith
 
--- What is named a variable is one of the eight words.
+-- Each named variable is one of the eight words.
 pub variable_number_below : (kind : ℕ) (text : List ℕ) (i : ℕ) → number_in (variable_names kind) text ≡ Some i → i < 8
 variable_number_below kind = words_counted (variable_names kind) (few_variables kind)
 

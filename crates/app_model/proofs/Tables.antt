@@ -124,7 +124,7 @@ task_widest mode = each (λ i. Narrower (mode_range 5 mode i) (mode_range 5 (wid
 widest_holds : (kind : ℕ) → kind < 6 → WidestHolds kind
 widest_holds = each_kind WidestHolds autopilot_widest flight_control_widest power_monitor_widest navigator_widest data_link_widest task_widest
 
--- the same of least and greatest numbers
+-- the same for minima and maxima
 inside : (r s : Range) → Narrower r s → Inside (ends r) (ends s)
 inside r s n = record { least = omega (arith, ints, n.below); greatest = omega (arith, ints, n.above) }
 

@@ -1,4 +1,4 @@
--- Where the words of the laws' areas lie.
+-- The ranges of the words in the areas that the laws give.
 use Rattle.std.specs.Prelude.{ℕ, ℤ, ◌≤ℤ◌, ◌<◌, ◌≤◌, ◌+◌, ◌≡◌, List, Option, Some, None}
 use Rattle.scram_types.specs.declared.orders.Order.{Order}
 use Rattle.scram_types.specs.declared.orders.Order.TheVariants.{Run, Hold, Halt, Prepare, Init, Off}
@@ -8,7 +8,7 @@ use Rattle.app_model.specs.Bounds.{during, after_halt, after_init, sane}
 use Rattle.app_model.specs.Law.{law}
 use Rattle.app_model.specs.Starts.{start_of}
 
--- x lies between a least and a greatest number.
+-- Number `x` lies in a range, both ends included.
 pub record Between (range : ℤ × ℤ) (x : ℤ) : Type 0 where
   pub least : range.0 ≤ℤ x
   pub greatest : x ≤ℤ range.1
@@ -17,7 +17,7 @@ pub record Between (range : ℤ × ℤ) (x : ℤ) : Type 0 where
 abbrev pub AreaLies : (ℕ → ℤ × ℤ) → List ℤ → Type 0
 AreaLies range area = (i : ℕ) → i < 8 → Between (range i) (word area i)
 
--- The status that an order leaves. None where the area stays as it was, and where it is zeros.
+-- The status that an order leaves, or `None` if the area stays as it was or becomes zeros.
 abbrev pub status_of : Order → Option ℕ
 status_of Run = Some 1
 status_of (Halt k n) = Some 2
@@ -26,23 +26,23 @@ status_of (Prepare k n) = Some 3
 status_of (Init k n) = Some 4
 status_of Off = None
 
--- For every kind, order and mode, whatever is seen: the area that the law gives lies in the ranges while
--- an application has that status; after the last frame of a halt and of an init phase it lies in theirs.
+-- For every kind, order and mode, and whatever is seen, the area that the law gives lies in the ranges of the status
+-- that the order leaves.
 abbrev pub LawLiesDuring : Type 0
 LawLiesDuring = (kind status : ℕ) (order : Order) (seen : Seen) → kind < 6 → status_of order ≡ Some status
     → AreaLies (during kind status seen.mode.0) (law kind order seen)
 
--- The last step of a halt phase leaves an area that lies in its ranges after halting.
+-- The last frame of a halt phase leaves an area that lies in the ranges after a halt.
 abbrev pub LawLiesAfterHalt : Type 0
 LawLiesAfterHalt = (kind k n : ℕ) (seen : Seen) → kind < 6 → k + 1 ≡ n
     → AreaLies (after_halt kind seen.mode.0) (law kind (Halt k n) seen)
 
--- The last step of an init phase leaves an area that lies in its ranges after initialising.
+-- The last frame of an init phase leaves an area that lies in the ranges after an init phase.
 abbrev pub LawLiesAfterInit : Type 0
 LawLiesAfterInit = (kind k n : ℕ) (seen : Seen) → kind < 6 → k + 1 ≡ n
     → AreaLies (after_init kind seen.mode.0) (law kind (Init k n) seen)
 
--- An application begins as after an init phase, in whatever mode.
+-- The area that an application begins with lies in the ranges after an init phase, in every mode.
 abbrev pub StartLiesAfterInit : Type 0
 StartLiesAfterInit = (kind mode : ℕ) → kind < 6 → AreaLies (after_init kind mode) (start_of kind)
 
@@ -51,13 +51,13 @@ pub record Inside (inner outer : ℤ × ℤ) : Type 0 where
   pub least : outer.0 ≤ℤ inner.0
   pub greatest : inner.1 ≤ℤ outer.1
 
--- Of the tables alone: what holds after a halt or an init phase also holds during the phase, and the
--- sane ranges hold those of every status in every mode.
+-- The ranges after a halt and after an init phase lie in those of the phase, and the sane range contains those of every
+-- status in every mode.
 pub record TablesNarrow (kind mode i : ℕ) : Type 0 where
   pub halt : Inside (after_halt kind mode i) (during kind 2 mode i)
   pub init : Inside (after_init kind mode i) (during kind 4 mode i)
   pub sane : (status : ℕ) → status ≤ 4 → Inside (during kind status mode i) (sane kind i)
 
--- The tables of every kind, mode and word narrow from its widest range to that of a mode.
+-- The ranges of every kind, mode and word are nested as in `TablesNarrow`.
 abbrev pub AllTablesNarrow : Type 0
 AllTablesNarrow = (kind mode i : ℕ) → kind < 6 → i < 8 → TablesNarrow kind mode i

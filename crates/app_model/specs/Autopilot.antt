@@ -1,4 +1,4 @@
--- What the autopilot's run leaves.
+-- The autopilot's area after a run.
 use Rattle.std.specs.Prelude.{ℤ, pos, ◌-ℤ◌, ◌+ℤ◌, ◌==◌, List, [], ◌∷◌, if◌then◌else◌}
 use Rattle.app_model.specs.declared.seen.Seen.{Seen}
 use Rattle.app_model.specs.declared.kinds.autopilot.TheConstants.{INTEGRAL, KIND, NAVIGATE, PITCH, TARGET_ALT, TARGET_HEADING}
@@ -8,15 +8,15 @@ use Rattle.app_model.specs.Ranges.{mode_range}
 use Rattle.app_model.specs.Reads.{own_word, altitude, heading, goal_altitude, goal_heading, ticks_after}
 use Rattle.app_model.specs.Headings.{short_turn}
 
--- In navigate the targets become the goal's, in hold they stay.
+-- The target altitude: the goal's in `navigate`, and the kept one in `hold`.
 unfoldable pub target_alt : Seen → ℤ
 target_alt seen = if seen.mode.0 == NAVIGATE then goal_altitude seen else own_word KIND seen TARGET_ALT
 
--- The heading that is flown to: the goal's while navigating, else the one that is kept.
+-- The target heading: the goal's in `navigate`, and the kept one in `hold`.
 unfoldable pub target_heading : Seen → ℤ
 target_heading seen = if seen.mode.0 == NAVIGATE then goal_heading seen else own_word KIND seen TARGET_HEADING
 
--- How far the target altitude lies above the aircraft, in feet, at most 500 either way.
+-- The target altitude minus the aircraft's altitude, in feet, clamped to -500 to 500.
 unfoldable pub altitude_error : Seen → ℤ
 altitude_error seen = clamp_in (limit 500 500) (target_alt seen -ℤ altitude seen)
 
@@ -24,11 +24,11 @@ altitude_error seen = clamp_in (limit 500 500) (target_alt seen -ℤ altitude se
 unfoldable pub integral_after : Seen → ℤ
 integral_after seen = clamp_in (limit 4000 4000) (own_word KIND seen INTEGRAL +ℤ altitude_error seen)
 
--- The pitch command: a tenth of the error and a hundredth of its sum, in the mode's range.
+-- The pitch command: a tenth of the error and a hundredth of the sum of errors, in the mode's range.
 unfoldable pub pitch_after : Seen → ℤ
 pitch_after seen = clamp_in (mode_range KIND seen.mode.0 PITCH) (part (altitude_error seen) 10 +ℤ part (integral_after seen) 100)
 
--- The roll command: a quarter of the turn that is left while navigating, else none.
+-- The roll command: a quarter of the remaining turn in `navigate`, else 0.
 unfoldable pub roll_after : Seen → ℤ
 roll_after seen = if seen.mode.0 == NAVIGATE then clamp_in (limit 150 150) (part (short_turn (target_heading seen) (heading seen)) 4) else pos 0
 

@@ -1,25 +1,25 @@
--- The tables of ranges as least and greatest numbers, the status with them.
+-- The tables of ranges as minima and maxima, including the status.
 use Rattle.std.specs.Prelude.{ℕ, ℤ, pos, ◌==◌, if◌then◌else◌}
 use Rattle.scram_types.specs.declared.ranges.Range.{Range}
 use Rattle.scram_types.specs.Numbers.{minus}
 use Rattle.app_model.specs.Ranges.{initialised_range, sane_range, mode_range, is_moving}
 
--- The least and the greatest number of a range.
+-- The minimum and the maximum of a range.
 abbrev pub ends : Range → ℤ × ℤ
 ends r = (minus r.below, pos r.above)
 
--- while an application of the kind has a status in a mode: 1 run, 2 halt, 3 prepare, 4 init
+-- The range of word `i` while an application of the kind has a status in a mode: 1 run, 2 halt, 3 prepare, 4 init.
 unfoldable pub during : ℕ → ℕ → ℕ → ℕ → ℤ × ℤ
 during kind status mode i = if i == 0 then (pos status, pos status) else ends (mode_range kind mode i)
 
--- after the last frame of a halt
+-- The range of word `i` after the last frame of a halt.
 unfoldable pub after_halt : ℕ → ℕ → ℕ → ℤ × ℤ
 after_halt kind mode i = if is_moving kind i then (pos 0, pos 0) else during kind 2 mode i
 
--- after the last frame of an init phase
+-- The range of word `i` after the last frame of an init phase.
 unfoldable pub after_init : ℕ → ℕ → ℕ → ℤ × ℤ
 after_init kind mode i = if i == 0 then (pos 4, pos 4) else ends (initialised_range kind mode i)
 
--- the widest of the modes' ranges
+-- The widest of the modes' ranges of word `i`.
 unfoldable pub sane : ℕ → ℕ → ℤ × ℤ
 sane kind i = ends (sane_range kind i)

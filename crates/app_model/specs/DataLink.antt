@@ -1,4 +1,4 @@
--- What the data link's run leaves.
+-- The data link's area after a run.
 use Rattle.std.specs.Prelude.{ℕ, ℤ, pos, ◌-ℤ◌, ◌+ℤ◌, ◌==◌, List, [], ◌∷◌, if◌then◌else◌}
 use Rattle.std.specs.Int.{int_min}
 use Rattle.std.specs.Ordering.{int_eq}
@@ -11,39 +11,39 @@ use Rattle.app_model.specs.declared.kinds.navigator.TheConstants as navigator
 use Rattle.app_model.specs.declared.kinds.power_monitor.TheConstants as power_monitor
 use Rattle.app_model.specs.Reads.{own_word, lead_word, ticks_after}
 
--- One message where the status that a kind shows is 1.
+-- The number of new messages of a kind: 1 if its status is 1, else 0.
 unfoldable pub fresh_of : ℕ → Seen → ℤ
 fresh_of kind seen = if int_eq (lead_word kind seen STATUS) (pos 1) then pos 1 else pos 0
 
--- How many messages the other kinds hand over in this frame.
+-- The number of new messages of kinds 0 to 3 in this frame.
 unfoldable pub fresh : Seen → ℤ
 fresh seen = ((fresh_of autopilot.KIND seen +ℤ fresh_of flight_control.KIND seen) +ℤ fresh_of power_monitor.KIND seen) +ℤ fresh_of navigator.KIND seen
 
--- How many messages go out in a frame: four when fast, one when slow.
+-- The maximum number of messages sent in a frame: 4 in `fast`, 1 in `slow`.
 unfoldable pub rate_after : Seen → ℤ
 rate_after seen = if seen.mode.0 == FAST then pos 4 else pos 1
 
--- Messages that wait before any goes out.
+-- The number of messages that wait before any is sent.
 unfoldable pub waiting : Seen → ℤ
 waiting seen = own_word KIND seen QUEUED +ℤ fresh seen
 
--- Messages that go out in this frame.
+-- The number of messages sent in this frame.
 unfoldable pub going : Seen → ℤ
 going seen = int_min (rate_after seen) (waiting seen)
 
--- Messages that are kept for the next frame, at most 64.
+-- The number of messages that are kept for the next frame, at most 64.
 unfoldable pub queued_after : Seen → ℤ
 queued_after seen = int_min (waiting seen -ℤ going seen) (pos 64)
 
--- Messages sent so far, counted up to a million.
+-- The number of messages sent so far, counted up to a million.
 unfoldable pub sent_after : Seen → ℤ
 sent_after seen = int_min (own_word KIND seen SENT +ℤ going seen) (pos 1000000)
 
--- messages that neither go nor find room in the queue
+-- The number of messages that are neither sent nor find room in the queue.
 unfoldable pub left_over : Seen → ℤ
 left_over seen = (waiting seen -ℤ going seen) -ℤ queued_after seen
 
--- Messages dropped so far, counted up to a million.
+-- The number of messages dropped so far, counted up to a million.
 unfoldable pub dropped_after : Seen → ℤ
 dropped_after seen = int_min (own_word KIND seen DROPPED +ℤ left_over seen) (pos 1000000)
 

@@ -1,4 +1,4 @@
--- What the flight control's run leaves.
+-- The flight control's area after a run.
 use Rattle.std.specs.Prelude.{ℕ, ℤ, pos, ◌-ℤ◌, ◌+ℤ◌, ◌*ℤ◌, ◌==◌, List, [], ◌∷◌, if◌then◌else◌}
 use Rattle.std.specs.Ordering.{int_eq}
 use Rattle.app_model.specs.declared.seen.Seen.{Seen}
@@ -8,21 +8,21 @@ use Rattle.app_model.specs.declared.kinds.flight_control.TheConstants.{AILERON, 
 use Rattle.scram_types.specs.Ranges.{clamp_in, limit}
 use Rattle.app_model.specs.Reads.{own_word, lead_word, ticks_after}
 
--- what the autopilot commands, its pitch or its roll: 0 where it does not run
+-- The autopilot's command, its pitch or its roll, or 0 if the autopilot does not run.
 unfoldable pub command : Seen → ℕ → ℤ
 command seen i = if int_eq (lead_word autopilot.KIND seen STATUS) (pos 1) then lead_word autopilot.KIND seen i else pos 0
 
--- x, moved toward the target by at most a step
+-- The number `x`, moved toward the target by at most `step`.
 unfoldable pub closer : ℤ → ℤ → ℕ → ℤ
 closer x target step = x +ℤ clamp_in (limit step step) (target -ℤ x)
 
--- In augmented the surfaces move toward the command, in direct they stand at twice the command.
+-- The elevator: moved toward the pitch command in `augmented`, else twice that command.
 unfoldable pub elevator_after : Seen → ℤ
 elevator_after seen =
     if seen.mode.0 == AUGMENTED then clamp_in (limit 100 100) (closer (own_word KIND seen ELEVATOR) (command seen autopilot.PITCH) 40)
     else pos 2 *ℤ command seen autopilot.PITCH
 
--- The aileron: moved towards the roll command when augmented, else twice that command.
+-- The aileron: moved toward the roll command in `augmented`, else twice that command.
 unfoldable pub aileron_after : Seen → ℤ
 aileron_after seen =
     if seen.mode.0 == AUGMENTED then clamp_in (limit 150 150) (closer (own_word KIND seen AILERON) (command seen autopilot.ROLL) 60)

@@ -1,5 +1,4 @@
--- The table of kinds, a record each: what a kind, its modes and the words of its area are called, and where their
--- numbers lie.
+-- The table of kinds: the names of each kind, its modes and the words of its area, and the ranges of the words.
 use Rattle.std.specs.Prelude.{ℕ, ℤ, pos, Bool, true, false, List, [], ◌∷◌, Option, Some, None, codes, map, option_map, slice_get, slice_index_or, ◌==◌, if◌then◌else◌}
 use Rattle.scram_types.specs.declared.ranges.Range.{Range}
 use Rattle.scram_types.specs.Ranges.{limit}
@@ -12,8 +11,8 @@ use Rattle.app_model.specs.declared.kinds.navigator.TheConstants.{ROUTE}
 use Rattle.app_model.specs.declared.kinds.data_link.TheConstants.{FAST}
 use Rattle.app_model.specs.declared.kinds.task.TheConstants.{FULL}
 
--- A word of a kind's area: its name, or None where the kind does not use it; its range in each mode; the same after the
--- last frame of an init phase; whether a halt brings it to 0; and what it begins with.
+-- A word of a kind's area: its name, or `None` if unused, its ranges by mode, its ranges after an init phase, whether a
+-- halt brings it to 0, and its start value.
 pub record Variable : Type 0 where
   pub name : Option (List ℕ)
   pub ranges : List Range
@@ -21,8 +20,8 @@ pub record Variable : Type 0 where
   pub moves : Bool
   pub start : ℤ
 
--- A kind: its name; the names of its modes by number, where mode 0, off, has none; the mode that has the widest range of
--- each variable; and the eight words of its area.
+-- A kind: its name, the names of its modes by number, the mode that has the widest range of each variable, and the
+-- eight words of its area. Mode 0, off, has no name.
 pub record Kind : Type 0 where
   pub name : List ℕ
   pub modes : List (Option (List ℕ))
@@ -33,31 +32,31 @@ pub record Kind : Type 0 where
 abbrev pub variable : List ℕ → List Range → List Range → Bool → ℕ → Variable
 variable name ranges initialised moves start = record { name = Some name; ranges = ranges; initialised = initialised; moves = moves; start = pos start }
 
--- A halt brings it to 0, and it begins with 0.
+-- A variable that a halt brings to 0 and that begins with 0.
 abbrev pub moving : List ℕ → List Range → List Range → Variable
 moving name ranges initialised = variable name ranges initialised true 0
 
--- A halt and an init phase leave it as it is.
+-- A variable that a halt and an init phase do not change.
 abbrev pub lasting : List ℕ → List Range → ℕ → Variable
 lasting name ranges start = variable name ranges ranges false start
 
--- one range for all modes
+-- One range for all modes.
 abbrev pub always : ℕ → ℕ → List Range
 always below above = limit below above ∷ []
 
--- 0 in all modes
+-- The range of 0 alone for all modes.
 abbrev pub at_zero : List Range
 at_zero = always 0 0
 
--- one range for mode 1 and one for mode 2
+-- One range for mode 1 and one for mode 2.
 abbrev pub by_mode : Range → Range → List Range
 by_mode first second = first ∷ second ∷ []
 
--- the names of two modes
+-- The names of two modes.
 abbrev pub two_modes : List ℕ → List ℕ → List (Option (List ℕ))
 two_modes first second = None ∷ Some first ∷ Some second ∷ []
 
--- The first variable of every kind: what the application did last.
+-- The first variable of every kind, the application's status.
 abbrev pub status : Variable
 status = lasting (codes "status") (always 0 4) 4
 
@@ -69,7 +68,7 @@ ticks = lasting (codes "ticks") (always 0 1000000) 0
 abbrev pub unused : Variable
 unused = record { name = None; ranges = at_zero; initialised = at_zero; moves = false; start = pos 0 }
 
--- An init phase sets its targets to the aircraft's altitude and heading.
+-- The kind that commands pitch and roll. An init phase sets its targets to the aircraft's altitude and heading.
 abbrev pub autopilot : Kind
 autopilot = record {
   name = codes "autopilot";
@@ -105,7 +104,7 @@ flight_control = record {
       [];
 }
 
--- The kind that watches alternators and battery.
+-- The kind that keeps account of alternators and battery.
 abbrev pub power_monitor : Kind
 power_monitor = record {
   name = codes "power_monitor";
@@ -123,7 +122,7 @@ power_monitor = record {
       [];
 }
 
--- The kind that measures how far the goal is.
+-- The kind that measures how far the aircraft is off its goal.
 abbrev pub navigator : Kind
 navigator = record {
   name = codes "navigator";
@@ -159,7 +158,7 @@ data_link = record {
       [];
 }
 
--- The kind of which only the status and the count of frames are known.
+-- The kind that has only a status and a count of frames.
 abbrev pub task : Kind
 task = record {
   name = codes "task";
@@ -168,15 +167,15 @@ task = record {
   variables = status ∷ unused ∷ unused ∷ unused ∷ unused ∷ unused ∷ ticks ∷ unused ∷ [];
 }
 
--- Kind n stands at place n.
+-- The kinds by number.
 abbrev pub kinds : List Kind
 kinds = autopilot ∷ flight_control ∷ power_monitor ∷ navigator ∷ data_link ∷ task ∷ []
 
--- The kind of this number; nothing where none has it.
+-- The kind of this number, or `None` if there is no such kind.
 abbrev pub find_kind : ℕ → Option Kind
 find_kind kind = slice_get kinds kind
 
--- Numbers past the last kind stand for the task.
+-- The kind of this number, or the task if the number is past the last kind.
 abbrev pub kind_or_last : ℕ → Kind
 kind_or_last kind = slice_index_or kinds kind task
 
@@ -184,14 +183,14 @@ kind_or_last kind = slice_index_or kinds kind task
 unfoldable pub kind_variable : ℕ → ℕ → Variable
 kind_variable kind i = slice_index_or (kind_or_last kind).variables i unused
 
--- The range in a mode: mode 0 and modes past the last one that is listed have the last range.
+-- The range in a mode. Mode 0 and modes past the last one listed have the last range.
 abbrev pub range_in : List Range → ℕ → Range
 range_in [] mode = limit 0 0
 range_in (only ∷ []) mode = only
 range_in (first ∷ (second ∷ [])) mode = if mode == 1 then first else second
 range_in (first ∷ (second ∷ (third ∷ more))) mode = if mode == 1 then first else (if mode == 2 then second else third)
 
--- A word and a kind as the program's table holds them.
+-- A word of the code's table as plain data.
 abbrev pub variable_read : TableVariable → Variable
 variable_read v = record { name = option_map (λ s. s.now) v.name; ranges = v.ranges.now; initialised = v.initialised.now; moves = v.moves; start = v.start }
 

@@ -11,15 +11,16 @@ use Rattle.app_model.specs.Navigator.{navigator_ran}
 use Rattle.app_model.specs.DataLink.{data_link_ran}
 use Rattle.app_model.specs.Tasks.{task_ran}
 
--- What a run leaves, kind n at place n.
+-- The areas after a run, by kind.
 abbrev pub runs_of_kinds : List (Seen → List ℤ)
 runs_of_kinds = autopilot_ran ∷ flight_control_ran ∷ power_monitor_ran ∷ navigator_ran ∷ data_link_ran ∷ task_ran ∷ []
 
--- Numbers past the last kind have the task's run.
+-- The area after a run of the kind, or of the task if the number is past the last kind.
 abbrev pub ran : ℕ → Seen → List ℤ
 ran kind seen = slice_index_or runs_of_kinds kind task_ran seen
 
--- In frame k of n frames of a halt, n - k frames are left; the init phase ends where k + 1 is n.
+-- The area of an application of the kind after a frame with an order. In frame `k` of the `n` frames of a halt, `n - k`
+-- frames are left; the init phase ends if `k + 1` is `n`.
 abbrev pub law : ℕ → Order → Seen → List ℤ
 law kind Run seen = ran kind seen
 law kind (Halt k n) seen = halted kind (n - k) seen

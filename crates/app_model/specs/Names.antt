@@ -1,5 +1,5 @@
--- How kinds, modes and variables are spelled. In a table of names the name of number n stands at place
--- n, and None where the number has none.
+-- The names of kinds, modes and variables. In a table of names, the entry at index `n` is the name of number `n`, or
+-- `None` if the number has none.
 use Rattle.std.specs.Prelude.{◌≡◌, ℕ, ◌<◌, ◌≤◌, ◌+◌, Bool, false, List, [], ◌∷◌, Option, Some, None, IsSome, map, slice_get, option_and_then, if◌then◌else◌}
 use Rattle.std.specs.Option.{option_map_or}
 use Rattle.std.specs.Str.{bytes_eq}
@@ -10,47 +10,49 @@ use Rattle.app_model.specs.Kinds.{Kind, Variable, find_kind, kinds}
 abbrev pub kind_names : List (Option (List ℕ))
 kind_names = map (λ (kind : Kind). Some kind.name) kinds
 
--- Mode 0 is off, and has no name. Past the last kind there are no modes.
+-- The names of a kind's modes, by number. Mode 0, off, has no name, and a number past the last kind has no modes.
 abbrev pub mode_names : ℕ → List (Option (List ℕ))
 mode_names kind = option_map_or (λ (found : Kind). found.modes) (find_kind kind) []
 
--- The eight words of a kind's area; one that is not used has no name. Past the last kind there are none.
+-- The names of the eight words of a kind's area. An unused word has no name, and a number past the last kind has no
+-- words.
 abbrev pub variable_names : ℕ → List (Option (List ℕ))
 variable_names kind = option_map_or (λ (found : Kind). map (λ (variable : Variable). variable.name) found.variables) (find_kind kind) []
 
--- the name of a number
+-- The name of a number.
 abbrev pub name_in : List (Option (List ℕ)) → ℕ → Option (List ℕ)
 name_in names number = option_and_then (λ (name : Option (List ℕ)). name) (slice_get names number)
 
--- The name of a mode of a kind, or no bytes where it has none.
+-- The name of a mode of a kind, or the empty text if the mode has no name.
 abbrev pub mode_text : ℕ → ℕ → List ℕ
 mode_text kind mode = option_map_or (λ (name : List ℕ). name) (name_in (mode_names kind) mode) []
 
--- A table's entry is this text.
+-- Whether an entry of a table is this text.
 abbrev pub is_spelled : Option (List ℕ) → List ℕ → Bool
 is_spelled None text = false
 is_spelled (Some name) text = bytes_eq name text
 
--- the number that a text names: the first place where it stands
+-- The number of the first entry that is this text, if the first entry of the list has the given number.
 abbrev pub number_in_from : ℕ → List (Option (List ℕ)) → List ℕ → Option ℕ
 number_in_from number [] text = None
 number_in_from number (name ∷ names) text = if is_spelled name text then Some number else number_in_from (number + 1) names text
 
--- The first number that has this name in a table.
+-- The first number that has this name in a table, or `None` if there is none.
 abbrev pub number_in : List (Option (List ℕ)) → List ℕ → Option ℕ
 number_in names text = number_in_from 0 names text
 
--- the number of a mode that is on, of a kind with this number of modes
+-- Number `mode` is one of the `modes` modes, other than off, of a kind.
 pub record IsModeNumber (mode modes : ℕ) : Type 0 where
   pub first : 1 ≤ mode
   pub last : mode ≤ modes
 
--- Number and name lead to one another.
+-- The look-ups from number to name and from name to number agree.
 pub record NamesAgree (names : List (Option (List ℕ))) : Type 0 where
   pub named : (number : ℕ) (text : List ℕ) → name_in names number ≡ Some text → number_in names text ≡ Some number
   pub spelled : (number : ℕ) (text : List ℕ) → number_in names text ≡ Some number → name_in names number ≡ Some text
 
--- The tables of a kind: its modes, and no others, have names, and its variables are words of an area.
+-- A kind and all its modes, and no other mode numbers, have names, the look-ups agree, and each named variable is one
+-- of the eight words.
 pub record KindIsNamed (kind : ℕ) : Type 0 where
   pub name : IsSome (name_in kind_names kind)
   pub modes : NamesAgree (mode_names kind)
@@ -59,7 +61,7 @@ pub record KindIsNamed (kind : ℕ) : Type 0 where
   pub variables : NamesAgree (variable_names kind)
   pub variable_number : (text : List ℕ) (i : ℕ) → number_in (variable_names kind) text ≡ Some i → i < 8
 
--- Names and numbers of kinds, modes and variables lead to one another.
+-- The names and numbers of kinds, modes and variables agree.
 pub record AllNamesAgree : Type 0 where
   pub kinds : NamesAgree kind_names
   pub kind_number : (text : List ℕ) (kind : ℕ) → number_in kind_names text ≡ Some kind → kind < 6

@@ -1,4 +1,4 @@
--- What the navigator's run leaves.
+-- The navigator's area after a run.
 use Rattle.std.specs.Prelude.{ℕ, ℤ, pos, ◌-ℤ◌, ◌==◌, ◌&&◌, Bool, int_le, List, [], ◌∷◌, if◌then◌else◌}
 use Rattle.app_model.specs.declared.seen.Seen.{Seen}
 use Rattle.app_model.specs.declared.kinds.navigator.TheConstants.{KIND, ROUTE}
@@ -7,19 +7,19 @@ use Rattle.scram_types.specs.Ranges.{clamp_in, limit}
 use Rattle.app_model.specs.Reads.{altitude, heading, goal_altitude, goal_heading, ticks_after}
 use Rattle.app_model.specs.Headings.{short_turn}
 
--- The turn that is left to the goal's heading, in tenths of a degree.
+-- The remaining turn to the goal's heading, in tenths of a degree.
 unfoldable pub bearing_error_after : Seen → ℤ
 bearing_error_after seen = short_turn (goal_heading seen) (heading seen)
 
--- The climb that is left to the goal's altitude, in feet, on a route; else none.
+-- The remaining climb to the goal's altitude, in feet, in `route`, else 0.
 unfoldable pub climb_left_after : Seen → ℤ
 climb_left_after seen = if seen.mode.0 == ROUTE then clamp_in (limit 5000 5000) (goal_altitude seen -ℤ altitude seen) else pos 0
 
--- x lies from -most to most
+-- Whether `x` lies between `-most` and `most`.
 unfoldable pub near : ℤ → ℕ → Bool
 near x most = int_le (minus most) x && int_le x (pos most)
 
--- 1 where turn and climb that are left are small, else 0.
+-- 1 if the remaining turn and climb are small, else 0.
 unfoldable pub on_course : Seen → ℤ
 on_course seen = if near (bearing_error_after seen) 50 && near (climb_left_after seen) 100 then pos 1 else pos 0
 

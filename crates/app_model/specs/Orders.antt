@@ -1,4 +1,4 @@
--- What the orders but `Run` leave of an area. They are the same for all kinds, over the ranges.
+-- The areas after all orders except `Run`, the same for all kinds.
 use Rattle.std.specs.Prelude.{ℕ, ℤ, pos, ◌-ℤ◌, ◌==◌, ◌&&◌, Bool, List, [], ◌∷◌, if◌then◌else◌}
 use Rattle.app_model.specs.declared.seen.Seen.{Seen}
 use Rattle.app_model.specs.declared.kinds.autopilot.TheConstants.{KIND, TARGET_ALT, TARGET_HEADING}
@@ -7,35 +7,35 @@ use Rattle.scram_types.specs.Ranges.{clamp_in}
 use Rattle.app_model.specs.Ranges.{initialised_range, is_moving}
 use Rattle.app_model.specs.Reads.{own_word, altitude, heading}
 
--- a status, and the other words as read
+-- The area with the given status and with the other words as read.
 unfoldable pub kept_area : ℕ → ℤ → Seen → List ℤ
 kept_area kind status seen = status ∷ own_word kind seen 1 ∷ own_word kind seen 2 ∷ own_word kind seen 3 ∷ own_word kind seen 4 ∷ own_word kind seen 5
     ∷ own_word kind seen 6 ∷ own_word kind seen 7 ∷ []
 
--- a moving variable, where the halt has some frames left, this one included
+-- A moving variable after a frame of a halt that has `left` frames left, including this frame.
 unfoldable pub faded : ℤ → ℕ → ℤ
 faded x left = x -ℤ part x left
 
--- A word of an area in a halt phase: what moves fades with the frames that are left, what does not stays.
+-- A word of an area after a frame of a halt phase with `left` frames left. A moving word fades, and any other stays.
 unfoldable pub halted_word : ℕ → ℕ → Seen → ℕ → ℤ
 halted_word kind left seen i = if is_moving kind i then faded (own_word kind seen i) left else own_word kind seen i
 
--- The area after a frame of its halt phase.
+-- The area after a frame of a halt phase.
 unfoldable pub halted : ℕ → ℕ → Seen → List ℤ
 halted kind left seen = pos 2 ∷ halted_word kind left seen 1 ∷ halted_word kind left seen 2 ∷ halted_word kind left seen 3 ∷ halted_word kind left seen 4
     ∷ halted_word kind left seen 5 ∷ halted_word kind left seen 6 ∷ halted_word kind left seen 7 ∷ []
 
--- at the end of the init phase; the autopilot's targets become the aircraft's altitude and heading
+-- A word of an area at the end of the init phase. The autopilot's targets become the aircraft's altitude and heading.
 unfoldable pub initialised_word : ℕ → Seen → ℕ → ℤ
 initialised_word kind seen i =
     if kind == KIND && i == TARGET_ALT then altitude seen else
     (if kind == KIND && i == TARGET_HEADING then heading seen else clamp_in (initialised_range kind seen.mode.0 i) (own_word kind seen i))
 
--- The area after a frame of its init phase.
+-- The area at the end of the init phase.
 unfoldable pub initialised : ℕ → Seen → List ℤ
 initialised kind seen = pos 4 ∷ initialised_word kind seen 1 ∷ initialised_word kind seen 2 ∷ initialised_word kind seen 3 ∷ initialised_word kind seen 4
     ∷ initialised_word kind seen 5 ∷ initialised_word kind seen 6 ∷ initialised_word kind seen 7 ∷ []
 
--- in a frame of the init phase
+-- The area after a frame of the init phase.
 abbrev pub initialising : ℕ → Bool → Seen → List ℤ
 initialising kind last seen = if last then initialised kind seen else kept_area kind (pos 4) seen

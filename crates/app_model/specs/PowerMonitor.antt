@@ -1,19 +1,19 @@
--- What the power monitor's run leaves.
+-- The power monitor's area after a run.
 use Rattle.std.specs.Prelude.{ℕ, ℤ, pos, ◌-ℤ◌, ◌+ℤ◌, ◌==◌, int_lt, List, [], ◌∷◌, slice_index, if◌then◌else◌}
 use Rattle.app_model.specs.declared.seen.Seen.{Seen}
 use Rattle.app_model.specs.declared.kinds.power_monitor.TheConstants.{CHARGE, KIND, NORMAL, SAVER}
 use Rattle.scram_types.specs.Ranges.{clamp_in, limit}
 use Rattle.app_model.specs.Reads.{own_word, ticks_after}
 
--- what an alternator gives: its factor has value 0 where it works
+-- The charge units that an alternator gives. Its factor has value 0 if the alternator works.
 unfoldable pub alternator_gives : ℕ → ℤ
 alternator_gives value = if value == 0 then pos 60 else pos 0
 
--- What both alternators give.
+-- The charge units that both alternators give.
 unfoldable pub supply_after : Seen → ℤ
 supply_after seen = alternator_gives (slice_index seen.factors 0) +ℤ alternator_gives (slice_index seen.factors 1)
 
--- What the mode takes.
+-- The charge units that the mode takes.
 unfoldable pub demand_after : Seen → ℤ
 demand_after seen = if seen.mode.0 == NORMAL then pos 100 else (if seen.mode.0 == SAVER then pos 60 else pos 20)
 
@@ -21,7 +21,7 @@ demand_after seen = if seen.mode.0 == NORMAL then pos 100 else (if seen.mode.0 =
 unfoldable pub charge_after : Seen → ℤ
 charge_after seen = clamp_in (limit 0 10000) ((own_word KIND seen CHARGE +ℤ supply_after seen) -ℤ demand_after seen)
 
--- 1 where the charge is low and load has to be shed, else 0.
+-- 1 if the charge is low and loads are to be shed, else 0.
 unfoldable pub shed_after : Seen → ℤ
 shed_after seen = if int_lt (charge_after seen) (pos 2000) then pos 1 else pos 0
 

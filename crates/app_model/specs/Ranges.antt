@@ -1,17 +1,17 @@
--- The ranges of the variables, by kind, mode and word, read off the table of kinds.
+-- The ranges of the variables, by kind, mode and word, taken from the table of kinds.
 use Rattle.std.specs.Prelude.{ℕ, Bool}
 use Rattle.scram_types.specs.declared.ranges.Range.{Range}
 use Rattle.app_model.specs.Kinds.{kind_or_last, kind_variable, range_in}
 
--- while an application of the kind is in the mode
+-- The range of a word while an application of the kind is in the mode.
 unfoldable pub mode_range : ℕ → ℕ → ℕ → Range
 mode_range kind mode i = range_in (kind_variable kind i).ranges mode
 
--- after the last frame of an init phase: some ranges are narrower then
+-- The range of a word after the last frame of an init phase, which may be narrower.
 unfoldable pub initialised_range : ℕ → ℕ → ℕ → Range
 initialised_range kind mode i = range_in (kind_variable kind i).initialised mode
 
--- the mode that has the widest range of each variable
+-- The mode that has the widest range of each variable.
 unfoldable pub widest_mode : ℕ → ℕ
 widest_mode kind = (kind_or_last kind).widest
 
@@ -19,6 +19,6 @@ widest_mode kind = (kind_or_last kind).widest
 unfoldable pub sane_range : ℕ → ℕ → Range
 sane_range kind i = mode_range kind (widest_mode kind) i
 
--- A halt brings this variable to 0.
+-- Whether a halt brings this variable to 0.
 unfoldable pub is_moving : ℕ → ℕ → Bool
 is_moving kind i = (kind_variable kind i).moves

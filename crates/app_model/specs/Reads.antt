@@ -1,4 +1,4 @@
--- What a law reads, clamped to its range.
+-- The reads of a law, clamped to their ranges.
 use Rattle.std.specs.Prelude.{ℕ, ℤ, pos, ◌+ℤ◌, [], slice_index_or}
 use Rattle.std.specs.Int.{int_min}
 use Rattle.app_model.specs.declared.seen.Seen.{Seen}
@@ -7,11 +7,11 @@ use Rattle.scram_types.specs.Numbers.{word}
 use Rattle.scram_types.specs.Ranges.{clamp_in, limit}
 use Rattle.app_model.specs.Ranges.{sane_range, mode_range}
 
--- word i of the own area, in the range of the mode that the application is to be in
+-- Word `i` of the application's own area, in the range of the mode that the application is to be in.
 unfoldable pub own_word : ℕ → Seen → ℕ → ℤ
 own_word kind seen i = clamp_in (mode_range kind seen.mode.0 i) (word seen.own i)
 
--- word i of the area of the least-numbered application of a kind
+-- Word `i` of the area of the lowest-numbered application of a kind.
 unfoldable pub lead_word : ℕ → Seen → ℕ → ℤ
 lead_word kind seen i = clamp_in (sane_range kind i) (word (slice_index_or seen.lead kind []) i)
 
@@ -31,6 +31,6 @@ goal_altitude seen = clamp_in (limit 0 40000) seen.goal.altitude
 unfoldable pub goal_heading : Seen → ℤ
 goal_heading seen = clamp_in (limit 0 3599) seen.goal.heading
 
--- frames in which the application ran
+-- The number of frames in which the application ran.
 unfoldable pub ticks_after : ℕ → Seen → ℤ
 ticks_after kind seen = int_min (own_word kind seen TICKS +ℤ pos 1) (pos 1000000)

@@ -94,7 +94,7 @@ fn next_roll(seen: &Seen) -> i64
     }
 }
 
-/// Returns what a run leaves.
+/// Returns the autopilot's area after a frame in which it runs.
 pub fn run(seen: &Seen) -> Area
     ensures { result ≡ autopilot_ran seen.now }
 {

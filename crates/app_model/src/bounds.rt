@@ -1,4 +1,4 @@
-//! The tables of ranges: the least and the greatest number of each variable.
+//! The tables of ranges: the minimum and the maximum of each variable.
 #![tactic(auto, unfolding(crate::specs::Bounds::during, crate::specs::Bounds::after_halt, crate::specs::Bounds::after_init, crate::specs::Bounds::sane))]
 
 ghost use Rattle.std.specs.Prelude.{◌≡◌};
@@ -13,8 +13,8 @@ fn ends_of(range: Range) -> (i64, i64)
     (-i64::from(range.below), i64::from(range.above))
 }
 
-/// Returns the least and the greatest number of a variable while an application of the kind has a status in a mode: 1
-/// run, 2 halt, 3 prepare, 4 init. The units are those of [`crate::kinds`].
+/// Returns the minimum and the maximum of a variable while an application of the kind has a status in a mode: 1 run, 2
+/// halt, 3 prepare, 4 init. The units are those of [`crate::kinds`].
 pub fn during(kind: KindId, status: u8, mode: Mode, variable: u8) -> (i64, i64)
     ensures { result ≡ during kind.0 status mode.0 variable }
 {
@@ -25,8 +25,8 @@ pub fn during(kind: KindId, status: u8, mode: Mode, variable: u8) -> (i64, i64)
     }
 }
 
-/// Returns the least and the greatest number of a variable after the last frame of a halt: 0 for those that the halt
-/// brings to 0.
+/// Returns the minimum and the maximum of a variable after the last frame of a halt. Both are 0 for a variable that a
+/// halt brings to 0.
 pub fn after_halt(kind: KindId, mode: Mode, variable: u8) -> (i64, i64)
     ensures { result ≡ after_halt kind.0 mode.0 variable }
 {
@@ -37,7 +37,7 @@ pub fn after_halt(kind: KindId, mode: Mode, variable: u8) -> (i64, i64)
     }
 }
 
-/// Returns the least and the greatest number of a variable after the last frame of an init phase.
+/// Returns the minimum and the maximum of a variable after the last frame of an init phase.
 pub fn after_init(kind: KindId, mode: Mode, variable: u8) -> (i64, i64)
     ensures { result ≡ after_init kind.0 mode.0 variable }
 {
@@ -48,7 +48,7 @@ pub fn after_init(kind: KindId, mode: Mode, variable: u8) -> (i64, i64)
     }
 }
 
-/// Returns the least and the greatest number of a variable over all modes of the kind, 0 to 4 for the status.
+/// Returns the minimum and the maximum of a variable over all modes of the kind, 0 and 4 for the status.
 pub fn sane(kind: KindId, variable: u8) -> (i64, i64)
     ensures { result ≡ sane kind.0 variable }
 {

@@ -1,4 +1,4 @@
-//! What an application remembers of its last call.
+//! The last call of an application, as a box remembers it.
 
 ghost use Rattle.std.specs.Prelude.{◌≡◌, IfSome, IsSome};
 ghost use Rattle.app_model.specs.Law.{law};
@@ -7,8 +7,7 @@ use crate::comparisons::{same_order, same_seen};
 use crate::seen::Seen;
 use scram_types::{Area, Order};
 
-/// The last call of an application: its order, what was seen, and the answer, which is the law of the
-/// kind.
+/// The last call of an application: its order, what the application saw, and the answer, which is the law of the kind.
 #[derive(Clone, Copy)]
 pub struct LastCall {
     kind: u8,
@@ -35,7 +34,7 @@ impl LastCall {
         }
     }
 
-    /// Returns the answer again where this is the same call, and `None` otherwise.
+    /// Returns the remembered answer, or `None` if this call differs from the remembered call.
     pub fn answer_to(&self, kind: u8, order: Order, seen: &Seen) -> Option<Area>
         ensures law { IfSome result (λ area. area ≡ law kind order seen.now) }
         ensures again { self.now.kind ≡ kind → self.now.order ≡ order → self.now.seen ≡ seen.now → IsSome result }

@@ -1,4 +1,4 @@
-//! Whether two calls of an application are the same call.
+//! Comparisons of two calls of an application.
 #![tactic(auto, using(crate::proofs::Equality::numbers_same, crate::proofs::Equality::bytes_same))]
 
 ghost use Rattle.std.specs.Prelude.{◌≡◌, ◌↔◌, IsTrue};
@@ -6,7 +6,7 @@ ghost use Rattle.std.specs.Prelude.{◌≡◌, ◌↔◌, IsTrue};
 use crate::seen::Seen;
 use scram_types::{Area, Goal, Order, World};
 
-/// Returns whether the orders are the same.
+/// Returns whether the two orders are equal.
 pub fn same_order(a: Order, b: Order) -> bool
     ensures { IsTrue result ↔ (a ≡ b) }
 {
@@ -49,7 +49,7 @@ fn same_goal(a: &Goal, b: &Goal) -> bool
     a.altitude == b.altitude && a.heading == b.heading
 }
 
-/// Returns whether the same is seen.
+/// Returns whether the two views of a frame are equal.
 pub fn same_seen(a: &Seen, b: &Seen) -> bool
     ensures { IsTrue result ↔ (a.now ≡ b.now) }
 {

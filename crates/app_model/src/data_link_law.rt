@@ -114,7 +114,7 @@ fn next_dropped(seen: &Seen) -> i64
     (read_own(KIND, seen, DROPPED) + all_left_over(seen)).min(1_000_000)
 }
 
-/// Returns what a run leaves.
+/// Returns the data link's area after a frame in which it runs.
 pub fn run(seen: &Seen) -> Area
     ensures { result ≡ data_link_ran seen.now }
 {

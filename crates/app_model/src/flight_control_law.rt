@@ -62,7 +62,7 @@ fn next_aileron(seen: &Seen) -> i64
     }
 }
 
-/// Returns what a run leaves.
+/// Returns the flight control's area after a frame in which it runs.
 pub fn run(seen: &Seen) -> Area
     ensures { result ≡ flight_control_ran seen.now }
 {

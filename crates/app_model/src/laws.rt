@@ -1,10 +1,10 @@
-//! What holds of every law: its areas lie in the tables' ranges. Each function here states a law of the
-//! definitions by its contract and does nothing.
+//! The laws of all kinds keep the ranges of the tables. Each function here states a theorem about the definitions by
+//! its contract and does nothing.
 
 ghost use Rattle.app_model.specs.Areas.{LawLiesDuring, LawLiesAfterHalt, LawLiesAfterInit, StartLiesAfterInit, AllTablesNarrow};
 
-/// The area that the law of a kind answers lies in the ranges of the status that the order leaves, in the mode
-/// that the application is to be in, whatever it sees.
+/// The area that the law of a kind gives lies in the ranges of the status that the order leaves. The ranges are those
+/// of the mode that the application is to be in, whatever it sees.
 pub fn law_lies_during()
     ensures { LawLiesDuring }
 {}
@@ -24,8 +24,7 @@ pub fn start_lies_after_init()
     ensures { StartLiesAfterInit }
 {}
 
-/// The ranges after a halt and after an init phase lie in those of the phase, and the sane ranges hold
-/// all others.
+/// The ranges after a halt and after an init phase lie in those of the phase, and the sane ranges contain all others.
 pub fn tables_narrow()
     ensures { AllTablesNarrow }
 {}

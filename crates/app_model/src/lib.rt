@@ -1,6 +1,6 @@
-//! Boxed applications and their laws. Whatever an application keeps in itself, what it answers in a
-//! frame is the law of its kind, read off the order and what it was shown, and the area that it
-//! answers lies in the ranges of its status.
+//! Boxed applications and their laws. Whatever state an application keeps, its answer in a frame is the law of its
+//! kind, computed from the order and from what the application sees. The area that it answers lies in the ranges of its
+//! status.
 #![tactic(auto)]
 
 pub mod all_laws;

@@ -22,7 +22,7 @@ pub trait KindLaw: Drop {
         ensures { result ≡ law number order seen.now };
 }
 
-/// A box of a kind that remembers its last call and gives its last answer again where the call is the same.
+/// A box of a kind that remembers its last call and repeats its last answer if the call is the same.
 #[derive(Drop)]
 pub struct Remembering<L: KindLaw> {
     last: Option<LastCall>,

@@ -1,4 +1,4 @@
-//! The names of kinds, modes and variables, as documents and traces spell them.
+//! The names of kinds, modes and variables, as documents and traces write them.
 
 ghost use Rattle.std.specs.Prelude.{◌≡◌, ◌≤◌, ◌<◌, IfSome, length, map, option_map};
 ghost use Rattle.scram_types.specs.Specification.{modes_of_kind};
@@ -82,7 +82,7 @@ fn number_in(names: &[Option<&str>], text: &str) -> Option<u8>
     None
 }
 
-/// Returns the kind of this name, or `None` where no kind has it.
+/// Returns the kind of this name, or `None` if no kind has it.
 pub fn kind_named(name: &str) -> Option<KindId>
     ensures kind { option_map (λ kind. kind.0) result ≡ number_in kind_names name.now }
     ensures built { IfSome result (λ kind. kind.0 < 6) }
@@ -93,7 +93,7 @@ pub fn kind_named(name: &str) -> Option<KindId>
     }
 }
 
-/// Returns the mode of this name of a kind, or `None` where the kind has no such mode.
+/// Returns the mode of this name of a kind, or `None` if the kind has no such mode.
 pub fn mode_named(kind: KindId, name: &str) -> Option<Mode>
     ensures mode { option_map (λ mode. mode.0) result ≡ number_in (mode_names kind.0) name.now }
     ensures of_kind { kind.0 < 6 → IfSome result (λ mode. IsModeNumber mode.0 (modes_of_kind kind.0)) }
@@ -104,8 +104,8 @@ pub fn mode_named(kind: KindId, name: &str) -> Option<Mode>
     }
 }
 
-/// Returns the place, 0 to 7, of the variable of this name in the areas of a kind, or `None` where the kind has no
-/// such variable.
+/// Returns the index, 0 to 7, of the variable of this name in the areas of a kind, or `None` if the kind has no such
+/// variable.
 pub fn variable_named(kind: KindId, name: &str) -> Option<u8>
     ensures variable { result ≡ number_in (variable_names kind.0) name.now }
     ensures word { IfSome result (λ variable. variable < 8) }
@@ -116,21 +116,21 @@ pub fn variable_named(kind: KindId, name: &str) -> Option<u8>
     }
 }
 
-/// Returns the name of a kind, or `None` where there is no such kind.
+/// Returns the name of a kind, or `None` if there is no such kind.
 pub fn kind_name(kind: KindId) -> Option<&'static str>
     ensures { option_map (λ s. s.now) result ≡ name_in kind_names kind.0 }
 {
     name_in(&names_of_kinds(), kind.0)
 }
 
-/// Returns the name of a mode of a kind, or `None` where the kind has no such mode; mode 0, off, has no name.
+/// Returns the name of a mode of a kind, or `None` if the kind has no such mode. Mode 0, off, has no name.
 pub fn mode_name(kind: KindId, mode: Mode) -> Option<&'static str>
     ensures { option_map (λ s. s.now) result ≡ name_in (mode_names kind.0) mode.0 }
 {
     name_in(names_of_modes(kind), mode.0)
 }
 
-/// Returns the name of a variable of a kind, or `None` where the kind does not use this word of its areas.
+/// Returns the name of a variable of a kind, or `None` if the kind does not use this word of its areas.
 pub fn variable_name(kind: KindId, variable: u8) -> Option<&'static str>
     ensures { option_map (λ s. s.now) result ≡ name_in (variable_names kind.0) variable }
 {
@@ -140,8 +140,8 @@ pub fn variable_name(kind: KindId, variable: u8) -> Option<&'static str>
     }
 }
 
-/// Numbers and names lead to one another, of kinds, modes and variables; every kind has a name, of its
-/// modes each has one and no other, and what is named a variable is one of the eight words.
+/// The look-ups from number to name and from name to number agree for kinds, modes and variables. Every kind has a
+/// name, and so has each of its modes and no other mode number. Each named variable is one of the eight words.
 pub fn names_agree()
     ensures { AllNamesAgree }
 {}

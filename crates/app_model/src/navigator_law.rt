@@ -52,7 +52,7 @@ fn next_on_course(seen: &Seen) -> i64
     }
 }
 
-/// Returns what a run leaves.
+/// Returns the navigator's area after a frame in which it runs.
 pub fn run(seen: &Seen) -> Area
     ensures { result ≡ navigator_ran seen.now }
 {

@@ -1,4 +1,4 @@
-//! What the orders but `Run` leave of an area, the same for all kinds.
+//! The areas after all orders except `Run`, the same for all kinds.
 #![tactic(auto, unfolding(crate::specs::Orders::faded, crate::specs::Orders::kept_area, crate::specs::Orders::halted_word, crate::specs::Orders::halted, crate::specs::Orders::initialised_word, crate::specs::Orders::initialised))]
 
 ghost use Rattle.std.specs.Prelude.{◌≡◌, ◌<◌, ◌+◌, ◌==◌, IfSome, None};
@@ -120,8 +120,8 @@ fn keep_or_initialise(kind: u8, last: bool, seen: &Seen) -> Area
     }
 }
 
-/// Returns what an order but `Run` leaves of the area of an application of the kind, by the kind's law; `None` for
-/// `Run` alone.
+/// Returns the area of an application of the kind after an order other than `Run`, by the kind's law, or `None` if the
+/// order is `Run`.
 pub fn area_after(kind: u8, order: Order, seen: &Seen) -> Option<Area>
     ensures law { IfSome result (λ area. area ≡ law kind order seen.now) }
     ensures run { result ≡ None → order ≡ Run }

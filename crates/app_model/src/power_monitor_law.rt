@@ -64,7 +64,7 @@ fn next_shed(seen: &Seen) -> i64
     if next_charge(seen) < 2_000 { 1 } else { 0 }
 }
 
-/// Returns what a run leaves.
+/// Returns the power monitor's area after a frame in which it runs.
 pub fn run(seen: &Seen) -> Area
     ensures { result ≡ power_monitor_ran seen.now }
 {

@@ -1,4 +1,4 @@
-//! Racks: the boxes of one processor, one for each kind.
+//! Racks: a rack holds the boxes of one processor, one for each kind.
 
 ghost use Rattle.std.specs.Prelude.{◌≡◌, ◌↔◌, ◌<◌, All, IfOk, IsTrue, [], map, vec_len};
 ghost use Rattle.app_model.specs.Law.{law};
@@ -10,7 +10,7 @@ use crate::seen::Seen;
 use scram_types::{Area, KindId, Order, ProcId};
 use std::alloc::{AllocError, Global};
 
-/// The applications of one processor: the box of kind `k` stands at place `k`.
+/// The applications of one processor: `boxes[k]` is the box of kind `k`.
 #[derive(Drop)]
 pub struct Rack {
     pub boxes: Vec<Box<dyn App + Send>>,
@@ -25,8 +25,7 @@ pub fn empty_rack(alloc: Global) -> Rack
     }
 }
 
-/// Returns eight racks without boxes, or `Err` when out of memory. They serve wherever nothing is asked of boxes: a
-/// flight with them computes each law itself.
+/// Returns eight racks without boxes, or `Err` when out of memory. A flight with such racks computes each law itself.
 pub fn empty_racks(alloc: Global) -> Result<Vec<Rack>, AllocError>
     ensures count { IfOk result (λ racks. vec_len racks ≡ 8) }
     ensures empty { IfOk result (λ racks. All (λ r. r.boxes.items ≡ []) racks.items) }
@@ -45,7 +44,7 @@ pub fn box_kind(app: &Box<dyn App + Send>) -> KindId
     app.kind()
 }
 
-/// Returns whether the rack has five boxes, that of kind `k` at place `k`.
+/// Returns whether the rack has five boxes and `boxes[k]` is of kind `k`.
 pub fn rack_fits(rack: &Rack) -> bool
     ensures { IsTrue result ↔ RackFits kind_of rack.now.boxes.items }
 {
@@ -68,15 +67,15 @@ fn all_racks_fit(racks: &[Rack]) -> bool
     true
 }
 
-/// Returns whether there are eight racks, each with the box of kind `k` at place `k`. Wherever racks are handed in,
-/// rack `p` is that of processor `p`.
+/// Returns whether there are eight racks that each have the box of kind `k` at index `k`. In every list of racks, rack
+/// `p` belongs to processor `p`.
 pub fn racks_fit(racks: &[Rack]) -> bool
     ensures { IsTrue result ↔ RacksFit kind_of (λ r. r.boxes.items) racks.now }
 {
     racks.len() == 8 && all_racks_fit(racks)
 }
 
-/// Returns what a box answers in a frame: the law of its kind. The kind stays.
+/// Returns the answer of a box in a frame, which is the law of its kind. The kind does not change.
 pub fn box_frame(app: &mut Box<dyn App + Send>, order: Order, seen: &Seen) -> Area
     ensures answer { result ≡ law (kind_of app.old) order seen.now }
     ensures same { kind_of app.new ≡ kind_of app.old }
@@ -84,7 +83,7 @@ pub fn box_frame(app: &mut Box<dyn App + Send>, order: Order, seen: &Seen) -> Ar
     app.frame(order, seen)
 }
 
-// Returns the answer of a box that is of the kind, and the law of the kind where it is not.
+// Returns the answer of the box if it is of the kind, and otherwise the law of the kind.
 fn box_or_law(app: &mut Box<dyn App + Send>, kind: KindId, order: Order, seen: &Seen) -> Area
     ensures answer { result ≡ law kind.0 order seen.now }
     ensures same { kind_of app.new ≡ kind_of app.old }
@@ -96,11 +95,11 @@ fn box_or_law(app: &mut Box<dyn App + Send>, kind: KindId, order: Order, seen: &
     }
 }
 
-/// The area of an application of the kind after a frame with this order: what the box at the kind's place answers
-/// where there is one of that kind, and the law computed anew where there is none. So it is the law of the kind,
-/// whatever boxes the rack has. The kinds of the boxes stay, and the boxes at other places are as they were.
-// No clause rests on the precondition: a function that has boxes behind a `&mut` and asks nothing counts as one that
-// may make them, and so does each function that calls it and asks nothing.
+/// Returns the area of an application of the kind after a frame with this order. The box at the kind's index answers if
+/// it is of that kind; otherwise the law is computed anew. So the result is the law of the kind, whatever boxes the
+/// rack has. The kinds of the boxes do not change, and neither do the boxes at other indices.
+// No clause depends on the precondition. A function that takes boxes by `&mut` without any precondition counts as one
+// that may make boxes, and so does each function that calls it without any precondition.
 pub fn rack_frame(rack: &mut Rack, kind: KindId, order: Order, seen: &Seen) -> Area
     requires kind { kind.0 < 8 }
     ensures answer { result ≡ law kind.0 order seen.now }
@@ -115,9 +114,9 @@ pub fn rack_frame(rack: &mut Rack, kind: KindId, order: Order, seen: &Seen) -> A
     }
 }
 
-/// Returns the area of an application of the kind after a frame with this order, by the rack of processor `proc` as
-/// `rack_frame` has it, or by the law computed anew where there is no such rack. The kinds of the boxes stay, and the
-/// racks of other processors are as they were.
+/// Returns the area of an application of the kind after a frame with this order. The rack of processor `proc` answers
+/// as in `rack_frame`; if there is no such rack, the law is computed anew. The kinds of the boxes do not change, and
+/// neither do the racks of other processors.
 pub fn racks_frame(
     racks: &mut [Rack],
     proc: ProcId,

@@ -1,4 +1,4 @@
-//! The ranges of the variables, read off the table of kinds. The units are those of [`crate::kinds`].
+//! The ranges of the variables, taken from the table of kinds. The units are those of [`crate::kinds`].
 #![tactic(auto, unfolding(crate::specs::Ranges::mode_range, crate::specs::Ranges::initialised_range, crate::specs::Ranges::widest_mode, crate::specs::Ranges::sane_range, crate::specs::Ranges::is_moving))]
 
 ghost use Rattle.std.specs.Prelude.{◌≡◌};

@@ -1,4 +1,4 @@
-//! What a law reads. Each number is read clamped to its range, so no law overflows.
+//! The reads of a law. Each number is clamped to its range, so no law overflows.
 #![tactic(auto, unfolding(scram_types::specs::Numbers::word, crate::specs::Reads::own_word, crate::specs::Reads::lead_word, crate::specs::Reads::altitude, crate::specs::Reads::heading, crate::specs::Reads::goal_altitude, crate::specs::Reads::goal_heading, crate::specs::Reads::ticks_after))]
 
 ghost use Rattle.std.specs.Prelude.{◌≡◌, ◌<◌};
@@ -30,8 +30,7 @@ pub fn read_own(kind: u8, seen: &Seen, variable: usize) -> i64
     )
 }
 
-/// Returns a word of the area of the least-numbered application of a kind, clamped to the widest of the modes'
-/// ranges.
+/// Returns a word of the area of the lowest-numbered application of a kind, clamped to the widest of the modes' ranges.
 pub fn read_lead(kind: u8, seen: &Seen, variable: usize) -> i64
     requires kind { kind < 8 }
     requires variable { variable < 8 }
@@ -76,7 +75,7 @@ pub fn read_goal_heading(seen: &Seen) -> i64
     clamped_in(make_range(0, 3_599), seen.goal.heading)
 }
 
-/// Returns the frames in which the application ran, this one included, at most 1,000,000.
+/// Returns the number of frames in which the application ran, including this frame, at most 1,000,000.
 pub fn next_ticks(kind: u8, seen: &Seen) -> i64
     ensures { result ≡ ticks_after kind seen.now }
 {

@@ -1,10 +1,10 @@
-//! What an application is shown in a frame.
+//! The view that an application has in a frame.
 
 use scram_types::{Area, Goal, Mode, World};
 
-/// What an application sees in a frame. `mode` is the mode that it is to be in, `own` its area and
-/// `lead[k]` the area of the least-numbered application of kind `k`, zeros without one; areas and
-/// world are as of the end of the frame before, `factors` those of the frame itself.
+/// The view of an application in a frame. `mode` is the mode that the application is to be in and `own` is its area.
+/// `lead[k]` is the area of the lowest-numbered application of kind `k`, or zeros if there is none. Areas and world are
+/// as of the end of the previous frame, `factors` as of the frame itself.
 #[derive(Clone, Copy, Debug, PartialEq, Eq)]
 pub struct Seen {
     pub mode: Mode,

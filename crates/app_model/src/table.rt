@@ -1,5 +1,4 @@
-//! The table of kinds: what a kind, its modes and the words of its area are called, and where their
-//! numbers lie.
+//! The table of kinds: the names of a kind, its modes and the words of its area, and the ranges of the words.
 #![tactic(auto, unfolding(crate::specs::Kinds::kind_variable))]
 
 ghost use Rattle.std.specs.Prelude.{◌≡◌, ◌≤◌, IfSome, length, option_map};
@@ -12,28 +11,28 @@ use scram_types::Range;
 /// A word of a kind's area.
 #[derive(Clone, Copy)]
 pub struct Variable {
-    /// Its name, or `None` where the kind does not use the word.
+    /// The name, or `None` if the kind does not use the word.
     pub name: Option<&'static str>,
-    /// Its range in mode 1, in mode 2 and in mode 3; the last one is that of every other mode.
+    /// The ranges in modes 1, 2 and 3. The last range listed is that of every other mode.
     pub ranges: &'static [Range],
-    /// The same after the last frame of an init phase.
+    /// The ranges after the last frame of an init phase, likewise.
     pub initialised: &'static [Range],
-    /// Whether a halt brings it to 0.
+    /// Whether a halt brings the word to 0.
     pub moves: bool,
-    /// What an application begins with.
+    /// The value that an application begins with.
     pub start: i64,
 }
 
 /// A kind of application.
 #[derive(Clone, Copy)]
 pub struct Kind {
-    /// Its name.
+    /// The name of the kind.
     pub name: &'static str,
-    /// The names of its modes by number; mode 0, off, has none.
+    /// The names of the modes by number. Mode 0, off, has none.
     pub modes: &'static [Option<&'static str>],
     /// The mode that has the widest range of each variable.
     pub widest: u8,
-    /// The eight words of its area.
+    /// The eight words of the kind's area.
     pub variables: &'static [Variable],
 }
 
@@ -58,14 +57,14 @@ macro_rules! variable {
     };
 }
 
-/// A halt brings it to 0, and it begins with 0.
+/// A variable that a halt brings to 0 and that begins with 0.
 macro_rules! moving {
     ($name:expr, $ranges:expr, $initialised:expr) => {
         variable!($name, $ranges, $initialised, true, 0)
     };
 }
 
-/// A halt and an init phase leave it as it is.
+/// A variable that a halt and an init phase do not change.
 macro_rules! lasting {
     ($name:expr, $ranges:expr, $start:expr) => {
         variable!($name, $ranges, $ranges, false, $start)
@@ -197,7 +196,7 @@ pub const TASK: Kind = Kind {
     ],
 };
 
-/// Returns a kind by its number, or `None` where there is no such kind.
+/// Returns the kind of a number, or `None` if there is no such kind.
 pub fn find_kind(kind: u8) -> Option<Kind>
     ensures kind { option_map kind_read result ≡ find_kind kind }
     ensures few { IfSome result (λ found. length found.modes.now ≤ 8) }
@@ -214,7 +213,7 @@ pub fn find_kind(kind: u8) -> Option<Kind>
     }
 }
 
-/// Returns a kind by its number, where numbers past the last kind stand for the task.
+/// Returns the kind of a number, or the task if the number is past the last kind.
 pub fn kind_or_last(kind: u8) -> Kind
     ensures { kind_read result ≡ kind_or_last kind }
 {

@@ -9,7 +9,7 @@ use crate::reads::next_ticks;
 use crate::seen::Seen;
 use scram_types::Area;
 
-/// Returns what a run leaves: the count of frames alone.
+/// Returns the task's area after a frame in which it runs. Only its status and its count of frames are used.
 pub fn run(seen: &Seen) -> Area
     ensures { result ≡ task_ran seen.now }
 {

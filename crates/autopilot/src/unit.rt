@@ -21,7 +21,6 @@ impl KindLaw for AutopilotLaw {
     }
 }
 
-/// An autopilot: it commands pitch and roll so that the aircraft comes to its target altitude and
-/// heading. What it answers is the law of kind 0; it gives its last answer again where the call is the
-/// same.
+/// An autopilot, which commands pitch and roll to reach its target altitude and heading. It answers the law of kind 0
+/// and repeats its last answer if the call is the same.
 pub type Autopilot = Remembering<AutopilotLaw>;

@@ -1,4 +1,4 @@
--- Of each condition the first place is the one that its refusal shows.
+-- For each condition, the first place is the one that its refusal shows.
 use Rattle.std.proofs.Common.{ℕ, ◌≡◌, ◌∙◌, ◌==◌, Bool, true, false, not, List, [], ◌∷◌, ap, length, refl}
 use Rattle.std.specs.Prelude.{◌&&◌, Option, Some, None, option_map, slice_get, if◌then◌else◌}
 use Rattle.std.specs.Option.{option_map_or, option_to_list}

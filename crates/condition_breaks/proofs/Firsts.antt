@@ -1,4 +1,4 @@
--- The first items of lists that are put together.
+-- The first elements of concatenated lists.
 use Rattle.std.proofs.Common.{ℕ, zero, suc, ◌<◌, ◌≡◌, ◌∙◌, Bool, true, false, List, [], ◌∷◌, ◌++◌, ap, arith, refl}
 use Rattle.std.specs.Prelude.{◌&&◌, ◌||◌, Option, Some, None, option_map, slice_get}
 use Rattle.std.specs.Option.{option_or, option_to_list}
@@ -51,7 +51,7 @@ shown_either : {A : Type 0} (a b : Bool) (x : A) → option_or (shown_if a x) (s
 shown_either true b x = refl
 shown_either false b x = refl
 
--- one that is shown where any test holds
+-- an element that is shown if any test holds
 pub any_shown : {A : Type 0} (test : ℕ → Bool) (x : A) (n : ℕ) → first_below (λ k. shown_if (test k) x) n ≡ shown_if (any_below test n) x
 any_shown test x zero = refl
 any_shown test x (suc n) = ap (λ o. option_or o (shown_if (test n) x)) (any_shown test x n) ∙ shown_either (any_below test n) (test n) x

@@ -1,8 +1,8 @@
--- Lists that are gathered number by number, and the first items of a list.
+-- Lists that are gathered number by number, and the first elements of a list.
 use Rattle.std.proofs.Common.{ℕ, suc, ◌+◌, ◌≡◌, ◌∙◌, List, ◌++◌, ap, append_assoc, arith}
 use Rattle.condition_breaks.specs.Lists.{gathered_below}
 
--- a list that was gathered up to i, and what stands at i behind it
+-- a list gathered up to i, followed by the piece at i
 pub gathered_next : {A : Type 0} (items : ℕ → List A) (i : ℕ) (front before after piece : List A)
     → before ≡ front ++ gathered_below items i → after ≡ before ++ piece → piece ≡ items i → after ≡ front ++ gathered_below items (i + 1)
 gathered_next items i front before after piece first second is =

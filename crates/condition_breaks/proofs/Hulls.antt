@@ -1,4 +1,4 @@
--- What an invariant needs is the least interval that holds all ranges asked of it.
+-- The interval that an invariant needs is the smallest that contains all ranges that the invariant has to contain.
 use Rattle.std.proofs.Common.{ℕ, ℤ, suc, ◌≡◌, ◌∙◌, Bool, true, false, List, [], ◌∷◌, ap, arith, int_le, refl, subst, sym}
 use Rattle.std.specs.Prelude.{pos, ◌≤ℤ◌, Option, Some, None, option_map, slice_get, if◌then◌else◌}
 use Rattle.std.specs.Int.{int_max, int_min}
@@ -54,7 +54,7 @@ module _ (spec : Parts) (inv : Invariant) where
   speaks : Way → Bool
   speaks taken = has_source inv.from taken.from
 
-  -- one range more
+  -- one further range
 
   more_grown : (b : Bool) (held : Extremes) (range : ℤ × ℤ) → Within held (if b then hull held range else held)
   more_grown true held range = record { low = min_first held.least range.0; high = max_first held.greatest range.1 }
@@ -109,7 +109,7 @@ module _ (spec : Parts) (inv : Invariant) where
       (more_lies (has_source inv.from taken.from) held outer (range_on spec inv taken) (λ s. where_held (range_on spec inv taken) outer (each 0 taken refl s)) before)
       (each_rest (Held outer) taken ways each)
 
-  -- the first way that is not held is one of the ways
+  -- the first way whose range is not contained is one of the ways
   member_of : (b : Bool) (taken : Way) (ways : List Way) (found : Way) → is_unheld spec inv taken ≡ b → (if b then Some taken else first_unheld spec inv ways) ≡ Some found
       → (first_unheld spec inv ways ≡ Some found → (i : ℕ) × (slice_get ways i ≡ Some found) × (is_unheld spec inv found ≡ true))
       → (i : ℕ) × (slice_get (taken ∷ ways) i ≡ Some found) × (is_unheld spec inv found ≡ true)
@@ -134,7 +134,7 @@ module _ (spec : Parts) (inv : Invariant) where
             (inside.low, inside.high));
       }
 
--- what an invariant needs, of its place
+-- the interval that the invariant of a place needs
 needed_in : Break → Extremes
 needed_in (broken.Unheld found) = found.needed
 needed_in other = interval (pos 0, pos 0)

@@ -18,7 +18,7 @@ use Rattle.condition_breaks.specs.Form.{is_one_of, is_needed}
 use Rattle.condition_breaks.proofs.Firsts.{any_and}
 
 module _ (spec : Parts) (made : IsSpec spec) (c : ConfId) (a : ℕ) where
-  -- one that is off
+  -- a need that is off
   is_off : ℕ → Bool
   is_off b = not (is_on spec c b)
 

@@ -1,4 +1,4 @@
--- What a specification is refused for is the first place of its condition.
+-- The refusal of a specification shows the first place of its condition.
 use Rattle.std.proofs.Common.{ℕ, ◌≡◌, ◌∙◌, Bool, true, false, ap, length, refl, sym}
 use mathlib.Core.Logic.{inl, inr}
 use Rattle.std.specs.Prelude.{Option, Some, None, option_map, slice_get}
@@ -22,7 +22,7 @@ use Rattle.coverage_check.proofs.Showing.{shown_where}
 use Rattle.condition_breaks.specs.Laws.{RefusalIsFirst, refusal_of_condition}
 use Rattle.condition_breaks.proofs.FirstShown.{first_is}
 
--- what is shown is of this condition, where anything is
+-- the refusal shown, if any, is of this condition
 IsOf : ℕ → Option Shown → Type 0
 IsOf n o = (shown : Shown) → o ≡ Some shown → shown.condition ≡ n
 

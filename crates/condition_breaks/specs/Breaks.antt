@@ -23,19 +23,19 @@ use Rattle.condition_breaks.specs.Form.{first_twin, is_need_off}
 use Rattle.condition_breaks.specs.Lists.{gathered_below, one_if}
 use Rattle.condition_breaks.specs.Ranges.{all_ways, first_unheld, hull_of, interval, range_on}
 
--- A1: application a is on in configuration c, and application b, which it needs, is off.
+-- A1: application `a` is on in configuration `c`, and application `b`, which it needs, is off.
 abbrev pub need_break : Parts → ℕ → ℕ → ℕ → List Break
 need_break spec c a b = one_if (is_need_off spec (conf_id c) a b) (broken.NeedOff (conf_id c) (app_id a) (app_id b))
 
--- The same of each application b, in order.
+-- The places of A1 for all applications `b`, in order.
 abbrev pub need_breaks_of : Parts → ℕ → ℕ → List Break
 need_breaks_of spec c a = gathered_below (need_break spec c a) (length spec.apps)
 
--- The same of each application a, in order.
+-- The places of A1 for all applications `a`, in order.
 abbrev pub need_breaks_in : Parts → ℕ → List Break
 need_breaks_in spec c = gathered_below (need_breaks_of spec c) (length spec.apps)
 
--- The same of each configuration, in order.
+-- The places of A1, by configuration, in order.
 abbrev pub need_breaks : Parts → List Break
 need_breaks spec = gathered_below (need_breaks_in spec) (length spec.confs)
 
@@ -43,33 +43,33 @@ need_breaks spec = gathered_below (need_breaks_in spec) (length spec.confs)
 abbrev pub state_breaks : Parts → List Break
 state_breaks spec = one_if (has_too_many_states spec) broken.ManyStates
 
--- A3: configuration c has nothing on, or is the same as an earlier one, of which the first stands here.
+-- A3: configuration `c` has no application on, or is the same as an earlier one, the first of which is shown.
 abbrev pub shape_break : Parts → ℕ → List Break
 shape_break spec c =
     if is_empty spec (conf_id c) then broken.NothingOn (conf_id c) ∷ []
     else option_to_list (option_map (λ (d : ConfId). broken.SameAgain (conf_id c) d) (first_twin spec c))
 
--- The same of each configuration, in order.
+-- The places of A3, by configuration, in order.
 abbrev pub shape_breaks : Parts → List Break
 shape_breaks spec = gathered_below (shape_break spec) (length spec.confs)
 
--- A4: configuration c loads processor p beyond its capacity.
+-- A4: configuration `c` loads processor `p` beyond its capacity.
 abbrev pub load_break : Parts → ℕ → ℕ → List Break
 load_break spec c p = one_if (is_overloaded spec (conf_id c) p) (broken.Overloaded (conf_id c) (proc_id p))
 
--- The same of each processor, in order.
+-- The places of A4 for all processors, in order.
 abbrev pub load_breaks_in : Parts → ℕ → List Break
 load_breaks_in spec c = gathered_below (load_break spec c) (length spec.procs)
 
--- The same of each configuration, in order.
+-- The places of A4, by configuration, in order.
 abbrev pub load_breaks : Parts → List Break
 load_breaks spec = gathered_below (load_breaks_in spec) (length spec.confs)
 
--- A5 to A7: configuration c does not meet a requirement, with the first environment in scope in which it does not.
+-- A5 to A7: configuration `c` does not meet a requirement, with the first environment in scope in which it does not.
 abbrev pub unmet_break : Parts → Requirement → ℕ → List Break
 unmet_break spec asked c = option_to_list (option_map (λ (v : Env). broken.Unmet asked (conf_id c) v) (first_unmet_env spec asked (conf_id c)))
 
--- The same of each configuration, in order.
+-- The places of a requirement, by configuration, in order.
 abbrev pub unmet_breaks : Parts → Requirement → List Break
 unmet_breaks spec asked = gathered_below (unmet_break spec asked) (length spec.confs)
 
@@ -77,15 +77,15 @@ unmet_breaks spec asked = gathered_below (unmet_break spec asked) (length spec.c
 abbrev pub start_breaks : Parts → List Break
 start_breaks spec = one_if (leaves_start spec) broken.StartLeft
 
--- A9: a bound from i to j is asked for, and none that serves is given.
+-- A9: a bound from `i` to `j` is required, and no sufficient bound is given.
 abbrev pub bound_break : Parts → ℕ → ℕ → List Break
 bound_break spec i j = one_if (lacks_bound spec (conf_id i) j) (broken.BoundLacking (conf_id i) (conf_id j))
 
--- The same of each target, in order.
+-- The places of A9 for all targets, in order.
 abbrev pub bound_breaks_from : Parts → ℕ → List Break
 bound_breaks_from spec i = gathered_below (bound_break spec i) (length spec.confs)
 
--- The same of each source, in order.
+-- The places of A9, by source, in order.
 abbrev pub bound_breaks : Parts → List Break
 bound_breaks spec = gathered_below (bound_breaks_from spec) (length spec.confs)
 
@@ -93,61 +93,63 @@ bound_breaks spec = gathered_below (bound_breaks_from spec) (length spec.confs)
 abbrev pub window_breaks : Parts → List Break
 window_breaks spec = one_if (has_short_window spec) broken.WindowShort
 
--- An invariant, the first way whose range it does not hold, and the least interval that holds all ranges asked of it.
+-- The place of an invariant: the first way whose range it does not contain, and the smallest interval that contains all
+-- ranges that it has to contain.
 abbrev pub unheld : Parts → ℕ → Invariant → Way → Break
 unheld spec k inv taken =
     broken.Unheld (record { invariant = k; way = taken; needed = hull_of spec inv (interval (range_on spec inv taken)) (all_ways spec) })
 
--- That of invariant k, where it does not hold a range that is asked of it.
+-- The place of invariant `k`, or `None` if it contains all ranges that it has to contain.
 abbrev pub unheld_of : Parts → ℕ → Invariant → Option Break
 unheld_of spec k inv = option_map (unheld spec k inv) (first_unheld spec inv (all_ways spec))
 
--- The same of the invariant of this number, where there is one.
+-- The place of the invariant of this number, or `None` if there is no such invariant or it contains all its ranges.
 abbrev pub unheld_at : Parts → ℕ → Option Break
 unheld_at spec k = option_map_or (unheld_of spec k) (slice_get spec.invariants k) None
 
--- A11: an invariant does not hold a range that is asked of it.
+-- A11: invariant `k` does not contain a range that it has to contain.
 abbrev pub invariant_break : Parts → ℕ → List Break
 invariant_break spec k = option_to_list (unheld_at spec k)
 
--- The same of each invariant, in order.
+-- The places of A11, by invariant, in order.
 abbrev pub invariant_breaks : Parts → List Break
 invariant_breaks spec = gathered_below (invariant_break spec) (length spec.invariants)
 
--- Precondition k, where it can be missed as its configuration is entered.
+-- The place of precondition `k`, or `None` if it cannot fail when its configuration is entered.
 abbrev pub unentered_of : Parts → ℕ → Precondition → Option Break
 unentered_of spec k pre = shown_if (breaks_entering spec pre) (broken.PreconditionMissed k)
 
--- The same of the precondition of this number, where there is one.
+-- The place of the precondition of this number, or `None` if there is no such precondition or it cannot fail.
 abbrev pub unentered_at : Parts → ℕ → Option Break
 unentered_at spec k = option_map_or (unentered_of spec k) (slice_get spec.preconditions k) None
 
--- A12: a precondition can be missed as its configuration is entered.
+-- A12: precondition `k` can fail when its configuration is entered.
 abbrev pub precondition_break : Parts → ℕ → List Break
 precondition_break spec k = option_to_list (unentered_at spec k)
 
--- The same of each precondition, in order.
+-- The places of A12, by precondition, in order.
 abbrev pub precondition_breaks : Parts → List Break
 precondition_breaks spec = gathered_below (precondition_break spec) (length spec.preconditions)
 
--- A13: the table misses demand k from configuration c, with the first environment in scope in which it does.
+-- A13: the table misses a demand, which has number `k`, from configuration `c`, with the first environment in scope in
+-- which it does.
 abbrev pub demand_break_of : Parts → ℕ → ℕ → Demand → List Break
 demand_break_of spec c k demand =
     option_to_list (option_map (λ (v : Env). broken.DemandMissed (conf_id c) k v) (first_missed_env spec demand (conf_id c)))
 
--- The same of the demand of this number, where there is one.
+-- The place of A13 for configuration `c` and the demand of this number, if there is one.
 abbrev pub demand_break : Parts → ℕ → ℕ → List Break
 demand_break spec c k = option_map_or (demand_break_of spec c k) (slice_get spec.demands k) []
 
--- The same of each demand, in order.
+-- The places of A13 for all demands, in order.
 abbrev pub demand_breaks_in : Parts → ℕ → List Break
 demand_breaks_in spec c = gathered_below (demand_break spec c) (length spec.demands)
 
--- The same of each configuration, in order.
+-- The places of A13, by configuration, in order.
 abbrev pub demand_breaks : Parts → List Break
 demand_breaks spec = gathered_below (demand_breaks_in spec) (length spec.confs)
 
--- The place for configuration c and demand number k, by the first environments that are found of the demands.
+-- The place for configuration `c` and demand `k`, given the first environment found for each demand.
 abbrev pub missed_at : List (Option Env) → ℕ → ℕ → Option Break
 missed_at found c k =
     option_and_then (λ (first : Option Env). option_map (λ (v : Env). broken.DemandMissed (conf_id c) k v) first) (slice_get found k)
@@ -169,7 +171,7 @@ choice_breaks spec condition =
     if condition == 7 then unmet_breaks spec requirement.Stays else
     if condition == 8 then start_breaks spec else later_breaks spec condition
 
--- The places at which a condition does not hold, by its number, 1 to 13; none for another number.
+-- The places at which a condition does not hold, by its number. The list is empty if the number is not 1 to 13.
 abbrev pub breaks : Parts → ℕ → List Break
 breaks spec condition =
     if condition == 1 then need_breaks spec else

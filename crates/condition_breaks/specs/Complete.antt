@@ -20,12 +20,12 @@ use Rattle.condition_breaks.specs.declared.breaks.Unheld.{Unheld}
 use Rattle.condition_breaks.specs.Breaks.{breaks}
 use Rattle.condition_breaks.specs.Form.{is_need_off}
 
--- A place stands somewhere in a list.
+-- A list contains a place.
 abbrev pub StandsIn : List Break → Break → Type 0
 StandsIn found place = (i : ℕ) × (slice_get found i ≡ Some place)
 
--- Wherever a condition does not hold, its place stands among those of its number; of equal configurations, of environments
--- and of the sources of an invariant one stands for all.
+-- Wherever a condition does not hold, its place is among those of the condition. One place represents all equal
+-- configurations, all environments and all sources of an invariant.
 pub record HasEach (spec : Parts) : Type 0 where
   pub needs : (c a b : ℕ) → c < length spec.confs → a < length spec.apps → b < length spec.apps → is_need_off spec (conf_id c) a b ≡ true
       → StandsIn (breaks spec 1) (broken.NeedOff (conf_id c) (app_id a) (app_id b))

@@ -1,4 +1,4 @@
--- What a configuration lacks: needs of its applications, and a difference from an earlier configuration.
+-- Faults of single configurations: needs that are off, and the same configuration twice.
 use Rattle.std.specs.Prelude.{ℕ, Bool, false, not, ◌&&◌, ◌==◌, List, slice_get, Option}
 use Rattle.std.specs.List.{list_any}
 use Rattle.std.specs.Option.{option_map_or}
@@ -11,18 +11,18 @@ use Rattle.scram_types.specs.Specification.{Parts}
 use Rattle.coverage_check.specs.Form.{is_same}
 use Rattle.coverage_check.specs.Search.{shown_if}
 
--- Application b is one of these.
+-- Whether a list contains application `b`.
 abbrev pub is_one_of : List AppId → ℕ → Bool
 is_one_of needs b = list_any (λ (needed : AppId). needed.0 == b) needs
 
--- Application a needs application b.
+-- Whether application `a` needs application `b`.
 abbrev pub is_needed : Parts → ℕ → ℕ → Bool
 is_needed spec a b = option_map_or (λ (app : AppSpec). is_one_of app.needs b) (slice_get spec.apps a) false
 
--- Application a is on in configuration c, and b, which it needs, is off there.
+-- Whether application `a` is on in configuration `c`, and `b`, which it needs, is off there.
 abbrev pub is_need_off : Parts → ConfId → ℕ → ℕ → Bool
 is_need_off spec c a b = is_on spec c a && (is_needed spec a b && not (is_on spec c b))
 
--- The first configuration that configuration number c is the same as, of those before it.
+-- The first configuration before configuration `c` that is the same as `c`, or `None` if there is none.
 abbrev pub first_twin : Parts → ℕ → Option ConfId
 first_twin spec c = first_below (λ d. shown_if (is_same spec (conf_id c) (conf_id d)) (conf_id d)) c

@@ -1,4 +1,4 @@
--- What is said of the places at which conditions do not hold.
+-- The theorems about the places at which conditions do not hold.
 use Rattle.std.specs.Prelude.{◌≡◌, ℕ, ℤ, ◌≤ℤ◌, true, ◌==◌, List, slice_get, Option, Some, None, option_map, if◌then◌else◌}
 use Rattle.std.specs.Option.{option_map_or}
 use Rattle.scram_types.specs.declared.specification.Invariant.{Invariant}
@@ -25,12 +25,12 @@ use Rattle.condition_breaks.specs.declared.breaks.Way.{Way}
 use Rattle.condition_breaks.specs.Breaks.{breaks, unheld_at}
 use Rattle.condition_breaks.specs.Ranges.{all_ways, range_on}
 
--- What a refusal shows of the precondition of this number.
+-- The refusal that shows the precondition of this number.
 abbrev pub missed_shown : Parts → ℕ → Shown
 missed_shown spec k =
     option_map_or (λ (pre : Precondition). shown_at 12 pre.conf.0 (other.Item k)) (slice_get spec.preconditions k) (shown_nowhere 12 (other.Item k))
 
--- What a refusal shows of a place at which a condition does not hold.
+-- The refusal that shows a place at which a condition does not hold.
 abbrev pub shown_of : Parts → Break → Shown
 shown_of spec (broken.NeedOff c a b) = shown_at 1 c.0 (other.App a)
 shown_of spec broken.ManyStates = shown_nowhere 2 (other.Count (states spec))
@@ -45,7 +45,7 @@ shown_of spec (broken.Unheld found) = shown_at 11 found.way.from.0 (other.Item f
 shown_of spec (broken.PreconditionMissed k) = missed_shown spec k
 shown_of spec (broken.DemandMissed c k v) = shown_in 13 c.0 v (other.Demand k)
 
--- What a refusal shows of the first of these places, where there is one.
+-- The refusal that shows the first of these places, or `None` if there is none.
 abbrev pub first_shown : Parts → List Break → Option Shown
 first_shown spec found = option_map (shown_of spec) (slice_get found 0)
 
@@ -66,7 +66,7 @@ choice_refusal_by spec condition =
     if condition == 7 then requirement_refusal spec requirement.Stays else
     if condition == 8 then start_refusal spec else later_refusal_by spec condition
 
--- The refusal of a condition, by its number; none for a number that is not 1 to 13.
+-- The refusal of a condition by its number, or `None` if the condition holds or the number is not 1 to 13.
 abbrev pub refusal_of_condition : Parts → ℕ → Option Shown
 refusal_of_condition spec condition =
     if condition == 1 then need_refusal spec else
@@ -74,11 +74,11 @@ refusal_of_condition spec condition =
     if condition == 3 then shape_refusal spec else
     if condition == 4 then load_refusal spec else choice_refusal_by spec condition
 
--- Of each condition the first place is what its refusal shows, and there is none where it does not refuse.
+-- For each condition, its refusal shows the first place, and there is no place if it does not refuse.
 abbrev pub FirstIsShown : Type 0
 FirstIsShown = (spec : Parts) → IsSpec spec → (condition : ℕ) → first_shown spec (breaks spec condition) ≡ refusal_of_condition spec condition
 
--- What a specification is refused for is the first place of its condition.
+-- The refusal of a specification shows the first place of its condition.
 abbrev pub RefusalIsFirst : Type 0
 RefusalIsFirst = (spec : Parts) (shown : Shown) → IsSpec spec → first_refusal spec ≡ Some shown → first_shown spec (breaks spec shown.condition) ≡ Some shown
 
@@ -86,17 +86,18 @@ RefusalIsFirst = (spec : Parts) (shown : Shown) → IsSpec spec → first_refusa
 abbrev pub EachIsBroken : Type 0
 EachIsBroken = (spec : Parts) → IsSpec spec → (condition : ℕ) → Each (λ (found : Break). IsBroken spec (shown_of spec found)) (breaks spec condition)
 
--- An interval holds each range that is asked of an invariant.
+-- An interval contains each range that an invariant has to contain.
 abbrev pub HoldsAsked : Parts → Invariant → ℤ → ℤ → Type 0
 HoldsAsked spec inv low high =
     Each (λ (taken : Way). has_source inv.from taken.from ≡ true → holds_range low high (range_on spec inv taken) ≡ true) (all_ways spec)
 
--- It holds each range that is asked of an invariant, and lies in every interval that does.
+-- An interval contains each range that an invariant has to contain, and lies in every interval that does.
 pub record IsLeastInterval (spec : Parts) (inv : Invariant) (needed : Extremes) : Type 0 where
   pub holds : HoldsAsked spec inv needed.least needed.greatest
   pub least : (low high : ℤ) → HoldsAsked spec inv low high → (low ≤ℤ needed.least) × (needed.greatest ≤ℤ high)
 
--- What an invariant that does not hold its ranges needs is the least interval that would.
+-- The interval that a failing invariant needs is the smallest that contains all ranges that the invariant has to
+-- contain.
 abbrev pub NeededIsLeast : Type 0
 NeededIsLeast = (spec : Parts) (k : ℕ) (inv : Invariant) (found : Unheld) → slice_get spec.invariants k ≡ Some inv
     → unheld_at spec k ≡ Some (broken.Unheld found) → IsLeastInterval spec inv found.needed

@@ -1,4 +1,4 @@
--- The ranges that invariants and preconditions have to hold.
+-- The ranges that invariants and preconditions have to contain.
 use Rattle.std.specs.Prelude.{ℕ, ℤ, pos, Bool, not, ◌&&◌, ◌==◌, List, [], ◌∷◌, length, Option, Some, None, if◌then◌else◌}
 use Rattle.std.specs.Int.{int_max, int_min}
 use Rattle.scram_types.specs.Lookups.{conf_id, kind_of_app, place_of}
@@ -14,27 +14,27 @@ use Rattle.flight_facts.specs.declared.extremes.Extremes.{Extremes}
 use Rattle.condition_breaks.specs.declared.breaks.Way.{Way}
 use Rattle.condition_breaks.specs.Lists.{gathered_below, one_if}
 
--- The way from configuration number i to number j.
+-- The way from configuration `i` to configuration `j`.
 abbrev pub way_of : ℕ → ℕ → Way
 way_of i j = record { from = conf_id i; to = conf_id j }
 
--- Configuration number j is a possible target of number i, and another one.
+-- Whether configuration `j` is a possible target of configuration `i` and differs from it.
 abbrev pub is_other_target : Parts → ℕ → ℕ → Bool
 is_other_target spec i j = is_target spec (conf_id i) j && not (i == j)
 
--- The way to another possible target, where j is one of number i.
+-- The way from `i` to `j` if `j` is another possible target of `i`, else no way.
 abbrev pub way_to : Parts → ℕ → ℕ → List Way
 way_to spec i j = one_if (is_other_target spec i j) (way_of i j)
 
--- The ways to the other possible targets of configuration number i, in order.
+-- The ways from configuration `i` to its other possible targets, in order.
 abbrev pub other_ways : Parts → ℕ → List Way
 other_ways spec i = gathered_below (way_to spec i) (length spec.confs)
 
--- A configuration itself, and then the ways to its other possible targets.
+-- The way from configuration `i` to itself, followed by those to its other possible targets.
 abbrev pub ways_from : Parts → ℕ → List Way
 ways_from spec i = way_of i i ∷ other_ways spec i
 
--- The same of each configuration, in order.
+-- All ways, by source, in order.
 abbrev pub all_ways : Parts → List Way
 all_ways spec = gathered_below (ways_from spec) (length spec.confs)
 
@@ -42,39 +42,40 @@ all_ways spec = gathered_below (ways_from spec) (length spec.confs)
 abbrev pub interval : ℤ × ℤ → Extremes
 interval ends = record { least = ends.0; greatest = ends.1 }
 
--- The range of an invariant's variable in a place: that of all acts in its mode together, the status from 1 to 4; zero
--- where the application is off.
+-- The range of an invariant's variable in a place, over all acts in the place's mode. It is 1 to 4 for the status, and
+-- zero if the application is off.
 abbrev pub range_asked : Parts → Invariant → Option Place → ℤ × ℤ
 range_asked spec inv None = (pos 0, pos 0)
 range_asked spec inv (Some place) = if inv.variable == 0 then (pos 1, pos 4) else during (kind_of_app spec inv.app.0) 1 place.mode.0 inv.variable
 
--- The range of its variable at the end of a way.
+-- The range of an invariant's variable at the end of a way.
 abbrev pub range_on : Parts → Invariant → Way → ℤ × ℤ
 range_on spec inv taken = range_asked spec inv (place_of spec taken.to inv.app.0)
 
--- An invariant speaks of a way's source, and does not hold the range at its end.
+-- Whether an invariant applies to a way's source and does not contain the range at its end.
 abbrev pub is_unheld : Parts → Invariant → Way → Bool
 is_unheld spec inv taken = has_source inv.from taken.from && not (holds_range inv.least inv.greatest (range_on spec inv taken))
 
--- The first way whose range an invariant does not hold.
+-- The first way whose range an invariant does not contain, or `None` if it contains all.
 abbrev pub first_unheld : Parts → Invariant → List Way → Option Way
 first_unheld spec inv [] = None
 first_unheld spec inv (taken ∷ ways) = if is_unheld spec inv taken then Some taken else first_unheld spec inv ways
 
--- The least interval that holds an interval and a range.
+-- The smallest interval that contains an interval and a range.
 abbrev pub hull : Extremes → ℤ × ℤ → Extremes
 hull held range = record { least = int_min held.least range.0; greatest = int_max held.greatest range.1 }
 
--- The least interval that holds an interval and the range on a way, where an invariant speaks of the way's source.
+-- The smallest interval that contains an interval and, if an invariant applies to a way's source, the range on the way.
 abbrev pub hull_on : Parts → Invariant → Extremes → Way → Extremes
 hull_on spec inv held taken = if has_source inv.from taken.from then hull held (range_on spec inv taken) else held
 
--- The least interval that holds an interval and each range on ways of whose source an invariant speaks.
+-- The smallest interval that contains an interval and each range on ways to whose source an invariant applies.
 abbrev pub hull_of : Parts → Invariant → Extremes → List Way → Extremes
 hull_of spec inv held [] = held
 hull_of spec inv held (taken ∷ ways) = hull_of spec inv (hull_on spec inv held taken) ways
 
--- The range that a precondition has to hold in a place: that after the init phase, or zero where the application is off.
+-- The range that a precondition has to contain in a place: the range after the init phase, or zero if the application
+-- is off.
 abbrev pub range_entering : Parts → Precondition → Option Place → ℤ × ℤ
 range_entering spec pre None = (pos 0, pos 0)
 range_entering spec pre (Some place) = after_init (kind_of_app spec pre.app.0) place.mode.0 pre.variable

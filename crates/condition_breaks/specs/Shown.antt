@@ -5,7 +5,7 @@ use Rattle.choice_table.specs.Environments.{IsEnv}
 use Rattle.condition_breaks.specs.declared.breaks.Break.{Break}
 use Rattle.condition_breaks.specs.declared.breaks.Break.TheVariants as broken
 
--- The environment of a place belongs to the specification, where the place has one.
+-- The environment of a place, if it has one, belongs to the specification.
 abbrev pub IsShownIn : Parts → Break → Type 0
 IsShownIn spec (broken.NeedOff c a b) = ⊤
 IsShownIn spec broken.ManyStates = ⊤

@@ -1,4 +1,4 @@
-//! The places at which the conditions A5 to A8 do not hold: what the choice table does not give.
+//! The places at which the conditions A5 to A8 do not hold: faults of the choice table.
 
 ghost use Rattle.std.specs.Prelude.{◌≡◌, ◌++◌, ◌<◌, IfOk, OnOk, length, option_map};
 ghost use Rattle.scram_types.specs.Lookups.{conf_id};
@@ -15,8 +15,8 @@ use cube_cover::cover;
 use scram_types::{ConfId, Env, NoMemory, Spec};
 use std::alloc::Global;
 
-// A5 to A7: appends each configuration that does not meet a requirement, with the first environment in which it does
-// not.
+// Appends, for A5 to A7, each configuration that does not meet a requirement, with the first environment in which it
+// does not.
 pub(crate) fn add_unmet_breaks(
     alloc: Global,
     breaks: &mut Vec<Break>,
@@ -32,7 +32,8 @@ pub(crate) fn add_unmet_breaks(
     Ok(())
 }
 
-// Returns the first environment in scope in which configuration `c` does not meet a requirement.
+// Returns the first environment in scope in which configuration `c` does not meet a requirement, or `None` if there is
+// none.
 fn first_unmet_env(
     alloc: Global,
     spec: &Spec,
@@ -56,7 +57,7 @@ fn unmet_in(asked: Requirement, c: ConfId, unmet: Option<Env>) -> Option<Break>
     }
 }
 
-// A8: appends that the start configuration is left at once.
+// Appends, for A8, the place of a start configuration that is left at once.
 pub(crate) fn add_start_breaks(breaks: &mut Vec<Break>, spec: &Spec) -> Result<(), NoMemory>
     ensures { OnOk result (breaks.new.items ≡ breaks.old.items ++ start_breaks spec.now) }
 {

@@ -1,4 +1,4 @@
-//! The places at which the condition A13 does not hold: the demands that the choice table misses.
+//! The places at which the condition A13 does not hold: demands that the choice table misses.
 
 ghost use Rattle.std.specs.Prelude.{◌≡◌, ◌++◌, ◌<◌, OnOk, length};
 ghost use Rattle.scram_types.specs.Lookups.{conf_id};
@@ -13,7 +13,7 @@ use cube_cover::misses;
 use scram_types::{ConfId, Env, NoMemory, Spec};
 use std::alloc::Global;
 
-// A13: appends each configuration and demand that the table misses from it, with the first environment in which it
+// Appends, for A13, each configuration and demand that the table misses from it, with the first environment in which it
 // does.
 pub(crate) fn add_demand_breaks(
     alloc: Global,
@@ -29,7 +29,7 @@ pub(crate) fn add_demand_breaks(
     Ok(())
 }
 
-// Appends those of configuration number `c`; `found` has for each demand the first environment in which it is missed.
+// Appends the places of configuration `c`. `found` holds for each demand the first environment in which it is missed.
 fn add_demand_breaks_in(
     breaks: &mut Vec<Break>,
     spec: &Spec,

@@ -1,4 +1,4 @@
-//! The places at which a condition does not hold, by its number.
+//! The places at which a condition does not hold, by the condition's number.
 
 ghost use Rattle.std.specs.Prelude.{◌≡◌, ◌++◌, IfOk, OnOk};
 ghost use Rattle.condition_breaks.specs.Breaks.{breaks, choice_breaks, later_breaks};
@@ -13,7 +13,8 @@ use coverage_check::choosing::Requirement;
 use scram_types::{NoMemory, Spec};
 use std::alloc::Global;
 
-/// Returns the places at which a condition of acceptance does not hold, in order; none for a number that is not 1 to 13.
+/// Returns the places at which a condition of acceptance does not hold, in order. The list is empty if the number is
+/// not 1 to 13.
 ///
 /// # Errors
 ///

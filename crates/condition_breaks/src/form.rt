@@ -1,4 +1,4 @@
-//! The places at which the conditions A1 to A4 do not hold: what a configuration alone lacks.
+//! The places at which the conditions A1 to A4 do not hold: faults of single configurations.
 
 ghost use Rattle.std.specs.Prelude.{◌≡◌, ◌++◌, OnOk};
 ghost use Rattle.condition_breaks.specs.Breaks.{load_break, load_breaks, load_breaks_in, need_break, need_breaks, need_breaks_in, need_breaks_of, shape_break, shape_breaks, state_breaks};
@@ -12,7 +12,7 @@ use coverage_check::places::{count_apps, count_confs, count_procs};
 use scram_types::limits::MAX_ENVIRONMENTS;
 use scram_types::{AppId, ConfId, NoMemory, ProcId, Spec};
 
-// A1: appends each application that is on while another one that it needs is off.
+// Appends, for A1, each application that is on while an application that it needs is off.
 pub(crate) fn add_need_breaks(breaks: &mut Vec<Break>, spec: &Spec) -> Result<(), NoMemory>
     ensures { OnOk result (breaks.new.items ≡ breaks.old.items ++ need_breaks spec.now) }
 {
@@ -73,14 +73,14 @@ fn is_one_of(needs: &[AppId], b: u8) -> bool
     needs.iter().any(|needed| needed.0 == b)
 }
 
-// A2: appends that there are too many environments in scope.
+// Appends, for A2, the place of too many environments in scope.
 pub(crate) fn add_state_breaks(breaks: &mut Vec<Break>, spec: &Spec) -> Result<(), NoMemory>
     ensures { OnOk result (breaks.new.items ≡ breaks.old.items ++ state_breaks spec.now) }
 {
     push_if(breaks, MAX_ENVIRONMENTS < states(spec), Break::ManyStates)
 }
 
-// A3: appends each configuration that has nothing on or is the same as an earlier one.
+// Appends, for A3, each configuration that has no application on or is the same as an earlier one.
 pub(crate) fn add_shape_breaks(breaks: &mut Vec<Break>, spec: &Spec) -> Result<(), NoMemory>
     ensures { OnOk result (breaks.new.items ≡ breaks.old.items ++ shape_breaks spec.now) }
 {
@@ -103,7 +103,7 @@ fn add_shape_break(breaks: &mut Vec<Break>, spec: &Spec, c: u8) -> Result<(), No
     }
 }
 
-// Returns the first configuration that configuration number `c` is the same as, of those before it.
+// Returns the first configuration before configuration `c` that is the same as `c`, or `None` if there is none.
 fn first_twin(spec: &Spec, c: u8) -> Option<ConfId>
     ensures { result ≡ first_twin spec.now c }
 {
@@ -115,7 +115,7 @@ fn first_twin(spec: &Spec, c: u8) -> Option<ConfId>
     None
 }
 
-// A4: appends each processor that a configuration loads beyond its capacity.
+// Appends, for A4, each processor that a configuration loads beyond its capacity.
 pub(crate) fn add_load_breaks(breaks: &mut Vec<Break>, spec: &Spec) -> Result<(), NoMemory>
     ensures { OnOk result (breaks.new.items ≡ breaks.old.items ++ load_breaks spec.now) }
 {

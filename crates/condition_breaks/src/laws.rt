@@ -1,32 +1,33 @@
-//! What is proved of the places at which conditions do not hold.
+//! The theorems about the places at which conditions do not hold.
 
 ghost use Rattle.condition_breaks.specs.Complete.{NoneIsLeftOut};
 ghost use Rattle.condition_breaks.specs.Laws.{EachIsBroken, FirstIsShown, NeededIsLeast, RefusalIsFirst};
 
-/// Of each condition the first place is the one that its refusal shows, and there is none exactly where the condition
-/// holds.
+/// For each condition, the first place is the one that its refusal shows, and there is no place exactly if the
+/// condition holds.
 pub fn first_is_shown()
     ensures { FirstIsShown }
 {}
 
-/// A specification that is not accepted has places at which the condition does not hold that it is refused for, and the
-/// first of them is the one that the refusal shows.
+/// A specification that is not accepted has places at which the condition of its refusal does not hold, and the refusal
+/// shows the first of them.
 pub fn refusal_is_first()
     ensures { RefusalIsFirst }
 {}
 
-/// At each place the condition does not hold: it exists in the specification, and a refusal of it would be true.
+/// At each place the condition does not hold: the place exists in the specification, and its refusal would be true.
 pub fn each_is_broken()
     ensures { EachIsBroken }
 {}
 
-/// No place is left out: wherever a condition does not hold, its place stands among those of its number. Of equal
-/// configurations, of environments and of the sources of an invariant one stands for all.
+/// No place is left out: wherever a condition does not hold, its place is among those of the condition. One place
+/// represents all equal configurations, all environments and all sources of an invariant.
 pub fn none_is_left_out()
     ensures { NoneIsLeftOut }
 {}
 
-/// What an invariant that does not hold a range needs is the least interval that holds all ranges that are asked of it.
+/// The interval that a failing invariant needs is the smallest that contains all ranges that the invariant has to
+/// contain.
 pub fn needed_is_least()
     ensures { NeededIsLeast }
 {}

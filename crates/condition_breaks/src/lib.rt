@@ -1,4 +1,4 @@
-//! The places at which the conditions of acceptance do not hold, every one and in order, by the condition's number.
+//! All places at which the conditions of acceptance do not hold, in order, by the condition's number.
 #![tactic(auto)]
 
 pub mod breaks;

@@ -1,4 +1,4 @@
-//! The ranges that invariants and preconditions have to hold, and the ways on which invariants have to hold them.
+//! The ranges that invariants and preconditions have to contain, and the ways on which invariants have to contain them.
 
 ghost use Rattle.std.specs.Prelude.{◌≡◌, ◌++◌, ◌<◌, ◌≤◌, IfOk, OnOk, length, option_map};
 ghost use Rattle.scram_types.specs.Lookups.{conf_id};
@@ -16,7 +16,7 @@ use scram_types::bits::is_in;
 use scram_types::{ConfId, Invariant, NoMemory, Place, Precondition, Spec};
 use std::alloc::Global;
 
-// Returns for each configuration the way to itself, and behind it those to its other possible targets.
+// Returns for each configuration the way to itself, followed by those to its other possible targets.
 pub(crate) fn all_ways(alloc: Global, spec: &Spec) -> Result<Vec<Way>, NoMemory>
     ensures { IfOk result (λ ways. ways.items ≡ all_ways spec.now) }
 {
@@ -28,7 +28,7 @@ pub(crate) fn all_ways(alloc: Global, spec: &Spec) -> Result<Vec<Way>, NoMemory>
     Ok(ways)
 }
 
-// Appends the ways from configuration number `i`; `set` has its possible targets.
+// Appends the ways from configuration `i`, whose possible targets are the set `set`.
 fn add_ways_from(ways: &mut Vec<Way>, spec: &Spec, set: u16, i: u8) -> Result<(), NoMemory>
     requires { set ≡ targets spec.now (conf_id i) }
     ensures { OnOk result (ways.new.items ≡ ways.old.items ++ ways_from spec.now i) }
@@ -64,7 +64,7 @@ fn add_way_to(ways: &mut Vec<Way>, spec: &Spec, set: u16, i: u8, j: u8) -> Resul
     Ok(())
 }
 
-// Returns whether configuration number `j` is a possible target of number `i`, and another one.
+// Returns whether configuration `j` is a possible target of configuration `i` and differs from it.
 fn is_other_target(spec: &Spec, set: u16, i: u8, j: u8) -> bool
     requires set { set ≡ targets spec.now (conf_id i) }
     requires inside { j < length spec.now.confs }
@@ -80,7 +80,7 @@ pub fn interval(least: i64, greatest: i64) -> Extremes
     Extremes { least, greatest }
 }
 
-// Returns the range of an invariant's variable in a place: that of all acts in its mode together.
+// Returns the range of an invariant's variable in a place, over all acts in the place's mode.
 fn range_asked(spec: &Spec, inv: &Invariant, place: Option<Place>) -> Extremes
     ensures { result ≡ interval (range_asked spec.now inv.now place) }
 {
@@ -104,7 +104,7 @@ pub fn range_on(spec: &Spec, inv: &Invariant, way: &Way) -> Extremes
     range_asked(spec, inv, spec.place_of(way.to, inv.app))
 }
 
-// Returns the first way whose range an invariant does not hold.
+// Returns the first way whose range an invariant does not contain, or `None` if it contains all.
 pub(crate) fn first_unheld(spec: &Spec, inv: &Invariant, ways: &[Way]) -> Option<Way>
     ensures { result ≡ first_unheld spec.now inv.now ways.now }
 {
@@ -122,7 +122,7 @@ fn is_unheld(spec: &Spec, inv: &Invariant, way: &Way) -> bool
     speaks_of(inv, way) && !holds(inv, &range_on(spec, inv, way))
 }
 
-// Returns whether an invariant speaks of the source of a way.
+// Returns whether an invariant applies to the source of a way.
 fn speaks_of(inv: &Invariant, way: &Way) -> bool
     ensures { result ≡ has_source inv.now.from way.now.from }
 {
@@ -138,8 +138,8 @@ fn holds(inv: &Invariant, range: &Extremes) -> bool
     inv.least <= range.least && range.greatest <= inv.greatest
 }
 
-// Returns the least interval that holds the range of the way `first` and each range on ways of whose source an
-// invariant speaks.
+// Returns the smallest interval that contains the range of the way `first` and each range on ways to whose source an
+// invariant applies.
 pub(crate) fn hull_of(spec: &Spec, inv: &Invariant, first: &Way, ways: &[Way]) -> Extremes
     ensures { result ≡ hull_of spec.now inv.now (interval (range_on spec.now inv.now first.now)) ways.now }
 {
@@ -160,7 +160,7 @@ fn hull_on(spec: &Spec, inv: &Invariant, held: &Extremes, way: &Way) -> Extremes
     }
 }
 
-// Returns the least interval that holds two.
+// Returns the smallest interval that contains both intervals.
 fn hull(held: &Extremes, range: &Extremes) -> Extremes
     ensures { result ≡ hull held.now (range.now.least, range.now.greatest) }
 {
@@ -170,8 +170,8 @@ fn hull(held: &Extremes, range: &Extremes) -> Extremes
     }
 }
 
-/// Returns the range that a precondition has to hold in a place: that after the init phase, or zero where the application
-/// is off.
+/// Returns the range that a precondition has to contain in a place: the range after the init phase, or zero if the
+/// application is off.
 pub fn range_entering(spec: &Spec, pre: &Precondition, place: Option<Place>) -> Extremes
     ensures { result ≡ interval (range_entering spec.now pre.now place) }
 {

@@ -1,4 +1,4 @@
-//! The places at which the conditions A9 and A10 do not hold: bounds and a window that do not serve.
+//! The places at which the conditions A9 and A10 do not hold: insufficient bounds and an insufficient window.
 
 ghost use Rattle.std.specs.Prelude.{◌≡◌, ◌++◌, ◌<◌, ◌≤◌, OnOk, length};
 ghost use Rattle.scram_types.specs.Lookups.{conf_id};
@@ -14,7 +14,7 @@ use scram_types::bits::is_in;
 use scram_types::{ConfId, NoMemory, Spec};
 use std::alloc::Global;
 
-// A9: appends each pair for which a bound is asked for and none that serves is given.
+// Appends, for A9, each pair for which a bound is required and no sufficient bound is given.
 pub(crate) fn add_bound_breaks(
     alloc: Global,
     breaks: &mut Vec<Break>,
@@ -29,7 +29,8 @@ pub(crate) fn add_bound_breaks(
     Ok(())
 }
 
-// Appends those that begin with configuration number `i`; `set` has those to which a bound is asked for.
+// Appends the pairs that begin with configuration `i`, where `set` is the set of configurations to which a bound is
+// required.
 fn add_bound_breaks_from(
     breaks: &mut Vec<Break>,
     spec: &Spec,
@@ -54,7 +55,7 @@ fn lacks_bound(spec: &Spec, set: u16, i: ConfId, j: ConfId) -> bool
     is_asked(spec, set, i, j) && !is_bounded(spec, i, j)
 }
 
-// Returns whether a bound from `i` to `j` is asked for.
+// Returns whether a bound from `i` to `j` is required.
 fn is_asked(spec: &Spec, set: u16, i: ConfId, j: ConfId) -> bool
     requires set { set ≡ asked_bounds spec.now i }
     requires inside { j.0 < length spec.now.confs }
@@ -63,7 +64,7 @@ fn is_asked(spec: &Spec, set: u16, i: ConfId, j: ConfId) -> bool
     is_in(set, j.0)
 }
 
-// A10: appends that the window is too short.
+// Appends, for A10, the place of a window that is too short.
 pub(crate) fn add_window_breaks(breaks: &mut Vec<Break>, spec: &Spec) -> Result<(), NoMemory>
     ensures { OnOk result (breaks.new.items ≡ breaks.old.items ++ window_breaks spec.now) }
 {

@@ -1,4 +1,4 @@
--- Where ranks fall along a chart, its offsets are greatest sums over chains.
+-- If ranks fall along a chart, its offsets are maximum sums over chains.
 use Rattle.std.proofs.Common.{◌≡◌, ℕ, zero, suc, ◌+◌, ◌*◌, ◌-◌, ◌<◌, ◌≤◌, Bool, true, false, refl, arith, ◌⊎◌, ap, sym, ◌∙◌, List, [], ◌∷◌, length}
 use mathlib.Core.Logic.{inl, inr}
 use Rattle.std.specs.Prelude.{◌&&◌, if◌then◌else◌}
@@ -7,7 +7,7 @@ use Rattle.scram_types.proofs.Naturals.{below_or_at}
 use Rattle.scram_types.proofs.Searches.{greatest_most, greatest_reached, greatest_within, greatest_zero}
 use Rattle.dep_order.specs.Chains.{Chain, Chart, HasFirst, IsOffset, chain_time, longest, time_added}
 
--- what goes before has the higher rank, and ranks are below 8
+-- an application that goes before another has the higher rank, and ranks are below 8
 pub record IsRanked (chart : Chart) (rank : ℕ → ℕ) : Type 0 where
   pub falls : (b a : ℕ) → chart.before b a ≡ true → rank a < rank b
   pub below : (a : ℕ) → a < chart.apps → rank a < 8
@@ -57,7 +57,7 @@ module _ (chart : Chart) (rank : ℕ → ℕ) (ranked : IsRanked chart rank) whe
     most = λ a bs h. chain_most 8 a bs (chain_length a bs h) h;
   }
 
-  -- an application that is on and has the greatest rank of those
+  -- an application that is on and has the maximum rank of those that are on
   pub record Top (n : ℕ) : Type 0 where
     pub app : ℕ
     pub inside : app < n

@@ -1,4 +1,4 @@
--- Greatest values, and offsets as greatest sums along chains.
+-- Maximum values, and offsets as maximum sums along chains.
 use Rattle.std.proofs.Common.{◌≡◌, ℕ, zero, suc, ◌+◌, ◌*◌, ◌<◌, ◌≤◌, Bool, true, false, refl, arith, ap, ◌∙◌}
 use Rattle.std.specs.Prelude.{◌&&◌, if◌then◌else◌}
 use Rattle.scram_types.proofs.Searches.{greatest_same, greatest_within}

@@ -1,4 +1,4 @@
--- Worked examples of the definitions: computed, and compared with what the rules say.
+-- Worked examples of the definitions, computed and compared with the rules.
 use Rattle.std.proofs.Common.{◌≡◌, refl, ℕ, List, [], ◌∷◌, pos}
 use Rattle.std.specs.Prelude.{Some, None, map, replicate}
 use Rattle.scram_types.specs.declared.specification.AppSpec.{AppSpec}
@@ -54,7 +54,7 @@ nothing_on : timetable four (record { 0 = 1 }) ≡ record { halt = replicate 8 0
 unfolding four made app
 nothing_on = refl
 
--- what is off between two breaks the chain
+-- an application that is off between two others breaks the chain
 broken_chain : timetable four (record { 0 = 2 }) ≡ record { halt = replicate 8 0; init = replicate 8 0; h = 3; p = 1; i = 1 }
 unfolding four made app
 broken_chain = refl

@@ -64,7 +64,7 @@ module _ (spec : Parts) (known : IsSpec spec) (c : ConfId) (times offsets : List
       ap (λ b. if b then slice_index offsets a + slice_index times a else 0) (sym (on_test a (omega arith)))
       ∙ if_same (is_on spec c a) (slice_index offsets a + slice_index times a) (value a + time a) (λ on. rw (holds a less, listed a (omega arith)) refl))
 
-  -- where nothing goes before anything, the length is the greatest time
+  -- if nothing goes before anything, the length is the maximum time
   pub length_alone : ((a : ℕ) → a < length spec.apps → slice_index offsets a ≡ 0) → phase_length times offsets (length spec.apps) ≡ greatest_below time (length spec.apps)
   length_alone zeros =
       length_is (λ a. 0) zeros

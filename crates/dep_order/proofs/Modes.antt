@@ -1,4 +1,4 @@
--- What a specification says about the modes of a configuration's applications.
+-- The modes of a configuration's applications in a specification.
 use Rattle.std.proofs.Common.{◌≡◌, ℕ, suc, ◌<◌, ◌≤◌, Bool, true, false, refl, arith, sym, List, [], ◌∷◌, length, subst}
 use Rattle.std.specs.Prelude.{Option, Some, None, if◌then◌else◌, nat_lt, slice_get, IsSome, option_and_then, ◌==◌}
 use Rattle.std.proofs.lemmas.Bool.Decides.{nat_tests}
@@ -23,7 +23,7 @@ mode_in_each P [] mode x each e = none_some x e
 mode_in_each P (y ∷ ys) mode x each e =
     mode_case P (y.mode.0 == mode) y x (mode_in ys mode) (each 0 y refl) (mode_in_each P ys mode x (λ i z f. each (suc i) z f)) e
 
--- a phase takes 1 to 16 frames where an application is on, and none where it is off
+-- a phase takes 1 to 16 frames if an application is on, and none if it is off
 pub record IsTimed (on : Bool) (time : ℕ) : Type 0 where
   pub most : time ≤ 16
   pub test : on ≡ nat_lt 0 time

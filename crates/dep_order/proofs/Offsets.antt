@@ -90,7 +90,7 @@ if_below false n most h = omega arith
 some_time : (on : Bool) (n : ℕ) → IsTimed on n → on ≡ true → 1 ≤ n
 some_time on n time h = let test : nat_lt 0 n ≡ true = sym time.test ∙ h in grind (arith, nat_tests)
 
--- an application that is on is through by the end of the greatest of such ends
+-- an application that is on has ended its phase by the maximum of such ends
 ends : (spec : Parts) → IsSpec spec → (c : ConfId) (value : ℕ → ℕ) (a : ℕ) → is_on spec c a ≡ true
     → value a ≤ greatest_below (λ a. where_on spec c a (value a)) (length spec.apps)
 ends spec known c value a on =

@@ -1,4 +1,4 @@
--- A cycle of needs, listed from its least application on.
+-- A cycle of needs, listed from its lowest-numbered application on.
 use Rattle.std.proofs.Common.{◌≡◌, ℕ, zero, suc, ◌+◌, ◌-◌, ◌<◌, ◌≤◌, ◌≢◌, refl, arith, ◌⊎◌, ap, sym, ◌∙◌, List, [], ◌∷◌, ◌++◌, length, get_or, drop, take, subst}
 use mathlib.Core.Logic.{inl, inr}
 use Rattle.std.specs.Prelude.{AllPairs}
@@ -28,7 +28,7 @@ turned_closed apps b rest zero d inside turn = subst (λ (l : List AppId). Needs
 turned_closed apps b rest (suc k) d inside turn =
     turn_join apps (drop k rest) b (take k rest) (get_or rest k d) (turn_drop apps (b ∷ rest) (suc k) b turn) (turn_take apps (b ∷ rest) (suc k) d b inside turn)
 
--- where an element of the turned list stood before
+-- the place that an element of the rotated list had before
 
 before_or_past : (n k i : ℕ) → (k + i < n) ⊎ (n ≤ k + i)
 before_or_past n k i = grind arith
@@ -97,7 +97,7 @@ drop_differ xs n differ = λ i j d less inside.
     let short = length-drop n xs in
     rw (get_or-drop n xs i d, get_or-drop n xs j d) (differ (n + i) (n + j) d (omega arith) (omega arith))
 
--- a list that ends where it begins is a cycle from its least application on
+-- a list that ends where it begins is a cycle from its lowest-numbered application on
 turned_is_cycle : (apps : List AppSpec) (xs : List AppId) (b : AppId) (rest : List AppId) (k : ℕ) → xs ≡ b ∷ rest → k < length xs
     → ((j : ℕ) (d : AppId) → j < length xs → (get_or xs k d).0 ≤ (get_or xs j d).0)
     → NeedsInTurn apps xs b → AllPairs (λ (a c : AppId). a.0 ≢ c.0) xs → IsCycle apps (drop k xs ++ take k xs)

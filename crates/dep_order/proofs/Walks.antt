@@ -12,7 +12,7 @@ use Rattle.dep_order.specs.Ranks.{Needs, NeedsInTurn}
 use Rattle.dep_order.specs.Ranking.{is_unranked, rank_in, ready}
 use Rattle.dep_order.specs.Timetables.{is_named}
 
--- where needs give no rank, one of them has none
+-- if the needs give no rank, one of them has none
 
 wait_case : (ranks : List (Option ℕ)) (least : ℕ) (needed : AppId) (needs : List AppId) (rank : Option ℕ)
     → ((more : ℕ) → find (λ (n : AppId). is_unranked ranks n.0) needs ≡ None → ready more ranks needs ≡ None → ⊥)
@@ -66,7 +66,7 @@ turn_back apps [] b back end turn = turn
 turn_back apps (a ∷ []) b back end turn = turn.1
 turn_back apps (a ∷ c ∷ rest) b back end turn = turn_back apps (c ∷ rest) b back end turn.1
 
--- how many numbers below n a list does not name
+-- the number of numbers below n that a list does not name
 
 pub count_free : List AppId → ℕ → ℕ
 count_free path zero = 0

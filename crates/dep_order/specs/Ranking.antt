@@ -1,41 +1,41 @@
--- Ranks that are found one after another.
+-- Ranks of applications, found one after another.
 use Rattle.std.specs.Prelude.{◌≡◌, ℕ, ◌+◌, ◌<◌, max, Bool, List, [], ◌∷◌, length, slice_get, Option, Some, None, is_none, option_and_then}
 use Rattle.scram_types.specs.declared.ids.AppId.{AppId}
 use Rattle.scram_types.specs.declared.specification.AppSpec.{AppSpec}
 
--- The rank found for application a, if one is.
+-- The rank found for application `a`, or `None` if none is found yet.
 abbrev pub rank_in : List (Option ℕ) → ℕ → Option ℕ
 rank_in ranks a = option_and_then (λ (rank : Option ℕ). rank) (slice_get ranks a)
 
--- Application a has no rank yet.
+-- Whether application `a` has no rank yet.
 abbrev pub is_unranked : List (Option ℕ) → ℕ → Bool
 is_unranked ranks a = is_none (rank_in ranks a)
 
--- One more than the greatest rank of what is needed, at least `least`, where all of it has a rank.
+-- One more than the maximum rank of the needed applications, at least `least`, or `None` if one of them has no rank.
 abbrev pub ready : ℕ → List (Option ℕ) → List AppId → Option ℕ
 ready least ranks [] = Some least
 ready least ranks (needed ∷ needs) = option_and_then (λ (rank : ℕ). ready (max least (rank + 1)) ranks needs) (rank_in ranks needed.0)
 
--- Every rank found is what the needs of its application give.
+-- Every rank found is the rank that the application's needs give.
 abbrev pub IsSound : List AppSpec → List (Option ℕ) → Type 0
 IsSound apps ranks = (a r : ℕ) (app : AppSpec) → slice_get apps a ≡ Some app → rank_in ranks a ≡ Some r → ready 0 ranks app.needs ≡ Some r
 
--- Ranks lie below 8.
+-- All ranks are below 8.
 abbrev pub AreSmall : List (Option ℕ) → Type 0
 AreSmall ranks = (a r : ℕ) → rank_in ranks a ≡ Some r → r < 8
 
--- Application a has no rank and can be given rank r.
+-- Application `a` has no rank and can be given rank `r`.
 pub record IsReady (apps : List AppSpec) (ranks : List (Option ℕ)) (a r : ℕ) : Type 0 where
   pub app : AppSpec
   pub there : slice_get apps a ≡ Some app
   pub unranked : slice_get ranks a ≡ Some None
   pub rank : ready 0 ranks app.needs ≡ Some r
 
--- Each application without a rank needs one without a rank.
+-- Each application without a rank needs an application without a rank.
 abbrev pub IsStuck : List AppSpec → List (Option ℕ) → Type 0
 IsStuck apps ranks = (a : ℕ) (app : AppSpec) → slice_get apps a ≡ Some app → rank_in ranks a ≡ None → ready 0 ranks app.needs ≡ None
 
--- An application that exists and has no rank.
+-- Application `a` exists and has no rank.
 pub record IsWaiting (apps : List AppSpec) (ranks : List (Option ℕ)) (a : ℕ) : Type 0 where
   pub there : a < length apps
   pub unranked : rank_in ranks a ≡ None

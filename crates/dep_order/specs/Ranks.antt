@@ -1,29 +1,29 @@
--- Which application needs which, ranks, and cycles of needs.
+-- The needs of applications, their ranks, and cycles of needs.
 use Rattle.std.specs.Prelude.{◌≡◌, ◌≢◌, ℕ, suc, ◌<◌, ◌≤◌, max, List, [], ◌∷◌, length, slice_get, slice_index, AllPairs, All, Some}
 use Rattle.scram_types.specs.declared.ids.AppId.{AppId}
 use Rattle.scram_types.specs.declared.specification.AppSpec.{AppSpec}
 use Rattle.scram_types.specs.Specification.{Each}
 
--- One more than the greatest rank of what is needed, and 0 where nothing is.
+-- One more than the maximum rank of the needed applications, or 0 if there are none.
 abbrev pub rank_after : List ℕ → List AppId → ℕ
 rank_after ranks [] = 0
 rank_after ranks (needed ∷ needs) = max (suc (slice_index ranks needed.0)) (rank_after ranks needs)
 
--- Every application has the rank that its needs give it.
+-- Every application has the rank that its needs give.
 pub record IsRanking (apps : List AppSpec) (ranks : List ℕ) : Type 0 where
   pub count : length ranks ≡ length apps
   pub ranked : (a : ℕ) (app : AppSpec) → slice_get apps a ≡ Some app → slice_get ranks a ≡ Some (rank_after ranks app.needs)
 
--- Each application has a higher rank than each that it needs.
+-- Each application has a higher rank than each application that it needs.
 abbrev pub RanksFall : List AppSpec → List ℕ → Type 0
 RanksFall apps ranks = (a k : ℕ) (app : AppSpec) (needed : AppId) → slice_get apps a ≡ Some app → slice_get app.needs k ≡ Some needed
     → slice_index ranks needed.0 < slice_index ranks a
 
--- The needs of each application name applications.
+-- The needs of each application name applications that exist.
 abbrev pub NeedsInRange : List AppSpec → Type 0
 NeedsInRange apps = Each (λ (app : AppSpec). Each (λ (needed : AppId). needed.0 < length apps) app.needs) apps
 
--- Application a lists b among its needs.
+-- Application `a` lists `b` among its needs.
 pub record Needs (apps : List AppSpec) (a b : AppId) : Type 0 where
   pub app : AppSpec
   pub there : slice_get apps a.0 ≡ Some app
@@ -36,7 +36,7 @@ NeedsInTurn apps [] end = Unit {0}
 NeedsInTurn apps (a ∷ []) end = Needs apps a end
 NeedsInTurn apps (a ∷ b ∷ rest) end = Needs apps a b × NeedsInTurn apps (b ∷ rest) end
 
--- A cycle of needs, once round: no application stands twice, and the least one stands first.
+-- A list is a cycle of needs, once round: no application occurs twice, and the lowest-numbered application is first.
 pub record IsCycle (apps : List AppSpec) (cycle : List AppId) : Type 0 where
   pub first : AppId
   pub others : List AppId
@@ -45,6 +45,6 @@ pub record IsCycle (apps : List AppSpec) (cycle : List AppId) : Type 0 where
   pub differ : AllPairs (λ (a b : AppId). a.0 ≢ b.0) cycle
   pub least : All (λ (a : AppId). first.0 ≤ a.0) cycle
 
--- Where ranks can be given, no cycle of needs exists.
+-- If ranks can be given, there is no cycle of needs.
 abbrev pub RankingExcludesCycles : Type 0
 RankingExcludesCycles = (apps : List AppSpec) (ranks : List ℕ) (cycle : List AppId) → IsRanking apps ranks → IsCycle apps cycle → ⊥

@@ -15,71 +15,71 @@ use Rattle.dep_order.specs.declared.timetables.Phase.TheVariants as phase
 use Rattle.dep_order.specs.declared.timetables.Times.{Times}
 use Rattle.dep_order.specs.Chains.{Chart, HasFirst, IsOffset, offset}
 
--- How many frames its halt, its preparation and its initialisation take there: 0 where it is off.
+-- The number of frames in which application `a` halts in a configuration, or 0 if it is off.
 abbrev pub halt_time : Parts → ConfId → ℕ → ℕ
 halt_time spec c a = option_map_or (λ (listed : ModeSpec). listed.halt) (mode_of spec c a) 0
 
--- The frames that application a prepares for its mode in a configuration; 0 where it is off.
+-- The number of frames in which application `a` prepares for its mode in a configuration, or 0 if it is off.
 abbrev pub prepare_time : Parts → ConfId → ℕ → ℕ
 prepare_time spec c a = option_map_or (λ (listed : ModeSpec). listed.prepare) (mode_of spec c a) 0
 
--- The frames that application a initialises in its mode in a configuration; 0 where it is off.
+-- The number of frames in which application `a` initialises in its mode in a configuration, or 0 if it is off.
 abbrev pub init_time : Parts → ConfId → ℕ → ℕ
 init_time spec c a = option_map_or (λ (listed : ModeSpec). listed.init) (mode_of spec c a) 0
 
--- Application a stands in a list of needs.
+-- Whether a list of needs names application `a`.
 abbrev pub is_named : List AppId → ℕ → Bool
 is_named needs a = list_any (λ (needed : AppId). needed.0 == a) needs
 
--- Application b lists a among its needs.
+-- Whether application `b` lists `a` among its needs.
 abbrev pub needs : Parts → ℕ → ℕ → Bool
 needs spec b a = option_map_or (λ (app : AppSpec). is_named app.needs a) (slice_get spec.apps b) false
 
--- Dependents halt before what they need, and what is needed initialises before its dependents.
+-- The chart of the halt phase, in which dependents halt before the applications that they need.
 abbrev pub halt_chart : Parts → ConfId → Chart
 halt_chart spec c = record { apps = length spec.apps; on = is_on spec c; before = needs spec; time = halt_time spec c }
 
--- Initialising as a chart: an application waits for what it needs.
+-- The chart of the init phase, in which an application waits for those that it needs.
 abbrev pub init_chart : Parts → ConfId → Chart
 init_chart spec c = record { apps = length spec.apps; on = is_on spec c; before = λ b a. needs spec a b; time = init_time spec c }
 
--- The greatest sum of halt times over the chains of dependents above application a.
+-- The maximum sum of halt times over the chains of dependents of application `a`.
 abbrev pub halt_offset : Parts → ConfId → ℕ → ℕ
 halt_offset spec c a = offset (halt_chart spec c) a
 
--- The greatest sum of init times over the chains of what application a needs.
+-- The maximum sum of init times over the chains of applications that application `a` needs.
 abbrev pub init_offset : Parts → ConfId → ℕ → ℕ
 init_offset spec c a = offset (init_chart spec c) a
 
--- A number where application a is on in a configuration, else 0.
+-- The number `n` if application `a` is on in a configuration, else 0.
 abbrev pub where_on : Parts → ConfId → ℕ → ℕ → ℕ
 where_on spec c a n = if is_on spec c a then n else 0
 
--- How long a configuration takes to halt, to prepare and to initialise: 0 where nothing is on.
+-- The number of frames of the halt phase of a configuration, or 0 if nothing is on.
 abbrev pub halting_time : Parts → ConfId → ℕ
 halting_time spec c = greatest_below (λ a. where_on spec c a (halt_offset spec c a + halt_time spec c a)) (length spec.apps)
 
--- The frames of the prepare phase of a configuration: those of its slowest application.
+-- The number of frames of the prepare phase of a configuration, that of its slowest application.
 abbrev pub preparing_time : Parts → ConfId → ℕ
 preparing_time spec c = greatest_below (prepare_time spec c) (length spec.apps)
 
--- The frames of the init phase of a configuration: when the last application has initialised.
+-- The number of frames of the init phase of a configuration, up to the end of the last application's initialisation.
 abbrev pub initialising_time : Parts → ConfId → ℕ
 initialising_time spec c = greatest_below (λ a. where_on spec c a (init_offset spec c a + init_time spec c a)) (length spec.apps)
 
--- How many frames a phase of application a takes.
+-- The number of frames that application `a` takes for a phase.
 abbrev pub phase_time : Parts → ConfId → Phase → ℕ → ℕ
 phase_time spec c phase.Halt a = halt_time spec c a
 phase_time spec c phase.Prepare a = prepare_time spec c a
 phase_time spec c phase.Init a = init_time spec c a
 
--- In a phase, application b goes before application a; all prepare at once.
+-- Whether application `b` goes before application `a` in a phase. All applications prepare at once.
 abbrev pub goes_before : Parts → Phase → ℕ → ℕ → Bool
 goes_before spec phase.Halt b a = needs spec b a
 goes_before spec phase.Prepare b a = false
 goes_before spec phase.Init b a = needs spec a b
 
--- The same with times that are listed: on is what takes some time.
+-- The chart of a phase with listed times. An application is on if its time is above 0.
 abbrev pub timed_chart : Parts → Phase → List ℕ → Chart
 timed_chart spec phase times = record {
   apps = length spec.apps;
@@ -88,24 +88,24 @@ timed_chart spec phase times = record {
   time = slice_index times;
 }
 
--- The length of a phase, of listed times and offsets.
+-- The length of a phase by listed times and offsets.
 abbrev pub phase_length : List ℕ → List ℕ → ℕ → ℕ
 phase_length times offsets n =
     greatest_below (λ a. if nat_lt 0 (slice_index times a) then slice_index offsets a + slice_index times a else 0) n
 
--- Offsets where some time is taken, and 0 elsewhere.
+-- The offset of application `a` if its time is above 0, else 0.
 abbrev pub offset_where_on : List ℕ → List ℕ → ℕ → ℕ
 offset_where_on times offsets a = if nat_lt 0 (slice_index times a) then slice_index offsets a else 0
 
--- A list holds a function's values below n.
+-- A list holds a function's values for all arguments below `n`.
 abbrev pub Holds : (ℕ → ℕ) → ℕ → List ℕ → Type 0
 Holds value n xs = (a : ℕ) → a < n → slice_index xs a ≡ value a
 
--- No number below n of a list is above `most`.
+-- The first `n` numbers of a list are at most `most`.
 abbrev pub AtMost : ℕ → ℕ → List ℕ → Type 0
 AtMost most n xs = (a : ℕ) → a < n → slice_index xs a ≤ most
 
--- When each application of a configuration halts and initialises, and how long each phase takes.
+-- The timetable of a configuration: the halt and init offset of each application, and the length of each phase.
 abbrev pub timetable : Parts → ConfId → Times
 timetable spec c = record {
   halt = eight (λ a. where_on spec c a (halt_offset spec c a));
@@ -115,13 +115,14 @@ timetable spec c = record {
   i = initialising_time spec c;
 }
 
--- Halt and init offsets are greatest sums over chains.
+-- Halt and init offsets are maximum sums over chains.
 pub record OffsetsAreSums (spec : Parts) (c : ConfId) : Type 0 where
   pub halt : IsOffset (halt_chart spec c)
   pub init : IsOffset (init_chart spec c)
 
--- Each phase of an application that is on ends in time, a phase takes at least a frame where something is
--- on, and something halts and something initialises at once.
+-- Each phase of an application that is on ends within the configuration's phase and takes at least one frame. If
+-- something is on, something halts at once and something initialises at once. Halting and initialising take at most 128
+-- frames, preparing at most 16.
 pub record IsInTime (spec : Parts) (c : ConfId) : Type 0 where
   pub halts : (a : ℕ) → is_on spec c a ≡ true → halt_offset spec c a + halt_time spec c a ≤ halting_time spec c
   pub prepares : (a : ℕ) → is_on spec c a ≡ true → prepare_time spec c a ≤ preparing_time spec c
@@ -135,10 +136,10 @@ pub record IsInTime (spec : Parts) (c : ConfId) : Type 0 where
   pub prepare_most : preparing_time spec c ≤ 16
   pub init_most : initialising_time spec c ≤ 128
 
--- In every specification an offset is the greatest time of a chain that ends at the application.
+-- In every specification, halt and init offsets are maximum sums of times over chains.
 abbrev pub OffsetsAreGreatestSums : Type 0
 OffsetsAreGreatestSums = (spec : Parts) → IsSpec spec → (c : ConfId) → OffsetsAreSums spec c
 
--- In every specification each application's phase ends within the phase of its configuration.
+-- In every specification, each phase of an application ends within the phase of its configuration.
 abbrev pub PhasesEndInTime : Type 0
 PhasesEndInTime = (spec : Parts) → IsSpec spec → (c : ConfId) → IsInTime spec c

@@ -1,5 +1,5 @@
-//! What waits for what: ranks of applications or a cycle of their needs, and when the applications of a
-//! configuration halt, prepare and initialise, each by the longest chain of those that go before it.
+//! The order of applications: ranks or a cycle of needs, and the timetable of a configuration. The timetable says when
+//! applications halt, prepare and initialise, each by the longest chain of applications that go before it.
 #![tactic(auto)]
 
 pub mod laws;

@@ -1,4 +1,4 @@
-//! Ranks of applications by what they need.
+//! Ranks of applications by their needs.
 
 ghost use Rattle.std.specs.Prelude.{◌≡◌, ℕ, ◌++◌, ◌<◌, ◌≤◌, drop, find, length, slice_get, slice_index_or, take, true, All, IfErr, IfOk, IfSome, MatchOption, None};
 ghost use Rattle.dep_order.specs.Ranks.{IsCycle, IsRanking, Needs, NeedsInRange, RanksFall};
@@ -9,14 +9,14 @@ use crate::timetables::is_listed;
 use arrayvec::ArrayVec;
 use scram_types::{AppId, AppSpec};
 
-/// A cycle of needs: each application needs the next and the last needs the first. None stands twice,
-/// and the least stands first.
+/// A cycle of needs: each application needs the next, and the last needs the first. No application occurs twice, and
+/// the lowest-numbered application is first.
 #[derive(Drop)]
 pub struct Cycle(pub ArrayVec<AppId, 8>);
 
-/// Returns the rank of each application: 0 where it needs none, else one more than the greatest rank of what it
-/// needs. `Cycle` comes exactly where the needs have a cycle. Ranks that an application has already are not looked
-/// at.
+/// Returns the rank of each application: 0 if it needs none, else one more than the maximum rank of the applications
+/// that it needs. Returns `Cycle` exactly if the needs have a cycle. Ranks that the applications already have are
+/// ignored.
 pub fn rank(apps: &[AppSpec]) -> Result<ArrayVec<u8, 8>, Cycle>
     requires few { length apps.now ≤ 8 }
     requires needs { NeedsInRange apps.now }
@@ -35,7 +35,7 @@ pub fn rank(apps: &[AppSpec]) -> Result<ArrayVec<u8, 8>, Cycle>
 // The ranks found so far.
 type Ranks = [Option<u8>; 8];
 
-// Returns the ranks of all applications that do not wait, directly or through others, for a cycle.
+// Returns the ranks of all applications that do not wait, directly or indirectly, for a cycle.
 fn ranks_of_unbound(apps: &[AppSpec]) -> Ranks
     requires few { length apps.now ≤ 8 }
     requires needs { NeedsInRange apps.now }
@@ -50,7 +50,7 @@ fn ranks_of_unbound(apps: &[AppSpec]) -> Ranks
     ranks
 }
 
-// Returns the first application without a rank whose needs all have one, and the rank that they give it.
+// Returns the first application without a rank whose needs all have a rank, together with the rank that they give it.
 fn find_ready(apps: &[AppSpec], ranks: &Ranks) -> Option<(usize, u8)>
     requires few { length apps.now ≤ 8 }
     requires small { AreSmall ranks.now }
@@ -74,8 +74,8 @@ fn is_without_rank(ranks: &Ranks, a: usize) -> bool
     ranks[a].is_none()
 }
 
-// Returns one more than the greatest rank of what is needed, 0 where nothing is, and `None` where some of it has no
-// rank.
+// Returns one more than the maximum rank of the needed applications, 0 if there are none, or `None` if one of them has
+// no rank.
 fn rank_after(ranks: &Ranks, needs: &[AppId]) -> Option<u8>
     requires { AreSmall ranks.now }
     ensures { result ≡ ready 0 ranks.now needs.now }
@@ -99,7 +99,7 @@ fn rank_of(ranks: &Ranks, app: AppId) -> Option<u8>
     }
 }
 
-// Returns all ranks, in order, or the first application without one.
+// Returns all ranks, in order, or `Err` with the first application that has none.
 fn list_ranks(count: usize, ranks: &Ranks) -> Result<ArrayVec<u8, 8>, u8>
     requires { count ≤ 8 }
     ensures count { IfOk result (λ listed. length listed.items ≡ count) }
@@ -117,7 +117,7 @@ fn list_ranks(count: usize, ranks: &Ranks) -> Result<ArrayVec<u8, 8>, u8>
     Ok(listed)
 }
 
-// Returns the first of these applications that has no rank.
+// Returns the first of these applications that has no rank, or `None` if all have one.
 fn find_waiting(ranks: &Ranks, needs: &[AppId]) -> Option<AppId>
     ensures { result ≡ find (λ needed. is_unranked ranks.now needed.0) needs.now }
 {
@@ -129,7 +129,7 @@ fn find_waiting(ranks: &Ranks, needs: &[AppId]) -> Option<AppId>
     None
 }
 
-// Returns what an application without a rank waits for: the first that it needs and that has no rank.
+// Returns the first needed application without a rank, for which an application without a rank waits.
 fn wait_of(apps: &[AppSpec], ranks: &Ranks, a: AppId) -> AppId
     requires needs { NeedsInRange apps.now }
     requires stuck { IsStuck apps.now ranks.now }
@@ -143,8 +143,8 @@ fn wait_of(apps: &[AppSpec], ranks: &Ranks, a: AppId) -> AppId
     }
 }
 
-// Returns a cycle of needs: a walk from an application without a rank to what it waits for must come back to where it
-// has been.
+// Returns a cycle of needs. It walks from an application without a rank to one that it waits for until the walk comes
+// back to an application already visited.
 fn find_cycle(apps: &[AppSpec], ranks: &Ranks, start: AppId) -> ArrayVec<AppId, 8>
     requires few { length apps.now ≤ 8 }
     requires needs { NeedsInRange apps.now }
@@ -163,7 +163,7 @@ fn find_cycle(apps: &[AppSpec], ranks: &Ranks, start: AppId) -> ArrayVec<AppId, 
     turned(cycle, place_of_least(cycle))
 }
 
-// Returns where an application stands in a list.
+// Returns the index of an application in a list.
 fn place_of(path: &[AppId], at: AppId) -> usize
     requires { is_named path.now at.0 ≡ true }
     ensures inside { result < length path.now }
@@ -176,7 +176,7 @@ fn place_of(path: &[AppId], at: AppId) -> usize
     place
 }
 
-// Returns where the least application stands in a list.
+// Returns the index of the lowest-numbered application in a list.
 fn place_of_least(cycle: &[AppId]) -> usize
     requires { 0 < length cycle.now }
     ensures inside { result < length cycle.now }
@@ -191,7 +191,7 @@ fn place_of_least(cycle: &[AppId]) -> usize
     least
 }
 
-// Returns the list from one of its places on, and then what stands before it.
+// Returns the list rotated so that the element at `place` is first.
 fn turned(cycle: &[AppId], place: usize) -> ArrayVec<AppId, 8>
     requires few { length cycle.now ≤ 8 }
     requires place { place ≤ length cycle.now }

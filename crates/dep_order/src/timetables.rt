@@ -1,4 +1,4 @@
-//! When the applications of a configuration halt, prepare and initialise.
+//! The timetables of configurations: when applications halt, prepare and initialise.
 
 ghost use Rattle.std.specs.Prelude.{◌≡◌, ◌≤◌, length, slice_index};
 ghost use Rattle.scram_types.specs.Specification.{IsSpec};
@@ -9,9 +9,9 @@ ghost use Rattle.dep_order.specs.Timetables.{AtMost, Holds, goes_before, is_name
 
 use scram_types::{AppId, ConfId, Spec};
 
-/// The timetable of a configuration, in frames. `halt` and `init` hold the offset of each application
-/// from the beginning of the halting and of the initialising phase, 0 where it is off; `h`, `p` and `i`
-/// are how long the halting, preparing and initialising phases take, 0 where nothing is on.
+/// The timetable of a configuration, in frames. `halt` and `init` hold the offset of each application from the
+/// beginning of the halt and of the init phase, or 0 if the application is off. `h`, `p` and `i` are the lengths of the
+/// halt, prepare and init phases, or 0 if nothing is on.
 #[derive(Clone, Copy, Debug, PartialEq, Eq)]
 pub struct Times {
     pub halt: [u16; 8],
@@ -21,7 +21,7 @@ pub struct Times {
     pub i: u16,
 }
 
-/// A phase of a reconfiguration. Dependents halt before what they need, and initialise after it; all
+/// A phase of a reconfiguration. Dependents halt before the applications that they need and initialise after them; all
 /// prepare at once.
 #[derive(Clone, Copy, Debug, PartialEq, Eq)]
 pub enum Phase {
@@ -30,8 +30,9 @@ pub enum Phase {
     Init,
 }
 
-/// Returns the timetable of configuration `c`. An application's halt offset is the greatest sum of halt times over
-/// the chains of its dependents that are on, its init offset that of init times over the chains of what it needs.
+/// Returns the timetable of configuration `c`. An application's halt offset is the maximum sum of halt times over the
+/// chains of its dependents that are on. Its init offset is the maximum sum of init times over the chains of
+/// applications that it needs.
 pub fn timetable(spec: &Spec, c: ConfId) -> Times
     ensures { result ≡ timetable spec.now c }
 {
@@ -50,7 +51,8 @@ pub fn timetable(spec: &Spec, c: ConfId) -> Times
     }
 }
 
-// Returns the offset of each application, 0 where there is none: every round allows chains of one more link.
+// Returns the offset of each application, or 0 if there is no application of a number. Every round allows chains of one
+// more link.
 fn offsets_in(spec: &Spec, phase: Phase, times: &[u8; 8]) -> [u16; 8]
     requires { AtMost 16 (length spec.now.apps) times.now }
     ensures offsets { Holds (offset (timed_chart spec.now phase times.now)) (length spec.now.apps) result }
@@ -77,7 +79,8 @@ fn offsets_after(spec: &Spec, phase: Phase, times: &[u8; 8], before: &[u16; 8]) 
     offsets
 }
 
-// Returns when the last application that goes before application `a` is through, by these offsets.
+// Returns the frame at which the last application that goes before application `a` has ended its phase, by these
+// offsets.
 fn offset_after(spec: &Spec, phase: Phase, times: &[u8; 8], offsets: &[u16; 8], a: usize) -> u16
     requires times { AtMost 16 (length spec.now.apps) times.now }
     requires offsets { AtMost 112 (length spec.now.apps) offsets.now }
@@ -144,7 +147,7 @@ fn keep_where_on(times: &[u8; 8], offsets: &[u16; 8]) -> [u16; 8]
     kept
 }
 
-// Returns how many frames the phase takes of each application, 0 where it is off.
+// Returns the number of frames that each application takes for the phase, or 0 if it is off.
 fn times_in(spec: &Spec, c: ConfId, phase: Phase) -> [u8; 8]
     ensures { Holds (phase_time spec.now c phase) 8 result }
 {

@@ -1,4 +1,4 @@
--- What is next of an actor is an event of that actor.
+-- The next event of an actor is an event of that actor.
 use Rattle.std.proofs.Common.{◌≡◌, ◌∙◌, ℕ, zero, suc, Bool, true, false, refl, ap, subst, sym, arith}
 use Rattle.std.specs.Prelude.{Option, Some, None, nat_eq, nat_lt, if◌then◌else◌}
 use Rattle.std.proofs.lemmas.Bool.Decides.{nat_tests}
@@ -83,7 +83,7 @@ module _ (m : Flight) (at : Places) (words : Word → ℕ) where
   by_kernel (KStore i) is = refl
   by_kernel Release is = refl
 
-  -- what is next of a processor, and of the kernel, is next of its actor
+  -- the next event of a processor, or of the kernel, is the next of its actor
   pub own_next : (p : ℕ) (e : Event) → next_of m at words p ≡ Some e → IsNext m at words e
   own_next p e is = by_actor p e (from_told p (words ReleaseWord) (at.proc p) e (gate (nat_lt p m.procs) (next_from m p (words ReleaseWord) (at.proc p)) e is).1) ∙ is
 

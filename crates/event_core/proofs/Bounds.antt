@@ -1,4 +1,4 @@
--- The numbers of an event that is next of its actor are in range.
+-- The numbers of an event that is the next of its actor are in range.
 use Rattle.std.proofs.Common.{◌≡◌, ℕ, ◌+◌, ◌<◌, ◌≤◌, refl, arith}
 use Rattle.std.specs.Prelude.{Option, Some, None, nat_lt}
 use Rattle.bank_words.specs.declared.events.Event.{Event}

@@ -24,7 +24,7 @@ use Rattle.event_core.specs.Replays.{IsReplay}
 use Rattle.event_core.proofs.Ending.{ended_by}
 
 module _ (m : Flight) where
-  -- the sum of the notes of all frames before and of this one
+  -- the sum of the notes of all previous frames and of this one
   abbrev noted : Places → ℕ
   noted at = m.procs * at.frame + min at.step m.procs
 

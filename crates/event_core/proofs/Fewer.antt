@@ -1,4 +1,4 @@
--- With each event that is next of its actor fewer are left.
+-- Each event that is the next of its actor reduces the number of events left.
 use Rattle.std.proofs.Common.{◌≡◌, ◌≢◌, ◌⊎◌, ◌∙◌, ℕ, zero, suc, ◌+◌, ◌-◌, ◌*◌, ◌<◌, ◌≤◌, false, ◌&&◌, refl, ap, subst, inl, inr, arith, List, [], ◌∷◌}
 use Rattle.std.specs.Prelude.{Some, nat_lt, nat_eq}
 use Rattle.std.proofs.lemmas.Bool.Decides.{nat_tests}
@@ -15,7 +15,7 @@ use Rattle.fail_stop.proofs.Plans.{Begin, HaltsHere, Mid, begin, both_less, gate
 use Rattle.fail_stop.proofs.Moves.{nat_eq_self}
 use Rattle.event_core.specs.Rooms.{events_a_frame, events_left, left_at, left_below, left_of_kernel}
 
--- one frame's worth
+-- the events of one frame
 pub frame_less : (frames f c : ℕ) → f < frames → (frames - f) * c ≡ c + (frames - suc f) * c
 frame_less frames f c low = let e : frames - f ≡ 1 + (frames - suc f) = omega arith in rw e (grind arith)
 
@@ -45,7 +45,7 @@ sum_less m at at2 p (suc n) low less same = elim (ends p n low) [
   sum_same zero all = refl
   sum_same (suc k) all = let front = sum_same k (λ q below. all q (omega arith)) in let here = all k (omega arith) in omega (arith, front, here)
 
--- the first event of a flight is of one with frames
+-- a flight that has a first event has a frame
 begun_flies : (m : Flight) (words : Word → ℕ) (p : ℕ) (e : Event) → next_of m opening_places words p ≡ Some e → 0 < m.frames
 begun_flies m words p e i =
     let a = (gate (nat_lt p m.procs) (next_from m p (words ReleaseWord) (At 0 0)) e i).1 in
@@ -62,7 +62,7 @@ first_flies m words (KNote p) i = is_less 0 m.frames (gate (nat_lt 0 m.frames) _
 first_flies m words (KStore x) i = is_less 0 m.frames (gate (nat_lt 0 m.frames) _ (KStore x) i).0
 first_flies m words Release i = is_less 0 m.frames (gate (nat_lt 0 m.frames) _ Release i).0
 
--- where some event is next after a schedule, frames are flown
+-- if some event is next after a schedule, the flight has a frame
 pub has_frames : (m : Flight) (es : List Event) (t : Machine) (e : Event) → IsSchedule m (opening m) es t → IsNext m t.at t.words e → 0 < m.frames
 has_frames m [] t e is next = first_flies m (opening_words m) e (subst (λ (s : Machine). IsNext m s.at s.words e) is next)
 has_frames m (x ∷ es) t e is next = first_flies m (opening_words m) x is.0

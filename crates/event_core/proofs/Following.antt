@@ -28,7 +28,7 @@ use Rattle.event_core.specs.Flyers.{AreLastDrafts, FlyBy, FlyersFit, IsLastDraft
 use Rattle.event_core.specs.Places.{HasLooked, kept_opening, machine_places}
 use Rattle.event_core.proofs.Opens.{places_open}
 
--- a processor that has looked lives
+-- a processor that has looked is live
 pub looked_flies : (m : Flight) (place : Place) → HasLooked m place → is_halted place ≡ false
 looked_flies m (At f n) looked = refl
 looked_flies m (Halted h) looked = absurd looked
@@ -69,19 +69,19 @@ module _ {X : Type 0} {Y : X → Type 0} (m : Flight) where
   still_down p h (Up live) is = let down = is.down in cc
   still_down p h (Down halted) is = is
 
-  -- after a halt where it stands
+  -- after a halt at its place
   pub flyer_stopped : (p : ℕ) (place : Place) (flyer : Flyer X Y) → IsFlyerAt m p place flyer → IsFlyerAt m p (halted_there place) (flyer_halted (frame_of place) flyer)
   flyer_stopped p (At f n) flyer is = record { unit = unit_stopped p (At f n) flyer.unit is.unit refl; spare = is.spare }
   flyer_stopped p (Halted h) flyer is = record { unit = still_down p h flyer.unit is.unit; spare = is.spare }
 
-  -- one starts or halts
+  -- one processor starts or halts
   pub flyers_turn : (at : Places) (e : Event) (flyers : List (Flyer X Y)) (p : ℕ) (flyer : Flyer X Y) → ((q : ℕ) → is_actor e q ≡ nat_eq q p) → AreFlyersAt m at.proc flyers → p < 8
       → IsFlyerAt m p (moved m e p (at.proc p)) flyer → AreFlyersAt m (proc_after m at e) (slice_set flyers p flyer)
   flyers_turn at e flyers p flyer by are low is = flyers_with m at.proc (proc_after m at e) flyers p flyer are low
       (let own : is_actor e p ≡ true = by p ∙ grind (arith, nat_tests) in rw own is)
       (λ q other. let foreign : is_actor e q ≡ false = by q ∙ grind (arith, nat_tests, other) in rw foreign refl)
 
-  -- one has drafted
+  -- one processor has drafted
   pub flyers_drafted : (at : ℕ → Place) (flyers : List (Flyer X Y)) (p : ℕ) (was flyer : Flyer X Y) → AreFlyersAt m at flyers → p < 8 → is_halted (at p) ≡ false → IsFlyerAt m p (at p) was
       → is_down flyer.unit ≡ false → unit_proc flyer.unit ≡ unit_proc was.unit → flyer.spare ≡ was.spare → AreFlyersAt m at (slice_set flyers p flyer)
   flyers_drafted at flyers p was flyer are low flies is up number spare = flyers_with m at at flyers p flyer are low
@@ -96,7 +96,7 @@ drafts_with spec script drafted p made long low is old q small = by_place (ℕ_d
       (subst (IsLastDraft spec script p) (sym (get_or-set_same drafted p made None (omega (arith, low, long)))) is)
   by_place (no e) = subst (IsLastDraft spec script q) (sym (get_or-set_other drafted p q made None e)) (old q small)
 
--- what a processor drafts after the snapshot of a frame
+-- the draft that a processor makes of the snapshot of a frame
 pub drafted_by : (spec own : Parts) (script : ScriptParts) (p q f : ℕ) (snap : Snapshot) (image : List ℤ) → spec ≡ own → IsSpec own → p < length own.procs → q ≡ p → IsSnapshot spec script f snap
     → ((script : ScriptParts) (f : ℕ) → IsSpec own → q < length own.procs → IsSnapshot own script f snap → image ≡ draft own script q f) → image ≡ draft spec script p f
 drafted_by spec own script p q f snap image same facts known number shown trace =

@@ -1,4 +1,4 @@
--- The history of a core is a schedule, and it has few events.
+-- The history of a core is a schedule, and the number of its events is bounded.
 use Rattle.std.proofs.Common.{◌≡◌, ◌∙◌, ℕ, ◌+◌, ◌*◌, ◌<◌, ◌≤◌, subst, arith, List, [], ◌∷◌, length, refl}
 use Rattle.std.specs.Prelude.{Some}
 use Rattle.std.proofs.lemmas.Nat.{mul-le}
@@ -23,12 +23,12 @@ use Rattle.event_core.specs.Rooms.{events_a_frame, events_left}
 use Rattle.event_core.proofs.Fewer.{fewer, first_flies}
 use Rattle.event_core.proofs.Opens.{all_events}
 
--- what the parts keep, the core keeps
+-- the invariant of the parts gives that of the core
 pub replayed_by : (core : CoreParts) (spec : Parts) (script : ScriptParts) (places : KeptPlaces) (stored : List ℕ) (history : List Event) → core_of spec script places stored history ≡ core
     → IsReplay (flight_of spec script) history (machine_places places) (stored_in stored) → IsReplay (flown core) core.history (standing core) (standing_words core)
 replayed_by core spec script places stored history is r = subst (λ (core : CoreParts). IsReplay (flown core) core.history (standing core) (standing_words core)) is r
 
--- each event leaves fewer
+-- each event reduces the number of events left
 module _ (m : Flight) (flies : Flies m) (within : (p r : ℕ) → m.restart p ≡ Some r → r < m.frames) (flying : 0 < m.frames) where
   longer : (s : Machine) (es : List Event) (t : Machine) → Kept m s.at s.words → IsSchedule m s es t → length es + events_left m t.at ≤ events_left m s.at
   longer s [] t kept is = rw is (omega arith)

@@ -1,4 +1,4 @@
--- When a flight is over.
+-- The condition for a flight to be over.
 use Rattle.std.proofs.Common.{◌≡◌, ◌∙◌, ◌⊎◌, ℕ, suc, ◌+◌, ◌<◌, ◌≤◌, true, false, ap, sym, subst, inl, inr, arith, List, [], ◌∷◌, length}
 use Rattle.scram_types.specs.declared.specification.Proc.{Proc}
 use Rattle.std.specs.Prelude.{IsTrue, Some, nat_le}

@@ -1,4 +1,4 @@
--- A history goes on with the next event.
+-- A history is extended by the next event.
 use Rattle.std.proofs.Common.{◌≡◌, ◌∙◌, ℕ, ◌<◌, Bool, true, false, refl, ap, sym, subst, arith, List, [], ◌∷◌, ◌++◌}
 use Rattle.std.specs.Prelude.{Option, Some, None, nat_lt, if◌then◌else◌}
 use Rattle.std.proofs.lemmas.Bool.Decides.{nat_tests}
@@ -46,14 +46,14 @@ module _ (m : Flight) (at : Places) (v w : Word → ℕ) (same : (x : Word) → 
   next_moved (KStore x) i = sym kernel_same ∙ i
   next_moved Release i = sym kernel_same ∙ i
 
--- what stands in the state of a history
+-- the invariant in the state of a history
 pub replay_kept : (m : Flight) (events : List Event) (at : Places) (words : Word → ℕ) → Flies m → IsReplay m events at words → Kept m at words
 replay_kept m events at words y r =
     let k = each_state m events r.state y r.schedule in
     let moved : Kept m at r.state.words = subst (λ (a : Places). Kept m a r.state.words) (sym r.places_are) k in
     record { kernel = moved.kernel; placed = moved.placed; words_are = λ w s. r.words_are w s ∙ moved.words_are w s }
 
--- what is written by words that agree
+-- the write of an event by words that agree
 module _ (m : Flight) (at : Places) (v w : Word → ℕ) (same : (x : Word) → IsStored m x → v x ≡ w x) where
   acts : (p : ℕ) (e : Event) → next_of m at v p ≡ Some e → p < m.procs
   acts p e i = is_less p m.procs (gate (nat_lt p m.procs) (next_from m p (v ReleaseWord) (at.proc p)) e i).0
@@ -82,7 +82,7 @@ places_same a b procs frame step =
 pub next_there : (m : Flight) (events : List Event) (at : Places) (words : Word → ℕ) (e : Event) → (r : IsReplay m events at words) → IsNext m at words e → IsNext m r.state.at r.state.words e
 next_there m events at words e r next = subst (λ (a : Places). IsNext m a r.state.words e) r.places_are (next_moved m at words r.state.words r.words_are e next)
 
--- with one event more at its end
+-- with one further event at its end
 pub replay_on : (m : Flight) (events : List Event) (at at2 : Places) (words words2 : Word → ℕ) (e : Event) → (r : IsReplay m events at words) → IsNext m at words e → Moves m at e at2
     → ((w : Word) → IsStored m w → words2 w ≡ written (writes m at words e) words w)
     → (more : IsReplay m (events ++ e ∷ []) at2 words2) × (more.state ≡ happened m r.state e)

@@ -1,4 +1,4 @@
--- What a processor that has looked finds.
+-- The snapshot of a processor that has looked.
 use Rattle.std.proofs.Common.{◌≡◌, ◌∙◌, ◌⊎◌, ℕ, pos, ◌<◌, ◌≤◌, false, refl, ap, sym, subst, arith, List, ◌∷◌, length}
 use Rattle.std.specs.Prelude.{nat_le, nat_lt, slice_index_or}
 use Rattle.std.proofs.lemmas.Bool.Decides.{nat_tests}

@@ -1,4 +1,4 @@
--- What one event leaves.
+-- The core after one event.
 use Rattle.std.proofs.Common.{◌≡◌, ◌∙◌, ℕ, ◌+◌, ◌*◌, ◌<◌, ◌≤◌, refl, ap, sym, subst, arith, List, [], ◌∷◌, ◌++◌, length}
 use Rattle.std.specs.Prelude.{Option, Some, None}
 use Rattle.std.proofs.lemmas.Grind.{common_steps}
@@ -43,7 +43,7 @@ module _ (spec : Parts) (script : ScriptParts) (places : KeptPlaces) (stored : L
   narrow : 8 * length spec.apps ≤ 64
   narrow = let most = k.facts.apps_count.few in omega (arith, most)
 
-  -- where an event is next, the kernel stands in a frame of the flight
+  -- if an event is next, the kernel is in a frame of the flight
   pub low : places.frame < script.frames
   low = kept.kernel.below flying
 

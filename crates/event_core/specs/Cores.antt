@@ -1,4 +1,4 @@
--- A core, as its callers see it, and what it keeps.
+-- A core as its callers see it, and its invariant.
 use Rattle.std.specs.Prelude.{◌≡◌, ◌≢◌, ℕ, ◌+◌, ◌≤◌, Bool, false, List, length, Option, Some, nat_eq, nat_le, if◌then◌else◌}
 use Rattle.scram_types.specs.Scripts.{ScriptParts}
 use Rattle.scram_types.specs.Specification.{IsSpec, Parts}
@@ -17,7 +17,7 @@ use Rattle.event_core.specs.Rooms.{events_left}
 use Rattle.event_core.specs.declared.cores.Illegal.{Illegal}
 use Rattle.event_core.specs.Stores.{IsEventWord}
 
--- The specification and the script that it flies, where all stand, what is stored, and the events so far.
+-- The specification and the script of a core, the places of all actors, the stored words, and the events so far.
 pub record CoreParts : Type 0 where
   pub spec : Parts
   pub script : ScriptParts
@@ -25,7 +25,7 @@ pub record CoreParts : Type 0 where
   pub stored : List ℕ
   pub history : List Event
 
--- The parts of a core that keeps these places, these words in one list, and this history.
+-- The parts of a core with these places, these words in one list, and this history.
 abbrev pub core_of : Parts → ScriptParts → KeptPlaces → List ℕ → List Event → CoreParts
 core_of spec script places stored history = record { spec = spec; script = script; places = places; stored = stored; history = history }
 
@@ -33,39 +33,39 @@ core_of spec script places stored history = record { spec = spec; script = scrip
 abbrev pub flown : CoreParts → Flight
 flown core = flight_of core.spec core.script
 
--- Where all stand in it.
+-- The places of all actors of a core.
 abbrev pub standing : CoreParts → Places
 standing core = machine_places core.places
 
--- What each word holds.
+-- The value of each word in a core.
 abbrev pub standing_words : CoreParts → Word → ℕ
 standing_words core = stored_in core.stored
 
--- An event is next in a core.
+-- An event is the next of its actor in a core.
 abbrev pub IsNextIn : CoreParts → Event → Type 0
 IsNextIn core event = IsNext (flown core) (standing core) (standing_words core) event
 
--- The next event of the actor of an event, where it has one.
+-- The next event of the actor of an event, or `None` if the actor has none.
 abbrev pub next_event : CoreParts → Event → Option Event
 next_event core event = next_of_actor (flown core) (standing core) (standing_words core) event
 
--- A word is the one that an event stores in a core.
+-- A word is a valid argument for an event in a core: the word that the event stores, if it is a store.
 abbrev pub IsWordIn : CoreParts → Event → ℕ → Type 0
 IsWordIn core event word = IsEventWord (flown core) (standing core) event word
 
--- An event takes one core on to another.
+-- An event takes one core to another.
 abbrev pub HappensIn : CoreParts → Event → CoreParts → Type 0
 HappensIn old event new = Happens (flown old) (standing old) (standing_words old) event (standing new) (standing_words new)
 
--- An event is not the next of its actor: what is told is that event, and the one that is next instead.
+-- An event is not the next of its actor, and the error holds that event and the actor's next event.
 abbrev pub RefusesEvent : CoreParts → Event → Illegal → Type 0
 RefusesEvent core event told = (next_event core event ≢ Some event) × (told.given ≡ event) × (told.next ≡ next_event core event)
 
--- How many frames have ended for the kernel: its own too, once all processors are noted in it.
+-- The number of frames that have ended for the kernel, including its own frame once all processors are noted in it.
 abbrev pub frames_ended : Parts → KeptPlaces → ℕ
 frames_ended spec places = if nat_le (length spec.procs) places.step then places.frame + 1 else places.frame
 
--- An event is the last note of a frame.
+-- Whether an event is the last note of a frame.
 abbrev pub ends_frame : Parts → Event → Bool
 ends_frame spec (KNote p) = nat_eq (p.0 + 1) (length spec.procs)
 ends_frame spec (Start p) = false
@@ -77,8 +77,8 @@ ends_frame spec (Halt p) = false
 ends_frame spec (KStore i) = false
 ends_frame spec Release = false
 
--- What the machine of a core keeps: the history is a schedule that leads to where all stand and to what is stored, and there is room for
--- every event that can still come.
+-- The invariant of a core's machine. The history is a schedule that leads to the places and the stored words, and there
+-- is room for every event that can still come.
 pub record MachineKeeps (spec : Parts) (script : ScriptParts) (places : KeptPlaces) (stored : List ℕ) (history : List Event) (room count : ℕ) : Type 0 where
   pub facts : IsSpec spec
   pub fits : Fits spec script
@@ -86,7 +86,7 @@ pub record MachineKeeps (spec : Parts) (script : ScriptParts) (places : KeptPlac
   pub replay : IsReplay (flight_of spec script) history (machine_places places) (stored_in stored)
   pub room_left : count + events_left (flight_of spec script) (machine_places places) ≤ room
 
--- What a core keeps: its machine, and the kernel after the frames that have ended.
+-- The invariant of a core: that of its machine, and its kernel is the kernel after the frames that have ended.
 pub record CoreKeeps (spec : Parts) (script : ScriptParts) (places : KeptPlaces) (stored : List ℕ) (history : List Event)
     (room count : ℕ) (kernel : KernelParts) : Type 0 where
   pub machine : MachineKeeps spec script places stored history room count

@@ -1,4 +1,4 @@
--- Processors that fly by a core.
+-- Processors that fly with a core.
 use Rattle.std.specs.Prelude.{◌≡◌, ℕ, ◌<◌, List, slice_index_or, Option, None, IfSome}
 use Rattle.fail_stop.specs.declared.snapshots.Draft.{Draft}
 use Rattle.fail_stop.specs.Events.{Place}
@@ -10,19 +10,19 @@ use Rattle.scram_types.specs.Specification.{Parts}
 use Rattle.event_core.specs.declared.flyers.Flyers.{Flyers}
 use Rattle.event_core.specs.Cores.{CoreParts, standing}
 
--- What processor p drafted last, if anything, is its draft of that frame.
+-- The last draft of processor `p`, if there is one, is its draft of that frame in the one-thread trace.
 abbrev pub IsLastDraft : Parts → ScriptParts → ℕ → Option Draft → Type 0
 IsLastDraft spec script p drafted = IfSome drafted (λ (made : Draft). made.image ≡ draft spec script p made.frame)
 
--- What each of eight processors drafted last is its draft.
+-- The last draft of each of eight processors is its draft in the one-thread trace.
 abbrev pub AreLastDrafts : Parts → ScriptParts → List (Option Draft) → Type 0
 AreLastDrafts spec script drafted = (p : ℕ) → p < 8 → IsLastDraft spec script p (slice_index_or drafted p None)
 
--- The processors stand at these places, and what each drafted last is its draft.
+-- The processors are at these places, and the last draft of each is its draft in the one-thread trace.
 pub record FlyersFit {X : Type 0} {Y : X → Type 0} (spec : Parts) (script : ScriptParts) (at : ℕ → Place) (flyers : Flyers X Y) : Type 0 where
   pub all : AreFlyersAt (flight_of spec script) at flyers.all.items
   pub drafted : AreLastDrafts spec script flyers.drafted
 
--- The processors fly by a core: they stand where those of its machine do.
+-- The processors fly with a core: they are at the places of its machine.
 abbrev pub FlyBy : {X : Type 0} {Y : X → Type 0} → CoreParts → Flyers X Y → Type 0
 FlyBy core flyers = FlyersFit core.spec core.script (standing core).proc flyers

@@ -1,4 +1,4 @@
--- The places that are kept, as those of the event machine.
+-- The places that a core keeps, as places of the event machine.
 use Rattle.std.specs.Prelude.{ℕ, ◌<◌, ◌+◌, ◌^◌, List, replicate, slice_index_or}
 use Rattle.event_core.specs.declared.places.Place.{Place as KeptPlace}
 use Rattle.event_core.specs.declared.places.Place.TheVariants as kept
@@ -6,29 +6,29 @@ use Rattle.event_core.specs.declared.places.Places.{Places as KeptPlaces}
 use Rattle.fail_stop.specs.Events.{At, Halted, Place, Places}
 use Rattle.fail_stop.specs.Flights.{Flight}
 
--- The place of the machine.
+-- A kept place as a place of the machine.
 abbrev pub machine_place : KeptPlace → Place
 machine_place (kept.At f n) = At f n
 machine_place (kept.Halted h) = Halted h
 
--- Where processor p stands among these; at the opening place past the last.
+-- The place of processor `p` in a list of places, or the opening place past the end of the list.
 abbrev pub kept_place : List KeptPlace → ℕ → KeptPlace
 kept_place procs p = slice_index_or procs p (kept.At 0 0)
 
--- The places of the machine.
+-- The kept places as places of the machine.
 abbrev pub machine_places : KeptPlaces → Places
 machine_places places = record { proc = λ p. machine_place (kept_place places.procs p); frame = places.frame; step = places.step }
 
--- All stand at the begin of frame 0.
+-- The places at the opening: all actors are at the beginning of frame 0.
 abbrev pub kept_opening : KeptPlaces
 kept_opening = record { procs = replicate 8 (kept.At 0 0); frame = 0; step = 0 }
 
--- The numbers of a place can grow by one.
+-- The numbers of a place can be increased by one without overflow.
 abbrev pub CanGoOn : KeptPlace → Type 0
 CanGoOn (kept.At f n) = (f + 1 < 2 ^ 32) × (n + 1 < 2 ^ 32)
 CanGoOn (kept.Halted h) = h + 1 < 2 ^ 32
 
--- A processor at this place has made all looks of its frame, and neither its flip nor its halt.
+-- A processor at this place has made all looks of its frame, but neither its flip nor its halt.
 abbrev pub HasLooked : Flight → Place → Type 0
 HasLooked m (At f n) = (m.procs < n) × (n < m.procs + m.width + 2)
 HasLooked m (Halted h) = ⊥

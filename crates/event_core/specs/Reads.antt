@@ -1,4 +1,4 @@
--- What is read of the words.
+-- Reads of the words.
 use Rattle.std.specs.Prelude.{ℕ, ℤ, pos, List, [], ◌∷◌, nat_lt, if◌then◌else◌}
 use Rattle.scram_types.specs.Specification.{Parts}
 use Rattle.bank_words.specs.Marks.{pick}
@@ -7,11 +7,11 @@ use Rattle.fault_script.specs.Times.{words}
 use Rattle.fail_stop.specs.Events.{BankWord, KernelWord, MarkWord}
 use Rattle.fail_stop.specs.Listed.{stored_in}
 
--- The bank of processor p that a reader in frame f takes.
+-- The bank of processor `p` that a reader in frame `f` picks.
 abbrev pub bank_taken : List ℕ → ℕ → ℕ → ℕ
 bank_taken stored f p = pick (stored_in stored (MarkWord p)) f
 
--- Word i of the image of processor p that a reader in frame f finds; 0 past the words of the specification.
+-- Word `i` of the image of processor `p` that a reader in frame `f` finds, or 0 past the words of the specification.
 abbrev pub word_read : Parts → List ℕ → ℕ → ℕ → ℕ → ℤ
 word_read spec stored f p i = if nat_lt i (words spec) then decode (stored_in stored (BankWord p (bank_taken stored f p) i)) else pos 0
 

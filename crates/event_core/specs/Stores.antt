@@ -1,4 +1,4 @@
--- What an event stores, and what its word has to be.
+-- The word of an event, and ranges of an event's numbers.
 use Rattle.std.specs.Prelude.{◌≡◌, ℕ, suc, ◌+◌, ◌^◌, ◌<◌}
 use Rattle.bank_words.specs.declared.events.Event.{Event}
 use Rattle.bank_words.specs.declared.events.Event.TheVariants.{Start, Look, Store, Flip, Done, Halt, KNote, KStore, Release}
@@ -7,8 +7,8 @@ use Rattle.event_core.specs.Places.{CanGoOn, kept_place}
 use Rattle.fail_stop.specs.Events.{Places, frame_of}
 use Rattle.fail_stop.specs.Flights.{Flight, word_in}
 
--- The word that is handed in with an event: a word of the draft with a store, a word of the kernel's next image with a
--- store of the kernel; it is free with other events.
+-- A word is valid for an event. A store needs a word of the draft, and a store of the kernel needs a word of the
+-- kernel's next image. With any other event the word is arbitrary.
 abbrev pub IsEventWord : Flight → Places → Event → ℕ → Type 0
 IsEventWord m at (Store p i) word = word ≡ word_in (m.draft p.0 (frame_of (at.proc p.0))) i
 IsEventWord m at (KStore i) word = word ≡ word_in (m.kernel_image (suc at.frame)) i
@@ -20,7 +20,8 @@ IsEventWord m at (Halt p) word = Unit {0}
 IsEventWord m at (KNote p) word = Unit {0}
 IsEventWord m at Release word = Unit {0}
 
--- The numbers of an event that writes are in range.
+-- The numbers of an event are in range. The processor that acts or is noted is below 8, and the index of a stored word
+-- is within the bank or the kernel's words.
 abbrev pub IsInside : Event → Type 0
 IsInside (Store p i) = (p.0 < 8) × (i < 64)
 IsInside (KStore i) = i < 20
@@ -32,7 +33,7 @@ IsInside (Halt p) = p.0 < 8
 IsInside (KNote p) = p.0 < 8
 IsInside Release = Unit {0}
 
--- The numbers of the actors that make an event can grow by one.
+-- The numbers of the actor of an event can be increased by one without overflow.
 abbrev pub CanMove : KeptPlaces → Event → Type 0
 CanMove places (Start p) = CanGoOn (kept_place places.procs p.0)
 CanMove places (Look p q) = CanGoOn (kept_place places.procs p.0)

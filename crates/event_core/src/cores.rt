@@ -15,7 +15,7 @@ use scram_kernel::Kernel;
 use scram_types::{Flown, NoMemory, ProcId, Row, Script, Spec};
 use std::alloc::Global;
 
-/// An event that is not the next of its actor, with that one, if there is one.
+/// An event that is not the next of its actor, with the actor's next event, if there is one.
 #[derive(Clone, Copy, Debug)]
 pub struct Illegal {
     pub given: Event,
@@ -60,7 +60,7 @@ impl<'a> Core<'a> {
     ghost use Rattle.event_core.specs.Places.{HasLooked, kept_opening};
     ghost use Rattle.event_core.specs.Rooms.{events_left};
 
-    /// Returns the core of a flight before the first event, with room for every event that can come. The only error
+    /// Returns the core of a flight before the first event, with capacity for every event that can come. The only error
     /// is out of memory.
     pub fn open(alloc: Global, spec: &'a Spec, script: &'a Script) -> Result<Core<'a>, NoMemory>
         requires { Fits spec.now script.now }
@@ -83,23 +83,23 @@ impl<'a> Core<'a> {
         })
     }
 
-    /// Returns the next event of a processor, or `None` exactly where it waits for the release, has halted for good
-    /// or has flown all frames, or does not exist.
+    /// Returns the next event of a processor. Returns `None` exactly if the processor waits for the release, has halted
+    /// for good, has flown all frames, or does not exist.
     pub fn next_of(&self, p: ProcId) -> Option<Event>
         ensures { result ≡ next_of (flown self.now) (standing self.now) (standing_words self.now) p.0 }
     {
         next_of(self.spec, self.script, &self.places, &self.stored, p)
     }
 
-    /// Returns the next event of the kernel, or `None` exactly where the processor that it would note may not be
-    /// noted yet, or all frames are noted.
+    /// Returns the next event of the kernel. Returns `None` exactly if the processor that it would note may not be
+    /// noted yet, or if all frames are noted.
     pub fn next_kernel(&self) -> Option<Event>
         ensures { result ≡ next_kernel (flown self.now) (standing self.now) (standing_words self.now) }
     {
         next_kernel(self.spec, self.script, &self.places, &self.stored)
     }
 
-    /// Returns the frame in which a processor stands; where it has halted, that in which it halted.
+    /// Returns the frame in which a processor is or in which it has halted.
     pub fn frame_of(&self, p: ProcId) -> u32
         requires { p.0 < length self.now.spec.procs }
         ensures { result ≡ frame_of ((standing self.now).proc p.0) }
@@ -107,15 +107,15 @@ impl<'a> Core<'a> {
         frame_of(kept_place(&self.places.procs, p))
     }
 
-    /// Returns the frame in which the kernel stands.
+    /// Returns the frame in which the kernel is.
     pub fn kernel_frame(&self) -> u32
         ensures { result ≡ (standing self.now).frame }
     {
         self.places.frame
     }
 
-    /// Returns the events so far: a schedule from the opening that leads to where all stand and to what
-    /// is stored.
+    /// Returns the events so far. They are a schedule from the opening that leads to the current places and stored
+    /// words.
     pub fn history(&self) -> &[Event]
         ensures history { result.now ≡ self.now.history }
         ensures schedule { IsReplay (flown self.now) self.now.history (standing self.now) (standing_words self.now) }
@@ -124,8 +124,8 @@ impl<'a> Core<'a> {
         &self.history
     }
 
-    /// Returns the rows of the frames that have ended: those in which the kernel has noted every processor, which are
-    /// the first rows of the one-thread trace.
+    /// Returns the rows of the frames that have ended, in which the kernel has noted every processor. They are the
+    /// first rows of the one-thread trace.
     pub fn rows(&self) -> &[Row]
         ensures rows { result.now ≡ rows_below self.now.spec self.now.script (frames_ended self.now.spec self.now.places) }
         ensures noted { length result.now ≡ notes_in self.now.history / length self.now.spec.procs }
@@ -133,8 +133,8 @@ impl<'a> Core<'a> {
         self.kernel.rows()
     }
 
-    /// Returns what a processor that has made all looks of its frame, and neither its flip nor its halt, finds: what
-    /// the kernel says of that frame, and every processor's image before it.
+    /// Returns the snapshot of a processor that has made all looks of its frame, but neither its flip nor its halt. It
+    /// holds the kernel image of that frame and every processor's image before it.
     pub fn snapshot(&self, p: ProcId) -> Snapshot
         requires known { p.0 < length self.now.spec.procs }
         requires looked { HasLooked (flown self.now) ((standing self.now).proc p.0) }
@@ -148,7 +148,7 @@ impl<'a> Core<'a> {
         }
     }
 
-    /// Where a flight is not over, some actor has a next event. It states this and does nothing.
+    /// States that some actor has a next event if the flight is not over, and does nothing.
     pub fn goes_on(&self)
         ensures { IsOver (flown self.now) (standing self.now) ⊎ ((event : Event) × IsNextIn self.now event) }
     {
@@ -156,7 +156,7 @@ impl<'a> Core<'a> {
         machine_goes_on();
     }
 
-    /// Word `i` of what the kernel says of the next frame, once it has noted every processor.
+    /// Returns word `i` of the kernel image of the next frame, once the kernel has noted every processor.
     pub fn kernel_word(&self, i: u8) -> u64
         requires word { i < 20 }
         requires noted { length self.now.spec.procs ≤ self.now.places.step }
@@ -165,8 +165,8 @@ impl<'a> Core<'a> {
         kernel_encode(&self.kernel.image())[usize::from(i)]
     }
 
-    /// Returns whether no event can come any more: each processor has flown all frames or has halted for good and the
-    /// kernel has made its last note, or no frame is flown.
+    /// Returns whether no further event can come. Then each processor has flown all frames or has halted for good and
+    /// the kernel has made its last note, or the flight has no frame.
     pub fn over(&self) -> bool
         ensures { IsTrue result ↔ IsOver (flown self.now) (standing self.now) }
     {
@@ -177,8 +177,7 @@ impl<'a> Core<'a> {
         frames == 0 || self.places.frame == frames - 1 && self.places.step >= procs
     }
 
-    /// Returns the rows and reports of a flight that is over: those of the one-thread trace, whatever its schedule
-    /// was.
+    /// Returns the rows and reports of a flight that is over, which are the one-thread trace whatever its schedule was.
     pub fn finish(self) -> Flown
         requires { IsOver (flown self) (standing self) }
         ensures rows { result.rows ≡ rows_of self.entry.spec self.entry.script }
@@ -187,7 +186,7 @@ impl<'a> Core<'a> {
         self.kernel.finish()
     }
 
-    /// Returns the next event of the actor of an event, as `next_of` and `next_kernel` give it.
+    /// Returns the next event of the actor of an event, as `next_of` and `next_kernel` do.
     pub fn next_of_actor(&self, event: Event) -> Option<Event>
         ensures { result ≡ next_event self.now event }
     {
@@ -204,8 +203,9 @@ impl<'a> Core<'a> {
         }
     }
 
-    /// Makes an event, where it is the next of its actor. A store comes with its word, by the draft, and a store of
-    /// the kernel with its word, by the image of the next frame. Else it says what is next, and nothing changes.
+    /// Makes an event if it is the next of its actor. For a store, `word` is the word of the draft; for a store of the
+    /// kernel, it is the word of the next frame's image. Otherwise returns `Err` with the actor's next event and
+    /// changes nothing.
     pub fn step(&mut self, event: Event, word: u64) -> Result<(), Illegal>
         requires { IsNextIn self.old event → IsWordIn self.old event word }
         ensures spec { self.new.spec ≡ self.old.spec }
@@ -237,8 +237,8 @@ impl<'a> Core<'a> {
     }
 }
 
-/// Two flights of one specification and one script that are over give equal rows and reports, whatever their
-/// schedules were.
+/// Returns the rows and reports of two flights that are over. If both are of one specification and one script, the
+/// results are equal, whatever their schedules were.
 pub fn finish_both<'a>(one: Core<'a>, other: Core<'a>) -> (Flown, Flown)
     requires spec { other.spec ≡ one.spec }
     requires script { other.script ≡ one.script }
@@ -270,7 +270,7 @@ fn opening_places() -> Places
     }
 }
 
-// Returns how many events a flight has at most.
+// Returns the maximum number of events of a flight.
 fn events_of(spec: &Spec, script: &Script) -> usize
     ensures known { IsSpec spec.now }
     ensures events { result

@@ -1,4 +1,4 @@
-//! Processors that fly by a core. The fields are public so that clauses can name them.
+//! Processors that fly with a core. The fields are public so that clauses can name them.
 
 ghost use Rattle.std.specs.Prelude.{◌≡◌, ◌<◌, IfOk, IfSome, Some, length, map, vec_len, ℕ};
 ghost use Rattle.event_core.specs.Cores.{IsNextIn, IsWordIn, flown, standing};
@@ -21,7 +21,7 @@ use fail_stop::{Draft, Flyer};
 use scram_types::{Image, NoMemory, ProcId, Spec};
 use std::alloc::Global;
 
-/// Eight processors that fly by a core, in the order of their numbers, and what each drafted last.
+/// Eight processors that fly with a core, in the order of their numbers, and the last draft of each.
 #[derive(Drop)]
 pub struct Flyers {
     pub all: Vec<Flyer>,
@@ -29,7 +29,8 @@ pub struct Flyers {
 }
 
 impl Flyers {
-    /// Returns the processors before the first frame: rack `p` is that of processor `p`, and spare rack `p` is for its restart.
+    /// Returns the processors before the first frame. Rack `p` belongs to processor `p`, and spare rack `p` is for its
+    /// restart.
     ///
     /// # Errors
     ///
@@ -48,9 +49,9 @@ impl Flyers {
         })
     }
 
-    /// Returns the word that comes with an event, which is the next of its actor, and has the actor do its part: it drafts for
-    /// the first store of a frame, halts with its halt, and lives again with a start after that. A processor drafts once in
-    /// a frame.
+    /// Returns the word for an event, which must be the next of its actor, and makes the actor do its part. A processor
+    /// drafts before the first store of a frame, once in a frame. It halts with its halt and becomes live again with
+    /// the start of its restart.
     pub fn word(&mut self, core: &Core, spec: &Spec, event: Event) -> u64
         requires spec { core.now.spec ≡ spec.now }
         requires next { IsNextIn core.now event }
@@ -97,7 +98,7 @@ impl Flyers {
         self.all[usize::from(p.0)].halt(core.frame_of(p));
     }
 
-    // Word `i` of what processor `p` drafts in the frame in which it stands.
+    // Returns word `i` of the draft of processor `p` in its current frame.
     fn draft_word(&mut self, core: &Core, spec: &Spec, p: ProcId, i: u8) -> u64
         requires spec { core.now.spec ≡ spec.now }
         requires known { p.0 < length spec.now.procs }
@@ -112,8 +113,7 @@ impl Flyers {
         stored_word(&image, i)
     }
 
-    // Returns what processor `p` drafts in the frame in which it stands: the draft that it has where it is of that
-    // frame.
+    // Returns the draft of processor `p` in its current frame: the last draft if it is of that frame, else a new one.
     fn image(&mut self, core: &Core, spec: &Spec, p: ProcId) -> Image
         requires spec { core.now.spec ≡ spec.now }
         requires known { p.0 < length spec.now.procs }
@@ -151,7 +151,7 @@ impl Flyers {
     }
 }
 
-// Word `i` of an image, as it is stored.
+// Returns word `i` of an image, encoded for storage.
 #[tactic(auto, using(fail_stop::proofs::OpeningLists::encoded_at))]
 fn stored_word(image: &Image, i: u8) -> u64
     requires { i < 64 }
@@ -160,7 +160,7 @@ fn stored_word(image: &Image, i: u8) -> u64
     encode(image[usize::from(i)])
 }
 
-// Returns the image that was drafted, where it was in this frame.
+// Returns the drafted image, or `None` if there is no draft of this frame.
 fn drafted_in(drafted: &Option<Draft>, frame: u32) -> Option<Image>
     ensures { (spec : Parts) (script : ScriptParts) (p : ℕ) → IsLastDraft spec script p drafted.now
         → IfSome result (λ image. image ≡ draft spec script p frame) }

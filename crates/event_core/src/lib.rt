@@ -1,6 +1,7 @@
-//! A core makes exactly the event that is next of its actor, and else says what would be, changing nothing. Its history
-//! is a schedule from the opening that leads to where all stand and to what is stored; when it is over, its rows and
-//! reports are the one-thread trace, whatever the schedule was.
+//! The core of a flight. It makes an event exactly if the event is the next of its actor; otherwise it returns the
+//! actor's next event and changes nothing. Its history is a schedule from the opening that leads to the current places
+//! and stored words. Once the flight is over, the core's rows and reports are the one-thread trace, whatever the
+//! schedule was.
 #![tactic(auto)]
 
 pub mod cores;

@@ -1,4 +1,4 @@
-//! Where an event moves its actor.
+//! The places of actors after an event.
 
 ghost use Rattle.std.specs.Prelude.{◌≡◌, ℕ, ◌+◌, ◌<◌, ◌^◌, nat_eq, if◌then◌else◌};
 ghost use Rattle.scram_types.specs.Specification.{Parts};
@@ -14,7 +14,7 @@ use bank_words::Event;
 use fault_script::restart_of;
 use scram_types::{ProcId, Script};
 
-/// Returns where a processor stands after an event of its own.
+/// Returns the place of a processor after an event of its own.
 fn moved(script: &Script, event: Event, p: ProcId, place: Place) -> Place
     requires { CanGoOn place }
     ensures { (spec : Parts) → machine_place result ≡ moved (flight_of spec script.now) event p.0 (machine_place place) }
@@ -74,7 +74,7 @@ fn halted_there(place: Place) -> Place
     }
 }
 
-/// Returns where all stand after an event.
+/// Returns the places of all actors after an event.
 pub(crate) fn places_after(script: &Script, places: &Places, event: Event) -> Places
     requires event { IsInside event }
     requires room { CanMove places.now event }

@@ -1,4 +1,4 @@
-//! The next event of an actor, where it stands.
+//! The next event of an actor, by its place.
 
 ghost use Rattle.std.specs.Prelude.{◌≡◌, ◌<◌, length, option_map, Some, None, if◌then◌else◌};
 ghost use Rattle.scram_types.specs.Lookups.{proc_id};
@@ -18,7 +18,7 @@ use fail_stop::words::end_index;
 use fault_script::{halt_in, restart_of};
 use scram_types::{HaltAt, ProcId, Script, Spec};
 
-/// Returns where a processor stands; at the opening place past the last.
+/// Returns the place of a processor, or the opening place if its number is past the last.
 pub(crate) fn kept_place(procs: &[Place; 8], p: ProcId) -> Place
     ensures { result ≡ kept_place procs.now p.0 }
 {

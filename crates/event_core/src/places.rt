@@ -1,13 +1,13 @@
-//! Where the actors of a flight stand.
+//! The places of the actors of a flight.
 
-/// Where a processor stands: in a frame after some steps of it, or halted in a frame.
+/// The place of a processor: in a frame after a number of steps, or halted in a frame.
 #[derive(Clone, Copy, Debug, PartialEq, Eq)]
 pub enum Place {
     At(u32, u32),
     Halted(u32),
 }
 
-/// Where each processor stands, and the kernel: its frame and the number of steps made in it.
+/// The place of each processor, and the kernel's frame and the number of steps that it has made in the frame.
 #[derive(Clone, Copy, Debug)]
 pub struct Places {
     pub procs: [Place; 8],

@@ -1,4 +1,4 @@
-//! What is read of the words.
+//! Reads of the words.
 
 ghost use Rattle.std.specs.Prelude.{◌≡◌, ℕ, ◌<◌, pos, length, slice_index_or};
 ghost use Rattle.scram_types.specs.Eights.{eight};
@@ -73,7 +73,7 @@ pub(crate) fn images_read(spec: &Spec, stored: &[u64], frame: u32) -> [Image; 8]
     ]
 }
 
-/// Returns what the kernel says of a frame, read back from its words, which are those of this image.
+/// Returns the kernel image of a frame, decoded from its words, which are those of `image`.
 pub(crate) fn kernel_read(stored: &[u64], image: &KernelImage) -> KernelImage
     requires stored { length stored.now ≡ places_of_words }
     requires held { (i : ℕ) → i < 20 → stored_in stored.now (KernelWord i) ≡ word_in (kernel_encode image.now) i }

@@ -1,4 +1,4 @@
-//! What an event stores.
+//! The stores of events.
 
 ghost use Rattle.std.specs.Prelude.{◌≡◌, suc, ◌<◌, ◌≤◌, ◌-◌, ◌%◌, length};
 ghost use Rattle.fail_stop.specs.Events.{BankWord, MarkWord, frame_of, writes};
@@ -13,7 +13,7 @@ use bank_words::{Event, mark_word};
 use fail_stop::words::{bank_index, end_index, kernel_index, mark_index};
 use scram_types::ProcId;
 
-/// Stores what an event stores, with the word that is handed in where it is a store.
+/// Writes the word that an event stores. For a store, its value is `word`.
 pub(crate) fn store(stored: &mut Vec<u64>, places: &Places, event: Event, word: u64)
     requires stored { length stored.old.items ≡ places_of_words }
     requires event { IsInside event }
@@ -57,7 +57,7 @@ pub(crate) fn frame_of(place: Place) -> u32
     }
 }
 
-// Returns how many frames there are up to that of a place.
+// Returns the number of frames up to and including that of a place.
 fn frames_through(place: Place) -> u32
     requires { CanGoOn place }
     ensures { result ≡ suc (frame_of (machine_place place)) }

@@ -1,4 +1,4 @@
--- What a processor makes of a snapshot is the definition's, and in a flight it is the draft of the one-thread trace.
+-- A processor's draft of a snapshot is that of the definition, and in a flight it is the draft of the one-thread trace.
 use Rattle.std.proofs.Common.{◌≡◌, ◌∙◌, ℕ, zero, suc, ◌+◌, ◌<◌, refl, ap, sym, subst, arith, length, Bool, true, false, List}
 use native.Mathlib.Decide.{ℕ_discrete}
 use Rattle.std.specs.Prelude.{ℤ, Option, Some, None, IfSome, option_map, if◌then◌else◌, nat_eq, nat_lt}
@@ -36,7 +36,7 @@ pub draft_is : (spec : Parts) (snap : Snapshot) (p : ℕ) (tasks : List Task) (s
     → image ≡ image_of (slot_made spec tasks seen areas own p) → image ≡ draft_made spec snap p
 draft_is spec snap p tasks seen areas own image is_tasks is_seen is_areas is_own is_image = is_image ∙ rw (is_tasks, is_seen, is_areas, is_own) refl
 
--- the slots of the first n applications are made, and those of the others stand as they stood
+-- the slots of the first n applications are made, and the others stay as they were
 
 abbrev pub MadeBelow : (ℕ → List ℤ) → ℕ → List ℤ → List ℤ → Type 0
 MadeBelow slot n old image = (b : ℕ) → b < 8 → slot_in image b ≡ (if nat_lt b n then slot b else slot_in old b)
@@ -44,7 +44,7 @@ MadeBelow slot n old image = (b : ℕ) → b < 8 → slot_in image b ≡ (if nat
 pub none_made : (slot : ℕ → List ℤ) (image : List ℤ) → MadeBelow slot 0 image image
 none_made slot image b low = let none : nat_lt b 0 ≡ false = grind (arith, nat_tests) in rw none refl
 
--- what is made is put in the place of the old slot
+-- a made slot replaces the old slot
 pub one_made : (slot : ℕ → List ℤ) (n : ℕ) (area old image after : List ℤ) → MadeBelow slot n old image → area ≡ slot n → ((b : ℕ) → b < 8 → slot_in after b ≡ (if nat_eq b n then area else slot_in image b))
     → MadeBelow slot (n + 1) old after
 one_made slot n area old image after before is put b low = put b low ∙ by_place (ℕ_discrete b n) (before b low)
@@ -59,7 +59,7 @@ one_made slot n area old image after before is put b low = put b low ∙ by_plac
         let same : nat_lt b (n + 1) ≡ nat_lt b n = grind (arith, nat_tests, d) in
         rw (other, same) was
 
--- what is not made stays
+-- a slot that is not made stays
 pub one_kept : (slot : ℕ → List ℤ) (n : ℕ) (old image : List ℤ) → MadeBelow slot n old image → slot n ≡ slot_in old n → MadeBelow slot (n + 1) old image
 one_kept slot n old image before is b low = by_place (ℕ_discrete b n) (before b low)
   where

@@ -1,4 +1,4 @@
--- What holds of the recursions over frames.
+-- Facts on the recursions over frames.
 use Rattle.std.proofs.Common.{◌≡◌, ℕ, zero, suc, ◌+◌, ◌-◌, ◌*◌, ◌%◌, ◌<◌, ◌≤◌, Bool, true, false, refl, ap, subst, ◌∙◌, arith}
 use Rattle.std.specs.Prelude.{Option, Some, None}
 use Rattle.std.proofs.lemmas.Bool.Decides.{nat_tests}
@@ -44,7 +44,7 @@ unfolding last_commit
 img_last m p zero = refl
 img_last m p (suc f) = img_last_next m p f (is_committed m p f) refl (img_last m p f)
 
--- a pass over the other bank
+-- the stores of a frame to the other bank
 pub laid_new : (m : Flight) (p f s b i old : ℕ) → b ≡ 1 - side m p f → i < s → laid m p f s b i old ≡ word_in (m.draft p f) i
 unfolding laid
 laid_new m p f s b i old e h = grind (arith, nat_tests)
@@ -127,7 +127,7 @@ back_none : (o : Option ℕ) (h g : ℕ) → ((r : ℕ) → o ≡ Some r → h <
 back_none None h g e = refl
 back_none (Some s) h g e = let late : h < s → g < s = e s refl in grind (arith, nat_tests)
 
--- between a halt in h and frame b, where no restart is up to the frame before b
+-- between a halt in h and frame b, if no restart comes up to the frame before b
 pub halted_still : (m : Flight) (p h s b : ℕ) → Flies m → m.up p h ≡ true → m.halt p h ≡ Some s → h < b → ((r : ℕ) → m.restart p ≡ Some r → h < r → b ≤ r) → Same m p (suc h) b
 halted_still m p h s b y u e l q = still m p (suc h) b (omega arith) (λ g lo hi. y.gone p h s g u e (omega arith) (back_none (m.restart p) h g (λ r i j. let k : b ≤ r = q r i j in omega arith)))
 

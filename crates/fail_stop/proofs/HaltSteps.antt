@@ -1,4 +1,4 @@
--- Which processors commit, by the one halt that a processor can have in a frame.
+-- The processors that commit, by the one halt that a processor can have in a frame.
 use Rattle.std.proofs.Common.{◌≡◌, ◌∙◌, ℕ, suc, ◌+◌, ◌<◌, ◌≤◌, refl, ap, arith, Bool, true, false, not, ◌&&◌, ◌||◌, List, [], ◌∷◌, ◌⊎◌}
 use mathlib.Core.Logic.{inl, inr}
 use Rattle.std.specs.Prelude.{◌==◌, nat_le, find, Option, Some, None, if◌then◌else◌}
@@ -67,6 +67,6 @@ early_is : (w p f : ℕ) (halts : List HaltAt) → EachNext HaltBefore halts
 early_is w p f [] next = refl
 early_is w p f (x ∷ xs) next = by_first w p f x xs next (is_halt_in p f x) refl (early_is w p f xs (tail x xs next))
 
--- which processors commit, by those that are up and by the halt in the frame
+-- the processors that commit, by those that are up and by the halt in the frame
 pub commits_by : (spec : Parts) (script : ScriptParts) → Fits spec script → (p f : ℕ) → commits spec script p f ≡ (is_up script p f && not (is_early (words spec) (halt_in script p f)))
 commits_by spec script fits p f = ap (λ b. is_up script p f && not b) (early_is (words spec) p f script.halts fits.halts_ordered)

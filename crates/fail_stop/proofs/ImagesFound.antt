@@ -1,4 +1,4 @@
--- An image whose words are those of the trace is that of the trace.
+-- An image that has the words of the trace is the image of the trace.
 use Rattle.std.proofs.Common.{◌≡◌, ◌∙◌, ℕ, suc, ℤ, pos, ◌+◌, ◌*◌, ◌/◌, ◌%◌, ◌<◌, ◌≤◌, refl, ap, sym, arith, List, [], ◌∷◌, length}
 use Rattle.std.specs.Prelude.{slice_index_or}
 use native.Mathlib.Decide.{dec_le}

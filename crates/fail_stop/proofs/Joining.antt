@@ -30,7 +30,7 @@ word_found : (slot : ℕ → List ℤ) → ((a : ℕ) → a < 8 → length (slot
 word_found slot is a i low small =
     sym (eight_at (λ j. slice_index_or (image_of slot) (8 * a + j) (pos 0)) i (pos 0) small) ∙ ap (λ (area : List ℤ). slice_index_or area i (pos 0)) (slot_found slot is a low)
 
--- an image is that of its slots
+-- an image is the concatenation of its slots
 pub of_slots : (image : List ℤ) → length image ≡ 64 → image ≡ image_of (slot_in image)
 of_slots image long =
     ext_get_or (pos 0) image (image_of (slot_in image)) (long ∙ sym (image_long (slot_in image) (λ a low. refl)))
@@ -42,7 +42,7 @@ of_slots image long =
     ∙ sym (word_found (slot_in image) (λ a low. refl) (k / 8) (k % 8) (omega arith) (omega arith))
     ∙ ap (λ (j : ℕ). get_or (image_of (slot_in image)) j (pos 0)) place)
 
--- images of the same slots are the same
+-- images with equal slots are equal
 pub image_same : (slot other : ℕ → List ℤ) → ((a : ℕ) → a < 8 → slot a ≡ other a) → image_of slot ≡ image_of other
 image_same slot other same =
     rw (
@@ -56,7 +56,8 @@ image_same slot other same =
       same 7 (omega arith),
     ) refl
 
--- The first n words of the slot of application a in an image are these, and the slots of others stand as they stood.
+-- The first `n` words of the slot of application `a` in an image are those of the area, and the other slots are as they
+-- were.
 pub record IsPut (a n : ℕ) (area old image : List ℤ) : Type 0 where
   pub long : length image ≡ 64
   pub put : (i : ℕ) → i < n → slice_index_or image (8 * a + i) (pos 0) ≡ slice_index_or area i (pos 0)

@@ -20,7 +20,7 @@ module _ (m : Flight) (at : Places) (words : Word → ℕ) where
   acting : (p : ℕ) (e : Event) → (if nat_lt p m.procs then next_from m p (words ReleaseWord) (at.proc p) else None) ≡ Some e → p < m.procs
   acting p e i = is_less p m.procs (gate (nat_lt p m.procs) (next_from m p (words ReleaseWord) (at.proc p)) e i).0
 
-  -- what an event writes is a word
+  -- an event writes an existing word
   pub target : (e : Event) → IsNext m at words e → IsTarget m (writes m at words e)
   target (Start p) i = tt
   target (Look p q) i = tt
@@ -36,7 +36,7 @@ module _ (m : Flight) (at : Places) (words : Word → ℕ) where
   target (KStore x) i = (next_kstore m at words x i).2
   target Release i = tt
 
--- two words have one place only if they are one word
+-- two words have the same index only if they are the same word
 same_index : (m : Flight) (t w : Word) → m.procs ≤ 8 → m.width ≤ 64 → IsStored m t → IsStored m w → nat_eq (index_of t) (index_of w) ≡ same_word t w
 same_index m ReleaseWord ReleaseWord np nw a b = refl
 same_index m ReleaseWord (KernelWord j) np nw a b = grind (arith, nat_tests)

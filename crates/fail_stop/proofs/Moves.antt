@@ -1,4 +1,4 @@
--- A step of a processor moves its own place and its own words: what is left to show of it.
+-- A step of a processor changes only its own place and its own words; what remains to be shown of such a step.
 use Rattle.std.proofs.Common.{◌≡◌, ◌≢◌, ℕ, ◌<◌, true, false, refl, sym, ap, ◌∙◌, arith}
 use Rattle.std.specs.Prelude.{Option, Some, None, nat_eq}
 use Rattle.std.proofs.lemmas.Bool.Decides.{nat_tests}
@@ -88,7 +88,7 @@ nat_eq_self p = grind (arith, nat_tests)
 pub nat_eq_other : (q p : ℕ) → q ≢ p → nat_eq q p ≡ false
 nat_eq_other q p n = grind (arith, nat_tests)
 
--- an event of p, which stood at y: the words of p are left to show
+-- an event of p from place y: the words of p remain to be shown
 pub by_actor : (m : Flight) (at : Places) (words : Word → ℕ) (e : Event) (at2 : Places) (words2 : Word → ℕ) (p : ℕ) (y x : Place)
     → Happens m at words e at2 words2 → Kept m at words → p < m.procs → at.proc p ≡ y
     → ((q : ℕ) → is_actor e q ≡ nat_eq q p) → moved m e p y ≡ x → frame_after at e ≡ at.frame → step_after at e ≡ at.step

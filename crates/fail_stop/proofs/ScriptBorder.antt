@@ -1,5 +1,4 @@
--- The flight of a script: which processors are up by its halts and restarts, which frames are committed, and the
--- images.
+-- The flight of a script: the processors that are up by its halts and restarts, the committed frames, and the images.
 use Rattle.std.proofs.Common.{◌≡◌, ◌∙◌, ℕ, zero, suc, ◌+◌, ◌≤◌, Bool, true, false, not, ◌&&◌, ◌||◌, refl, sym, ap, arith, List, [], ◌∷◌}
 use Rattle.std.specs.Prelude.{◌==◌, nat_le, nat_lt, find, is_some, slice_get, Option, Some, None, option_map, if◌then◌else◌}
 use Rattle.std.specs.List.{list_any}
@@ -24,7 +23,7 @@ use Rattle.fail_stop.proofs.EachState.{flies}
 use Rattle.fail_stop.proofs.FrameSteps.{img_yes, img_no, last_yes, last_no, side_yes, side_no}
 use Rattle.fail_stop.proofs.HaltSteps.{commits_by, is_early, or_false}
 
--- what is found of a list
+-- the element found in a list
 
 found_some_at : {A : Type 0} (test : A → Bool) (value : A → ℕ) (x : A) (xs : List A) (b : Bool) → is_some (option_map value (find test xs)) ≡ list_any test xs
     → is_some (option_map value (if b then Some x else find test xs)) ≡ (b || list_any test xs)
@@ -35,7 +34,7 @@ found_some : {A : Type 0} (test : A → Bool) (value : A → ℕ) (xs : List A) 
 found_some test value [] = refl
 found_some test value (x ∷ xs) = found_some_at test value x xs (test x) (found_some test value xs)
 
--- an item that is found stands in the list
+-- an element that is found occurs in the list
 record Stands {A : Type 0} (xs : List A) (x : A) : Type 0 where
   place : ℕ
   there : slice_get xs place ≡ Some x
@@ -99,7 +98,7 @@ up_by_halts spec script fits = record { up = up_by spec script fits; steps = λ 
 pub script_flies : (spec : Parts) (script : ScriptParts) → Fits spec script → Flies (flight_of spec script)
 script_flies spec script fits = flies (flight_of spec script) (up_by_halts spec script fits)
 
--- which processors commit
+-- the processors that commit
 
 mark_reached : (w : ℕ) (o : Option HaltAt) → reaches_mark w (option_map (λ (halt : HaltAt). halt.step) o) ≡ not (is_early w o)
 mark_reached w None = refl

@@ -1,29 +1,29 @@
--- What stands in each state of each schedule, fact by fact.
+-- The facts of the invariant in each state of each schedule.
 use Rattle.std.specs.Prelude.{◌≡◌, ◌⊎◌, ℕ, suc, ◌+◌, ◌-◌, ◌%◌, ◌<◌, ◌≤◌, Some, if◌then◌else◌}
 use Rattle.bank_words.specs.Marks.{mark_word, pick}
 use Rattle.fail_stop.specs.Flights.{Flight, word_in, last_commit, commit_count, image_before, bank_before}
 use Rattle.fail_stop.specs.Events.{Place, At, Halted, Places, Word, ReleaseWord, KernelWord, MarkWord, BankWord}
 use Rattle.fail_stop.specs.Kept.{is_flipped, stores_made}
 
--- The mark of p is that of all frames below this one.
+-- The number of frames that the mark of a processor at this place covers.
 abbrev pub marked : Flight → Place → ℕ
 marked m (At f n) = if is_flipped m n then suc f else f
 marked m (Halted h) = suc h
 
--- The bank that the mark does not name.
+-- The bank that the mark of processor `p` does not name.
 abbrev pub other : Flight → Places → ℕ → ℕ
 other m at p = 1 - commit_count m p (marked m (at.proc p)) % 2
 
--- Processor p reads in frame f.
+-- Processor `p` reads in frame `f`, after `n` steps of the frame.
 abbrev pub Reads : Places → ℕ → ℕ → ℕ → Type 0
 Reads at p f n = (at.proc p ≡ At f n) × (0 < n)
 
--- Processor p has no restart after frame h and up to frame k.
+-- Processor `p` has no restart after frame `h` and up to frame `k`.
 abbrev pub NoRestart : Flight → ℕ → ℕ → ℕ → Type 0
 NoRestart m p h k = (r : ℕ) → m.restart p ≡ Some r → h < r → k < r
 
--- The invariant fact by fact, with the kernel in its frame: marks and banks by the commits of their processor, where
--- processors and the kernel stand, what a note says, the kernel's words, and what a reader sees.
+-- The facts of the invariant, with the kernel in its frame. They are on marks and banks, the places of processors and
+-- kernel, notes, the kernel's words, and the words that a reader sees.
 pub record IsConsistent (m : Flight) (at : Places) (words : Word → ℕ) : Type 0 where
   pub mark : (p : ℕ) → p < m.procs → words (MarkWord p) ≡ mark_word (last_commit m p (marked m (at.proc p))) (commit_count m p (marked m (at.proc p)) % 2)
   pub marked_bank : (p i : ℕ) → p < m.procs → i < m.width → words (BankWord p (commit_count m p (marked m (at.proc p)) % 2) i)

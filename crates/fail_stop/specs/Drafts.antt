@@ -1,4 +1,4 @@
--- What a processor makes of what it sees in a frame.
+-- The drafts that a processor makes from its snapshot of a frame.
 use Rattle.std.specs.Prelude.{◌≡◌, ℕ, ◌<◌, ℤ, false, List, length, slice_index_or, Option, Some, None, if◌then◌else◌}
 use Rattle.scram_types.specs.declared.ids.ProcId.{ProcId}
 use Rattle.scram_types.specs.Eights.{eight}
@@ -14,11 +14,11 @@ use Rattle.frame_model.specs.Storage.{kernel_image}
 use Rattle.frame_model.specs.Tasks.{off_task, task_of}
 use Rattle.fail_stop.specs.declared.snapshots.Snapshot.{Snapshot}
 
--- The task of application a among eight.
+-- The task of application `a` among the eight tasks.
 abbrev pub task_among : List Task → ℕ → Task
 task_among tasks a = slice_index_or tasks a off_task
 
--- The area of application a: its slot in its keeper's image, and zeros without a keeper.
+-- The area of application `a`: its slot in its keeper's image, or zeros if it has no keeper.
 abbrev pub area_kept : List (List ℤ) → Option ProcId → ℕ → List ℤ
 area_kept images None a = zeros
 area_kept images (Some q) a = slot_in (image_in images q.0) a
@@ -27,20 +27,20 @@ area_kept images (Some q) a = slot_in (image_in images q.0) a
 abbrev pub areas_shown : Snapshot → List (List ℤ)
 areas_shown snap = eight (λ a. area_kept snap.images (keeper_at snap.kernel.keepers a) a)
 
--- What a snapshot shows of the state before its frame.
+-- The state before the frame of a snapshot, as the snapshot shows it.
 abbrev pub state_shown : Snapshot → State
 state_shown snap = record { mode = snap.kernel.mode; arrived = false; areas = areas_shown snap; keepers = snap.kernel.keepers; world = snap.kernel.world }
 
--- The area of application a after a frame with these tasks, by the law.
+-- The area of application `a` after a frame with these tasks, by the law of its kind.
 abbrev pub area_drafted : Parts → List Task → Seen → List (List ℤ) → ℕ → List ℤ
 area_drafted spec tasks seen areas a = law (kind_of_app spec a) (task_among tasks a).order (seen_in seen (task_among tasks a).mode (area_at areas a))
 
--- The slot of application a that processor p makes: the law's where the task names p, else the old one.
+-- The slot of application `a` that processor `p` makes: the area by the law if the task names `p`, else the old slot.
 abbrev pub slot_made : Parts → List Task → Seen → List (List ℤ) → List ℤ → ℕ → ℕ → List ℤ
 slot_made spec tasks seen areas image p a =
     if is_proc p (task_among tasks a).proc then area_drafted spec tasks seen areas a else slot_in image a
 
--- The image that processor p makes of a snapshot.
+-- The image that processor `p` makes of a snapshot.
 abbrev pub draft_made : Parts → Snapshot → ℕ → List ℤ
 draft_made spec snap p = image_of (slot_made
     spec
@@ -50,7 +50,8 @@ draft_made spec snap p = image_of (slot_made
     (image_in snap.images p)
     p)
 
--- A snapshot is that of frame f of a script: it has what the kernel says of the frame, and all images before it.
+-- A snapshot is that of frame `f` of a script: it has the kernel image of the frame and the images of all processors
+-- before it.
 pub record IsSnapshot (spec : Parts) (script : ScriptParts) (f : ℕ) (snap : Snapshot) : Type 0 where
   pub kernel : snap.kernel ≡ kernel_image spec script f
   pub images : (q : ℕ) → q < length spec.procs → image_in snap.images q ≡ image_after spec script q f

@@ -1,4 +1,4 @@
--- The event machine: places, words, the next event of an actor, what an event does.
+-- The event machine: places, words, the next event of an actor, and the effect of an event.
 use Rattle.std.specs.Prelude.{◌≡◌, ℕ, zero, suc, ◌+◌, ◌-◌, ◌*◌, ◌/◌, ◌%◌, ◌<◌, Bool, true, false, not, ◌&&◌, ◌||◌, Option, Some, None, if◌then◌else◌, nat_lt, nat_le, nat_eq}
 use Rattle.bank_words.specs.declared.events.Event.{Event}
 use Rattle.bank_words.specs.declared.events.Event.TheVariants.{Start, Look, Store, Flip, Done, Halt, KNote, KStore, Release}
@@ -6,18 +6,19 @@ use Rattle.bank_words.specs.Marks.{mark_word}
 use Rattle.scram_types.specs.Lookups.{proc_id}
 use Rattle.fail_stop.specs.Flights.{Flight, word_in, back_by}
 
--- A frame and the steps made in it, or halted in a frame.
+-- The place of a processor: a frame and the number of steps made in it, or the frame in which it has halted.
 pub data Place : Type 0 where
   At : ℕ → ℕ → Place
   Halted : ℕ → Place
 
--- Where each processor stands, and the kernel: its frame and the number of steps made in it.
+-- The place of each processor, and the kernel's frame and the number of steps that it has made in the frame.
 pub record Places : Type 0 where
   pub proc : ℕ → Place
   pub frame : ℕ
   pub step : ℕ
 
--- The words: the release, the kernel's twenty, and of each processor its mark, its end word and two banks.
+-- The shared words: the release, the kernel's twenty words, and the mark, the end word and the two banks of each
+-- processor.
 pub data Word : Type 0 where
   ReleaseWord : Word
   KernelWord : ℕ → Word
@@ -25,12 +26,13 @@ pub data Word : Type 0 where
   EndWord : ℕ → Word
   BankWord : ℕ → ℕ → ℕ → Word
 
--- The halt of a frame, if there is one, is step n: it comes after the start, the looks and its number of stores.
+-- Whether the halt of a frame, if there is one, is step `n`. It comes after the start, the looks and its number of
+-- stores.
 abbrev pub halts_at : Flight → ℕ → Option ℕ → Bool
 halts_at m n None = false
 halts_at m n (Some s) = nat_eq n (m.procs + 1 + s)
 
--- The event after n steps of a frame that nothing cuts: start, looks, stores, flip, done.
+-- The event after `n` steps of a frame without a halt: start, looks, stores, flip, done.
 abbrev pub plan_step : Flight → ℕ → ℕ → Option Event
 plan_step m p n =
     if nat_eq n 0 then Some (Start (proc_id p))
@@ -39,30 +41,32 @@ plan_step m p n =
     else (if nat_eq n (m.procs + 1 + m.width) then Some (Flip (proc_id p))
     else (if nat_eq n (m.procs + 2 + m.width) then Some (Done (proc_id p)) else None))))
 
--- The event of processor p after n steps of frame f: the halt takes the place of all that would follow.
+-- The event of processor `p` after `n` steps of frame `f`. A halt replaces all the events that would follow.
 abbrev pub plan : Flight → ℕ → ℕ → ℕ → Option Event
 plan m p f n = if halts_at m n (m.halt p f) then Some (Halt (proc_id p)) else plan_step m p n
 
--- Of a processor that has halted in frame h: the start of its restart's frame, once that is released.
+-- The next event of a processor that has halted in frame `h`: the start of its restart's frame once that frame is
+-- released.
 abbrev pub next_halted : ℕ → ℕ → ℕ → Option ℕ → Option Event
 next_halted p h release None = None
 next_halted p h release (Some r) = if nat_lt h r && nat_lt r release then Some (Start (proc_id p)) else None
 
--- The next event of processor p where it stands, if there is one, by the release.
+-- The next event of processor `p` from its place by the release, or `None` if there is none.
 abbrev pub next_from : Flight → ℕ → ℕ → Place → Option Event
 next_from m p release (At f zero) = if nat_lt f m.frames && nat_lt f release then Some (Start (proc_id p)) else None
 next_from m p release (At f (suc n)) = plan m p f (suc n)
 next_from m p release (Halted h) = next_halted p h release (m.restart p)
 
--- The next event of processor p; none where it does not exist.
+-- The next event of processor `p`, or `None` if there is none or `p` does not exist.
 abbrev pub next_of : Flight → Places → (Word → ℕ) → ℕ → Option Event
 next_of m at words p = if nat_lt p m.procs then next_from m p (words ReleaseWord) (at.proc p) else None
 
--- The end word e of p lets the kernel note p in frame k.
+-- Whether the end word `e` of `p` lets the kernel note `p` in frame `k`.
 abbrev pub may_note : Flight → ℕ → ℕ → ℕ → Bool
 may_note m p k e = nat_eq e (2 * suc k) || (nat_eq (e % 2) 1 && not (back_by (m.restart p) (e / 2) k))
 
--- The next event of the kernel, if there is one: a note of each processor in order, its twenty stores, the release.
+-- The next event of the kernel, or `None` if there is none: a note of each processor in order, its twenty stores, the
+-- release.
 abbrev pub next_kernel : Flight → Places → (Word → ℕ) → Option Event
 next_kernel m at words =
     if nat_lt at.frame m.frames
@@ -86,11 +90,11 @@ next_of_actor m at words (KNote p) = next_kernel m at words
 next_of_actor m at words (KStore i) = next_kernel m at words
 next_of_actor m at words Release = next_kernel m at words
 
--- An event is the next one of its actor.
+-- An event is the next event of its actor.
 abbrev pub IsNext : Flight → Places → (Word → ℕ) → Event → Type 0
 IsNext m at words e = next_of_actor m at words e ≡ Some e
 
--- Processor q is the actor of an event.
+-- Whether processor `q` is the actor of an event.
 abbrev pub is_actor : Event → ℕ → Bool
 is_actor (Start p) q = nat_eq q p.0
 is_actor (Look p i) q = nat_eq q p.0
@@ -102,32 +106,32 @@ is_actor (KNote p) q = false
 is_actor (KStore i) q = false
 is_actor Release q = false
 
--- Where a halted processor stands after its start.
+-- The place of a halted processor after its start.
 abbrev pub back_at : Option ℕ → Place → Place
 back_at None place = place
 back_at (Some r) place = At r 1
 
--- One step on.
+-- The place after one step.
 abbrev pub one_on : Place → Place
 one_on (At f n) = At f (suc n)
 one_on (Halted h) = Halted h
 
--- After a start: one step on, and in the frame of its restart where it had halted.
+-- The place after a start: one step further, or in the frame of the restart if the processor had halted.
 abbrev pub started : Option ℕ → Place → Place
 started restart (At f n) = At f (suc n)
 started restart (Halted h) = back_at restart (Halted h)
 
--- At the begin of the next frame.
+-- The place at the beginning of the next frame.
 abbrev pub frame_on : Place → Place
 frame_on (At f n) = At (suc f) 0
 frame_on (Halted h) = Halted h
 
--- Halted in its frame.
+-- The place after a halt in the frame of this place.
 abbrev pub halted_there : Place → Place
 halted_there (At f n) = Halted f
 halted_there (Halted h) = Halted h
 
--- Where an event moves its actor, processor q.
+-- The place to which an event moves its actor, processor `q`.
 abbrev pub moved : Flight → Event → ℕ → Place → Place
 moved m (Start p) q place = started (m.restart q) place
 moved m (Look p i) q place = one_on place
@@ -139,7 +143,7 @@ moved m (KNote p) q place = place
 moved m (KStore i) q place = place
 moved m Release q place = place
 
--- Where processor q stands after an event.
+-- The place of processor `q` after an event.
 abbrev pub proc_after : Flight → Places → Event → ℕ → Place
 proc_after m at e q = if is_actor e q then moved m e q (at.proc q) else at.proc q
 
@@ -155,7 +159,7 @@ frame_after at (Halt p) = at.frame
 frame_after at (KNote p) = at.frame
 frame_after at (KStore i) = at.frame
 
--- The kernel's steps in its frame after an event.
+-- The number of steps that the kernel has made in its frame after an event.
 abbrev pub step_after : Places → Event → ℕ
 step_after at Release = 0
 step_after at (KNote p) = suc at.step
@@ -172,17 +176,17 @@ abbrev pub frame_of : Place → ℕ
 frame_of (At f n) = f
 frame_of (Halted h) = h
 
--- The processor has halted.
+-- Whether the processor at this place has halted.
 abbrev pub is_halted : Place → Bool
 is_halted (At f n) = false
 is_halted (Halted h) = true
 
--- Where a processor stands after the whole of frame f, by the halt in it.
+-- The place of a processor after the whole of frame `f`, by the halt in the frame.
 abbrev pub after_frame : ℕ → Option ℕ → Place
 after_frame f None = At (suc f) 0
 after_frame f (Some s) = Halted f
 
--- The word that an event writes, and what it writes there.
+-- The word that an event writes and its new value, or `None` if the event writes none.
 abbrev pub writes : Flight → Places → (Word → ℕ) → Event → Option (Word × ℕ)
 writes m at words (Store p i) = Some (BankWord p.0 (1 - words (MarkWord p.0) % 2) i, word_in (m.draft p.0 (frame_of (at.proc p.0))) i)
 writes m at words (Flip p) = Some (MarkWord p.0, mark_word (suc (frame_of (at.proc p.0))) (1 - words (MarkWord p.0) % 2))
@@ -194,7 +198,7 @@ writes m at words (Start p) = None
 writes m at words (Look p i) = None
 writes m at words (KNote p) = None
 
--- Two words are one.
+-- Whether two words are the same word.
 abbrev pub same_word : Word → Word → Bool
 same_word ReleaseWord ReleaseWord = true
 same_word (KernelWord i) (KernelWord j) = nat_eq i j
@@ -203,12 +207,12 @@ same_word (EndWord p) (EndWord q) = nat_eq p q
 same_word (BankWord p b i) (BankWord q c j) = nat_eq p q && (nat_eq b c && nat_eq i j)
 same_word _ _ = false
 
--- A word after a write, if there is one.
+-- The value of a word after a write, if there is one.
 abbrev pub written : Option (Word × ℕ) → (Word → ℕ) → Word → ℕ
 written None words w = words w
 written (Some t) words w = if same_word t.0 w then t.1 else words w
 
--- A word exists: it is of a processor that exists, and its numbers are in range.
+-- A word exists: its processor exists, and its numbers are in range.
 abbrev pub IsStored : Flight → Word → Type 0
 IsStored m ReleaseWord = Unit {0}
 IsStored m (KernelWord i) = i < 20
@@ -216,13 +220,13 @@ IsStored m (MarkWord p) = p < m.procs
 IsStored m (EndWord p) = p < m.procs
 IsStored m (BankWord p b i) = (p < m.procs) × (b < 2) × (i < m.width)
 
--- Event e takes the machine from at, words to at2, words2.
+-- Event `e` takes the machine from places `at` and words `words` to places `at2` and words `words2`.
 pub record Happens (m : Flight) (at : Places) (words : Word → ℕ) (e : Event) (at2 : Places) (words2 : Word → ℕ) : Type 0 where
   pub proc : (q : ℕ) → at2.proc q ≡ proc_after m at e q
   pub frame : at2.frame ≡ frame_after at e
   pub step : at2.step ≡ step_after at e
   pub words_are : (w : Word) → IsStored m w → words2 w ≡ written (writes m at words e) words w
 
--- All places after an event.
+-- The places after an event.
 abbrev pub places_after : Flight → Places → Event → Places
 places_after m at e = record { proc = proc_after m at e; frame = frame_after at e; step = step_after at e }

@@ -1,8 +1,9 @@
--- What the law of the event machine needs of a mission: numbers, processors that are up, halts and restarts, images.
+-- The parts of a mission that the law of the event machine needs: sizes, processors that are up, halts and restarts,
+-- images.
 use Rattle.std.specs.Prelude.{◌≡◌, ℕ, zero, suc, ◌+◌, ◌-◌, ◌*◌, ◌<◌, ◌≤◌, min, Bool, true, false, ◌&&◌, List, get_or, Option, Some, None, if◌then◌else◌, nat_lt, nat_le, nat_eq}
 use Rattle.bank_words.specs.Marks.{mark_word}
 
--- A flight by functions: the numbers of frames, processors and words of an image, the processors that are up, the
+-- A flight as functions: the numbers of frames, of processors and of words of an image, the processors that are up, the
 -- step of a halt and the frame of a restart, start images, drafts and the kernel's words.
 pub record Flight : Type 0 where
   pub frames : ℕ
@@ -15,12 +16,13 @@ pub record Flight : Type 0 where
   pub draft : ℕ → ℕ → List ℕ
   pub kernel_image : ℕ → List ℕ
 
--- A restart after frame h and up to frame g.
+-- Whether a restart, if there is one, comes after frame `h` and no later than frame `g`.
 abbrev pub back_by : Option ℕ → ℕ → ℕ → Bool
 back_by None h g = false
 back_by (Some r) h g = nat_lt h r && nat_le r g
 
--- What makes a flight one of a script: a processor that halts is down from the next frame on, until its restart.
+-- Processors are up as in the flight of a script: a processor that halts is down from the next frame on, until its
+-- restart.
 pub record Flies (m : Flight) : Type 0 where
   pub first : (p : ℕ) → m.up p 0 ≡ true
   pub stays : (p f : ℕ) → m.up p f ≡ true → m.halt p f ≡ None → m.up p (suc f) ≡ true
@@ -28,67 +30,67 @@ pub record Flies (m : Flight) : Type 0 where
   pub back : (p h s r : ℕ) → m.up p h ≡ true → m.halt p h ≡ Some s → m.restart p ≡ Some r → h < r → m.up p r ≡ true
   pub step : (p f s : ℕ) → m.halt p f ≡ Some s → s ≤ m.width + 1
 
--- Word i of an image.
+-- Word `i` of an image.
 abbrev pub word_in : List ℕ → ℕ → ℕ
 word_in image i = get_or image i 0
 
--- The mark is reached: no halt, or one after the flip.
+-- Whether the mark is reached: there is no halt, or the halt comes after the flip.
 abbrev pub reaches_mark : ℕ → Option ℕ → Bool
 reaches_mark width None = true
 reaches_mark width (Some s) = nat_lt width s
 
--- Processor p commits frame f: it is up and reaches its mark.
+-- Whether processor `p` commits frame `f`: it is up and reaches its mark.
 unfoldable pub is_committed : Flight → ℕ → ℕ → Bool
 is_committed m p f = m.up p f && reaches_mark m.width (m.halt p f)
 
--- The image of processor p as frame f begins.
+-- The image of processor `p` at the beginning of frame `f`.
 unfoldable pub image_before : Flight → ℕ → ℕ → List ℕ
 image_before m p zero = m.start p
 image_before m p (suc f) = if is_committed m p f then m.draft p f else image_before m p f
 
--- The number of frames up to the last one below f that p commits, 0 without one.
+-- The number of frames up to the last frame below `f` that `p` commits, or 0 if there is none.
 unfoldable pub last_commit : Flight → ℕ → ℕ → ℕ
 last_commit m p zero = 0
 last_commit m p (suc f) = if is_committed m p f then suc f else last_commit m p f
 
--- How many frames below f processor p commits.
+-- The number of frames below `f` that processor `p` commits.
 unfoldable pub commit_count : Flight → ℕ → ℕ → ℕ
 commit_count m p zero = 0
 commit_count m p (suc f) = if is_committed m p f then suc (commit_count m p f) else commit_count m p f
 
--- The bank that the mark names when frame f begins.
+-- The bank that the mark names at the beginning of frame `f`.
 unfoldable pub side : Flight → ℕ → ℕ → ℕ
 side m p zero = 0
 side m p (suc f) = if is_committed m p f then 1 - side m p f else side m p f
 
--- The mark of processor p as frame f begins.
+-- The mark of processor `p` at the beginning of frame `f`.
 abbrev pub mark_before : Flight → ℕ → ℕ → ℕ
 mark_before m p f = mark_word (last_commit m p f) (side m p f)
 
--- The end word that a frame leaves, by the halt in it.
+-- The end word that a frame leaves, by the halt in the frame.
 abbrev pub end_word_after : ℕ → Option ℕ → ℕ
 end_word_after f None = 2 * suc f
 end_word_after f (Some s) = 2 * f + 1
 
--- The end word of processor p as frame f begins.
+-- The end word of processor `p` at the beginning of frame `f`.
 unfoldable pub end_before : Flight → ℕ → ℕ → ℕ
 end_before m p zero = 0
 end_before m p (suc f) = if m.up p f then end_word_after f (m.halt p f) else end_before m p f
 
--- The stores of a frame in which a processor is up, by the halt in it.
+-- The number of stores in a frame in which a processor is up, by the halt in the frame.
 abbrev pub stores_by : ℕ → Option ℕ → ℕ
 stores_by width None = width
 stores_by width (Some s) = min s width
 
--- The stores that processor p makes in frame f.
+-- The number of stores that processor `p` makes in frame `f`.
 unfoldable pub stores_in : Flight → ℕ → ℕ → ℕ
 stores_in m p f = if m.up p f then stores_by m.width (m.halt p f) else 0
 
--- Word i of bank b of p after s stores of frame f, where it was old as the frame began.
+-- Word `i` of bank `b` of `p` after `s` stores of frame `f`, if the word was `old` at the beginning of the frame.
 unfoldable pub laid : Flight → ℕ → ℕ → ℕ → ℕ → ℕ → ℕ → ℕ
 laid m p f s b i old = if nat_eq b (1 - side m p f) && nat_lt i s then word_in (m.draft p f) i else old
 
--- The word that p stored there last in a frame below f, or the opening word.
+-- Word `i` of bank `b` at the beginning of frame `f`: the word that `p` stored there last, or the opening word.
 unfoldable pub bank_before : Flight → ℕ → ℕ → ℕ → ℕ → ℕ
 bank_before m p zero b i = if nat_eq b 0 then word_in (m.start p) i else 0
 bank_before m p (suc f) b i = laid m p f (stores_in m p f) b i (bank_before m p f b i)

@@ -1,4 +1,5 @@
--- What holds of places and words in each state of each schedule of a script that fits its specification.
+-- The law of events: the invariant on places and words in each state of each schedule of a script that fits its
+-- specification.
 use Rattle.std.specs.Prelude.{◌≡◌, ◌⊎◌, ℕ, suc, ◌<◌, List, length}
 use Rattle.scram_types.specs.Scripts.{ScriptParts}
 use Rattle.scram_types.specs.Specification.{IsSpec, Parts}
@@ -33,13 +34,14 @@ pub record IsOfTrace (spec : Parts) (script : ScriptParts) : Type 0 where
 abbrev pub FlightsAreOfTraces : Type 0
 FlightsAreOfTraces = (spec : Parts) (script : ScriptParts) → Fits spec script → IsOfTrace spec script
 
--- The opening has the invariant.
+-- The opening satisfies the invariant.
 abbrev pub OpeningKeeps : Type 0
 OpeningKeeps = (spec : Parts) (script : ScriptParts) → Fits spec script
     → Kept (flight_of spec script) opening_places (opening_words (flight_of spec script))
 
--- What stands in a list of words before the first event: the release is 1, or 0 where no frame is flown; the kernel's words
--- are those of frame 0; marks and end words are 0; bank 0 of each processor holds its image before frame 0, bank 1 zeros.
+-- A list holds the words before the first event. The release is 1, or 0 if the flight has no frame, the kernel's words
+-- are those of frame 0, and marks and end words are 0. Bank 0 of each processor holds its image before frame 0, and
+-- bank 1 holds zeros.
 pub record IsOpening (spec : Parts) (script : ScriptParts) (list : List ℕ) : Type 0 where
   pub long : length list ≡ places_of_words
   pub released : 0 < script.frames → stored_in list ReleaseWord ≡ 1
@@ -51,12 +53,12 @@ pub record IsOpening (spec : Parts) (script : ScriptParts) (list : List ℕ) : T
       → stored_in list (BankWord p 0 i) ≡ word_in (image_words_after spec script p 0) i
   pub empty : (p i : ℕ) → p < length spec.procs → i < width_of spec → stored_in list (BankWord p 1 i) ≡ 0
 
--- The list in which the words are laid out at the opening has the opening words.
+-- The opening list of a script holds the opening words.
 abbrev pub OpeningListsAreOfScripts : Type 0
 OpeningListsAreOfScripts = (spec : Parts) (script : ScriptParts) → IsSpec spec
     → IsOpening spec script (opening_list script.frames (kernel_words spec script 0) (state_after spec script 0).areas (state_after spec script 0).keepers)
 
--- An event that is next of its actor keeps the invariant.
+-- An event that is the next of its actor keeps the invariant.
 abbrev pub EventsKeep : Type 0
 EventsKeep = (spec : Parts) (script : ScriptParts) → Fits spec script
     → (at : Places) (words : Word → ℕ) (event : Event) (at_after : Places) (words_after : Word → ℕ)
@@ -64,7 +66,7 @@ EventsKeep = (spec : Parts) (script : ScriptParts) → Fits spec script
     → Happens (flight_of spec script) at words event at_after words_after
     → Kept (flight_of spec script) at_after words_after
 
--- The same over one list of words.
+-- An event that is the next of its actor keeps the invariant over one list of words.
 abbrev pub EventsKeepLists : Type 0
 EventsKeepLists = (spec : Parts) (script : ScriptParts) → IsSpec spec → Fits spec script
     → (at : Places) (list : List ℕ) (event : Event) (at_after : Places)
@@ -72,19 +74,19 @@ EventsKeepLists = (spec : Parts) (script : ScriptParts) → IsSpec spec → Fits
     → Moves (flight_of spec script) at event at_after
     → Kept (flight_of spec script) at_after (stored_in (list_after list (writes (flight_of spec script) at (stored_in list) event)))
 
--- The invariant fact by fact.
+-- The invariant gives each fact of `IsConsistent`.
 abbrev pub KeptIsConsistent : Type 0
 KeptIsConsistent = (spec : Parts) (script : ScriptParts) → Fits spec script → (at : Places) (words : Word → ℕ)
     → Kept (flight_of spec script) at words → IsConsistent (flight_of spec script) at words
 
--- Each state of each schedule has the invariant.
+-- Each state of each schedule satisfies the invariant.
 abbrev pub SchedulesKeep : Type 0
 SchedulesKeep = (spec : Parts) (script : ScriptParts) → Fits spec script → (events : List Event) (state : Machine)
     → IsSchedule (flight_of spec script) (opening (flight_of spec script)) events state
     → Kept (flight_of spec script) state.at state.words × IsConsistent (flight_of spec script) state.at state.words
 
--- What a processor that reads in frame f finds: the bank that it picks of q is the same all along, and holds the image
--- of q after the first f frames; the kernel's words are those of frame f.
+-- A processor that reads in frame `f` finds the words of that frame. The bank that it picks of `q` stays the same and
+-- holds the image of `q` after the first `f` frames; the kernel's words are those of frame `f`.
 pub record Finds (spec : Parts) (script : ScriptParts) (words : Word → ℕ) (f : ℕ) : Type 0 where
   pub picked : (q : ℕ) → q < length spec.procs → pick (words (MarkWord q)) f ≡ image_bank_after spec script q f
   pub held : (q i : ℕ) → q < length spec.procs → i < width_of spec
@@ -96,7 +98,7 @@ abbrev pub ReadersFind : Type 0
 ReadersFind = (spec : Parts) (script : ScriptParts) → Fits spec script → (at : Places) (words : Word → ℕ)
     → Kept (flight_of spec script) at words → (p f n : ℕ) → p < length spec.procs → Reads at p f n → Finds spec script words f
 
--- What a note fixes: the mark of p is that of all frames up to the kernel's, and the marked bank holds its image after them.
+-- The mark of `p` is that of all frames up to the kernel's, and the marked bank holds the image of `p` after them.
 pub record IsNoted (spec : Parts) (script : ScriptParts) (words : Word → ℕ) (k p : ℕ) : Type 0 where
   pub mark : words (MarkWord p) ≡ mark_after spec script p (suc k)
   pub held : (i : ℕ) → i < width_of spec
@@ -107,23 +109,23 @@ abbrev pub NotesFix : Type 0
 NotesFix = (spec : Parts) (script : ScriptParts) → Fits spec script → (at : Places) (words : Word → ℕ)
     → Kept (flight_of spec script) at words → (p : ℕ) → p < length spec.procs → p < at.step → IsNoted spec script words at.frame p
 
--- Where the machine is not over, some actor has a next event.
+-- If the machine is not over, some actor has a next event.
 abbrev pub MachineGoesOn : Type 0
 MachineGoesOn = (spec : Parts) (script : ScriptParts) → Fits spec script → (at : Places) (words : Word → ℕ)
     → Kept (flight_of spec script) at words
     → IsOver (flight_of spec script) at ⊎ ((event : Event) × IsNext (flight_of spec script) at words event)
 
--- What a bank holds as a frame begins was stored there last, or is its opening word.
+-- At the beginning of a frame, each word of a bank is the word stored there last, or the opening word.
 abbrev pub BanksHoldTheLastStores : Type 0
 BanksHoldTheLastStores = (spec : Parts) (script : ScriptParts) (p f b i : ℕ)
     → IsStoredLast (flight_of spec script) p f b i (bank_before (flight_of spec script) p f b i)
 
--- What the kernel says of a frame comes back from the words of it.
+-- The kernel image of a frame can be decoded from its words.
 abbrev pub KernelImagesComeBack : Type 0
 KernelImagesComeBack = (spec : Parts) (script : ScriptParts) (f : ℕ) → IsSpec spec → Fits spec script → f < 4294967296
     → kernel_decode (kernel_words spec script f) ≡ kernel_image spec script f
 
--- What a processor makes of the snapshot of frame f is what it drafts in frame f of the one-thread trace.
+-- The draft that a processor makes of the snapshot of frame `f` is its draft in frame `f` of the one-thread trace.
 abbrev pub DraftsAreOfTraces : Type 0
 DraftsAreOfTraces = (spec : Parts) (script : ScriptParts) → IsSpec spec → (f p : ℕ) (snap : Snapshot) → p < length spec.procs
     → IsSnapshot spec script f snap → draft_made spec snap p ≡ draft spec script p f

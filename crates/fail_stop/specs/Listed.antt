@@ -1,11 +1,11 @@
--- The words in one list.
+-- The shared words in one list.
 use Rattle.std.specs.Prelude.{◌≡◌, ℕ, ◌+◌, ◌*◌, ◌≤◌, List, length, Option, Some, None, slice_index, slice_set}
 use Rattle.fail_stop.specs.Flights.{Flight}
 use Rattle.bank_words.specs.declared.events.Event.{Event}
 use Rattle.fail_stop.specs.Events.{Places, Word, ReleaseWord, KernelWord, MarkWord, EndWord, BankWord, proc_after, frame_after, step_after}
 
--- The place of a word, by the limits: 8 processors and 64 words a bank. The release has a line of 64 bytes of its own,
--- and so has each processor what it writes.
+-- The index of a word, for at most 8 processors and 64 words of a bank. The release has a cache line of 64 bytes of its
+-- own, and so have the words that each processor writes.
 abbrev pub index_of : Word → ℕ
 index_of ReleaseWord = 0
 index_of (KernelWord i) = 8 + i
@@ -13,11 +13,11 @@ index_of (MarkWord p) = 32 + 136 * p
 index_of (EndWord p) = 33 + 136 * p
 index_of (BankWord p b i) = 40 + 136 * p + 64 * b + i
 
--- How many places there are.
+-- The number of indices.
 abbrev pub places_of_words : ℕ
 places_of_words = 1120
 
--- The word that stands in a list at its place.
+-- The value of a word in a list.
 abbrev pub stored_in : List ℕ → Word → ℕ
 stored_in list w = slice_index list (index_of w)
 
@@ -26,13 +26,13 @@ abbrev pub list_after : List ℕ → Option (Word × ℕ) → List ℕ
 list_after list None = list
 list_after list (Some t) = slice_set list (index_of t.0) t.1
 
--- A list has a place for each word.
+-- A list has an entry for each word.
 pub record HoldsWords (m : Flight) (list : List ℕ) : Type 0 where
   pub procs : m.procs ≤ 8
   pub width : m.width ≤ 64
   pub long : length list ≡ places_of_words
 
--- Event e moves its actor's place alone.
+-- Event `e` moves the place of its actor alone.
 pub record Moves (m : Flight) (at : Places) (e : Event) (at2 : Places) : Type 0 where
   pub proc : (q : ℕ) → at2.proc q ≡ proc_after m at e q
   pub frame : at2.frame ≡ frame_after at e

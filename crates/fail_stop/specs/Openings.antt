@@ -1,5 +1,5 @@
--- The words at the opening, in one list: by the number of frames, the kernel's words of the first frame, and the areas and
--- their keepers before it.
+-- The list of words at the opening. It depends on the number of frames, on the kernel's words of the first frame, and
+-- on the areas and their keepers before that frame.
 use Rattle.std.specs.Prelude.{ℕ, ◌-◌, ◌/◌, ◌%◌, ℤ, pos, List, slice_index, slice_index_or, Option, nat_eq, nat_lt, if◌then◌else◌}
 use Rattle.scram_types.specs.declared.ids.ProcId.{ProcId}
 use Rattle.bank_words.specs.Numbers.{encode}
@@ -8,17 +8,17 @@ use Rattle.frame_model.specs.Flights.{is_proc}
 use Rattle.frame_model.specs.States.{area_at, keeper_at}
 use Rattle.fail_stop.specs.Listed.{places_of_words}
 
--- Word i of the start image of processor p.
+-- Word `i` of the start image of processor `p`.
 abbrev pub start_word : List (List ℤ) → List (Option ProcId) → ℕ → ℕ → ℕ
 start_word areas keepers p i =
     if is_proc p (keeper_at keepers (i / 8)) then encode (slice_index_or (area_at areas (i / 8)) (i % 8) (pos 0)) else 0
 
--- Word r of what processor p writes: bank 0 holds its start image, all others are 0.
+-- Word `r` of the words that processor `p` writes: bank 0 holds its start image, and all others are 0.
 abbrev pub proc_opening : List (List ℤ) → List (Option ProcId) → ℕ → ℕ → ℕ
 proc_opening areas keepers p r =
     if nat_lt r 8 then 0 else (if nat_lt r 72 then start_word areas keepers p (r - 8) else 0)
 
--- The word at place n.
+-- The word at index `n`.
 abbrev pub opening_at : ℕ → List ℕ → List (List ℤ) → List (Option ProcId) → ℕ → ℕ
 opening_at frames first areas keepers n =
     if nat_eq n 0 then (if nat_eq frames 0 then 0 else 1)

@@ -1,4 +1,4 @@
--- The flight that a script makes of a specification: the one border between the event machine and both.
+-- The flight that a script makes of a specification. The event machine meets scripts and specifications only here.
 use Rattle.std.specs.Prelude.{ℕ, ℤ, List, length, map, Option, option_map}
 use Rattle.scram_types.specs.declared.scripts.HaltAt.{HaltAt}
 use Rattle.scram_types.specs.Scripts.{ScriptParts}
@@ -10,7 +10,7 @@ use Rattle.frame_model.specs.Flights.{draft, image_after}
 use Rattle.frame_model.specs.Storage.{kernel_image}
 use Rattle.fail_stop.specs.Flights.{Flight}
 
--- The step at which processor p halts in frame f, if it does.
+-- The step at which processor `p` halts in frame `f`, or `None` if it does not halt there.
 abbrev pub halt_step : ScriptParts → ℕ → ℕ → Option ℕ
 halt_step script p f = option_map (λ (halt : HaltAt). halt.step) (halt_in script p f)
 
@@ -18,20 +18,20 @@ halt_step script p f = option_map (λ (halt : HaltAt). halt.step) (halt_in scrip
 abbrev pub image_words : List ℤ → List ℕ
 image_words image = map encode image
 
--- The words of the image of processor p after the first f frames, and of what it drafts in frame f.
+-- The words of the image of processor `p` after the first `f` frames.
 abbrev pub image_words_after : Parts → ScriptParts → ℕ → ℕ → List ℕ
 image_words_after spec script p f = image_words (image_after spec script p f)
 
--- The words that processor p stores in frame f.
+-- The words that processor `p` stores in frame `f`.
 abbrev pub draft_words : Parts → ScriptParts → ℕ → ℕ → List ℕ
 draft_words spec script p f = image_words (draft spec script p f)
 
--- The words of the kernel image of frame f.
+-- The words of the kernel image of frame `f`.
 abbrev pub kernel_words : Parts → ScriptParts → ℕ → List ℕ
 kernel_words spec script f = kernel_encode (kernel_image spec script f)
 
--- The flight of a script: the processors are up, halt and restart as the script says, images and drafts as the frames
--- make them.
+-- The flight of a script. Processors are up, halt and restart as the script says, and images and drafts are those of
+-- the frames.
 abbrev pub flight_of : Parts → ScriptParts → Flight
 flight_of spec script = record {
   frames = script.frames;

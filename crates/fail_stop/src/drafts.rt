@@ -1,4 +1,4 @@
-//! What a processor makes of what it sees in a frame.
+//! The drafts that a processor makes from its snapshot of a frame.
 
 ghost use Rattle.std.specs.Prelude.{◌≡◌, ◌<◌, if◌then◌else◌, nat_eq, ℕ};
 ghost use Rattle.frame_model.specs.Flights.{image_of, is_proc, slot_in};
@@ -12,7 +12,8 @@ use frame_model::Task;
 use frame_model::sights::{show_in, slot_in};
 use scram_types::{AppId, Area, Image, ProcId, Spec};
 
-/// What all applications of a frame share: their tasks, and the snapshot that shows their areas before the frame.
+/// The data that all applications of a frame share: their tasks, and the snapshot that shows their areas before the
+/// frame.
 #[derive(Clone, Copy)]
 pub(crate) struct Setting<'a> {
     pub(crate) spec: &'a Spec,
@@ -49,8 +50,8 @@ fn area_kept(snap: &Snapshot, a: u8) -> Area
     }
 }
 
-/// Replaces the slots of the applications that processor `proc` hosts in its image of the frame before, one call of a
-/// box for each. `seen` is then as the last one saw it.
+/// Replaces the slots of the applications that processor `proc` hosts in its image of the previous frame, with one call
+/// of a box for each. Afterwards `seen` is as the last of these applications saw it.
 pub(crate) fn make_slots(
     proc: ProcId,
     rack: &mut Rack,

@@ -18,14 +18,14 @@ use scram_types::{Image, NoMemory, ProcId, Spec};
 use std::alloc::Global;
 use std::vec::IntoIter;
 
-/// A processor that lives, or one that has halted.
+/// A processor that is live or has halted.
 #[derive(Drop)]
 pub enum Unit {
     Up(Live),
     Down(Halted),
 }
 
-/// A processor in flight, with the boxes for its restart until that comes.
+/// A processor in flight, with the boxes for its restart until it restarts.
 #[derive(Drop)]
 pub struct Flyer {
     pub unit: Unit,
@@ -33,7 +33,7 @@ pub struct Flyer {
 }
 
 impl Flyer {
-    /// Returns the processor of this number before its first frame, with its boxes and those for its restart.
+    /// Returns the processor of this number before its first frame, with its boxes and the boxes for its restart.
     pub fn new(proc: ProcId, rack: Rack, spare: Rack) -> Flyer
         requires proc { proc.0 < 8 }
         ensures unit { result.unit ≡ Up (record { proc = proc; rack = rack }) }
@@ -65,8 +65,8 @@ impl Flyer {
         }
     }
 
-    /// The processor starts a frame. Where it has halted it lives again in its spare rack, if it has one, and else nothing
-    /// changes.
+    /// Starts a frame of the processor. A halted processor becomes live again with its spare rack if it has one;
+    /// otherwise nothing changes.
     pub fn start(&mut self)
         requires few { unit_proc self.old.unit < 8 }
         ensures { self.new ≡ flyer_started self.old }
@@ -79,7 +79,7 @@ impl Flyer {
         }
     }
 
-    /// The processor halts in this frame and drops its boxes. Where it has halted already nothing changes.
+    /// Halts the processor in this frame and drops its boxes. Nothing changes if it has halted already.
     pub fn halt(&mut self, frame: u32)
         ensures { self.new ≡ flyer_halted frame self.old }
     {
@@ -89,7 +89,7 @@ impl Flyer {
         }
     }
 
-    /// Makes `image` what the processor, which lives, drafts after a snapshot, as [`Live::draft`] has it.
+    /// Sets `image` to the draft that the processor, which must be live, makes of a snapshot, as [`Live::draft`] does.
     pub fn draft(&mut self, spec: &Spec, snap: &Snapshot, image: &mut Image)
         requires lives { is_down self.old.unit ≡ false }
         requires few { unit_proc self.old.unit < 8 }
@@ -107,7 +107,7 @@ impl Flyer {
     }
 }
 
-/// Returns eight processors before their first frame: rack `p` is that of processor `p`, and spare rack `p` is for its
+/// Returns eight processors before their first frame. Rack `p` belongs to processor `p`, and spare rack `p` is for its
 /// restart.
 ///
 /// # Errors
@@ -135,7 +135,7 @@ pub fn make_flyers(
     Ok(flyers)
 }
 
-// Returns the next one of these racks.
+// Returns the next of these racks.
 fn next_rack(racks: &mut IntoIter<Rack>) -> Rack
     requires some { 0 < into_iter_len racks.old }
     ensures first { into_iter_items racks.old ≡ result ∷ into_iter_items racks.new }

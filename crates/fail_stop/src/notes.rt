@@ -1,11 +1,11 @@
-//! When the kernel may note a processor.
+//! The condition under which the kernel may note a processor.
 
 ghost use Rattle.std.specs.Prelude.{◌≡◌, ℕ};
 ghost use Rattle.fail_stop.specs.Events.{may_note};
 ghost use Rattle.fail_stop.specs.Flights.{Flight, back_by};
 
-/// Returns whether an end word lets the kernel note a processor in a frame, by the frame of its restart: the
-/// processor is done with that frame, or has halted and has not restarted since.
+/// Returns whether an end word lets the kernel note a processor in a frame, given the frame of its restart. The
+/// processor has to be done with that frame, or to have halted without a restart since.
 pub fn may_note(restart: Option<u32>, frame: u32, end: u64) -> bool
     ensures { (m : Flight) (p : ℕ) → m.restart p ≡ restart → result ≡ may_note m p frame end }
 {

@@ -14,7 +14,7 @@ use frame_model::{Sys, decide};
 use scram_types::{NoMemory, ProcId, Script, Spec};
 use std::alloc::Global;
 
-/// Returns what the kernel says of the first frame.
+/// Returns the kernel image of the first frame.
 pub fn first_image(spec: &Spec, script: &Script) -> KernelImage
     requires { Fits spec.now script.now }
     ensures { result ≡ kernel_image spec.now script.now 0 }
@@ -31,8 +31,8 @@ pub fn first_image(spec: &Spec, script: &Script) -> KernelImage
     }
 }
 
-/// Returns the words at the opening of a flight with `frames` frames: the kernel's are those of the first frame, bank
-/// 0 of each processor holds its start image, and the release is 1 where a frame is flown.
+/// Returns the words at the opening of a flight with `frames` frames. The kernel's words are those of the first frame,
+/// bank 0 of each processor holds its start image, and the release is 1 if the flight has a frame.
 #[tactic(auto, using(crate::proofs::OpeningLists::list_whole))]
 pub fn opening_words(
     alloc: Global,
@@ -78,7 +78,7 @@ fn proc_opening(sys: &Sys, p: usize, r: usize) -> u64
     }
 }
 
-// Word `i` of the start image of a processor.
+// Returns word `i` of the start image of a processor.
 fn start_word(sys: &Sys, p: usize, i: usize) -> u64
     requires { i < 64 }
     ensures { result ≡ start_word sys.now.areas sys.now.keepers p i }

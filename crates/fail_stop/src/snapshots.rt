@@ -1,10 +1,10 @@
-//! What a processor sees of a frame, and what it makes of it.
+//! Snapshots, and the drafts that processors make of them.
 
 use bank_words::KernelImage;
 use scram_types::Image;
 
-/// What a processor sees in a frame: what the kernel says of the frame, and the image of each processor as the frame
-/// begins; what stands past the last processor is free.
+/// The view of a processor in a frame: the kernel image of the frame, and the image of each processor at the beginning
+/// of the frame. Entries past the last processor are arbitrary.
 #[derive(Clone, Copy, Debug)]
 pub struct Snapshot {
     pub kernel: KernelImage,

@@ -1,4 +1,4 @@
-//! Processors, while they live and once they have halted. The fields are public so that clauses can name them.
+//! Processors, live and halted. The fields are public so that clauses can name them.
 
 ghost use Rattle.std.specs.Prelude.{◌≡◌, ◌<◌, length, ℕ};
 ghost use Rattle.scram_types.specs.Scripts.{ScriptParts};
@@ -21,7 +21,7 @@ pub struct Live {
     pub rack: Rack,
 }
 
-/// A processor that has halted, and the frame in which it did. It has no boxes.
+/// A processor that has halted, with the frame in which it halted. It has no boxes.
 #[derive(Drop)]
 pub struct Halted {
     pub proc: ProcId,
@@ -29,9 +29,9 @@ pub struct Halted {
 }
 
 impl Live {
-    /// The processor of this number, with these boxes.
-    // No clause rests on the precondition: a function that gives boxes back and asks nothing counts as one that may make
-    // them, and so does each function that calls it and asks nothing.
+    /// Returns the processor of this number, with these boxes.
+    // No clause depends on the precondition. A function that returns boxes without any precondition counts as one that
+    // may make boxes, and so does each function that calls it without any precondition.
     pub fn new(proc: ProcId, rack: Rack) -> Live
         requires proc { proc.0 < 8 }
         ensures proc { result.proc ≡ proc }
@@ -47,9 +47,10 @@ impl Live {
         self.proc
     }
 
-    /// Makes `image` the image of this processor after the snapshot's frame: the area of each application that it hosts
-    /// there is what one call of its rack answers, and the other words are as they were in its image of the snapshot.
-    /// Where the snapshot is that of a frame of a script, it is what the one-thread trace drafts in that frame.
+    /// Sets `image` to the image of this processor after the snapshot's frame. The area of each application that the
+    /// processor hosts there is the answer of one call of its rack; the other words are as in its image of the
+    /// snapshot. If the snapshot is that of a frame of a script, the image is the draft of the one-thread trace in that
+    /// frame.
     pub fn draft(&mut self, spec: &Spec, snap: &Snapshot, image: &mut Image)
         requires proc { self.old.proc.0 < 8 }
         ensures image { image.new ≡ draft_made spec.now snap.now self.old.proc.0 }
@@ -97,7 +98,7 @@ impl Halted {
         self.frame
     }
 
-    /// Restarts the processor with other boxes.
+    /// Restarts the processor with new boxes.
     pub fn restart(self, rack: Rack) -> Live
         requires proc { self.proc.0 < 8 }
         ensures proc { result.proc ≡ self.proc }

@@ -1,4 +1,4 @@
-//! Where the shared words stand in one list, by the limits of 8 processors and 64 words of a bank.
+//! The indices of the shared words in one list, for at most 8 processors and 64 words of a bank.
 
 ghost use Rattle.std.specs.Prelude.{◌≡◌, ◌<◌, ◌≤◌};
 ghost use Rattle.fail_stop.specs.Events.{BankWord, EndWord, KernelWord, MarkWord};
@@ -6,10 +6,10 @@ ghost use Rattle.fail_stop.specs.Listed.{index_of};
 
 use scram_types::ProcId;
 
-/// How many words there are.
+/// The number of words.
 pub const WORDS: usize = 1_120;
 
-/// Returns the place of word `i` of the kernel, below 20.
+/// Returns the index of word `i` of the kernel, which is below 20.
 pub fn kernel_index(i: usize) -> usize
     requires { i < 20 }
     ensures { result ≡ index_of (KernelWord i) }
@@ -17,21 +17,21 @@ pub fn kernel_index(i: usize) -> usize
     8 + i
 }
 
-/// Returns the place of a processor's mark.
+/// Returns the index of a processor's mark.
 pub fn mark_index(p: ProcId) -> usize
     ensures { result ≡ index_of (MarkWord p.0) }
 {
     32 + 136 * usize::from(p.0)
 }
 
-/// Returns the place of a processor's end word.
+/// Returns the index of a processor's end word.
 pub fn end_index(p: ProcId) -> usize
     ensures { result ≡ index_of (EndWord p.0) }
 {
     33 + 136 * usize::from(p.0)
 }
 
-/// Returns the place of the first word of a processor's bank, 0 or 1; the further words follow it.
+/// Returns the index of the first word of a processor's bank, 0 or 1. The other words of the bank follow it.
 pub fn bank_index(p: ProcId, bank: usize) -> usize
     requires { bank ≤ 1 }
     ensures { result ≡ index_of (BankWord p.0 bank 0) }

@@ -15,7 +15,7 @@ use Rattle.fault_script.specs.Environments.{env_at}
 use Rattle.fault_script.proofs.Assuming.{upto_grows}
 use Rattle.fault_family.specs.Scripts.{is_within}
 
--- no bound is greater than a number that none is greater than
+-- the greatest bound is at most any upper bound
 pub greatest_within : (bounds : List Bound) (most : ℕ) → Each (λ (bound : Bound). bound.frames ≤ most) bounds → greatest_bound bounds ≤ most
 greatest_within [] most each = omega arith
 greatest_within (bound ∷ bounds) most each =
@@ -28,7 +28,7 @@ pub change_after_first : (spec : Parts) (script : ScriptParts) (f : ℕ) → f �
 change_after_first spec script zero some = absurd (some refl)
 change_after_first spec script (suc f) some = let back : suc f - 1 ≡ f = omega arith in rw back refl
 
--- one frame more is counted where it changes the environment
+-- a further frame is counted if it changes the environment
 pub counted : (spec : Parts) (script : ScriptParts) (f : ℕ) → is_change_frame spec script f ≡ true → changes_upto spec script (f - 1) + 1 ≡ changes_upto spec script f
 counted spec script zero is = absurd cc
 counted spec script (suc f) is = let back : suc f - 1 ≡ f = omega arith in rw (back, is) refl
@@ -37,13 +37,13 @@ pub uncounted : (spec : Parts) (script : ScriptParts) (f : ℕ) → is_change_fr
 uncounted spec script zero is = refl
 uncounted spec script (suc f) is = let none : changes_upto spec script f + 0 ≡ changes_upto spec script f = omega arith in let back : suc f - 1 ≡ f = omega arith in rw (back, is) (sym none)
 
--- where one of two tests holds, something is shown
+-- if one of two tests holds, something is shown
 pub shown_by : (a b : Bool) (x y : Outside) → (a || b) ≡ is_some (if a then Some x else (if b then Some y else None))
 shown_by true b x y = refl
 shown_by false true x y = refl
 shown_by false false x y = refl
 
--- no frame before has more
+-- no earlier frame has a greater count
 pub upto_before : (spec : Parts) (script : ScriptParts) (e f : ℕ) → e ≤ f → changes_upto spec script e ≤ changes_upto spec script f
 upto_before spec script e zero before = let none : e ≡ 0 = omega (arith, before) in rw none (omega arith)
 upto_before spec script e (suc f) before = elim (at_or_below e f before) [

@@ -1,4 +1,4 @@
--- The scripts of a family stand in order.
+-- The scripts of a family are in order.
 use Rattle.std.proofs.Common.{◌≡◌, ◌∙◌, ℕ, zero, suc, ◌+◌, ◌<◌, ◌≤◌, Bool, true, false, List, [], ◌∷◌, ◌++◌, length, map, append_assoc, arith, ap, refl, sym, subst, nat_lt}
 use mathlib.Core.Logic.{inl, inr}
 use Rattle.std.specs.Prelude.{◌&&◌, ◌==◌, Some, None, Option, flat_map, slice_get, if◌then◌else◌}
@@ -208,7 +208,7 @@ module _ (spec : Parts) (accepts : Accepts spec) (some : 1 ≤ spec.window) wher
   comes_first_behind [] faults others first = first
   comes_first_behind (fault ∷ before) faults others first = further fault (before ++ faults) (before ++ others) (comes_first_behind before faults others first)
 
-  -- of two scripts that go on by different faults
+  -- two scripts that continue with different faults
   apart_first : (more : ℕ) (before : List Fault) (c d : Fault) (a b : List Fault) → precedes c d ≡ true → GoesOn spec more (before ++ c ∷ []) a → GoesOn spec more (before ++ d ∷ []) b → ComesFirst a b
   apart_first more before c d a b first on other =
       subst (λ (l : List Fault). ComesFirst l b) (sym (append_assoc before (c ∷ []) on.rest) ∙ on.parts)

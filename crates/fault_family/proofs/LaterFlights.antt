@@ -1,4 +1,4 @@
--- A script in which everything comes later has the same flight, that much later.
+-- A script in which everything comes later has the same flight, later by that number of frames.
 use Rattle.std.proofs.Common.{◌≡◌, ◌∙◌, ℕ, zero, suc, ◌+◌, ◌-◌, ◌<◌, ◌≤◌, Bool, true, false, List, [], ◌∷◌, ◌++◌, length, map, append_assoc, append-nil, arith, ap, refl, sym, subst, nat_lt}
 use Rattle.std.specs.Prelude.{◌&&◌, ◌==◌, nat_le, if◌then◌else◌, Option, Some, None}
 use Rattle.std.specs.List.{list_any}
@@ -125,7 +125,7 @@ module _ (spec : Parts) (d : ℕ) (script : ScriptParts) (accepts : Accepts spec
 
   -- from frame d on
 
-  -- A state d frames later: the same mode, and the same answer to whether the target has come to run.
+  -- A state `d` frames later has the same mode, and agrees on whether the target has come to run.
   record IsLater (state later : State) : Type 0 where
     mode : later.mode ≡ mode_later d state.mode
     arrived : later.arrived ≡ state.arrived

@@ -26,7 +26,7 @@ use Rattle.fault_family.specs.Laws.{Follow, IsKind, IsNear, IsNextFault, Members
 use Rattle.fault_family.specs.Scripts.{change_fault_in, change_of_fault, frames_of_faults, halt_fault_in, halt_of_fault, last_fault_frame, restart_fault_in, restart_of_fault, script_of_faults}
 use Rattle.fault_family.proofs.Counting.{greatest_within}
 
--- facts about the items that a function gives of a list's items
+-- facts about the values that a function gives for a list's elements
 
 each_more : {B : Type 0} (P : B → Type 0) (o : Option B) (ys : List B) → ((b : B) → o ≡ Some b → P b) → Each P ys → Each P (cons_option o ys)
 each_more P None ys first each = each
@@ -81,7 +81,7 @@ next_later R xs each i x y p q = each i (i + 1) x y (omega arith) p q
 abbrev Later : Fault → Fault → Type 0
 Later fault next = may_come_after next fault ≡ true
 
--- What the faults of a script keep as far as they are known.
+-- The facts about the faults of a script that are known so far.
 record Keeps (spec : Parts) (faults : List Fault) : Type 0 where
   kinds : Each (λ (fault : Fault). IsKind spec fault.kind) faults
   later : EachLater Later faults
@@ -99,7 +99,7 @@ last_end before fault =
 frame_end : (before : List Fault) (fault : Fault) → last_fault_frame (before ++ fault ∷ []) ≡ fault.frame
 frame_end before fault = ap (λ (o : Option Fault). option_map_or (λ (f : Fault). f.frame) o 0) (last_end before fault)
 
--- How far a fault is behind the last one.
+-- The distance of a fault from the last one.
 record IsBehind (last frame : ℕ) : Type 0 where
   after : last ≤ frame
   near : frame ≤ last + 1001
@@ -240,7 +240,7 @@ restarts_apart f g (kind.Restart x) (kind.Halt r s) a b p q later = absurd cc
 restarts_apart f g (kind.Change r s) l a b p q later = absurd cc
 restarts_apart f g (kind.Halt r s) l a b p q later = absurd cc
 
--- Where a fault lies in its script.
+-- The frames of a script in which a fault may be.
 record LiesIn (frames frame : ℕ) : Type 0 where
   first : 1 ≤ frame
   last : frame < frames

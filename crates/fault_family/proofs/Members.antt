@@ -151,7 +151,7 @@ module _ (spec : Parts) where
   is_within_is : (faults : List Fault) → IsWithin spec (script_of_faults spec faults) → is_within spec (script_of_faults spec faults) ≡ true
   is_within_is faults within = rw ((leaves_nowhere spec (script_of_faults spec faults)).nowhere within) refl
 
-  -- A script goes on from these faults by a number of further ones.
+  -- A script continues from these faults with a number of further ones.
   pub record GoesOn (more : ℕ) (before faults : List Fault) : Type 0 where
     pub rest : List Fault
     pub parts : before ++ rest ≡ faults

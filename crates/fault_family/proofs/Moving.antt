@@ -1,4 +1,4 @@
--- What a script shows in which everything from a frame on comes later.
+-- The environments and commits of a script in which everything from a frame on comes later.
 use Rattle.std.proofs.Common.{◌≡◌, ◌≢◌, ◌∙◌, ℕ, suc, ◌+◌, ◌-◌, ◌<◌, ◌≤◌, Bool, true, false, List, [], ◌∷◌, length, map, arith, ap, refl, sym, nat_lt}
 use Rattle.std.specs.Prelude.{◌&&◌, ◌==◌, not, nat_le, if◌then◌else◌}
 use Rattle.std.specs.List.{list_all, list_any}
@@ -17,7 +17,7 @@ use Rattle.fault_script.proofs.Halts.{up_by_lists}
 use Rattle.fault_family.specs.Rests.{later_from, later_frame}
 use Rattle.fault_family.proofs.Mapped.{any_mapped}
 
--- where a frame lies
+-- the position of a frame
 
 module _ (b d : ℕ) where
   le_moved : (x f : ℕ) → b ≤ f → nat_le (later_frame b d x) (d + f) ≡ nat_le x f
@@ -157,7 +157,7 @@ module _ (spec : Parts) (b d : ℕ) (script : ScriptParts) where
       by_side true is = grind (arith, nat_tests, is, after, some, other)
       by_side false is = grind (arith, nat_tests, is, before, after, some)
 
-  -- Frame g of the later script shows what frame f of the script shows.
+  -- Frame `g` of the later script shows the same as frame `f` of the script.
   pub record Shows (f g : ℕ) : Type 0 where
     pub env : env_at spec (later_from b d script) g ≡ env_at spec script f
     pub committing : (p : ℕ) → commits spec (later_from b d script) p g ≡ commits spec script p f

@@ -1,4 +1,4 @@
--- Where a flight is at rest, it does not matter for how long.
+-- If a flight is at rest, the length of the rest does not matter.
 use Rattle.std.proofs.Common.{◌≡◌, ◌∙◌, ℕ, zero, suc, ◌+◌, ◌-◌, ◌<◌, ◌≤◌, Bool, true, false, List, ◌++◌, length, map, append_assoc, arith, ap, refl, sym, subst, nat_lt}
 use Rattle.std.specs.Prelude.{◌&&◌, ◌==◌, nat_le, if◌then◌else◌, Option, Some, None}
 use Rattle.std.proofs.Math.Path.{fun_ext}
@@ -117,7 +117,7 @@ module _ (spec : Parts) (b d : ℕ) (c : ConfId) (script : ScriptParts) (rest : 
 
   -- at rest
 
-  -- A state decides as one whose mode is stable in c.
+  -- A state leads to the same decision as a state whose mode is stable in `c`.
   IsResting : State → Type 0
   IsResting state = (f : ℕ) (settled : Bool) (v : Env) → decision spec f state.mode settled state.arrived v ≡ leave_for c (choose spec c v) f
 

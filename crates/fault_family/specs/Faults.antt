@@ -1,11 +1,11 @@
--- Faults: what they are, and in which order they come.
+-- Faults and their order.
 use Rattle.std.specs.Prelude.{ℕ, Bool, not, ◌&&◌, ◌||◌, ◌==◌}
 use Rattle.fault_script.specs.Orders.{comes_after}
 use Rattle.fault_family.specs.declared.faults.Fault.{Fault}
 use Rattle.fault_family.specs.declared.faults.FaultKind.{FaultKind}
 use Rattle.fault_family.specs.declared.faults.FaultKind.TheVariants.{Change, Halt, Restart}
 
--- Changes come before halts, and halts before restarts.
+-- The rank of a kind of fault: changes come before halts, and halts before restarts.
 abbrev pub rank : FaultKind → ℕ
 rank (Change factor value) = 0
 rank (Halt proc step) = 1
@@ -17,24 +17,24 @@ subject (Change factor value) = factor.0
 subject (Halt proc step) = proc.0
 subject (Restart proc) = proc.0
 
--- The number of the value to which a factor changes, or the step after which a processor halts; 0 of a restart.
+-- The number of the value to which a factor changes, the step after which a processor halts, or 0 for a restart.
 abbrev pub detail : FaultKind → ℕ
 detail (Change factor value) = value
 detail (Halt proc step) = step
 detail (Restart proc) = 0
 
--- A fault comes before another: by frame, then by kind, then by factor and value, or by processor and step.
+-- Whether a fault comes before another: by frame, then by kind, then by factor and value, or by processor and step.
 abbrev pub precedes : Fault → Fault → Bool
 precedes fault next =
     comes_after fault.frame (rank fault.kind) next.frame (rank next.kind)
     || (fault.frame == next.frame && rank fault.kind == rank next.kind
     && comes_after (subject fault.kind) (detail fault.kind) (subject next.kind) (detail next.kind))
 
--- Two faults are changes of one factor in one frame, halts of one processor, or restarts of one processor.
+-- Whether two faults are changes of one factor in one frame, halts of one processor, or restarts of one processor.
 abbrev pub repeats : Fault → Fault → Bool
 repeats fault next =
     rank fault.kind == rank next.kind && subject fault.kind == subject next.kind && (not (rank fault.kind == 0) || fault.frame == next.frame)
 
--- A fault may come after another one, which is given last: it follows in order, and it does not repeat it.
+-- Whether the first fault may come after the second: it follows the second in order and does not repeat it.
 abbrev pub may_come_after : Fault → Fault → Bool
 may_come_after next fault = precedes fault next && not (repeats fault next)

@@ -16,15 +16,15 @@ use Rattle.fault_family.specs.declared.faults.FaultKind.TheVariants.{Change, Hal
 abbrev pub numbers_below : ℕ → List ℕ
 numbers_below n = listed_below (λ k. k) n
 
--- How many values factor x has.
+-- The number of values of factor `x`.
 abbrev pub factor_value_count : Parts → ℕ → ℕ
 factor_value_count spec x = option_map_or (λ (factor : Factor). length factor.values) (slice_get spec.factors x) 0
 
--- The changes of factor x, in the order of its values.
+-- The changes of factor `x`, in the order of its values.
 abbrev pub factor_changes : Parts → ℕ → List FaultKind
 factor_changes spec x = listed_below (λ value. Change (factor_id x) value) (factor_value_count spec x)
 
--- The halts of processor p: before all stores, and after the mark.
+-- The halts of processor `p`: before all stores, and after the mark.
 abbrev pub proc_halts : Parts → ℕ → List FaultKind
 proc_halts spec p = Halt (proc_id p) 0 ∷ Halt (proc_id p) (words spec + 1) ∷ []
 
@@ -39,17 +39,17 @@ kinds_of spec =
     ++ flat_map (proc_halts spec) (numbers_below (length spec.procs))
     ++ restarts_of spec
 
--- How many frames a fault may come after the one before it: at most one more than the greatest bound, or one more than
--- the window.
+-- The numbers of frames by which a fault may come after the previous one: 0 to one more than the greatest bound, and
+-- one more than the window.
 abbrev pub gaps : Parts → List ℕ
 gaps spec = numbers_below (greatest_bound spec.bounds + 2) ++ (spec.window + 1) ∷ []
 
--- The frames in which a fault may come, where this is the last one before it.
+-- The frames in which a fault may come after the last fault, or frame 1 if there is none.
 abbrev pub frames_behind : Parts → Option Fault → List ℕ
 frames_behind spec None = 1 ∷ []
 frames_behind spec (Some last) = map (λ gap. last.frame + gap) (gaps spec)
 
--- The frames in which a fault may come after these: the first one comes in frame 1.
+-- The frames in which a fault may come after these faults, or frame 1 if there are none.
 abbrev pub frames_after : Parts → List Fault → List ℕ
 frames_after spec before = frames_behind spec (last_of before)
 
@@ -57,6 +57,6 @@ frames_after spec before = frames_behind spec (last_of before)
 abbrev pub faults_in : Parts → ℕ → List Fault
 faults_in spec frame = map (λ (kind : FaultKind). record { frame = frame; kind = kind }) (kinds_of spec)
 
--- The faults of the frames in which a fault may come after these, in order.
+-- All faults of the frames in which a fault may come after these, in order.
 abbrev pub candidates : Parts → List Fault → List Fault
 candidates spec before = flat_map (faults_in spec) (frames_after spec before)

@@ -1,4 +1,4 @@
--- The script of some faults.
+-- The script of a list of faults.
 use Rattle.std.specs.Prelude.{ℕ, ◌+◌, Bool, is_none, List, Option, Some, None, filter_map}
 use Rattle.std.specs.Option.{option_map_or}
 use Rattle.scram_types.specs.declared.scripts.Change.{Change}
@@ -13,37 +13,37 @@ use Rattle.fault_family.specs.declared.faults.Fault.{Fault}
 use Rattle.fault_family.specs.declared.faults.FaultKind.{FaultKind}
 use Rattle.fault_family.specs.declared.faults.FaultKind.TheVariants as kind
 
--- The change that comes in a frame, where a fault of this kind is one.
+-- The change in a frame that a kind of fault makes, or `None` if it is no change.
 abbrev pub change_fault_in : ℕ → FaultKind → Option Change
 change_fault_in frame (kind.Change factor value) = Some (record { frame = frame; factor = factor; value = value })
 change_fault_in frame (kind.Halt proc step) = None
 change_fault_in frame (kind.Restart proc) = None
 
--- The halt that comes in a frame, where a fault of this kind is one.
+-- The halt in a frame that a kind of fault makes, or `None` if it is no halt.
 abbrev pub halt_fault_in : ℕ → FaultKind → Option HaltAt
 halt_fault_in frame (kind.Change factor value) = None
 halt_fault_in frame (kind.Halt proc step) = Some (record { proc = proc; frame = frame; step = step })
 halt_fault_in frame (kind.Restart proc) = None
 
--- The restart that comes in a frame, where a fault of this kind is one.
+-- The restart in a frame that a kind of fault makes, or `None` if it is no restart.
 abbrev pub restart_fault_in : ℕ → FaultKind → Option RestartAt
 restart_fault_in frame (kind.Change factor value) = None
 restart_fault_in frame (kind.Halt proc step) = None
 restart_fault_in frame (kind.Restart proc) = Some (record { proc = proc; frame = frame })
 
--- The change that a fault is.
+-- A fault as a change, or `None` if it is no change.
 abbrev pub change_of_fault : Fault → Option Change
 change_of_fault fault = change_fault_in fault.frame fault.kind
 
--- The halt that a fault is.
+-- A fault as a halt, or `None` if it is no halt.
 abbrev pub halt_of_fault : Fault → Option HaltAt
 halt_of_fault fault = halt_fault_in fault.frame fault.kind
 
--- The restart that a fault is.
+-- A fault as a restart, or `None` if it is no restart.
 abbrev pub restart_of_fault : Fault → Option RestartAt
 restart_of_fault fault = restart_fault_in fault.frame fault.kind
 
--- The script of a number of frames in which these faults come.
+-- The script with this number of frames and these faults.
 abbrev pub faults_in_frames : ℕ → List Fault → ScriptParts
 faults_in_frames frames faults = record {
   frames = frames;
@@ -52,11 +52,11 @@ faults_in_frames frames faults = record {
   restarts = filter_map restart_of_fault faults;
 }
 
--- The frame of the last fault; 0 where there is none.
+-- The frame of the last fault, or 0 if there is none.
 abbrev pub last_fault_frame : List Fault → ℕ
 last_fault_frame faults = option_map_or (λ (fault : Fault). fault.frame) (last_of faults) 0
 
--- How many frames a script of these faults has: the greatest bound and three more than the frame of the last one.
+-- The number of frames of the script of these faults: the frame of the last fault plus the greatest bound plus three.
 abbrev pub frames_of_faults : Parts → List Fault → ℕ
 frames_of_faults spec faults = last_fault_frame faults + greatest_bound spec.bounds + 3
 
@@ -64,6 +64,6 @@ frames_of_faults spec faults = last_fault_frame faults + greatest_bound spec.bou
 abbrev pub script_of_faults : Parts → List Fault → ScriptParts
 script_of_faults spec faults = faults_in_frames (frames_of_faults spec faults) faults
 
--- A script keeps to the failure assumption.
+-- Whether a script keeps the failure assumption.
 abbrev pub is_within : Parts → ScriptParts → Bool
 is_within spec script = is_none (first_outside spec script)

@@ -1,4 +1,4 @@
-//! The faults that may be the next of a script.
+//! The faults that may come next in a script.
 
 ghost use Rattle.std.specs.Prelude.{◌≡◌, ℕ, ◌+◌, ◌*◌, ◌<◌, ◌≤◌, ◌++◌, [], Some, flat_map, length, map, slice_get};
 ghost use Rattle.std.specs.List.{list_all};
@@ -15,7 +15,7 @@ use crate::scripts::{greatest, has_halted_before, value_at};
 use arrayvec::ArrayVec;
 use scram_types::{FactorId, ProcId, Spec};
 
-/// The greatest number of kinds of fault that a specification has.
+/// The maximum number of kinds of fault of a specification.
 pub const MAX_KINDS: usize = 48;
 
 /// The kinds of fault of a specification, in order.
@@ -109,7 +109,7 @@ fn add_restarts(kinds: &mut ArrayVec<FaultKind, MAX_KINDS>, spec: &Spec)
     }
 }
 
-// Returns how many values a factor has.
+// Returns the number of values of a factor.
 fn factor_value_count(spec: &Spec, x: u8) -> u8
     ensures value { result ≡ factor_value_count spec.now x }
     ensures few { result ≤ 4 }
@@ -120,7 +120,7 @@ fn factor_value_count(spec: &Spec, x: u8) -> u8
     }
 }
 
-// Returns how many words an image has: eight for each application.
+// Returns the number of words of an image, eight for each application.
 fn words(spec: &Spec) -> u8
     ensures value { result ≡ words spec.now }
     ensures few { result ≤ 64 }
@@ -128,7 +128,7 @@ fn words(spec: &Spec) -> u8
     8 * spec.apps.items().len() as u8
 }
 
-/// Returns how many faults come in the frames in which a fault may come after these.
+/// Returns the number of faults in the frames in which a fault may come after these.
 pub fn candidate_count(spec: &Spec, kinds: &[FaultKind], before: &[Fault]) -> u32
     requires kinds { kinds.now ≡ kinds_of spec.now }
     requires few { length kinds.now ≤ 48 }
@@ -137,7 +137,7 @@ pub fn candidate_count(spec: &Spec, kinds: &[FaultKind], before: &[Fault]) -> u3
     frame_count(spec, before) * kinds.len() as u32
 }
 
-/// Returns fault number `k` of the frames in which a fault may come after these.
+/// Returns fault `k` of all faults in the frames in which a fault may come after these.
 pub fn candidate(spec: &Spec, kinds: &[FaultKind], before: &[Fault], k: u32) -> Fault
     requires kinds { kinds.now ≡ kinds_of spec.now }
     requires few { length kinds.now ≤ 48 }
@@ -153,7 +153,7 @@ pub fn candidate(spec: &Spec, kinds: &[FaultKind], before: &[Fault], k: u32) -> 
     }
 }
 
-// Returns how many frames there are in which a fault may come after these.
+// Returns the number of frames in which a fault may come after these.
 fn frame_count(spec: &Spec, before: &[Fault]) -> u32
     ensures value { result ≡ length (frames_after spec.now before.now) }
     ensures few { result ≤ 1003 }
@@ -164,7 +164,7 @@ fn frame_count(spec: &Spec, before: &[Fault]) -> u32
     }
 }
 
-// Returns frame number `i` of those in which a fault may come after these.
+// Returns frame `i` of the frames in which a fault may come after these.
 fn frame_after(spec: &Spec, before: &[Fault], i: u32) -> u32
     requires i { i < length (frames_after spec.now before.now) }
     requires before { last_fault_frame before.now ≤ 4000 }
@@ -177,7 +177,7 @@ fn frame_after(spec: &Spec, before: &[Fault], i: u32) -> u32
     }
 }
 
-// Returns gap number `i`, in frames.
+// Returns gap `i`, in frames.
 fn gap(spec: &Spec, i: u32) -> u32
     requires { i < greatest_bound spec.now.bounds + 3 }
     ensures value { slice_get (gaps spec.now) i ≡ Some result }
@@ -190,7 +190,7 @@ fn gap(spec: &Spec, i: u32) -> u32
     }
 }
 
-/// Returns whether a fault may follow these: it may come after each of them, and makes a difference to their script.
+/// Returns whether a fault may follow these: it may come after each of them, and it makes a difference to their script.
 pub fn may_follow(spec: &Spec, before: &[Fault], fault: &Fault) -> bool
     ensures { result ≡ may_follow spec.now before.now fault.now }
 {
@@ -205,7 +205,7 @@ fn may_come_after_all(before: &[Fault], fault: &Fault) -> bool
     before.iter().all(|earlier| may_come_after(earlier, fault))
 }
 
-// Returns whether a fault makes a difference to the script of those before it.
+// Returns whether a fault makes a difference to the script of the preceding faults.
 fn differs_in(before: &[Fault], fault: &Fault) -> bool
     ensures { (frames : ℕ) → result ≡ differs_in (faults_in_frames frames before.now) fault.now.frame fault.now.kind }
 {

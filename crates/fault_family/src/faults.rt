@@ -7,22 +7,22 @@ ghost use Rattle.fault_family.specs.Faults.{detail, may_come_after, precedes, ra
 use arrayvec::ArrayVec;
 use scram_types::{FactorId, ProcId};
 
-/// The greatest number of faults that a script of the family has.
+/// The maximum number of faults in a script of the family.
 pub const MAX_FAULTS: usize = 3;
 
-/// What goes wrong.
+/// A kind of fault.
 #[derive(Clone, Copy, Debug, PartialEq, Eq)]
 pub enum FaultKind {
-    /// A factor changes to a value, by its number among the factor's values.
+    /// A change of a factor to a value, given by its number among the factor's values.
     Change { factor: FactorId, value: u8 },
-    /// A processor halts after `step` stores, or after its mark.
+    /// A halt of a processor after `step` stores, or after its mark.
     Halt { proc: ProcId, step: u8 },
-    /// A processor restarts.
+    /// A restart of a processor.
     Restart { proc: ProcId },
 }
 
 impl Default for FaultKind {
-    /// Returns the kind that stands in the unused places of a list of fixed length.
+    /// Returns the kind that fills the unused entries of an array.
     fn default() -> FaultKind {
         FaultKind::Restart { proc: ProcId(0) }
     }
@@ -53,7 +53,7 @@ impl std::marker::Model for Faults {
 impl Faults {
     ghost use Rattle.std.specs.Prelude.{◌≡◌, ◌++◌, ◌∷◌, ◌<◌, ◌≤◌, [], length};
 
-    /// Returns the list without a fault.
+    /// Returns the empty list.
     pub fn new() -> Faults
         ensures { result ≡ [] }
     {
@@ -69,7 +69,7 @@ impl Faults {
         self.faults.as_slice()
     }
 
-    /// Returns the list with one more fault at its end.
+    /// Returns the list with the fault appended.
     pub fn with(&self, fault: &Fault) -> Faults
         requires { length self.now < 3 }
         ensures { result ≡ self.now ++ fault.now ∷ [] }
@@ -81,7 +81,7 @@ impl Faults {
     }
 }
 
-// Returns the place of a kind in the order of kinds: changes, halts, restarts.
+// Returns the rank of a kind: changes first, then halts, then restarts.
 fn rank(kind: &FaultKind) -> u8
     ensures { result ≡ rank kind.now }
 {
@@ -103,7 +103,7 @@ fn subject(kind: &FaultKind) -> u8
     }
 }
 
-// Returns the number of the value or the step, 0 of a restart.
+// Returns the number of the value or the step, or 0 for a restart.
 fn detail(kind: &FaultKind) -> u8
     ensures { result ≡ detail kind.now }
 {
@@ -120,8 +120,8 @@ fn comes_after(last: u32, last_number: u8, next: u32, number: u8) -> bool
     last < next || last == next && last_number < number
 }
 
-/// Returns whether a fault comes before another one: by frame, then changes before halts before restarts, then by the
-/// number of the factor and of the value, or of the processor and by the step.
+/// Returns whether a fault comes before another. The order is by frame, then changes before halts before restarts, then
+/// by the numbers of the factor and of the value, or by the processor and the step.
 pub fn precedes(fault: &Fault, next: &Fault) -> bool
     ensures { result ≡ precedes fault.now next.now }
 {
@@ -136,7 +136,7 @@ pub fn precedes(fault: &Fault, next: &Fault) -> bool
             )
 }
 
-/// Returns whether two faults are of one class that comes once: changes of one factor in one frame, halts of one
+/// Returns whether two faults are of a class that may come only once: changes of one factor in one frame, halts of one
 /// processor, or restarts of one processor.
 pub fn repeats(fault: &Fault, next: &Fault) -> bool
     ensures { result ≡ repeats fault.now next.now }
@@ -146,7 +146,7 @@ pub fn repeats(fault: &Fault, next: &Fault) -> bool
         && (rank(&fault.kind) != 0 || fault.frame == next.frame)
 }
 
-/// Returns whether a fault may come after another one.
+/// Returns whether the fault `next` may come after the fault `fault`.
 pub fn may_come_after(fault: &Fault, next: &Fault) -> bool
     ensures { result ≡ may_come_after next.now fault.now }
 {

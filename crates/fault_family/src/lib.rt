@@ -1,6 +1,6 @@
-//! The family of fault scripts of a specification: the scripts with one, two or three faults that keep to its failure
-//! assumption, of which the first fault comes in frame 1 and each further one soon after the one before it, or so much
-//! later that no window holds both.
+//! The family of fault scripts of a specification: the scripts with one, two or three faults that keep its failure
+//! assumption. The first fault comes in frame 1. Each further fault comes soon after the previous one, or so much later
+//! that no window contains both.
 #![tactic(auto)]
 
 pub mod candidates;

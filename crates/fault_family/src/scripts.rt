@@ -1,4 +1,4 @@
-//! The script of some faults, held without memory: what it says of each frame, and whether it keeps to the failure
+//! The script of a list of faults, without allocation: its environment in each frame, and whether it keeps the failure
 //! assumption.
 
 ghost use Rattle.std.specs.Prelude.{◌≡◌, ◌≤◌, ◌∷◌, [], filter_map};
@@ -12,7 +12,7 @@ use crate::faults::{Fault, FaultKind};
 use coverage_check::greatest_bound;
 use scram_types::{Change, FactorId, HaltAt, ProcId, RestartAt, Spec};
 
-/// The script of some faults.
+/// The script of a list of faults.
 #[derive(Clone, Copy)]
 pub struct FaultScript<'a> {
     pub frames: u32,
@@ -23,7 +23,8 @@ impl<'a> FaultScript<'a> {
     ghost use Rattle.std.specs.Prelude.{◌≡◌, ◌≤◌};
     ghost use Rattle.fault_family.specs.Scripts.{frames_of_faults, last_fault_frame};
 
-    /// Returns the script of these faults, which goes on for three frames more than the greatest bound after the last one.
+    /// Returns the script of these faults. Its number of frames is the frame of the last fault plus the greatest bound
+    /// plus three.
     pub fn new(spec: &Spec, faults: &'a [Fault]) -> FaultScript<'a>
         requires { last_fault_frame faults.now ≤ 4000 }
         ensures frames { result.frames ≡ frames_of_faults spec.now faults.now }
@@ -37,7 +38,7 @@ impl<'a> FaultScript<'a> {
     }
 }
 
-/// Returns the change that a fault is.
+/// Returns a fault as a change, or `None` if it is no change.
 pub fn change_of_fault(fault: &Fault) -> Option<Change>
     ensures { result ≡ change_of_fault fault.now }
 {
@@ -51,7 +52,7 @@ pub fn change_of_fault(fault: &Fault) -> Option<Change>
     }
 }
 
-/// Returns the halt that a fault is.
+/// Returns a fault as a halt, or `None` if it is no halt.
 pub fn halt_of_fault(fault: &Fault) -> Option<HaltAt>
     ensures { result ≡ halt_of_fault fault.now }
 {
@@ -65,7 +66,7 @@ pub fn halt_of_fault(fault: &Fault) -> Option<HaltAt>
     }
 }
 
-/// Returns the restart that a fault is.
+/// Returns a fault as a restart, or `None` if it is no restart.
 pub fn restart_of_fault(fault: &Fault) -> Option<RestartAt>
     ensures { result ≡ restart_of_fault fault.now }
 {
@@ -78,7 +79,7 @@ pub fn restart_of_fault(fault: &Fault) -> Option<RestartAt>
     }
 }
 
-/// Returns the frame of the last fault, 0 where there is none.
+/// Returns the frame of the last fault, or 0 if there is none.
 pub fn last_fault_frame(faults: &[Fault]) -> u32
     ensures { result ≡ last_fault_frame faults.now }
 {
@@ -88,7 +89,7 @@ pub fn last_fault_frame(faults: &[Fault]) -> u32
     }
 }
 
-/// Returns the greatest bound that is given, in frames, and 0 where none is.
+/// Returns the greatest bound of the specification, in frames, or 0 if it has none.
 pub fn greatest(spec: &Spec) -> u32
     ensures value { result ≡ greatest_bound spec.now.bounds }
     ensures few { result ≤ 1000 }
@@ -109,7 +110,7 @@ pub fn value_at(faults: &[Fault], factor: FactorId, frame: u32) -> u8
     value
 }
 
-// Returns the value that a factor has by a frame after a fault, where it had this value before.
+// Returns the value of a factor in a frame after a fault, if `value` is its value before the fault.
 fn newest(fault: &Fault, factor: FactorId, frame: u32, value: u8) -> u8
     ensures { result ≡ value_after (filter_map change_of_fault (fault.now ∷ [])) factor.0 frame value }
 {
@@ -129,7 +130,7 @@ pub fn is_up(script: &FaultScript<'_>, p: u8, frame: u32) -> bool
     are_halts_over(script, p, frame)
 }
 
-// Returns whether a processor has restarted since each of its halts in a frame before this one.
+// Returns whether a processor has restarted since each of its halts in frames before this one.
 fn are_halts_over(script: &FaultScript<'_>, p: u8, frame: u32) -> bool
     ensures { result ≡ list_all (is_over (faults_in_frames script.now.frames script.now.faults.now) p frame) (filter_map halt_of_fault script.now.faults.now) }
 {
@@ -141,7 +142,8 @@ fn are_halts_over(script: &FaultScript<'_>, p: u8, frame: u32) -> bool
     true
 }
 
-// Returns whether a fault, where it is a halt, leaves a processor up in a frame.
+// Returns whether a fault leaves a processor up in a frame: it is not a halt of the processor before the frame, or the
+// processor has restarted since.
 fn is_over(script: &FaultScript<'_>, fault: &Fault, p: u8, frame: u32) -> bool
     ensures { result ≡ list_all (is_over (faults_in_frames script.now.frames script.now.faults.now) p frame) (filter_map halt_of_fault (fault.now ∷ [])) }
 {
@@ -155,7 +157,7 @@ fn is_over(script: &FaultScript<'_>, fault: &Fault, p: u8, frame: u32) -> bool
     }
 }
 
-// Returns whether a processor restarts after frame `after` and in a frame up to `frame`.
+// Returns whether a processor restarts after frame `after` and no later than frame `frame`.
 fn has_restarted(faults: &[Fault], p: u8, after: u32, frame: u32) -> bool
     ensures { result ≡ list_any (is_restart_between p after frame) (filter_map restart_of_fault faults.now) }
 {
@@ -176,7 +178,7 @@ fn is_restart_between(fault: &Fault, p: u8, after: u32, frame: u32) -> bool
     }
 }
 
-/// Returns whether a processor has a halt two frames before a frame or earlier.
+/// Returns whether a processor has a halt at least two frames before a frame.
 pub fn has_halted_before(faults: &[Fault], proc: ProcId, frame: u32) -> bool
     ensures { result ≡ list_any (is_halt_before proc.0 frame) (filter_map halt_of_fault faults.now) }
 {

@@ -1,4 +1,4 @@
-//! Whether the script of some faults keeps to the failure assumption.
+//! The test whether the script of a list of faults keeps the failure assumption.
 
 ghost use Rattle.std.specs.Prelude.{◌≡◌, ◌+◌, ◌-◌, ◌≤◌, is_some, length, not};
 ghost use Rattle.scram_types.specs.Bits.{bits_below};
@@ -11,9 +11,9 @@ ghost use Rattle.fault_family.specs.Scripts.{is_within, faults_in_frames};
 use crate::scripts::{FaultScript, is_up, value_at};
 use scram_types::{Env, FactorId, Spec};
 
-/// Returns whether a script keeps to the failure assumption: in no frame, that after the last one included, are more
-/// than `halts` processors down, and any `window` consecutive frames hold at most `changes + 1` frames whose environment
-/// differs from that of the frame before.
+/// Returns whether a script keeps the failure assumption. In no frame, including the frame after the last, are more
+/// than `halts` processors down. Any `window` consecutive frames contain at most `changes + 1` frames whose environment
+/// differs from that of the previous frame.
 pub fn is_within(spec: &Spec, script: &FaultScript<'_>) -> bool
     requires { script.now.frames ≤ 5003 }
     ensures { result ≡ is_within spec.now (faults_in_frames script.now.frames script.now.faults.now) }
@@ -28,15 +28,15 @@ pub fn is_within(spec: &Spec, script: &FaultScript<'_>) -> bool
     true
 }
 
-// How many frames up to a frame change the environment, and how many of those that lie before the window that ends with
-// the frame.
+// The number of frames up to a frame that change the environment, and the number of those before the window that ends
+// with the frame.
 #[derive(Clone, Copy)]
 struct Counts {
     upto: u32,
     past: u32,
 }
 
-// Returns the counts of a frame, by those of the frame before.
+// Returns the counts of a frame, given those of the previous frame.
 fn counts_with(spec: &Spec, script: &FaultScript<'_>, counts: &Counts, frame: u32) -> Counts
     requires frame { frame ≤ 5003 }
     requires counts { AreCounts spec.now (faults_in_frames script.now.frames script.now.faults.now) (frame - 1) counts.now }
@@ -53,7 +53,7 @@ fn counts_with(spec: &Spec, script: &FaultScript<'_>, counts: &Counts, frame: u3
     }
 }
 
-// Returns how many frames up to a frame change the environment, by how many up to the frame before do.
+// Returns the number of frames up to a frame that change the environment, given that number for the previous frame.
 fn count_with(spec: &Spec, script: &FaultScript<'_>, count: u32, frame: u32) -> u32
     requires frame { frame ≤ 5003 }
     requires count { count ≡ changes_upto spec.now (faults_in_frames script.now.frames script.now.faults.now) (frame - 1) }
@@ -66,7 +66,7 @@ fn count_with(spec: &Spec, script: &FaultScript<'_>, count: u32, frame: u32) -> 
     }
 }
 
-// Returns whether the script leaves the assumption in a frame.
+// Returns whether the script violates the assumption in a frame.
 fn is_outside_at(spec: &Spec, script: &FaultScript<'_>, counts: &Counts, frame: u32) -> bool
     requires few { script.now.frames ≤ 5003 }
     requires frame { frame ≤ script.now.frames }
@@ -76,7 +76,7 @@ fn is_outside_at(spec: &Spec, script: &FaultScript<'_>, counts: &Counts, frame: 
     brings_too_many_down(spec, script, frame) || is_change_too_many(spec, script, counts, frame)
 }
 
-// Returns whether a frame is a change too many for the window that ends with it.
+// Returns whether a frame is a change that exceeds the limit of the window that ends with it.
 fn is_change_too_many(spec: &Spec, script: &FaultScript<'_>, counts: &Counts, frame: u32) -> bool
     requires counts { AreCounts spec.now (faults_in_frames script.now.frames script.now.faults.now) frame counts.now }
     ensures { result ≡ is_change_too_many spec.now (faults_in_frames script.now.frames script.now.faults.now) frame }
@@ -148,7 +148,7 @@ fn has_too_many_down(spec: &Spec, script: &FaultScript<'_>, frame: u32) -> bool
     spec.halts < count_down(script, spec.procs.items().len() as u8, frame)
 }
 
-// Returns how many of the first `processors` processors are down in a frame.
+// Returns the number of the first `processors` processors that are down in a frame.
 fn count_down(script: &FaultScript<'_>, processors: u8, frame: u32) -> u8
     ensures value { result ≡ down_below (faults_in_frames script.now.frames script.now.faults.now) frame processors }
     ensures most { result ≤ processors }

@@ -1,4 +1,4 @@
--- What is filled in is accepted.
+-- A filled-in specification is accepted.
 use Rattle.std.proofs.Common.{◌≡◌, ◌∙◌, ℕ, zero, suc, ◌+◌, ◌<◌, ◌≤◌, Bool, true, false, not, refl, arith, ap, sym, subst, List, [], ◌∷◌, length, map}
 use Rattle.std.specs.Prelude.{⊤, Option, Some, None, is_some, max, nat_le, nat_lt, slice_get, ◌==◌, ◌||◌, if◌then◌else◌}
 use Rattle.std.specs.Option.{option_map_or}
@@ -49,7 +49,7 @@ long_enough true frames needed is = omega arith
 long_enough false frames needed is = absurd (cc)
 
 module _ (spec : Parts) where
-  -- a bound is as long as acceptance asks
+  -- a bound is as long as acceptance requires
   abbrev IsLongEnough : Bound → Type 0
   IsLongEnough x = is_bound_asked spec x.from x.to.0 ≡ true → least spec x.from x.to ≤ x.frames
 
@@ -59,7 +59,7 @@ module _ (spec : Parts) where
       (all_of_each (λ (x : Bound). ⊤) spec.bounds (λ k x there. tt)))
       (all_missing spec IsLongEnough (λ i j left right missing asked. le_refl (least spec (conf_id i) (conf_id j))))
 
-  -- the first bound for a pair serves where each for that pair does
+  -- the first bound for a pair is sufficient if each bound for the pair is
   first_for : (xs : List Bound) (i j : ConfId) → is_bound_asked spec i j.0 ≡ true → AllByRecursion IsLongEnough xs → gives xs i.0 j.0 ≡ true
       → option_map_or (λ (t : ℕ). nat_le (least spec i j) t) (bound_in xs i.0 j.0) false ≡ true
   first_for [] i j asked all some = absurd (cc)
@@ -72,7 +72,7 @@ module _ (spec : Parts) where
       subst (λ (c : ConfId). least spec c j ≤ x.frames) from (subst (λ (d : ConfId). least spec x.from d ≤ x.frames) to (all.0 here)))
       (first_for xs i j asked all.1) some
 
-  -- each pair for which a bound is asked has one
+  -- each pair for which a bound is required has one
   filled_gives : (i j : ℕ) → i < length spec.confs → j < length spec.confs → is_bound_asked spec (conf_id i) j ≡ true → gives (filled_bounds spec) i j ≡ true
   filled_gives i j left right asked = gives_append (map (raised spec) spec.bounds) (missing_bounds spec) i j ∙ by_bool (gives spec.bounds i j)
       (λ t. or_left (gives (map (raised spec) spec.bounds) i j) (gives (missing_bounds spec) i j) (gives_raised spec spec.bounds i j ∙ t))
@@ -92,7 +92,7 @@ module _ (spec : Parts) where
   window_serves : window_refusal (filled spec) ≡ None
   window_serves = none_shown _ _ (wide_enough spec.window (greatest_bound (filled_bounds spec) + 1))
 
-  -- what does not depend on bounds and the window
+  -- the parts that do not depend on bounds and the window
 
   same_load : (c : ConfId) (p n : ℕ) → load_below (filled spec) c p n ≡ load_below spec c p n
   same_load c p zero = refl

@@ -40,7 +40,7 @@ gives_append (x ∷ xs) ys i j =
     gives_cons x (xs ++ ys) i j ∙ ap (λ (b : Bool). is_for i j x || b) (gives_append xs ys i j)
     ∙ sym (or_assoc (is_for i j x) (gives xs i j) (gives ys i j)) ∙ ap (λ (b : Bool). b || gives ys i j) (sym (gives_cons x xs i j))
 
--- what holds of each
+-- a property of each bound
 
 pub all_weaker : (P Q : Bound → Type 0) (xs : List Bound) → ((x : Bound) → P x → Q x) → AllByRecursion P xs → AllByRecursion Q xs
 all_weaker P Q [] turn all = tt
@@ -88,14 +88,14 @@ apart_append (x ∷ xs) ys one two other = (
   apart_append xs ys one.1 two other.1,
 )
 
--- a bound is for the pair of another where that is for the pair of this one
+-- if one bound is for the pair of another, the other is for the pair of the first
 turned : (x y : Bound) → is_for x.from.0 x.to.0 y ≡ false → is_for y.from.0 y.to.0 x ≡ false
 turned x y none = by_bool (is_for y.from.0 y.to.0 x) (λ t.
     let from : x.from.0 ≡ y.from.0 = equal x.from.0 y.from.0 (and_left _ _ t) in
     let to : x.to.0 ≡ y.to.0 = equal x.to.0 y.to.0 (and_right _ _ t) in
     true_false (is_for x.from.0 x.to.0 y) (and_true _ _ (equal_test y.from.0 x.from.0 (sym from)) (equal_test y.to.0 x.to.0 (sym to))) none) (λ f. f)
 
--- the two ways to say it
+-- the two statements agree
 
 tail_new : (x : Bound) (xs : List Bound) → NoneAgain lists_pair (x ∷ xs) → NoneAgain lists_pair xs
 tail_new x xs new i y there =
@@ -119,7 +119,7 @@ new_of_apart (x ∷ xs) apart (suc i) y there =
     let other = turned x y (each_of_all (λ (z : Bound). is_for x.from.0 x.to.0 z ≡ false) xs (all_of_none xs x.from.0 x.to.0 apart.0) i y there) in
     gives_cons x (take i xs) y.from.0 y.to.0 ∙ rw (other, new_of_apart xs apart.1 i y there) refl
 
--- how many they are
+-- the number of bounds
 
 -- both configurations are below 12
 abbrev pub IsNear : Bound → Type 0
@@ -155,7 +155,7 @@ numbers_below (x ∷ xs) near q some = elim (or_cases (q == pair_number x) (list
   | inr rest ↦ numbers_below xs near.1 q rest
 ]
 
--- as many bounds as pairs at most
+-- there are at most as many bounds as pairs
 pub apart_few : (xs : List Bound) → Apart xs → AllByRecursion IsNear xs → length xs ≤ 144
 apart_few xs apart near =
     let few = length-le_from_distinct_below (map pair_number xs) 144 (numbers_distinct xs apart near) (numbers_below xs near) in

@@ -1,4 +1,4 @@
--- What is filled in is a specification, which a document can say.
+-- A filled-in specification satisfies the invariant and can be written as a document.
 use Rattle.std.proofs.Common.{◌≡◌, ◌∙◌, ℕ, ◌+◌, ◌<◌, ◌≤◌, Bool, true, false, not, refl, arith, ap, sym, List, [], ◌∷◌, length, map}
 use Rattle.std.specs.Prelude.{None, max, nat_lt, ◌==◌, ◌||◌, if◌then◌else◌}
 use Rattle.std.specs.List.{AllByRecursion}
@@ -30,7 +30,7 @@ some_sum a b c d = omega arith
 pub least_some : (spec : Parts) (i j : ConfId) → 1 ≤ least spec i j
 least_some spec i j = some_sum _ _ _ _
 
--- what holds of bounds as they are made longer
+-- a property of bounds after they are raised
 
 pub all_raised : (spec : Parts) (P Q : Bound → Type 0) (xs : List Bound) → ((x : Bound) → P x → Q (raised spec x)) → AllByRecursion P xs → AllByRecursion Q (map (raised spec) xs)
 all_raised spec P Q [] turn all = tt
@@ -45,7 +45,7 @@ apart_raised : (spec : Parts) (xs : List Bound) → Apart xs → Apart (map (rai
 apart_raised spec [] apart = tt
 apart_raised spec (x ∷ xs) apart = (gives_raised spec xs x.from.0 x.to.0 ∙ apart.0, apart_raised spec xs apart.1)
 
--- a pair that has a bound misses none
+-- a pair that has a bound is not missing one
 none_missing : (spec : Parts) (i j : ℕ) → gives spec.bounds i j ≡ true → gives (missing_bounds spec) i j ≡ false
 none_missing spec i j some = none_of (missing_bounds spec) i j (all_missing spec (λ (x : Bound). is_for i j x ≡ false)
     (λ k m left right missing. by_bool (is_for i j (least_bound spec k m))
@@ -57,7 +57,7 @@ none_missing spec i j some = none_of (missing_bounds spec) i j (all_missing spec
     (λ f. f)))
 
 module _ (spec : Parts) (made : IsSpec spec) (writable : IsWritable spec) (free : length_refusal spec ≡ None) where
-  -- no bound that is asked for would be too long
+  -- no required bound would be too long
   pub least_fits : (i j : ConfId) → i.0 < length spec.confs → j.0 < length spec.confs → is_bound_asked spec i j.0 ≡ true → least spec i j ≤ 1000
   least_fits i j left right asked =
       let row : long_refusal_of spec i.0 ≡ None = below_none (long_refusal_of spec) (length spec.confs) i.0 (none_left (long_refusal spec) (wide_refusal (greatest_bound (filled_bounds spec))) free) left in

@@ -1,4 +1,4 @@
--- What was found of a specification, put into it.
+-- A specification with the bounds and the window that were found for it.
 use Rattle.std.proofs.Common.{◌≡◌, ◌∙◌, ℕ, ◌+◌, ap, sym, subst, List, ◌++◌}
 use Rattle.std.specs.Prelude.{None, codes, max}
 use Rattle.scram_types.specs.declared.specification.Bound.{Bound}

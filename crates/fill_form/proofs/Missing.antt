@@ -1,4 +1,4 @@
--- The bounds that are asked for and not given.
+-- The bounds that are required and not given.
 use Rattle.std.proofs.Common.{◌≡◌, ◌∙◌, ℕ, zero, suc, ◌+◌, ◌<◌, Bool, true, false, refl, arith, ap, subst, List, [], ◌∷◌, ◌++◌, length}
 use Rattle.std.specs.Prelude.{◌==◌, if◌then◌else◌}
 use Rattle.std.specs.List.{AllByRecursion}
@@ -62,7 +62,7 @@ gives_one true x is = gives_cons x [] x.from.0 x.to.0 ∙ or_left (is_for x.from
 gives_one false x is = absurd (cc)
 
 module _ (spec : Parts) where
-  -- what holds of the least bound of each missing pair holds of each missing bound
+  -- a property of the smallest bound of each missing pair holds for each missing bound
   pub all_missing : (P : Bound → Type 0) → ((i j : ℕ) → i < length spec.confs → j < length spec.confs → is_bound_missing spec i j ≡ true → P (least_bound spec i j)) → AllByRecursion P (missing_bounds spec)
   all_missing P each = all_below P (missing_from spec) (length spec.confs) (λ i left. all_below P (missing_bound spec i) (length spec.confs)
       (λ j right. all_one P (is_bound_missing spec i j) (least_bound spec i j) (each i j left right)))

@@ -1,4 +1,4 @@
--- What is answered of a specification that is to be filled in.
+-- The answer to a specification that is to be filled in.
 use Rattle.std.specs.Prelude.{◌≡◌, ℕ, List, [], Option, Some, None, Vec}
 use Rattle.scram_types.specs.Specification.{Parts}
 use Rattle.scram_io.specs.Outside.{History}
@@ -11,21 +11,21 @@ use Rattle.form_base.specs.Specifications.{AsksSpecification}
 use Rattle.fill_form.specs.Filling.{filled_text}
 use Rattle.fill_form.specs.Refusing.{fill_refusal}
 
--- The answer to `fill`, by why the specification is not filled in.
+-- The answer to `fill`, given the reason why the specification is not filled in, if any.
 abbrev pub fill_answer : Parts → Option Shown → ℕ × List ℕ
 fill_answer spec (Some shown) = (NOT_ACCEPTED, shown_line spec shown)
 fill_answer spec None = (ANSWERED, filled_text spec)
 
--- The text is what is answered.
+-- The answer is the printed text with status 0.
 abbrev pub TellsText : {A : Type 0} → Vec ℕ A → ℕ → List ℕ → Type 0
 TellsText printed = Gives (ANSWERED, printed.items)
 
--- The answer to `fill` and the name of a specification's file.
+-- The answer to `fill` with the name of a specification's file.
 abbrev pub FillAnswers : List ℕ → Answer
 FillAnswers specification = AsksSpecification specification (λ (spec : Parts). WithoutFiles (Gives (fill_answer spec (fill_refusal spec))))
 
--- Where `fill` ends with status 0, no other file was read, nothing keeps the specification from being filled in, and the
--- text is that of the specification with the bounds and the window that serve.
+-- If `fill` ends with status 0, no other file was read and filling in is not refused. The text is then that of the
+-- specification with sufficient bounds and a sufficient window.
 abbrev pub AssuresFill : List ℕ → History → List ℕ → Type 0
 AssuresFill specification =
     OfSpecification specification (λ (spec : Parts) (reads : History) (text : List ℕ). (reads ≡ []) × (fill_refusal spec ≡ None) × (text ≡ filled_text spec))

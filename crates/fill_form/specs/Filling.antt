@@ -1,4 +1,4 @@
--- The specification with the bounds and the window that serve.
+-- A specification filled in with sufficient bounds and a sufficient window.
 use Rattle.std.specs.Prelude.{ℕ, zero, suc, ◌+◌, max, Bool, not, ◌&&◌, List, [], ◌∷◌, ◌++◌, length, map, codes, is_some, if◌then◌else◌}
 use Rattle.scram_types.specs.declared.specification.Bound.{Bound}
 use Rattle.scram_types.specs.Lookups.{conf_id}
@@ -6,7 +6,7 @@ use Rattle.scram_types.specs.Specification.{Parts, bound_in}
 use Rattle.coverage_check.specs.Timing.{greatest_bound, is_bound_asked, least}
 use Rattle.spec_text.specs.Texts.{spec_text}
 
--- A bound that is given, made as long as acceptance asks.
+-- A given bound, raised to the length that acceptance requires.
 abbrev pub raised : Parts → Bound → Bound
 raised spec bound = record {
   from = bound.from;
@@ -14,40 +14,40 @@ raised spec bound = record {
   frames = if is_bound_asked spec bound.from bound.to.0 then max bound.frames (least spec bound.from bound.to) else bound.frames;
 }
 
--- A bound from i to j is asked for and not given.
+-- Whether a bound from `i` to `j` is required and not given.
 abbrev pub is_bound_missing : Parts → ℕ → ℕ → Bool
 is_bound_missing spec i j = is_bound_asked spec (conf_id i) j && not (is_some (bound_in spec.bounds i j))
 
--- The least bound from i to j that serves.
+-- The smallest sufficient bound from `i` to `j`.
 abbrev pub least_bound : Parts → ℕ → ℕ → Bound
 least_bound spec i j = record { from = conf_id i; to = conf_id j; frames = least spec (conf_id i) (conf_id j) }
 
--- The bound from i to j, where it is asked for and not given.
+-- The smallest sufficient bound from `i` to `j` if a bound is required and not given, else the empty list.
 abbrev pub missing_bound : Parts → ℕ → ℕ → List Bound
 missing_bound spec i j = if is_bound_missing spec i j then least_bound spec i j ∷ [] else []
 
--- The bounds of the numbers below n, one after another.
+-- The bounds of the numbers below `n`, one after another.
 abbrev pub bounds_below : (ℕ → List Bound) → ℕ → List Bound
 bounds_below bounds zero = []
 bounds_below bounds (suc n) = bounds_below bounds n ++ bounds n
 
--- The bounds from i that are asked for and not given, by target.
+-- The bounds from `i` that are required and not given, by target.
 abbrev pub missing_from : Parts → ℕ → List Bound
 missing_from spec i = bounds_below (missing_bound spec i) (length spec.confs)
 
--- The bounds that are asked for and not given, by source and then by target.
+-- The bounds that are required and not given, by source and then by target.
 abbrev pub missing_bounds : Parts → List Bound
 missing_bounds spec = bounds_below (missing_from spec) (length spec.confs)
 
--- The bounds that are given, each as long as it has to be, and behind them those that are missing.
+-- The given bounds, each raised as far as required, followed by the missing bounds.
 abbrev pub filled_bounds : Parts → List Bound
 filled_bounds spec = map (raised spec) spec.bounds ++ missing_bounds spec
 
--- A window that holds the greatest of these bounds and one frame more.
+-- The given window, or one frame more than the greatest of these bounds if that is greater.
 abbrev pub filled_window : Parts → ℕ
 filled_window spec = max spec.window (greatest_bound (filled_bounds spec) + 1)
 
--- The same specification with these bounds and this window.
+-- The specification with its bounds and its window replaced by these.
 abbrev pub with_times : Parts → List Bound → ℕ → Parts
 with_times spec bounds window = record {
   procs = spec.procs;
@@ -67,10 +67,10 @@ with_times spec bounds window = record {
   window = window;
 }
 
--- The specification with the bounds and the window that serve.
+-- The specification with sufficient bounds and a sufficient window.
 abbrev pub filled : Parts → Parts
 filled spec = with_times spec (filled_bounds spec) (filled_window spec)
 
--- Its canonical text, as a line.
+-- The canonical text of the filled-in specification, as a line.
 abbrev pub filled_text : Parts → List ℕ
 filled_text spec = spec_text (filled spec) ++ codes "\n"

@@ -1,4 +1,4 @@
--- Why a specification is not filled in.
+-- The reasons why a specification is not filled in.
 use Rattle.std.specs.Prelude.{◌≡◌, ℕ, ◌+◌, Bool, ◌&&◌, nat_lt, length, Option}
 use Rattle.std.specs.Option.{option_or}
 use Rattle.scram_types.specs.declared.limits.TheConstants.{MAX_BOUND, MAX_WINDOW}
@@ -14,21 +14,21 @@ use Rattle.coverage_check.specs.Timing.{greatest_bound, is_bound_asked, least}
 use Rattle.fill_form.specs.declared.filling.Filling.{Filling}
 use Rattle.fill_form.specs.Filling.{filled_bounds}
 
--- A bound from i to j is asked for, and the least that serves is longer than a bound may be. One that is given is then
--- too short.
+-- Whether a bound from `i` to `j` is required and the smallest sufficient bound is longer than a bound may be. Any
+-- given bound is then too short.
 abbrev pub asks_too_long : Parts → ℕ → ℕ → Bool
 asks_too_long spec i j = is_bound_asked spec (conf_id i) j && nat_lt MAX_BOUND (least spec (conf_id i) (conf_id j))
 
--- The refusal for the first target of configuration i whose bound would be too long.
+-- The refusal for the first target of configuration `i` whose bound would be too long, or `None` if there is none.
 abbrev pub long_refusal_of : Parts → ℕ → Option Shown
 long_refusal_of spec i =
     first_below (λ j. shown_if (asks_too_long spec i j) (shown_at 9 i (other.Least (conf_id j) (least spec (conf_id i) (conf_id j))))) (length spec.confs)
 
--- The refusal of A9 for the first bound that would be too long.
+-- The refusal of A9 for the first bound that would be too long, or `None` if there is none.
 abbrev pub long_refusal : Parts → Option Shown
 long_refusal spec = first_below (long_refusal_of spec) (length spec.confs)
 
--- The refusal of A10, where the window would be longer than one may be; `greatest` is the greatest bound.
+-- The refusal of A10 if the window for the greatest bound `greatest` would be longer than a window may be.
 abbrev pub wide_refusal : ℕ → Option Shown
 wide_refusal greatest = shown_if (nat_lt MAX_WINDOW (greatest + 1)) (shown_nowhere 10 (other.Count greatest))
 
@@ -36,11 +36,12 @@ wide_refusal greatest = shown_if (nat_lt MAX_WINDOW (greatest + 1)) (shown_nowhe
 abbrev pub length_refusal : Parts → Option Shown
 length_refusal spec = option_or (long_refusal spec) (wide_refusal (greatest_bound (filled_bounds spec)))
 
--- Why a specification is not filled in: too many environments, a bound or a window that would be too long.
+-- The reason why a specification is not filled in, if any: too many environments, or a bound or a window that would be
+-- too long.
 abbrev pub fill_refusal : Parts → Option Shown
 fill_refusal spec = option_or (state_refusal spec) (length_refusal spec)
 
--- The bounds that serve, the greatest of them, and why they may not be given.
+-- A filling holds the sufficient bounds, the greatest of them, and the refusal if they may not be given.
 pub record IsFilling (spec : Parts) (filling : Filling) : Type 0 where
   pub bounds : filling.bounds.items ≡ filled_bounds spec
   pub greatest : filling.greatest ≡ greatest_bound (filled_bounds spec)

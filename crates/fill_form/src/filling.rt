@@ -1,4 +1,4 @@
-//! The bounds and the window that serve.
+//! Sufficient bounds and a sufficient window.
 
 ghost use Rattle.std.specs.Prelude.{◌≡◌, ◌<◌, ◌≤◌, ◌++◌, IfOk, OnOk, length, map};
 ghost use Rattle.std.specs.Option.{option_or};
@@ -13,7 +13,7 @@ use scram_types::{Bound, ConfId, NoMemory, Spec};
 use spec_forms::{find_asked, is_asked};
 use std::alloc::{AllocError, Global};
 
-/// The bounds that serve a specification, the greatest of them, and why they may not be given.
+/// The sufficient bounds of a specification, the greatest of them, and the refusal if they may not be given.
 #[derive(Drop)]
 pub struct Filling {
     pub bounds: Vec<Bound>,
@@ -21,8 +21,8 @@ pub struct Filling {
     pub refusal: Option<Shown>,
 }
 
-/// Returns the bounds that serve a specification: those that are given, each as long as it has to be, and behind them
-/// those that are missing, by source and then by target.
+/// Returns sufficient bounds of a specification: the given bounds, each raised as far as required, followed by the
+/// missing bounds, by source and then by target.
 ///
 /// # Errors
 ///
@@ -81,7 +81,8 @@ fn raise_bounds(alloc: Global, spec: &Spec, sets: &[u16; 12]) -> Result<Vec<Boun
     Ok(bounds)
 }
 
-// Returns a bound that is given, made as long as acceptance asks; `set` has those from its source that are asked for.
+// Returns a given bound, raised to the length that acceptance requires, where `set` is the set of required targets from
+// its source.
 fn raised(spec: &Spec, set: u16, bound: &Bound) -> Bound
     requires set { set ≡ asked_bounds spec.now bound.now.from }
     requires to { bound.now.to.0 < length spec.now.confs }
@@ -97,7 +98,7 @@ fn raised(spec: &Spec, set: u16, bound: &Bound) -> Bound
     Bound { from, to, frames }
 }
 
-// Appends the bounds that are asked for and not given.
+// Appends the bounds that are required and not given.
 fn add_missing(bounds: &mut Vec<Bound>, spec: &Spec, sets: &[u16; 12]) -> Result<(), AllocError>
     requires { HasAskedBounds spec.now sets.now }
     ensures { OnOk result (bounds.new.items ≡ bounds.old.items ++ missing_bounds spec.now) }

@@ -27,8 +27,8 @@ use scram_io::{Files, Sink};
 use scram_types::{Bound, List, NoMemory, Spec};
 use std::alloc::Global;
 
-/// Prints the specification in a file with the bounds and the window that serve, where it has few enough environments in
-/// scope and none of these would be too long.
+/// Prints the specification in a file with sufficient bounds and a sufficient window, unless it has too many
+/// environments in scope or one of these would be too long.
 pub fn fill<F: Files, K: Sink>(
     alloc: Global,
     specification: &str,
@@ -44,7 +44,7 @@ pub fn fill<F: Files, K: Sink>(
     }
 }
 
-/// Reads the specification, and writes it with the bounds and the window that serve.
+/// Reads the specification and returns its text with sufficient bounds and a sufficient window.
 fn read_filled<F: Files>(
     alloc: Global,
     specification: &str,
@@ -74,7 +74,7 @@ fn fill_in(alloc: Global, spec: Spec) -> Result<Vec<u8>, Refusal>
     }
 }
 
-// Returns the refusal of a specification for what is shown.
+// Returns the refusal of a specification for the reason `shown`.
 fn refuse(spec: Spec, shown: &Shown) -> Refusal
     ensures { told result ≡ (NOT_ACCEPTED, shown_line spec shown.now) }
 {
@@ -83,7 +83,7 @@ fn refuse(spec: Spec, shown: &Shown) -> Refusal
     Refusal::new(Refused::Acceptance, line)
 }
 
-// Writes the specification with what was found, where that may be given.
+// Returns the text of the specification with the filling, or the filling's refusal.
 fn write_filled(alloc: Global, spec: Spec, filling: Filling) -> Result<Vec<u8>, Refusal>
     requires writable { IsWritable spec }
     requires few { state_refusal spec ≡ None }

@@ -1,8 +1,8 @@
-//! What filling in comes to: each function's contract is a law.
+//! The theorem about filled-in specifications. The function states it by its contract.
 
 ghost use Rattle.fill_form.specs.Laws.{FilledIsAccepted};
 
-/// What is filled into a specification that breaks nothing but A9 and A10 is accepted.
+/// If a specification breaks at most A9 and A10 and filling in is not refused, the filled-in specification is accepted.
 pub fn filled_is_accepted()
     ensures { FilledIsAccepted }
 {}

@@ -1,4 +1,4 @@
-//! Why bounds or a window are not given: they would be too long.
+//! The refusals of bounds or a window that would be too long.
 
 ghost use Rattle.std.specs.Prelude.{◌≡◌};
 ghost use Rattle.coverage_check.specs.Timing.{asked_bounds};
@@ -12,7 +12,7 @@ use scram_types::limits::{MAX_BOUND, MAX_WINDOW};
 use scram_types::{ConfId, Spec};
 use spec_forms::is_asked;
 
-/// Returns the refusal of the first bound that is asked for and would be too long.
+/// Returns the refusal of the first required bound that would be too long, or `None` if there is none.
 pub(crate) fn refuse_long(spec: &Spec, sets: &[u16; 12]) -> Option<Shown>
     requires { HasAskedBounds spec.now sets.now }
     ensures { result ≡ long_refusal spec.now }
@@ -26,7 +26,7 @@ pub(crate) fn refuse_long(spec: &Spec, sets: &[u16; 12]) -> Option<Shown>
     None
 }
 
-// Returns the same of the bounds from configuration number `i`; `set` has those that are asked for.
+// Returns the refusal of the first such bound from configuration `i`, where `set` is the set of required targets.
 fn refuse_long_of(spec: &Spec, set: u16, i: u8) -> Option<Shown>
     requires { set ≡ asked_bounds spec.now (conf_id i) }
     ensures { result ≡ long_refusal_of spec.now i }
@@ -45,7 +45,7 @@ fn refuse_long_of(spec: &Spec, set: u16, i: u8) -> Option<Shown>
     None
 }
 
-/// Returns the refusal of the window that the greatest bound asks for, where it would be too long.
+/// Returns the refusal of the window that the greatest bound requires, or `None` if the window would not be too long.
 pub(crate) fn refuse_wide(greatest: u32) -> Option<Shown>
     ensures { result ≡ wide_refusal greatest }
 {

@@ -21,6 +21,6 @@ impl KindLaw for FlightControlLaw {
     }
 }
 
-/// A flight control: it moves the elevator and the aileron as the autopilot commands. What it answers is
-/// the law of kind 1; it gives its last answer again where the call is the same.
+/// A flight control, which moves the elevator and the aileron as the autopilot commands. It answers the law of kind 1
+/// and repeats its last answer if the call is the same.
 pub type FlightControl = Remembering<FlightControlLaw>;

@@ -1,4 +1,4 @@
--- From what was printed to how a form ends.
+-- The result of a form, from the text that it printed.
 use Rattle.std.proofs.Common.{◌≡◌, ℕ, ◌-◌, ◌<◌, ◌≤◌, List, [], ◌++◌, length, append_assoc, append-nil, refl, sym, ◌∙◌, ap, inl, inr, arith}
 use Rattle.std.specs.Prelude.{◌≢◌, Option, Some, None, Result, Ok, Err, IfSome, IsTrue, ◌⊎◌}
 use Rattle.scram_io.specs.Outside.{Agrees, CutOff, FileMap, FilesState, Flushed, History, Printed, Prints, Rose, SinkState, TakesSurely, Took, TookPrefix, Unrisen, taken}
@@ -19,7 +19,7 @@ printed_taken status text old new printed = record { shown = inl (refl, printed.
 pub cut_taken : (status : ℕ) (text : List ℕ) (old new : SinkState) → CutOff old new text → IsTaken old new UNWRITTEN_OUTPUT status text
 cut_taken status text old new cut = record { shown = inr (refl, cut.prefix, cut.rose); surely = cut.surely; count = cut.count }
 
--- a text was put, with its status where the sink did not fail
+-- a text was written, with its status if the sink did not fail
 pub put_taken : {A E : Type 0} (put : Result A E) (status : ℕ) (text : List ℕ) (old new : SinkState) → Prints put old new text → IsTaken old new (status_after put status) status text
 put_taken {A} {E} (Ok _) status text old new printed = printed_taken status text old new printed
 put_taken {A} {E} (Err _) status text old new cut = cut_taken status text old new cut
@@ -35,7 +35,7 @@ pub given_tells : (status : ℕ) (text : List ℕ) (old new : SinkState) (code :
 given_tells status text old new code read written taken =
     record { status = status; text = text; answer = inl refl; read = read; written = written; taken = taken }
 
--- the line of the refusal where the allocator is out of memory was printed
+-- the out-of-memory line was printed
 pub memory_tells : (A : ℕ → List ℕ → Type 0) (old new : SinkState) (code : ℕ) → IsTaken old new code OUT_OF_MEMORY memory_line → Tells A old new code
 memory_tells A old new code taken =
     record { status = OUT_OF_MEMORY; text = memory_line; answer = inr (refl, refl); read = λ same. absurd (omega (arith, same)); written = λ same. absurd (omega (arith, same)); taken = taken }
@@ -45,7 +45,7 @@ told_other : (A B : ℕ → List ℕ → Type 0) (status : ℕ) (text : List ℕ
 told_other A B status text turn (inl is) = inl (turn is)
 told_other A B status text turn (inr is) = inr is
 
--- another answer in the place of one
+-- one answer replaced by another
 pub tells_other : (A B : ℕ → List ℕ → Type 0) (old new : SinkState) (code : ℕ) → ((status : ℕ) (text : List ℕ) → A status text → B status text)
     → Tells A old new code → Tells B old new code
 tells_other A B old new code turn tells = record {
@@ -115,7 +115,7 @@ sent_surely_by (Some n) mid before between now last text first second = λ fits.
 sent_surely : (old mid new : SinkState) (text : List ℕ) → TakesSurely old mid text → Flushed mid new → IsQuietFor text old new
 sent_surely old mid new text first flushed = sent_surely_by old.surely mid.surely old.faults mid.faults new.faults new.surely text first flushed.surely
 
--- all that was taken went out
+-- all that was taken was sent
 pub went_out : (old mid new : SinkState) (text : List ℕ) → Flushed mid new → new.held ≡ [] → Took old mid text → WentOut old new text
 went_out old mid new text flushed empty took = record {
   sent = sym (append-nil new.sent) ∙ ap (λ (held : List ℕ). new.sent ++ held) (sym empty) ∙ flushed.same ∙ took;
@@ -163,7 +163,7 @@ shown_ends : (A : Answer) (names : List (List ℕ)) (before after : FilesState) 
 shown_ends A names before after S T turn ends =
     record { status = ends.status; text = ends.text; decides = ends.decides; written = ends.written; shown = turn ends.status ends.text ends.shown }
 
--- the flush had all go out
+-- the flush sent everything
 pub flushed_ends : (A : Answer) (names : List (List ℕ)) (before after : FilesState) (old mid new : SinkState) (code : ℕ) → Flushed mid new → new.held ≡ []
     → Ends A names before after (IsTaken old mid code) → Ends A names before after (IsSent old new code)
 flushed_ends A names before after old mid new code flushed empty ends =
@@ -175,7 +175,7 @@ pub failed_ends : (A : Answer) (names : List (List ℕ)) (before after : FilesSt
 failed_ends A names before after old mid new code flushed rose ends =
     shown_ends A names before after (IsTaken old mid code) (IsSent old new UNWRITTEN_OUTPUT) (λ status text is. failed_sent old mid new code status text flushed rose is) ends
 
--- where nothing can fail, no count rises
+-- if nothing can fail, no count rises
 
 room_for : (A : Answer) (map : FileMap) (names : List (List ℕ)) (before after : FilesState) (old : SinkState) (room : HasRoom A map before old) (reads : History) (status : ℕ) (text : List ℕ)
     → Agrees map reads → Unrisen before.faults after.faults → A before after reads status text ⊎ (IsMemoryRefusal status text × AreInTurn names reads) → length text ≤ room.room
@@ -219,7 +219,7 @@ pub unwritten_rose : (A : Answer) (names : List (List ℕ)) (before after : File
     → Rose old.faults new.faults
 unwritten_rose A names before after old new code ends unwritten = sent_unwritten A names before after old new code ends unwritten ends.shown.shown
 
--- what an answered status assures
+-- the assurance of status 0
 
 zero_answer : (A : Answer) (Assures : History → List ℕ → Type 0) (names : List (List ℕ)) (before after : FilesState) (reads : History) (code status : ℕ) (text : List ℕ)
     → IsAssuring A Assures → code ≡ ANSWERED → code ≡ status → A before after reads status text ⊎ (IsMemoryRefusal status text × AreInTurn names reads) → Assures reads text

@@ -1,4 +1,4 @@
--- What is left to write of names joined by pluses, some being written already or none.
+-- The rest of the text of names joined by pluses, whether or not some names are already written.
 use Rattle.std.specs.Prelude.{ℕ, Bool, List, if◌then◌else◌}
 use Rattle.form_base.specs.Lines.{added, further_added}
 

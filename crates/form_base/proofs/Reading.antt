@@ -1,4 +1,4 @@
--- From the files that were loaded to what is answered of them.
+-- The answer, from the files that were loaded.
 use Rattle.std.proofs.Common.{◌≡◌, ℕ, ◌≤◌, List, [], ◌∷◌, ◌++◌, refl, sym, ◌∙◌, ap, inl, inr, arith}
 use Rattle.std.specs.Prelude.{◌≢◌, Bool, Option, Some, None, IfNone, IfSome, IsSome, IsTrue, ◌⊎◌, ◌<◌, Result, Ok, Err, ⊤}
 use Rattle.scram_io.specs.Outside.{FileMap, FilesState, FoundLonger, Grew, History, Rose, SinkState, StaysSteady, Unrisen, file_at, greatest_count}
@@ -10,7 +10,7 @@ use Rattle.form_base.specs.Endings.{AreInTurn, AreThere, Decides, Ends, IsPrepar
 use Rattle.form_base.specs.Loads.{HasRead, IsOutOfMemory, IsUnloaded, Loads}
 use Rattle.form_base.specs.Refusals.{memory_line, read_line, told}
 
--- where no file is read, or one, or one more, no count of steady files rises
+-- if no file is read, or one, or one more, no fault count of steady files rises
 
 quiet_none_by : (told : Option FileMap) (names : List (List ℕ)) (files : FilesState) → (IsTrue files.steady → files.faults < greatest_count)
     → IfSome told (λ map. IsTrue files.steady → AreThere map names → Unrisen files.faults files.faults)
@@ -88,7 +88,7 @@ told_ends A files old new code below tells = record {
   shown = tells.taken;
 }
 
--- one more file was read first
+-- one further file was read first
 
 rose_since : (before between now : ℕ) → before ≤ between → Rose between now → Rose before now
 rose_since before between now count rose = omega (arith, count, rose)
@@ -111,7 +111,7 @@ first_decided {T} Says Breaks limit long name names Then value before mid after 
     inl (first_answer Says Breaks limit long name names Then value before mid after has reads status text is)
 first_decided {T} Says Breaks limit long name names Then value before mid after has reads status text (inr is) = inr (is.0, turn_first name has.bytes names reads is.1)
 
--- a document was read, and then what is answered of it
+-- a document was read, and then answered
 pub document_reads : {T U : Type 0} (Says : T → List ℕ → Type 0) (Breaks : ℕ × List ℕ → List ℕ → Type 0) (limit : ℕ) (long : ℕ × List ℕ) (name : List ℕ) (names : List (List ℕ)) (Then : T → Answer)
     (Rest : U → ℕ → List ℕ → Type 0) (value : T) (before mid after : FilesState) (result : Result U Refusal)
     → HasRead limit name (Says value) before mid → StaysSteady before mid name → Prepares (Then value) Rest names mid after result

@@ -1,4 +1,4 @@
--- From the specification in a file to what is answered of it.
+-- The answer, from the specification in a file.
 use Rattle.std.proofs.Common.{◌≡◌, ℕ, List, ◌∷◌}
 use Rattle.std.specs.Prelude.{Result}
 use Rattle.scram_types.specs.Specification.{Parts}
@@ -13,7 +13,7 @@ use Rattle.form_base.specs.Refusals.{told}
 use Rattle.form_base.specs.Specifications.{AsksSpecification, BreaksSpecification, SaysSpecification, long_specification}
 use Rattle.form_base.proofs.Reading.{document_reads, refused_reads}
 
--- the specification was read, and then what is answered of it
+-- the specification was read, and then answered
 pub specification_reads : {U : Type 0} (name : List ℕ) (names : List (List ℕ)) (Then : Parts → Answer) (Rest : U → ℕ → List ℕ → Type 0) (spec : Parts) (before mid after : FilesState) (result : Result U Refusal)
     → HasRead MAX_SPECIFICATION_BYTES name (SaysSpecification spec) before mid → StaysSteady before mid name → Prepares (Then spec) Rest names mid after result
     → Prepares (AsksSpecification name Then) Rest (name ∷ names) before after result

@@ -1,23 +1,23 @@
--- Answers: a status and a text, by what is read of files.
+-- Answers: a status and a text, depending on the files that were read.
 use Rattle.std.specs.Prelude.{◌≡◌, ◌⊎◌, ℕ, ◌<◌, ◌≤◌, List, [], ◌∷◌, length, IfNone}
 use Rattle.scram_io.specs.Outside.{FilesState, Grew, History, Rose}
 use Rattle.form_base.specs.declared.status.TheConstants.{UNREAD_FILE}
 use Rattle.form_base.specs.Refusals.{read_line}
 
--- Status and text are what is answered.
+-- The status and the text are those of the given answer.
 abbrev pub Gives : ℕ × List ℕ → ℕ → List ℕ → Type 0
 Gives answered status text = answered ≡ (status, text)
 
--- An answer: the files before and after, what was read of them meanwhile, and a status and a text.
+-- An answer: a relation of the files before and after, the reads made meanwhile, a status and a text.
 abbrev pub Answer : Type 1
 Answer = FilesState → FilesState → History → ℕ → List ℕ → Type 0
 
--- It is answered without reading any file.
+-- The answer is given without reading any file.
 abbrev pub WithoutFiles : (ℕ → List ℕ → Type 0) → Answer
 WithoutFiles Answers before after reads status text = (reads ≡ []) × Answers status text
 
--- The file of this name was read first and has no more bytes than the limit, and this is answered of them and of what
--- was read after it.
+-- The file of this name was read first and has at most `limit` bytes, and the answer depends on these bytes and on what
+-- was read after them.
 pub record AnswersBytes (limit : ℕ) (name : List ℕ) (Answers : List ℕ → Answer) (before after : FilesState)
     (reads : History) (status : ℕ) (text : List ℕ) : Type 0 where
   pub bytes : List ℕ
@@ -28,8 +28,8 @@ pub record AnswersBytes (limit : ℕ) (name : List ℕ) (Answers : List ℕ → 
   pub grew : Grew before between ((name, bytes) ∷ [])
   pub answers : Answers bytes between after rest status text
 
--- The file of this name alone was read, it has more bytes than the limit, and this is answered. Where the files have
--- no known map, their count of faults rose.
+-- Only the file of this name was read, it has more than `limit` bytes, and the answer is `long`. If the files have no
+-- known map, their fault count rose.
 pub record AnswersLonger (limit : ℕ) (long : ℕ × List ℕ) (name : List ℕ) (before after : FilesState)
     (reads : History) (status : ℕ) (text : List ℕ) : Type 0 where
   pub bytes : List ℕ
@@ -38,21 +38,21 @@ pub record AnswersLonger (limit : ℕ) (long : ℕ × List ℕ) (name : List ℕ
   pub counted : IfNone before.told (Rose before.faults after.faults)
   pub gives : Gives long status text
 
--- Reading the file of this name failed.
+-- Reading the file of this name failed, and the answer says so.
 abbrev pub AnswersFailed : List ℕ → Answer
 AnswersFailed name before after reads status text = (reads ≡ []) × Rose before.faults after.faults × Gives (UNREAD_FILE, read_line name) status text
 
--- What is answered where the file of this name is not there to be read whole.
+-- The file of this name is too long or reading it failed, and the answer says so.
 abbrev pub AnswersUnread : ℕ → ℕ × List ℕ → List ℕ → Answer
 AnswersUnread limit long name before after reads status text =
     AnswersLonger limit long name before after reads status text ⊎ AnswersFailed name before after reads status text
 
--- The file of this name is asked for, and nothing else unless its bytes are there.
+-- The file of this name is requested, and others are requested only if its bytes are there.
 abbrev pub AnswersFile : ℕ → ℕ × List ℕ → List ℕ → (List ℕ → Answer) → Answer
 AnswersFile limit long name Answers before after reads status text =
     AnswersBytes limit name Answers before after reads status text ⊎ AnswersUnread limit long name before after reads status text
 
--- The bytes say something, of which this is answered, or they break a rule, and this is reported.
+-- The bytes encode a value, to which the answer is given, or they break a rule, which the answer reports.
 abbrev pub AnswersDocument : {T : Type 0} → (T → List ℕ → Type 0) → (ℕ × List ℕ → List ℕ → Type 0) → (T → Answer) → List ℕ → Answer
 AnswersDocument {T} Says Breaks Then bytes before after reads status text =
     ((value : T) × Says value bytes × Then value before after reads status text) ⊎ ((reads ≡ []) × Breaks (status, text) bytes)

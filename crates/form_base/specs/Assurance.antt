@@ -1,4 +1,4 @@
--- What is assured by status 0, of what was read and of the text.
+-- Assurances of status 0: what holds for the files that were read and for the text.
 use Rattle.std.specs.Prelude.{◌≡◌, ℕ, List, ◌∷◌}
 use Rattle.scram_io.specs.Outside.{FilesState, Grew, History}
 use Rattle.scram_types.specs.Specification.{Parts}
@@ -6,11 +6,11 @@ use Rattle.form_base.specs.declared.status.TheConstants.{ANSWERED}
 use Rattle.form_base.specs.Answers.{Answer}
 use Rattle.form_base.specs.Specifications.{SaysSpecification}
 
--- What is answered with status 0 assures this of what was read and of the text.
+-- The assurance holds for the reads and the text of every answer with status 0.
 abbrev pub IsAssuring : Answer → (History → List ℕ → Type 0) → Type 0
 IsAssuring Answers Assures = (before after : FilesState) (reads : History) (text : List ℕ) → Answers before after reads ANSWERED text → Assures reads text
 
--- This is assured of what was read meanwhile and of a text, of which `Shown` says what became of it.
+-- The assurance holds for the reads made meanwhile and for a text for which `Shown` holds.
 pub record Assured (Assures : History → List ℕ → Type 0) (before after : FilesState) (Shown : List ℕ → Type 0) : Type 0 where
   pub reads : History
   pub text : List ℕ
@@ -18,7 +18,7 @@ pub record Assured (Assures : History → List ℕ → Type 0) (before after : F
   pub assures : Assures reads text
   pub shown : Shown text
 
--- The file of this name was read first, its bytes say something, and of that this is assured.
+-- The file of this name was read first, its bytes encode a value, and the assurance holds for that value.
 pub record OfDocument {T : Type 0} (Says : T → List ℕ → Type 0) (name : List ℕ) (Assures : T → History → List ℕ → Type 0)
     (reads : History) (text : List ℕ) : Type 0 where
   pub bytes : List ℕ
@@ -28,6 +28,7 @@ pub record OfDocument {T : Type 0} (Says : T → List ℕ → Type 0) (name : Li
   pub says : Says value bytes
   pub assured : Assures value rest text
 
--- The same of the specification in a file.
+-- The file of this name was read first, its bytes encode a specification, and the assurance holds for that
+-- specification.
 abbrev pub OfSpecification : List ℕ → (Parts → History → List ℕ → Type 0) → History → List ℕ → Type 0
 OfSpecification name Assures reads text = OfDocument SaysSpecification name Assures reads text

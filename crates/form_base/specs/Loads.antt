@@ -1,11 +1,11 @@
--- What the loading of a file says of the file and of its bytes.
+-- The results of loading a file.
 use Rattle.std.specs.Prelude.{◌≡◌, ◌≢◌, ◌⊎◌, ◌≤◌, ℕ, List, [], ◌∷◌, length, Result, Ok, Err, ⊤}
 use Rattle.scram_io.specs.Outside.{FilesState, FoundLonger, Grew, Rose}
 use Rattle.form_base.specs.declared.refusals.Refusal.{Refusal}
 use Rattle.form_base.specs.declared.status.TheConstants.{OUT_OF_MEMORY, UNREAD_FILE}
 use Rattle.form_base.specs.Refusals.{memory_line, read_line, told}
 
--- The file was read, and nothing else, and had bytes, no more than the limit, of which this holds.
+-- The file was read, and no other, and `Fact` holds for its bytes, of which there are at most `limit`.
 pub record HasRead (limit : ℕ) (name : List ℕ) (Fact : List ℕ → Type 0) (before after : FilesState) : Type 0 where
   pub bytes : List ℕ
   pub grew : Grew before after ((name, bytes) ∷ [])
@@ -16,13 +16,13 @@ pub record HasRead (limit : ℕ) (name : List ℕ) (Fact : List ℕ → Type 0) 
 abbrev pub IsOutOfMemory : ℕ × List ℕ → Type 0
 IsOutOfMemory refusal = refusal ≡ (OUT_OF_MEMORY, memory_line)
 
--- What bytes are read as: they say a value, or break a rule, or the allocator was out of memory.
+-- The result of reading bytes: a value that they encode, a rule that they break, or out of memory.
 abbrev pub ReadsAs : {T : Type 0} → (T → List ℕ → Type 0) → (ℕ × List ℕ → List ℕ → Type 0) → List ℕ → Result T Refusal → Type 0
 ReadsAs Says Breaks bytes (Ok value) = Says value bytes
 ReadsAs Says Breaks bytes (Err refusal) = Breaks (told refusal) bytes ⊎ IsOutOfMemory (told refusal)
 
--- Why a file was not loaded: its bytes break a rule; it is too long; the files failed; or the allocator was out of
--- memory, before the file was read or after.
+-- A file was not loaded: its bytes break a rule, it is too long, the files failed, or the allocator was out of memory
+-- before or after the reading.
 abbrev pub IsUnloaded : (ℕ × List ℕ → List ℕ → Type 0) → ℕ → ℕ × List ℕ → List ℕ → FilesState → FilesState → ℕ × List ℕ → Type 0
 IsUnloaded Breaks limit long name before after refusal =
     HasRead limit name (Breaks refusal) before after
@@ -30,7 +30,7 @@ IsUnloaded Breaks limit long name before after refusal =
     ⊎ (Grew before after [] × Rose before.faults after.faults × (refusal ≡ (UNREAD_FILE, read_line name)))
     ⊎ ((Grew before after [] ⊎ HasRead limit name (λ (bytes : List ℕ). ⊤) before after) × IsOutOfMemory refusal)
 
--- What became of loading a file.
+-- The result of loading a file.
 abbrev pub Loads : {T : Type 0} → (T → List ℕ → Type 0) → (ℕ × List ℕ → List ℕ → Type 0) → ℕ → ℕ × List ℕ → List ℕ
     → FilesState → FilesState → Result T Refusal → Type 0
 Loads Says Breaks limit long name before after (Ok value) = HasRead limit name (Says value) before after

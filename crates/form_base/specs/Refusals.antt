@@ -7,7 +7,7 @@ use Rattle.form_base.specs.declared.refusals.Refused.{Refused}
 use Rattle.form_base.specs.declared.refusals.Refused.TheVariants.{Usage, File, Specification, Acceptance, Script, Assumption, Memory, Trace, Schedule, Name}
 use Rattle.form_base.specs.declared.status.TheConstants.{BROKEN_SCHEDULE, BROKEN_SCRIPT, BROKEN_SPECIFICATION, BROKEN_TRACE, BROKEN_USAGE, NOT_ACCEPTED, OUT_OF_MEMORY, UNASSUMED_SCRIPT, UNKNOWN_NAME, UNREAD_FILE}
 
--- The status of what is refused.
+-- The status of a kind of refusal.
 abbrev pub code_of : Refused → ℕ
 code_of Usage = BROKEN_USAGE
 code_of File = UNREAD_FILE
@@ -29,7 +29,7 @@ line_text (Naming line) = string_bytes line
 abbrev pub told : Refusal → ℕ × List ℕ
 told refusal = (code_of refusal.refused, line_text refusal.line)
 
--- The line where the allocator is out of memory.
+-- The line of an out-of-memory refusal.
 abbrev pub memory_line : List ℕ
 memory_line = codes "refused: memory\n"
 
@@ -37,6 +37,6 @@ memory_line = codes "refused: memory\n"
 abbrev pub read_line : List ℕ → List ℕ
 read_line name = codes "refused: read " ++ name ++ codes "\n"
 
--- A status and a line say that the file of this name was not read, or that there is no memory for that line.
+-- A status and a line say that the file of this name was not read, or that there was no memory for that line.
 abbrev pub IsUnread : List ℕ → ℕ × List ℕ → Type 0
 IsUnread name refusal = (refusal ≡ (UNREAD_FILE, read_line name)) ⊎ (refusal ≡ (OUT_OF_MEMORY, memory_line))

@@ -1,5 +1,5 @@
-//! What every form of the command stands on: the statuses, refusals as values, the files that words name, and
-//! printing. A form reads its files, makes its text and prints it.
+//! The basis of every form of the command: the statuses, refusals as values, the files that words name, and printing. A
+//! form reads its files, makes its text and prints it.
 #![tactic(auto)]
 
 pub mod lines;

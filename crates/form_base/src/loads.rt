@@ -1,4 +1,4 @@
-//! Files that words name, loaded as what they say.
+//! Loading of the files that words name.
 
 ghost use Rattle.std.specs.Prelude.{◌≡◌, ◌≢◌, IfErr, ℕ, List};
 ghost use Rattle.scram_io.specs.Outside.{Rose, StaysSteady};
@@ -10,7 +10,7 @@ use crate::refusals::Refusal;
 use scram_io::{Files, ReadFault};
 use std::alloc::Global;
 
-/// A kind of document: how long it may be, and what its bytes say.
+/// A kind of document: its maximum length, and the values that its bytes encode.
 pub trait Document<T> {
     ghost limit: { Self → ℕ };
 
@@ -20,11 +20,11 @@ pub trait Document<T> {
 
     ghost Breaks: { Self → ℕ × List ℕ → List ℕ → Type 0 };
 
-    /// Returns the greatest number of bytes.
+    /// Returns the maximum number of bytes.
     fn limit(&self) -> usize
         ensures { result ≡ limit self.now };
 
-    /// Returns what the bytes say, or the first rule that they break.
+    /// Returns the value that the bytes encode, or the refusal of the first rule that they break.
     fn read(&self, alloc: Global, bytes: &[u8]) -> Result<T, Refusal>
         ensures reads { ReadsAs (Says self.now) (Breaks self.now) bytes.now result }
         ensures other { IfErr result (λ refusal. (told refusal).0 ≢ UNREAD_FILE) };

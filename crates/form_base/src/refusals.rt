@@ -1,4 +1,4 @@
-//! Refusals: why nothing else is answered.
+//! Refusals: a status and a line that are printed instead of an answer.
 
 ghost use Rattle.std.specs.Prelude.{◌≡◌};
 ghost use Rattle.form_base.specs.Refusals.{IsUnread, code_of, line_text, memory_line, told};
@@ -8,10 +8,10 @@ use crate::status;
 use std::alloc::Global;
 use trace_text::lines::Line;
 
-/// What is refused.
+/// A kind of refusal.
 #[derive(Clone, Copy, Debug, PartialEq, Eq)]
 pub enum Refused {
-    /// The words have no form of the command.
+    /// The words match no form of the command.
     Usage,
     /// A file was not read.
     File,
@@ -21,7 +21,7 @@ pub enum Refused {
     Acceptance,
     /// A file breaks a rule of scripts.
     Script,
-    /// A script leaves the failure assumption.
+    /// A script violates the failure assumption.
     Assumption,
     /// Out of memory.
     Memory,
@@ -34,7 +34,7 @@ pub enum Refused {
 }
 
 impl Refused {
-    /// Returns the status with which the command reports it.
+    /// Returns the status with which the command reports this refusal.
     pub fn code(self) -> u8
         ensures { result ≡ code_of self }
     {
@@ -56,13 +56,13 @@ impl Refused {
 /// The line of a refusal.
 #[derive(Drop)]
 pub enum RefusalLine {
-    /// A line that is made without memory.
+    /// A line that is made without allocation.
     Short(Line),
     /// A line with the name of a file, which may have any length.
     Naming(String),
 }
 
-/// Why nothing else is answered.
+/// A refusal: its kind and its line.
 #[derive(Drop)]
 pub struct Refusal {
     pub refused: Refused,
@@ -70,7 +70,7 @@ pub struct Refusal {
 }
 
 impl Refusal {
-    /// Returns the refusal by a line that is made without memory.
+    /// Returns the refusal with a line that is made without allocation.
     pub fn new(refused: Refused, line: Line) -> Refusal
         ensures { told result ≡ (code_of refused, line) }
     {
@@ -80,7 +80,7 @@ impl Refusal {
         }
     }
 
-    /// Returns the refusal where the allocator is out of memory.
+    /// Returns the out-of-memory refusal.
     pub fn out_of_memory() -> Refusal
         ensures { told result ≡ (OUT_OF_MEMORY, memory_line) }
     {
@@ -89,8 +89,8 @@ impl Refusal {
         Refusal::new(Refused::Memory, line)
     }
 
-    /// Returns the refusal of a file that was not read, which has the file's name; where there is no memory for that
-    /// line, the refusal that says so.
+    /// Returns the refusal of a file that was not read, which contains the file's name, or the out-of-memory refusal if
+    /// there is no memory for that line.
     pub fn unread(alloc: Global, name: &str) -> Refusal
         ensures { IsUnread name.now (told result) }
     {

@@ -1,21 +1,21 @@
-//! How the command ends.
+//! The statuses of the command.
 
-/// How the command ended, by one of the statuses below.
+/// The status with which the command ended, one of the constants below.
 #[derive(Clone, Copy, Debug, PartialEq, Eq)]
 pub struct Status {
     pub code: u8,
 }
 
-/// What was asked for is done and printed.
+/// The request was carried out and its output printed.
 pub const ANSWERED: u8 = 0;
 
-/// The words have no form of the command.
+/// The words match no form of the command.
 pub const BROKEN_USAGE: u8 = 2;
 
 /// A file was not read.
 pub const UNREAD_FILE: u8 = 3;
 
-/// The output was not written, or not all of it.
+/// The output was not written, or only a part of it.
 pub const UNWRITTEN_OUTPUT: u8 = 4;
 
 /// The specification's file breaks a rule of specifications.
@@ -27,7 +27,7 @@ pub const NOT_ACCEPTED: u8 = 6;
 /// The script's file breaks a rule of scripts.
 pub const BROKEN_SCRIPT: u8 = 7;
 
-/// The script leaves the failure assumption.
+/// The script violates the failure assumption.
 pub const UNASSUMED_SCRIPT: u8 = 8;
 
 /// Out of memory.

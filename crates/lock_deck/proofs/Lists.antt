@@ -1,14 +1,14 @@
--- What holds of all elements of a list, after one more or other ones.
+-- A property of all elements of a list, after elements are added or replaced.
 use Rattle.std.proofs.Common.{◌≡◌, ℕ, List, [], ◌∷◌, ◌++◌, subst, sym}
 use Rattle.std.specs.Prelude.{All, IfSome, None, OnOk, Option, Some, Result, Ok, Err, take, drop}
 use Rattle.std.proofs.lemmas.List.Elements.{All-append, All-drop, All-push, All-take}
 
--- one more, if it is there
+-- one further element, if there is one
 pub kept : {X : Type 0} (P : X → Type 0) (xs : List X) (o : Option X) (x : X) → o ≡ Some x → IfSome o P → All P xs → All P (xs ++ x ∷ [])
 kept P xs None x same one all = cc
 kept P xs (Some y) x same one all = let is : y ≡ x = cc in All-push P xs x all (subst P is one)
 
--- what holds of the only one that it can be
+-- a property of the only element that it can be
 pub kept_same : {X : Type 0} (P : X → Type 0) (o : Option X) (x : X) → IfSome o (λ y. y ≡ x) → P x → IfSome o P
 kept_same P None x is p = tt
 kept_same P (Some y) x is p = subst P (sym is) p

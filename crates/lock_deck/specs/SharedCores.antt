@@ -1,4 +1,4 @@
--- What is drafted, and what is seen for it.
+-- Drafts and snapshots of a mission, and the kinds of a turn's result.
 use Rattle.std.specs.Prelude.{◌≡◌, ℕ, Bool, true, false}
 use Rattle.coverage_check.specs.Missions.{MissionParts}
 use Rattle.fail_stop.specs.declared.snapshots.Draft.{Draft}
@@ -10,19 +10,19 @@ use Rattle.frame_model.specs.Flights.{draft}
 use Rattle.lock_deck.specs.declared.made.Made.{Made}
 use Rattle.lock_deck.specs.declared.made.Made.TheVariants.{Nothing, Started, Moved, Saw, Done, Halted}
 
--- It is what processor p drafts in that frame of the mission.
+-- The draft `made` is that of processor `p` in its frame of the mission.
 abbrev pub IsDraftOf : MissionParts → ℕ → Draft → Type 0
 IsDraftOf mission p made = made.image ≡ draft mission.spec mission.script p made.frame
 
--- It is word i of what processor p drafts in frame f of the mission.
+-- The word is word `i` of the draft of processor `p` in frame `f` of the mission.
 abbrev pub IsDraftWord : MissionParts → ℕ → ℕ → ℕ → ℕ → Type 0
 IsDraftWord mission p f i word = word ≡ word_in (draft_words mission.spec mission.script p f) i
 
--- It is the snapshot of its frame in the mission.
+-- The snapshot is that of its frame in the mission.
 abbrev pub IsSnapshotOf : MissionParts → Snapshot → Type 0
 IsSnapshotOf mission snap = IsSnapshot mission.spec mission.script snap.kernel.frame snap
 
--- Of what was seen, if anything was, this holds.
+-- The condition holds for the snapshot that a turn returned, if it returned one.
 abbrev pub IfSaw : Made → (Snapshot → Type 0) → Type 0
 IfSaw Nothing Fact = Unit {0}
 IfSaw Started Fact = Unit {0}
@@ -31,7 +31,7 @@ IfSaw (Saw snap) Fact = Fact snap
 IfSaw Done Fact = Unit {0}
 IfSaw (Halted frame) Fact = Unit {0}
 
--- It was a start.
+-- Whether the turn made a start.
 abbrev pub is_start : Made → Bool
 is_start Nothing = false
 is_start Started = true
@@ -40,7 +40,7 @@ is_start (Saw snap) = false
 is_start Done = false
 is_start (Halted frame) = false
 
--- It was a halt.
+-- Whether the turn made a halt.
 abbrev pub is_halt : Made → Bool
 is_halt Nothing = false
 is_halt Started = false

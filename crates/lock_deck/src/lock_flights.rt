@@ -25,8 +25,8 @@ use std::thread;
 use std::thread::{Scope, Threads};
 use trace_props::missions::reconfigurations_are_assured;
 
-/// A flight of a mission before its first step, with all memory that it needs. That its processors are those of the
-/// mission is stated by clauses; two fields are public so that clauses can name them.
+/// A flight of a mission before its first step, with all memory that it needs. Clauses state that its processors are
+/// those of the mission; two fields are public so that clauses can name them.
 #[derive(Drop)]
 pub struct LockFlight<'a> {
     pub mission: &'a Mission,
@@ -39,8 +39,8 @@ pub struct LockFlight<'a> {
 }
 
 impl<'a> LockFlight<'a> {
-    /// Returns a flight of this mission, before its first step. Rack `p` is that of processor `p`, and spare rack `p`
-    /// is for its restart. It allocates all memory that the flight needs; the only error is out of memory.
+    /// Returns a flight of this mission before its first step. Rack `p` belongs to processor `p`, and spare rack `p` is
+    /// for its restart. It allocates all memory that the flight needs; the only error is out of memory.
     pub fn open(
         alloc: Global,
         mission: &'a Mission,
@@ -64,8 +64,8 @@ impl<'a> LockFlight<'a> {
         })
     }
 
-    /// Flies the mission with a thread for each processor and the kernel on the caller's, until the flight is over. A
-    /// processor whose thread cannot be started is flown round-robin by the caller. It may block.
+    /// Flies the mission until the flight is over, with a thread for each processor and the kernel on the caller's
+    /// thread. Processors whose threads cannot be started are flown round-robin by the caller. It may block.
     pub fn run<R: Threads + Wait + Sync>(self, rt: &R) -> Core<'a>
         requires fits { All (λ member. MemberFits self.mission.now member.value) self.members.items }
         ensures spec { result.spec ≡ self.entry.mission.now.spec }
@@ -76,8 +76,8 @@ impl<'a> LockFlight<'a> {
         self.run_on(rt, [true; 8])
     }
 
-    /// As `run`, with threads for the processors that are asked for alone; the others are flown round-robin by the
-    /// caller.
+    /// Flies the mission like `run`, but with threads only for the processors that `asked` selects. The caller flies
+    /// the others round-robin.
     pub fn run_on<R: Threads + Wait + Sync>(self, rt: &R, asked: [bool; 8]) -> Core<'a>
         requires fits { All (λ member. MemberFits self.mission.now member.value) self.members.items }
         ensures spec { result.spec ≡ self.entry.mission.now.spec }
@@ -96,8 +96,7 @@ impl<'a> LockFlight<'a> {
     }
 }
 
-// Where processors fly: those that wait for a thread, those that the caller flies, and those for which threads are
-// asked.
+// The processors that wait for a thread, those that the caller flies, and those for which threads are requested.
 #[derive(Drop)]
 struct Roster {
     members: Vec<CachePadded<Member>>,
@@ -105,7 +104,7 @@ struct Roster {
     asked: [bool; 8],
 }
 
-// Returns the processors of a mission with their racks, from the last one down.
+// Returns the processors of a mission with their racks, from the last processor down.
 fn make_members(
     alloc: Global,
     mission: &Mission,
@@ -124,7 +123,7 @@ fn make_members(
     Ok(members)
 }
 
-// Adds the processor that has the last of these racks, if there is one of its number.
+// Takes the last rack and adds its processor, if the mission has a processor of that number.
 fn add_next(
     mission: &Mission,
     racks: &mut Vec<Rack>,
@@ -142,7 +141,7 @@ fn add_next(
     }
 }
 
-// Returns the processor that has the last of these racks, if there is one of its number.
+// Takes the last rack and returns its processor, or `None` if there is no rack or no processor of that number.
 fn next_member(mission: &Mission, racks: &mut Vec<Rack>, spares: &mut Vec<Rack>) -> Option<Member>
     requires few { vec_len racks.old ≤ 8 }
     ensures few { vec_len racks.new ≤ 8 }
@@ -158,7 +157,7 @@ fn next_member(mission: &Mission, racks: &mut Vec<Rack>, spares: &mut Vec<Rack>)
     }
 }
 
-// Returns the last of these racks, if there is one.
+// Removes and returns the last of these racks, or returns `None` if there is none.
 fn take_rack(racks: &mut Vec<Rack>) -> Option<Rack>
     ensures fewer { vec_len racks.new ≤ vec_len racks.old }
     ensures one { IfSome result (λ _. vec_len racks.new < vec_len racks.old) }
@@ -194,7 +193,7 @@ fn fly<'a, J: FlightOf + Send + Sync, R: Threads + Wait + Sync>(
     finish(rt, shared.into_inner().into_core())
 }
 
-// Returns the steps that are left, which are none where all threads have come to the end.
+// Makes the remaining steps of the flight, of which there are none if all threads have flown to its end.
 fn finish<'a, R: Wait>(rt: &R, core: Core<'a>) -> Core<'a>
     ensures spec { result.spec ≡ core.entry.spec }
     ensures script { result.script ≡ core.entry.script }
@@ -242,15 +241,16 @@ fn fly_shared<'a, J: FlightOf + Send + Sync, R: Threads + Wait + Sync>(
     );
 }
 
-// What the actors of a flight share: the mission, the core behind its lock, and the signal that an actor has moved.
+// The data that the actors of a flight share: the mission, the core under its lock, and the signal that an actor has
+// moved.
 struct SharedFlight<'s, 'a, J: FlightOf> {
     mission: &'s Mission,
     core: &'s Mutex<SharedCore<'a, J>>,
     moved: &'s Condvar,
 }
 
-// Starts the threads that are asked for. The processors that the caller flies come back, and those whose threads cannot be
-// started.
+// Starts the threads that are requested. Returns the processors that the caller flies, including those whose threads
+// cannot be started.
 fn start_all<'s, 'a, E, J: FlightOf + Send + Sync, R: Threads + Wait + Sync>(
     scope: &Scope<'s, E>,
     rt: &'s R,
@@ -282,8 +282,8 @@ fn start_all<'s, 'a, E, J: FlightOf + Send + Sync, R: Threads + Wait + Sync>(
     back
 }
 
-// Starts a thread that flies a processor, unless the caller flies it. Where none can be started, the caller is to fly it,
-// and it comes back.
+// Starts a thread that flies a processor, unless the caller flies it. If no thread can be started, marks the processor
+// as flown by the caller. Returns the processor if the caller is to fly it.
 fn start<'s, E, M: Send + Drop + 's, F: FnOnce(M) + Send + Drop + 's>(
     scope: &Scope<'s, E>,
     by_caller: &'s AtomicBool,
@@ -317,7 +317,7 @@ fn start<'s, E, M: Send + Drop + 's, F: FnOnce(M) + Send + Drop + 's>(
     }
 }
 
-// Returns the last of these processors, if there is one.
+// Removes and returns the last of these processors, or returns `None` if there is none.
 fn take_member(members: &mut Vec<CachePadded<Member>>) -> Option<Member>
     ensures fits { (mission : MissionParts) → All (λ member. MemberFits mission member.value) members.old.items → IfSome result (MemberFits mission) }
     ensures rest { (mission : MissionParts) → All (λ member. MemberFits mission member.value) members.old.items
@@ -344,7 +344,7 @@ fn keep_member(back: &mut Vec<Member>, member: Option<Member>)
     }
 }
 
-// Returns the processors that the caller flies: those for which no threads are asked.
+// Returns which processors the caller flies: those for which no threads are requested.
 fn flown_by_caller(asked: [bool; 8]) -> [AtomicBool; 8] {
     [
         AtomicBool::new(!asked[0]),

@@ -13,7 +13,7 @@ use coverage_check::Mission;
 use fail_stop::{Draft, Flyer, Snapshot};
 use scram_types::ProcId;
 
-/// A processor in flight, with what it drafted last.
+/// A processor in flight, with its last draft.
 #[derive(Drop)]
 pub struct Member {
     pub flyer: Flyer,
@@ -21,7 +21,7 @@ pub struct Member {
 }
 
 impl Member {
-    /// Returns a processor that lives, with the boxes for its restart.
+    /// Returns a live processor, with the boxes for its restart.
     pub fn new(mission: &Mission, proc: ProcId, rack: Rack, spare: Rack) -> Member
         requires proc { proc.0 < length mission.now.spec.procs }
         ensures unit { result.flyer.unit ≡ Up (record { proc = proc; rack = rack }) }
@@ -43,8 +43,8 @@ impl Member {
         self.flyer.proc()
     }
 
-    /// Does what follows of a turn at the lock: the processor drafts what it saw, halts with its halt, and lives again with a
-    /// start after that, in its spare rack, which it leaves alone until then.
+    /// Acts on the result of a turn at the lock. The processor drafts from the snapshot that it saw, halts with its
+    /// halt, and becomes live again with the start of its restart, in its spare rack.
     pub(crate) fn follow(&mut self, mission: &Mission, made: &Made)
         requires saw { IfSaw made.now (IsSnapshotOf mission.now) }
         requires fits { MemberFits mission.now self.old }
@@ -99,7 +99,7 @@ impl Member {
     }
 }
 
-// Returns what a live processor of a mission drafts by what it sees.
+// Returns the draft that a live processor of a mission makes of a snapshot.
 fn draft_by(mission: &Mission, flyer: &mut Flyer, snap: &Snapshot) -> Draft
     requires lives { is_down flyer.old.unit ≡ false }
     requires known { unit_proc flyer.old.unit < length mission.now.spec.procs }

@@ -1,5 +1,5 @@
-//! The core of a flight under its lock. What is taken out of a lock is known by its type alone, so the type says whose
-//! flight it is.
+//! The core of a flight under its lock. A value taken out of a lock is known by its type alone, so the type names the
+//! mission.
 
 ghost use Rattle.std.specs.Prelude.{◌≡◌, IfSome, None, Option, Some};
 ghost use Rattle.coverage_check.specs.Missions.{MissionParts, mission_of};
@@ -14,7 +14,7 @@ use fail_stop::Draft;
 use scram_types::ProcId;
 use std::marker::{Brand, PhantomData};
 
-/// Which mission is flown. Each call that flies picks it.
+/// The mission of a flight, as a type. Each call that flies chooses its own.
 pub(crate) trait FlightOf {
     ghost mission: { Option MissionParts };
 }
@@ -32,7 +32,7 @@ pub(crate) struct SharedCore<'a, J: FlightOf> {
 }
 
 impl<'a, J: FlightOf> SharedCore<'a, J> {
-    /// Returns the shared of this core.
+    /// Creates a shared core from this core.
     pub(crate) fn new(core: Core<'a>) -> SharedCore<'a, J>
         requires { J.mission ≡ Some (mission_of core.spec core.script) }
     {
@@ -49,7 +49,7 @@ impl<'a, J: FlightOf> SharedCore<'a, J> {
         self.core
     }
 
-    /// Returns whether no event can come any more.
+    /// Returns whether no further event can come.
     pub(crate) fn is_over(&self) -> bool {
         self.core.over()
     }
@@ -72,13 +72,13 @@ impl<'a, J: FlightOf> SharedCore<'a, J> {
         true
     }
 
-    /// Makes the next step of the kernel, if there is one, and returns it.
+    /// Makes the next step of the kernel and returns it, or returns `None` if there is none.
     pub(crate) fn make_kernel(&mut self) -> Option<Event> {
         make_kernel(&mut self.core)
     }
 
-    /// Makes the next step of a processor, if there is one. A store is made where there is a draft of the frame in
-    /// which the processor stands; else what the processor sees is returned.
+    /// Makes the next step of a processor, if there is one. If a store is next and `drafted` is not of the processor's
+    /// current frame, it makes no step and returns the snapshot.
     pub(crate) fn make_step(&mut self, p: ProcId, drafted: Option<&Draft>) -> Made
         requires { (mission : MissionParts) → J.mission ≡ Some mission → IfSome drafted (λ draft. IsDraftOf mission p.0 draft.now) }
         ensures { (mission : MissionParts) → J.mission ≡ Some mission → IfSaw result (IsSnapshotOf mission) }

@@ -1,4 +1,4 @@
-//! Turns at the lock, and which threads make them.
+//! Turns at the lock, and the threads that make them.
 
 ghost use Rattle.std.specs.Prelude.{◌≡◌, All, Some};
 ghost use Rattle.lock_deck.specs.Members.{MemberFits};
@@ -52,7 +52,8 @@ pub(crate) fn fly_kernel<'a, J: FlightOf, R: Wait>(
     }
 }
 
-// Makes a step of the kernel, if one is next; wakes those that wait for it; and returns whether the flight goes on.
+// Makes a step of the kernel, if one is next, and wakes the waiting threads after a release and when the flight is
+// over. Returns whether the flight goes on.
 fn make_turn_of_kernel<'a, J: FlightOf>(
     shared: MutexGuard<'_, SharedCore<'a, J>>,
     moved: &Condvar,
@@ -68,7 +69,7 @@ fn make_turn_of_kernel<'a, J: FlightOf>(
     true
 }
 
-// A turn of each of these processors.
+// Makes a turn of each of these processors.
 fn make_turn_of_each<'a, J: FlightOf, R: Wait>(
     rt: &R,
     mission: &Mission,
@@ -85,7 +86,7 @@ fn make_turn_of_each<'a, J: FlightOf, R: Wait>(
     }
 }
 
-// Makes a step of a processor under the lock, where one is next, and what follows of it outside. Returns whether
+// Makes a step of a processor under the lock, if one is next, and acts on its result outside the lock. Returns whether
 // there was anything to do.
 fn make_turn<'a, J: FlightOf>(
     mission: &Mission,
@@ -107,7 +108,7 @@ fn make_turn<'a, J: FlightOf>(
     is_something(&made)
 }
 
-// Returns whether the kernel may wait for it.
+// Returns whether the kernel may wait for this result.
 fn is_awaited(made: &Made) -> bool {
     match made {
         Made::Done => true,

@@ -1,4 +1,4 @@
--- The data link loses no message uncounted.
+-- The data link counts every message.
 use Rattle.std.proofs.Common.{◌≡◌, ◌+ℤ◌, ◌<ℤ◌, pos, arith}
 use Rattle.std.proofs.lemmas.Int.{ints, clamps}
 use Rattle.scram_types.specs.Numbers.{word}

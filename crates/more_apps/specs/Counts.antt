@@ -1,4 +1,4 @@
--- What the data link's counts keep.
+-- The invariant of the data link's counts.
 use Rattle.std.specs.Prelude.{◌≡◌, ℕ, ℤ, pos, ◌+ℤ◌, ◌<ℤ◌}
 use Rattle.scram_types.specs.Numbers.{word}
 use Rattle.scram_types.specs.declared.orders.Order.TheVariants.{Run}
@@ -7,12 +7,12 @@ use Rattle.app_model.specs.Reads.{own_word}
 use Rattle.app_model.specs.DataLink.{fresh}
 use Rattle.app_model.specs.Law.{law}
 
--- word i of the data link's area after a run
+-- Word `i` of the data link's area after a run.
 abbrev pub after_run : Seen → ℕ → ℤ
 after_run seen i = word (law 4 Run seen) i
 
--- Where neither count is at its greatest after a run, sent, queued and dropped messages together are
--- those that were read and the fresh ones.
+-- If both counts are below their maximum after a run, the sent, queued and dropped messages together equal those read
+-- before the run plus the fresh messages.
 abbrev pub KeepsCount : Type 0
 KeepsCount = (seen : Seen) → after_run seen 2 <ℤ pos 1000000 → after_run seen 4 <ℤ pos 1000000
     → (after_run seen 2 +ℤ after_run seen 1) +ℤ after_run seen 4

@@ -7,8 +7,8 @@ use app_model::memory::{KindLaw, Remembering};
 use app_model::{Seen, law_area};
 use scram_types::{Area, KindId, Order};
 
-/// No message is lost uncounted: where a run ends below the greatest counts, what was sent, queued and
-/// dropped has grown by the fresh messages, one for each kind whose status is 1.
+/// Every message is counted. If a run leaves both counts below their maximum, the sum of sent, queued and dropped
+/// messages has grown by the fresh messages. These are one for each of the kinds 0 to 3 whose status is 1.
 pub fn data_link_keeps_count()
     ensures { KeepsCount }
 {}
@@ -29,6 +29,6 @@ impl KindLaw for DatalinkLaw {
     }
 }
 
-/// A data link: it sends a message for each application whose status is 1. What it answers is the law of kind
-/// 4; it gives its last answer again where the call is the same.
+/// A data link, which sends a message for each of the kinds 0 to 3 whose status is 1. It answers the law of kind 4 and
+/// repeats its last answer if the call is the same.
 pub type Datalink = Remembering<DatalinkLaw>;

@@ -21,6 +21,6 @@ impl KindLaw for NavigatorLaw {
     }
 }
 
-/// A navigator: it measures how far the aircraft is off its goal. What it answers is the law of kind 3; it gives its
-/// last answer again where the call is the same.
+/// A navigator, which measures how far the aircraft is off its goal. It answers the law of kind 3 and repeats its last
+/// answer if the call is the same.
 pub type Navigator = Remembering<NavigatorLaw>;

@@ -4,7 +4,7 @@ use app_model::kinds::autopilot::KIND;
 use app_model::{App, Seen, law_area};
 use scram_types::{Area, KindId, Order};
 
-/// An autopilot without a memory of its last call. What it answers is the law of kind 0.
+/// An autopilot that does not remember its last call. It answers the law of kind 0.
 #[derive(Drop)]
 pub struct PlainAutopilot {}
 

@@ -47,7 +47,7 @@ mark_free : (joined : Bool) → is_ascii_digit (mark joined) ≡ false
 mark_free true = refl
 mark_free false = refl
 
--- a point behind its letter, and what follows
+-- a point after its letter, and what follows
 abbrev behind_mark : ℕ → ℕ → List ℕ → List ℕ
 behind_mark k drop rest = decimal k ++ 32 ∷ (decimal drop ++ rest)
 
@@ -105,7 +105,7 @@ small_by : (t : Bool) (y z : ℤ) → mag y < 2 ^ 63 → mag z < 2 ^ 63 → mag 
 small_by true y z e f = e
 small_by false y z e f = f
 
--- the extremes have 64 bits with their signs
+-- the extremes are signed 64-bit numbers
 record AreSmall (ends : Extremes) : Type 0 where
   pub least : mag ends.least < 2 ^ 63
   pub greatest : mag ends.greatest < 2 ^ 63

@@ -1,4 +1,4 @@
--- Texts that are cut in one way only.
+-- Texts that can be cut in one way only.
 use Rattle.std.proofs.Common.{◌≡◌, ℕ, zero, suc, ◌<◌, Bool, true, false, cond, List, [], ◌∷◌, ◌++◌, Option, Some, None, refl, sym, ap, arith, ◌∙◌}
 use Rattle.std.specs.Prelude.{◌==◌, nat_le, if◌then◌else◌}
 use Rattle.std.specs.List.{list_all}
@@ -7,7 +7,7 @@ use Rattle.std.proofs.lemmas.List.{append_cancel_left}
 use Rattle.std.proofs.lemmas.List.Folds.{list_all-append}
 use Rattle.trace_text.proofs.WordBytes.{all_over, over}
 
--- Fields end alike at bytes that do not stand in them.
+-- Fields end at the same position if the bytes after them do not occur in them.
 pub fields : (P : ℕ → Bool) (d f : ℕ) (a b r s : List ℕ) → P d ≡ false → P f ≡ false → list_all P a ≡ true → list_all P b ≡ true → a ++ d ∷ r ≡ b ++ f ∷ s → (a ≡ b) × (d ∷ r ≡ f ∷ s)
 fields P d f [] [] r s free other e g h = (refl, h)
 fields P d f [] (c ∷ b) r s free other e g h =
@@ -21,11 +21,11 @@ fields P d f (c ∷ a) (b ∷ bs) r s free other e g h =
     let tails : a ≡ bs = more.0 in
     (let x : c ∷ a ≡ b ∷ bs = cc in x, more.1)
 
--- the same with one byte behind both
+-- the same with the same byte after both
 pub field : (P : ℕ → Bool) (d : ℕ) (a b r s : List ℕ) → P d ≡ false → list_all P a ≡ true → list_all P b ≡ true → a ++ d ∷ r ≡ b ++ d ∷ s → (a ≡ b) × (r ≡ s)
 field P d a b r s free e g h = let both = fields P d d a b r s free free e g h in (both.0, append_cancel_left (d ∷ []) r s both.1)
 
--- How many more of a byte are to come in a text; none where it goes on past the last.
+-- The number of occurrences of a byte that are still to come in a text, or `None` if the text goes on past the last.
 abbrev pub to_come : ℕ → Option ℕ → ℕ → Option ℕ
 to_come d None b = None
 to_come d (Some zero) b = None
@@ -48,7 +48,7 @@ past_end d c None u e f = let x = e in cc
 past_end d c (Some zero) u e f = let k : left_after d None u ≡ None = left_none d u in let x : left_after d None u ≡ Some 0 = f in cc
 past_end d c (Some (suc n)) u e f = let x = e in cc
 
--- Two texts that end at the n-th of a byte end at the same place.
+-- Two texts that end at the `n`-th occurrence of a byte end at the same position.
 pub cut : (d : ℕ) (n : Option ℕ) (t u r s : List ℕ) → left_after d n t ≡ Some 0 → left_after d n u ≡ Some 0 → t ++ r ≡ u ++ s → (t ≡ u) × (r ≡ s)
 cut d n [] [] r s e f h = (refl, h)
 cut d n [] (c ∷ u) r s e f h = absurd (past_end d c n u e f)
@@ -61,7 +61,7 @@ cut d n (b ∷ t) (c ∷ u) r s e f h =
     let tails : t ≡ u = more.0 in
     (let x : b ∷ t ≡ c ∷ u = cc in x, more.1)
 
--- A text without the byte is passed.
+-- A text without the byte leaves the count as it is.
 pub passed : (d least n : ℕ) (text rest : List ℕ) → d < least → all_over least text ≡ true → left_after d (Some (suc n)) (text ++ rest) ≡ left_after d (Some (suc n)) rest
 passed d least n [] rest h e = refl
 passed d least n (b ∷ text) rest h e =
@@ -70,18 +70,18 @@ passed d least n (b ∷ text) rest h e =
     let k = leb-true least b q.0 in
     ap (λ (same : Bool). left_after d (cond same (Some n) (Some (suc n))) (text ++ rest)) (ne_eqb b d (λ same. omega (arith, same, k, h))) ∙ passed d least n text rest h p.1
 
--- one text behind another
+-- one text after another
 pub both_over : (least : ℕ) (a b : List ℕ) → all_over least a ≡ true → all_over least b ≡ true → all_over least (a ++ b) ≡ true
 both_over least a b e f = list_all-append (over least) a b ∙ and_from _ _ e f
 
--- Where a text of lines stands that begin with an angle.
+-- The position in a text whose lines begin with an angle bracket.
 pub data Place : Type 0 where
   Start : Place
   Opened : Place
   Inside : Place
   Broken : Place
 
--- where it stands behind a byte, `ok` being the bytes that may follow an angle at the begin of a line
+-- the position after a byte; `ok` are the bytes that may follow an angle bracket at the beginning of a line
 abbrev pub moved : (ℕ → Bool) → Place → ℕ → Place
 moved ok Start b = if b == 60 then Opened else Broken
 moved ok Opened b = if ok b then Inside else Broken
@@ -100,7 +100,7 @@ walk_broken : (ok : ℕ → Bool) (t : List ℕ) → walk ok Broken t ≡ Broken
 walk_broken ok [] = refl
 walk_broken ok (b ∷ t) = walk_broken ok t
 
--- lines behind lines
+-- lines after lines
 pub walk_both : (ok : ℕ → Bool) (t u : List ℕ) → walk ok Start t ≡ Start → walk ok Start u ≡ Start → walk ok Start (t ++ u) ≡ Start
 walk_both ok t u e f = walk_append ok Start t u ∙ ap (λ (at : Place). walk ok at u) e ∙ f
 
@@ -122,7 +122,7 @@ no_line ok d Opened c u r s free at e h = let x = at in cc
 no_line ok d Inside c u r s free at e h = let x = at in cc
 no_line ok d Broken c u r s free at e h = let x = at in cc
 
--- Lines end alike where another byte follows an angle.
+-- Lines end at the same position if another byte follows an angle bracket.
 pub skip : (ok : ℕ → Bool) (d f : ℕ) (at : Place) (t u r s : List ℕ) → ok d ≡ false → ok f ≡ false → walk ok at t ≡ Start → walk ok at u ≡ Start
     → t ++ 60 ∷ d ∷ r ≡ u ++ 60 ∷ f ∷ s → (t ≡ u) × (d ∷ r ≡ f ∷ s)
 skip ok d f at [] [] r s free other e g h = (refl, let x : d ∷ r ≡ f ∷ s = cc in x)
@@ -152,7 +152,7 @@ is_line ok d t good other e =
     ap (λ (b : Bool). walk ok (cond b Inside Broken) t) good
     ∙ line_inside ok t (ap (λ (b : Bool). left_after 10 (cond b (Some 0) (Some 1)) t) (sym other) ∙ e)
 
--- the begins of lines that do not name a lane, and of those that are paths
+-- the beginnings of lines that do not name a lane, and of those that are paths
 abbrev pub no_name : ℕ → Bool
 no_name b = if b == 116 then false else true
 

@@ -81,7 +81,7 @@ pub begun_is : (spec : Parts) (sheet : Sheet) (strip : Strip) (k : ℕ) (before 
     ≡ (if is_drawn strip.lane before row then rect_text spec sheet row (span_of strip.lane strip.y k (alike_rows strip.lane row rows)) else [])
 begun_is spec sheet strip k before row rows inside = begun_by strip.lane (is_new strip.lane before row) spec sheet row strip.y k (alike_rows strip.lane row rows) inside
 
--- how many rows are still to be shown by the box before
+-- the number of rows that the previous box is still to show
 
 abbrev pub carry : Lane → Option Row → List Row → ℕ
 carry lane None rows = 0
@@ -121,7 +121,7 @@ carry_nil lane (Some b) = nil_by (is_seen lane b)
     nil_by true = refl
     nil_by false = refl
 
--- a row that is seen and begins no span is shown by the box before
+-- a row that is seen and begins no span is shown by the previous box
 record GoesOn (lane : Lane) (before : Option Row) (row : Row) (rows : List Row) : Type 0 where
   pub earlier : Row
   pub is : before ≡ Some earlier
@@ -154,7 +154,7 @@ abbrev pub NoneSeen : Lane → List Row → Type 0
 NoneSeen lane [] = Unit {0}
 NoneSeen lane (row ∷ rows) = (is_seen lane row ≡ false) × NoneSeen lane rows
 
--- Rows are shown alike one by one, and those past the end of the others have no boxes.
+-- Rows are shown alike one by one, and the rows past the end of the other list have no boxes.
 abbrev pub SameRows : Lane → List Row → List Row → Type 0
 SameRows lane [] others = NoneSeen lane others
 SameRows lane (row ∷ rows) [] = NoneSeen lane (row ∷ rows)
@@ -230,7 +230,7 @@ module _ (spec : Parts) (strip : Strip) (sound : IsSpec spec) (inside : IsShownI
       let same : SameBefore strip.lane (Some earlier) (Some other_earlier) = rw (e, f) at first in
       sym (alike_swaps spec strip.lane earlier row other inside a) ∙ alike_swaps spec strip.lane earlier other_earlier other inside same ∙ b
 
-  -- two rows behind which no box begins
+  -- two rows after which no box begins
   record BothGoOn (row other : Row) (rows others : List Row) : Type 0 where
     pub alike : are_alike strip.lane row other ≡ true
     pub carried : carry strip.lane (Some row) rows ≡ carry strip.lane (Some other) others
@@ -283,7 +283,7 @@ module _ (spec : Parts) (strip : Strip) (sound : IsSpec spec) (inside : IsShownI
             on.alike on.carried (sym (without sheet k before row rows a) ∙ h ∙ without other_sheet k other_before other others b),
       )))
 
-  -- Lanes with one text show the same of each row.
+  -- Lanes with the same text show the same of each row.
   pub lane_tells : (sheet other_sheet : Sheet) (rows others : List Row) → Each (IsRowDrawn spec) rows → Each (IsRowDrawn spec) others → length rows < 2 ^ 32 → length others < 2 ^ 32
       → spans_text spec sheet rows strip ≡ spans_text spec other_sheet others strip → SameRows strip.lane rows others
   lane_tells sheet other_sheet rows others known drawn few fits h =

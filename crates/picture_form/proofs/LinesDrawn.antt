@@ -1,4 +1,4 @@
--- What a line of a trace says can be drawn.
+-- The contents of a line of a trace can be drawn.
 use Rattle.std.proofs.Common.{ℕ, ℤ, suc, zero, ◌≡◌, ◌<◌, ◌≤◌, ◌+◌, ◌-◌, ◌^◌, Bool, true, false, cond, List, [], ◌∷◌, ◌++◌, Option, Some, None, Ok, Err, length, replicate, arith, refl, ap}
 use Rattle.std.specs.Prelude.{◌==◌, ◌&&◌, IsSome, bytes_eq, codes, nat_le, nat_lt, option_map, option_and_then, slice_get, slice_index, slice_index_or, slice_set}
 use Rattle.std.specs.Fmt.{signed_decimal}
@@ -44,9 +44,9 @@ use Rattle.trace_text.proofs.Inversion.{if_ok, kept_says, map_some, some_says, t
 use Rattle.trace_text.proofs.Spelling.{number_spelled}
 use Rattle.picture_form.specs.Laws.{IsReportDrawn, IsRowDrawn}
 
--- items of lists
+-- elements of lists
 
--- an item of a list of which one item was replaced
+-- an element of a list of which one element was replaced
 set_item : {A : Type 0} (Fact : A → Type 0) (none x : A) (xs : List A) (a i : ℕ) → (i ≡ a → Fact x) → Fact (slice_index_or xs i none)
     → Fact (slice_index_or (slice_set xs a x) i none)
 set_item Fact none x [] a i here there = there
@@ -64,7 +64,7 @@ signed_small text z h =
     let p = some_says (nat_lt (mag y) (2 ^ 63) && bytes_eq (signed_decimal y) text) y z h in
     rw (← p.1) (ltb-true _ _ (and_parts _ _ p.0).0)
 
--- what a row's line says of the aircraft
+-- the world in a row's line
 record IsWorldRead (world : World) : Type 0 where
   altitude : mag world.alt < 2 ^ 63
   heading : mag world.heading < 2 ^ 63
@@ -197,7 +197,7 @@ listed_found : (spec : Parts) (a n : ℕ) (app : AppSpec) (text : List ℕ) (m :
     → mode_from app.kind.0 text app.modes ≡ Some m
 listed_found spec a n app text m same there h = let e : listed_mode spec a text ≡ Some m = rw same at h in rw there at e
 
--- what the line of an application says can have been done
+-- an application can have the act in its line
 abbrev pub IsShownDone : Parts → ℕ → Done → Type 0
 IsShownDone spec a told = (app : AppSpec) → slice_get spec.apps a ≡ Some app → IsActShown spec app told.act
 
@@ -233,7 +233,7 @@ phase_shown spec a ws phase sides told h app there =
     let same : done (phase_act phase k.0 n.0 p.0) z.0 ≡ told = let e = r.1 in cc in
     rw (← same) (step_shown spec app phase k.0 n.0 p.0 (ltb-true _ _ inside.0) (leb-true _ _ inside.1) (proc_there spec (word_at ws 4) p.0 p.1))
 
--- an act that names no processor can always have been done
+-- every application can have an act that names no processor
 abbrev IsBare : Act → Type 0
 IsBare did = (spec : Parts) (app : AppSpec) → IsActShown spec app did
 
@@ -273,7 +273,7 @@ app_shown spec a line told h =
     let w = unless_ok NO_FORM (words_in line) (app_in spec a) told h in
     app_by (is_placed_form w.0) (is_bare_form w.0) spec a w.0 told w.2
 
--- a row that can be drawn, with what one more application did
+-- a row that can be drawn, with the act of one further application
 pub app_drawn : (spec : Parts) (row : Row) (a : ℕ) (told : Done) → IsRowDrawn spec row → IsShownDone spec a told → IsRowDrawn spec (with_app row a told.act told.area)
 app_drawn spec row a told drawn shown = record {
   values = drawn.values;

@@ -1,4 +1,4 @@
--- Flights with one picture show the same.
+-- Flights with the same picture show the same.
 use Rattle.std.proofs.Common.{◌≡◌, ℕ, zero, suc, ◌+◌, ◌-◌, ◌<◌, ◌≤◌, ◌^◌, Bool, true, false, cond, List, [], ◌∷◌, ◌++◌, Some, drop, length, decimal, refl, sym, ap, arith, append_assoc, le-ltb, ltb-false, ◌∙◌}
 use mathlib.Core.Logic.{inl, inr}
 use Rattle.std.specs.Prelude.{codes, nat_lt}
@@ -26,7 +26,7 @@ use Rattle.picture_form.proofs.CurvesTell.{SameCurves, quantity_same}
 use Rattle.picture_form.proofs.ReportsTell.{boxes_begin, boxes_of, boxes_same, boxes_whole, reports_tell}
 use Rattle.picture_form.proofs.Sections.{IsSmall, grid_walk, lane_walk, open_ends, reports_walk, stable_spans_walk}
 
--- `n` are the names of the first two lanes but for the first two bytes.
+-- `n` is the text of the first two lanes' names without its first two bytes.
 ordered : (n u m z : List ℕ) → ((((60 ∷ 116 ∷ n) ++ u) ++ m) ++ z) ≡ 60 ∷ 116 ∷ (n ++ ((u ++ m) ++ z))
 ordered n u m z =
     append_assoc ((60 ∷ 116 ∷ n) ++ u) m z ∙ append_assoc (60 ∷ 116 ∷ n) u (m ++ z) ∙ ap (λ (rest : List ℕ). 60 ∷ 116 ∷ (n ++ rest)) (sym (append_assoc u m z))
@@ -50,7 +50,7 @@ fronts_same style n a b g h u m w q z y r s ends other_ends grid other_grid fron
 
 -- lanes one after another
 
--- lanes, each of them its name and what follows
+-- lanes, each with its name and what follows
 abbrev lanes_with : (ℕ → List ℕ) → (ℕ → List ℕ) → ℕ → List ℕ
 lanes_with name body k = (60 ∷ 116 ∷ name k) ++ body k
 
@@ -115,7 +115,7 @@ first_app spec rows row =
     let at = length spec.factors + length spec.procs in
     seen_by (nat_lt at (length spec.factors)) (nat_lt at at) at (at - length spec.factors) (at - at) row (le-ltb at (length spec.factors) (omega arith)) (le-ltb at at (omega arith))
 
--- the name of a lane but for its first two bytes
+-- the name of a lane without its first two bytes
 abbrev name_rest : Parts → Sheet → ℕ → List ℕ
 name_rest spec sheet n =
     (codes "ext class=\"name\" x=\"128\" y=\"" ++ decimal (lane_y sheet n + 12) ++ codes "\">" ++ lane_name spec (lane_of sheet n) ++ codes "</text>") ++ codes "\n"
@@ -184,7 +184,7 @@ foot_on spec rows others same e =
     ap (λ (rest : List ℕ). 60 ∷ 116 ∷ rest) e
     ∙ ap (λ (frames : ℕ). foot_text (record { rows = frames; factors = length spec.factors; procs = length spec.procs; apps = length spec.apps }) others) (sym same)
 
--- the altitude, and behind it the heading and the legend
+-- the altitude, followed by the heading and the legend
 abbrev below_altitude : Sheet → List Row → List ℕ
 below_altitude sheet rows = heading_text sheet rows ++ legend_text sheet
 

@@ -1,4 +1,4 @@
--- What a box shows comes back out of its line.
+-- The contents of a box can be recovered from its line.
 use Rattle.std.proofs.Common.{◌≡◌, ℕ, zero, suc, ◌+◌, ◌*◌, ◌<◌, ◌^◌, Bool, true, false, cond, List, [], ◌∷◌, ◌++◌, Option, Some, length, decimal, refl, sym, ap, arith, append_assoc, ◌∙◌}
 use Rattle.std.specs.Prelude.{codes, slice_index, nat_le}
 use Rattle.std.specs.Char.{is_ascii_digit}
@@ -24,13 +24,13 @@ decimal_digits n small = digits_all (decimal n) (decimal_is_IsNumeral n small).0
 pub decimal_plain : (n : ℕ) → n < 2 ^ 64 → all_over 32 (decimal n) ≡ true
 decimal_plain n small = all_over_less 32 48 (decimal n) (omega arith) (decimal_over n small)
 
--- the same number behind two numbers that end alike
+-- the same number in two texts that continue alike
 pub same_number : (d k j : ℕ) (r s : List ℕ) → is_ascii_digit d ≡ false → k < 2 ^ 64 → j < 2 ^ 64 → decimal k ++ d ∷ r ≡ decimal j ++ d ∷ s → (k ≡ j) × (r ≡ s)
 same_number d k j r s free p q h =
     let both = field is_ascii_digit d (decimal k) (decimal j) r s free (decimal_digits k p) (decimal_digits j q) h in
     (decimal_injective k j p q both.0, both.1)
 
--- the rows of a span behind the first space, n being one less than their number
+-- the frames of a span after the first space; n is one less than the number of rows
 abbrev pub frames_tail : ℕ → ℕ → List ℕ
 frames_tail k zero = codes "frame " ++ decimal k
 frames_tail k (suc n) = codes "frames " ++ (decimal k ++ (codes " to " ++ decimal (k + suc n)))
@@ -72,7 +72,7 @@ pub rect_grouped : (class box name words frames label : List ℕ)
     ≡ rect_of class box name words frames label
 rect_grouped class box name words frames label = simp append_assoc
 
--- what stands behind the words of a box
+-- the text after the words of a box
 abbrev pub after_words : List ℕ → List ℕ → List ℕ
 after_words frames label = frames ++ (codes "</title></rect>" ++ (label ++ codes "\n"))
 

@@ -62,7 +62,7 @@ boxes_whole spec sheet reports =
     let none : length reports ≡ 0 + length reports = omega arith in
     ap (texts_below (reconfiguration_boxes spec sheet reports)) none ∙ boxes_from spec sheet reports reports 0 refl
 
--- what stands at the begin of boxes, or behind them where there are none
+-- the beginning of boxes, or of the text after them if there are none
 pub record Begins (text : List ℕ) : Type 0 where
   pub letter : ℕ
   pub rest : List ℕ
@@ -87,7 +87,7 @@ boxes_begin spec sheet (report ∷ reports) =
       is = ap (λ (text : List ℕ). (text ++ boxes_of spec sheet reports) ++ 60 ∷ 116 ∷ []) (whole_is spec sheet report) ∙ begins.is;
     }
 
--- boxes behind the lines of stable configurations
+-- boxes after the lines of stable configurations
 pub boxes_same : (lines boxes others more : List ℕ) → walk a_path Start lines ≡ Start → walk a_path Start others ≡ Start → Begins boxes → Begins more → lines ++ boxes ≡ others ++ more → boxes ≡ more
 boxes_same lines boxes others more e f begins other_begins h =
     let whole = sym (append_assoc lines boxes (60 ∷ 116 ∷ [])) ∙ ap (λ (text : List ℕ). text ++ 60 ∷ 116 ∷ []) h ∙ append_assoc others more (60 ∷ 116 ∷ []) in
@@ -141,7 +141,7 @@ titles_same spec sheet other_sheet (report ∷ reports) (other ∷ others) sound
     let more = titles_same spec sheet other_sheet reports others sound few fits known.1 drawn.1 first.behind in
     ap (λ (title : List ℕ). title ∷ map (report_title spec) reports) first.title ∙ ap (λ (titles : List (List ℕ)). report_title spec other ∷ titles) more
 
--- Two flights with the same boxes of reconfigurations draw the same ones.
+-- Two flights with the same boxes of reconfigurations draw the same reconfigurations.
 pub reports_tell : (spec : Parts) (sheet other_sheet : Sheet) (reports others : List Report) → IsSpec spec → sheet.rows < 2 ^ 32 → other_sheet.rows < 2 ^ 32 → Each IsReportDrawn reports → Each IsReportDrawn others
     → boxes_of spec sheet (drawn_in sheet.rows reports) ≡ boxes_of spec other_sheet (drawn_in other_sheet.rows others)
     → drawn_titles spec sheet.rows reports ≡ drawn_titles spec other_sheet.rows others

@@ -48,7 +48,7 @@ walk_where false text e = refl
 
 -- the size of a sheet
 
--- A sheet of a flight's rows, and no more lanes than a specification can have.
+-- A sheet has the rows of a flight, and no more lanes than a specification can have.
 pub record IsSmall (sheet : Sheet) : Type 0 where
   pub rows : sheet.rows < 2 ^ 32
   pub lanes : lanes_of sheet ≤ 22
@@ -102,7 +102,7 @@ begin_walk sheet (Some report) small known =
     ∙ passed 10 32 0 (decimal (bottom_of sheet)) _ (omega arith) (decimal_plain (bottom_of sheet) (omega (arith, lanes)))) in
     walk_where (nat_lt report.begin sheet.rows) (begin_line sheet report.begin) (path_line no_name (drop 2 (begin_line sheet report.begin)) refl ends)
 
--- ticks and begins
+-- ticks and beginnings
 pub grid_walk : (sheet : Sheet) (reports : List Report) → IsSmall sheet → Each IsReportDrawn reports
     → walk no_name Start (grid_text sheet reports) ≡ Start
 grid_walk sheet reports small known =

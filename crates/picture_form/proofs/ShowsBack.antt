@@ -1,4 +1,4 @@
--- What a row shows in a lane comes back out of its words.
+-- What a row shows in a lane can be recovered from its title.
 use Rattle.std.proofs.Common.{◌≡◌, ℕ, ◌+◌, ◌<◌, ◌^◌, Bool, true, List, [], ◌∷◌, ◌++◌, Option, Some, None, IsSome, length, decimal, refl, sym, ap, arith, append_assoc, ◌∙◌}
 use Rattle.std.specs.Prelude.{◌==◌, codes, slice_get, slice_index}
 use Rattle.std.specs.Option.{option_map_or}
@@ -80,7 +80,7 @@ IsShownIn spec (InFactor i) = Unit {0}
 IsShownIn spec (InProcessor p) = Unit {0}
 IsShownIn spec (InApplication a) = a < length spec.apps
 
--- A row has a box in a lane: a processor that is down has none.
+-- Whether a row has a box in a lane: a processor that is down has none.
 abbrev pub is_seen : Lane → Row → Bool
 is_seen Configuration row = true
 is_seen (InFactor i) row = true
@@ -93,7 +93,7 @@ class_over spec (InFactor i) row known = let v = known.values i in decimal_over 
 class_over spec (InProcessor p) row known = refl
 class_over spec (InApplication a) row known = word_over (act_word (act_of row a))
 
--- what an application did
+-- the act of an application
 
 mode_over : (spec : Parts) (a : ℕ) (app : AppSpec) (mode : Mode) → IsSpec spec → slice_get spec.apps a ≡ Some app → IsSome (mode_in app.modes mode.0) → all_over 48 (mode_text app.kind.0 mode.0) ≡ true
 mode_over spec a app mode sound there listed =
@@ -163,7 +163,7 @@ word_found word.Lost = refl
 words_differ : (what other : ActWord) → word_text what ≡ word_text other → word_number what ≡ word_number other
 words_differ what other e = same_some (word_number what) (word_number other) (sym (word_found what) ∙ ap (number_in word_names) e ∙ word_found other)
 
--- Two boxes show the same of as many rows from the same one on, n and m being one less than the numbers of rows.
+-- Two boxes show the same of equally many rows from the same row on; `n` and `m` are one less than the numbers of rows.
 pub record SameEnds (k n j m : ℕ) (alike : Bool) : Type 0 where
   pub same : alike ≡ true
   pub first : k ≡ j
@@ -214,7 +214,7 @@ doing_same act other spec a app k n j m r s sound there shown seen few fits e h 
 same_bits : (p set other : ℕ) → has_bit set p ≡ true → has_bit other p ≡ true → same_bit p set other ≡ true
 same_bits p set other e f = rw (e, f) refl
 
--- The same class, words and rows stand in the boxes of rows that are shown alike.
+-- The boxes of rows that are shown alike have the same class, words and rows.
 pub shown_same : (lane : Lane) (spec : Parts) (row other : Row) (k n j m : ℕ) (r s : List ℕ) → IsSpec spec → IsShownIn spec lane → IsRowDrawn spec row → IsRowDrawn spec other
     → is_seen lane row ≡ true → is_seen lane other ≡ true → k + n < 2 ^ 64 → j + m < 2 ^ 64 → class_text lane row ≡ class_text lane other
     → words_text spec lane row ++ 32 ∷ (frames_tail k n ++ 60 ∷ r) ≡ words_text spec lane other ++ 32 ∷ (frames_tail j m ++ 60 ∷ s) → SameEnds k n j m (are_alike lane row other)

@@ -1,4 +1,4 @@
--- What rows show in a lane comes back out of the boxes of the lane.
+-- What rows show in a lane can be recovered from the boxes of the lane.
 use Rattle.std.proofs.Common.{◌≡◌, ℕ, suc, ◌+◌, ◌*◌, ◌<◌, ◌≤◌, ◌^◌, Bool, true, false, cond, List, [], ◌∷◌, ◌++◌, Option, Some, None, length, refl, sym, ap, arith, mul-le-mul, ◌∙◌}
 use Rattle.std.specs.Prelude.{◌==◌, ◌&&◌, nat_lt, slice_index, if◌then◌else◌}
 use Rattle.std.proofs.lemmas.Bool.{eqb-true}
@@ -23,7 +23,7 @@ use Rattle.picture_form.proofs.Cuts.{cut, left_after}
 use Rattle.picture_form.proofs.RectsBack.{box_plain, box_quotes, frames_behind, frames_plain, frames_tail, label_plain, rect_ends, rect_grouped, rect_of, rect_parts}
 use Rattle.picture_form.proofs.ShowsBack.{IsShownIn, SameEnds, class_over, is_seen, label_words_plain, lane_name_over, plain, shown_same, words_plain}
 
--- places
+-- positions
 
 scale_by : (a b c : Bool) → cond a 1 (cond b 2 (cond c 4 8)) ≤ 8
 scale_by true b c = omega arith
@@ -71,7 +71,7 @@ pub record SameBoxes (k n j m : ℕ) (alike : Bool) (rest other_rest : List ℕ)
   pub ends : SameEnds k n j m alike
   pub behind : rest ≡ other_rest
 
--- Boxes of a lane that begin one text are those of rows that are shown alike.
+-- Boxes of a lane at the beginning of one text are those of rows that are shown alike.
 pub rects_same : (spec : Parts) (lane : Lane) (y : ℕ) (sheet other_sheet : Sheet) (row other : Row) (k n j m : ℕ) (r s : List ℕ) → IsSpec spec → IsShownIn spec lane → IsRowDrawn spec row
     → IsRowDrawn spec other → is_seen lane row ≡ true → is_seen lane other ≡ true → y ≤ 6000 → k + n < 2 ^ 32 → j + m < 2 ^ 32
     → rect_text spec sheet row (span_of lane y k n) ++ r ≡ rect_text spec other_sheet other (span_of lane y j m) ++ s → SameBoxes k n j m (are_alike lane row other) r s
@@ -120,7 +120,7 @@ doing_swaps act other third e =
     ∙ ap (λ (n : ℕ). (word_number (act_word other) == word_number (act_word third)) && (n == mode_of_act third) && same_proc (proc_of_act act) (proc_of_act third)) modes
     ∙ ap (λ (p : Option ProcId). (word_number (act_word other) == word_number (act_word third)) && (mode_of_act other == mode_of_act third) && same_proc p (proc_of_act third)) procs
 
--- A third row is shown as either of two rows that are shown alike, or as none.
+-- A third row is shown like both of two rows that are shown alike, or like neither.
 pub alike_swaps : (spec : Parts) (lane : Lane) (row other third : Row) → IsShownIn spec lane → are_alike lane row other ≡ true → are_alike lane row third ≡ are_alike lane other third
 alike_swaps spec Configuration row other third inside e = absurd inside
 alike_swaps spec (InFactor i) row other third inside e =

@@ -29,14 +29,14 @@ use Rattle.picture_form.specs.Laws.{IsReportDrawn, IsRowDrawn, TracesAreDrawn}
 
 -- line by line
 
--- what is known of a row whose applications are read: it can be drawn, and has its place in a flight
+-- a row whose applications have been read can be drawn, and has its place in a flight
 abbrev OpenDrawn : Parts → List Row → Standing → Type 0
 OpenDrawn spec rows Rows = ⊤
 OpenDrawn spec rows (Apps a row) = IsRowDrawn spec row × (length rows < MAX_FRAMES)
 OpenDrawn spec rows Reports = ⊤
 OpenDrawn spec rows Over = ⊤
 
--- what the lines so far say can be drawn
+-- the contents of the lines so far can be drawn
 record Drawn (spec : Parts) (s : SoFar) : Type 0 where
   rows : Each (IsRowDrawn spec) s.rows
   reports : Each IsReportDrawn s.reports
@@ -111,7 +111,7 @@ line_step : (spec : Parts) (s t : SoFar) (line : List ℕ) → IsSpec spec → D
 line_step spec s t line sound drawn h =
     standing_step spec s t s.standing line sound drawn drawn.begun (if_ok (is_plain line) (standing_line spec s s.standing line) BROKEN_LINE t h).1
 
--- what is read to its end can be drawn
+-- a trace that is read to its end can be drawn
 record DrawnWhole (spec : Parts) (flown : Flown) : Type 0 where
   rows : Each (IsRowDrawn spec) flown.rows
   reports : Each IsReportDrawn flown.reports

@@ -1,28 +1,28 @@
 -- Pieces of a picture: boxes, names and labels.
 use Rattle.std.specs.Prelude.{ℕ, zero, suc, ◌+◌, ◌*◌, List, [], ◌++◌, length, nat_le, codes, decimal, if◌then◌else◌}
 
--- a place
+-- The attributes of a position.
 unfoldable pub place_text : ℕ → ℕ → List ℕ
 place_text x y = codes " x=\"" ++ decimal x ++ codes "\" y=\"" ++ decimal y ++ codes "\""
 
--- the place and the size of a box
+-- The attributes of the position and the size of a box.
 unfoldable pub box_text : ℕ → ℕ → ℕ → List ℕ
 box_text x y width = place_text x y ++ codes " width=\"" ++ decimal width ++ codes "\" height=\"16\""
 
--- the name of a lane, which ends before its rows begin
+-- The name of a lane, which ends before the rows of the lane begin.
 abbrev pub name_text : ℕ → List ℕ → List ℕ
 name_text y name = codes "<text class=\"name\" x=\"128\" y=\"" ++ decimal y ++ codes "\">" ++ name ++ codes "</text>"
 
--- a text of a class at a place
+-- A text of a class at a position.
 unfoldable pub placed_text : List ℕ → ℕ → ℕ → List ℕ → List ℕ
 placed_text class x y text =
     codes "<text class=\"" ++ class ++ codes "\"" ++ place_text x y ++ codes ">" ++ text ++ codes "</text>"
 
--- a label in a box, where there is room for it: no letter is wider than 7 pixels
+-- A label in a box, or the empty text if it does not fit. No letter is wider than 7 pixels.
 abbrev pub label_text : ℕ → ℕ → ℕ → List ℕ → List ℕ
 label_text x y width label = if nat_le (7 * length label + 3) width then placed_text (codes "value") (x + 3) (y + 12) label else []
 
--- the rows of a span, from row k on
+-- The frames of a span, from row `k` on.
 abbrev pub frames_text : ℕ → ℕ → List ℕ
 frames_text k zero = []
 frames_text k (suc zero) = codes " frame " ++ decimal k

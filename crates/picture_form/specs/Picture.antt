@@ -16,108 +16,108 @@ use Rattle.picture_form.specs.declared.spans.Strip.{Strip}
 use Rattle.picture_form.specs.Styles.{part_text}
 use Rattle.picture_form.specs.declared.styles.Part.TheVariants.{Style, Names, Legend}
 
--- the begin of the document, with its size
+-- The beginning of the document, with its size.
 abbrev pub open_line : Sheet → List ℕ
 open_line sheet =
     codes "<svg xmlns=\"http://www.w3.org/2000/svg\" width=\"" ++ decimal (sheet_width sheet) ++ codes "\" height=\"" ++ decimal (sheet_height sheet)
     ++ codes "\" viewBox=\"0 0 " ++ decimal (sheet_width sheet) ++ codes " " ++ decimal (sheet_height sheet) ++ codes "\">\n"
 
--- the begin of the document, and its styles
+-- The beginning of the document, and its styles.
 abbrev pub head_text : Sheet → List ℕ
 head_text sheet = open_line sheet ++ part_text Style
 
--- a line down the picture at a row, and the row's number
+-- A vertical line at a row, and the row's number.
 abbrev pub tick_line : Sheet → ℕ → List ℕ
 tick_line sheet k =
     codes "<path class=\"tick\" d=\"M" ++ decimal (x_of sheet k) ++ codes " 44V" ++ decimal (bottom_of sheet) ++ codes "\"/><text class=\"axis\" x=\""
     ++ decimal (x_of sheet k) ++ codes "\" y=\"" ++ decimal (bottom_of sheet + 14) ++ codes "\">" ++ decimal k ++ codes "</text>\n"
 
--- tick j
+-- Tick `j`.
 abbrev pub tick_text : Sheet → ℕ → List ℕ
 tick_text sheet j = tick_line sheet (j * rows_of_tick sheet.rows)
 
--- all ticks
+-- All ticks.
 abbrev pub ticks_text : Sheet → List ℕ
 ticks_text sheet = texts_below (tick_text sheet) (ticks_of sheet)
 
--- what lies behind the lanes
+-- The lines in the background of the lanes.
 abbrev pub grid_text : Sheet → List Report → List ℕ
 grid_text sheet reports = ticks_text sheet ++ texts_below (begin_text sheet reports) (length reports)
 
--- the lane of configurations
+-- The lane of configurations.
 abbrev pub conf_strip : Strip
 conf_strip = record { lane = Configuration; y = 20 }
 
--- the first two names, and the configurations that are stable
+-- The first two names, and the stable configurations.
 abbrev pub stable_spans : Parts → Sheet → List Row → List ℕ
 stable_spans spec sheet rows = part_text Names ++ spans_text spec sheet rows conf_strip
 
--- configurations and reconfigurations
+-- Configurations and reconfigurations.
 abbrev pub top_text : Parts → Sheet → List Row → List Report → List ℕ
 top_text spec sheet rows reports = stable_spans spec sheet rows ++ texts_below (reconfiguration_boxes spec sheet reports) (length reports)
 
--- what a quantity is called
+-- The name of a quantity.
 abbrev pub quantity_name : Quantity → List ℕ
 quantity_name Altitude = codes "altitude"
 quantity_name Climb = codes "climb"
 quantity_name Heading = codes "heading"
 quantity_name Bank = codes "bank"
 
--- its unit
+-- The unit of a quantity.
 abbrev pub quantity_unit : Quantity → List ℕ
 quantity_unit Altitude = codes "ft"
 quantity_unit Climb = codes "0.1 ft"
 quantity_unit Heading = codes "0.1 deg"
 quantity_unit Bank = codes "0.1 deg"
 
--- the name and the unit of a quantity, from y on
+-- The name and the unit of a quantity, from `y` on.
 abbrev pub names_text : Quantity → ℕ → List ℕ
 names_text quantity y = curve_names y (quantity_name quantity) (quantity_unit quantity)
 
--- a quantity as a line, with its name and its unit
+-- A quantity as a line, with its name and its unit.
 abbrev pub quantity_text : Sheet → List Row → Quantity → ℕ → List ℕ
 quantity_text sheet rows quantity y = names_text quantity y ++ curve_text sheet rows quantity y
 
--- altitude
+-- The altitude.
 abbrev pub altitude_text : Sheet → List Row → List ℕ
 altitude_text sheet rows = quantity_text sheet rows Altitude (curves_y sheet)
 
--- heading
+-- The heading.
 abbrev pub heading_text : Sheet → List Row → List ℕ
 heading_text sheet rows = quantity_text sheet rows Heading (curves_y sheet + 64)
 
--- altitude and heading
+-- Altitude and heading.
 abbrev pub curves_text : Sheet → List Row → List ℕ
 curves_text sheet rows = altitude_text sheet rows ++ heading_text sheet rows
 
--- where the legend stands
+-- The beginning of the legend, with its position.
 abbrev pub legend_line : Sheet → List ℕ
 legend_line sheet = codes "<g transform=\"translate(0 " ++ decimal (bottom_of sheet + 28) ++ codes ")\">\n"
 
--- the legend, and the end of the document
+-- The legend, and the end of the document.
 abbrev pub legend_text : Sheet → List ℕ
 legend_text sheet = legend_line sheet ++ part_text Legend
 
--- what stands below the lanes
+-- The part below the lanes.
 abbrev pub foot_text : Sheet → List Row → List ℕ
 foot_text sheet rows = curves_text sheet rows ++ legend_text sheet
 
--- lanes, and what stands below them
+-- The lanes, and the part below them.
 abbrev pub lanes_and_foot : Parts → Sheet → List Row → List ℕ
 lanes_and_foot spec sheet rows = lanes_text spec sheet rows ++ foot_text sheet rows
 
--- what stands before the grid
+-- The part in front of the grid.
 abbrev pub front_text : Parts → Sheet → List Row → List Report → List ℕ
 front_text spec sheet rows reports = top_text spec sheet rows reports ++ lanes_and_foot spec sheet rows
 
--- the picture behind its head
+-- The picture without its head.
 abbrev pub body_text : Parts → Sheet → List Row → List Report → List ℕ
 body_text spec sheet rows reports = grid_text sheet reports ++ front_text spec sheet rows reports
 
--- the picture on a sheet
+-- The picture on a sheet.
 abbrev pub sheet_text : Parts → Sheet → List Row → List Report → List ℕ
 sheet_text spec sheet rows reports = head_text sheet ++ body_text spec sheet rows reports
 
--- the picture of a flight
+-- The picture of a flight.
 abbrev pub picture_text : Parts → List Row → List Report → List ℕ
 picture_text spec rows reports = sheet_text spec (sheet_of spec rows) rows reports

@@ -1,4 +1,4 @@
--- Reconfigurations under their bounds.
+-- Reconfigurations and their bounds.
 use Rattle.std.specs.Prelude.{ℕ, ◌+◌, ◌-◌, min, List, [], ◌++◌, slice_get, nat_lt, Option, Some, None, codes, decimal, if◌then◌else◌}
 use Rattle.std.specs.Option.{option_map_or}
 use Rattle.scram_types.specs.Lookups.{conf_name}
@@ -12,51 +12,51 @@ use Rattle.picture_form.specs.Boxes.{box_text}
 use Rattle.picture_form.specs.Sheets.{bottom_of, width_of, x_of}
 use Rattle.picture_form.specs.declared.sheets.Sheet.{Sheet}
 
--- a line down the picture where a reconfiguration begins
+-- A vertical line at the beginning of a reconfiguration.
 abbrev pub begin_line : Sheet → ℕ → List ℕ
 begin_line sheet begin =
     codes "<path class=\"begin\" d=\"M" ++ decimal (x_of sheet begin) ++ codes " 44V" ++ decimal (bottom_of sheet) ++ codes "\"/>\n"
 
--- the same of reconfiguration n, where it begins in a row
+-- The vertical line of reconfiguration `n`, or the empty text if it does not begin in a row.
 abbrev pub begin_text : Sheet → List Report → ℕ → List ℕ
 begin_text sheet reports n =
     option_map_or (λ (report : Report). if nat_lt report.begin sheet.rows then begin_line sheet report.begin else []) (slice_get reports n) []
 
--- the end of a reconfiguration, `-` where it has no target
+-- The end of a reconfiguration, or `-` if it has no target.
 abbrev pub end_text : Report → Option ConfId → List ℕ
 end_text report None = codes "-"
 end_text report (Some to) = decimal report.end
 
--- when a reconfiguration began and ended, how long it took, and the bound on that
+-- The beginning, the end and the length of a reconfiguration, and the bound on its length.
 unfoldable pub times_text : Parts → Report → List ℕ
 times_text spec report = codes " begin " ++ decimal report.begin ++ codes " end " ++ end_text report report.to ++ length_text report (bound_of spec report)
 
--- where a reconfiguration led, `>` as a document has to spell it
+-- The source and the target of a reconfiguration, with `>` escaped.
 unfoldable pub route_text : Parts → ConfId → Option ConfId → List ℕ
 route_text spec from to = codes "reconfiguration " ++ conf_name spec from.0 ++ codes " &gt; " ++ conf_or_dash spec to
 
--- the line of a reconfiguration in the trace
+-- The line of a reconfiguration in the trace.
 unfoldable pub report_title : Parts → Report → List ℕ
 report_title spec report = route_text spec report.from report.to ++ times_text spec report
 
--- the width of the rows from `begin` to `last` or the last row
+-- The width of the rows from `begin` to `last` or to the last row.
 abbrev pub rows_width : Sheet → ℕ → ℕ → ℕ
 rows_width sheet begin last = width_of sheet (min last (sheet.rows - 1) + 1 - begin)
 
--- the outline of a bound, where there is one
+-- The outline of a bound, or the empty text if there is none.
 abbrev pub bound_rect : Sheet → ℕ → Option ℕ → List ℕ
 bound_rect sheet begin None = []
 bound_rect sheet begin (Some bound) =
     codes "<rect class=\"bound\"" ++ box_text (x_of sheet begin) 48 (rows_width sheet begin (begin + bound)) ++ codes "/>\n"
 
--- a reconfiguration from its begin to its end, with its bound
+-- A reconfiguration from its beginning to its end, with its bound.
 abbrev pub report_boxes : Parts → Sheet → Report → List ℕ
 report_boxes spec sheet report =
     bound_rect sheet report.begin (bound_of spec report) ++ codes "<rect class=\"reconfiguration\""
     ++ box_text (x_of sheet report.begin) 48 (rows_width sheet report.begin report.end) ++ codes "><title>"
     ++ report_title spec report ++ codes "</title></rect>\n"
 
--- the same of reconfiguration n, where it begins in a row
+-- Reconfiguration `n` with its bound, or the empty text if it does not begin in a row.
 abbrev pub reconfiguration_boxes : Parts → Sheet → List Report → ℕ → List ℕ
 reconfiguration_boxes spec sheet reports n =
     option_map_or (λ (report : Report). if nat_lt report.begin sheet.rows then report_boxes spec sheet report else []) (slice_get reports n) []

@@ -1,4 +1,4 @@
--- Where things stand in a picture, in pixels.
+-- Positions and sizes in a picture, in pixels.
 use Rattle.std.specs.Prelude.{ℕ, ◌+◌, ◌*◌, ◌≤◌, ◌/◌, ◌-◌, max, List, length, nat_lt, if◌then◌else◌}
 use Rattle.scram_types.specs.Specification.{Parts}
 use Rattle.scram_types.specs.declared.rows.Row.{Row}
@@ -6,66 +6,66 @@ use Rattle.flight_facts.specs.declared.spans.Lane.{Lane}
 use Rattle.flight_facts.specs.declared.spans.Lane.TheVariants.{Factor, Processor, Application}
 use Rattle.picture_form.specs.declared.sheets.Sheet.{Sheet}
 
--- the numbers of rows and of lanes
+-- The numbers of rows and of lanes of a flight.
 abbrev pub sheet_of : Parts → List Row → Sheet
 sheet_of spec rows = record { rows = length rows; factors = length spec.factors; procs = length spec.procs; apps = length spec.apps }
 
--- There are no more lanes than a specification can have.
+-- A sheet has no more lanes than a specification can have.
 pub record IsSheet (sheet : Sheet) : Type 0 where
   pub factors : sheet.factors ≤ 6
   pub procs : sheet.procs ≤ 8
   pub apps : sheet.apps ≤ 8
 
--- how wide a row is
+-- The width of a row.
 abbrev pub scale_of : ℕ → ℕ
 scale_of rows = if nat_lt 8000 rows then 1 else (if nat_lt 4000 rows then 2 else (if nat_lt 2000 rows then 4 else 8))
 
--- how many rows there are from one tick to the next
+-- The number of rows from one tick to the next.
 abbrev pub rows_of_tick : ℕ → ℕ
 rows_of_tick rows = if nat_lt 8000 rows then 100 else (if nat_lt 4000 rows then 50 else (if nat_lt 2000 rows then 25 else 10))
 
--- the number of ticks
+-- The number of ticks.
 abbrev pub ticks_of : Sheet → ℕ
 ticks_of sheet = sheet.rows / rows_of_tick sheet.rows + 1
 
--- where row k begins
+-- The left edge of row `k`.
 abbrev pub x_of : Sheet → ℕ → ℕ
 x_of sheet k = 136 + scale_of sheet.rows * k
 
--- how wide a number of rows is
+-- The width of a number of rows.
 abbrev pub width_of : Sheet → ℕ → ℕ
 width_of sheet rows = scale_of sheet.rows * rows
 
--- the number of lanes of factors, processors and applications
+-- The number of lanes of factors, processors and applications.
 abbrev pub lanes_of : Sheet → ℕ
 lanes_of sheet = sheet.factors + sheet.procs + sheet.apps
 
--- lane n of these, in order
+-- Lane `n` of the lanes of factors, processors and applications, in this order.
 abbrev pub lane_of : Sheet → ℕ → Lane
 lane_of sheet n =
     if nat_lt n sheet.factors then Factor n
     else (if nat_lt n (sheet.factors + sheet.procs) then Processor (n - sheet.factors) else Application (n - (sheet.factors + sheet.procs)))
 
--- the room before the lanes of processors and of applications
+-- The extra space above lane `n`, which separates the lanes of factors, processors and applications.
 abbrev pub room_above : Sheet → ℕ → ℕ
 room_above sheet n = if nat_lt n sheet.factors then 0 else (if nat_lt n (sheet.factors + sheet.procs) then 8 else 16)
 
--- where lane n begins
+-- The top of lane `n`.
 abbrev pub lane_y : Sheet → ℕ → ℕ
 lane_y sheet n = 72 + 20 * n + room_above sheet n
 
--- where the curves begin, below all lanes
+-- The top of the curves, below all lanes.
 abbrev pub curves_y : Sheet → ℕ
 curves_y sheet = 96 + 20 * lanes_of sheet
 
--- the end of the second curve
+-- The bottom of the second curve.
 abbrev pub bottom_of : Sheet → ℕ
 bottom_of sheet = curves_y sheet + 120
 
--- the width of the picture: there is room for the legend
+-- The width of the picture, at least that of the legend.
 abbrev pub sheet_width : Sheet → ℕ
 sheet_width sheet = max (288 + scale_of sheet.rows * sheet.rows) 912
 
--- the height of the picture
+-- The height of the picture.
 abbrev pub sheet_height : Sheet → ℕ
 sheet_height sheet = bottom_of sheet + 68

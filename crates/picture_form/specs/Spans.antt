@@ -20,25 +20,25 @@ use Rattle.picture_form.specs.declared.sheets.Sheet.{Sheet}
 use Rattle.picture_form.specs.declared.spans.Span.{Span}
 use Rattle.picture_form.specs.declared.spans.Strip.{Strip}
 
--- what a lane is called
+-- The name of a lane.
 abbrev pub lane_name : Parts → Lane → List ℕ
 lane_name spec lane.Configuration = codes "configuration"
 lane_name spec (lane.Factor i) = factor_name spec i
 lane_name spec (lane.Processor p) = proc_name spec p
 lane_name spec (lane.Application a) = app_name spec a
 
--- the name of a factor's value in a row
+-- The name of a factor's value in a row.
 abbrev pub value_in : Parts → ℕ → Row → List ℕ
 value_in spec i row = option_map_or (λ (factor : Factor). value_name factor (slice_index row.env.factors i)) (slice_get spec.factors i) []
 
--- the class of what is shown of a row
+-- The class of the box of a row in a lane.
 abbrev pub class_text : Lane → Row → List ℕ
 class_text lane.Configuration row = codes "stable"
 class_text (lane.Factor i) row = codes "v" ++ decimal (slice_index row.env.factors i)
 class_text (lane.Processor p) row = codes "up"
 class_text (lane.Application a) row = word_text (act_word (act_of row a))
 
--- a mode and a processor, a space before each
+-- The mode and the processor of an act, as far as it has them, each after a space.
 abbrev pub mode_and_proc : Parts → ℕ → Act → List ℕ
 mode_and_proc spec kind (act.Ran mode proc) = codes " " ++ mode_text kind mode.0 ++ codes " " ++ proc_name spec proc.0
 mode_and_proc spec kind (act.Halting k n proc) = codes " " ++ proc_name spec proc.0
@@ -48,14 +48,14 @@ mode_and_proc spec kind (act.Initialising k n proc) = codes " " ++ proc_name spe
 mode_and_proc spec kind act.Off = []
 mode_and_proc spec kind act.Lost = []
 
--- what is shown of a row, in words
+-- The title of a row in a lane, without the lane's name.
 abbrev pub words_text : Parts → Lane → Row → List ℕ
 words_text spec lane.Configuration row = codes "stable"
 words_text spec (lane.Factor i) row = value_in spec i row
 words_text spec (lane.Processor p) row = codes "up"
 words_text spec (lane.Application a) row = word_text (act_word (act_of row a)) ++ mode_and_proc spec (kind_of_app spec a) (act_of row a)
 
--- the label of an act: mode and processor where it ran
+-- The label of an act, which for a run is the mode and the processor.
 abbrev pub act_label : Parts → ℕ → Act → List ℕ
 act_label spec kind (act.Ran mode proc) = mode_text kind mode.0 ++ codes " " ++ proc_name spec proc.0
 act_label spec kind (act.Halting k n proc) = codes "halting"
@@ -65,43 +65,43 @@ act_label spec kind (act.Initialising k n proc) = codes "initialising"
 act_label spec kind act.Off = codes "off"
 act_label spec kind act.Lost = codes "lost"
 
--- the label of what is shown of a row
+-- The label of a row in a lane.
 abbrev pub label_of : Parts → Lane → Row → List ℕ
 label_of spec lane.Configuration row = codes "stable"
 label_of spec (lane.Factor i) row = value_in spec i row
 label_of spec (lane.Processor p) row = codes "up"
 label_of spec (lane.Application a) row = act_label spec (kind_of_app spec a) (act_of row a)
 
--- the label of a span
+-- The label of a span.
 abbrev pub span_label : Sheet → Span → List ℕ → List ℕ
 span_label sheet span label = label_text (x_of sheet span.first) span.y (width_of sheet span.rows) label
 
--- the box of a span, with what its first row shows
+-- The box of a span, titled by its first row.
 abbrev pub rect_text : Parts → Sheet → Row → Span → List ℕ
 rect_text spec sheet row span =
     codes "<rect class=\"" ++ class_text span.lane row ++ codes "\"" ++ box_text (x_of sheet span.first) span.y (width_of sheet span.rows) ++ codes "><title>"
     ++ lane_name spec span.lane ++ codes " " ++ words_text spec span.lane row ++ frames_text span.first span.rows ++ codes "</title></rect>"
     ++ span_label sheet span (label_of spec span.lane row) ++ codes "\n"
 
--- a line below a span in which a configuration is stable, and its name
+-- A line below a span in which a configuration is stable, and the configuration's name.
 abbrev pub stable_text : Parts → Sheet → Option ConfId → Span → List ℕ
 stable_text spec sheet None span = []
 stable_text spec sheet (Some c) span =
     codes "<path class=\"stable\" d=\"M" ++ decimal (x_of sheet span.first) ++ codes " 38h" ++ decimal (width_of sheet span.rows) ++ codes "\"/>"
     ++ span_label sheet span (conf_name spec c.0) ++ codes "\n"
 
--- a span by its lane; a processor that is down is not shown
+-- A span by its lane. A processor that is down is not shown.
 abbrev pub lane_span_text : Parts → Sheet → Row → Span → Lane → List ℕ
 lane_span_text spec sheet row span lane.Configuration = stable_text spec sheet (stable_conf row.mode) span
 lane_span_text spec sheet row span (lane.Factor i) = rect_text spec sheet row span
 lane_span_text spec sheet row span (lane.Processor p) = if has_bit row.env.up p then rect_text spec sheet row span else []
 lane_span_text spec sheet row span (lane.Application a) = rect_text spec sheet row span
 
--- a span of this number of rows in a strip, if there is one, from row k on
+-- A span of this number of rows in a strip from row `k` on, or the empty text if there is none.
 abbrev pub begun_text : Parts → Sheet → Row → Strip → ℕ → Option ℕ → List ℕ
 begun_text spec sheet row strip k None = []
 begun_text spec sheet row strip k (Some n) = lane_span_text spec sheet row (record { lane = strip.lane; y = strip.y; first = k; rows = n }) strip.lane
 
--- the span that row k begins, if it begins one
+-- The span that begins in row `k`, or the empty text if none begins there.
 abbrev pub span_text : Parts → Sheet → List Row → Strip → ℕ → List ℕ
 span_text spec sheet rows strip k = option_map_or (λ (row : Row). begun_text spec sheet row strip k (span_at strip.lane rows k)) (slice_get rows k) []

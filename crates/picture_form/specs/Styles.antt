@@ -1,10 +1,10 @@
--- What stands in every picture.
+-- The parts that every picture has.
 use Rattle.std.specs.Prelude.{ℕ, List}
 use Rattle.picture_form.specs.declared.styles.Part.{Part}
 use Rattle.picture_form.specs.declared.styles.Part.TheVariants.{Style, Names, Legend}
 use Rattle.picture_form.specs.declared.styles.TheConstants.{LEGEND, NAMES, STYLE}
 
--- the text of a part
+-- The text of a part.
 abbrev pub part_text : Part → List ℕ
 part_text Style = STYLE.now
 part_text Names = NAMES.now

@@ -1,4 +1,4 @@
-//! Pieces of a picture: boxes, names and labels, made without memory.
+//! Pieces of a picture: boxes, names and labels, made without allocation.
 
 ghost use Rattle.std.specs.Prelude.{◌≡◌, ◌<◌, ◌≤◌, ◌+◌, ◌++◌, ◌^◌, length, decimal};
 ghost use Rattle.scram_types.specs.declared.limits.TheConstants.{MAX_LINE_BYTES};
@@ -7,7 +7,7 @@ ghost use Rattle.picture_form.specs.Boxes.{box_text, frames_text, label_text, na
 use itoa::Buffer;
 use trace_text::lines::Line;
 
-/// Adds a number in decimal.
+/// Appends a number in decimal.
 pub fn add_number(line: &mut Line, number: u64)
     requires { length line.old + 20 ≤ MAX_LINE_BYTES }
     ensures text { line.new ≡ line.old ++ decimal number }
@@ -30,7 +30,7 @@ fn add_place(line: &mut Line, x: u64, y: u64)
     line.text(b"\"");
 }
 
-/// Adds the place and the size of a box.
+/// Appends the position and the size of a box.
 #[tactic(auto, unfolding(crate::specs::Boxes::box_text))]
 pub fn add_box(line: &mut Line, x: u64, y: u64, width: u64)
     requires { length line.old + 92 ≤ MAX_LINE_BYTES }
@@ -43,7 +43,7 @@ pub fn add_box(line: &mut Line, x: u64, y: u64, width: u64)
     line.text(b"\" height=\"16\"");
 }
 
-/// Adds the name of a lane, of at most 16 bytes, which ends before its rows begin.
+/// Appends the name of a lane, of at most 16 bytes, which ends before the rows of the lane begin.
 pub fn add_name(line: &mut Line, y: u64, name: &[u8])
     requires room { length line.old + 79 ≤ MAX_LINE_BYTES }
     requires name { length name.now ≤ 16 }
@@ -57,7 +57,7 @@ pub fn add_name(line: &mut Line, y: u64, name: &[u8])
     line.text(b"</text>");
 }
 
-/// Adds a text of at most 33 bytes, of a class of at most 10, at a place.
+/// Appends a text of at most 33 bytes at a position, with a class of at most 10 bytes.
 #[tactic(auto, unfolding(crate::specs::Boxes::placed_text))]
 pub fn add_placed(line: &mut Line, class: &[u8], x: u64, y: u64, text: &[u8])
     requires room { length line.old + 120 ≤ MAX_LINE_BYTES }
@@ -75,7 +75,7 @@ pub fn add_placed(line: &mut Line, class: &[u8], x: u64, y: u64, text: &[u8])
     line.text(b"</text>");
 }
 
-/// Adds a label of at most 33 bytes in a box, where there is room for it.
+/// Appends a label of at most 33 bytes in a box, or nothing if it does not fit.
 pub fn add_label(line: &mut Line, x: u64, y: u64, width: u64, label: &[u8])
     requires room { length line.old + 120 ≤ MAX_LINE_BYTES }
     requires label { length label.now ≤ 33 }
@@ -89,7 +89,7 @@ pub fn add_label(line: &mut Line, x: u64, y: u64, width: u64, label: &[u8])
     }
 }
 
-/// Adds the rows of a span of `rows` rows from row `k` on.
+/// Appends the frames of a span of `rows` rows from row `k` on.
 pub fn add_frames(line: &mut Line, k: u32, rows: u32)
     requires { length line.old + 52 ≤ MAX_LINE_BYTES }
     ensures text { line.new ≡ line.old ++ frames_text k rows }

@@ -1,4 +1,4 @@
-//! Altitude and heading as lines, made without memory.
+//! Altitude and heading as lines, made without allocation.
 
 ghost use Rattle.std.specs.Prelude.{◌≡◌, ◌<◌, ◌≤◌, ◌+◌, ◌++◌, ◌^◌, length, option_map};
 ghost use Rattle.std.specs.Fmt.{signed_decimal};
@@ -12,7 +12,7 @@ use flight_facts::spans::row_before;
 use scram_types::Row;
 use trace_text::lines::Line;
 
-/// A quantity that is drawn as a line, where it is drawn, in pixels, and its extremes.
+/// A quantity that is drawn as a line, with its position in pixels and its extremes.
 #[derive(Clone, Copy)]
 pub struct Curve {
     pub quantity: Quantity,
@@ -26,7 +26,7 @@ fn distance(a: &i64, b: &i64) -> u64
     a.abs_diff(*b)
 }
 
-// Returns where a number stands between the extremes, in tenths of a pixel from the top.
+// Returns the position of a number between the extremes, in tenths of a pixel from the top.
 fn drop_of(extremes: &Extremes, number: &i64) -> u64
     ensures { result ≡ drop_of extremes.now number.now }
 {
@@ -92,7 +92,7 @@ pub fn make_curve_names(y: u64, name: &str, unit: &str) -> Line
     line
 }
 
-/// Returns the begin of a line through the middle of each row.
+/// Returns the beginning of a line through the middle of each row.
 pub fn make_curve_begin(sheet: Sheet, y: u64) -> Line
     ensures { result ≡ curve_begin sheet y }
 {

@@ -13,7 +13,7 @@ use scram_io::{Sink, SinkFault};
 use scram_types::{Row, Spec};
 use trace_text::lines::Line;
 
-/// Puts all lanes of factors, processors and applications.
+/// Writes all lanes of factors, processors and applications.
 pub fn put_lanes<K: Sink>(
     out: &mut K,
     spec: &Spec,
@@ -93,7 +93,7 @@ fn make_name_line(spec: &Spec, strip: Strip) -> Line
     line
 }
 
-/// Puts the spans of a lane.
+/// Writes the spans of a lane.
 pub fn put_spans<K: Sink>(
     out: &mut K,
     spec: &Spec,

@@ -1,4 +1,4 @@
-//! The form `picture`: a trace as a picture, in SVG. What it prints is the answer to the bytes of the files that its words
+//! The form `picture`: a trace as a picture, in SVG. Its output depends only on the bytes of the files that its words
 //! name.
 #![tactic(auto)]
 

@@ -122,7 +122,7 @@ fn put_body<K: Sink>(
     }
 }
 
-// Puts what lies behind the lanes.
+// Writes the lines in the background of the lanes.
 fn put_grid<K: Sink>(out: &mut K, sheet: Sheet, reports: &[Report]) -> Result<(), SinkFault>
     requires { IsSheet sheet }
     ensures { Prints result (K.state out.old) (K.state out.new) (grid_text sheet reports.now) }
@@ -203,7 +203,7 @@ fn put_front<K: Sink>(
     }
 }
 
-// Puts configurations and reconfigurations.
+// Writes configurations and reconfigurations.
 fn put_top<K: Sink>(
     out: &mut K,
     spec: &Spec,
@@ -277,7 +277,7 @@ fn put_lanes_and_foot<K: Sink>(
     }
 }
 
-// Puts what stands below the lanes.
+// Writes the part below the lanes.
 fn put_foot<K: Sink>(out: &mut K, sheet: Sheet, rows: &[Row]) -> Result<(), SinkFault>
     requires { IsSheet sheet }
     ensures { Prints result (K.state out.old) (K.state out.new) (foot_text sheet rows.now) }
@@ -400,7 +400,7 @@ fn put_line<K: Sink>(out: &mut K, sheet: Sheet, rows: &[Row], curve: Curve) -> R
     }
 }
 
-// Puts the points of a line, and its end.
+// Writes the points of a line, and its end.
 fn put_points<K: Sink>(
     out: &mut K,
     sheet: Sheet,
@@ -428,7 +428,7 @@ fn put_all_points<K: Sink>(out: &mut K, rows: &[Row], curve: Curve) -> Result<()
     Ok(())
 }
 
-// Puts the legend, and the end of the document.
+// Writes the legend, and the end of the document.
 fn put_legend<K: Sink>(out: &mut K, sheet: Sheet) -> Result<(), SinkFault>
     requires { IsSheet sheet }
     ensures { Prints result (K.state out.old) (K.state out.new) (legend_text sheet) }

@@ -1,4 +1,4 @@
-//! Where things stand in a picture, in pixels.
+//! Positions and sizes in a picture, in pixels.
 
 ghost use Rattle.std.specs.Prelude.{◌≡◌, ◌<◌, ◌≤◌, ◌^◌, length};
 ghost use Rattle.flight_facts.specs.Spans.{IsLane};
@@ -7,7 +7,7 @@ ghost use Rattle.picture_form.specs.Sheets.{IsSheet, bottom_of, curves_y, lane_o
 use flight_facts::spans::Lane;
 use scram_types::{Row, Spec};
 
-/// The numbers of rows and of lanes, by which all places are found.
+/// The numbers of rows and of lanes, which determine all positions.
 #[derive(Clone, Copy, Debug, PartialEq, Eq)]
 pub struct Sheet {
     pub rows: u32,
@@ -16,7 +16,7 @@ pub struct Sheet {
     pub apps: u8,
 }
 
-/// Returns the numbers of rows and of lanes.
+/// Returns the numbers of rows and of lanes of a flight.
 pub fn sheet_of(spec: &Spec, rows: &[Row]) -> Sheet
     requires { length rows.now < 2 ^ 32 }
     ensures value { result ≡ sheet_of spec.now rows.now }
@@ -62,7 +62,7 @@ fn rows_of_tick(rows: u32) -> u32
 }
 
 impl Sheet {
-    /// Returns how wide a row is.
+    /// Returns the width of a row.
     pub fn scale(self) -> u64
         ensures value { result ≡ scale_of self.rows }
         ensures small { result ≤ 8 }
@@ -70,7 +70,7 @@ impl Sheet {
         scale_of(self.rows)
     }
 
-    /// Returns how many rows there are from one tick to the next.
+    /// Returns the number of rows from one tick to the next.
     pub fn tick(self) -> u32
         ensures value { result ≡ rows_of_tick self.rows }
         ensures some { 10 ≤ result }
@@ -79,7 +79,7 @@ impl Sheet {
         rows_of_tick(self.rows)
     }
 
-    /// Returns where row `k` begins.
+    /// Returns the left edge of row `k`.
     pub fn x(self, k: u64) -> u64
         requires { k ≤ 2 ^ 40 }
         ensures value { result ≡ x_of self k }
@@ -95,7 +95,7 @@ impl Sheet {
         self.rows / self.tick() + 1
     }
 
-    /// Returns how wide a number of rows is.
+    /// Returns the width of a number of rows.
     pub fn width_of(self, rows: u32) -> u64
         ensures { result ≡ width_of self rows }
     {
@@ -111,7 +111,7 @@ impl Sheet {
         self.factors + self.procs + self.apps
     }
 
-    /// Returns a lane by its number, 0 to the number of lanes less one.
+    /// Returns the lane of a number, which is below the number of lanes.
     pub fn lane(self, n: u8) -> Lane
         requires sheet { IsSheet self }
         requires lane { n < lanes_of self }
@@ -141,7 +141,7 @@ impl Sheet {
         }
     }
 
-    /// Returns where a lane begins.
+    /// Returns the top of a lane.
     pub fn lane_y(self, n: u8) -> u64
         requires { IsSheet self }
         ensures value { result ≡ lane_y self n }
@@ -150,7 +150,7 @@ impl Sheet {
         72 + 20 * u64::from(n) + self.room_above(n)
     }
 
-    /// Returns where the curves begin.
+    /// Returns the top of the curves.
     pub fn curves_y(self) -> u64
         requires { IsSheet self }
         ensures value { result ≡ curves_y self }
@@ -159,7 +159,7 @@ impl Sheet {
         96 + 20 * u64::from(self.lanes())
     }
 
-    /// Returns the end of the second curve.
+    /// Returns the bottom of the second curve.
     pub fn bottom(self) -> u64
         requires { IsSheet self }
         ensures value { result ≡ bottom_of self }

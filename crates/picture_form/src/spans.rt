@@ -1,4 +1,4 @@
-//! Spans of rows that are shown alike in a lane, made without memory.
+//! Spans of rows that are shown alike in a lane, made without allocation.
 
 ghost use Rattle.std.specs.Prelude.{◌≡◌, ◌<◌, ◌≤◌, ◌+◌, ◌++◌, ◌^◌, length, codes};
 ghost use Rattle.scram_types.specs.Lookups.{proc_name};
@@ -15,14 +15,14 @@ use scram_types::{Act, AppId, ConfId, FactorId, KindId, ProcId, Row, Spec};
 use trace_text::lines::Line;
 use trace_text::row_lines::name_of_mode;
 
-/// A lane, and where it begins, in pixels.
+/// A lane with its top, in pixels.
 #[derive(Clone, Copy, Debug, PartialEq, Eq)]
 pub struct Strip {
     pub lane: Lane,
     pub y: u64,
 }
 
-/// Rows of a lane that are shown alike: the first one, and their number.
+/// Rows of a lane that are shown alike: the first row, and the number of rows.
 #[derive(Clone, Copy, Debug, PartialEq, Eq)]
 pub struct Span {
     pub lane: Lane,
@@ -31,7 +31,7 @@ pub struct Span {
     pub rows: u32,
 }
 
-/// Returns what a lane is called, in at most 16 bytes.
+/// Returns the name of a lane, which has at most 16 bytes.
 pub fn lane_name(spec: &Spec, lane: Lane) -> &str
     ensures name { result.now ≡ lane_name spec.now lane }
     ensures short { length result.now ≤ 16 }
@@ -44,7 +44,7 @@ pub fn lane_name(spec: &Spec, lane: Lane) -> &str
     }
 }
 
-/// Returns the text of the span that row `k` begins; no bytes where it begins none.
+/// Returns the text of the span that begins in row `k`, or the empty line if none begins there.
 pub fn make_span(spec: &Spec, sheet: Sheet, rows: &[Row], strip: Strip, k: usize) -> Line
     requires lane { IsLane strip.lane }
     requires y { strip.y ≤ 6000 }
@@ -199,7 +199,7 @@ fn add_words(line: &mut Line, spec: &Spec, lane: Lane, row: &Row)
     }
 }
 
-// Adds a mode and a processor where an act has them, a space before each.
+// Appends the mode and the processor of an act, as far as it has them, each after a space.
 fn add_mode_and_proc(line: &mut Line, spec: &Spec, kind: KindId, act: &Act)
     requires { length line.old + 34 ≤ MAX_LINE_BYTES }
     ensures text { line.new ≡ line.old ++ mode_and_proc spec.now kind.0 act.now }
@@ -229,7 +229,7 @@ fn add_proc(line: &mut Line, spec: &Spec, proc: ProcId)
     line.text(spec.proc_name(proc).as_bytes());
 }
 
-// Returns the label of what is shown of a row, in at most 33 bytes.
+// Returns the label of a row in a lane, which has at most 33 bytes.
 fn make_label(spec: &Spec, lane: Lane, row: &Row) -> Line
     requires lane { IsLane lane }
     ensures text { result ≡ label_of spec.now lane row.now }

@@ -1,4 +1,4 @@
-//! What stands in every picture.
+//! The parts that every picture has.
 
 ghost use Rattle.std.specs.Prelude.{◌≡◌};
 ghost use Rattle.picture_form.specs.Styles.{part_text};
@@ -39,7 +39,7 @@ pub const NAMES: &str = concat!(
     "<text class=\"name\" x=\"128\" y=\"60\">reconfiguration</text>\n",
 );
 
-/// The legend: what the classes are called.
+/// The legend: the names of the classes.
 pub const LEGEND: &str = concat!(
     "<path class=\"ran\" d=\"M8 0h12v12h-12z\"/><text x=\"26\" y=\"10\">ran</text>\n",
     "<path class=\"halting\" d=\"M136 0h12v12h-12z\"/><text x=\"154\" y=\"10\">halting</text>\n",

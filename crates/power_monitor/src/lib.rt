@@ -1,4 +1,4 @@
-//! The power monitor as a boxed application. Whatever it remembers, it answers the law of its kind.
+//! The power monitor as a boxed application. Whatever it remembers, its answer is the law of its kind.
 #![tactic(auto)]
 
 pub mod unit;

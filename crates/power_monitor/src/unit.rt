@@ -21,6 +21,6 @@ impl KindLaw for PowerMonitorLaw {
     }
 }
 
-/// A power monitor: it keeps account of the battery's charge. What it answers is the law of kind 2; it
-/// gives its last answer again where the call is the same.
+/// A power monitor, which keeps account of the battery's charge. It answers the law of kind 2 and repeats its last
+/// answer if the call is the same.
 pub type PowerMonitor = Remembering<PowerMonitorLaw>;

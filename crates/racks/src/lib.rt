@@ -1,5 +1,5 @@
-//! Racks that hold the boxes of kinds 0 to 4, made where the macro stands. A rack has the boxes that it is made of, in
-//! their order; nothing is promised of their kinds: `racks_fit` tests them where they are made.
+//! Racks that hold the boxes of kinds 0 to 4, made by macros. A rack holds the boxes that it is made of, in their
+//! order. Nothing is promised about their kinds; `racks_fit` tests them after the racks are made.
 #![tactic(auto)]
 
 pub mod macros;

@@ -1,7 +1,7 @@
-//! The macros that make racks. They are macros, since no function may make boxes and hand them out; each `?` in them
-//! gives back the out-of-memory error from the function around them.
+//! The macros that make racks. They are macros because no function may make boxes and return them. Each `?` in them
+//! returns the out-of-memory error from the enclosing function.
 
-/// A rack of five boxes, whose first is given.
+/// Creates a rack of five boxes from its first application.
 #[macro_export]
 macro_rules! rack {
     ($rt:expr, $first:expr) => {{
@@ -19,8 +19,8 @@ macro_rules! rack {
     }};
 }
 
-/// Eight racks, one for each processor, each with the boxes of kinds 0 to 4. Where a processor is given, as
-/// `Some(number)`, and a box, its rack has that box in the autopilot's place.
+/// Creates eight racks, one for each processor, each with the boxes of kinds 0 to 4. If a processor, as `Some(number)`,
+/// and an application are given, that processor's rack has a box of the application instead of the autopilot.
 #[macro_export]
 macro_rules! racks {
     ($rt:expr) => {{

@@ -1,5 +1,6 @@
-//! Boxes, and a rack of five of them. No function may make boxes of applications and hand them out as such; these are
-//! handed the values, and then the boxes, so that a body in which `rack!` stands has two early returns and not ten.
+//! Boxes, and a rack of five boxes. No function may make boxes of applications and return them as `App` objects. The
+//! functions here take the values, and then the boxes, so that a body that uses `rack!` has two early returns instead
+//! of ten.
 
 ghost use Rattle.std.specs.Prelude.{◌≡◌, ◌∷◌, [], IfOk};
 

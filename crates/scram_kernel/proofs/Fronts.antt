@@ -1,4 +1,4 @@
--- The first rows of all rows.
+-- Prefixes of the list of all rows.
 use Rattle.std.proofs.Common.{◌≡◌, ◌∙◌, ℕ, zero, suc, ◌≤◌, refl, subst, sym, arith, List, [], ◌∷◌, ◌⊎◌}
 use mathlib.Core.Logic.{inl, inr}
 use Rattle.std.specs.Prelude.{ℤ, take}
@@ -28,7 +28,7 @@ take_listed value m (suc n) le = elim (last_or_below m n le) [
       take-append-le m (listed_below value n) (value n ∷ []) (rw long below) ∙ take_listed value m n below
 ]
 
--- The rows that a kernel has are the first ones of all rows.
+-- The rows of a kernel are a prefix of all rows.
 pub are_first : {spec : Parts} {script : ScriptParts} {walk : Walk} {image : KernelImage} {areas : List (List ℤ)} {reading : Reading} {rows : List Row} {reports : List Report} {rows_room reports_room rows_count reports_count : ℕ}
     → KernelKeeps spec script walk image areas reading rows reports rows_room reports_room rows_count reports_count → (k : KernelParts) → kernel_after spec script image.frame ≡ k
     → rows ≡ take k.past (rows_of k.spec k.script)

@@ -1,4 +1,4 @@
--- One frame more.
+-- One further frame.
 use Rattle.std.proofs.Common.{◌≡◌, ◌∙◌, ℕ, suc, ◌+◌, ◌<◌, ◌≤◌, refl, ap, subst, sym, arith, List, [], ◌∷◌, ◌++◌}
 use Rattle.std.specs.Prelude.{ℤ, Option}
 use Rattle.scram_types.specs.declared.rows.Env.{Env}

@@ -1,4 +1,4 @@
--- The row of a frame, drawn from what the kernel said of the frame and from the marks and images after it.
+-- The row of a frame, drawn from the kernel image of the frame and from the marks and images after it.
 use Rattle.std.specs.Prelude.{ℕ, suc, ◌/◌, ◌==◌, ℤ, Bool, List, Option, Some, None, if◌then◌else◌}
 use Rattle.scram_types.specs.Eights.{eight}
 use Rattle.scram_types.specs.Specification.{Parts}
@@ -12,36 +12,37 @@ use Rattle.frame_model.specs.States.{act_after, area_at, keeper_at, keeper_on, w
 use Rattle.frame_model.specs.Tasks.{task_of}
 use Rattle.scram_kernel.specs.Marks.{mark_in}
 
--- By the marks after frame f processor p has committed it: half of its mark counts the frames up to f.
+-- Whether processor `p` has committed frame `f` by the marks after it: half of a mark is the number of frames up to the
+-- last committed one.
 abbrev pub has_committed : List ℕ → ℕ → ℕ → Bool
 has_committed marks f p = mark_in marks p / 2 == suc f
 
--- The area of application a: zeros where it is off, its slot where its processor has committed, else the old one.
+-- The area of application `a`: zeros if it is off, its slot if its processor has committed, else the old area.
 abbrev pub area_from : (ℕ → Bool) → List (List ℤ) → ℕ → List ℤ → Option ProcId → List ℤ
 area_from committed images a old None = zeros
 area_from committed images a old (Some proc) = if committed proc.0 then slot_in (image_in images proc.0) a else old
 
--- What the image's frame asks of application a.
+-- The task of application `a` in the image's frame.
 abbrev pub task_said : Parts → KernelImage → ℕ → Task
 task_said spec image a = task_of spec image.mode image.frame a
 
--- What application a did in that frame.
+-- The act of application `a` in the image's frame.
 abbrev pub act_drawn : Parts → KernelImage → List ℕ → ℕ → Act
 act_drawn spec image marks a = act_after (has_committed marks image.frame) (task_said spec image a)
 
--- The processor that keeps its area after that frame.
+-- The processor that keeps the area of application `a` after the image's frame.
 abbrev pub keeper_drawn : Parts → KernelImage → List ℕ → ℕ → Option ProcId
 keeper_drawn spec image marks a = keeper_on (has_committed marks image.frame) (keeper_at image.keepers a) (task_said spec image a).proc
 
--- Its area after that frame, by the areas before it.
+-- The area of application `a` after the image's frame, by the areas before it.
 abbrev pub area_drawn : Parts → KernelImage → List ℕ → List (List ℤ) → List (List ℤ) → ℕ → List ℤ
 area_drawn spec image marks images areas a = area_from (has_committed marks image.frame) images a (area_at areas a) (task_said spec image a).proc
 
--- The areas of the eight applications after that frame.
+-- The areas of the eight applications after the image's frame.
 abbrev pub areas_drawn : Parts → KernelImage → List ℕ → List (List ℤ) → List (List ℤ) → List (List ℤ)
 areas_drawn spec image marks images areas = eight (area_drawn spec image marks images areas)
 
--- The processors that keep them.
+-- The processors that keep the eight areas after the image's frame.
 abbrev pub keepers_drawn : Parts → KernelImage → List ℕ → List (Option ProcId)
 keepers_drawn spec image marks = eight (keeper_drawn spec image marks)
 

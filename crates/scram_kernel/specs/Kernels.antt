@@ -1,4 +1,4 @@
--- A kernel, as its callers see it, and what it keeps.
+-- A kernel as its callers see it, and its invariant.
 use Rattle.std.specs.Prelude.{◌≡◌, ℕ, suc, ◌≤◌, ℤ, List}
 use Rattle.scram_types.specs.Scripts.{ScriptParts}
 use Rattle.scram_types.specs.Searches.{listed_below}
@@ -14,22 +14,22 @@ use Rattle.frame_model.specs.Flights.{row_at, state_after}
 use Rattle.frame_model.specs.Readings.{ended, reading_of}
 use Rattle.frame_model.specs.Storage.{kernel_image}
 
--- The specification and the script that it flies, and how many frames have ended.
+-- The specification and the script of a kernel, and the number of frames that have ended.
 pub record KernelParts : Type 0 where
   pub spec : Parts
   pub script : ScriptParts
   pub past : ℕ
 
--- The kernel of a flight after the first f frames.
+-- The kernel of a flight after the first `f` frames.
 abbrev pub kernel_after : Parts → ScriptParts → ℕ → KernelParts
 kernel_after spec script f = record { spec = spec; script = script; past = f }
 
--- The rows of the first f frames.
+-- The rows of the first `f` frames.
 abbrev pub rows_below : Parts → ScriptParts → ℕ → List Row
 rows_below spec script f = listed_below (row_at spec script) f
 
--- What stands in a kernel after f frames is what the script makes of them: the image of frame f, the areas, the reading
--- of the rows so far, these rows, and the reports of reconfigurations that ended in them.
+-- A kernel after `f` frames holds the image of frame `f` and the areas before it. It holds the rows of the first `f`
+-- frames, their reading, and the reports of the reconfigurations that ended in them.
 pub record Stands (spec : Parts) (script : ScriptParts) (f : ℕ) (image : KernelImage) (areas : List (List ℤ))
     (reading : Reading) (rows : List Row) (reports : List Report) : Type 0 where
   pub image_is : image ≡ kernel_image spec script f
@@ -38,7 +38,8 @@ pub record Stands (spec : Parts) (script : ScriptParts) (f : ℕ) (image : Kerne
   pub reading_is : reading ≡ reading_of spec (rows_below spec script f)
   pub reports_are : reports ≡ ended spec (rows_below spec script f)
 
--- There is room for what is still to come after f frames: a row a frame, and a report a frame and one at the end.
+-- After `f` frames there is room for the rest of the flight: a row for each frame, and a report for each frame and one
+-- at the end.
 pub record HasRoomForFlight (frames f room_of_rows room_of_reports count_of_rows count_of_reports : ℕ) : Type 0 where
   pub within : f ≤ frames
   pub rows_fit : frames ≤ room_of_rows
@@ -46,8 +47,8 @@ pub record HasRoomForFlight (frames f room_of_rows room_of_reports count_of_rows
   pub rows_told : count_of_rows ≡ f
   pub reports_few : count_of_reports ≤ f
 
--- What a kernel keeps. Its image is that of the frame that is running, at which its walk stands, so it gives how many
--- frames have ended.
+-- The invariant of a kernel. Its image is that of the running frame, which is also its walk's frame, so the image gives
+-- the number of frames that have ended.
 pub record KernelKeeps (spec : Parts) (script : ScriptParts) (walk : Walk) (image : KernelImage) (areas : List (List ℤ))
     (reading : Reading) (rows : List Row) (reports : List Report) (room_of_rows room_of_reports count_of_rows count_of_reports : ℕ) : Type 0 where
   pub facts : IsSpec spec

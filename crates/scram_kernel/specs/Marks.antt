@@ -1,18 +1,20 @@
--- The marks and the images of the processors after the first frames, as the caller that ends a frame hands them in.
+-- The marks and the images of the processors after the first frames, as the caller that ends a frame passes them in.
 use Rattle.std.specs.Prelude.{◌≡◌, ℕ, ◌<◌, ℤ, List, length, slice_index_or}
 use Rattle.scram_types.specs.Scripts.{ScriptParts}
 use Rattle.scram_types.specs.Specification.{Parts}
 use Rattle.frame_model.specs.Flights.{image_after, image_in}
 use Rattle.frame_model.specs.Storage.{mark_after}
 
--- The mark of processor p among these; 0 past the last.
+-- The mark of processor `p` in a list of marks, or 0 past the end of the list.
 abbrev pub mark_in : List ℕ → ℕ → ℕ
 mark_in marks p = slice_index_or marks p 0
 
--- These are the marks of the processors after the first f frames; what stands past the last processor is free.
+-- A list holds the marks of the processors after the first `f` frames. Its entries past the last processor are
+-- arbitrary.
 abbrev pub AreMarks : Parts → ScriptParts → ℕ → List ℕ → Type 0
 AreMarks spec script f marks = (p : ℕ) → p < length spec.procs → mark_in marks p ≡ mark_after spec script p f
 
--- These are the images of the processors after the first f frames; what stands past the last processor is free.
+-- A list holds the images of the processors after the first `f` frames. Its entries past the last processor are
+-- arbitrary.
 abbrev pub AreImages : Parts → ScriptParts → ℕ → List (List ℤ) → Type 0
 AreImages spec script f images = (p : ℕ) → p < length spec.procs → image_in images p ≡ image_after spec script p f

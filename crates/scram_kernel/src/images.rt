@@ -1,4 +1,4 @@
-//! What the kernel says of a frame.
+//! The kernel image of a frame.
 
 ghost use Rattle.std.specs.Prelude.{◌≡◌, ◌<◌};
 ghost use Rattle.scram_types.specs.declared.limits.TheConstants.{MAX_FRAMES};
@@ -8,7 +8,7 @@ use bank_words::KernelImage;
 use frame_model::{Sys, decide, has_arrived, phase_at};
 use scram_types::{Env, ProcId, Row, Spec};
 
-/// Returns what the kernel says of the frame that a system stands before, in this environment.
+/// Returns the kernel image of the next frame of a system, in this environment.
 pub(crate) fn image_given(spec: &Spec, sys: &Sys, env: Env) -> KernelImage
     ensures { result ≡ image_given spec.now sys.now env }
 {
@@ -22,7 +22,7 @@ pub(crate) fn image_given(spec: &Spec, sys: &Sys, env: Env) -> KernelImage
     }
 }
 
-/// Returns what the kernel says of the frame after a row, in this environment.
+/// Returns the kernel image of the frame after a row, in this environment.
 pub(crate) fn image_next(
     spec: &Spec,
     row: &Row,

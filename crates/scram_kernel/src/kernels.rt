@@ -8,10 +8,10 @@ use frame_model::{Reading, Sys, close, read_row, tasks_of};
 use scram_types::{Area, Flown, Image, List, NoMemory, Report, Row, Script, Spec};
 use std::alloc::Global;
 
-/// The kernel of a flight by a specification and a script, after some frames. It calls no application: what each one did
-/// in a frame it reads off the marks and the images of the processors after it, and the environment of the next frame off
-/// the script, along which it walks. It keeps what it said of the frame that is running, the areas before that frame, and
-/// the rows and the reconfigurations of the frames that have ended.
+/// The kernel of a flight by a specification and a script, after some frames. It calls no application. It takes the
+/// acts of a frame from the marks and the images of the processors after it, and the environment of the next frame from
+/// the script, along which it walks. It keeps the image of the running frame, the areas before that frame, and the rows
+/// and the reconfigurations of the frames that have ended.
 #[derive(Drop)]
 pub struct Kernel<'a> {
     spec: &'a Spec,
@@ -44,8 +44,8 @@ impl<'a> Kernel<'a> {
     ghost use Rattle.scram_kernel.specs.Kernels.{kernel_after, rows_below};
     ghost use Rattle.scram_kernel.specs.Marks.{AreImages, AreMarks};
 
-    /// Returns the kernel before the first frame, with room for all rows and reports of the script. The only error is
-    /// out of memory.
+    /// Returns the kernel before the first frame, with capacity for all rows and reports of the script. The only error
+    /// is out of memory.
     pub fn new(alloc: Global, spec: &'a Spec, script: &'a Script) -> Result<Kernel<'a>, NoMemory>
         requires { Fits spec.now script.now }
         ensures { IfOk result (λ kernel. kernel ≡ kernel_after spec.now script.now 0) }
@@ -67,7 +67,7 @@ impl<'a> Kernel<'a> {
         })
     }
 
-    /// Returns what the kernel says of frame 0, however many frames have ended.
+    /// Returns the kernel image of frame 0, however many frames have ended.
     pub fn first(&self) -> KernelImage
         ensures { result ≡ kernel_image self.now.spec self.now.script 0 }
     {
@@ -78,7 +78,7 @@ impl<'a> Kernel<'a> {
         )
     }
 
-    /// Returns what the kernel says of the frame that is running: the one after those that have ended.
+    /// Returns the kernel image of the running frame, which follows those that have ended.
     pub fn image(&self) -> KernelImage
         ensures { result ≡ kernel_image self.now.spec self.now.script self.now.past }
     {
@@ -93,9 +93,9 @@ impl<'a> Kernel<'a> {
         &self.rows
     }
 
-    /// Ends the frame that is running, where not all have ended. From the processors' marks and images after the frame it
-    /// appends its row and goes on with the reading of reconfigurations, and it walks on to the next frame. Returns what it
-    /// says of that frame, also after the last one.
+    /// Ends the running frame; the precondition is that not all frames have ended. From the processors' marks and
+    /// images after the frame it appends the frame's row, continues the reading of reconfigurations, and walks on to
+    /// the next frame. Returns the kernel image of that frame, also after the last one.
     pub fn tick(&mut self, marks: &[u64; 8], images: &[Image; 8]) -> KernelImage
         requires frames { self.old.past < self.old.script.frames }
         requires marks { AreMarks self.old.spec self.old.script (self.old.past + 1) marks.now }
@@ -118,7 +118,7 @@ impl<'a> Kernel<'a> {
         image
     }
 
-    /// Returns the rows and reports of a flight all of whose frames have ended: the one-thread trace.
+    /// Returns the rows and reports of a flight after its last frame, which are the one-thread trace.
     pub fn finish(self) -> Flown
         requires { self.past ≡ self.script.frames }
         ensures rows { result.rows ≡ rows_of self.entry.spec self.entry.script }
@@ -145,7 +145,7 @@ impl<'a> Kernel<'a> {
 ghost use Rattle.std.specs.Prelude.{◌≡◌, ◌<◌, ◌≤◌, ◌+◌, ◌++◌, vec_capacity, vec_len};
 ghost use Rattle.frame_model.specs.Readings.{as_list};
 
-// Appends a report, if there is one, in room that was reserved.
+// Appends a report, if there is one, within the reserved capacity.
 fn log(reports: &mut Vec<Report>, report: Option<Report>)
     requires { vec_len reports.old < vec_capacity reports.old }
     ensures items { reports.new.items ≡ reports.old.items ++ as_list report }

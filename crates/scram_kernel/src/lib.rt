@@ -1,5 +1,5 @@
-//! From the marks and the images of the processors after each frame the kernel writes the frame's row, keeps the log of
-//! reconfigurations, and says what the next frame is, exactly as in the one-thread trace.
+//! The kernel of a flight. From the marks and the images of the processors after each frame it writes the frame's row,
+//! logs reconfigurations, and gives the image of the next frame, exactly as in the one-thread trace.
 #![tactic(auto)]
 
 mod drawing;

@@ -1,4 +1,4 @@
--- A specification with the bounds that it has to give.
+-- A specification with the bounds that it is required to give.
 use Rattle.std.specs.Prelude.{ℕ, List}
 use Rattle.form_base.specs.declared.status.TheConstants.{ANSWERED}
 use Rattle.form_base.specs.Answers.{Gives}
@@ -9,6 +9,6 @@ use Rattle.spec_forms.specs.Bounds.{HasAskedBounds, bounds_text}
 abbrev pub AreAsked : Asked → Type 0
 AreAsked asked = HasAskedBounds asked.spec asked.sets
 
--- The text has the bounds of the specification.
+-- The answer lists the bounds of the specification.
 abbrev pub TellsBounds : Asked → ℕ → List ℕ → Type 0
 TellsBounds asked = Gives (ANSWERED, bounds_text asked.spec)

@@ -1,4 +1,4 @@
--- The lines in which a specification is answered.
+-- The lines that answer a question about a specification.
 use Rattle.std.specs.Prelude.{ℕ, ◌+◌, List, ◌++◌, length, codes, decimal}
 use Rattle.scram_types.specs.Lookups.{conf_name}
 use Rattle.scram_types.specs.Specification.{Parts, bound_in}
@@ -7,13 +7,14 @@ use Rattle.choice_table.specs.Numbering.{states}
 use Rattle.coverage_check.specs.Timing.{least}
 use Rattle.trace_text.specs.Text.{bound_text}
 
--- a specification that is accepted: its configurations, its environments in scope and the bounds that it gives
+-- The line of an accepted specification: the numbers of its configurations, of its environments in scope and of the
+-- bounds that it gives.
 abbrev pub accepted_line : Parts → List ℕ
 accepted_line spec =
     codes "accepted: configurations " ++ decimal (length spec.confs) ++ codes " states " ++ decimal (states spec)
     ++ codes " bounds " ++ decimal (length spec.bounds) ++ codes "\n"
 
--- the least bound that serves a pair of configurations, and the bound that is given for it
+-- The smallest sufficient bound for a pair of configurations, and the bound that is given for the pair.
 abbrev pub bound_line : Parts → ConfId → ConfId → List ℕ
 bound_line spec from to =
     codes "bound " ++ conf_name spec from.0 ++ codes " " ++ conf_name spec to.0 ++ codes " least " ++ decimal (least spec from to)

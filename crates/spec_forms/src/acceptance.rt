@@ -36,7 +36,7 @@ pub fn check<F: Files, K: Sink>(
     }
 }
 
-/// Reads the specification; the line says that it is accepted.
+/// Reads the specification and returns the line that says that it is accepted.
 fn read_line<F: Files>(alloc: Global, specification: &str, files: &mut F) -> Result<Line, Refusal>
     ensures { Prepares (CheckAnswers specification.now) (λ (line : List ℕ). Gives (ANSWERED, line)) (specification.now ∷ [])
         (F.state files.old) (F.state files.new) result }

@@ -1,4 +1,4 @@
-//! The form `bounds`: the bounds that a specification has to give.
+//! The form `bounds`: the bounds that a specification is required to give.
 
 ghost use Rattle.std.specs.Prelude.{◌≡◌, ◌<◌, ◌≤◌, ◌∷◌, [], IfOk, length};
 ghost use Rattle.scram_types.specs.Bits.{has_bit};
@@ -24,14 +24,16 @@ use scram_io::{Files, Sink, SinkFault};
 use scram_types::{ConfId, NoMemory, Spec};
 use std::alloc::Global;
 
-/// A specification, and for each configuration those to which a bound from it is asked for, as bits.
+/// A specification, and for each configuration the set, as bits, of configurations to which a bound from it is
+/// required.
 #[derive(Drop)]
 struct Asked {
     spec: Spec,
     sets: [u16; 12],
 }
 
-/// Prints the bounds that the specification in a file has to give, where it has few enough environments in scope.
+/// Prints the bounds that the specification in a file is required to give, unless it has too many environments in
+/// scope.
 pub fn bounds<F: Files, K: Sink>(
     alloc: Global,
     specification: &str,
@@ -51,7 +53,7 @@ pub fn bounds<F: Files, K: Sink>(
     }
 }
 
-/// Reads the specification, and finds the bounds that it has to give.
+/// Reads the specification and finds the bounds that it is required to give.
 fn read_asked<F: Files>(alloc: Global, specification: &str, files: &mut F) -> Result<Asked, Refusal>
     ensures reads { Prepares (BoundsAnswers specification.now) TellsBounds (specification.now ∷ []) (F.state files.old) (F.state files.new) result }
     ensures asked { IfOk result AreAsked }
@@ -80,7 +82,7 @@ fn find_bounds(alloc: Global, spec: Spec) -> Result<Asked, Refusal>
     }
 }
 
-/// Returns the configurations to which a bound from each configuration is asked for, as bits.
+/// Returns for each configuration the set, as bits, of configurations to which a bound from it is required.
 ///
 /// # Errors
 ///
@@ -133,7 +135,7 @@ fn put_bounds_from<K: Sink>(
     Ok(())
 }
 
-// Puts the line of a pair, where a bound is asked for it.
+// Writes the line of a pair if a bound is required for it.
 fn put_bound<K: Sink>(
     out: &mut K,
     spec: &Spec,
@@ -153,7 +155,7 @@ fn put_bound<K: Sink>(
     }
 }
 
-/// Returns whether a bound is asked for; `set` has those from `from` that are.
+/// Returns whether a bound is required, where `set` is the set of targets for which one is required from `from`.
 pub fn is_asked(spec: &Spec, set: u16, from: ConfId, to: ConfId) -> bool
     requires set { set ≡ asked_bounds spec.now from }
     requires to { to.0 < length spec.now.confs }

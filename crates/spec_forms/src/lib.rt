@@ -1,5 +1,5 @@
-//! The forms in which something is asked of a specification: `check` and `bounds`. What each prints is the answer to the
-//! bytes of the file that its words name.
+//! The forms that answer a question about a specification: `check` and `bounds`. Their output depends only on the bytes
+//! of the file that their words name.
 #![tactic(auto)]
 
 mod acceptance;

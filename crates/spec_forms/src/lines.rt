@@ -1,4 +1,4 @@
-//! The lines in which a specification is answered, made without memory.
+//! The lines that answer a question about a specification, made without allocation.
 
 ghost use Rattle.std.specs.Prelude.{◌≡◌};
 ghost use Rattle.spec_forms.specs.Lines.{accepted_line, bound_line};
@@ -25,7 +25,7 @@ pub fn make_accepted_line(spec: &Spec) -> Line
     line
 }
 
-/// Returns the least bound, in frames, that serves a pair of configurations, and the one that is given for it.
+/// Returns the line of a pair of configurations: the smallest sufficient bound, in frames, and the bound that is given.
 pub fn make_bound_line(spec: &Spec, from: ConfId, to: ConfId) -> Line
     ensures { result ≡ bound_line spec.now from to }
 {
