@@ -1,5 +1,5 @@
-//! What is chosen where: the configuration that the choice table chooses in an environment, exactly; what
-//! can run; which environments are in scope; what demands ask; and a number for each environment, both ways.
+//! The choice table: the configuration that it chooses in an environment, exactly, the configurations that can run, the
+//! environments in scope, the demands on the table, and a number for each environment, both ways.
 #![tactic(auto)]
 
 pub mod choices;
