@@ -73,7 +73,7 @@ module _ (spec : Parts) (made : IsSpec spec) where
         chosen = same_conf (choose spec i (numbered spec found.0)) j (equal _ j.0 (and_right (is_number_in_scope spec found.0) _ found.2));
       }
 
-  -- and so do the bits of all of them
+  -- the bits of all possible targets find them too
   pub are_targets : (i : ConfId) → i.0 < length spec.confs → AreTargets spec i (targets spec i)
   are_targets i known = record {
     only = λ j inside bit. target_tested i j (sym (has_bits (is_target spec i) (length spec.confs) j.0 inside) ∙ bit);
@@ -125,7 +125,7 @@ module _ (spec : Parts) (made : IsSpec spec) where
   cover_unmet requirement.CanRun c cover is = first_is_least (is_unmet spec requirement.CanRun c) cover.not_runnable is.not_runnable
   cover_unmet requirement.Stays c cover is = first_is_least (is_unmet spec requirement.Stays c) cover.unsettled is.unsettled
 
-  -- where no environment passes a test first, none in scope passes it
+  -- if no environment passes a test first, none in scope passes it
   pub passes_nowhere : (test : Env → Bool) → first_passing_env spec test ≡ None → (v : Env) → IsEnv spec v → in_scope spec v ≡ true → test v ≡ false
   passes_nowhere test none v belongs scope =
       let same = numbered_number v belongs in

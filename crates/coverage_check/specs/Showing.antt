@@ -1,11 +1,11 @@
--- What a refusal shows, by the numbers of its place.
+-- The contents of a refusal.
 use Rattle.std.specs.Prelude.{ℕ, Some, None}
 use Rattle.scram_types.specs.Lookups.{conf_id}
 use Rattle.scram_types.specs.declared.rows.Env.{Env}
 use Rattle.coverage_check.specs.declared.shown.Shown.{Shown}
 use Rattle.coverage_check.specs.declared.shown.Other.{Other}
 
--- A condition broken at no configuration, at a configuration, or at one in an environment.
+-- What is shown of a condition that is broken at no configuration.
 abbrev pub shown_nowhere : ℕ → Other → Shown
 shown_nowhere condition what = record { condition = condition; conf = None; env = None; other = what }
 
