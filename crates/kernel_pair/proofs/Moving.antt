@@ -1,4 +1,4 @@
--- An event changes one actor: what is to be shown of that actor for the invariant to stand.
+-- An event changes one actor. These are the facts about that actor from which the invariant follows.
 use Rattle.std.proofs.Common.{◌≡◌, ℕ, zero, suc, ◌<◌, ◌≤◌, arith}
 use Rattle.std.specs.Prelude.{Option}
 use native.Mathlib.Decide.{ℕ_discrete}
@@ -20,7 +20,7 @@ both zero l P a b = two P a b
 both (suc zero) l P a b = two P b a
 both (suc (suc u)) l P a b = absurd (omega arith)
 
--- what is to be shown of unit u that becomes x
+-- the facts about unit u that becomes x from which the invariant follows
 pub record UnitMoves (m : Flight) (halt : Option UnitHalt) (s : Pair) (u : ℕ) (x : KernelUnit) : Type 0 where
   pub own : IsUnit m halt u x
   pub ahead : (p : ℕ) → p < m.procs → IsAhead m p (s.proc p).place x

@@ -1,4 +1,4 @@
--- What a processor reads that makes a frame, and what a unit notes.
+-- The words that a processor reads when it makes a frame, and those that a unit notes.
 use Rattle.std.proofs.Common.{◌≡◌, ℕ, suc, ◌+◌, ◌%◌, ◌<◌, ◌≤◌, true, refl, sym, ap, subst, ◌∙◌, arith}
 use Rattle.std.specs.Prelude.{Option, Some, None}
 use Rattle.std.proofs.lemmas.Bool.Decides.{nat_tests}
