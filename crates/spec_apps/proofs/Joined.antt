@@ -1,4 +1,4 @@
--- Applications with their needs, and with their ranks.
+-- Applications with their needs and with their ranks.
 use Rattle.std.proofs.Common.{true, ◌≡◌, ◌<◌, ◌≤◌, ℕ, zero, suc, List, [], ◌∷◌, ◌++◌, drop, length, map, arith, refl, sym, ap, subst, ◌∙◌}
 use Rattle.std.specs.Prelude.{Option, Some, None, is_some, slice_get, slice_index, take, All}
 use Rattle.std.proofs.lemmas.List.Elements.{All-head, All-tail}
@@ -73,7 +73,7 @@ unranked_fit apps needs least most same fits named =
       each = λ i x e. rw (count) (unranked apps needs x i (joined apps needs i x same e) fits named);
     }
 
--- needs and ranks leave the names
+-- needs and ranks do not change the names
 pub joined_names : (apps : List AppSpec) (needs : List (List AppId)) → map name_of_app (with_needs apps needs) ≡ map name_of_app apps
 joined_names [] needs = refl
 joined_names (app ∷ apps) [] = refl
