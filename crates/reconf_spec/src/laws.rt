@@ -1,4 +1,4 @@
-//! What the crates below keep together: each function's contract is a law.
+//! The common properties of the crates below, as laws. Each function's contract is a law.
 
 ghost use Rattle.reconf_spec.specs.Laws.{NamesAreOne};
 
