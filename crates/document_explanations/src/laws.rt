@@ -2,8 +2,8 @@
 
 ghost use Rattle.document_explanations.specs.Laws.{FoundIsShort, TablesAreRead};
 
-/// The table of members has exactly those that the readers need in the version of a document, and as many as the
-/// readers allow.
+/// The table of a specification has the members that the readers need in the version of a document. For
+/// specifications and scripts, the number of members is the one that the readers allow.
 pub fn tables_are_read()
     ensures { TablesAreRead }
 {}
