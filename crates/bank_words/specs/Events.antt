@@ -36,7 +36,7 @@ byte_of n = if nat_lt n 256 then Some n else None
 abbrev pub naming : (ℕ → Event) → ℕ → Option Event
 naming event n = option_map event (byte_of n)
 
--- The event of a kind, with its numbers as in its code.
+-- The event of a kind with the numbers that `n` encodes, if there is one.
 abbrev pub event_in : ℕ → ℕ → Option Event
 event_in kind n =
     if kind == 0 then naming (λ p. Start (proc_id p)) n

@@ -1,4 +1,4 @@
-//! Events: what a processor or the kernel does in one step.
+//! Events, which are the steps of a processor or of the kernel.
 
 ghost use Rattle.std.specs.Prelude.{◌≡◌, IfSome, Some};
 ghost use Rattle.bank_words.specs.Events.{IsEvent, byte_of, event_code, event_of};

@@ -92,7 +92,7 @@ chosen_line spec c v = choice_piece spec c v (first_rule spec.rules c v) ++ need
 abbrev pub no_name_line : List ℕ → List ℕ
 no_name_line word = codes "refused: no such name " ++ word ++ codes "\n"
 
--- The status and the line say that a word names nothing, or that there is no memory for that line.
+-- The status and the line are those of a word that names nothing, or of lack of memory for that line.
 abbrev pub IsUnknown : List ℕ → ℕ × List ℕ → Type 0
 IsUnknown word refusal = (refusal ≡ (UNKNOWN_NAME, no_name_line word)) ⊎ (refusal ≡ (OUT_OF_MEMORY, memory_line))
 

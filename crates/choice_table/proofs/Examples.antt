@@ -1,4 +1,4 @@
--- Worked examples of the definitions: computed, and compared with what the rules say.
+-- Worked examples of the definitions: computed, and compared with the rules.
 use Rattle.std.proofs.Common.{◌≡◌, refl, ℕ, List, [], ◌∷◌, true, false, pos}
 use Rattle.std.specs.Prelude.{Some, None, replicate}
 use Rattle.scram_types.specs.declared.rows.Env.{Env}

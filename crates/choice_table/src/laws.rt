@@ -1,4 +1,4 @@
-//! Laws that say what the definitions in this crate's contracts mean. Each function's contract is a law.
+//! The meaning of the definitions in this crate's contracts, as laws. Each function's contract is a law.
 
 ghost use Rattle.choice_table.specs.Laws.{RunsWherePlacesAreUp, SetsAreUpByMembers};
 

@@ -1,4 +1,4 @@
--- Worked examples of the definitions: computed, and compared with what the conditions say.
+-- Worked examples of the definitions: computed, and compared with the conditions.
 use Rattle.std.proofs.Common.{◌≡◌, refl, ℕ, List, [], ◌∷◌, pos}
 use Rattle.std.specs.Prelude.{Some, None, replicate}
 use Rattle.scram_types.specs.declared.specification.AppSpec.{AppSpec}

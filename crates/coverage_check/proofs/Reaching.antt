@@ -100,7 +100,7 @@ module _ (spec : Parts) (made : IsSpec spec) where
   pub cover_members : (i : ConfId) (cover : Cover) → IsCover spec i cover → AreTargets spec i cover.targets
   cover_members i cover is = record { only = λ j inside bit. is.only j bit; all = is.all; few = is.few }
 
-  -- the least environment that passes a test is the first one
+  -- the smallest environment that passes a test is the first one
 
   pub first_is_least : (test : Env → Bool) (o : Option Env) → IsLeastEnv spec test o → o ≡ first_passing_env spec test
   first_is_least test None none = sym (none_below (passing_env_at spec test) (environments spec) (λ n inside.
@@ -133,7 +133,7 @@ module _ (spec : Parts) (made : IsSpec spec) where
       (below_none (passing_env_at spec test) (environments spec) (number_of spec v) none (number_inside v belongs)) in
       ap test (sym same) ∙ and_false (is_number_in_scope spec (number_of spec v)) _ here (ap (in_scope spec) same ∙ scope)
 
-  -- what is found of a demand shows its refusal
+  -- the finding for a demand gives its refusal
   pub miss_is : (c : ℕ) (found : List (Option Env)) → AreMisses spec (conf_id c) found → (k : ℕ) → k < length spec.demands → miss_shown found c k ≡ demand_refusal_at spec c k
   miss_is c found are k low =
       some_item spec.demands k low (λ demand there.

@@ -88,11 +88,11 @@ pub record RefusesTheRest (spec : Parts) : Type 0 where
   pub accepted : first_refusal spec ≡ None → Accepts spec
   pub unrefused : Accepts spec → first_refusal spec ≡ None
 
--- A specification for which no refusal is found is accepted, and the other way round.
+-- Each specification is accepted if and only if no refusal is found for it.
 abbrev pub AcceptsWhereUnrefused : Type 0
 AcceptsWhereUnrefused = (spec : Parts) → IsSpec spec → RefusesTheRest spec
 
--- What is shown exists in the specification, and the condition is false there.
+-- The place in a refusal exists in the specification, and the condition is false there.
 pub data IsBroken (spec : Parts) (shown : Shown) : Type 0 where
   NeedOff : (c a : ℕ) → c < length spec.confs → a < length spec.apps → lacks_need spec (conf_id c) a ≡ true
       → shown ≡ shown_at 1 c (other.App (app_id a)) → IsBroken spec shown
@@ -118,6 +118,6 @@ pub data IsBroken (spec : Parts) (shown : Shown) : Type 0 where
       → n < environments spec → is_number_in_scope spec n ≡ true → misses spec demand (conf_id c) (numbered spec n) ≡ true
       → shown ≡ shown_in 13 c (numbered spec n) (other.Demand k) → IsBroken spec shown
 
--- What a refusal shows is broken in the specification.
+-- The first refusal of a specification shows a condition that is broken in it.
 abbrev pub ShownIsBroken : Type 0
 ShownIsBroken = (spec : Parts) (shown : Shown) → first_refusal spec ≡ Some shown → IsBroken spec shown

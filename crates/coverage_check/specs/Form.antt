@@ -68,11 +68,11 @@ capacity_of spec p = option_map_or (λ (processor : Proc). processor.capacity) (
 abbrev pub is_overloaded : Parts → ConfId → ℕ → Bool
 is_overloaded spec c p = nat_lt (capacity_of spec p) (load_below spec c p (length spec.apps))
 
--- The refusal for the first application that is on in configuration `c` without what it needs.
+-- The refusal for the first application that is on in configuration `c` while an application that it needs is off.
 abbrev pub need_refusal_in : Parts → ℕ → Option Shown
 need_refusal_in spec c = first_below (λ a. shown_if (lacks_need spec (conf_id c) a) (shown_at 1 c (other.App (app_id a)))) (length spec.apps)
 
--- A1: the refusal for the first application that is on without what it needs.
+-- A1: the refusal for the first application that is on while an application that it needs is off.
 abbrev pub need_refusal : Parts → Option Shown
 need_refusal spec = first_below (need_refusal_in spec) (length spec.confs)
 

@@ -47,7 +47,7 @@ impl Accepted {
 /// The reason why a specification is not accepted, with the unchanged specification.
 #[derive(Drop)]
 pub enum AcceptError {
-    /// A condition does not hold. What is shown is the first place of the first such condition.
+    /// A condition does not hold. The refusal shows the first place of the first such condition.
     NotAccepted(Spec, Shown),
     NoMemory(Spec),
 }
@@ -148,7 +148,7 @@ pub fn accepts_where_unrefused()
     ensures { AcceptsWhereUnrefused }
 {}
 
-/// What a refusal shows exists in the specification, and the condition is false there.
+/// The place in a refusal exists in the specification, and the condition is false there.
 pub fn shown_is_broken()
     ensures { ShownIsBroken }
 {}

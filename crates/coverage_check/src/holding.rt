@@ -15,8 +15,8 @@ use app_model::{after_init, during};
 use cube_cover::Cover;
 use scram_types::{AppId, ConfId, Invariant, KindId, Mode, Place, Precondition, Spec};
 
-// Returns the refusal of the first invariant that may not hold throughout a reconfiguration, with the smallest source
-// of one (A11).
+// Returns the refusal of the first invariant that may not hold throughout a reconfiguration, with the first
+// configuration from which it may not (A11).
 pub(crate) fn refuse_invariant(spec: &Spec, covers: &[Cover; 12]) -> Option<Shown>
     requires { HasCovers spec.now covers.now }
     ensures { result ≡ invariant_refusal spec.now }

@@ -8,7 +8,7 @@ pub fn tables_are_read()
     ensures { TablesAreRead }
 {}
 
-/// At most 62 characters of the part of a document are shown.
+/// At most 62 characters of a value that was found are shown.
 pub fn found_is_short()
     ensures { FoundIsShort }
 {}

@@ -73,12 +73,12 @@ NotBelow k j p f = (k ≤ f) × (p < j → k < f)
 abbrev pub IsAhead : Flight → ℕ → Place → KernelUnit → Type 0
 IsAhead m p place x = (f : ℕ) → to_make (m.restart p) place ≡ Some f → NotBelow x.frame x.step p f
 
--- The number of frames that a processor has completed or in which it has halted.
+-- The number of frames before the place of a processor, including the frame in which it has halted.
 abbrev pub frames_past : Place → ℕ
 frames_past (At f n) = f
 frames_past (Halted h) = suc h
 
--- Some unit has released all frames that a processor has completed or in which it has halted.
+-- Some unit has released all frames before the place of a processor, including the frame in which it has halted.
 pub record IsReached (units : ℕ → KernelUnit) (place : Place) : Type 0 where
   pub unit : ℕ
   pub there : unit < 2

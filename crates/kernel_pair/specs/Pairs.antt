@@ -51,8 +51,8 @@ to_make restart (Halted h) = restart_past h restart
 abbrev pub MakesReleased : Option ℕ → Place → ℕ → Type 0
 MakesReleased restart place release = (f : ℕ) × (to_make restart place ≡ Some f) × (f < release)
 
--- The number of steps of frame `f` before which a halt is possible. All steps of a frame may come before a halt, but
--- the last frame ends with the last note.
+-- The end of the range of the numbers of steps after which a unit may halt in frame `f`. All steps of a frame may come
+-- before a halt, but the last frame ends with the last note.
 abbrev pub halts_below : Flight → ℕ → ℕ
 halts_below m f = if nat_lt (suc f) m.frames then m.procs + 24 else m.procs
 

@@ -15,7 +15,7 @@ use Rattle.fail_stop.specs.ScriptFlights.{flight_of}
 use Rattle.fail_stop.specs.Flights.{Flight}
 use Rattle.bank_words.specs.Marks.{pick}
 
--- The place where a processor stands.
+-- The place of a processor.
 abbrev pub stand_place : Stand → Place
 stand_place (stand.Before f) = At f 0
 stand_place (stand.Halted h) = Halted h

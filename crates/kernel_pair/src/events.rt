@@ -3,7 +3,7 @@
 use scram_types::ProcId;
 
 /// The halt of unit 0 or 1 in a frame, after `step` of its steps there. The unit does not halt if the flight has no
-/// such frame, if the frame has fewer steps, or if the step is the last note of the flight.
+/// such frame, if the frame has fewer steps, or if these steps end with the last note of the flight.
 #[derive(Clone, Copy, Debug, PartialEq, Eq)]
 pub struct UnitHalt {
     pub unit: u8,

@@ -83,7 +83,7 @@ check_version at d =
 abbrev pub policy_in : Data → Result Policy DocFault
 policy_in d = if has_policy d then member_in (codes "policy") read_policy d else Ok Retarget
 
--- The demands of a document, which are none if its version has no demands.
+-- The demands of a document. The list is empty if its version has no demands.
 abbrev pub demands_in : Names → Data → Result (List Demand) DocFault
 demands_in names d =
     if has_demands d then member_in (codes "demands") (read_demands names.procs names.apps names.confs names.factors) d else Ok []

@@ -111,7 +111,7 @@ fn read_policy_of(members: &Members<'_>) -> Result<Policy, DocFault>
     }
 }
 
-/// Returns the demands of a document, which are none if its version has no demands.
+/// Returns the demands of a document. The list is empty if its version has no demands.
 fn read_demands_of(
     alloc: Global,
     vocabulary: &Vocabulary,

@@ -1,4 +1,4 @@
--- What the results of the JSON crate say about the value of bytes.
+-- The results of the JSON crate, and the value that bytes encode.
 use Rattle.std.proofs.Common.{◌≡◌, ℕ, Bool, true, false, List, [], refl}
 use Rattle.std.specs.Prelude.{Option, Some, None, IsUtf8, cond, Ok}
 use Rattle.std.specs.Str.{is_utf8}

@@ -53,7 +53,7 @@ escaped_length xs = let inside = escape_length xs in omega (arith, inside, lengt
 abbrev pub exact : List ℕ → ℕ
 exact text = length (quoted text)
 
--- a bound on the length of a value's text, where a text has at most the length that `measure` gives
+-- a bound on the length of a value's text, if `measure` bounds the lengths of the texts in it
 abbrev mutual
   pub weight : (List ℕ → ℕ) → Data → ℕ
   weight measure null = 4

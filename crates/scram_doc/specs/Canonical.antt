@@ -13,6 +13,6 @@ count_data n = number (unsigned n)
 abbrev pub integer_data : ℤ → Data
 integer_data n = number (of_integer n)
 
--- The value of a list, where each item is written as `f` gives it.
+-- The value of a list, in which `f` gives the value of each item.
 abbrev pub list_data : {A : Type 0} → (A → Data) → List A → Data
 list_data f xs = array (items_of (map f xs))

@@ -13,8 +13,7 @@ abbrev pub or_broken : {A : Type 0} → ℕ → List ℕ → Option A → Result
 or_broken rule path (Some a) = Ok a
 or_broken rule path None = broken rule path
 
--- The answer is the result of the reading, where `f` maps the value of the answer to that of the reading, or it is out
--- of memory.
+-- The answer is the result of the reading, or out of memory. `f` maps the value of the answer to that of the reading.
 abbrev pub Answers : {A B : Type 0} → Result B DocFault → (A → B) → Result A DocError → Type 0
 Answers reading f (Ok a) = reading ≡ Ok (f a)
 Answers reading f (Err (Fault fault)) = reading ≡ Err fault

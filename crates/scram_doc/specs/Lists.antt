@@ -1,4 +1,4 @@
--- Lists that are read element by element, where an element may depend on the elements before it.
+-- Lists that are read element by element. An element may depend on the elements before it.
 use Rattle.std.specs.Prelude.{◌≡◌, ℕ, suc, List, [], ◌∷◌, ◌++◌, take, slice_get, Some, Result, Ok}
 use Rattle.serde_json.specs.Data.{Data, Items, no_items, item}
 use Rattle.scram_doc.specs.declared.fault.DocFault.{DocFault}
@@ -16,7 +16,7 @@ elements_from {A} read at i done (item d ds) =
 abbrev pub elements_at : {A : Type 0} → (List ℕ → List A → Data → Result A DocFault) → ℕ → ℕ → List ℕ → Data → Result (List A) DocFault
 elements_at read least most at d = chain (list_at least most at d) (λ (ds : Items). elements_from read at 0 [] ds)
 
--- The state after all elements, where `step` makes the next state from a path, the state before and an element.
+-- The state after all elements. `step` makes the next state from a path, the state before and an element.
 abbrev pub folded_from : {S : Type 0} → (List ℕ → S → Data → Result S DocFault) → List ℕ → ℕ → S → Items → Result S DocFault
 folded_from step at i made no_items = Ok made
 folded_from {S} step at i made (item d ds) =

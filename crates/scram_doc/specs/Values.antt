@@ -12,7 +12,7 @@ use Rattle.scram_doc.specs.Faults.{broken, or_broken}
 abbrev pub items_within : ℕ → ℕ → List ℕ → Items → Result Items DocFault
 items_within least most at ds = if nat_le least (items_len ds) && nat_le (items_len ds) most then Ok ds else broken WRONG_LENGTH at
 
--- The elements of the list at a path, if there are `least` to `most`.
+-- The elements of the list at a path, if there are `least` to `most`. Rule 5 or 6 is broken there otherwise.
 abbrev pub list_at : ℕ → ℕ → List ℕ → Data → Result Items DocFault
 list_at least most at d = chain (or_broken NO_LIST at (as_array d)) (λ (ds : Items). items_within least most at ds)
 
@@ -24,7 +24,7 @@ text_at at d = or_broken NO_TEXT at (as_str d)
 abbrev pub int_within : ℤ → ℤ → ℤ → Option ℤ
 int_within least most n = if int_le least n && int_le n most then Some n else None
 
--- The whole number at a path, from `least` to `most`, inclusive.
+-- The whole number at a path, if it is from `least` to `most`. Rule 8 is broken there otherwise.
 abbrev pub int_at : ℤ → ℤ → List ℕ → Data → Result ℤ DocFault
 int_at least most at d = or_broken NO_NUMBER_IN_RANGE at (option_and_then (int_within least most) (option_and_then as_i64 (as_number d)))
 
@@ -32,6 +32,6 @@ int_at least most at d = or_broken NO_NUMBER_IN_RANGE at (option_and_then (int_w
 abbrev pub whole_below : ℕ → ℕ → ℕ → Option ℕ
 whole_below least end n = if nat_le least n && nat_lt n end then Some n else None
 
--- The whole number at a path, at least `least` and below `end`.
+-- The whole number at a path, if it is at least `least` and below `end`. Rule 8 is broken there otherwise.
 abbrev pub whole_at : ℕ → ℕ → List ℕ → Data → Result ℕ DocFault
 whole_at least end at d = or_broken NO_NUMBER_IN_RANGE at (option_and_then (whole_below least end) (option_and_then as_u64 (as_number d)))

@@ -9,7 +9,7 @@ use crate::{DocError, Path, list};
 use serde_json::Value;
 use std::alloc::Global;
 
-/// The way to read the elements of a list, where an element may depend on the elements before it.
+/// A reader of the elements of a list. An element may depend on the elements before it.
 pub trait Elements<T: Drop> {
     ghost use Rattle.std.specs.Prelude.{◌≡◌, ◌≤◌, List, ℕ, Result, IfOk, length};
     ghost use Rattle.serde_json.specs.Data.{Data};
@@ -26,7 +26,7 @@ pub trait Elements<T: Drop> {
     /// A fact that each element keeps with the elements before it.
     ghost Fits: { Self → List T → T → Type 0 };
 
-    /// Returns the element that the value encodes, where `done` has the elements before it.
+    /// Returns the element that the value encodes. `done` has the elements before it.
     fn read(&self, alloc: Global, done: &[T], v: &Value, at: &Path) -> Result<T, DocError>
         requires room { length at.now ≤ room }
         ensures value { Answers (reading self.now at.now done.now (view v.now)) (λ x. x) result }

@@ -12,7 +12,7 @@ use serde_json::Value;
 use std::alloc::{AllocError, Global};
 use std::marker::{Model, PhantomData};
 
-/// The way to name items.
+/// A naming of items.
 pub trait Naming<T> {
     ghost use Rattle.std.specs.Prelude.{◌≡◌, List, ℕ};
 
@@ -85,7 +85,7 @@ impl<T, N: Naming<T>> Model for Numbered<T, N> {
 }
 
 impl<T, N: Naming<T>> Numbered<T, N> {
-    /// Creates a list of these items, where `numbers` has their names in order.
+    /// Creates a list of these items. `numbers` has their names in order.
     pub fn of(items: Vec<T>, numbers: Numbers) -> Numbered<T, N>
         requires { numbers ≡ map N.spelling items.items }
         ensures { result ≡ items.items }
@@ -154,7 +154,7 @@ impl<T: Drop, N: Naming<T>> Numbered<T, N> {
     }
 }
 
-/// The way to read the elements of a list, where each element has a name and may depend on the elements before it.
+/// A reader of the elements of a list. Each element has a name, and may depend on the elements before it.
 pub trait NamedElements<T: Drop, N: Naming<T>> {
     ghost use Rattle.std.specs.Prelude.{◌≡◌, ◌≤◌, List, ℕ, None, Result, IfOk, length};
     ghost use Rattle.serde_json.specs.Data.{Data};
@@ -172,7 +172,7 @@ pub trait NamedElements<T: Drop, N: Naming<T>> {
     /// A fact that each element keeps with the elements before it.
     ghost Fits: { Self → List T → T → Type 0 };
 
-    /// Returns the element that the value encodes, where `done` has the elements before it.
+    /// Returns the element that the value encodes. `done` has the elements before it.
     fn read(
         &self,
         alloc: Global,

@@ -39,7 +39,7 @@ pub fn text<'a>(v: &'a Value, at: &Path) -> Result<&'a str, DocFault>
     v.as_str().ok_or_else(|| DocFault::new(rule::NO_TEXT, at))
 }
 
-/// Returns the whole number from `least` to `most` that the value is. Rule 8 is broken at its path if it is none. A
+/// Returns the value, if it is a whole number from `least` to `most`. Rule 8 is broken at its path if it is not. A
 /// number with a point or an exponent, `-0` and a number beyond 64 bits are not whole numbers.
 pub fn int_in(v: &Value, least: i64, most: i64, at: &Path) -> Result<i64, DocFault>
     ensures value { result ≡ int_at least most at.now (view v.now) }
@@ -58,8 +58,8 @@ fn is_within(number: i64, least: i64, most: i64) -> bool
     least <= number && number <= most
 }
 
-/// Returns the whole number that the value is, at least `least` and below `end`. Rule 8 is broken at its path if it is
-/// none.
+/// Returns the value, if it is a whole number that is at least `least` and below `end`. Rule 8 is broken at its path if
+/// it is not.
 pub fn whole_in(v: &Value, least: u32, end: u32, at: &Path) -> Result<u32, DocFault>
     ensures value { result ≡ whole_at least end at.now (view v.now) }
     ensures least { IfOk result (λ n. least ≤ n) }

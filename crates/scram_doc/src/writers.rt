@@ -8,7 +8,7 @@ ghost use Rattle.scram_doc.specs.Canonical.{list_data};
 use serde_json::{Map, Value};
 use std::alloc::{AllocError, Global};
 
-/// The way to write the items of a list.
+/// A writer of the items of a list.
 pub trait Writes<T> {
     ghost use Rattle.std.specs.Prelude.{◌≡◌, IfOk};
     ghost use Rattle.serde_json.specs.Data.{Data};

@@ -17,7 +17,7 @@ use Rattle.spec_members.specs.Kept.{AreApps, IsWritableApp, rank_of}
 use Rattle.spec_apps.specs.Unranked.{IsUnranked, AreUnranked}
 use Rattle.spec_members.proofs.Distinct.{each_of, new_differ}
 
--- an application with its needs, and where both come from
+-- an application with its needs, and the origins of both
 record Joined (apps : List AppSpec) (needs : List (List AppId)) (a : ℕ) (whole : AppSpec) : Type 0 where
   app : AppSpec
   named : List AppId
@@ -84,7 +84,7 @@ graded_names [] ranks = refl
 graded_names (app ∷ apps) [] = refl
 graded_names (app ∷ apps) (rank ∷ ranks) = ap (λ (names : List (List ℕ)). name_of_app app ∷ names) (graded_names apps ranks)
 
--- an application with its rank, and where both come from
+-- an application with its rank, and the origins of both
 record Graded (apps : List AppSpec) (ranks : List ℕ) (a : ℕ) (whole : AppSpec) : Type 0 where
   app : AppSpec
   there : slice_get apps a ≡ Some app

@@ -37,8 +37,8 @@ abbrev pub NamedAmong : Result (List AppSpec) DocFault → List AppId → List (
 NamedAmong (Err fault) named names = names ≡ []
 NamedAmong (Ok apps) named names = AreNamed apps named names
 
--- The cycle of a fault is one of the applications as they were read, if they were read and have a cycle, and its names
--- are theirs.
+-- The cycle of a fault is one of the applications as they were read, with their names. There is none if they were not
+-- read or have no cycle.
 abbrev pub ShowsCycle : Result (List AppSpec) DocFault → SpecError → Type 0
 ShowsCycle unranked (Fault fault) =
     CycleAmong unranked fault.cycle.items × NamedAmong unranked fault.cycle.items fault.names.items

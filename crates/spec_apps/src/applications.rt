@@ -119,7 +119,7 @@ fn check_text_list(v: &Value, at: &Path) -> Result<(), DocFault>
     Ok(())
 }
 
-/// The reading of applications without their needs and ranks.
+/// A reader of applications without their needs and ranks.
 pub struct Apps;
 
 impl NamedElements<AppSpec, ByName> for Apps {

@@ -38,7 +38,7 @@ fn is_needed(needs: &[AppId], app: AppId) -> bool
     needs.iter().any(|needed| needed.0 == app.0)
 }
 
-/// The reading of needs among these applications.
+/// A reader of needs among these applications.
 #[derive(Clone, Copy)]
 struct Needs<'a> {
     apps: &'a Numbered<AppSpec, ByName>,

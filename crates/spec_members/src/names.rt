@@ -12,7 +12,7 @@ use scram_doc::{DocFault, Naming, Numbered, Path, text};
 use scram_types::{AppSpec, Conf, Demand, Factor, Name, Proc};
 use serde_json::Value;
 
-/// The way to name the items of a specification: each item by its name, and a name by itself.
+/// The naming of the items of a specification: each item by its name, and a name by itself.
 pub struct ByName;
 
 impl Naming<Proc> for ByName {

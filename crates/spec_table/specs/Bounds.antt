@@ -21,7 +21,7 @@ read_new_target confs done from at d =
     chain (read_conf_id confs at d) (λ (to : ConfId).
     if is_some (bound_in done from.0 to.0) then broken TWICE_IN_LIST at else Ok to)
 
--- A bound for a pair of configurations that has none yet.
+-- A bound for a pair of configurations that has no bound yet.
 abbrev pub read_bound : List Conf → List ℕ → List Bound → Data → Result Bound DocFault
 read_bound confs at done d =
     chain (object_at at d) (λ (_ : ⊤).

@@ -315,7 +315,7 @@ with_version [] Retarget spec ms = put (codes "scram") (count_data 1) ms
 with_version [] Settle spec ms = put (codes "scram") (count_data 2) (put (codes "policy") (string (codes "settle")) ms)
 with_version (demand ∷ demands) policy spec ms = with_demands (demand ∷ demands) policy spec ms
 
--- The members that say to which environments and configurations a demand applies.
+-- The members with the environments and configurations to which a demand applies.
 abbrev pub with_condition : Parts → Demand → Members → Members
 with_condition spec demand ms =
     put (codes "down") (set_data name_of_proc spec.procs demand.down) (

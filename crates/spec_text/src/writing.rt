@@ -19,13 +19,13 @@ use serde_json::{Map, Value, json};
 use spec_members::names::ByName;
 use std::alloc::{AllocError, Global};
 
-/// The writing of the items of a specification's lists.
+/// A writer of the items of a specification's lists.
 #[derive(Clone, Copy)]
 struct Writer<'a> {
     spec: &'a Spec,
 }
 
-/// The writing of the modes of an application of a kind.
+/// A writer of the modes of an application of a kind.
 #[derive(Clone, Copy)]
 struct ModeWriter {
     kind: KindId,
@@ -245,7 +245,7 @@ impl Writes<Precondition> for Writer<'_> {
     }
 }
 
-/// The writing of the modes of an application, given its number.
+/// A writer of the modes of an application, given its number.
 #[derive(Clone, Copy)]
 struct OnWriter<'a> {
     spec: &'a Spec,
@@ -285,7 +285,7 @@ fn make_on(alloc: Global, spec: &Spec, on: &[Option<Modes>; 8]) -> Result<Vec<Va
     Ok(values)
 }
 
-/// Writes the members that say to which environments and configurations a demand applies.
+/// Writes the members with the environments and configurations to which a demand applies.
 fn put_condition(
     members: &mut Map<String, Value>,
     alloc: Global,
