@@ -2,12 +2,12 @@
 
 ghost use Rattle.choice_table.specs.Laws.{RunsWherePlacesAreUp, SetsAreUpByMembers};
 
-/// A configuration is runnable if and only if each processor on which it places an application is up.
+/// States that a configuration is runnable if and only if each processor on which it places an application is up.
 pub fn runs_where_places_are_up()
     ensures { RunsWherePlacesAreUp }
 {}
 
-/// A rule's set of processors is up if and only if each processor in it is up.
+/// States that a rule's set of processors is up if and only if each processor in it is up.
 pub fn sets_are_up_by_members()
     ensures { SetsAreUpByMembers }
 {}

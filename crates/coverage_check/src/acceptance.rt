@@ -143,12 +143,12 @@ fn refuse_ranges(spec: &Spec, covers: &[Cover; 12]) -> Option<Shown>
     refuse_precondition(spec)
 }
 
-/// No refusal is found for a specification if and only if all conditions hold.
+/// States that no refusal is found for a specification if and only if all conditions hold.
 pub fn accepts_where_unrefused()
     ensures { AcceptsWhereUnrefused }
 {}
 
-/// The place in a refusal exists in the specification, and the condition is false there.
+/// States that the place in a refusal exists in the specification, and the condition is false there.
 pub fn shown_is_broken()
     ensures { ShownIsBroken }
 {}

@@ -75,8 +75,8 @@ impl Mission {
         &self.script
     }
 
-    /// Every mission has an accepted specification, and a script that fits it and keeps to its failure assumption. The
-    /// call has no effect.
+    /// States that the mission has an accepted specification, and a script that fits it and keeps to its failure
+    /// assumption. The call has no effect.
     pub fn holds(&self)
         ensures spec { IsSpec self.now.spec }
         ensures mission { IsMission self.now }
@@ -85,8 +85,8 @@ impl Mission {
     }
 }
 
-/// In each frame of a mission, and in the frame after the last one, the environment belongs to the specification and is
-/// in scope. The first frame's environment is the one for which acceptance checks the start.
+/// States that in each frame of a mission, and in the frame after the last one, the environment belongs to the
+/// specification and is in scope. The first frame's environment is the one for which acceptance checks the start.
 pub fn missions_keep_scope()
     ensures { MissionsKeepScope }
 {}

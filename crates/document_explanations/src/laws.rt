@@ -2,13 +2,13 @@
 
 ghost use Rattle.document_explanations.specs.Laws.{FoundIsShort, TablesAreRead};
 
-/// The table of a specification has the members that the readers need in the version of a document. For
+/// States that the table of a specification has the members that the readers need in the version of a document. For
 /// specifications and scripts, the number of members is the one that the readers allow.
 pub fn tables_are_read()
     ensures { TablesAreRead }
 {}
 
-/// At most 62 characters of a value that was found are shown.
+/// States that at most 62 characters of a value that was found are shown.
 pub fn found_is_short()
     ensures { FoundIsShort }
 {}

@@ -2,7 +2,7 @@
 
 ghost use Rattle.reconf_spec.specs.Laws.{NamesAreOne};
 
-/// The rule of a name is the same in a document and in a specification.
+/// States that the rule for names is the same in a document and in a specification.
 pub fn names_are_one()
     ensures { NamesAreOne }
 {}
