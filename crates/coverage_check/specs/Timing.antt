@@ -87,6 +87,6 @@ greatest_bound (bound ∷ bounds) = max bound.frames (greatest_bound bounds)
 abbrev pub has_short_window : Parts → Bool
 has_short_window spec = nat_lt spec.window (greatest_bound spec.bounds + 1)
 
--- A10: the refusal of a window that is shorter than the longest bound.
+-- A10: the refusal of a window that is not longer than the longest bound.
 abbrev pub window_refusal : Parts → Option Shown
 window_refusal spec = shown_if (has_short_window spec) (shown_nowhere 10 (other.Count (greatest_bound spec.bounds)))
