@@ -37,187 +37,190 @@ use Rattle.condition_breaks.specs.declared.breaks.Way.{Way}
 use Rattle.condition_breaks.specs.Ranges.{interval, range_on}
 use Rattle.acceptance_breaks.specs.Limits.{invariant_limits, precondition_limits}
 
--- an application is on, and one that it needs is off
+-- The line for an application that is on while an application that it needs is off.
 abbrev pub need_line : Parts → ConfId → AppId → AppId → List ℕ
 need_line spec c a b =
     codes "  in " ++ conf_name spec c.0 ++ codes " " ++ app_name spec a.0 ++ codes " is on and " ++ app_name spec b.0 ++ codes " is off\n"
 
--- how many environments are in scope, and how many may be
+-- The line of the number of environments in scope and the maximum number of them.
 abbrev pub states_line : Parts → List ℕ
 states_line spec = codes "  states " ++ decimal (states spec) ++ codes ", at most " ++ decimal MAX_ENVIRONMENTS ++ codes "\n"
 
--- a configuration has nothing on
+-- The line for a configuration that has no application on.
 abbrev pub empty_line : Parts → ConfId → List ℕ
 empty_line spec c = codes "  " ++ conf_name spec c.0 ++ codes " has nothing on\n"
 
--- a configuration is the same as an earlier one
+-- The line for a configuration that is the same as an earlier one.
 abbrev pub twin_line : Parts → ConfId → ConfId → List ℕ
 twin_line spec c d = codes "  " ++ conf_name spec c.0 ++ codes " equals " ++ conf_name spec d.0 ++ codes "\n"
 
--- the load that a configuration puts on a processor, and the processor's capacity
+-- The line of the load that a configuration puts on a processor, and the processor's capacity.
 abbrev pub load_line : Parts → ConfId → ProcId → List ℕ
 load_line spec c p =
     codes "  in " ++ conf_name spec c.0 ++ codes " " ++ proc_name spec p.0 ++ codes " carries " ++ decimal (load_below spec c p.0 (length spec.apps))
     ++ codes " of " ++ decimal (capacity_of spec p.0) ++ codes "\n"
 
--- rule k and its target
+-- The text of rule `k` and its target.
 abbrev pub chooses_text : Parts → ℕ → ConfId → List ℕ
 chooses_text spec k to = codes " rule " ++ decimal k ++ codes " chooses " ++ conf_name spec to.0
 
--- rule k and its target, or that no rule fits
+-- The text of rule `k` and its target, or that no rule fits.
 abbrev pub fitting_text : Parts → ℕ → List ℕ
 fitting_text spec k =
     option_map_or (λ (rule : Choice). chooses_text spec k rule.to) (slice_get spec.rules k) (codes " no rule fits")
 
--- the first rule that fits a configuration in an environment, and its target
+-- The text of the first rule that fits a configuration in an environment, and its target.
 abbrev pub chosen_text : Parts → ConfId → Env → List ℕ
 chosen_text spec c v = fitting_text spec (first_rule spec.rules c v)
 
--- a configuration, an environment, and what is chosen there
+-- The text of a configuration, an environment and the choice there.
 abbrev pub situation_text : Parts → ConfId → Env → List ℕ
 situation_text spec c v = codes "from " ++ conf_name spec c.0 ++ codes " in " ++ env_text spec v ++ chosen_text spec c v
 
--- the same as the beginning of a line
+-- The text of a configuration, an environment and the choice there, as the beginning of a line.
 abbrev pub situation_piece : Parts → ConfId → Env → List ℕ
 situation_piece spec c v = codes "  " ++ situation_text spec c v
 
--- what is chosen from the target
+-- The text of the choice from the target.
 abbrev pub unsettled_piece : Parts → ConfId → Env → List ℕ
 unsettled_piece spec c v = codes ", from which" ++ chosen_text spec (choose spec c v) v ++ codes "\n"
 
--- how a requirement is not met
+-- The end of the line: the way in which a requirement is not met.
 abbrev pub unmet_piece : Parts → Requirement → ConfId → Env → List ℕ
 unmet_piece spec requirement.HasRule c v = codes "\n"
 unmet_piece spec requirement.CanRun c v = needs_piece spec v (first_rule spec.rules c v)
 unmet_piece spec requirement.Stays c v = unsettled_piece spec c v
 
--- a requirement is not met
+-- The line for a requirement that is not met.
 abbrev pub unmet_line : Parts → Requirement → ConfId → Env → List ℕ
 unmet_line spec asked c v = situation_piece spec c v ++ unmet_piece spec asked c v
 
--- the start configuration is left at once
+-- The line for a start configuration that is left at once.
 abbrev pub start_line : Parts → List ℕ
 start_line spec = situation_piece spec spec.start (opening_env spec) ++ codes "\n"
 
--- the beginning of a line
+-- The beginning of a line.
 abbrev pub indent : List ℕ
 indent = codes "  "
 
--- the least bound that serves, and the one that is given
+-- The line of the minimum bound that suffices, and the bound that is given.
 abbrev pub lacking_line : Parts → ConfId → ConfId → List ℕ
 lacking_line spec from to = indent ++ bound_line spec from to
 
--- the window, and the least that serves
+-- The line of the window and the minimum window that suffices.
 abbrev pub window_line : Parts → List ℕ
 window_line spec = codes "  window " ++ decimal spec.window ++ codes ", at least " ++ decimal (greatest_bound spec.bounds + 1) ++ codes "\n"
 
--- the name of a variable of an application; no letter where its kind does not use it
+-- The name of a variable of an application, or empty if its kind does not use the variable.
 abbrev pub variable_text : Parts → AppId → ℕ → List ℕ
 variable_text spec a i = option_map_or (λ (name : List ℕ). name) (name_in (variable_names (kind_of_app spec a.0)) i) []
 
--- the name of the mode of an application in a place, or that it is off
+-- The name of the mode of an application in a place, or `off`.
 abbrev pub place_mode_text : Parts → AppId → Option Place → List ℕ
 place_mode_text spec a None = codes "off"
 place_mode_text spec a (Some place) = mode_text (kind_of_app spec a.0) place.mode.0
 
--- the number of an invariant or a precondition, and its variable
+-- The text of the number of an invariant or a precondition, and its variable.
 abbrev pub subject_text : Parts → Limits → List ℕ
 subject_text spec limits =
     codes " " ++ decimal limits.item ++ codes " " ++ app_name spec limits.app.0 ++ codes " " ++ variable_text spec limits.app limits.variable
 
--- the interval that it gives, and the least one that serves
+-- The text of the interval that is given, and the smallest one that suffices.
 abbrev pub intervals_text : Limits → List ℕ
 intervals_text limits = codes " " ++ extremes_text limits.given ++ codes " needs " ++ extremes_text limits.needed ++ codes ": "
 
--- all of these
+-- The text of the number, the variable and the intervals of an invariant or a precondition.
 abbrev pub limits_text : Parts → Limits → List ℕ
 limits_text spec limits = subject_text spec limits ++ intervals_text limits
 
--- the source of a way, and its target where that is another one
+-- The text of the source of a way, and of its target if it is another configuration.
 abbrev pub way_text : Parts → Way → List ℕ
 way_text spec taken = conf_name spec taken.from.0 ++ (if taken.from.0 == taken.to.0 then [] else codes " > " ++ conf_name spec taken.to.0)
 
--- an invariant, what it would have to hold, and the first way whose range it does not hold
+-- The line of an invariant: the interval that it would need, and the first way whose range its interval does not
+-- contain.
 abbrev pub unheld_line_of : Parts → Unheld → Invariant → List ℕ
 unheld_line_of spec found inv =
     codes "  invariant" ++ limits_text spec (invariant_limits found inv) ++ way_text spec found.way ++ codes " "
     ++ place_mode_text spec inv.app (place_of spec found.way.to inv.app.0) ++ codes " " ++ extremes_text (interval (range_on spec inv found.way)) ++ codes "\n"
 
--- the same of the invariant of this number; no line where there is none
+-- The line of the invariant of this number, or empty if there is no such invariant.
 abbrev pub unheld_line : Parts → Unheld → List ℕ
 unheld_line spec found = option_map_or (unheld_line_of spec found) (slice_get spec.invariants found.invariant) []
 
--- a precondition, what it would have to hold, and where
+-- The line of a precondition: the interval that it would need, and its configuration.
 abbrev pub missed_line_of : Parts → ℕ → Precondition → List ℕ
 missed_line_of spec k pre =
     codes "  precondition" ++ limits_text spec (precondition_limits spec k pre) ++ conf_name spec pre.conf.0 ++ codes " "
     ++ place_mode_text spec pre.app (place_of spec pre.conf pre.app.0) ++ codes "\n"
 
--- the same of the precondition of this number; no line where there is none
+-- The line of the precondition of this number, or empty if there is no such precondition.
 abbrev pub missed_line : Parts → ℕ → List ℕ
 missed_line spec k = option_map_or (missed_line_of spec k) (slice_get spec.preconditions k) []
 
--- a demand, and what is chosen
+-- The beginning of a line: a demand and the choice.
 abbrev pub demand_piece : Parts → ConfId → ℕ → Env → List ℕ
 demand_piece spec c k v = codes "  demand " ++ demand_name spec k ++ codes " " ++ situation_text spec c v
 
--- the name of configuration c, where a set has it, behind a comma where it is not the first
+-- The name of configuration `c`, preceded by a comma unless it is the first of the set. It is empty if the
+-- configuration is not in the set.
 abbrev pub conf_in_text : Parts → ℕ → ℕ → List ℕ
 conf_in_text spec set c = if has_bit set c then (if any_below (has_bit set) c then codes ", " else []) ++ conf_name spec c else []
 
--- the names of the configurations of a set
+-- The names of the configurations of a set.
 abbrev pub members_text : Parts → ℕ → List ℕ
 members_text spec set = texts_below (conf_in_text spec set) (length spec.confs)
 
--- An application that has to be on is not, or is in a mode that is not allowed.
+-- An application that must be on is off, or is in a mode that is not allowed.
 abbrev pub is_on_missed : Parts → Demand → ConfId → ℕ → Bool
 is_on_missed spec demand c a = not (is_placed (modes_on demand a) (place_of spec c a))
 
--- An application that has to be off is on.
+-- An application that must be off is on.
 abbrev pub is_off_missed : Parts → Demand → ConfId → ℕ → Bool
 is_off_missed spec demand c a = has_bit demand.off a && is_on spec c a
 
--- The first application that has to be on and is not, or is in a mode that is not allowed.
+-- The first application that must be on but is off or in a mode that is not allowed.
 abbrev pub first_on_missed : Parts → Demand → ConfId → Option ℕ
 first_on_missed spec demand c = least_from (is_on_missed spec demand c) 0 (length spec.apps)
 
--- The first application that has to be off and is on.
+-- The first application that must be off but is on.
 abbrev pub first_off_missed : Parts → Demand → ConfId → Option ℕ
 first_off_missed spec demand c = least_from (is_off_missed spec demand c) 0 (length spec.apps)
 
--- an application and where it is: off, or in a mode
+-- The text of an application and its place: off, or in a mode.
 abbrev pub whereabouts_text : Parts → ℕ → Option Place → List ℕ
 whereabouts_text spec a None = app_name spec a ++ codes " is off"
 whereabouts_text spec a (Some place) = app_name spec a ++ codes " is in " ++ mode_text (kind_of_app spec a) place.mode.0
 
--- an application that has to be off is on, where there is one
+-- The text of an application that must be off but is on, or empty if there is none.
 abbrev pub off_missed_text : Parts → Option ℕ → List ℕ
 off_missed_text spec None = []
 off_missed_text spec (Some a) = codes ", in which " ++ app_name spec a ++ codes " is on"
 
--- an application that has to be on is off or in a mode that is not allowed, where there is one, else one that has to be off
+-- The text of an application that must be on but is off or in a mode that is not allowed. If there is none, it is that
+-- of an application that must be off.
 abbrev pub app_missed_text : Parts → Demand → ConfId → Option ℕ → List ℕ
 app_missed_text spec demand c None = off_missed_text spec (first_off_missed spec demand c)
 app_missed_text spec demand c (Some a) = codes ", in which " ++ whereabouts_text spec a (place_of spec c a)
 
--- the configurations of which none is chosen
+-- The text of the configurations of a demand, none of which is chosen.
 abbrev pub none_of_text : Parts → Demand → List ℕ
 none_of_text spec demand = codes ", which is none of " ++ members_text spec demand.to
 
--- how configuration c does not meet a demand
+-- The way in which configuration `c` does not meet a demand.
 abbrev pub missed_text : Parts → Demand → ConfId → List ℕ
 missed_text spec demand c =
     if is_empty_or_holds demand.to c then app_missed_text spec demand c (first_on_missed spec demand c) else none_of_text spec demand
 
--- how what is chosen does not meet demand k, and the end of the line
+-- The end of the line: the way in which the choice does not meet demand `k`.
 abbrev pub missed_piece : Parts → ConfId → ℕ → Env → List ℕ
 missed_piece spec c k v = option_map_or (λ (demand : Demand). missed_text spec demand (choose spec c v)) (slice_get spec.demands k) [] ++ codes "\n"
 
--- what is chosen does not meet a demand
+-- The line for a demand that the choice does not meet.
 abbrev pub demand_line : Parts → ConfId → ℕ → Env → List ℕ
 demand_line spec c k v = demand_piece spec c k v ++ missed_piece spec c k v
 
--- the line of a place at which a condition does not hold
+-- The line of a place at which a condition does not hold.
 abbrev pub break_line : Parts → Break → List ℕ
 break_line spec (broken.NeedOff c a b) = need_line spec c a b
 break_line spec broken.ManyStates = states_line spec

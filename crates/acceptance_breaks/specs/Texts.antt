@@ -6,19 +6,19 @@ use Rattle.acceptance_breaks.specs.declared.texts.TheConstants.{MAX_BREAK_LINES}
 use Rattle.condition_breaks.specs.Breaks.{breaks}
 use Rattle.acceptance_breaks.specs.Lines.{break_line}
 
--- a line for each place
+-- The lines of the places.
 abbrev pub lines_text : Parts → List Break → List ℕ
 lines_text spec [] = []
 lines_text spec (found ∷ rest) = break_line spec found ++ lines_text spec rest
 
--- how many places there are beyond those that are shown
+-- The line with the number of places without a line, or empty if there are none.
 abbrev pub more_text : ℕ → List ℕ
 more_text count = if nat_lt MAX_BREAK_LINES count then codes "  and " ++ decimal (count - MAX_BREAK_LINES) ++ codes " more\n" else []
 
--- the lines of the first places, and the number of further ones
+-- The lines of the first places, and the number of the others.
 abbrev pub shown_breaks_text : Parts → List Break → List ℕ
 shown_breaks_text spec found = lines_text spec (take MAX_BREAK_LINES found) ++ more_text (length found)
 
--- the places at which a condition does not hold, by its number, 1 to 13; no text for another number
+-- The text of the places at which a condition does not hold, by its number, 1 to 13. It is empty for another number.
 abbrev pub breaks_text : Parts → ℕ → List ℕ
 breaks_text spec condition = shown_breaks_text spec (breaks spec condition)

@@ -1,4 +1,4 @@
-//! The lines of what the choice table chooses, in pieces that are made without memory.
+//! The lines on the choices of the table, in pieces that are made without memory.
 
 ghost use Rattle.std.specs.Prelude.{◌≡◌, ◌+◌, ◌≤◌, ◌++◌, codes, length};
 ghost use Rattle.scram_types.specs.declared.limits.TheConstants.{MAX_LINE_BYTES};
@@ -13,7 +13,7 @@ use form_base::lines::add_env;
 use scram_types::{ConfId, Env, Spec};
 use trace_text::lines::Line;
 
-// Returns the beginning of a line: a configuration, an environment, and what is chosen there.
+// Returns the beginning of a line: a configuration, an environment and the choice there.
 pub(crate) fn make_situation_piece(spec: &Spec, c: ConfId, env: &Env) -> Line
     requires { IsEnv spec.now env.now }
     ensures { result ≡ situation_piece spec.now c env.now }
@@ -24,7 +24,7 @@ pub(crate) fn make_situation_piece(spec: &Spec, c: ConfId, env: &Env) -> Line
     line
 }
 
-// Appends a configuration, an environment, and what is chosen there.
+// Appends a configuration, an environment and the choice there.
 pub(crate) fn add_situation(line: &mut Line, spec: &Spec, c: ConfId, env: &Env)
     requires env { IsEnv spec.now env.now }
     requires room { length line.old + 420 ≤ MAX_LINE_BYTES }
@@ -70,7 +70,7 @@ fn add_chooses(line: &mut Line, spec: &Spec, k: u32, to: ConfId)
     line.text(spec.conf_name(to).as_bytes());
 }
 
-// Returns the end of the line: how a requirement is not met.
+// Returns the end of the line: the way in which a requirement is not met.
 pub(crate) fn make_unmet_piece(spec: &Spec, asked: Requirement, c: ConfId, env: &Env) -> Line
     requires { IsEnv spec.now env.now }
     ensures { result ≡ unmet_piece spec.now asked c env.now }

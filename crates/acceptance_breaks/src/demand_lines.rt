@@ -18,7 +18,7 @@ use scram_types::{AppId, ConfId, Demand, Env, Mode, Modes, Place, Spec};
 use trace_text::lines::Line;
 use trace_text::row_lines::name_of_mode;
 
-// Returns the beginning of a line: a demand, and what is chosen.
+// Returns the beginning of a line: a demand and the choice.
 pub(crate) fn make_demand_piece(spec: &Spec, c: ConfId, k: u32, env: &Env) -> Line
     requires { IsEnv spec.now env.now }
     ensures { result ≡ demand_piece spec.now c k env.now }
@@ -31,7 +31,7 @@ pub(crate) fn make_demand_piece(spec: &Spec, c: ConfId, k: u32, env: &Env) -> Li
     line
 }
 
-// Returns the end of the line: how what is chosen does not meet the demand.
+// Returns the end of the line: the way in which the choice does not meet the demand.
 pub(crate) fn make_missed_piece(spec: &Spec, c: ConfId, k: u32, env: &Env) -> Line
     ensures { result ≡ missed_piece spec.now c k env.now }
 {
@@ -43,7 +43,7 @@ pub(crate) fn make_missed_piece(spec: &Spec, c: ConfId, k: u32, env: &Env) -> Li
     line
 }
 
-// Appends how configuration `c` does not meet a demand.
+// Appends the way in which configuration `c` does not meet a demand.
 fn add_missed(line: &mut Line, spec: &Spec, demand: &Demand, c: ConfId)
     requires { length line.old + 300 ≤ MAX_LINE_BYTES }
     ensures text { line.new ≡ line.old ++ missed_text spec.now demand.now c }
@@ -56,7 +56,7 @@ fn add_missed(line: &mut Line, spec: &Spec, demand: &Demand, c: ConfId)
     }
 }
 
-// Appends the configurations of which none is chosen.
+// Appends the configurations of a demand, none of which is chosen.
 fn add_none_of(line: &mut Line, spec: &Spec, demand: &Demand)
     requires { length line.old + 240 ≤ MAX_LINE_BYTES }
     ensures text { line.new ≡ line.old ++ none_of_text spec.now demand.now }
@@ -98,7 +98,7 @@ fn add_member(line: &mut Line, spec: &Spec, is_further: bool, c: ConfId)
     line.text(spec.conf_name(c).as_bytes());
 }
 
-// Appends which application a demand misses in configuration `c`.
+// Appends the application with which configuration `c` does not meet a demand.
 fn add_app_missed(line: &mut Line, spec: &Spec, demand: &Demand, c: ConfId)
     requires { length line.old + 60 ≤ MAX_LINE_BYTES }
     ensures text { line.new ≡ line.old ++ app_missed_text spec.now demand.now c (first_on_missed spec.now demand.now c) }
@@ -140,7 +140,7 @@ fn add_off_missed(line: &mut Line, spec: &Spec, missed: Option<u8>)
     }
 }
 
-// Returns the first application that has to be on and is not, or is in a mode that is not allowed.
+// Returns the first application that must be on but is off or in a mode that is not allowed.
 fn first_on_missed(spec: &Spec, demand: &Demand, c: ConfId) -> Option<u8>
     ensures { result ≡ first_on_missed spec.now demand.now c }
 {
@@ -174,7 +174,7 @@ fn modes_allow(modes: &Modes, mode: Mode) -> bool
     modes.as_slice().is_empty() || modes.has(mode)
 }
 
-// Returns the first application that has to be off and is on.
+// Returns the first application that must be off but is on.
 fn first_off_missed(spec: &Spec, demand: &Demand, c: ConfId) -> Option<u8>
     ensures { result ≡ first_off_missed spec.now demand.now c }
 {

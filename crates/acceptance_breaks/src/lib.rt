@@ -1,4 +1,4 @@
-//! Where acceptance fails: a line for each place at which one of its conditions does not hold, in order.
+//! The places at which acceptance fails: a line for each place at which a condition does not hold, in order.
 #![tactic(auto)]
 
 mod choice_lines;

@@ -13,8 +13,8 @@ use scram_types::{AppId, Invariant, Place, Precondition, Spec};
 use trace_text::lines::Line;
 use trace_text::row_lines::name_of_mode;
 
-// Returns the line of an invariant: what it would have to hold, and the first way whose range it does not hold. There
-// are no bytes where there is no such invariant.
+// Returns the line of an invariant: the interval that it would need, and the first way whose range its interval does
+// not contain. The line is empty if there is no such invariant.
 pub(crate) fn make_unheld_line(spec: &Spec, found: &Unheld) -> Line
     ensures { result ≡ unheld_line spec.now found.now }
 {
@@ -44,8 +44,8 @@ fn make_unheld_line_of(spec: &Spec, found: &Unheld, inv: &Invariant) -> Line
     line
 }
 
-// Returns the line of a precondition: what it would have to hold, and where. There are no bytes where there is no such
-// precondition.
+// Returns the line of a precondition: the interval that it would need, and its configuration. The line is empty if
+// there is no such precondition.
 pub(crate) fn make_missed_line(spec: &Spec, k: u32) -> Line
     ensures { result ≡ missed_line spec.now k }
 {
@@ -91,7 +91,7 @@ fn add_subject(line: &mut Line, spec: &Spec, limits: &Limits)
     line.text(variable_text(spec, limits.app, limits.variable).as_bytes());
 }
 
-// Appends the interval that is given, and the least one that serves.
+// Appends the interval that is given, and the smallest one that suffices.
 fn add_intervals(line: &mut Line, limits: &Limits)
     requires { length line.old + 100 ≤ MAX_LINE_BYTES }
     ensures text { line.new ≡ line.old ++ intervals_text limits.now }
@@ -104,7 +104,8 @@ fn add_intervals(line: &mut Line, limits: &Limits)
     line.text(b": ");
 }
 
-// Returns the name of a variable of an application, at most 16 bytes; no bytes where its kind does not use it.
+// Returns the name of a variable of an application, of at most 16 bytes. The name is empty if the kind of the
+// application does not use the variable.
 #[tactic(auto, using(app_model::proofs::ShortNames::variable_short))]
 fn variable_text(spec: &Spec, app: AppId, variable: u8) -> &'static str
     ensures name { result.now ≡ variable_text spec.now app variable }
@@ -116,7 +117,7 @@ fn variable_text(spec: &Spec, app: AppId, variable: u8) -> &'static str
     }
 }
 
-// Appends the source of a way, and its target where that is another one.
+// Appends the source of a way, and its target if it is another configuration.
 fn add_way(line: &mut Line, spec: &Spec, way: &Way)
     requires { length line.old + 35 ≤ MAX_LINE_BYTES }
     ensures text { line.new ≡ line.old ++ way_text spec.now way.now }
@@ -129,7 +130,7 @@ fn add_way(line: &mut Line, spec: &Spec, way: &Way)
     }
 }
 
-// Appends the name of the mode of an application in a place, or that it is off.
+// Appends the name of the mode of an application in a place, or `off`.
 fn add_place(line: &mut Line, spec: &Spec, app: AppId, place: Option<Place>)
     requires { length line.old + 16 ≤ MAX_LINE_BYTES }
     ensures text { line.new ≡ line.old ++ place_mode_text spec.now app place }

@@ -1,4 +1,4 @@
-//! What invariants and preconditions ask, and what they would have to ask.
+//! The intervals of invariants and preconditions, and those that they would need.
 
 ghost use Rattle.std.specs.Prelude.{◌≡◌};
 ghost use Rattle.acceptance_breaks.specs.Limits.{invariant_limits, precondition_limits};
@@ -9,7 +9,7 @@ use flight_facts::extremes::Extremes;
 use scram_types::{AppId, Invariant, Precondition, Spec};
 
 /// The number of an invariant or a precondition, a variable of an application, the interval that is given for it, and
-/// the least interval that serves.
+/// the smallest interval that suffices.
 #[derive(Clone, Copy, Debug, PartialEq, Eq)]
 pub struct Limits {
     pub item: u32,
@@ -19,7 +19,7 @@ pub struct Limits {
     pub needed: Extremes,
 }
 
-// Returns an invariant's variable, the interval that it gives, and the least one that serves.
+// Returns an invariant's variable, the interval that it gives, and the smallest one that suffices.
 pub(crate) fn invariant_limits(found: &Unheld, inv: &Invariant) -> Limits
     ensures { result ≡ invariant_limits found.now inv.now }
 {
@@ -32,7 +32,7 @@ pub(crate) fn invariant_limits(found: &Unheld, inv: &Invariant) -> Limits
     }
 }
 
-// Returns a precondition's variable, the interval that it gives, and the range that it has to hold.
+// Returns a precondition's variable, the interval that it gives, and the range that it must contain.
 pub(crate) fn precondition_limits(spec: &Spec, k: u32, pre: &Precondition) -> Limits
     ensures { result ≡ precondition_limits spec.now k pre.now }
 {

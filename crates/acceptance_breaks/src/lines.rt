@@ -1,4 +1,4 @@
-//! The lines of what a configuration lacks, and of times, made without memory.
+//! The lines on configurations, and on durations, made without memory.
 
 ghost use Rattle.std.specs.Prelude.{◌≡◌, ◌+◌, ◌≤◌, ◌++◌, decimal, length};
 ghost use Rattle.scram_types.specs.declared.limits.TheConstants.{MAX_LINE_BYTES};
@@ -12,7 +12,7 @@ use scram_types::limits::MAX_ENVIRONMENTS;
 use scram_types::{AppId, ConfId, ProcId, Spec};
 use trace_text::lines::Line;
 
-// Returns the line of an application that is on while one that it needs is off.
+// Returns the line of an application that is on while an application that it needs is off.
 pub(crate) fn make_need_line(spec: &Spec, c: ConfId, a: AppId, b: AppId) -> Line
     ensures { result ≡ need_line spec.now c a b }
 {
@@ -27,7 +27,7 @@ pub(crate) fn make_need_line(spec: &Spec, c: ConfId, a: AppId, b: AppId) -> Line
     line
 }
 
-// Returns the line of how many environments are in scope, and how many may be.
+// Returns the line of the number of environments in scope and the maximum number of them.
 pub(crate) fn make_states_line(spec: &Spec) -> Line
     ensures { result ≡ states_line spec.now }
 {
@@ -40,7 +40,7 @@ pub(crate) fn make_states_line(spec: &Spec) -> Line
     line
 }
 
-// Returns the line of a configuration that has nothing on.
+// Returns the line of a configuration that has no application on.
 pub(crate) fn make_empty_line(spec: &Spec, c: ConfId) -> Line
     ensures { result ≡ empty_line spec.now c }
 {
@@ -100,7 +100,7 @@ pub(crate) fn make_indent() -> Line
     line
 }
 
-// Returns the line of the window, and of the least that serves.
+// Returns the line of the window and the minimum window that suffices.
 pub(crate) fn make_window_line(spec: &Spec) -> Line
     ensures { result ≡ window_line spec.now }
 {

@@ -23,12 +23,12 @@ use spec_forms::make_bound_line;
 use std::alloc::Global;
 use trace_text::lines::Line;
 
-/// The most places for which a line is shown.
+/// The maximum number of places for which a line is shown.
 pub const MAX_BREAK_LINES: usize = 64;
 
-/// Returns a line for each place at which a condition of acceptance does not hold, in order: where there are more than
-/// [`MAX_BREAK_LINES`], for the first of them, and behind them one that has the number of the others. There are no bytes
-/// for a number that is not 1 to 13.
+/// Returns a line for each place at which a condition of acceptance does not hold, in order. If there are more than
+/// [`MAX_BREAK_LINES`] places, the lines are those of the first of them, followed by a line with the number of the
+/// others. The text is empty for a number that is not 1 to 13.
 ///
 /// # Errors
 ///
@@ -52,7 +52,7 @@ fn make_text(alloc: Global, spec: &Spec, found: &[Break]) -> Result<Vec<u8>, NoM
     Ok(text)
 }
 
-// Returns the places that have a line each: the first 64 at most.
+// Returns the places that have a line each, which are at most the first 64.
 fn first_of(found: &[Break]) -> &[Break]
     ensures { result.now ≡ take MAX_BREAK_LINES found.now }
 {
@@ -141,7 +141,7 @@ fn add_both(text: &mut Vec<u8>, piece: &Line, end: &Line) -> Result<(), NoMemory
     add(text, end)
 }
 
-// Appends how many places there are beyond those that have a line.
+// Appends the number of places without a line, if there are any.
 fn add_more(text: &mut Vec<u8>, count: usize) -> Result<(), NoMemory>
     ensures { OnOk result (text.new.items ≡ text.old.items ++ more_text count) }
 {

@@ -1,4 +1,4 @@
--- The words of a kernel image are read back to it.
+-- The words of a kernel image decode to the image.
 use Rattle.std.proofs.Common.{◌≡◌, ℕ, refl, List, [], ◌∷◌, ◌++◌, ◌%◌}
 use Rattle.std.specs.Prelude.{slice_index}
 use Rattle.scram_types.specs.Eights.{eight}

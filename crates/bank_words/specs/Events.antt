@@ -1,10 +1,10 @@
--- A number for each event, and the event of a number.
+-- The codes of events.
 use Rattle.std.specs.Prelude.{ℕ, ◌+◌, ◌*◌, ◌/◌, ◌%◌, ◌<◌, ◌==◌, nat_lt, Option, Some, None, option_map, if◌then◌else◌}
 use Rattle.scram_types.specs.Lookups.{proc_id}
 use Rattle.bank_words.specs.declared.events.Event.{Event}
 use Rattle.bank_words.specs.declared.events.Event.TheVariants.{Start, Look, Store, Flip, Done, Halt, KNote, KStore, Release}
 
--- The code counts 65536 for the kind of the event; what it names comes last, the first of two numbers 256 times.
+-- The code of an event: 65536 times its kind, plus its number, or plus 256 times its first number and its second one.
 abbrev pub event_code : Event → ℕ
 event_code (Start p) = p.0
 event_code (Look p q) = 65536 + 256 * p.0 + q.0
@@ -28,15 +28,15 @@ IsEvent (KNote p) = p.0 < 256
 IsEvent (KStore i) = i < 256
 IsEvent Release = 0 < 256
 
--- A number that is at most 255.
+-- The number, if it is at most 255.
 abbrev pub byte_of : ℕ → Option ℕ
 byte_of n = if nat_lt n 256 then Some n else None
 
--- An event that names one number.
+-- The event with one number, if the number is at most 255.
 abbrev pub naming : (ℕ → Event) → ℕ → Option Event
 naming event n = option_map event (byte_of n)
 
--- The event of a kind with these numbers.
+-- The event of a kind with the numbers that `n` encodes, if there is one.
 abbrev pub event_in : ℕ → ℕ → Option Event
 event_in kind n =
     if kind == 0 then naming (λ p. Start (proc_id p)) n
@@ -50,6 +50,6 @@ event_in kind n =
     else if kind == 8 then (if n == 0 then Some Release else None)
     else None
 
--- The event that has a code.
+-- The event with this code, if there is one.
 abbrev pub event_of : ℕ → Option Event
 event_of code = event_in (code / 65536) (code % 65536)

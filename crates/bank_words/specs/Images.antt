@@ -1,4 +1,4 @@
--- What the kernel says of a frame, as twenty words, and back.
+-- Kernel images as twenty words, and back.
 use Rattle.std.specs.Prelude.{ℕ, suc, ◌+◌, ◌-◌, ◌*◌, ◌/◌, ◌%◌, ◌==◌, List, [], ◌∷◌, ◌++◌, slice_index, slice_index_or, Option, Some, None, if◌then◌else◌}
 use Rattle.scram_types.specs.declared.rows.World.{World}
 use Rattle.scram_types.specs.declared.ids.ConfId.{ConfId}
@@ -10,18 +10,18 @@ use Rattle.scram_types.specs.Lookups.{conf_id, proc_id}
 use Rattle.bank_words.specs.declared.images.KernelImage.{KernelImage}
 use Rattle.bank_words.specs.Numbers.{decode, encode}
 
--- 0 for none, else the configuration's number plus 1.
+-- The word of an optional configuration: 0 if there is none, or its number plus 1.
 abbrev pub conf_word : Option ConfId → ℕ
 conf_word None = 0
 conf_word (Some c) = suc c.0
 
--- A stable mode is 0 and its configuration. A reconfiguration is 1, the configuration that was left, the one that
--- halts, the target, and the frame in which the halting phase began.
+-- The five words of a mode. A stable mode is 0 and its configuration. A reconfiguration is 1, the configuration that
+-- was left, the one that halts, the target, and the frame in which the halting phase began.
 abbrev pub mode_words : KMode → List ℕ
 mode_words (Stable c) = 0 ∷ c.0 ∷ 0 ∷ 0 ∷ 0 ∷ []
 mode_words (Moving from halting to since) = 1 ∷ from.0 ∷ conf_word halting ∷ to.0 ∷ since ∷ []
 
--- 0 for none, else the processor's number plus 1.
+-- The word of an optional keeper: 0 if there is none, or the processor's number plus 1.
 abbrev pub keeper_word : Option ProcId → ℕ
 keeper_word None = 0
 keeper_word (Some p) = suc p.0
@@ -30,7 +30,7 @@ keeper_word (Some p) = suc p.0
 abbrev pub keeper_words : List (Option ProcId) → List ℕ
 keeper_words keepers = eight (λ a. keeper_word (slice_index_or keepers a None))
 
--- The value of factor i counts 256 ^ i times.
+-- The word of the factors, in which byte `i` is the value of factor `i`.
 abbrev pub factors_word : List ℕ → ℕ
 factors_word values =
     slice_index values 0 + 256 * slice_index values 1 + 65536 * slice_index values 2
@@ -45,23 +45,23 @@ kernel_encode k =
     ∷ k.env.up ∷ factors_word k.env.factors
     ∷ (keeper_words k.keepers ++ encode k.world.alt ∷ encode k.world.climb ∷ encode k.world.heading ∷ encode k.world.bank ∷ [])
 
--- The last byte of a word.
+-- The lowest byte of a word.
 abbrev pub last_byte : ℕ → ℕ
 last_byte word = word % 256
 
--- The configuration that a word names.
+-- The configuration that a word encodes, if there is one.
 abbrev pub conf_of : ℕ → Option ConfId
 conf_of word = if word == 0 then None else Some (conf_id (last_byte (word - 1)))
 
--- The processor that a word names.
+-- The processor that a word encodes, if there is one.
 abbrev pub keeper_of : ℕ → Option ProcId
 keeper_of word = if word == 0 then None else Some (proc_id (last_byte (word - 1)))
 
--- The eight keepers that words name.
+-- The eight keepers that the words encode.
 abbrev pub keepers_of : List ℕ → List (Option ProcId)
 keepers_of words = eight (λ a. keeper_of (slice_index words a))
 
--- The mode of five words.
+-- The mode that five words encode.
 abbrev pub mode_in_words : List ℕ → KMode
 mode_in_words words =
     if slice_index words 0 == 0 then Stable (conf_id (last_byte (slice_index words 1)))
@@ -71,13 +71,13 @@ mode_in_words words =
     (conf_id (last_byte (slice_index words 3)))
     (slice_index words 4 % 4294967296)
 
--- The values of the six factors.
+-- The values of the six factors that a word encodes.
 abbrev pub factors_of : ℕ → List ℕ
 factors_of word =
     last_byte word ∷ last_byte (word / 256) ∷ last_byte (word / 65536)
     ∷ last_byte (word / 16777216) ∷ last_byte (word / 4294967296) ∷ last_byte (word / 1099511627776) ∷ []
 
--- The world of four words.
+-- The world that four words encode.
 abbrev pub world_of : List ℕ → World
 world_of words = record {
   alt = decode (slice_index words 0);
@@ -86,7 +86,7 @@ world_of words = record {
   bank = decode (slice_index words 3);
 }
 
--- The kernel image that has these words.
+-- The kernel image that these words encode.
 abbrev pub kernel_decode : List ℕ → KernelImage
 kernel_decode words = record {
   frame = slice_index words 0 % 4294967296;

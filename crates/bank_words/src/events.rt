@@ -1,13 +1,13 @@
-//! Events: what a processor or the kernel does in one step.
+//! Events, which are the steps of a processor or of the kernel.
 
 ghost use Rattle.std.specs.Prelude.{◌≡◌, IfSome, Some};
 ghost use Rattle.bank_words.specs.Events.{IsEvent, byte_of, event_code, event_of};
 
 use scram_types::ProcId;
 
-/// One step of one actor. A processor starts a frame, looks at a processor, stores a word of its image,
-/// flips its mark, is done with the frame, or halts; the kernel notes a processor, stores one of its
-/// twenty words, or releases the next frame.
+/// One step of a processor or of the kernel. A processor starts a frame, looks at a processor, stores a word of its
+/// image, flips its mark, finishes the frame, or halts. The kernel notes a processor, stores one of its twenty words,
+/// or releases the next frame.
 #[derive(Clone, Copy, Debug, PartialEq, Eq)]
 pub enum Event {
     Start(ProcId),
@@ -24,7 +24,7 @@ pub enum Event {
     Release,
 }
 
-/// Returns the number by which an event is kept.
+/// Returns the code of an event.
 pub fn event_code(event: Event) -> u32
     ensures code { result ≡ event_code event }
     ensures back { event_of result ≡ Some event }
@@ -42,7 +42,7 @@ pub fn event_code(event: Event) -> u32
     }
 }
 
-/// Returns the event that has this code, or `None` exactly where no event has it.
+/// Returns the event with this code, or `None` if no event has it.
 pub fn event_of(code: u32) -> Option<Event>
     ensures event { result ≡ event_of code }
     ensures code { IfSome result (λ event. event_code event ≡ code) }

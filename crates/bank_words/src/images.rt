@@ -1,4 +1,4 @@
-//! What the kernel says of a frame.
+//! The image that the kernel writes of a frame.
 
 ghost use Rattle.std.specs.Prelude.{◌≡◌};
 ghost use Rattle.bank_words.specs.Images.{conf_of, conf_word, factors_of, factors_word, keeper_of, keeper_word, keeper_words, keepers_of, kernel_decode, kernel_encode, last_byte, mode_in_words, mode_words};
@@ -6,7 +6,7 @@ ghost use Rattle.bank_words.specs.Images.{conf_of, conf_word, factors_of, factor
 use crate::numbers::{decode, encode};
 use scram_types::{ConfId, Env, KMode, ProcId, World};
 
-/// The mode and the environment of a frame, and the keepers and the world as they stand before it.
+/// The mode and the environment of a frame, with the keepers and the world at its beginning.
 #[derive(Clone, Copy, Debug, PartialEq, Eq)]
 pub struct KernelImage {
     pub frame: u32,
@@ -47,7 +47,7 @@ pub fn kernel_encode(k: &KernelImage) -> [u64; 20]
     ]
 }
 
-/// Returns the kernel image that has these twenty words.
+/// Returns the kernel image that these twenty words encode.
 pub fn kernel_decode(words: &[u64; 20]) -> KernelImage
     ensures { result ≡ kernel_decode words.now }
 {

@@ -1,5 +1,5 @@
-//! The words of stable storage that processors and the kernel share: numbers as words, marks, what the kernel says of
-//! a frame, and a code for each event. What is written as words is read back as it was.
+//! The words of stable storage that processors and the kernel share: numbers as words, marks, kernel images, and a code
+//! for each event. Decoding gives back what was encoded.
 #![tactic(auto)]
 
 pub mod events;

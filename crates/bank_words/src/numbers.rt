@@ -5,7 +5,7 @@ ghost use Rattle.bank_words.specs.Numbers.{decode, encode};
 
 use scram_types::Spec;
 
-/// Returns how many words an image has: eight for each application.
+/// Returns the number of words of an image, which is eight for each application.
 pub fn words(spec: &Spec) -> u32
     ensures { result ≡ 8 * length spec.now.apps }
 {

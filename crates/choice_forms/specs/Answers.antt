@@ -1,4 +1,4 @@
--- What is answered of the choices of a specification.
+-- The answers for the choices of a specification.
 use Rattle.std.specs.Prelude.{◌≡◌, ℕ, List, [], Option, Some, None}
 use Rattle.scram_types.specs.Specification.{Parts}
 use Rattle.scram_io.specs.Outside.{History}
@@ -13,25 +13,25 @@ use Rattle.choice_forms.specs.declared.states.StateWord.{StateWord}
 use Rattle.choice_forms.specs.Choosing.{choose_answer}
 use Rattle.choice_forms.specs.Tables.{choices_text}
 
--- The answer to `choices`, which asks nothing but that environments be few.
+-- The answer to `choices`, which only requires that few environments are in scope.
 abbrev pub choices_answer : Parts → Option Shown → ℕ × List ℕ
 choices_answer spec (Some shown) = (NOT_ACCEPTED, shown_line spec shown)
 choices_answer spec None = (ANSWERED, choices_text spec)
 
--- The answer to `choices` and the name of a specification's file.
+-- The answer to `choices` with the name of a specification's file.
 abbrev pub ChoicesAnswers : List ℕ → Answer
 ChoicesAnswers specification = AsksSpecification specification (λ (spec : Parts). WithoutFiles (Gives (choices_answer spec (state_refusal spec))))
 
--- Where `choices` ends with status 0, no other file was read, and the text has the choices of the specification.
+-- If `choices` ends with status 0, it has read no other file, and the text is that of the choices of the specification.
 abbrev pub AssuresChoices : List ℕ → History → List ℕ → Type 0
 AssuresChoices specification = OfSpecification specification (λ (spec : Parts) (reads : History) (text : List ℕ). (reads ≡ []) × (text ≡ choices_text spec))
 
--- The answer to `choose`, the name of a specification's file, that of a configuration and the words of a state.
+-- The answer to `choose` with the names of a specification's file and of a configuration, and the words of a state.
 abbrev pub ChooseAnswers : List ℕ → List ℕ → List StateWord → Answer
 ChooseAnswers specification conf state = AsksSpecification specification (λ (spec : Parts). WithoutFiles (Gives (choose_answer spec conf state)))
 
--- Where `choose` ends with status 0, no other file was read, each word names something of the specification, and the
--- text is the line of what is chosen.
+-- If `choose` ends with status 0, it has read no other file, each word names something of the specification, and the
+-- text is the line of the choice.
 abbrev pub AssuresChoose : List ℕ → List ℕ → List StateWord → History → List ℕ → Type 0
 AssuresChoose specification conf state =
     OfSpecification specification (λ (spec : Parts) (reads : History) (text : List ℕ). (reads ≡ []) × Gives (choose_answer spec conf state) ANSWERED text)

@@ -1,9 +1,9 @@
--- A line of what is chosen, in its pieces.
+-- The line of a choice, in two pieces.
 use Rattle.std.specs.Prelude.{ℕ, List, ◌++◌}
 use Rattle.form_base.specs.declared.status.TheConstants.{ANSWERED}
 use Rattle.form_base.specs.Answers.{Gives}
 use Rattle.choice_forms.specs.declared.choosing.Chosen.{Chosen}
 
--- The text is the two pieces.
+-- The text consists of the two pieces.
 abbrev pub TellsChosen : Chosen → ℕ → List ℕ → Type 0
 TellsChosen chosen = Gives (ANSWERED, chosen.choice ++ chosen.needs)

@@ -1,4 +1,4 @@
--- The words that spell a state of the environment.
+-- The words that describe a state of the environment.
 use Rattle.std.specs.Prelude.{ℕ, Bool, ◌==◌, nat_le, nat_lt, List, [], ◌∷◌, ◌++◌, length, Option, Some, None, codes, option_and_then, option_map, if◌then◌else◌}
 use Rattle.std.specs.List.{after_first, before_first, position_or_len}
 use Rattle.scram_types.specs.Names.{name_of}
@@ -10,7 +10,7 @@ use Rattle.choice_forms.specs.declared.states.TheConstants.{MAX_STATE_WORDS}
 abbrev pub is_equals : ℕ → Bool
 is_equals byte = byte == 61
 
--- The names of a factor and of a value that a word spells, with `=` between them.
+-- The names of a factor and of a value, if the word consists of them with `=` between them.
 abbrev pub value_word : List ℕ → Option StateWord
 value_word word =
     if nat_lt (position_or_len is_equals word) (length word)
@@ -18,17 +18,17 @@ value_word word =
     (name_of (before_first is_equals word))
     else None
 
--- What a word of a state spells, if it is one.
+-- The word of a state that a text spells, if it spells one.
 abbrev pub state_word : List ℕ → Option StateWord
 state_word [] = value_word []
 state_word (byte ∷ rest) = if byte == 45 then option_map (λ (proc : List ℕ). Down proc) (name_of rest) else value_word (byte ∷ rest)
 
--- What each word spells, if each is a word of a state.
+-- The words of a state that the texts spell, if each text spells one.
 abbrev pub state_words : List (List ℕ) → Option (List StateWord)
 state_words [] = Some []
 state_words (word ∷ words) = option_and_then (λ (first : StateWord). option_map (λ (rest : List StateWord). first ∷ rest) (state_words words)) (state_word word)
 
--- The state that words spell, if they are few enough.
+-- The state that texts spell, if there are few enough of them.
 abbrev pub state_in : List (List ℕ) → Option (List StateWord)
 state_in words = if nat_le (length words) MAX_STATE_WORDS then state_words words else None
 

@@ -1,4 +1,4 @@
--- The text of what each rule chooses.
+-- The text of the choices of each rule.
 use Rattle.std.specs.Prelude.{◌≡◌, ℕ, suc, List, [], length, slice_get, Some}
 use Rattle.std.specs.Option.{option_map_or}
 use Rattle.scram_types.specs.Lookups.{conf_id}
@@ -13,8 +13,8 @@ use Rattle.form_base.specs.Texts.{texts_below}
 use Rattle.choice_forms.specs.declared.tables.Table.{Table}
 use Rattle.choice_forms.specs.Lines.{choice_line}
 
--- A line, where in some environment in scope rule k is the first that fits configuration number i; past the last rule,
--- where none fits.
+-- The line of rule `k` and configuration number `i`, or empty if in no environment in scope the rule is the first that
+-- fits. A `k` past the last rule means that no rule fits.
 abbrev pub choice_text : Parts → ℕ → ℕ → List ℕ
 choice_text spec i k =
     option_map_or (λ (first : Env). choice_line spec i k (count_where spec (is_ruled_by spec (conf_id i) k)) first)
@@ -37,6 +37,6 @@ pub record HasShares (spec : Parts) (all : List (List Share)) : Type 0 where
 abbrev pub ShowsShares : Table → Type 0
 ShowsShares table = HasShares table.spec table.shares.items
 
--- The text has the choices of the specification.
+-- The text is that of the choices of the specification.
 abbrev pub TellsChoices : Table → ℕ → List ℕ → Type 0
 TellsChoices table = Gives (ANSWERED, choices_text table.spec)

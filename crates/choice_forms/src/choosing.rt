@@ -1,4 +1,4 @@
-//! The form `choose`: what is chosen in a state of the environment.
+//! The form `choose`: the choice in a state of the environment.
 
 ghost use Rattle.std.specs.Prelude.{◌≡◌, ◌<◌, ◌≤◌, ◌∷◌, ◌++◌, [], IfErr, IfOk, IfSome, Ok, Err};
 ghost use Rattle.scram_types.specs.Lookups.{opening_env};
@@ -27,7 +27,7 @@ use scram_types::{ConfId, Env, Name, Spec};
 use std::alloc::Global;
 use trace_text::lines::Line;
 
-/// What `choose` asks: the file of a specification, the name of a configuration, and the words of a state.
+/// The question to `choose`: the file of a specification, the name of a configuration, and the words of a state.
 #[derive(Clone, Copy)]
 pub struct Question<'a> {
     pub specification: &'a str,
@@ -35,15 +35,16 @@ pub struct Question<'a> {
     pub state: &'a [StateWord],
 }
 
-/// A line in two pieces: what is chosen, and which processors the target needs.
+/// A line in two pieces: the choice, and the processors that the target needs.
 #[derive(Drop)]
 struct Chosen {
     choice: Line,
     needs: Line,
 }
 
-/// Prints what the specification in a file chooses from a configuration in a state, by which rule, and which processors
-/// the target needs that are down there; or the first word that names nothing of the specification.
+/// Prints the choice of the specification in a file from a configuration in a state, the rule of the choice, and the
+/// processors that the target needs but that are down. Prints the first word that names nothing of the specification
+/// instead, if there is one.
 pub fn choose<F: Files, K: Sink>(
     alloc: Global,
     question: Question<'_>,
@@ -68,7 +69,7 @@ fn put_chosen<K: Sink>(out: &mut K, chosen: &Chosen) -> Result<(), SinkFault>
     }
 }
 
-/// Reads the specification, and makes the line of what it chooses.
+/// Reads the specification, and makes the line of its choice.
 fn read_chosen<F: Files>(
     alloc: Global,
     question: Question<'_>,
@@ -119,7 +120,7 @@ fn make_chosen(spec: &Spec, c: ConfId, env: &Env) -> Chosen
     }
 }
 
-// Returns the environment that words make of the one that a flight opens in, or the first word that names nothing.
+// Returns the environment in which a flight opens, changed by words, or the first word that names nothing.
 fn env_after_all<'a>(spec: &Spec, state: &'a [StateWord]) -> Result<Env, &'a StateWord>
     ensures env { IfOk result (λ v. env_after_all spec.now (opening_env spec.now) state.now ≡ Ok v) }
     ensures belongs { IfOk result (λ v. IsEnv spec.now v) }
@@ -148,7 +149,7 @@ fn env_after(spec: &Spec, env: &Env, word: &StateWord) -> Option<Env>
     }
 }
 
-// Returns the environment in which a factor has a value, where the specification has both.
+// Returns the environment in which a factor has a value, or `None` if the specification lacks either.
 fn valued(spec: &Spec, env: &Env, factor: &Name, value: &Name) -> Option<Env>
     requires { IsEnv spec.now env.now }
     ensures env { result ≡ valued spec.now env.now factor.now value.now }
@@ -174,7 +175,7 @@ fn with_value(env: &Env, x: u8, value: u8) -> Env
     }
 }
 
-// Returns the environment in which a processor is down, where the specification has it.
+// Returns the environment in which a processor is down, or `None` if the specification lacks the processor.
 fn taken_down(spec: &Spec, env: &Env, proc: &Name) -> Option<Env>
     requires { IsEnv spec.now env.now }
     ensures env { result ≡ taken_down spec.now env.now proc.now }
@@ -214,7 +215,7 @@ fn no_word(alloc: Global, word: &StateWord) -> Refusal
     }
 }
 
-// Returns the refusal of a word that names nothing; where there is no memory for its line, the refusal that says so.
+// Returns the refusal of a word that names nothing, or the refusal for lack of memory if there is none for its line.
 fn no_name(alloc: Global, word: &str) -> Refusal
     ensures { IsUnknown word.now (told result) }
 {

@@ -1,5 +1,5 @@
-//! The forms in which the choice table is asked: `choices` and `choose`. What each prints is the answer to the bytes of
-//! the file that its words name.
+//! The forms that show the choice table: `choices` and `choose`. The output of each is the answer to the bytes of the
+//! file that its words name.
 #![tactic(auto)]
 
 mod choosing;

@@ -1,4 +1,4 @@
-//! The lines that tell choices, made without memory.
+//! The lines of choices, made without memory.
 
 ghost use Rattle.std.specs.Prelude.{◌≡◌, ◌+◌, ◌≤◌, ◌++◌, length};
 ghost use Rattle.scram_types.specs.declared.limits.TheConstants.{MAX_LINE_BYTES};
@@ -13,7 +13,7 @@ use scram_types::{ConfId, Env, Place, Spec};
 use trace_text::lines::Line;
 
 /// Returns the line of the environments in scope in which rule `k` is the first that fits configuration `from`: their
-/// number, and the first of them. Past the last rule they are those in which none fits.
+/// number, and the first of them. A `k` past the last rule means the environments in which no rule fits.
 pub fn make_choice_line(spec: &Spec, from: ConfId, k: usize, count: u32, first: &Env) -> Line
     ensures { result ≡ choice_line spec.now from.0 k count first.now }
 {
@@ -51,8 +51,8 @@ fn add_target(line: &mut Line, spec: &Spec, k: u32, to: ConfId)
     line.text(spec.conf_name(to).as_bytes());
 }
 
-/// Returns the line of what is chosen from configuration `c` in an environment, without its end: rule `k`, the first
-/// that fits.
+/// Returns the line of the choice from configuration `c` in an environment, without its end. Rule `k` is the first that
+/// fits.
 pub fn make_chosen_line(spec: &Spec, c: ConfId, env: &Env, k: usize) -> Line
     ensures { result ≡ choice_piece spec.now c env.now k }
 {
@@ -79,7 +79,7 @@ fn add_state(line: &mut Line, spec: &Spec, env: &Env)
     }
 }
 
-/// Returns the end of that line: which processors the target needs that are down.
+/// Returns the end of the line of a choice: the processors that the target needs but that are down.
 pub fn make_needs_line(spec: &Spec, env: &Env, k: usize) -> Line
     ensures { result ≡ needs_piece spec.now env.now k }
 {

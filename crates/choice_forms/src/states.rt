@@ -1,4 +1,4 @@
-//! The words that spell a state of the environment, beside the one that a flight opens in.
+//! The words that describe a state of the environment by its difference from the one in which a flight opens.
 
 ghost use Rattle.std.specs.Prelude.{◌≡◌, map, string_bytes};
 ghost use Rattle.choice_forms.specs.States.{state_in, state_word, value_word};
@@ -6,7 +6,7 @@ ghost use Rattle.choice_forms.specs.States.{state_in, state_word, value_word};
 use arrayvec::ArrayVec;
 use scram_types::Name;
 
-/// The greatest number of words that spell a state.
+/// The maximum number of words of a state.
 pub const MAX_STATE_WORDS: usize = 14;
 
 /// A word of a state.
@@ -19,7 +19,7 @@ pub enum StateWord {
 }
 
 impl Default for StateWord {
-    /// Returns the word that stands in the unused places of a list of fixed length.
+    /// Returns a word for the unused entries of a list of fixed length.
     fn default() -> StateWord {
         StateWord::Down {
             proc: Name::default(),
@@ -27,7 +27,7 @@ impl Default for StateWord {
     }
 }
 
-/// A state: at most [`MAX_STATE_WORDS`] words.
+/// A state, which is a list of at most [`MAX_STATE_WORDS`] words.
 #[derive(Debug, Drop)]
 pub struct State {
     words: ArrayVec<StateWord, MAX_STATE_WORDS>,
@@ -51,8 +51,8 @@ impl State {
     }
 }
 
-/// Returns the state that words spell, or `None` where there are more than [`MAX_STATE_WORDS`] or one is neither
-/// `NAME=NAME` nor `-NAME`.
+/// Parses the words of a state. Returns `None` if there are more than [`MAX_STATE_WORDS`] words, or if a word is
+/// neither `NAME=NAME` nor `-NAME`.
 pub fn read_state(words: &[String]) -> Option<State>
     ensures { result ≡ state_in (map string_bytes words.now) }
 {

@@ -1,4 +1,5 @@
-//! The form `choices`: what each rule chooses, from where and in how many environments.
+//! The form `choices`: the target of each rule, the configurations from which it is chosen, and the number of
+//! environments.
 
 ghost use Rattle.std.specs.Prelude.{◌≡◌, ◌<◌, ◌≤◌, ◌∷◌, [], IfOk, length};
 ghost use Rattle.scram_types.specs.Lookups.{conf_id};
@@ -24,15 +25,15 @@ use scram_io::{Files, Sink, SinkFault};
 use scram_types::{ConfId, List, NoMemory, Spec};
 use std::alloc::Global;
 
-/// A specification, and the shares of each configuration.
+/// A specification, with the shares of each configuration.
 #[derive(Drop)]
 struct Table {
     spec: Spec,
     shares: Vec<List<Share>>,
 }
 
-/// Prints what each rule of the specification in a file chooses, from where and in how many environments, where the
-/// specification has few enough environments in scope.
+/// Prints the target of each rule of the specification in a file, the configurations from which the rule is chosen and
+/// the number of environments, if few enough environments are in scope.
 pub fn choices<F: Files, K: Sink>(
     alloc: Global,
     specification: &str,
@@ -52,7 +53,7 @@ pub fn choices<F: Files, K: Sink>(
     }
 }
 
-/// Reads the specification, and finds the shares of its configurations.
+/// Reads the specification, and computes the shares of its configurations.
 fn read_table<F: Files>(alloc: Global, specification: &str, files: &mut F) -> Result<Table, Refusal>
     ensures reads { Prepares (ChoicesAnswers specification.now) TellsChoices (specification.now ∷ []) (F.state files.old) (F.state files.new) result }
     ensures shares { IfOk result ShowsShares }
@@ -134,7 +135,7 @@ fn put_choices_from<K: Sink>(
     Ok(())
 }
 
-// Puts the line of a share, where it has an environment.
+// Writes the line of a share, if it has an environment.
 fn put_choice<K: Sink>(
     out: &mut K,
     spec: &Spec,

@@ -91,7 +91,7 @@ nothing_left (y ∷ ys) (suc x) h = nothing_left ys x (omega arith)
 pub product_end : (fs : List Factor) (x product : ℕ) → length fs ≤ x → product * combinations (drop x fs) ≡ combinations fs → product ≡ combinations fs
 product_end fs x product past so_far = let end = rw (nothing_left fs x past) at so_far in omega (arith, end)
 
--- a loop over the factors that makes the number of their values
+-- a step of the loop over the factors that computes the number of their values
 pub digits_step : (fs : List Factor) (vs : List ℕ) (x number : ℕ) → x < length fs → x < length vs
     → number * combinations (drop x fs) + digits_of (drop x fs) (drop x vs) ≡ digits_of fs vs
     → (number * value_count fs x + get_or vs x 0) * combinations (drop (suc x) fs) + digits_of (drop (suc x) fs) (drop (suc x) vs) ≡ digits_of fs vs
@@ -103,7 +103,7 @@ pub digits_end : (fs : List Factor) (vs : List ℕ) (x number : ℕ) → length 
     → number * combinations (drop x fs) + digits_of (drop x fs) (drop x vs) ≡ digits_of fs vs → number ≡ digits_of fs vs
 digits_end fs vs x number past so_far = let end = rw (nothing_left fs x past) at so_far in omega (arith, end)
 
--- such a number stays small, whatever bytes the values are
+-- such a number stays small for any bytes as values
 pub few_digits : (count value x number : ℕ) → count ≤ 4 → value < 256 → x < 6 → number + 85 ≤ 85 * 4 ^ x → number * count + value + 85 ≤ 85 * 4 ^ suc x
 few_digits count value x number few byte inside so_far =
     let product = mul-le number count number 4 (omega arith) few in
@@ -120,7 +120,7 @@ digits_room x number inside so_far =
     let wide : 4 ^ x ≤ 4 ^ 6 = pow-le-pow_right (omega arith) inside in
     omega arith
 
--- a loop over the factors that makes their values of a number
+-- a step of the loop over the factors that computes their values from a number
 pub place_step : (fs : List Factor) (x place : ℕ) → Each IsFactor fs → x < length fs → place ≡ combinations (drop x fs)
     → place / value_count fs x ≡ combinations (drop (suc x) fs)
 place_step fs x place known h is =

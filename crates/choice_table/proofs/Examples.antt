@@ -1,4 +1,4 @@
--- Worked examples of the definitions: computed, and compared with what the rules say.
+-- Worked examples of the definitions: computed, and compared with the rules.
 use Rattle.std.proofs.Common.{◌≡◌, refl, ℕ, List, [], ◌∷◌, true, false, pos}
 use Rattle.std.specs.Prelude.{Some, None, replicate}
 use Rattle.scram_types.specs.declared.rows.Env.{Env}
@@ -46,7 +46,7 @@ made procs factors confs rules halts = record {
   window = 1;
 }
 
--- eight processors and six factors of four values: the most environments that there can be
+-- eight processors and six factors of four values, which make the maximum number of environments
 large : Parts
 large = made (replicate 8 proc) (replicate 6 (factor 4)) [] [] 1
 
@@ -104,7 +104,7 @@ two_down : in_scope large (environment 126 (replicate 6 0)) ≡ false
 unfolding large made proc factor environment
 two_down = refl
 
--- two processors and factors of two and three values: zeros stand past the last factor
+-- two processors and factors of two and three values, with zeros past the last factor
 small : ℕ → Parts
 small halts = made (replicate 2 proc) (factor 2 ∷ factor 3 ∷ []) [] [] halts
 

@@ -1,4 +1,4 @@
--- What is up, place by place and bit by bit.
+-- Processors that are up, place by place and bit by bit.
 use Rattle.std.proofs.Common.{◌≡◌, ℕ, zero, suc, ◌<◌, ◌^◌, ◌/◌, ◌%◌, refl, arith, sym, ap, ◌∙◌, true, List}
 use mathlib.Core.Logic.{inl, inr}
 use Rattle.std.specs.Prelude.{Option, Some, None, bit_and, slice_get}
@@ -37,7 +37,7 @@ bit_known set p h = grind (arith, nat_tests)
 bit_told : (set p : ℕ) → bit_at set p ≡ 1 → has_bit set p ≡ true
 bit_told set p h = rw (h) refl
 
--- where the common bits are all of the set's, each of them is common
+-- if the common bits are all bits of the set, each bit of the set is common
 members : (set : ℕ) (v : Env) → all_up set v ≡ true → (p : ℕ) → has_bit set p ≡ true → is_up_in v p ≡ true
 members set v h p e =
     let all : bit_and set v.up ≡ set = grind (arith, nat_tests) in
@@ -48,7 +48,7 @@ members set v h p e =
       | inr o ↦ bit_told v.up p o
     ]
 
--- and where each is common, so are all, digit by digit
+-- if each bit of the set is common, the common bits are all of them, digit by digit
 same_bit : (set up p : ℕ) → ((q : ℕ) → has_bit set q ≡ true → has_bit up q ≡ true) → bit_at (bit_and set up) p ≡ bit_at set p
 same_bit set up p h = elim (bit_cases set p) [
   | inl z ↦ (let small = and_le_l (bit_at set p) (bit_at up p) in let common = common_bit set up p in omega arith)

@@ -1,4 +1,4 @@
--- What the choice table chooses, and what can run.
+-- The configuration that the choice table chooses, and the configurations that can run.
 use Rattle.std.specs.Prelude.{◌≡◌, ℕ, Bool, true, ◌&&◌, ◌==◌, List, [], ◌∷◌, slice_get, Option, Some, None, bit_and, if◌then◌else◌}
 use Rattle.std.specs.Option.{option_map_or}
 use Rattle.std.specs.List.{list_all, list_any}
@@ -11,43 +11,43 @@ use Rattle.scram_types.specs.declared.specification.Choice.{Choice}
 use Rattle.scram_types.specs.Specification.{Parts}
 use Rattle.choice_table.specs.Environments.{IsEnv, factor_in, in_scope, is_up_in}
 
--- A rule's source is c: it names c, or none.
+-- The source of a rule is `c`, or the rule has no source.
 abbrev pub has_source : Option ConfId → ConfId → Bool
 has_source None c = true
 has_source (Some from) c = from.0 == c.0
 
--- An environment has the value that a rule requires of a factor.
+-- An environment has the value that is required of a factor.
 abbrev pub has_wanted : Env → Want → Bool
 has_wanted v want = factor_in v want.factor.0 == want.value
 
--- Each processor of a set is up: the set's processors that are up are all of them.
+-- Each processor of a set is up.
 abbrev pub all_up : ℕ → Env → Bool
 all_up set v = bit_and set v.up == set
 
--- A rule fits a configuration and an environment: its source, the values that it requires, the processors that it
--- requires up.
+-- A rule fits a configuration and an environment: the rule's source does, and so do the values and the processors that
+-- it requires.
 abbrev pub rule_fits : ConfId → Env → Choice → Bool
 rule_fits c v rule = has_source rule.from c && list_all (has_wanted v) rule.wants && all_up rule.up v
 
--- The target of the first rule that fits, and c where none fits.
+-- The target of the first rule that fits, or `c` if no rule fits.
 abbrev pub target_among : List Choice → ConfId → Env → ConfId
 target_among [] c v = c
 target_among (rule ∷ rules) c v = if rule_fits c v rule then rule.to else target_among rules c v
 
--- The configuration that the table chooses in an environment: the target of the first rule that fits, else the same
--- one.
+-- The configuration that the table chooses in an environment: the target of the first rule that fits, or the same
+-- configuration if none fits.
 abbrev pub choose : Parts → ConfId → Env → ConfId
 choose spec c v = target_among spec.rules c v
 
--- Some rule fits.
+-- Some rule fits a configuration and an environment.
 abbrev pub has_rule : Parts → ConfId → Env → Bool
 has_rule spec c v = list_any (rule_fits c v) spec.rules
 
--- The places of a configuration's applications, in their order; none where there is no such configuration.
+-- The places of a configuration's applications, in order. The list is empty if there is no such configuration.
 abbrev pub places_of : Parts → ConfId → List (Option Place)
 places_of spec c = option_map_or (λ (conf : Conf). conf.places) (slice_get spec.confs c.0) []
 
--- An application that is off needs no processor; else its processor is up.
+-- The processor of an application is up, or the application is off.
 abbrev pub is_place_up : Env → Option Place → Bool
 is_place_up v None = true
 is_place_up v (Some place) = is_up_in v place.proc.0
@@ -56,7 +56,7 @@ is_place_up v (Some place) = is_up_in v place.proc.0
 abbrev pub is_runnable : Parts → ConfId → Env → Bool
 is_runnable spec c v = list_all (is_place_up v) (places_of spec c)
 
--- j is a possible target of i: chosen from i in some environment in scope.
+-- Configuration `j` is a possible target of `i`: the table chooses `j` from `i` in some environment in scope.
 pub record IsTarget (spec : Parts) (i j : ConfId) : Type 0 where
   pub seen : Env
   pub belongs : IsEnv spec seen

@@ -1,4 +1,4 @@
--- What demands ask of the choice table.
+-- The demands on the choice table.
 use Rattle.std.specs.Prelude.{ℕ, Bool, true, false, not, ◌&&◌, ◌||◌, ◌==◌, List, length, Option, Some, None, bit_and}
 use Rattle.std.specs.List.{list_all, list_any}
 use Rattle.scram_types.specs.Bits.{has_bit}
@@ -13,49 +13,49 @@ use Rattle.scram_types.specs.Searches.{all_below}
 use Rattle.scram_types.specs.Specification.{Parts, modes_on}
 use Rattle.choice_table.specs.Choices.{all_up, has_wanted}
 
--- Each processor of a set is down: none of the set is up.
+-- Each processor of a set is down.
 abbrev pub all_down : ℕ → Env → Bool
 all_down set v = bit_and set v.up == 0
 
--- A demand speaks of an environment: each factor has the value that it requires, each processor of `up` is up and each
--- of `down` is down.
+-- A demand applies to an environment: each factor has the value that the demand requires, each processor of `up` is up
+-- and each of `down` is down.
 abbrev pub speaks_of : Demand → Env → Bool
 speaks_of demand v = list_all (has_wanted v) demand.wants && all_up demand.up v && all_down demand.down v
 
--- A set of configurations holds c; the empty set stands for all of them.
+-- A set of configurations holds `c`, or it is empty, which means all of them.
 abbrev pub is_empty_or_holds : ℕ → ConfId → Bool
 is_empty_or_holds set c = set == 0 || has_bit set c.0
 
--- A demand asks something of a choice from c.
+-- A demand applies to a choice from `c`.
 abbrev pub asks_of : Demand → ConfId → Bool
 asks_of demand c = is_empty_or_holds demand.from c
 
--- Modes allow a mode: there are none, or it is one of them.
+-- The list of modes is empty, or it holds the mode.
 abbrev pub modes_allow : List Mode → Mode → Bool
 modes_allow modes mode = length modes == 0 || is_among modes mode.0
 
--- An application that has to be on is, in a mode that is allowed; one that need not be on may be anywhere.
+-- An application that must be on is on, in an allowed mode. One that need not be on may have any place.
 abbrev pub is_placed : Option (List Mode) → Option Place → Bool
 is_placed None place = true
 is_placed (Some modes) None = false
 is_placed (Some modes) (Some place) = modes_allow modes place.mode
 
--- In configuration c application a is on and off as a demand has it.
+-- Configuration `c` turns application `a` on or off as a demand requires.
 abbrev pub is_met_by : Parts → Demand → ConfId → ℕ → Bool
 is_met_by spec demand c a = is_placed (modes_on demand a) (place_of spec c a) && (not (has_bit demand.off a) || not (is_on spec c a))
 
--- Configuration c meets a demand: it is one of `to`, and each application is on and off as the demand has it.
+-- Configuration `c` meets a demand: it is one of `to`, and each application is on or off as the demand requires.
 abbrev pub is_met : Parts → Demand → ConfId → Bool
 is_met spec demand c = is_empty_or_holds demand.to c && all_below (is_met_by spec demand c) 8
 
--- Where a demand speaks of an environment and asks something of a choice from configuration c, c meets it.
+-- Configuration `c` meets a demand, or the demand does not apply to the environment and to a choice from `c`.
 abbrev pub meets : Parts → ConfId → Env → Demand → Bool
 meets spec c v demand = not (speaks_of demand v && asks_of demand c) || is_met spec demand c
 
--- Configuration c meets each demand that speaks of an environment and asks something of a choice from c.
+-- Configuration `c` meets each demand that applies to an environment and to a choice from `c`.
 abbrev pub meets_all : Parts → ConfId → Env → Bool
 meets_all spec c v = list_all (meets spec c v) spec.demands
 
--- Some demand speaks of an environment.
+-- Some demand applies to an environment.
 abbrev pub is_spoken_of : Parts → Env → Bool
 is_spoken_of spec v = list_any (λ (demand : Demand). speaks_of demand v) spec.demands

@@ -1,4 +1,4 @@
--- Which processors are up, and which environments are in scope.
+-- Processors that are up, and environments that are in scope.
 use Rattle.std.specs.Prelude.{◌≡◌, ℕ, ◌^◌, ◌<◌, ◌≤◌, Bool, not, nat_le, length, slice_get, slice_index, Some}
 use Rattle.scram_types.specs.Bits.{count_below, has_bit}
 use Rattle.scram_types.specs.declared.rows.Env.{Env}
@@ -9,11 +9,11 @@ use Rattle.scram_types.specs.Specification.{Parts}
 abbrev pub is_up_in : Env → ℕ → Bool
 is_up_in v p = has_bit v.up p
 
--- The value of factor x, by its number among the factor's values.
+-- The value of factor `x`, as an index in the factor's values.
 abbrev pub factor_in : Env → ℕ → ℕ
 factor_in v x = slice_index v.factors x
 
--- How many processors are down in an environment.
+-- The number of processors that are down in an environment.
 abbrev pub down_count : Parts → Env → ℕ
 down_count spec v = count_below (λ p. not (is_up_in v p)) (length spec.procs)
 
@@ -21,8 +21,8 @@ down_count spec v = count_below (λ p. not (is_up_in v p)) (length spec.procs)
 abbrev pub in_scope : Parts → Env → Bool
 in_scope spec v = nat_le (down_count spec v) spec.halts
 
--- v belongs to the specification: no bit past the last processor, each factor's value is one that the
--- factor has, and zeros past the last factor.
+-- Environment `v` belongs to the specification: it has no bit past the last processor, a value of the factor for each
+-- factor, and zeros past the last factor.
 pub record IsEnv (spec : Parts) (v : Env) : Type 0 where
   pub up : v.up < 2 ^ length spec.procs
   pub width : length v.factors ≡ 6

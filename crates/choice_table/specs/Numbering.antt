@@ -1,4 +1,4 @@
--- The number of an environment, and the environment of a number.
+-- The numbers of environments, both ways.
 use Rattle.std.specs.Prelude.{◌≡◌, ℕ, ◌+◌, ◌-◌, ◌*◌, ◌/◌, ◌%◌, ◌^◌, ◌<◌, ◌≤◌, Bool, true, false, not, nat_le, nat_lt, List, [], ◌∷◌, ◌++◌, length, replicate, slice_get, Option, Some, None, if◌then◌else◌}
 use Rattle.std.specs.Option.{option_map_or}
 use Rattle.scram_types.specs.Bits.{bits_below, count_below, has_bit}
@@ -11,11 +11,11 @@ use Rattle.choice_table.specs.Environments.{in_scope, is_up_in}
 abbrev pub down_set : Parts → Env → ℕ
 down_set spec v = bits_below (λ p. not (is_up_in v p)) (length spec.procs)
 
--- How many values factor x has.
+-- The number of values of factor `x`.
 abbrev pub value_count : List Factor → ℕ → ℕ
 value_count factors x = option_map_or (λ (factor : Factor). length factor.values) (slice_get factors x) 0
 
--- In how many ways factors can have values: the product of their counts of values.
+-- The number of combinations of values of the factors, which is the product of their numbers of values.
 abbrev pub combinations : List Factor → ℕ
 combinations [] = 1
 combinations (factor ∷ factors) = length factor.values * combinations factors
@@ -26,27 +26,28 @@ digits_of [] values = 0
 digits_of (factor ∷ factors) [] = 0
 digits_of (factor ∷ factors) (value ∷ values) = value * combinations factors + digits_of factors values
 
--- The factors' values that a mixed-radix number spells.
+-- The factors' values that a mixed-radix number encodes.
 abbrev pub values_of : List Factor → ℕ → List ℕ
 values_of [] digits = []
 values_of (factor ∷ factors) digits = digits / combinations factors ∷ values_of factors (digits % combinations factors)
 
--- An environment's number: the processors that are down, and below them the factors' values.
+-- The number of an environment, made of the processors that are down and, less significant, the factors' values.
 abbrev pub number_of : Parts → Env → ℕ
 number_of spec v = down_set spec v * combinations spec.factors + digits_of spec.factors v.factors
 
--- How many environments there are; their numbers are those below this.
+-- The number of environments. Their numbers are those below it.
 abbrev pub environments : Parts → ℕ
 environments spec = 2 ^ length spec.procs * combinations spec.factors
 
--- The environment of number n: processors up count down from all of them, and the values of the factors count up.
+-- The environment with number `n`. As `n` grows, the set of processors that are up counts down from all of them, and
+-- the values of the factors count up.
 abbrev pub numbered : Parts → ℕ → Env
 numbered spec n = record {
   up = 2 ^ length spec.procs - 1 - n / combinations spec.factors;
   factors = values_of spec.factors (n % combinations spec.factors) ++ replicate (6 - length spec.factors) 0;
 }
 
--- The environment that has this number, if there is one.
+-- The environment with this number, if there is one.
 abbrev pub env_of : Parts → ℕ → Option Env
 env_of spec n = if nat_lt n (environments spec) then Some (numbered spec n) else None
 
@@ -59,11 +60,11 @@ is_down_in_scope spec down =
 abbrev pub is_number_in_scope : Parts → ℕ → Bool
 is_number_in_scope spec n = in_scope spec (numbered spec n)
 
--- How many environments are in scope.
+-- The number of environments in scope.
 abbrev pub states : Parts → ℕ
 states spec = count_below (is_number_in_scope spec) (environments spec)
 
--- n is the least number from low on whose environment is in scope.
+-- The smallest number from `low` on whose environment is in scope is `n`.
 pub record IsNextInScope (spec : Parts) (low n : ℕ) : Type 0 where
   pub from : low ≤ n
   pub inside : n < environments spec

@@ -1,4 +1,4 @@
-//! What the choice table chooses, and what can run.
+//! The configuration that the choice table chooses, and the configurations that can run.
 
 ghost use Rattle.std.specs.Prelude.{◌≡◌, ◌<◌, length};
 ghost use Rattle.std.specs.List.{list_all};
@@ -7,7 +7,7 @@ ghost use Rattle.choice_table.specs.Choices.{all_up, choose, has_rule, has_sourc
 use scram_types::bits::has_bit;
 use scram_types::{Choice, ConfId, Env, Place, Spec, Want};
 
-/// Returns the target of the first rule that fits configuration `c` and the environment, and `c` where none fits.
+/// Returns the target of the first rule that fits configuration `c` and the environment, or `c` if no rule fits.
 pub fn choose(spec: &Spec, c: ConfId, env: &Env) -> ConfId
     ensures target { result ≡ choose spec.now c env.now }
     ensures inside { c.0 < length spec.now.confs → result.0 < length spec.now.confs }
@@ -27,7 +27,7 @@ pub fn has_rule(spec: &Spec, c: ConfId, env: &Env) -> bool
     spec.rules.items().iter().any(|rule| fits(rule, c, env))
 }
 
-/// Returns whether each processor that configuration `c` uses is up; a configuration that does not exist uses none.
+/// Returns whether each processor that configuration `c` uses is up. A configuration that does not exist uses none.
 pub fn runnable(spec: &Spec, c: ConfId, env: &Env) -> bool
     ensures { result ≡ is_runnable spec.now c env.now }
 {
@@ -61,7 +61,7 @@ fn is_source(from: Option<ConfId>, c: ConfId) -> bool
     }
 }
 
-// Returns whether an environment has each value that is required.
+// Returns whether an environment has each required value.
 pub(crate) fn have_wanted(wants: &[Want], env: &Env) -> bool
     ensures { result ≡ list_all (has_wanted env.now) wants.now }
 {

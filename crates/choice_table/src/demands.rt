@@ -1,4 +1,4 @@
-//! What demands ask of the choice table: of which environments they speak, and which configurations meet them.
+//! Demands on the choice table: the environments to which they apply, and the configurations that meet them.
 
 ghost use Rattle.std.specs.Prelude.{◌≡◌};
 ghost use Rattle.scram_types.specs.Searches.{all_below};
@@ -8,23 +8,23 @@ use crate::choices::{are_up, have_wanted};
 use scram_types::bits::{has_bit, is_in};
 use scram_types::{AppId, ConfId, Demand, Env, Mode, Modes, Place, Spec};
 
-/// Returns whether a demand speaks of an environment: whether each factor has the value that it requires, each
-/// processor of `up` is up and each of `down` is down.
+/// Returns whether a demand applies to an environment. It does if each factor has the value that the demand requires,
+/// each processor of `up` is up and each of `down` is down.
 pub fn speaks_of(demand: &Demand, env: &Env) -> bool
     ensures { result ≡ speaks_of demand.now env.now }
 {
     have_wanted(demand.wants.items(), env) && are_up(demand.up, env) && are_down(demand.down, env)
 }
 
-/// Returns whether a demand asks something of a choice from configuration `c`.
+/// Returns whether a demand applies to a choice from configuration `c`.
 pub fn asks_of(demand: &Demand, c: ConfId) -> bool
     ensures { result ≡ asks_of demand.now c }
 {
     is_empty_or_holds(demand.from, c)
 }
 
-/// Returns whether configuration `c` meets a demand: whether it is one of `to`, where there are any, each application
-/// of `on` is on there in one of its modes, where it has any, and each of `off` is off.
+/// Returns whether configuration `c` meets a demand. The configuration must be one of `to`, unless `to` is empty. Each
+/// application of `on` must be on there, in one of its modes if it has any, and each of `off` must be off.
 pub fn is_met(spec: &Spec, demand: &Demand, c: ConfId) -> bool
     ensures { result ≡ is_met spec.now demand.now c }
 {
@@ -66,8 +66,7 @@ fn modes_allow(modes: &Modes, mode: Mode) -> bool
     modes.as_slice().is_empty() || modes.has(mode)
 }
 
-/// Returns whether configuration `c` meets each demand that speaks of an environment and asks something of a choice
-/// from `c`.
+/// Returns whether configuration `c` meets each demand that applies to an environment and to a choice from `c`.
 pub fn meets_all(spec: &Spec, c: ConfId, env: &Env) -> bool
     ensures { result ≡ meets_all spec.now c env.now }
 {
@@ -83,7 +82,7 @@ fn meets(spec: &Spec, c: ConfId, env: &Env, demand: &Demand) -> bool
     !(speaks_of(demand, env) && asks_of(demand, c)) || is_met(spec, demand, c)
 }
 
-/// Returns whether some demand speaks of an environment.
+/// Returns whether some demand applies to an environment.
 pub fn is_spoken_of(spec: &Spec, env: &Env) -> bool
     ensures { result ≡ is_spoken_of spec.now env.now }
 {

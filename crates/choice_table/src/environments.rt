@@ -1,4 +1,4 @@
-//! Which processors are up, and which environments are in scope.
+//! Processors that are up, and environments that are in scope.
 
 ghost use Rattle.std.specs.Prelude.{◌≡◌, ◌≤◌, not};
 ghost use Rattle.scram_types.specs.Bits.{count_below, has_bit};
@@ -14,7 +14,7 @@ pub fn in_scope(spec: &Spec, env: &Env) -> bool
     count_down(spec.procs.items().len() as u8, env.up) <= spec.halts
 }
 
-// Returns how many of the first `processors` processors are not in the set `up`.
+// Returns the number of the first `processors` processors that are not in the set `up`.
 pub(crate) fn count_down(processors: u8, up: u8) -> u8
     ensures value { result ≡ count_below (λ p. not (has_bit up p)) processors }
     ensures most { result ≤ processors }

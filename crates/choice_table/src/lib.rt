@@ -1,5 +1,5 @@
-//! What is chosen where: the configuration that the choice table chooses in an environment, exactly; what
-//! can run; which environments are in scope; what demands ask; and a number for each environment, both ways.
+//! The choice table, with the exact configuration that it chooses in an environment. The crate also has the
+//! configurations that can run, the environments in scope, the demands on the table, and the numbers of environments.
 #![tactic(auto)]
 
 pub mod choices;

@@ -1,4 +1,4 @@
-//! The number of an environment, and the environment of a number.
+//! The numbers of environments, both ways.
 
 ghost use Rattle.std.specs.Prelude.{◌≡◌, ◌+◌, ◌-◌, ◌*◌, ◌/◌, ◌%◌, ◌^◌, ◌<◌, ◌≤◌, ◌++◌, length, not, replicate, IfSome, MatchOption, Some};
 ghost use Rattle.scram_types.specs.Specification.{Each, IsFactor};
@@ -16,9 +16,9 @@ pub struct Numbered {
     pub env: Env,
 }
 
-/// Returns the number of an environment: with `M` the product of the factors' counts of values, it is `M` times the
-/// set of processors that are down, as bits, plus the mixed-radix number of the factors' values, the first factor
-/// being the most significant digit.
+/// Returns the number of an environment. With `M` the product of the factors' numbers of values, it is `M` times the
+/// set of processors that are down, as bits, plus the mixed-radix number of the factors' values. The first factor is
+/// the most significant digit.
 pub fn number_of(spec: &Spec, env: &Env) -> u32
     ensures number { result ≡ number_of spec.now env.now }
     ensures back { IsEnv spec.now env.now → env_of spec.now result ≡ Some env.now }
@@ -27,7 +27,7 @@ pub fn number_of(spec: &Spec, env: &Env) -> u32
     u32::from(down) * count_combinations(spec) + number_of_values(spec, &env.factors)
 }
 
-/// Returns the environment that has this number, or `None` where no environment has it.
+/// Returns the environment with this number, or `None` if no environment has it.
 pub fn env_of(spec: &Spec, number: u32) -> Option<Env>
     ensures env { result ≡ env_of spec.now number }
     ensures belongs { IfSome result (λ v. IsEnv spec.now v) }
@@ -40,7 +40,8 @@ pub fn env_of(spec: &Spec, number: u32) -> Option<Env>
     }
 }
 
-/// Returns how many environments are in scope. It looks at each set of processors once, and not at each environment.
+/// Returns the number of environments in scope. The function looks at each set of processors once, and not at each
+/// environment.
 pub fn states(spec: &Spec) -> u32
     ensures { result ≡ states spec.now }
 {
@@ -54,8 +55,8 @@ pub fn states(spec: &Spec) -> u32
     states
 }
 
-/// Returns the environment in scope with the least number from `low` on, or `None` where there is none. It passes
-/// over a set of processors that is out of scope at once.
+/// Returns the environment in scope with the smallest number from `low` on, or `None` if there is none. The function
+/// skips a set of processors that is out of scope as a whole.
 pub fn next_in_scope(spec: &Spec, low: u32) -> Option<Numbered>
     ensures next { MatchOption result (NoneInScope spec.now low) (λ found. IsNextInScope spec.now low found.number) }
     ensures env { IfSome result (λ found. env_of spec.now found.number ≡ Some found.env) }
@@ -92,7 +93,7 @@ fn env_numbered(spec: &Spec, number: u32) -> Env
     }
 }
 
-// Returns the processors that are up where those of the set `down` are down.
+// Returns the processors that are up if those of the set `down` are down.
 fn up_beside(spec: &Spec, down: u32) -> u8
     requires { down < 2 ^ length spec.now.procs }
     ensures { result ≡ 2 ^ length spec.now.procs - 1 - down }
@@ -144,7 +145,7 @@ fn count_environments(spec: &Spec) -> u32
     count_sets(spec) * count_combinations(spec)
 }
 
-// Returns how many sets of processors there are.
+// Returns the number of sets of processors.
 fn count_sets(spec: &Spec) -> u32
     ensures value { result ≡ 2 ^ length spec.now.procs }
     ensures least { 1 ≤ result }

@@ -1,4 +1,4 @@
--- A specification has no refusal exactly where it is accepted.
+-- A specification has no refusal if and only if it is accepted.
 use Rattle.std.proofs.Common.{◌≡◌, ◌≢◌, ℕ, zero, suc, ◌+◌, ◌<◌, ◌≤◌, Bool, true, false, not, refl, arith, ◌⊎◌, ap, sym, subst, ◌∙◌, List, [], ◌∷◌, length}
 use mathlib.Core.Logic.{inl, inr}
 use Rattle.std.specs.Prelude.{◌&&◌, ◌||◌, ◌==◌, Option, Some, None, if◌then◌else◌, nat_le, option_map, slice_get}
@@ -58,7 +58,7 @@ implies : (a b : Bool) → (a ≡ true → b ≡ true) → (not a || b) ≡ true
 implies true b f = f refl
 implies false b f = refl
 
--- an item that is there refuses nothing
+-- an existing item has no refusal
 at_none : {A B : Type 0} (o : Option A) (f : A → Option B) → ((x : A) → o ≡ Some x → f x ≡ None) → option_map_or f o None ≡ None
 at_none None f each = refl
 at_none (Some x) f each = each x refl

@@ -1,4 +1,4 @@
--- Worked examples of the definitions: computed, and compared with what the conditions say.
+-- Worked examples of the definitions: computed, and compared with the conditions.
 use Rattle.std.proofs.Common.{◌≡◌, refl, ℕ, List, [], ◌∷◌, pos}
 use Rattle.std.specs.Prelude.{Some, None, replicate}
 use Rattle.scram_types.specs.declared.specification.AppSpec.{AppSpec}
@@ -79,7 +79,7 @@ no_rule = refl
 too_heavy : first_refusal (made 30 rules 8 policy.Retarget []) ≡ Some (shown_at 4 0 (other.Proc (proc_id 0)))
 too_heavy = refl
 
--- a target that is kept may see one change more
+-- a target that is kept may see one more change
 settling : first_refusal (made 100 rules 8 policy.Settle []) ≡ Some (shown_at 9 0 (other.Least (conf_id 0) 12))
 settling = refl
 
@@ -91,7 +91,7 @@ short_status : first_refusal (made 100 rules 8 policy.Retarget (record { from = 
 unfolding during
 short_status = refl
 
--- the monitor in its second mode, wherever the factor has its second value; and never the second from the second
+-- the monitor in its second mode if the factor has its second value, and never the second from the second
 abbrev saving : Demand
 saving = record {
   name = [];

@@ -1,4 +1,4 @@
--- What makes a mission.
+-- The facts that make a mission.
 use Rattle.std.proofs.Common.{◌≡◌, None}
 use Rattle.scram_types.specs.Scripts.{ScriptParts}
 use Rattle.scram_types.specs.Specification.{Parts}

@@ -73,7 +73,7 @@ module _ (spec : Parts) (made : IsSpec spec) where
         chosen = same_conf (choose spec i (numbered spec found.0)) j (equal _ j.0 (and_right (is_number_in_scope spec found.0) _ found.2));
       }
 
-  -- and so do the bits of all of them
+  -- the bits of all possible targets find them too
   pub are_targets : (i : ConfId) → i.0 < length spec.confs → AreTargets spec i (targets spec i)
   are_targets i known = record {
     only = λ j inside bit. target_tested i j (sym (has_bits (is_target spec i) (length spec.confs) j.0 inside) ∙ bit);
@@ -100,7 +100,7 @@ module _ (spec : Parts) (made : IsSpec spec) where
   pub cover_members : (i : ConfId) (cover : Cover) → IsCover spec i cover → AreTargets spec i cover.targets
   cover_members i cover is = record { only = λ j inside bit. is.only j bit; all = is.all; few = is.few }
 
-  -- the least environment that passes a test is the first one
+  -- the smallest environment that passes a test is the first one
 
   pub first_is_least : (test : Env → Bool) (o : Option Env) → IsLeastEnv spec test o → o ≡ first_passing_env spec test
   first_is_least test None none = sym (none_below (passing_env_at spec test) (environments spec) (λ n inside.
@@ -125,7 +125,7 @@ module _ (spec : Parts) (made : IsSpec spec) where
   cover_unmet requirement.CanRun c cover is = first_is_least (is_unmet spec requirement.CanRun c) cover.not_runnable is.not_runnable
   cover_unmet requirement.Stays c cover is = first_is_least (is_unmet spec requirement.Stays c) cover.unsettled is.unsettled
 
-  -- where no environment passes a test first, none in scope passes it
+  -- if no environment passes a test first, none in scope passes it
   pub passes_nowhere : (test : Env → Bool) → first_passing_env spec test ≡ None → (v : Env) → IsEnv spec v → in_scope spec v ≡ true → test v ≡ false
   passes_nowhere test none v belongs scope =
       let same = numbered_number v belongs in
@@ -133,7 +133,7 @@ module _ (spec : Parts) (made : IsSpec spec) where
       (below_none (passing_env_at spec test) (environments spec) (number_of spec v) none (number_inside v belongs)) in
       ap test (sym same) ∙ and_false (is_number_in_scope spec (number_of spec v)) _ here (ap (in_scope spec) same ∙ scope)
 
-  -- what is found of a demand shows its refusal
+  -- the finding for a demand gives its refusal
   pub miss_is : (c : ℕ) (found : List (Option Env)) → AreMisses spec (conf_id c) found → (k : ℕ) → k < length spec.demands → miss_shown found c k ≡ demand_refusal_at spec c k
   miss_is c found are k low =
       some_item spec.demands k low (λ demand there.

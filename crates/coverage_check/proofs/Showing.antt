@@ -1,4 +1,4 @@
--- What there is to show where something is broken.
+-- The value that is shown if something is broken.
 use Rattle.std.proofs.Common.{◌≡◌, ℕ, ◌<◌, Bool, true, false, refl, ap, sym, ◌∙◌}
 use Rattle.std.specs.Prelude.{Some, None}
 use Rattle.scram_types.specs.Searches.{first_below}

@@ -1,4 +1,4 @@
--- When a specification is accepted (A1 to A13), and what is shown where it is not.
+-- The conditions A1 to A13 under which a specification is accepted, and the refusal if one does not hold.
 use Rattle.std.specs.Prelude.{◌≡◌, ◌≢◌, ◌⊎◌, ℕ, ◌+◌, ◌<◌, ◌≤◌, true, false, length, slice_get, Option, Some, None}
 use Rattle.std.specs.Option.{option_or}
 use Rattle.scram_types.specs.declared.limits.TheConstants.{MAX_ENVIRONMENTS}
@@ -26,47 +26,47 @@ use Rattle.coverage_check.specs.Timing.{bound_refusal, further, greatest_bound, 
 use Rattle.coverage_check.specs.Holding.{breaks_entering, breaks_from, holds_entering, holds_leaving, holds_reaching, invariant_refusal, precondition_refusal}
 use Rattle.coverage_check.specs.Demands.{demand_refusal}
 
--- The first refusal, condition by condition.
+-- The first refusal by A1 to A4.
 abbrev pub form_refusal : Parts → Option Shown
 form_refusal spec = option_or (need_refusal spec) (option_or (state_refusal spec) (option_or (shape_refusal spec) (load_refusal spec)))
 
--- The first refusal for what the table chooses.
+-- The first refusal by A5 to A8.
 abbrev pub choice_refusal : Parts → Option Shown
 choice_refusal spec =
     option_or (requirement_refusal spec requirement.HasRule) (option_or (requirement_refusal spec requirement.CanRun)
     (option_or (requirement_refusal spec requirement.Stays) (start_refusal spec)))
 
--- The first refusal for bounds and the window.
+-- The first refusal by A9 and A10.
 abbrev pub time_refusal : Parts → Option Shown
 time_refusal spec = option_or (bound_refusal spec) (window_refusal spec)
 
--- The first refusal for invariants and preconditions.
+-- The first refusal by A11 and A12.
 abbrev pub range_refusal : Parts → Option Shown
 range_refusal spec = option_or (invariant_refusal spec) (precondition_refusal spec)
 
--- The refusal of the least condition that a specification breaks, at its first place.
+-- The refusal by the first condition that a specification breaks, at its first place.
 abbrev pub first_refusal : Parts → Option Shown
 first_refusal spec =
     option_or (form_refusal spec) (option_or (choice_refusal spec)
     (option_or (time_refusal spec) (option_or (range_refusal spec) (demand_refusal spec))))
 
--- Something is on, and no configuration before this one is the same.
+-- An application is on in configuration `c`, and no configuration before it is the same.
 pub record IsShaped (spec : Parts) (c : ConfId) : Type 0 where
   pub something_on : is_empty spec c ≡ false
   pub differs : (d : ConfId) → d.0 < c.0 → is_same spec c d ≡ false
 
--- A bound is given that serves.
+-- A bound is given that suffices.
 pub record IsServed (spec : Parts) (i j : ConfId) : Type 0 where
   pub frames : ℕ
   pub given : bound_in spec.bounds i.0 j.0 ≡ Some frames
   pub serves : least spec i j ≤ frames
 
--- An invariant's interval holds whatever reconfigurations from i show of its variable.
+-- The interval of an invariant contains all values of its variable that reconfigurations from `i` show.
 pub record IsKept (spec : Parts) (inv : Invariant) (i : ConfId) : Type 0 where
   pub leaving : holds_leaving spec inv (place_of spec i inv.app.0) ≡ true
   pub reaching : (j : ConfId) → IsTarget spec i j → holds_reaching spec inv (place_of spec j inv.app.0) ≡ true
 
--- What is asked of a specification so that every reconfiguration is assured.
+-- The conditions under which a specification is accepted, so that every reconfiguration is assured.
 pub record Accepts (spec : Parts) : Type 0 where
   pub needs_on : (c : ConfId) (a : ℕ) → c.0 < length spec.confs → a < length spec.apps → lacks_need spec c a ≡ false
   pub few_states : states spec ≤ MAX_ENVIRONMENTS
@@ -83,16 +83,16 @@ pub record Accepts (spec : Parts) : Type 0 where
   pub demanded : (c : ConfId) (v : Env) → c.0 < length spec.confs → IsEnv spec v → in_scope spec v ≡ true
       → Each (λ (demand : Demand). asks_of demand c ≡ true → speaks_of demand v ≡ true → is_met spec demand (choose spec c v) ≡ true) spec.demands
 
--- A specification has no refusal exactly where it is accepted.
+-- A specification has no refusal if and only if it is accepted.
 pub record RefusesTheRest (spec : Parts) : Type 0 where
   pub accepted : first_refusal spec ≡ None → Accepts spec
   pub unrefused : Accepts spec → first_refusal spec ≡ None
 
--- A specification in which no refusal is found is accepted.
+-- Each specification is accepted if and only if no refusal is found for it.
 abbrev pub AcceptsWhereUnrefused : Type 0
 AcceptsWhereUnrefused = (spec : Parts) → IsSpec spec → RefusesTheRest spec
 
--- What is shown exists in the specification, and the condition is false there.
+-- The place in a refusal exists in the specification, and the condition is false there.
 pub data IsBroken (spec : Parts) (shown : Shown) : Type 0 where
   NeedOff : (c a : ℕ) → c < length spec.confs → a < length spec.apps → lacks_need spec (conf_id c) a ≡ true
       → shown ≡ shown_at 1 c (other.App (app_id a)) → IsBroken spec shown
@@ -118,6 +118,6 @@ pub data IsBroken (spec : Parts) (shown : Shown) : Type 0 where
       → n < environments spec → is_number_in_scope spec n ≡ true → misses spec demand (conf_id c) (numbered spec n) ≡ true
       → shown ≡ shown_in 13 c (numbered spec n) (other.Demand k) → IsBroken spec shown
 
--- What a refusal shows is broken in the specification.
+-- The first refusal of a specification shows a condition that is broken in it.
 abbrev pub ShownIsBroken : Type 0
 ShownIsBroken = (spec : Parts) (shown : Shown) → first_refusal spec ≡ Some shown → IsBroken spec shown

@@ -1,11 +1,11 @@
--- How an acceptance refuses.
+-- The refusals of acceptance.
 use Rattle.std.specs.Prelude.{◌≡◌, Some}
 use Rattle.scram_types.specs.Specification.{Parts}
 use Rattle.coverage_check.specs.declared.acceptance.AcceptError.{AcceptError}
 use Rattle.coverage_check.specs.declared.acceptance.AcceptError.TheVariants as error
 use Rattle.coverage_check.specs.Acceptance.{first_refusal}
 
--- The specification comes back, with the first refusal, unless there is no memory for it.
+-- The specification is given back, with the first refusal unless memory ran out.
 abbrev pub IsRefusal : Parts → AcceptError → Type 0
 IsRefusal spec (error.NotAccepted back shown) = (back ≡ spec) × (first_refusal spec ≡ Some shown)
 IsRefusal spec (error.NoMemory back) = back ≡ spec

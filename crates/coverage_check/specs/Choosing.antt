@@ -1,4 +1,4 @@
--- The conditions A5 to A8: what the choice table has to give in each environment in scope.
+-- The conditions A5 to A8: the results that the choice table must give in each environment in scope.
 use Rattle.std.specs.Prelude.{ℕ, Bool, not, ◌==◌, length, Option, option_map}
 use Rattle.scram_types.specs.Lookups.{opening_env, conf_id}
 use Rattle.scram_types.specs.declared.ids.ConfId.{ConfId}
@@ -15,19 +15,20 @@ use Rattle.coverage_check.specs.declared.choosing.Requirement.TheVariants as req
 use Rattle.coverage_check.specs.Search.{first_passing_env, shown_if}
 use Rattle.coverage_check.specs.Showing.{shown_in}
 
--- A5: no rule fits. A6: the target cannot run. A7: another target is chosen from the target.
+-- Configuration `c` does not meet a requirement in an environment. A5: no rule fits. A6: the target cannot run. A7:
+-- another target is chosen from the target.
 abbrev pub is_unmet : Parts → Requirement → ConfId → Env → Bool
 is_unmet spec requirement.HasRule c v = not (has_rule spec c v)
 is_unmet spec requirement.CanRun c v = not (is_runnable spec (choose spec c v) v)
 is_unmet spec requirement.Stays c v = not ((choose spec (choose spec c v) v).0 == (choose spec c v).0)
 
--- The number of the condition that a requirement belongs to.
+-- The number of the condition that a requirement is.
 abbrev pub number_of_requirement : Requirement → ℕ
 number_of_requirement requirement.HasRule = 5
 number_of_requirement requirement.CanRun = 6
 number_of_requirement requirement.Stays = 7
 
--- The target, where there is one to show.
+-- The target that is shown, if the requirement has one.
 abbrev pub target_shown : Parts → Requirement → ConfId → Env → Other
 target_shown spec requirement.HasRule c v = other.Nothing
 target_shown spec requirement.CanRun c v = other.Conf (choose spec c v)
@@ -37,7 +38,7 @@ target_shown spec requirement.Stays c v = other.Conf (choose spec c v)
 abbrev pub first_unmet_env : Parts → Requirement → ConfId → Option Env
 first_unmet_env spec asked c = first_passing_env spec (is_unmet spec asked c)
 
--- The finding of a cover on a requirement.
+-- The finding of a cover for a requirement.
 abbrev pub unmet_of_cover : Cover → Requirement → Option Env
 unmet_of_cover cover requirement.HasRule = cover.unfit
 unmet_of_cover cover requirement.CanRun = cover.not_runnable
@@ -52,7 +53,7 @@ requirement_refusal_of spec asked c =
 abbrev pub requirement_refusal : Parts → Requirement → Option Shown
 requirement_refusal spec asked = first_below (requirement_refusal_of spec asked) (length spec.confs)
 
--- The start configuration is left at once.
+-- The table leaves the start configuration at once.
 abbrev pub leaves_start : Parts → Bool
 leaves_start spec = not ((choose spec spec.start (opening_env spec)).0 == spec.start.0)
 

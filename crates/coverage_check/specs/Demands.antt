@@ -1,4 +1,4 @@
--- The condition A13: the demands, which the choice table has to meet in each environment in scope.
+-- The condition A13: the demands that the choice table must meet in each environment in scope.
 use Rattle.std.specs.Prelude.{ℕ, List, length, slice_get, Option, None, option_map, option_and_then}
 use Rattle.std.specs.Option.{option_map_or}
 use Rattle.scram_types.specs.declared.ids.ConfId.{ConfId}
@@ -21,7 +21,7 @@ first_missed_env spec demand c = first_passing_env spec (misses spec demand c)
 abbrev pub demand_refusal_of : Parts → ℕ → ℕ → Demand → Option Shown
 demand_refusal_of spec c k demand = option_map (λ (v : Env). shown_in 13 c v (other.Demand k)) (first_missed_env spec demand (conf_id c))
 
--- The same for the demand of this number, where there is one.
+-- The refusal for the first environment in which the table misses the demand of this number, if there is such a demand.
 abbrev pub demand_refusal_at : Parts → ℕ → ℕ → Option Shown
 demand_refusal_at spec c k = option_map_or (demand_refusal_of spec c k) (slice_get spec.demands k) None
 
@@ -29,7 +29,8 @@ demand_refusal_at spec c k = option_map_or (demand_refusal_of spec c k) (slice_g
 abbrev pub demand_refusal_in : Parts → ℕ → Option Shown
 demand_refusal_in spec c = first_below (demand_refusal_at spec c) (length spec.demands)
 
--- The refusal for demand number k and configuration c, by the least environments that are found of the demands.
+-- The refusal for demand number `k` and configuration `c`, from the smallest environments that are found for the
+-- demands.
 abbrev pub miss_shown : List (Option Env) → ℕ → ℕ → Option Shown
 miss_shown found c k =
     option_and_then (λ (least : Option Env). option_map (λ (v : Env). shown_in 13 c v (other.Demand k)) least) (slice_get found k)

@@ -1,4 +1,4 @@
--- The conditions A1 to A4 on a configuration alone: complete, different from the others, and not overloaded.
+-- The conditions A1 to A4 on a single configuration: it is complete, different from the others and not overloaded.
 use Rattle.std.specs.Prelude.{ℕ, zero, suc, ◌+◌, Bool, true, false, not, ◌&&◌, ◌==◌, nat_lt, List, length, slice_get, Option, Some, None, if◌then◌else◌}
 use Rattle.std.specs.Option.{option_map_or}
 use Rattle.std.specs.List.{list_any}
@@ -18,19 +18,19 @@ use Rattle.coverage_check.specs.declared.shown.Other.TheVariants as other
 use Rattle.coverage_check.specs.Search.{shown_if}
 use Rattle.coverage_check.specs.Showing.{shown_at, shown_nowhere}
 
--- Some of these applications is off in configuration c.
+-- Some of these applications are off in configuration `c`.
 abbrev pub has_off : Parts → ConfId → List AppId → Bool
 has_off spec c needs = list_any (λ (needed : AppId). not (is_on spec c needed.0)) needs
 
--- Something that application a needs is off in configuration c.
+-- An application that `a` needs is off in configuration `c`.
 abbrev pub has_off_need : Parts → ConfId → ℕ → Bool
 has_off_need spec c a = option_map_or (λ (needing : AppSpec). has_off spec c needing.needs) (slice_get spec.apps a) false
 
--- Application a is on in configuration c, and something that it needs is off there.
+-- Application `a` is on in configuration `c`, and an application that it needs is off there.
 abbrev pub lacks_need : Parts → ConfId → ℕ → Bool
 lacks_need spec c a = is_on spec c a && has_off_need spec c a
 
--- More environments are in scope than a table is looked through for.
+-- More environments are in scope than acceptance searches.
 abbrev pub has_too_many_states : Parts → Bool
 has_too_many_states spec = nat_lt MAX_ENVIRONMENTS (states spec)
 
@@ -38,7 +38,7 @@ has_too_many_states spec = nat_lt MAX_ENVIRONMENTS (states spec)
 abbrev pub is_empty : Parts → ConfId → Bool
 is_empty spec c = all_below (λ a. not (is_on spec c a)) 8
 
--- Two places are one: both off, or the same mode on the same processor.
+-- Two places are the same: both are off, or both have the same mode on the same processor.
 abbrev pub is_same_place : Option Place → Option Place → Bool
 is_same_place None None = true
 is_same_place None (Some other) = false
@@ -49,7 +49,7 @@ is_same_place (Some one) (Some other) = one.mode.0 == other.mode.0 && one.proc.0
 abbrev pub is_same : Parts → ConfId → ConfId → Bool
 is_same spec c d = all_below (λ a. is_same_place (place_of spec c a) (place_of spec d a)) 8
 
--- The load of application a on processor p in configuration c: none where it is not placed there.
+-- The load of application `a` on processor `p` in configuration `c`, or 0 if it is not placed there.
 abbrev pub load_of : Parts → ConfId → ℕ → ℕ → ℕ
 load_of spec c p a =
     if option_map_or (λ (place : Place). place.proc.0 == p) (place_of spec c a) false
@@ -60,7 +60,7 @@ abbrev pub load_below : Parts → ConfId → ℕ → ℕ → ℕ
 load_below spec c p zero = 0
 load_below spec c p (suc n) = load_below spec c p n + load_of spec c p n
 
--- The capacity of processor p in load units; 0 where there is none.
+-- The capacity of processor `p` in load units, or 0 if there is no such processor.
 abbrev pub capacity_of : Parts → ℕ → ℕ
 capacity_of spec p = option_map_or (λ (processor : Proc). processor.capacity) (slice_get spec.procs p) 0
 
@@ -68,11 +68,11 @@ capacity_of spec p = option_map_or (λ (processor : Proc). processor.capacity) (
 abbrev pub is_overloaded : Parts → ConfId → ℕ → Bool
 is_overloaded spec c p = nat_lt (capacity_of spec p) (load_below spec c p (length spec.apps))
 
--- The first refusal of each of these four.
+-- The refusal for the first application that is on in configuration `c` while an application that it needs is off.
 abbrev pub need_refusal_in : Parts → ℕ → Option Shown
 need_refusal_in spec c = first_below (λ a. shown_if (lacks_need spec (conf_id c) a) (shown_at 1 c (other.App (app_id a)))) (length spec.apps)
 
--- A1: the refusal for the first application that is on without what it needs.
+-- A1: the refusal for the first application that is on while an application that it needs is off.
 abbrev pub need_refusal : Parts → Option Shown
 need_refusal spec = first_below (need_refusal_in spec) (length spec.confs)
 
@@ -88,7 +88,7 @@ twin_refusal_of spec c = first_below (λ d. shown_if (is_same spec (conf_id c) (
 abbrev pub shape_refusal_of : Parts → ℕ → Option Shown
 shape_refusal_of spec c = if is_empty spec (conf_id c) then Some (shown_at 3 c other.Nothing) else twin_refusal_of spec c
 
--- A3: the refusal of the first configuration that is empty or a twin.
+-- A3: the refusal of the first configuration that is empty or the same as an earlier one.
 abbrev pub shape_refusal : Parts → Option Shown
 shape_refusal spec = first_below (shape_refusal_of spec) (length spec.confs)
 

@@ -1,4 +1,4 @@
--- What a mission's environments keep.
+-- The environments of a mission.
 use Rattle.std.specs.Prelude.{◌≡◌, ℕ, ◌≤◌, true}
 use Rattle.scram_types.specs.Specification.{IsSpec, Parts}
 use Rattle.scram_types.specs.Scripts.{ScriptParts}
@@ -12,7 +12,8 @@ pub record StaysInScope (spec : Parts) (script : ScriptParts) (f : ℕ) : Type 0
   pub belongs : IsEnv spec (env_at spec script f)
   pub scope : in_scope spec (env_at spec script f) ≡ true
 
--- So does every frame's up to the number of frames, and the first one's is that which a flight opens in.
+-- The environment stays in scope in each frame up to the number of frames, and the first frame's environment is the one
+-- in which a flight opens.
 pub record KeepsScope (spec : Parts) (script : ScriptParts) : Type 0 where
   pub opens : env_at spec script 0 ≡ opening_env spec
   pub stays : (f : ℕ) → f ≤ script.frames → StaysInScope spec script f

@@ -5,12 +5,12 @@ use Rattle.fault_script.specs.Fits.{Fits}
 use Rattle.fault_script.specs.Assumption.{IsWithin}
 use Rattle.coverage_check.specs.Acceptance.{Accepts}
 
--- A specification and a script that is flown by it.
+-- A specification and a script.
 pub record MissionParts : Type 0 where
   pub spec : Parts
   pub script : ScriptParts
 
--- The specification is accepted, the script fits it and keeps within its failure assumption.
+-- The specification is accepted, and the script fits it and keeps to its failure assumption.
 pub record IsMission (mission : MissionParts) : Type 0 where
   pub accepts : Accepts mission.spec
   pub fits : Fits mission.spec mission.script

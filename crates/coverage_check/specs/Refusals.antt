@@ -1,11 +1,11 @@
--- How a mission is refused.
+-- The refusals of missions.
 use Rattle.std.specs.Prelude.{◌≡◌, Some}
 use Rattle.scram_types.specs.Specification.{Parts}
 use Rattle.scram_types.specs.Scripts.{ScriptParts}
 use Rattle.fault_script.specs.Assumption.{first_outside}
 use Rattle.coverage_check.specs.declared.missions.NotWithin.{NotWithin}
 
--- What was handed in comes back, with the first frame outside the failure assumption.
+-- The specification and the script are given back, with the first frame outside the failure assumption.
 pub record IsNotWithin (spec : Parts) (script : ScriptParts) (refused : NotWithin) : Type 0 where
   pub accepted : refused.accepted ≡ spec
   pub script_back : refused.script ≡ script

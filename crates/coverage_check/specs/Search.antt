@@ -1,15 +1,15 @@
--- Looking through the numbers below n.
+-- Searches through the numbers below a bound.
 use Rattle.std.specs.Prelude.{ℕ, Bool, ◌&&◌, Option, Some, None, if◌then◌else◌}
 use Rattle.scram_types.specs.declared.rows.Env.{Env}
 use Rattle.scram_types.specs.Searches.{first_below}
 use Rattle.scram_types.specs.Specification.{Parts}
 use Rattle.choice_table.specs.Numbering.{environments, is_number_in_scope, numbered}
 
--- What there is to show where something is broken.
+-- The value to show if something is broken.
 abbrev pub shown_if : {A : Type 0} → Bool → A → Option A
 shown_if broken shown = if broken then Some shown else None
 
--- Environment number n, where it is in scope and passes a test.
+-- Environment number `n`, if it is in scope and passes a test.
 abbrev pub passing_env_at : Parts → (Env → Bool) → ℕ → Option Env
 passing_env_at spec test n = shown_if (is_number_in_scope spec n && test (numbered spec n)) (numbered spec n)
 

@@ -1,18 +1,18 @@
--- What a refusal shows, by the numbers of its place.
+-- The contents of a refusal.
 use Rattle.std.specs.Prelude.{ℕ, Some, None}
 use Rattle.scram_types.specs.Lookups.{conf_id}
 use Rattle.scram_types.specs.declared.rows.Env.{Env}
 use Rattle.coverage_check.specs.declared.shown.Shown.{Shown}
 use Rattle.coverage_check.specs.declared.shown.Other.{Other}
 
--- A condition broken at no configuration, at a configuration, or at one in an environment.
+-- The refusal of a condition that is broken at no configuration.
 abbrev pub shown_nowhere : ℕ → Other → Shown
 shown_nowhere condition what = record { condition = condition; conf = None; env = None; other = what }
 
--- What is shown of a condition that a configuration breaks.
+-- The refusal of a condition that a configuration breaks.
 abbrev pub shown_at : ℕ → ℕ → Other → Shown
 shown_at condition c what = record { condition = condition; conf = Some (conf_id c); env = None; other = what }
 
--- What is shown of a condition that a configuration breaks in an environment.
+-- The refusal of a condition that a configuration breaks in an environment.
 abbrev pub shown_in : ℕ → ℕ → Env → Other → Shown
 shown_in condition c v what = record { condition = condition; conf = Some (conf_id c); env = Some v; other = what }

@@ -1,4 +1,4 @@
--- The conditions A9 and A10: how long reconfigurations may take.
+-- The conditions A9 and A10 on the durations of reconfigurations.
 use Rattle.std.specs.Prelude.{ℕ, suc, ◌+◌, ◌*◌, max, Bool, false, not, ◌&&◌, ◌||◌, ◌==◌, nat_le, nat_lt, List, [], ◌∷◌, length, Option}
 use Rattle.std.specs.Option.{option_map_or}
 use Rattle.scram_types.specs.declared.ids.ConfId.{ConfId}
@@ -29,63 +29,64 @@ is_target spec i j = any_below (is_chosen_in spec i j) (environments spec)
 abbrev pub targets : Parts → ConfId → ℕ
 targets spec i = bits_below (is_target spec i) (length spec.confs)
 
--- How many changes beyond the first a reconfiguration may see.
+-- The number of changes after the first that a reconfiguration may see.
 abbrev pub further : Policy → ℕ → ℕ
 further policy.Retarget changes = changes
 further policy.Settle changes = suc changes
 
--- The longest way from one target's choice to the next one's, over all configurations.
+-- The length of the longest way from one target's choice to the next, over all configurations, in frames.
 abbrev pub slowest : Parts → ℕ
 slowest spec =
     greatest_below (λ k. preparing_time spec (conf_id k) + initialising_time spec (conf_id k) + 1 + halting_time spec (conf_id k)) (length spec.confs)
 
--- The least bound that serves a reconfiguration from i to j, in frames.
+-- The minimum bound that suffices for a reconfiguration from `i` to `j`, in frames.
 abbrev pub least : Parts → ConfId → ConfId → ℕ
 least spec i j = 1 + halting_time spec i + further spec.policy spec.changes * slowest spec + preparing_time spec j + initialising_time spec j
 
--- A reconfiguration that ends where it began can come, where anything changes further.
+-- A reconfiguration may end where it began, since a further change is possible.
 abbrev pub can_return : Parts → Bool
 can_return spec = nat_lt 0 (further spec.policy spec.changes)
 
--- A bound from i to j is given and serves.
+-- A bound from `i` to `j` is given and suffices.
 abbrev pub is_bounded : Parts → ConfId → ConfId → Bool
 is_bounded spec i j = option_map_or (λ (t : ℕ). nat_le (least spec i j) t) (bound_in spec.bounds i.0 j.0) false
 
--- A reconfiguration from i may end in j: elsewhere, or where it began, if that can be returned to.
+-- A reconfiguration from `i` may end in `j`, which is another configuration unless a reconfiguration may return to
+-- where it began.
 abbrev pub may_end_in : Parts → ConfId → ConfId → Bool
 may_end_in spec i j = not (i.0 == j.0) || can_return spec
 
--- A bound from i to j is asked for: j is a possible target of i in which a reconfiguration from i may end.
+-- A bound from `i` to `j` is required: `j` is a possible target of `i` in which a reconfiguration from `i` may end.
 abbrev pub is_bound_asked : Parts → ConfId → ℕ → Bool
 is_bound_asked spec i j = is_target spec i j && may_end_in spec i (conf_id j)
 
--- The configurations to which a bound from i is asked for, as bits.
+-- The configurations to which a bound from `i` is required, as bits.
 abbrev pub asked_bounds : Parts → ConfId → ℕ
 asked_bounds spec i = bits_below (is_bound_asked spec i) (length spec.confs)
 
--- A bound from i to j is asked for, and none that serves is given.
+-- A bound from `i` to `j` is required, and none that suffices is given.
 abbrev pub lacks_bound : Parts → ConfId → ℕ → Bool
 lacks_bound spec i j = is_bound_asked spec i j && not (is_bounded spec i (conf_id j))
 
--- The refusal for the first target of configuration i that lacks a bound that is long enough.
+-- The refusal for the first target of configuration `i` without a sufficient bound.
 abbrev pub bound_refusal_of : Parts → ℕ → Option Shown
 bound_refusal_of spec i =
     first_below (λ j. shown_if (lacks_bound spec (conf_id i) j) (shown_at 9 i (other.Least (conf_id j) (least spec (conf_id i) (conf_id j)))))
     (length spec.confs)
 
--- A9: the refusal for the first configuration that lacks a bound.
+-- A9: the refusal for the first configuration without a required bound.
 abbrev pub bound_refusal : Parts → Option Shown
 bound_refusal spec = first_below (bound_refusal_of spec) (length spec.confs)
 
--- The greatest bound that is given, and 0 where none is.
+-- The greatest bound that is given, or 0 if none is given.
 abbrev pub greatest_bound : List Bound → ℕ
 greatest_bound [] = 0
 greatest_bound (bound ∷ bounds) = max bound.frames (greatest_bound bounds)
 
--- The window of the failure assumption does not hold the longest reconfiguration and the frame after it.
+-- The window of the failure assumption is shorter than the longest reconfiguration and the frame after it.
 abbrev pub has_short_window : Parts → Bool
 has_short_window spec = nat_lt spec.window (greatest_bound spec.bounds + 1)
 
--- A10: the refusal of a window that is shorter than the longest bound.
+-- A10: the refusal of a window that is not longer than the longest bound.
 abbrev pub window_refusal : Parts → Option Shown
 window_refusal spec = shown_if (has_short_window spec) (shown_nowhere 10 (other.Count (greatest_bound spec.bounds)))

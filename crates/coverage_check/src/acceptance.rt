@@ -1,4 +1,4 @@
-//! Acceptance: the conditions A1 to A13 in their order.
+//! Acceptance: the conditions A1 to A13, in order.
 
 ghost use Rattle.std.specs.Prelude.{◌≡◌, IfErr, IfOk, None, OnOk};
 ghost use Rattle.coverage_check.specs.Acceptance.{AcceptsWhereUnrefused, ShownIsBroken, choice_refusal, first_refusal, form_refusal, range_refusal, time_refusal};
@@ -16,7 +16,7 @@ use cube_cover::Cover;
 use scram_types::{NoMemory, Spec};
 use std::alloc::Global;
 
-/// A specification that is accepted: all thirteen conditions hold of it.
+/// An accepted specification. All thirteen conditions hold for it.
 #[derive(Drop)]
 pub struct Accepted {
     spec: Spec,
@@ -44,10 +44,10 @@ impl Accepted {
     }
 }
 
-/// Why a specification does not come back accepted; it comes back as it was.
+/// The reason why a specification is not accepted, with the unchanged specification.
 #[derive(Drop)]
 pub enum AcceptError {
-    /// A condition does not hold; what is shown is the first place of the first such condition.
+    /// A condition does not hold. The refusal shows the first place of the first such condition.
     NotAccepted(Spec, Shown),
     NoMemory(Spec),
 }
@@ -56,9 +56,10 @@ pub enum AcceptError {
 ///
 /// # Errors
 ///
-/// The first condition that does not hold, at its least configuration, then its least environment by number, then its
-/// least other value; of invariants and preconditions the first one, and then the least configuration; of demands
-/// the least configuration, then the first demand and its least environment; or out of memory. The specification is given back in both cases.
+/// Returns the first condition that does not hold, at its smallest configuration, then its environment with the
+/// smallest number, then its smallest other value. For invariants and preconditions, the first one comes before the
+/// smallest configuration. For demands, the smallest configuration comes first, then the first demand and its smallest
+/// environment. Also fails if memory runs out. The specification is given back in both cases.
 #[tactic(auto, using(crate::proofs::Accepting::accepted))]
 pub fn accept(alloc: Global, spec: Spec) -> Result<Accepted, AcceptError>
     ensures accepted { IfOk result (λ accepted. accepted ≡ spec) }
@@ -142,12 +143,12 @@ fn refuse_ranges(spec: &Spec, covers: &[Cover; 12]) -> Option<Shown>
     refuse_precondition(spec)
 }
 
-/// A specification has nothing to refuse exactly where all conditions hold.
+/// States that no refusal is found for a specification if and only if all conditions hold.
 pub fn accepts_where_unrefused()
     ensures { AcceptsWhereUnrefused }
 {}
 
-/// What a refusal shows exists in the specification, and the condition is false there.
+/// States that the place in a refusal exists in the specification, and the condition is false there.
 pub fn shown_is_broken()
     ensures { ShownIsBroken }
 {}

@@ -1,4 +1,4 @@
-//! The conditions A5 to A8: what the choice table has to give in each environment in scope.
+//! The conditions A5 to A8: the results that the choice table must give in each environment in scope.
 
 ghost use Rattle.std.specs.Prelude.{◌≡◌};
 ghost use Rattle.scram_types.specs.Lookups.{conf_id};
@@ -13,8 +13,8 @@ use choice_table::choose;
 use cube_cover::Cover;
 use scram_types::{ConfId, Env, Spec};
 
-/// A condition on a configuration in each environment in scope: A5, that a rule fits it; A6, that the target which
-/// the table chooses can run; A7, that from this target the table chooses no other.
+/// A condition on a configuration in each environment in scope. A5 requires that a rule fits it, A6 that the target
+/// that the table chooses can run, and A7 that the table chooses no other configuration from this target.
 #[derive(Clone, Copy, Debug, PartialEq, Eq)]
 pub enum Requirement {
     HasRule,
@@ -22,7 +22,7 @@ pub enum Requirement {
     Stays,
 }
 
-// A5 to A7: returns the refusal for the least configuration and environment in which a requirement is not met.
+// Returns the refusal for the smallest configuration and environment in which a requirement (A5 to A7) is not met.
 pub(crate) fn refuse_requirement(
     spec: &Spec,
     covers: &[Cover; 12],
@@ -59,7 +59,7 @@ fn refuse_requirement_of(
     }
 }
 
-/// Returns the finding of a cover on a requirement: the first environment in scope in which it is not met.
+/// Returns the first environment in scope in which a requirement is not met, as the cover has found it.
 pub fn unmet_of_cover(cover: &Cover, requirement: Requirement) -> Option<Env>
     ensures { result ≡ unmet_of_cover cover.now requirement }
 {
@@ -89,7 +89,7 @@ fn target_shown(spec: &Spec, requirement: Requirement, c: ConfId, env: &Env) -> 
     }
 }
 
-// A8: returns the refusal of a start configuration that is left at once.
+// Returns the refusal of a start configuration that is left at once (A8).
 pub(crate) fn refuse_start(spec: &Spec) -> Option<Shown>
     ensures { result ≡ start_refusal spec.now }
 {

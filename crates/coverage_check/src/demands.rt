@@ -1,4 +1,4 @@
-//! The condition A13: the demands, which the choice table has to meet in each environment in scope.
+//! The condition A13: the demands that the choice table must meet in each environment in scope.
 
 ghost use Rattle.std.specs.Prelude.{◌≡◌, ◌<◌, IfOk, length};
 ghost use Rattle.scram_types.specs.Lookups.{conf_id};
@@ -12,7 +12,7 @@ use cube_cover::misses;
 use scram_types::{ConfId, Env, NoMemory, Spec};
 use std::alloc::Global;
 
-// A13: returns the refusal for the least configuration from which the table misses a demand.
+// Returns the refusal for the smallest configuration from which the table misses a demand (A13).
 pub(crate) fn refuse_demand(alloc: Global, spec: &Spec) -> Result<Option<Shown>, NoMemory>
     ensures { IfOk result (λ shown. shown ≡ demand_refusal spec.now) }
 {
@@ -25,7 +25,7 @@ pub(crate) fn refuse_demand(alloc: Global, spec: &Spec) -> Result<Option<Shown>,
     Ok(None)
 }
 
-// Returns the refusal for the least demand that the table misses from configuration `c`.
+// Returns the refusal for the first demand that the table misses from configuration `c`.
 fn refuse_demand_in(alloc: Global, spec: &Spec, c: u8) -> Result<Option<Shown>, NoMemory>
     requires known { IsSpec spec.now }
     requires inside { c < length spec.now.confs }

@@ -1,4 +1,4 @@
-//! The conditions A1 to A4 on a configuration alone: complete, different from the others, and not overloaded.
+//! The conditions A1 to A4 on a single configuration: it is complete, different from the others and not overloaded.
 
 ghost use Rattle.std.specs.Prelude.{◌≡◌, length};
 ghost use Rattle.std.specs.Option.{option_map_or};
@@ -12,7 +12,7 @@ use choice_table::states;
 use scram_types::limits::MAX_ENVIRONMENTS;
 use scram_types::{AppId, ConfId, Mode, ModeSpec, Place, ProcId, Spec};
 
-// A1: returns the refusal of an application that is on while something that it needs is off.
+// Returns the refusal of an application that is on while an application that it needs is off (A1).
 pub(crate) fn refuse_need(spec: &Spec) -> Option<Shown>
     ensures { result ≡ need_refusal spec.now }
 {
@@ -57,7 +57,7 @@ fn has_off(spec: &Spec, c: ConfId, needs: &[AppId]) -> bool
     needs.iter().any(|needed| !spec.is_on(c, *needed))
 }
 
-/// A2: returns the refusal of more environments in scope than acceptance looks through, with their number.
+/// Returns the refusal of more environments in scope than acceptance searches, with their number (A2).
 pub fn refuse_states(spec: &Spec) -> Option<Shown>
     ensures { result ≡ state_refusal spec.now }
 {
@@ -69,7 +69,7 @@ pub fn refuse_states(spec: &Spec) -> Option<Shown>
     }
 }
 
-// A3: returns the refusal of a configuration with nothing on, or of one that an earlier one equals.
+// Returns the refusal of a configuration with no application on, or of one that equals an earlier one (A3).
 pub(crate) fn refuse_shape(spec: &Spec) -> Option<Shown>
     ensures { result ≡ shape_refusal spec.now }
 {
@@ -92,7 +92,7 @@ fn refuse_shape_of(spec: &Spec, c: u8) -> Option<Shown>
     }
 }
 
-/// Returns whether a configuration has nothing on.
+/// Returns whether a configuration has no application on.
 pub fn is_empty(spec: &Spec, c: ConfId) -> bool
     ensures { result ≡ is_empty spec.now c }
 {
@@ -137,7 +137,7 @@ fn is_same_place(one: Option<Place>, other: Option<Place>) -> bool
     }
 }
 
-// A4: returns the refusal of a processor that a configuration loads beyond its capacity.
+// Returns the refusal of a processor that a configuration loads beyond its capacity (A4).
 pub(crate) fn refuse_load(spec: &Spec) -> Option<Shown>
     ensures { result ≡ load_refusal spec.now }
 {
@@ -168,7 +168,7 @@ pub fn is_overloaded(spec: &Spec, c: ConfId, p: u8) -> bool
     u64::from(capacity_of(spec, p)) < load_on(spec, c, p)
 }
 
-/// Returns the capacity of a processor, in load units; 0 where it does not exist.
+/// Returns the capacity of a processor, in load units, or 0 if the processor does not exist.
 pub fn capacity_of(spec: &Spec, p: u8) -> u32
     ensures { result ≡ capacity_of spec.now p }
 {

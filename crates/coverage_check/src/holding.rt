@@ -1,4 +1,4 @@
-//! The conditions A11 and A12: what invariants and preconditions have to hold.
+//! The conditions A11 and A12 on the intervals of invariants and preconditions.
 
 ghost use Rattle.std.specs.Prelude.{◌≡◌, ◌<◌, length};
 ghost use Rattle.choice_table.specs.Choices.{has_source};
@@ -15,8 +15,8 @@ use app_model::{after_init, during};
 use cube_cover::Cover;
 use scram_types::{AppId, ConfId, Invariant, KindId, Mode, Place, Precondition, Spec};
 
-// A11: returns the refusal of the first invariant that may not hold throughout a reconfiguration, with its least
-// source.
+// Returns the refusal of the first invariant that may not hold throughout a reconfiguration, with the first
+// configuration from which it may not (A11).
 pub(crate) fn refuse_invariant(spec: &Spec, covers: &[Cover; 12]) -> Option<Shown>
     requires { HasCovers spec.now covers.now }
     ensures { result ≡ invariant_refusal spec.now }
@@ -76,7 +76,7 @@ fn holds_from(spec: &Spec, cover: &Cover, inv: &Invariant, i: u8) -> bool
         && holds_reached(spec, cover, inv, i)
 }
 
-// Returns whether the interval holds what is seen on the way to each possible target.
+// Returns whether the interval contains the values that are seen on the way to each possible target.
 fn holds_reached(spec: &Spec, cover: &Cover, inv: &Invariant, i: u8) -> bool
     requires { IsCover spec.now (conf_id i) cover.now }
     ensures { result ≡ holds_reached spec.now inv.now (record { 0 = i }) }
@@ -98,7 +98,8 @@ fn holds_on_way(spec: &Spec, cover: &Cover, inv: &Invariant, i: u8, j: u8) -> bo
     !is_in(cover.targets, j) || holds_reaching(spec, inv, spec.place_of(ConfId(j), inv.app))
 }
 
-// Returns whether it holds what is seen while the application leaves its mode, or zeros where it is off.
+// Returns whether the interval contains the values that are seen while the application leaves its mode, or zeros if the
+// application is off.
 fn holds_leaving(spec: &Spec, inv: &Invariant, place: Option<Place>) -> bool
     ensures { result ≡ holds_leaving spec.now inv.now place }
 {
@@ -112,7 +113,8 @@ fn holds_leaving(spec: &Spec, inv: &Invariant, place: Option<Place>) -> bool
     }
 }
 
-// Returns whether it holds what is seen while the application reaches its mode, and leaves it again.
+// Returns whether the interval contains the values that are seen while the application reaches its mode and leaves it
+// again.
 fn holds_reaching(spec: &Spec, inv: &Invariant, place: Option<Place>) -> bool
     ensures { result ≡ holds_reaching spec.now inv.now place }
 {
@@ -123,7 +125,7 @@ fn holds_reaching(spec: &Spec, inv: &Invariant, place: Option<Place>) -> bool
     }
 }
 
-// Returns whether it holds the range of its variable for a status in a mode.
+// Returns whether the interval contains the range of its variable for a status in a mode.
 fn holds_during(spec: &Spec, inv: &Invariant, status: u8, mode: Mode) -> bool
     ensures { result ≡ holds_during spec.now inv.now status mode.0 }
 {
@@ -140,14 +142,14 @@ fn holds_off(inv: &Invariant) -> bool
     holds_range(inv.least, inv.greatest, (0, 0))
 }
 
-// Returns whether an interval from `low` to `high` holds a range.
+// Returns whether the interval from `low` to `high` contains a range.
 fn holds_range(low: i64, high: i64, range: (i64, i64)) -> bool
     ensures { result ≡ holds_range low high range }
 {
     low <= range.0 && range.1 <= high
 }
 
-// A12: returns the refusal of the first precondition that may not hold as its configuration begins to run.
+// Returns the refusal of the first precondition that may not hold as its configuration begins to run (A12).
 pub(crate) fn refuse_precondition(spec: &Spec) -> Option<Shown>
     ensures { result ≡ precondition_refusal spec.now }
 {
@@ -179,7 +181,7 @@ fn refuse_precondition_of(spec: &Spec, k: u32, pre: &Precondition) -> Option<Sho
     }
 }
 
-/// Returns whether a precondition can be missed as its configuration is entered.
+/// Returns whether a precondition may not hold as its configuration is entered.
 pub fn breaks_entering(spec: &Spec, pre: &Precondition) -> bool
     ensures { result ≡ breaks_entering spec.now pre.now }
 {

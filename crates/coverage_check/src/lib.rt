@@ -1,6 +1,6 @@
-//! The static check of a specification, the conditions A1 to A13: `accept` gives an accepted specification, of which
-//! every reconfiguration is assured, or the first condition that does not hold and its least place. A mission is an
-//! accepted specification with a script that keeps to its failure assumption.
+//! The static check of a specification by the conditions A1 to A13. `accept` returns an accepted specification, for
+//! which every reconfiguration is assured, or the first condition that does not hold and its first place. A mission is
+//! an accepted specification with a script that keeps to its failure assumption.
 #![tactic(auto)]
 
 pub mod acceptance;

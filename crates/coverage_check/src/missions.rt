@@ -23,8 +23,8 @@ impl std::marker::Model for Mission {
     ghost invariant = { λ m. IsMission (record { spec = m.accepted; script = m.script }) };
 }
 
-/// Why there is no mission: the first frame with which the script leaves the failure assumption. What was
-/// handed in comes back.
+/// The refusal of a script, with the first frame in which it leaves the failure assumption. The specification and the
+/// script are given back.
 #[derive(Drop)]
 pub struct NotWithin {
     pub accepted: Accepted,
@@ -40,11 +40,11 @@ impl Mission {
     ghost use Rattle.coverage_check.specs.Missions.{IsMission, mission_of};
     ghost use Rattle.coverage_check.specs.Refusals.{IsNotWithin};
 
-    /// Returns the mission of an accepted specification and a script that fits it.
+    /// Creates the mission of an accepted specification and a script that fits it.
     ///
     /// # Errors
     ///
-    /// What `within` refuses; both come back.
+    /// Returns the specification and the script if the script leaves the failure assumption.
     pub fn new(accepted: Accepted, script: Script) -> Result<Mission, NotWithin>
         requires { Fits accepted script }
         ensures mission { IfOk result (λ mission. mission ≡ mission_of accepted script) }
@@ -75,8 +75,8 @@ impl Mission {
         &self.script
     }
 
-    /// Every mission has an accepted specification, and a script that fits it and keeps to its failure assumption.
-    /// The call does nothing.
+    /// States that the mission has an accepted specification, and a script that fits it and keeps to its failure
+    /// assumption. The call has no effect.
     pub fn holds(&self)
         ensures spec { IsSpec self.now.spec }
         ensures mission { IsMission self.now }
@@ -85,8 +85,8 @@ impl Mission {
     }
 }
 
-/// In each frame of a mission, that after the last one included, the environment is one of the
-/// specification's and in scope; the first frame's is that which acceptance asks the start for.
+/// States that in each frame of a mission, and in the frame after the last one, the environment belongs to the
+/// specification and is in scope. The first frame's environment is the one for which acceptance checks the start.
 pub fn missions_keep_scope()
     ensures { MissionsKeepScope }
 {}

@@ -1,4 +1,4 @@
-//! How many items a specification has.
+//! The numbers of items of a specification.
 
 ghost use Rattle.std.specs.Prelude.{◌≡◌, ◌≤◌, length};
 ghost use Rattle.scram_types.specs.Specification.{IsSpec};

@@ -1,9 +1,9 @@
-//! What a refusal shows.
+//! The contents of a refusal.
 
 use scram_types::{AppId, ConfId, Env, ProcId};
 
-/// Why a specification is not accepted: the number of the first condition that does not hold, 1 to 13,
-/// and the place at which it does not.
+/// The reason why a specification is not accepted: the number of the first condition that does not hold, 1 to 13, and
+/// the place where it does not.
 #[derive(Clone, Copy, Debug, PartialEq, Eq)]
 pub struct Shown {
     pub condition: u8,
@@ -12,7 +12,7 @@ pub struct Shown {
     pub other: Other,
 }
 
-/// What the place of a condition has in addition to a configuration and an environment.
+/// The part of a condition's place beside the configuration and the environment.
 #[derive(Clone, Copy, Debug, PartialEq, Eq)]
 pub enum Other {
     Nothing,
@@ -21,11 +21,11 @@ pub enum Other {
     Conf(ConfId),
     /// A number of environments, or a bound in frames.
     Count(u32),
-    /// A target, and the least bound in frames that would serve it.
+    /// A target, and the minimum bound in frames that suffices for it.
     Least(ConfId, u32),
-    /// The place of an invariant among the invariants, or of a precondition among the preconditions.
+    /// The index of an invariant among the invariants, or of a precondition among the preconditions.
     Item(u32),
-    /// The place of a demand among the demands.
+    /// The index of a demand among the demands.
     Demand(u32),
 }
 
@@ -33,7 +33,7 @@ impl Shown {
     ghost use Rattle.std.specs.Prelude.{◌≡◌};
     ghost use Rattle.coverage_check.specs.Showing.{shown_at, shown_in, shown_nowhere};
 
-    // Returns the refusal of a condition broken at no configuration.
+    // Returns the refusal of a condition that is broken at no configuration.
     pub(crate) fn nowhere(condition: u8, other: Other) -> Shown
         ensures { result ≡ shown_nowhere condition other }
     {
@@ -45,7 +45,7 @@ impl Shown {
         }
     }
 
-    // Returns the refusal of a condition broken at configuration number `c`.
+    // Returns the refusal of a condition that is broken at configuration number `c`.
     pub(crate) fn at(condition: u8, c: u8, other: Other) -> Shown
         ensures { result ≡ shown_at condition c other }
     {
@@ -57,7 +57,7 @@ impl Shown {
         }
     }
 
-    // Returns the refusal of a condition broken at configuration number `c` in an environment.
+    // Returns the refusal of a condition that is broken at configuration number `c` in an environment.
     pub(crate) fn within(condition: u8, c: u8, env: Env, other: Other) -> Shown
         ensures { result ≡ shown_in condition c env other }
     {

@@ -1,4 +1,4 @@
-//! The covers of configurations, and the possible targets that they give.
+//! The covers of configurations, and their possible targets.
 
 ghost use Rattle.std.specs.Prelude.{◌≡◌, ◌<◌, ◌≤◌, IfOk, length};
 ghost use Rattle.scram_types.specs.Bits.{has_bit};
@@ -10,8 +10,8 @@ use cube_cover::{Cover, cover};
 use scram_types::{ConfId, NoMemory, Spec};
 use std::alloc::Global;
 
-/// Returns the possible targets of configuration `i` as bits: bit `j` is set exactly where the table chooses `j` from
-/// it in some environment in scope, and no other bit is set.
+/// Returns the possible targets of configuration `i` as bits. Bit `j` is set if and only if the table chooses `j` from
+/// `i` in some environment in scope.
 ///
 /// # Errors
 ///
@@ -26,7 +26,7 @@ pub fn targets(alloc: Global, spec: &Spec, i: ConfId) -> Result<u16, NoMemory>
     Ok(found.targets)
 }
 
-// Returns the cover of each configuration; the memory of one is given back before the next is made.
+// Returns the cover of each configuration. The memory of a cover is freed before the next one is made.
 pub(crate) fn find_covers(alloc: Global, spec: &Spec) -> Result<[Cover; 12], NoMemory>
     ensures { IfOk result (λ covers. HasCovers spec.now covers) }
 {

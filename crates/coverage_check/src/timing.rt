@@ -1,4 +1,4 @@
-//! The conditions A9 and A10: how long reconfigurations may take.
+//! The conditions A9 and A10 on the durations of reconfigurations.
 
 ghost use Rattle.std.specs.Prelude.{◌≡◌, ◌<◌, ◌≤◌, ◌+◌, IfOk, length};
 ghost use Rattle.scram_types.specs.Lookups.{conf_id};
@@ -16,9 +16,9 @@ use dep_order::timetable;
 use scram_types::{Bound, ConfId, NoMemory, Policy, Spec};
 use std::alloc::Global;
 
-/// Returns the least bound, in frames, that serves a reconfiguration from configuration `i` to `j`: one frame, what
-/// `i` takes to halt, what `j` takes to prepare and to initialise, and for each further change of the environment the
-/// longest way from one target's choice to the next one's.
+/// Returns the minimum bound, in frames, that suffices for a reconfiguration from configuration `i` to `j`. It is one
+/// frame, the frames that `i` takes to halt and those that `j` takes to prepare and to initialise. For each further
+/// change of the environment, the longest way from one target's choice to the next is added.
 pub fn least(spec: &Spec, i: ConfId, j: ConfId) -> u32
     ensures { result ≡ least spec.now i j }
 {
@@ -27,8 +27,8 @@ pub fn least(spec: &Spec, i: ConfId, j: ConfId) -> u32
     before + u32::from(target.p) + u32::from(target.i)
 }
 
-/// Returns the configurations to which a specification has to give a bound from configuration `i`, as bits: the
-/// possible targets of `i`, and `i` itself only where a reconfiguration may return to where it began.
+/// Returns the configurations, as bits, to which a specification must give a bound from configuration `i`. They are the
+/// possible targets of `i`, with `i` itself only if a reconfiguration may return to where it began.
 ///
 /// # Errors
 ///
@@ -42,7 +42,7 @@ pub fn asked_bounds(alloc: Global, spec: &Spec, i: ConfId) -> Result<u16, NoMemo
     Ok(find_asked(spec, &cover, i.0, count))
 }
 
-// Returns the same, by the cover of `i`; `count` is the number of configurations.
+// Returns the same from the cover of `i`, where `count` is the number of configurations.
 fn find_asked(spec: &Spec, cover: &Cover, i: u8, count: u8) -> u16
     requires known { IsSpec spec.now }
     requires cover { IsCover spec.now (conf_id i) cover.now }
@@ -59,7 +59,7 @@ fn find_asked(spec: &Spec, cover: &Cover, i: u8, count: u8) -> u16
     bits
 }
 
-// Returns how many changes beyond the first a reconfiguration may see.
+// Returns the number of changes after the first that a reconfiguration may see.
 fn further(spec: &Spec) -> u32
     ensures value { result ≡ further spec.now.policy spec.now.changes }
     ensures most { result ≤ 256 }
@@ -70,7 +70,7 @@ fn further(spec: &Spec) -> u32
     }
 }
 
-// Returns the longest way from one target's choice to the next one's, in frames.
+// Returns the length of the longest way from one target's choice to the next, in frames.
 fn slowest(spec: &Spec) -> u32
     ensures value { result ≡ slowest spec.now }
     ensures most { result ≤ 196606 }
@@ -90,7 +90,7 @@ fn way(spec: &Spec, k: ConfId) -> u32
     u32::from(times.p) + u32::from(times.i) + 1 + u32::from(times.h)
 }
 
-// A9: returns the refusal of a pair of configurations with too small a bound, or with none.
+// Returns the refusal of a pair of configurations whose bound is too small or missing (A9).
 pub(crate) fn refuse_bound(spec: &Spec, covers: &[Cover; 12]) -> Option<Shown>
     requires { HasCovers spec.now covers.now }
     ensures { result ≡ bound_refusal spec.now }
@@ -117,7 +117,7 @@ fn refuse_bound_of(spec: &Spec, cover: &Cover, i: u8) -> Option<Shown>
     None
 }
 
-// Returns whether a bound from `i` to `j` is asked for, by the cover of `i`.
+// Returns whether a bound from `i` to `j` is required, by the cover of `i`.
 fn is_bound_asked(spec: &Spec, cover: &Cover, i: u8, j: u8) -> bool
     requires known { IsSpec spec.now }
     requires cover { IsCover spec.now (conf_id i) cover.now }
@@ -127,7 +127,7 @@ fn is_bound_asked(spec: &Spec, cover: &Cover, i: u8, j: u8) -> bool
     is_in(cover.targets, j) && may_end_in(spec, ConfId(i), ConfId(j))
 }
 
-// Returns whether a reconfiguration from `i` may end in `j`: elsewhere, or where it began.
+// Returns whether a reconfiguration from `i` may end in `j`, which may be `i` itself.
 fn may_end_in(spec: &Spec, i: ConfId, j: ConfId) -> bool
     ensures { result ≡ may_end_in spec.now i j }
 {
@@ -140,7 +140,7 @@ fn can_return(spec: &Spec) -> bool
     0 < further(spec)
 }
 
-/// Returns whether a bound from `i` to `j` is given and serves.
+/// Returns whether a bound from `i` to `j` is given and suffices.
 pub fn is_bounded(spec: &Spec, i: ConfId, j: ConfId) -> bool
     ensures { result ≡ is_bounded spec.now i j }
 {
@@ -150,7 +150,7 @@ pub fn is_bounded(spec: &Spec, i: ConfId, j: ConfId) -> bool
     }
 }
 
-// A10: returns the refusal of a window that does not hold the longest reconfiguration and one frame more.
+// Returns the refusal of a window that is shorter than the longest reconfiguration and the frame after it (A10).
 pub(crate) fn refuse_window(spec: &Spec) -> Option<Shown>
     ensures { result ≡ window_refusal spec.now }
 {
@@ -162,7 +162,7 @@ pub(crate) fn refuse_window(spec: &Spec) -> Option<Shown>
     }
 }
 
-/// Returns the greatest bound that is given, in frames, and 0 where none is.
+/// Returns the greatest bound that is given, in frames, or 0 if none is given.
 pub fn greatest_bound(spec: &Spec) -> u32
     ensures { result ≡ greatest_bound spec.now.bounds }
 {

@@ -67,7 +67,7 @@ dots_by true text short is shown other = ap (λ (t : List ℕ). t ++ codes "..")
 dots_by false text short is shown other =
     absurd (other (ap length (shown ∙ whole_text 60 text (not_less 60 (char_count text) is))))
 
--- a text that has more
+-- a text with more characters
 pub cut_dots : (text short : List ℕ) → short ≡ take_chars 60 text → (length short ≡ length text → ⊥) → cut text ≡ short ++ codes ".."
 cut_dots text short shown other = dots_by (nat_lt 60 (char_count text)) text short refl shown other
 
@@ -102,6 +102,6 @@ short_by : (more : Bool) (text : List ℕ) → nat_lt 60 (char_count text) ≡ m
 short_by true text is = omega (arith, joined_characters (take_chars 60 text) (codes ".."), few_characters 60 text, two_dots)
 short_by false text is = omega (arith, not_less 60 (char_count text) is)
 
--- of a text at most 62 characters are shown
+-- at most 62 characters of a text are shown
 pub short : (text : List ℕ) → char_count (cut text) ≤ 62
 short text = short_by (nat_lt 60 (char_count text)) text refl

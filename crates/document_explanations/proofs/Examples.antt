@@ -1,4 +1,4 @@
--- Worked examples of what is wanted and of what was found: computed, and compared with what they say.
+-- Worked examples of the expected and the found values: computed, and compared with their words.
 use Rattle.std.proofs.Common.{◌≡◌, ℕ, List, [], ◌∷◌, ◌++◌, Some, None, refl, decimal}
 use Rattle.std.specs.Option.{option_map_or}
 use Rattle.std.specs.Prelude.{◌+◌, codes, is_some, neg_ℤ, pos, true}
@@ -15,7 +15,7 @@ use Rattle.document_explanations.specs.declared.objects.Text.TheVariants as text
 use Rattle.document_explanations.specs.declared.rules.DocumentKind.{DocumentKind}
 use Rattle.document_explanations.specs.declared.rules.DocumentKind.TheVariants.{Specification, Script}
 
--- what is wanted at a path of a document where a rule is broken
+-- the words for the expected value at a path of a document where a rule is broken
 abbrev wanted_in : DocumentKind → ℕ → List ℕ → List ℕ
 wanted_in kind rule path = option_map_or (wanted_text None) (wanted_at kind rule path) []
 
@@ -45,7 +45,7 @@ modes : wanted_in Specification 13 (codes ".demands.0.on.0.modes.1")
     codes "datalink: fast slow, task: full reduced minimal"
 modes = refl
 
--- where a member is missing, that of its object
+-- if a member is missing, the words for its object
 name_missing : wanted_in Specification 3 (codes ".factors.1.name") ≡ codes "name, values"
 name_missing = refl
 
@@ -55,7 +55,7 @@ restarts_missing = refl
 halts : wanted_in Script 6 (codes ".halts") ≡ codes "0 to " ++ decimal 8 ++ codes " elements, 0 to " ++ decimal 16 ++ codes " where scram is 2"
 halts = refl
 
--- a document of version 2, with members that are not known
+-- a document of version 2 with unknown members
 members : Members
 members = member (codes "demands") (array no_items) (member (codes "extra") (number (unsigned 1)) (member (codes "policy") (string (codes "settle")) (member (codes "scram") (number (unsigned 2)) no_members)))
 

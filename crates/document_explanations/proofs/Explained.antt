@@ -1,4 +1,4 @@
--- What is refused, or for want of memory not explained.
+-- Refusals, and refusals without an explanation for lack of memory.
 use Rattle.std.proofs.Common.{◌⊎◌, inl, inr}
 
 -- the first of two cases, seen another way

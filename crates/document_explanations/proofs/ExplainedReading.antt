@@ -1,4 +1,4 @@
--- From the specification and the script in files, explained where they break a rule, to what is answered of them.
+-- The answers that follow the reading of the specification and the script in files, with explanations of broken rules.
 use Rattle.std.proofs.Common.{◌≡◌, ℕ, List, ◌∷◌}
 use Rattle.std.specs.Prelude.{Result}
 use Rattle.scram_types.specs.declared.limits.TheConstants.{MAX_SCRIPT_BYTES, MAX_SPECIFICATION_BYTES}
@@ -17,7 +17,7 @@ use Rattle.flight_forms.specs.Documents.{SaysScript}
 use Rattle.document_explanations.specs.Scripts.{AsksExplainedScript, BreaksExplainedScript, long_explained_script}
 use Rattle.document_explanations.specs.Specifications.{AsksExplainedSpecification, BreaksExplainedSpecification, long_explained_specification}
 
--- the specification was read, and then what is answered of it
+-- the specification was read, followed by the answer to it
 pub explained_specification_reads : {U : Type 0} (name : List ℕ) (names : List (List ℕ)) (Then : Parts → Answer) (Rest : U → ℕ → List ℕ → Type 0) (spec : Parts) (before mid after : FilesState) (result : Result U Refusal)
     → HasRead MAX_SPECIFICATION_BYTES name (SaysSpecification spec) before mid → StaysSteady before mid name → Prepares (Then spec) Rest names mid after result
     → Prepares (AsksExplainedSpecification name Then) Rest (name ∷ names) before after result
@@ -32,7 +32,7 @@ pub explained_specification_unread : (name : List ℕ) (names : List (List ℕ))
 explained_specification_unread name names Then before after refusal is steady unread =
     refused_reads SaysSpecification BreaksExplainedSpecification MAX_SPECIFICATION_BYTES long_explained_specification name names Then before after refusal is steady unread
 
--- the script was read, and then what is answered of it
+-- the script was read, followed by the answer to it
 pub explained_script_reads : {U : Type 0} (spec : Parts) (name : List ℕ) (names : List (List ℕ)) (Then : ScriptParts → Answer) (Rest : U → ℕ → List ℕ → Type 0) (value : ScriptParts) (before mid after : FilesState) (result : Result U Refusal)
     → HasRead MAX_SCRIPT_BYTES name (SaysScript spec value) before mid → StaysSteady before mid name → Prepares (Then value) Rest names mid after result
     → Prepares (AsksExplainedScript spec name Then) Rest (name ∷ names) before after result

@@ -2,7 +2,7 @@
 use Rattle.std.proofs.Common.{◌≡◌, ℕ, List, ◌++◌, Result, Ok, Err, OnOk, ap, sym, ◌∙◌, append_assoc}
 use Rattle.std.specs.Prelude.{codes}
 
--- what is true of a success
+-- a consequence of a fact about a success
 pub on_ok : {T E P Q : Type 0} (result : Result T E) → (P → Q) → OnOk result P → OnOk result Q
 on_ok (Ok value) then is = then is
 on_ok (Err error) then is = is
@@ -24,7 +24,7 @@ joined_three a b c d = three_more a b c d ∙ ap (λ (rest : List ℕ). a ++ res
 pub joined_four : (a b c d e : List ℕ) → (((a ++ b) ++ c) ++ d) ++ e ≡ a ++ (b ++ c ++ d ++ e)
 joined_four a b c d e = four_more a b c d e ∙ ap (λ (rest : List ℕ). a ++ rest) (sym (three_more b c d e))
 
--- what a rule with a limit says, and the end of its line
+-- the words of a rule with a limit, and the end of its line
 abbrev pub limit_end : List ℕ → List ℕ
 limit_end limit = codes "more than" ++ (codes " " ++ limit ++ codes " bytes")
 

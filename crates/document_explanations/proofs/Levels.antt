@@ -28,7 +28,7 @@ above_more : (level : List ℕ) (levels : List (List ℕ)) (w : Wanted) → 0 < 
 above_more level [] w some = absurd (omega (arith, some))
 above_more level (next ∷ levels) w some = refl
 
--- one level below, what is wanted along the levels, and above the last of them
+-- one level below, the expected value after the levels and above the last of them
 pub step_whole : (text level rest : List ℕ) (w : Wanted) → pieces_of 46 text ≡ level ∷ pieces_of 46 rest
     → wanted_along (pieces_of 46 text) w ≡ option_and_then (wanted_along (pieces_of 46 rest)) (wanted_below w level)
 step_whole text level rest w pieces = ap (λ (levels : List (List ℕ)). wanted_along levels w) pieces

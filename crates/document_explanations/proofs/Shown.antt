@@ -21,7 +21,7 @@ match_shown Less a b c = refl
 match_shown Equal a b c = refl
 match_shown Greater a b c = refl
 
--- a copy of one more member
+-- a copy with one further member
 pub put_shown : (k : List ℕ) (d : Data) (ms : Members) → put k (without_floats d) (members_without_floats ms) ≡ members_without_floats (put k d ms)
 put_shown k d no_members = refl
 put_shown k d (member l e ms) = rw (put_shown k d ms) (sym (match_shown (slice_cmp nat_cmp k l) (member k d (member l e ms)) (member l d ms) (member l e (put k d ms))))

@@ -1,4 +1,4 @@
--- The members of the tables, counted by the versions of documents.
+-- The members of the tables, counted for each version of a document.
 use Rattle.std.proofs.Common.{◌≡◌, ℕ, Bool, true, false, List, [], ◌∷◌, ◌++◌, cond, length, Option, Some, None, option_and_then, refl, map}
 use Rattle.std.specs.Prelude.{◌==◌, ◌||◌, codes}
 use Rattle.serde_json.specs.Find.{as_number, as_u64, get}
@@ -13,7 +13,7 @@ use Rattle.document_explanations.specs.declared.objects.Text.TheVariants as text
 use Rattle.document_explanations.specs.declared.objects.Versions.TheVariants as versions
 use Rattle.document_explanations.specs.declared.objects.Wanted.TheVariants as wanted
 
--- the last two members of a specification, where its version has them
+-- the last two members of a specification, if its version has them
 abbrev policy_member : Member
 policy_member = later (codes "policy") versions.SecondOn (wanted.Text text.Policy)
 
@@ -39,7 +39,7 @@ count_by true false = refl
 count_by false true = refl
 count_by false false = refl
 
--- the last member of a script, where its version has it
+-- the last member of a script, if its version has it
 abbrev script_names : Bool → List (List ℕ)
 script_names second =
     codes "scram" ∷ codes "frames" ∷ codes "changes" ∷ codes "halts" ∷ map (λ (m : Member). m.name) (cond second (restarts_member ∷ []) [])

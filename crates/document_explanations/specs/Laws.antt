@@ -1,4 +1,4 @@
--- What the table of members has in common with the readers of documents, and how much is shown of what was found.
+-- The laws on the table of members and the readers of documents, and on the length of the text that is shown.
 use Rattle.std.specs.Prelude.{◌≡◌, ◌≤◌, ℕ, List, [], ◌∷◌, ◌++◌, codes, length, map, if◌then◌else◌}
 use Rattle.std.specs.Fmt.{char_count}
 use Rattle.std.specs.List.{filter}
@@ -10,17 +10,18 @@ use Rattle.document_explanations.specs.Objects.{Member, members_of}
 use Rattle.document_explanations.specs.declared.objects.Object.{Object}
 use Rattle.document_explanations.specs.declared.objects.Object.TheVariants as object
 
--- The names of the members that the table of an object has in the version of a document.
+-- The names of the members in the table of an object, in the version of a document.
 abbrev pub names_of : Data → Object → List (List ℕ)
 names_of d object = map (λ (m : Member). m.name) (filter (λ (m : Member). is_version_of d m.versions) (members_of object))
 
--- The table has the members that the readers ask for in the version of a document, in their order, and no more than they allow.
+-- The table of a specification has the members that the readers need in the version of a document, in order. For
+-- specifications and scripts, the number of members is the one that the readers allow.
 pub record TablesAreRead : Type 0 where
   pub specification : (d : Data) → names_of d object.Specification
       ≡ first_members ++ (if has_policy d then codes "policy" ∷ [] else []) ++ (if has_demands d then codes "demands" ∷ [] else [])
   pub specification_count : (d : Data) → length (names_of d object.Specification) ≡ members_count d
   pub script_count : (d : Data) → length (names_of d object.Script) ≡ member_count (version_of d)
 
--- Of what was found at most 62 characters are shown: 60, and two dots.
+-- At most 62 characters of a text are shown: 60, and two dots.
 abbrev pub FoundIsShort : Type 0
 FoundIsShort = (text : List ℕ) → char_count (cut text) ≤ 62

@@ -1,4 +1,5 @@
--- What is wanted at a path of a document, and the value there. Its levels are names of members and indexes of elements.
+-- The value that is expected at a path of a document, and the value there. The levels of a path are names of members
+-- and indexes of elements.
 use Rattle.std.specs.Prelude.{ℕ, ◌==◌, List, [], ◌∷◌, Option, Some, None, option_and_then, option_map, if◌then◌else◌}
 use Rattle.std.specs.Option.{option_or}
 use Rattle.serde_json.specs.Data.{Data}
@@ -15,57 +16,57 @@ use Rattle.document_explanations.specs.declared.objects.Wanted.TheVariants as wa
 use Rattle.document_explanations.specs.declared.paths.TheConstants.{INDEX_END}
 use Rattle.document_explanations.specs.declared.rules.DocumentKind.{DocumentKind}
 
--- a path without its first dot, 46
+-- A path without its first dot, which is 46.
 abbrev pub behind_dot : List ℕ → List ℕ
 behind_dot [] = []
 behind_dot (b ∷ path) = if b == 46 then path else []
 
--- the levels in a text, with dots between them; no level where there is no text
+-- The levels of a text with dots between them. An empty text has none.
 abbrev pub levels_in : List ℕ → List (List ℕ)
 levels_in [] = []
 levels_in (b ∷ text) = pieces_of 46 (b ∷ text)
 
--- The levels of a path; none for the whole document.
+-- The levels of a path. The path of the whole document has none.
 abbrev pub levels_of : List ℕ → List (List ℕ)
 levels_of path = levels_in (behind_dot path)
 
--- what is wanted of an element
+-- The value that is expected of an element.
 abbrev pub wanted_element : Element → Wanted
 wanted_element (element.Object object) = wanted.Object object
 wanted_element (element.Text text) = wanted.Text text
 
--- what is wanted a level below; of the elements of a list that is one thing, whatever the index
+-- The value that is expected one level below. It is the same for all elements of a list.
 abbrev pub wanted_below : Wanted → List ℕ → Option Wanted
 wanted_below (wanted.Object object) level = option_map (λ (member : Member). member.wanted) (member_named (members_of object) level)
 wanted_below (wanted.List length element) level = Some (wanted_element element)
 wanted_below (wanted.Number number) level = None
 wanted_below (wanted.Text text) level = None
 
--- what is wanted along levels, from a value on of which this is wanted
+-- The value that is expected after some levels, starting at a value of which `w` is expected.
 abbrev pub wanted_along : List (List ℕ) → Wanted → Option Wanted
 wanted_along [] w = Some w
 wanted_along (level ∷ levels) w = option_and_then (wanted_along levels) (wanted_below w level)
 
--- the levels above the last one
+-- The levels above the last one.
 abbrev pub all_but_last : List (List ℕ) → List (List ℕ)
 all_but_last [] = []
 all_but_last (level ∷ []) = []
 all_but_last (level ∷ next ∷ levels) = level ∷ all_but_last (next ∷ levels)
 
--- The levels of the value of which it is told what is wanted: the object where a member is missing, and else the value at
--- the path.
+-- The levels of the value whose expectation is shown: those of the object if a member is missing, or those of the path
+-- otherwise.
 abbrev pub wanted_levels : ℕ → List ℕ → List (List ℕ)
 wanted_levels rule path = if rule == MISSING_MEMBER then all_but_last (levels_of path) else levels_of path
 
--- What is wanted where a rule of a document is broken at a path.
+-- The value that is expected at a path where a rule of a document is broken.
 abbrev pub wanted_at : DocumentKind → ℕ → List ℕ → Option Wanted
 wanted_at kind rule path = wanted_along (wanted_levels rule path) (wanted.Object (root_of kind))
 
--- the member or the element that a level names
+-- The member or the element with the name or the index of a level.
 abbrev pub child : List ℕ → Data → Option Data
 child level d = option_or (get level d) (option_and_then (λ (i : ℕ). at i d) (spelled_number INDEX_END level))
 
--- the value along levels
+-- The value after some levels.
 abbrev pub value_along : List (List ℕ) → Data → Option Data
 value_along [] d = Some d
 value_along (level ∷ levels) d = option_and_then (value_along levels) (child level d)

@@ -13,12 +13,13 @@ use Rattle.document_explanations.specs.declared.rules.DocumentRule.{DocumentRule
 use Rattle.document_explanations.specs.declared.rules.Shows.{Shows}
 use Rattle.document_explanations.specs.declared.rules.Shows.TheVariants.{Both, Found, Nothing, Wanted}
 
--- The object that the whole document is.
+-- The object of the whole document.
 abbrev pub root_of : DocumentKind → Object
 root_of Specification = object.Specification
 root_of Script = object.Script
 
--- A rule: its number, what it says, the limit in bytes that stands behind this, and what is shown where it is broken.
+-- A rule: its number, its text, the limit in bytes that follows the text, and the parts of an explanation that are
+-- shown if it is broken.
 pub record DocumentRule : Type 0 where
   pub number : ℕ
   pub text : List ℕ
@@ -37,7 +38,7 @@ says number text shows = record { number = number; text = text; limit = None; sh
 abbrev pub has_limit : ℕ → ℕ → DocumentRule
 has_limit number limit = record { number = number; text = codes "more than"; limit = Some limit; shows = Nothing }
 
--- Rules 1 to 9, which are those of both documents.
+-- Rules 1 to 9, which both documents have.
 abbrev pub common_rules : List DocumentRule
 common_rules =
     says rule.NO_JSON_TEXT (codes "no JSON text") Nothing ∷
@@ -80,31 +81,31 @@ own_rules Script =
     says script_rule.WRONG_HALT (codes "a third halt of a processor, or a second one without a restart up to its frame") Found ∷
     []
 
--- The rule of this number among rules.
+-- The rule with this number among rules.
 abbrev pub rule_in : List DocumentRule → ℕ → Option DocumentRule
 rule_in [] number = None
 rule_in (rule ∷ rules) number = if rule.number == number then Some rule else rule_in rules number
 
--- The rule of this number of a document.
+-- The rule of a document with this number.
 abbrev pub broken_rule : DocumentKind → ℕ → Option DocumentRule
 broken_rule kind number = option_or (rule_in common_rules number) (rule_in (own_rules kind) number)
 
--- a limit in bytes
+-- A limit in bytes.
 abbrev pub limit_text : ℕ → List ℕ
 limit_text limit = codes " " ++ decimal limit ++ codes " bytes"
 
--- What a rule says.
+-- The words of a rule.
 abbrev pub rule_words : DocumentRule → List ℕ
 rule_words rule = rule.text ++ option_map_or limit_text rule.limit []
 
--- What is wanted is shown.
+-- The expected value is shown.
 abbrev pub shows_wanted : Shows → Bool
 shows_wanted Nothing = false
 shows_wanted Wanted = true
 shows_wanted Found = false
 shows_wanted Both = true
 
--- What was found is shown.
+-- The value that was found is shown.
 abbrev pub shows_found : Shows → Bool
 shows_found Nothing = false
 shows_found Wanted = false

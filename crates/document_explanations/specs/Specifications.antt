@@ -1,4 +1,4 @@
--- What is answered of a specification's file, with what stands behind the first line.
+-- The answer to the file of a specification, with the lines that follow the first one.
 use Rattle.std.specs.Prelude.{◌≡◌, ℕ, List, [], ◌++◌, None}
 use Rattle.scram_types.specs.declared.limits.TheConstants.{MAX_SPECIFICATION_BYTES}
 use Rattle.scram_types.specs.Specification.{Parts}
@@ -12,27 +12,26 @@ use Rattle.form_base.specs.Specifications.{BreaksSpecification, SaysSpecificatio
 use Rattle.document_explanations.specs.Explanations.{explanation}
 use Rattle.document_explanations.specs.declared.rules.DocumentKind.TheVariants.{Specification}
 
--- The lines behind the first one where these bytes break a rule of specifications.
+-- The lines that follow the first one if these bytes break a rule of specifications.
 abbrev pub specification_explanation : DocFault → List ℕ → List ℕ
 specification_explanation fault bytes = explanation Specification None fault.rule fault.path (document bytes)
 
--- The line of a fault of a specification that these bytes are, and what stands behind it.
+-- The line of a fault of a specification in these bytes, with the lines that follow it.
 abbrev pub explained_specification_text : SpecFault → List ℕ → List ℕ
 explained_specification_text fault bytes =
     specification_line fault ++ explanation Specification None fault.rule fault.path (document bytes)
 
--- The bytes are refused as a specification: with the line of this, and what stands behind it.
+-- The bytes are refused as a specification, with the first line and the lines that follow it.
 pub record BreaksExplainedSpecification (refusal : ℕ × List ℕ) (bytes : List ℕ) : Type 0 where
   pub first : ℕ × List ℕ
   pub breaks : BreaksSpecification first bytes
   pub text : refusal ≡ (first.0, first.1 ++ specification_explanation breaks.fault bytes)
 
--- What is answered of a specification with too many bytes.
+-- The answer to a specification with too many bytes.
 abbrev pub long_explained_specification : ℕ × List ℕ
 long_explained_specification = (long_specification.0, long_specification.1 ++ explanation Specification None rule.TOO_LONG [] None)
 
--- The file of this name is asked for, and this is answered of the specification that it holds; where it breaks a rule, that
--- is explained.
+-- The answer to the file of this name, which is `Then` for the specification in it. A broken rule is explained.
 abbrev pub AsksExplainedSpecification : List ℕ → (Parts → Answer) → Answer
 AsksExplainedSpecification name Then =
     AnswersFile MAX_SPECIFICATION_BYTES long_explained_specification name (AnswersDocument SaysSpecification BreaksExplainedSpecification Then)

@@ -1,14 +1,14 @@
--- A value as it is shown.
+-- Values in the form in which they are shown.
 use Rattle.std.specs.Prelude.{ℕ, List, codes, if◌then◌else◌}
 use Rattle.serde_json.specs.Data.{Data, Items, Members, Num, array, boolean, item, member, no_items, no_members, null, number, object, string}
 use Rattle.serde_json.specs.Find.{is_float}
 use Rattle.serde_json.specs.Written.{compact_text}
 
--- A number, or a text in the place of one that is read as a float.
+-- A number, or a text in place of a number that is read as a float.
 abbrev pub unless_float : Num → Data
 unless_float n = if is_float n then string (codes "a float") else number n
 
--- a value, with a text in the place of each number that is read as a float
+-- A value in which each number that is read as a float is replaced by a text.
 abbrev mutual
   pub without_floats : Data → Data
   without_floats null = null
@@ -26,6 +26,6 @@ abbrev mutual
   members_without_floats no_members = no_members
   members_without_floats (member k d ms) = member k (without_floats d) (members_without_floats ms)
 
--- The text with no space of a value as it is shown.
+-- The text of a value in the form in which it is shown, without spaces.
 abbrev pub value_text : Data → List ℕ
 value_text d = compact_text (without_floats d)

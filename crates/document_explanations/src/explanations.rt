@@ -1,4 +1,4 @@
-//! What stands behind the first line where a document breaks a rule.
+//! The lines that follow the first line if a document breaks a rule.
 
 ghost use Rattle.std.specs.Prelude.{◌≡◌, ◌++◌, IfOk, OnOk, codes, option_map, string_bytes};
 ghost use Rattle.serde_json.specs.View.{view};
@@ -27,7 +27,7 @@ pub struct BrokenDocument<'a> {
     pub bytes: &'a [u8],
 }
 
-/// Appends the lines behind the first one where a document breaks the rule of this number.
+/// Appends the lines that follow the first one if a document breaks the rule of this number.
 ///
 /// # Errors
 ///

@@ -1,13 +1,14 @@
-//! What explanations come to: each function's contract is a law.
+//! Laws of explanations. Each function's contract is a law.
 
 ghost use Rattle.document_explanations.specs.Laws.{FoundIsShort, TablesAreRead};
 
-/// The table of members has those that the readers ask for in the version of a document, and no more than they allow.
+/// States that the table of a specification has the members that the readers need in the version of a document. For
+/// specifications and scripts, the number of members is the one that the readers allow.
 pub fn tables_are_read()
     ensures { TablesAreRead }
 {}
 
-/// Of what was found at most 62 characters are shown.
+/// States that at most 62 characters of a value that was found are shown.
 pub fn found_is_short()
     ensures { FoundIsShort }
 {}

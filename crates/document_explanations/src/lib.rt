@@ -1,4 +1,4 @@
-//! What a document should have where it breaks a rule: the rule in words, what is wanted there and what was found.
+//! Explanations of the rules that documents break: the rule in words, the expected value and the value that was found.
 #![tactic(auto)]
 
 pub mod explanations;

@@ -7,7 +7,7 @@ use itoa::Buffer;
 use scram_types::NoMemory;
 use std::alloc::Global;
 
-/// Lines of text, which grow in memory.
+/// Lines of text in a buffer that grows.
 #[derive(Drop)]
 pub struct Lines {
     text: String,
@@ -22,7 +22,7 @@ impl std::marker::Model for Lines {
 }
 
 impl Lines {
-    /// Returns no lines.
+    /// Creates an empty buffer.
     pub fn new(alloc: Global) -> Lines
         ensures { result ≡ [] }
     {
@@ -57,7 +57,7 @@ impl Lines {
         self.push(buffer.format(number))
     }
 
-    /// Appends a number in decimal, `-` first where it is negative.
+    /// Appends a number in decimal, preceded by `-` if it is negative.
     ///
     /// # Errors
     ///

@@ -1,4 +1,4 @@
-//! Lists of things in words: members, kinds, factors, processors.
+//! Lists of items in words: members, kinds, factors and processors.
 
 ghost use Rattle.std.specs.Prelude.{◌≡◌, ◌++◌, OnOk, map, option_map};
 ghost use Rattle.app_model.specs.Kinds.{kind_read, kinds, variable_read};
@@ -11,19 +11,19 @@ use app_model::table::{
 };
 use scram_types::{Factor, Name, NoMemory, Proc};
 
-/// How things of a list are shown.
+/// The way to show the items of a list.
 pub trait Shown<T> {
     ghost use Rattle.std.specs.Prelude.{◌≡◌, ◌++◌, List, ℕ, OnOk};
 
-    /// What is shown of a thing.
+    /// The text that is shown for an item.
     ghost shown: { T → List ℕ };
 
-    /// Appends what is shown of a thing.
+    /// Appends the text that is shown for an item.
     fn add(lines: &mut Lines, item: &T) -> Result<(), NoMemory>
         ensures { OnOk result (lines.new ≡ lines.old ++ shown item.now) };
 }
 
-/// Appends things, joined by a comma and a space.
+/// Appends items, joined by a comma and a space.
 ///
 /// # Errors
 ///
@@ -76,7 +76,7 @@ fn versions_text(versions: Versions) -> &'static str
     }
 }
 
-/// Returns the kinds, by number.
+/// Returns the kinds in the order of their numbers.
 pub fn kinds() -> &'static [Kind]
     ensures { map kind_read result.now ≡ kinds }
 {
@@ -130,7 +130,7 @@ fn add_modes(lines: &mut Lines, names: &[Option<&'static str>]) -> Result<(), No
     Ok(())
 }
 
-// Appends a name, a space before it, where there is one.
+// Appends a name, preceded by a space, if there is one.
 fn add_spaced(lines: &mut Lines, name: Option<&'static str>) -> Result<(), NoMemory>
     ensures { OnOk result (lines.new ≡ lines.old ++ name_spaced (option_map (λ s. s.now) name.entry)) }
 {
@@ -143,7 +143,7 @@ fn add_spaced(lines: &mut Lines, name: Option<&'static str>) -> Result<(), NoMem
     }
 }
 
-/// A kind and the variables that it uses.
+/// A kind with the variables that it uses.
 pub struct VariablesText;
 
 impl Shown<Kind> for VariablesText {

@@ -1,4 +1,4 @@
-//! What is answered of a document with too many bytes, made without memory.
+//! The answer to a document with too many bytes, made without memory.
 
 ghost use Rattle.std.specs.Prelude.{◌≡◌, ◌++◌, ◌≤◌, [], codes, length};
 ghost use Rattle.form_base.specs.Lines.{rule_text};
@@ -9,7 +9,7 @@ use form_base::lines::add_rule;
 use scram_doc::Path;
 use trace_text::lines::Line;
 
-/// Returns the lines for a document with more bytes than its limit: `first` and the broken rule, and what it says.
+/// Returns the lines for a document with more bytes than its limit: `first`, the broken rule, and the rule in words.
 pub fn make_long_lines(first: &[u8], rule: u8, limit: u32) -> Line
     requires { length first.now ≤ 22 }
     ensures { result ≡ first.now ++ rule_text rule [] ++ codes "\n" ++ rule_line (has_limit rule limit) }

@@ -1,4 +1,4 @@
-//! The objects of specifications and scripts: the table of their members, and what is wanted of each.
+//! The objects of specifications and scripts: the tables of their members, and the value that is expected of each.
 
 ghost use Rattle.std.specs.Prelude.{◌≡◌, map, option_map};
 ghost use Rattle.document_explanations.specs.Objects.{member_named, member_read, members_of};
@@ -55,11 +55,11 @@ pub enum Versions {
     Second,
 }
 
-/// How many elements a list has.
+/// The number of elements of a list.
 #[derive(Clone, Copy)]
 pub enum Length {
     Within { least: usize, most: usize },
-    /// As many halts as the version of the script allows.
+    /// From none to the maximum number of halts in the version of the script.
     Halts,
 }
 
@@ -118,7 +118,7 @@ pub enum Element {
     Text(Text),
 }
 
-/// What is wanted at a place of a document.
+/// The value that is expected at a place of a document.
 #[derive(Clone, Copy)]
 pub enum Wanted {
     Object(Object),
@@ -398,7 +398,7 @@ pub fn members_of(object: Object) -> &'static [Member]
     }
 }
 
-/// Returns the member of this name of an object, or `None` where it has none.
+/// Returns the member of an object with this name, or `None` if it has none.
 pub fn find_member(object: Object, name: &str) -> Option<Member>
     ensures { option_map member_read result ≡ member_named (members_of object) name.now }
 {

@@ -1,4 +1,4 @@
-//! Paths: what is wanted of the value at a path, and the value.
+//! Paths, the value that is expected at a path, and the value there.
 
 ghost use Rattle.std.specs.Prelude.{◌≡◌, ◌∷◌, ◌<◌, [], IfSome, MatchOption, length, option_and_then, option_map};
 ghost use Rattle.serde_json.specs.View.{view};
@@ -12,10 +12,10 @@ use scram_doc::{Path, rule};
 use serde_json::Value;
 use trace_text::numbers::read_number;
 
-// The indexes of a path are less than this.
+// The end of the range of the indexes in a path.
 const INDEX_END: u64 = 100_000;
 
-// Returns the levels of a path, with a dot between them, and no text for the whole document.
+// Returns the levels of a path with dots between them, which is empty for the whole document.
 fn behind_dot(path: &Path) -> &str
     ensures { result.now ≡ behind_dot path.now }
 {
@@ -25,7 +25,7 @@ fn behind_dot(path: &Path) -> &str
     }
 }
 
-// Returns the first level and those behind it, or `None` where it is the last.
+// Returns the first level and the text after it, or `None` if there is only one level.
 fn split_level(levels: &str) -> Option<(&str, &str)>
     ensures pieces { MatchOption result (pieces_of 46 levels.now ≡ levels.now ∷ [])
         (λ parts. pieces_of 46 levels.now ≡ parts.0.now ∷ pieces_of 46 parts.1.now) }
@@ -57,7 +57,7 @@ fn wanted_element(element: Element) -> Wanted
     }
 }
 
-// Returns what is wanted of the value above the last level, and the last level.
+// Returns the value that is expected above the last level, and the last level.
 fn descend(start: Wanted, levels: &str) -> Option<(Wanted, &str)>
     ensures whole { wanted_along (pieces_of 46 levels.now) start ≡ option_and_then (λ end. wanted_below end.0 end.1.now) result }
     ensures above { wanted_along (all_but_last (pieces_of 46 levels.now)) start ≡ option_map (λ end. end.0) result }
@@ -71,8 +71,8 @@ fn descend(start: Wanted, levels: &str) -> Option<(Wanted, &str)>
     Some((wanted, rest))
 }
 
-/// Returns what is wanted where a rule of a document is broken at a path: of the value at the path, and where a member
-/// is missing, of its object. `None` where the document has no such path.
+/// Returns the value that is expected at a path where a rule of a document is broken, or at its object if a member is
+/// missing. Returns `None` if the document has no such path.
 pub fn wanted_at(kind: DocumentKind, rule: u8, path: &Path) -> Option<Wanted>
     ensures { result ≡ wanted_at kind rule path.now }
 {
@@ -89,7 +89,7 @@ pub fn wanted_at(kind: DocumentKind, rule: u8, path: &Path) -> Option<Wanted>
     }
 }
 
-// Returns the member of an object, or the element of a list, that a level of a path names.
+// Returns the member of an object or the element of a list with the name or the index of a level.
 fn child<'a>(v: &'a Value, level: &str) -> Option<&'a Value>
     ensures { option_map (λ d. view d.now) result ≡ child level.now (view v.now) }
 {
@@ -111,7 +111,7 @@ fn value_along<'a>(v: &'a Value, levels: &str) -> Option<&'a Value>
     child(found, rest)
 }
 
-/// Returns the value at a path of a document, or `None` where it has none.
+/// Returns the value at a path of a document, or `None` if there is none.
 pub fn value_at<'a>(document: &'a Value, path: &Path) -> Option<&'a Value>
     ensures { option_map (λ d. view d.now) result ≡ value_at path.now (view document.now) }
 {

@@ -19,7 +19,7 @@ pub enum DocumentKind {
 }
 
 impl DocumentKind {
-    /// Returns the object that the whole document is.
+    /// Returns the object of the whole document.
     pub fn root(self) -> Object
         ensures { result ≡ root_of self }
     {
@@ -30,16 +30,16 @@ impl DocumentKind {
     }
 }
 
-/// What is shown where a rule is broken.
+/// The parts of an explanation that are shown if a rule is broken.
 #[derive(Clone, Copy)]
 pub enum Shows {
     /// The rule alone.
     Nothing,
-    /// What is wanted.
+    /// The expected value.
     Wanted,
-    /// What was found.
+    /// The value that was found.
     Found,
-    /// What is wanted, and what was found.
+    /// The expected value, and the value that was found.
     Both,
 }
 
@@ -47,7 +47,7 @@ pub enum Shows {
 #[derive(Clone, Copy)]
 pub struct DocumentRule {
     pub number: u8,
-    /// What is wrong. Where there is a limit, it stands behind this, in bytes.
+    /// The text of the rule. If the rule has a limit, the limit in bytes follows the text.
     pub text: &'static str,
     pub limit: Option<usize>,
     pub shows: Shows,
@@ -67,7 +67,7 @@ macro_rules! rule {
     };
 }
 
-/// Rules 1 to 9, which are those of both documents.
+/// Rules 1 to 9, which both documents have.
 const COMMON: &[DocumentRule] = &[
     rule!(rule::NO_JSON_TEXT, "no JSON text", Nothing),
     rule!(rule::NO_OBJECT, "an object is wanted", Both),
@@ -211,7 +211,7 @@ fn rule_in(rules: &[DocumentRule], number: u8) -> Option<DocumentRule>
     None
 }
 
-/// Returns the rule of this number of a document, or `None` where it has none.
+/// Returns the rule of a document with this number, or `None` if there is none.
 pub fn broken_rule(kind: DocumentKind, number: u8) -> Option<DocumentRule>
     ensures { option_map rule_read result ≡ broken_rule kind number }
 {
@@ -221,7 +221,7 @@ pub fn broken_rule(kind: DocumentKind, number: u8) -> Option<DocumentRule>
     }
 }
 
-/// Appends what a rule says.
+/// Appends the words of a rule.
 ///
 /// # Errors
 ///
@@ -245,7 +245,7 @@ fn add_limit(lines: &mut Lines, limit: usize) -> Result<(), NoMemory>
 }
 
 impl Shows {
-    /// Returns whether what is wanted is shown.
+    /// Returns whether the expected value is shown.
     pub fn wanted(self) -> bool
         ensures { result ≡ shows_wanted self }
     {
@@ -257,7 +257,7 @@ impl Shows {
         }
     }
 
-    /// Returns whether what was found is shown.
+    /// Returns whether the value that was found is shown.
     pub fn found(self) -> bool
         ensures { result ≡ shows_found self }
     {

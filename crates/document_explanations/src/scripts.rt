@@ -1,4 +1,4 @@
-//! Scripts, as files hold them; where one breaks a rule, that is explained.
+//! Scripts in files, with explanations of broken rules.
 
 ghost use Rattle.std.specs.Prelude.{◌≡◌, ◌⊎◌, IfOk, string_bytes};
 ghost use Rattle.scram_types.specs.declared.limits.TheConstants.{MAX_SCRIPT_BYTES};
@@ -20,7 +20,7 @@ use scram_types::limits::MAX_SCRIPT_BYTES;
 use scram_types::{NoMemory, Script, Spec};
 use std::alloc::Global;
 
-/// The document of a script for a specification; where it breaks a rule, that is explained.
+/// The document of a script for a specification, with an explanation if it breaks a rule.
 #[derive(Clone, Copy)]
 pub struct ExplainedScript<'a> {
     pub spec: &'a Spec,
@@ -46,7 +46,7 @@ fn explain<'a>(
     Ok(lines.into_text())
 }
 
-// Returns the refusal of bytes that break a rule; where there is no memory for its lines, the refusal that says so.
+// Returns the refusal of bytes that break a rule, or the refusal for lack of memory if there is none for its lines.
 fn refuse(alloc: Global, spec: &Spec, fault: &ScriptFault, bytes: &[u8]) -> Refusal
     ensures { (told result ≡ (BROKEN_SCRIPT, explained_script_text spec.now fault.now bytes.now)) ⊎ IsOutOfMemory (told result) }
 {

@@ -1,4 +1,4 @@
-//! Specifications, as files hold them; where one breaks a rule, that is explained.
+//! Specifications in files, with explanations of broken rules.
 
 ghost use Rattle.std.specs.Prelude.{◌≡◌, ◌⊎◌, ◌++◌, IfOk, string_bytes};
 ghost use Rattle.scram_types.specs.declared.limits.TheConstants.{MAX_SPECIFICATION_BYTES};
@@ -20,7 +20,7 @@ use scram_types::limits::MAX_SPECIFICATION_BYTES;
 use scram_types::{NoMemory, Spec};
 use std::alloc::Global;
 
-/// The document of a specification; where it breaks a rule, that is explained.
+/// The document of a specification, with an explanation if it breaks a rule.
 #[derive(Clone, Copy)]
 pub struct ExplainedSpecification;
 
@@ -39,7 +39,7 @@ fn explain<'a>(alloc: Global, fault: &'a SpecFault, bytes: &'a [u8]) -> Result<S
     Ok(lines.into_text())
 }
 
-// Returns the refusal of bytes that break a rule; where there is no memory for its lines, the refusal that says so.
+// Returns the refusal of bytes that break a rule, or the refusal for lack of memory if there is none for its lines.
 fn refuse(alloc: Global, fault: &SpecFault, bytes: &[u8]) -> Refusal
     ensures { (told result ≡ (BROKEN_SPECIFICATION, explained_specification_text fault.now bytes.now)) ⊎ IsOutOfMemory (told result) }
 {

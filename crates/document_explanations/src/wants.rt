@@ -1,4 +1,4 @@
-//! What is wanted, in words.
+//! Expected values in words.
 
 ghost use Rattle.std.specs.Prelude.{◌≡◌, ◌++◌, OnOk, map, option_map};
 ghost use Rattle.document_explanations.specs.Wants.{factors_and_values, script_factors, script_procs, step_after_mark, length_wanted, number_text, text_text, wanted_text};
@@ -12,7 +12,7 @@ use app_model::table::Kind;
 use scram_types::limits::MAX_PROCESSORS;
 use scram_types::{Factor, NoMemory, Proc, Spec};
 
-/// Appends what is wanted, in a script for the specification `spec` where there is one.
+/// Appends the words for the expected value, in a script for the specification `spec` if there is one.
 ///
 /// # Errors
 ///

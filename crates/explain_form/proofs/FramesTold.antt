@@ -1,4 +1,4 @@
--- Why a script leaves the failure assumption.
+-- The reasons why a script leaves the failure assumption.
 use Rattle.std.proofs.Common.{◌≡◌, ◌∙◌, ℕ, suc, ◌+◌, ◌≤◌, ◌++◌, ap, append_assoc, arith, sym, List, Bool, true, false}
 use Rattle.std.specs.Prelude.{Some, None, codes, if◌then◌else◌}
 use Rattle.scram_types.specs.Scripts.{ScriptParts}
@@ -11,7 +11,7 @@ use Rattle.fault_script.specs.Assumption.{brings_too_many_down, first_outside, i
 use Rattle.form_base.specs.Texts.{texts_below}
 use Rattle.explain_form.specs.Outsides.{change_frame_text, change_frames_text}
 
--- all frames up to the last one were told
+-- all frames up to the last one have been shown
 pub frames_told : (spec : Parts) (script : ScriptParts) (last n : ℕ) (old mid text : List ℕ) → mid ≡ old ++ codes "  frames" → last + 1 ≤ n → n ≤ last + 1
     → text ≡ mid ++ texts_below (change_frame_text spec script last) n → text ≡ old ++ change_frames_text spec script last
 unfolding change_frames_text

@@ -1,4 +1,4 @@
--- From what was made to what is answered.
+-- From the texts that are made to the answers.
 use Rattle.std.proofs.Common.{◌≡◌, sym, subst}
 use Rattle.std.specs.Prelude.{Option, Some, None, Result}
 use Rattle.scram_types.specs.Scripts.{ScriptParts}
@@ -25,14 +25,14 @@ module _ (result : Result Explanation Refusal) where
       subst (λ (shown : Option Shown). Settles (Gives (explain_answer spec shown)) TellsExplanation result) (sym none)
       (subst (λ (s : Parts). Settles (Gives (ANSWERED, accepted_text s)) TellsExplanation result) same settles)
 
-  -- one that is not
+  -- a specification that is not accepted
   pub refused_settles : (spec back : Parts) (shown : Shown) → IsRefusal spec (error.NotAccepted back shown)
       → Settles (Gives (NOT_ACCEPTED, refused_text back shown)) TellsExplanation result → Settles (Gives (explain_answer spec (first_refusal spec))) TellsExplanation result
   refused_settles spec back shown is settles =
       subst (λ (o : Option Shown). Settles (Gives (explain_answer spec o)) TellsExplanation result) (sym is.1)
       (subst (λ (s : Parts). Settles (Gives (NOT_ACCEPTED, refused_text s shown)) TellsExplanation result) is.0 settles)
 
-  -- the same with a script for it
+  -- an accepted specification with a script for it
   pub both_accepted_settles : (spec back : Parts) (script : ScriptParts) → back ≡ spec → first_refusal spec ≡ None
       → Settles (Gives (outside_answer back script (first_outside back script))) TellsExplanation result
       → Settles (Gives (script_answer spec script (first_refusal spec))) TellsExplanation result
@@ -53,7 +53,7 @@ module _ (result : Result Explanation Refusal) where
   assumed_settles spec script none settles =
       subst (λ (o : Option Outside). Settles (Gives (outside_answer spec script o)) TellsExplanation result) (sym none) settles
 
-  -- one that leaves it
+  -- a script that leaves the failure assumption
   pub outside_settles : (spec : Parts) (script : ScriptParts) (outside : Outside) → first_outside spec script ≡ Some outside
       → Settles (Gives (UNASSUMED_SCRIPT, unassumed_text spec script outside)) TellsExplanation result
       → Settles (Gives (outside_answer spec script (first_outside spec script))) TellsExplanation result

@@ -22,12 +22,12 @@ module _ (spec : Parts) (script : ScriptParts) where
     abbrev before : ℕ
     before = suc (last - spec.window)
 
-    -- none is told that is before the window; frame 0 is no change frame
+    -- no frame before the window is shown, and frame 0 is no change frame
     none_before : (f : ℕ) → f < before → is_change_told spec script last f ≡ false
     none_before zero low = and-false (is_in_window spec last 0)
     none_before (suc f) low = rw (not_below_test last (suc f + spec.window) (omega (arith, low))) refl
 
-    -- and each one from there on
+    -- each change frame from there on is shown
     same_after : (f : ℕ) → before ≤ f → is_change_told spec script last f ≡ is_change_frame spec script f
     same_after f high = rw (below_test last (f + spec.window) (omega (arith, high))) refl
 

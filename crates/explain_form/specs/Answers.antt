@@ -1,4 +1,4 @@
--- What is answered to `explain`.
+-- The answers to `explain`.
 use Rattle.std.specs.Prelude.{◌≡◌, ◌≢◌, ℕ, List, []}
 use Rattle.scram_types.specs.Scripts.{ScriptParts}
 use Rattle.scram_types.specs.Specification.{Parts}
@@ -14,39 +14,39 @@ use Rattle.form_base.specs.Assurance.{OfDocument, OfSpecification}
 use Rattle.explain_form.specs.declared.explanations.Explanation.{Explanation}
 use Rattle.explain_form.specs.Texts.{accepted_text, explain_answer, script_answer}
 
--- The answer to a specification that was read.
+-- The answer to a specification that has been read.
 abbrev pub SpecificationAnswers : Parts → Answer
 SpecificationAnswers spec = WithoutFiles (Gives (explain_answer spec (first_refusal spec)))
 
--- The answer to a specification and a script for it that were read.
+-- The answer to a specification and a script for it that have been read.
 abbrev pub MissionAnswers : Parts → ScriptParts → Answer
 MissionAnswers spec script = WithoutFiles (Gives (script_answer spec script (first_refusal spec)))
 
--- The answer to `explain` and the name of a specification's file.
+-- The answer to `explain` with the name of a specification's file.
 abbrev pub ExplainAnswers : List ℕ → Answer
 ExplainAnswers specification = AsksExplainedSpecification specification SpecificationAnswers
 
--- The answer to `explain` and the names of a specification's file and of a script's.
+-- The answer to `explain` with the names of a specification's file and of a script's file.
 abbrev pub ExplainScriptAnswers : List ℕ → List ℕ → Answer
 ExplainScriptAnswers specification script =
     AsksExplainedSpecification specification (λ (spec : Parts). AsksExplainedScript spec script (MissionAnswers spec))
 
--- Status and text are those that are told, and the status is about neither a file nor the output.
+-- The status of the explanation is not that of an unread file or of unwritten output.
 pub record IsTold (explanation : Explanation) : Type 0 where
   pub read : explanation.code ≢ UNREAD_FILE
   pub written : explanation.code ≢ UNWRITTEN_OUTPUT
 
--- The answer is what was made.
+-- The answer has the status and the text of the explanation.
 abbrev pub TellsExplanation : Explanation → ℕ → List ℕ → Type 0
 TellsExplanation explanation = Gives (explanation.code, explanation.text.items)
 
--- Where `explain` ends with status 0, no other file was read, the specification is accepted, and the text is its line and
--- what is idle in it.
+-- If `explain` ends with status 0, it has read no other file, the specification is accepted, and the text is its line
+-- followed by the lines of its idle parts.
 abbrev pub AssuresExplain : List ℕ → History → List ℕ → Type 0
 AssuresExplain specification =
     OfSpecification specification (λ (spec : Parts) (reads : History) (text : List ℕ). (reads ≡ []) × Accepts spec × (text ≡ accepted_text spec))
 
--- The same with a script, which makes a mission with the specification.
+-- The same holds with a script, which makes a mission with the specification.
 abbrev pub AssuresExplainScript : List ℕ → List ℕ → History → List ℕ → Type 0
 AssuresExplainScript specification script =
     OfSpecification specification (λ (spec : Parts). OfDocument (SaysScript spec) script (λ (script : ScriptParts) (reads : History) (text : List ℕ).

@@ -1,4 +1,4 @@
--- What the lines on the failure assumption tell.
+-- The law of the lines on the failure assumption.
 use Rattle.std.specs.Prelude.{◌≡◌, ℕ, suc}
 use Rattle.scram_types.specs.Bits.{count_below}
 use Rattle.scram_types.specs.Scripts.{ScriptParts}
@@ -6,7 +6,7 @@ use Rattle.scram_types.specs.Specification.{Parts}
 use Rattle.fault_script.specs.Assumption.{changes_in_window}
 use Rattle.explain_form.specs.Outsides.{is_change_told}
 
--- The number of frames that are told is the number of change frames in the window that ends with the last one.
+-- The number of frames that are shown is the number of change frames in the window that ends with the last one.
 abbrev pub WindowsAreTold : Type 0
 WindowsAreTold = (spec : Parts) (script : ScriptParts) (last : ℕ)
     → count_below (is_change_told spec script last) (suc last) ≡ changes_in_window spec script last

@@ -1,4 +1,4 @@
--- Why a script leaves the failure assumption.
+-- The reasons why a script leaves the failure assumption.
 use Rattle.std.specs.Prelude.{ℕ, suc, ◌+◌, Bool, ◌&&◌, nat_lt, List, [], ◌++◌, codes, decimal, if◌then◌else◌}
 use Rattle.scram_types.specs.Scripts.{ScriptParts}
 use Rattle.scram_types.specs.Specification.{Parts}
@@ -10,7 +10,7 @@ use Rattle.fault_script.specs.Environments.{env_at}
 use Rattle.form_base.specs.Lines.{added, names_down}
 use Rattle.form_base.specs.Texts.{texts_below}
 
--- Frame f is not before the window that ends with frame `last`.
+-- Frame `f` is at or after the beginning of the window that ends with frame `last`.
 abbrev pub is_in_window : Parts → ℕ → ℕ → Bool
 is_in_window spec last f = nat_lt last (f + spec.window)
 
@@ -18,37 +18,37 @@ is_in_window spec last f = nat_lt last (f + spec.window)
 abbrev pub is_change_told : Parts → ScriptParts → ℕ → ℕ → Bool
 is_change_told spec script last f = is_in_window spec last f && is_change_frame spec script f
 
--- a frame behind others
+-- The text of a frame after others.
 abbrev pub frame_text : ℕ → List ℕ
 frame_text f = codes " " ++ decimal f
 
--- frame f, where it is one of those that are told
+-- The text of frame `f`, or empty if it is not shown.
 abbrev pub change_frame_text : Parts → ScriptParts → ℕ → ℕ → List ℕ
 change_frame_text spec script last f = if is_change_told spec script last f then frame_text f else []
 
--- how many frames are assumed to change the environment
+-- The text of the maximum number of frames that change the environment.
 abbrev pub assumed_line : Parts → List ℕ
 assumed_line spec = codes " change, at most " ++ decimal (spec.changes + 1) ++ codes " in " ++ decimal spec.window ++ codes " frames\n"
 
--- the frames of the window that ends with frame `last` in which the environment changes
+-- The text of the frames in which the environment changes, of the window that ends with frame `last`.
 unfoldable pub change_frames_text : Parts → ScriptParts → ℕ → List ℕ
 change_frames_text spec script last = codes "  frames" ++ texts_below (change_frame_text spec script last) (suc last)
 
--- the same, and how many are assumed
+-- The text of the change frames, and of the maximum number of them.
 abbrev pub too_many_changes_text : Parts → ScriptParts → ℕ → List ℕ
 too_many_changes_text spec script last = change_frames_text spec script last ++ assumed_line spec
 
--- the processors that are down in frame f
+-- The line of the processors that are down in frame `f`.
 abbrev pub down_line : Parts → ScriptParts → ℕ → List ℕ
 down_line spec script f =
     codes "  down " ++ added (names_down spec.procs (env_at spec script f).up) ++ codes ", at most " ++ decimal spec.halts ++ codes "\n"
 
--- What stands behind a refusal by the failure assumption: of too many halts the processors that are down in the frame
--- after the one that is told, of too many changes the frames of the window that ends with it.
+-- The text that follows a refusal by the failure assumption. For too many halts it has the processors that are down in
+-- the frame after `f`. For too many changes it has the frames of the window that ends with `f`.
 abbrev pub outside_text_by : Parts → ScriptParts → ℕ → OutsideKind → List ℕ
 outside_text_by spec script f Halts = down_line spec script (f + 1)
 outside_text_by spec script f Changes = too_many_changes_text spec script f
 
--- The same of where a script leaves the assumption.
+-- The text that follows the refusal of a script that leaves the failure assumption.
 abbrev pub outside_text : Parts → ScriptParts → Outside → List ℕ
 outside_text spec script outside = outside_text_by spec script outside.frame outside.kind

@@ -1,4 +1,4 @@
-//! Making what is printed: the line of an answer, and further lines behind it.
+//! The text that is printed: the line of an answer, followed by further lines.
 
 ghost use Rattle.std.specs.Prelude.{◌≡◌, ◌++◌, IfOk, Some};
 ghost use Rattle.fault_script.specs.Assumption.{first_outside};
@@ -16,7 +16,7 @@ use spec_forms::make_accepted_line;
 use std::alloc::Global;
 use trace_text::lines::Line;
 
-/// What is printed, with its status.
+/// The text that is printed, with its status.
 #[derive(Drop)]
 pub(crate) struct Explanation {
     pub(crate) code: u8,
@@ -53,7 +53,7 @@ pub(crate) fn make_unassumed(
     join(alloc, &make_outside_line(outside), &why)
 }
 
-// Returns a line with further lines behind it.
+// Returns a line followed by further lines.
 fn join(alloc: Global, line: &Line, further: &[u8]) -> Result<Vec<u8>, NoMemory>
     ensures { IfOk result (λ text. text.items ≡ line.now ++ further.now) }
 {

@@ -25,7 +25,7 @@ use scram_io::{Files, Sink};
 use scram_types::{NoMemory, Script, Spec};
 use std::alloc::Global;
 
-/// Prints why the specification in a file is refused, or what is idle in it.
+/// Prints why the specification in a file is refused, or its idle parts.
 pub fn explain<F: Files, K: Sink>(
     alloc: Global,
     specification: &str,
@@ -41,7 +41,8 @@ pub fn explain<F: Files, K: Sink>(
     }
 }
 
-/// Prints why the specification in a file is refused or the script in another one, or what is idle in the specification.
+/// Prints why the specification in a file or the script in another file is refused, or the idle parts of the
+/// specification.
 pub fn explain_script<F: Files, K: Sink>(
     alloc: Global,
     named: MissionFiles<'_>,
@@ -58,7 +59,7 @@ pub fn explain_script<F: Files, K: Sink>(
     }
 }
 
-/// Reads the specification, and makes what is printed of it.
+/// Reads the specification, and makes the text that is printed for it.
 fn read_specification<F: Files>(
     alloc: Global,
     specification: &str,
@@ -73,7 +74,7 @@ fn read_specification<F: Files>(
     }
 }
 
-/// Reads the specification and the script, and makes what is printed of them.
+/// Reads the specification and the script, and makes the text that is printed for them.
 fn read_both<F: Files>(
     alloc: Global,
     named: MissionFiles<'_>,

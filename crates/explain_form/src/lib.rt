@@ -1,5 +1,5 @@
-//! The form `explain`: why a specification or a script is refused, or what is idle. What it prints is the answer to the
-//! bytes of the files that its words name.
+//! The form `explain`: the reason why a specification or a script is refused, or the idle parts. Its output is the
+//! answer to the bytes of the files that its words name.
 #![tactic(auto)]
 
 mod explanations;

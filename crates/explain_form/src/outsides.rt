@@ -1,4 +1,4 @@
-//! Why a script leaves the failure assumption.
+//! The reasons why a script leaves the failure assumption.
 
 ghost use Rattle.std.specs.Prelude.{◌≡◌, ◌+◌, ◌≤◌, ◌++◌, IfOk, OnOk};
 ghost use Rattle.fault_script.specs.Assumption.{is_change_frame, is_same_env};
@@ -11,8 +11,8 @@ use scram_types::{Env, NoMemory, Script, Spec};
 use std::alloc::{AllocError, Global};
 use trace_text::lines::Line;
 
-/// Returns the line that tells why a script leaves the failure assumption with a frame: which frames of the window that
-/// ends with it change the environment, or which processors are down in the next one.
+/// Returns the line with the reason why a script leaves the failure assumption with a frame. It shows the frames of the
+/// window ending with this frame that change the environment, or the processors that are down in the next frame.
 ///
 /// # Errors
 ///
@@ -51,7 +51,7 @@ fn make_down_line(spec: &Spec, script: &Script, frame: u32) -> Line
     line
 }
 
-// Appends the line of the frames of the window that ends with frame `last` in which the environment changes.
+// Appends the line with the frames in which the environment changes, of the window that ends with frame `last`.
 fn add_changes(
     text: &mut Vec<u8>,
     spec: &Spec,
@@ -81,7 +81,7 @@ fn add_change_frames(
     Ok(())
 }
 
-// Appends a frame, where it is in the window that ends with frame `last` and the environment changes in it.
+// Appends a frame, if it is in the window that ends with frame `last` and the environment changes in it.
 fn add_change_frame(
     text: &mut Vec<u8>,
     spec: &Spec,
@@ -107,7 +107,7 @@ fn make_frame(frame: u32) -> Line
     line
 }
 
-// Returns the end of the line of the frames that change: how many are assumed at most.
+// Returns the end of the line of change frames, with the maximum number of them that the assumption allows.
 fn make_assumed_line(spec: &Spec) -> Line
     ensures { result ≡ assumed_line spec.now }
 {
@@ -120,7 +120,7 @@ fn make_assumed_line(spec: &Spec) -> Line
     line
 }
 
-// Returns whether a frame is not before the window that ends with frame `last`.
+// Returns whether a frame is at or after the beginning of the window that ends with frame `last`.
 fn is_in_window(spec: &Spec, last: u32, frame: u32) -> bool
     requires { frame ≤ 20000 }
     ensures { result ≡ is_in_window spec.now last frame }

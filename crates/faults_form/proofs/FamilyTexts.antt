@@ -63,6 +63,6 @@ module _ (spec : Parts) where
   line_where true faults = append-nil (faults_line spec faults)
   line_where false faults = refl
 
-  -- no more faults
+  -- the lines if no further fault follows
   pub within_is : (faults : List Fault) → extended_text spec 0 faults ≡ within_text spec faults
   within_is faults = line_where (is_within spec (script_of_faults spec faults)) faults

@@ -1,4 +1,4 @@
--- The canonical text of a script as it is spelled: names stand between quotes as they are.
+-- The canonical text of a script, written out: names are between quotes without escapes.
 use Rattle.std.proofs.Common.{◌≡◌, ◌∙◌, ℕ, suc, ◌+◌, Bool, true, false, List, [], ◌∷◌, ◌++◌, length, map, append_assoc, arith, ap, refl, sym}
 use Rattle.std.specs.Prelude.{◌&&◌, nat_lt, slice_get, Option, Some, None, codes, decimal, filter_map}
 use Rattle.std.specs.List.{cons_option, list_all}
@@ -43,7 +43,7 @@ counted (fault ∷ faults) =
     let rest = counted faults in
     omega (arith, here, rest)
 
--- by whether there are restarts
+-- by whether or not there are restarts
 
 pub second_version : (spec : Parts) (restarts : List RestartAt) → nat_lt 0 (length restarts) ≡ true
     → version_text spec restarts ≡ codes ",\"restarts\":[" ++ (listed_text false (map (spelled_restart spec) restarts) ++ codes ",\"scram\":2}")
@@ -145,6 +145,6 @@ module _ (spec : Parts) (names : HasNames spec) (frames : ℕ) (changes : List C
       (member_is true (codes "restarts") (list_data (restart_data spec) (restart ∷ restarts)) (member (codes "scram") (count_data 2) no_members) (91 ∷ listed_text false (map (spelled_restart spec) (restart ∷ restarts))) _ refl (list_spelled (restart_data spec) (spelled_restart spec) (restart_spelled spec names) (restart ∷ restarts))
       (member_is true (codes "scram") (count_data 2) no_members (codes "2") (125 ∷ []) refl (decimal_digit 2 (omega arith)) refl)))))
 
--- the canonical text of a script is so spelled
+-- the canonical text of a script is the one written out
 pub script_spelled : (spec : Parts) (script : ScriptParts) → IsSpec spec → spelled_script spec script ≡ script_text spec script
 script_spelled spec script is = sym (script_spelled_by spec is.names script.frames script.changes script.halts script.restarts)

@@ -1,4 +1,4 @@
--- What is answered of the fault scripts of a specification.
+-- The answers for the fault scripts of a specification.
 use Rattle.std.specs.Prelude.{◌≡◌, ℕ, List, [], Option, Some, None}
 use Rattle.scram_types.specs.Specification.{Parts}
 use Rattle.scram_io.specs.Outside.{History}
@@ -14,21 +14,22 @@ use Rattle.faults_form.specs.declared.forms.Family.{Family}
 use Rattle.faults_form.specs.Counts.{number}
 use Rattle.faults_form.specs.Families.{family_text}
 
--- The answer to `faults`, by why the specification is not accepted.
+-- The answer to `faults`, given the first refusal of the specification, if there is one.
 abbrev pub faults_answer : Parts → FaultCount → Option Shown → ℕ × List ℕ
 faults_answer spec count (Some shown) = (NOT_ACCEPTED, shown_line spec shown)
 faults_answer spec count None = (ANSWERED, family_text spec (number count))
 
--- The text has the family that is asked for.
+-- The text is that of the family.
 abbrev pub TellsFamily : Family → ℕ → List ℕ → Type 0
 TellsFamily asked = Gives (ANSWERED, family_text asked.spec (number asked.count))
 
--- The answer to `faults`, the name of a specification's file and a number of faults.
+-- The answer to `faults` with the name of a specification's file and a number of faults.
 abbrev pub FaultsAnswers : List ℕ → FaultCount → Answer
 FaultsAnswers specification count =
     AsksSpecification specification (λ (spec : Parts). WithoutFiles (Gives (faults_answer spec count (first_refusal spec))))
 
--- Where `faults` ends with status 0, no other file was read, the specification is accepted, and the text has its family.
+-- If `faults` ends with status 0, it has read no other file, the specification is accepted, and the text is that of its
+-- family.
 abbrev pub AssuresFaults : List ℕ → FaultCount → History → List ℕ → Type 0
 AssuresFaults specification count =
     OfSpecification specification (λ (spec : Parts) (reads : History) (text : List ℕ).

@@ -1,4 +1,4 @@
--- How many faults the scripts of a family have.
+-- The number of faults of the scripts of a family.
 use Rattle.std.specs.Prelude.{ℕ, List, Option, Some, None, bytes_eq, codes, if◌then◌else◌}
 use Rattle.faults_form.specs.declared.counts.FaultCount.{FaultCount}
 use Rattle.faults_form.specs.declared.counts.FaultCount.TheVariants.{One, Two, Three}

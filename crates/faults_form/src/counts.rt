@@ -1,9 +1,9 @@
-//! How many faults the scripts of a family have.
+//! The number of faults of the scripts of a family.
 
 ghost use Rattle.std.specs.Prelude.{◌≡◌, ◌≤◌, option_map};
 ghost use Rattle.faults_form.specs.Counts.{fault_count, number};
 
-/// How many faults each script of a family has.
+/// The number of faults of each script of a family.
 #[derive(Clone, Copy, Debug, PartialEq, Eq)]
 pub enum FaultCount {
     One,

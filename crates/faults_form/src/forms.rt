@@ -28,22 +28,22 @@ use scram_io::{Files, Sink, SinkFault};
 use scram_types::Spec;
 use std::alloc::Global;
 
-/// What `faults` asks: the file of a specification, and how many faults each script has.
+/// The question to `faults`: the file of a specification, and the number of faults of each script.
 #[derive(Clone, Copy)]
 pub struct FaultsQuestion<'a> {
     pub specification: &'a str,
     pub count: FaultCount,
 }
 
-/// An accepted specification, and how many faults each script of its family has.
+/// An accepted specification, and the number of faults of each script of its family.
 #[derive(Drop)]
 struct Family {
     spec: Accepted,
     count: FaultCount,
 }
 
-/// Prints the family of fault scripts of the specification in a file, a line each, where the specification is accepted.
-/// All memory is allocated before the first line.
+/// Prints the family of fault scripts of the specification in a file, one line for each script, if the specification is
+/// accepted. All memory is allocated before the first line.
 pub fn faults<F: Files, K: Sink>(
     alloc: Global,
     question: FaultsQuestion<'_>,
@@ -63,7 +63,7 @@ pub fn faults<F: Files, K: Sink>(
     }
 }
 
-/// Reads the specification, and accepts it.
+/// Reads the specification, and checks that it is accepted.
 fn read_family<F: Files>(
     alloc: Global,
     question: FaultsQuestion<'_>,
@@ -102,7 +102,7 @@ fn put_family<K: Sink>(out: &mut K, spec: &Spec, count: FaultCount) -> Result<()
     put_extended(out, spec, kinds.as_slice(), &Faults::new(), count.number())
 }
 
-// Puts the scripts that begin with these faults and have `more` more.
+// Writes the lines of the scripts that begin with these faults and have `more` further faults.
 fn put_extended<K: Sink>(
     out: &mut K,
     spec: &Spec,
@@ -132,7 +132,7 @@ fn put_extended<K: Sink>(
     Ok(())
 }
 
-// Puts the line of the script of these faults, where it keeps to the failure assumption.
+// Writes the line of the script of these faults, if it keeps to the failure assumption.
 fn put_within<K: Sink>(out: &mut K, spec: &Spec, faults: &[Fault]) -> Result<(), SinkFault>
     requires few { length faults.now ≤ 3 }
     requires frame { last_fault_frame faults.now ≤ 4000 }

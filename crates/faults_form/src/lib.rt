@@ -1,4 +1,4 @@
-//! The form `faults`: the family of fault scripts of a specification, line by line. What it prints is the answer to the
+//! The form `faults`: the family of fault scripts of a specification, line by line. Its output is the answer to the
 //! bytes of the file that its words name.
 #![tactic(auto)]
 

@@ -1,4 +1,4 @@
--- The environment of which a demand speaks, where it speaks of any.
+-- The environment to which a demand applies, if it applies to any.
 use Rattle.std.proofs.Common.{◌≡◌, ◌∙◌, ℕ, zero, suc, ◌<◌, ◌≤◌, ◌^◌, ap, arith, length, refl, sym, List, [], ◌∷◌, Bool, true, false, subst}
 use mathlib.Core.Logic.{inl, inr}
 use Rattle.std.specs.Prelude.{◌&&◌, ◌==◌, not, slice_get, Some, bit_and}
@@ -50,7 +50,7 @@ none_past spec demand (suc (suc (suc (suc (suc (suc x)))))) h = refl
 each_rest : {A : Type 0} (Fact : A → Type 0) (x : A) (xs : List A) → Each Fact (x ∷ xs) → Each Fact xs
 each_rest {A} Fact x xs each = λ i y e. each (suc i) y e
 
--- the value that is required of a factor is one that it has, and its first one where none is required
+-- the value that is required of a factor, or its first one if none is required, is one of its values
 
 value_within : (factors : List Factor) (x : ℕ) (factor : Factor) → slice_get factors x ≡ Some factor → 0 < length factor.values
     → (wants : List Want) → Each (IsWant factors) wants → wanted_value wants x < length factor.values
@@ -72,7 +72,7 @@ value_past factors x past (want ∷ wants) each = by_bool (want.factor.0 == x)
     absurd (omega (arith, inside, same)))
     (λ other. rw (other) (value_past factors x past wants (each_rest (IsWant factors) want wants each)))
 
--- an environment that has each value that is required has this one
+-- an environment that has each required value has this one
 value_same : (v : Env) (wants : List Want) (i : ℕ) (want : Want) → list_all (has_wanted v) wants ≡ true → slice_get wants i ≡ Some want
     → wanted_value wants want.factor.0 ≡ want.value
 value_same v [] i want all there = absurd (cc)
@@ -122,7 +122,7 @@ module _ (spec : Parts) (made : IsSpec spec) (demand : Demand) (is : IsDemand sp
   few_up : spoken.up < 2 ^ length spec.procs
   few_up = bits_lt (λ q. not (has_bit demand.down q)) (length spec.procs)
 
-  -- it belongs to the specification
+  -- the environment belongs to the specification
   pub spoken_belongs : IsEnv spec spoken
   spoken_belongs = record {
     up = few_up;
@@ -139,7 +139,7 @@ module _ (spec : Parts) (made : IsSpec spec) (demand : Demand) (is : IsDemand sp
     ];
   }
 
-  -- the processors that have to be up are up, and those that have to be down are down
+  -- the processors that must be up are up, and those that must be down are down
   ups : all_up demand.up spoken ≡ true
   ups = (sets_by_members demand.up spoken).1 (λ p bit. elim (low_or_high p (length spec.procs)) [
     | inl low ↦ up_is p low ∙ ap not (is.apart p bit)
@@ -167,7 +167,7 @@ module _ (spec : Parts) (made : IsSpec spec) (demand : Demand) (is : IsDemand sp
         let few = made.factors_count in
         equal_test _ want.value (value_at spec demand want.factor.0 (omega (arith, inside, few)) ∙ value_same v demand.wants i want all_wanted there))
 
-    -- a demand that speaks of an environment speaks of this one
+    -- a demand that applies to an environment applies to this one
     pub spoken_speaks : speaks_of demand spoken ≡ true
     spoken_speaks =
         and_true (list_all (has_wanted spoken) demand.wants && all_up demand.up spoken) _
@@ -186,11 +186,11 @@ module _ (spec : Parts) (made : IsSpec spec) (demand : Demand) (is : IsDemand sp
         twice_not true h = refl
         twice_not false h = absurd (cc)
 
-    -- and it is in scope where the other one is
+    -- this environment is in scope if the other one is
     pub spoken_in_scope : in_scope spec spoken ≡ true
     spoken_in_scope = at_most_test _ spec.halts (let most = at_most (down_count spec v) spec.halts scope in let fewer = fewer_down in omega (arith, most, fewer))
 
-  -- a demand speaks of some environment in scope exactly where it speaks of this one and this one is in scope
+  -- a demand applies to some environment in scope if and only if it applies to this one and this one is in scope
   pub spoken_somewhere : passes_somewhere spec (speaks_of demand) ≡ (in_scope spec spoken && speaks_of demand spoken)
   spoken_somewhere = same_test _ _
       (λ passes. let found = passes_found spec made (speaks_of demand) passes in

@@ -1,4 +1,4 @@
--- What it means that a part is idle.
+-- The meaning of idle parts.
 use Rattle.std.proofs.Common.{◌≡◌, ap, length, refl, Bool, true, false}
 use mathlib.Core.Logic.{inl, inr}
 use Rattle.std.specs.Prelude.{◌==◌, not}

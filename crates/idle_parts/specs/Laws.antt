@@ -1,4 +1,4 @@
--- What it means that a part of a specification is idle.
+-- The meaning of idle parts of a specification.
 use Rattle.std.specs.Prelude.{◌≡◌, ◌≢◌, ◌⊎◌, ℕ, ◌<◌, true, false, length, slice_get, Some}
 use Rattle.scram_types.specs.Specification.{IsSpec, Parts}
 use Rattle.scram_types.specs.declared.rows.Env.{Env}
@@ -16,7 +16,7 @@ pub record IsFirstFit (spec : Parts) (k : ℕ) (rule : Choice) (c : ConfId) (v :
   pub fits : rule_fits c v rule ≡ true
   pub before : (j : ℕ) (earlier : Choice) → j < k → slice_get spec.rules j ≡ Some earlier → rule_fits c v earlier ≡ false
 
--- From some configuration, in some environment in scope, rule k is the first that fits.
+-- Rule `k` is the first that fits some configuration in some environment in scope.
 pub record IsFirstSomewhere (spec : Parts) (k : ℕ) (rule : Choice) : Type 0 where
   pub c : ConfId
   pub known : c.0 < length spec.confs
@@ -25,39 +25,39 @@ pub record IsFirstSomewhere (spec : Parts) (k : ℕ) (rule : Choice) : Type 0 wh
   pub scope : in_scope spec v ≡ true
   pub first : IsFirstFit spec k rule c v
 
--- A rule is idle exactly where it is the first that fits from no configuration in any environment in scope.
+-- A rule is idle if and only if it is the first that fits for no configuration and no environment in scope.
 pub record RuleIsTold (spec : Parts) (k : ℕ) (rule : Choice) : Type 0 where
   pub idle : is_rule_idle spec k ≡ true
       → (c : ConfId) (v : Env) → c.0 < length spec.confs → IsEnv spec v → in_scope spec v ≡ true → IsFirstFit spec k rule c v → ⊥
   pub used : is_rule_idle spec k ≡ false → IsFirstSomewhere spec k rule
 
--- This holds of each rule.
+-- Each rule is shown as idle if and only if it is never the first that fits.
 abbrev pub RulesAreTold : Type 0
 RulesAreTold = (spec : Parts) (k : ℕ) (rule : Choice) → IsSpec spec → slice_get spec.rules k ≡ Some rule → RuleIsTold spec k rule
 
--- A configuration is idle exactly where it is not the start, and no possible target of another one.
+-- A configuration is idle if and only if it is neither the start nor a possible target of another one.
 pub record ConfIsTold (spec : Parts) (c : ConfId) : Type 0 where
   pub idle : is_conf_idle spec c.0 ≡ true
       → (spec.start.0 ≢ c.0) × ((i : ConfId) → i.0 < length spec.confs → i.0 ≢ c.0 → IsTarget spec i c → ⊥)
   pub used : is_conf_idle spec c.0 ≡ false
       → (spec.start.0 ≡ c.0) ⊎ ((i : ConfId) × (i.0 < length spec.confs) × (i.0 ≢ c.0) × IsTarget spec i c)
 
--- This holds of each configuration.
+-- Each configuration is shown as idle if and only if it is neither the start nor a possible target of another one.
 abbrev pub ConfsAreTold : Type 0
 ConfsAreTold = (spec : Parts) (c : ConfId) → IsSpec spec → ConfIsTold spec c
 
--- A demand speaks of an environment in scope.
+-- A demand applies to some environment in scope.
 pub record SpeaksSomewhere (spec : Parts) (demand : Demand) : Type 0 where
   pub v : Env
   pub belongs : IsEnv spec v
   pub scope : in_scope spec v ≡ true
   pub speaks : speaks_of demand v ≡ true
 
--- A demand is idle exactly where it speaks of no environment in scope.
+-- A demand is idle if and only if it applies to no environment in scope.
 pub record DemandIsTold (spec : Parts) (demand : Demand) : Type 0 where
   pub idle : is_demand_idle spec demand ≡ true → (v : Env) → IsEnv spec v → in_scope spec v ≡ true → speaks_of demand v ≡ false
   pub used : is_demand_idle spec demand ≡ false → SpeaksSomewhere spec demand
 
--- This holds of each demand.
+-- Each demand is shown as idle if and only if it applies to no environment in scope.
 abbrev pub DemandsAreTold : Type 0
 DemandsAreTold = (spec : Parts) (demand : Demand) → IsSpec spec → DemandIsTold spec demand

@@ -1,4 +1,4 @@
--- The lines that tell what is idle.
+-- The lines of idle parts.
 use Rattle.std.specs.Prelude.{ℕ, List, ◌++◌, codes}
 use Rattle.scram_types.specs.Lookups.{conf_name}
 use Rattle.scram_types.specs.Specification.{Parts}
@@ -6,7 +6,7 @@ use Rattle.scram_types.specs.declared.specification.Bound.{Bound}
 use Rattle.idle_parts.specs.declared.lines.PartKind.{PartKind}
 use Rattle.idle_parts.specs.declared.lines.PartKind.TheVariants.{Rule, Conf, Factor, Bound as BoundKind, Mode, App, Proc, Demand}
 
--- the word for a kind of part
+-- The word for a kind of part.
 abbrev pub part_word : PartKind → List ℕ
 part_word Rule = codes "rule"
 part_word Conf = codes "configuration"
@@ -17,10 +17,10 @@ part_word App = codes "application"
 part_word Proc = codes "processor"
 part_word Demand = codes "demand"
 
--- what is idle, by its kind and its name or number
+-- The line of an idle part, given its kind and its name or number.
 abbrev pub idle_line : PartKind → List ℕ → List ℕ
 idle_line kind name = codes "  idle " ++ part_word kind ++ codes " " ++ name ++ codes "\n"
 
--- the names of the configurations of a bound
+-- The names of the configurations of a bound.
 abbrev pub pair_text : Parts → Bound → List ℕ
 pair_text spec bound = conf_name spec bound.from.0 ++ codes " " ++ conf_name spec bound.to.0

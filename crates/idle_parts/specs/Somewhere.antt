@@ -1,4 +1,4 @@
--- What holds in some environment in scope.
+-- Tests that pass in some environment in scope.
 use Rattle.std.specs.Prelude.{Bool}
 use Rattle.scram_types.specs.declared.rows.Env.{Env}
 use Rattle.scram_types.specs.Searches.{any_below}

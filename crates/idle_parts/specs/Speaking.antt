@@ -1,4 +1,4 @@
--- The environment of which a demand speaks, where it speaks of any.
+-- The environment to which a demand applies, if it applies to any.
 use Rattle.std.specs.Prelude.{ℕ, not, ◌==◌, List, [], ◌∷◌, length, if◌then◌else◌}
 use Rattle.scram_types.specs.Bits.{bits_below, has_bit}
 use Rattle.scram_types.specs.Specification.{Parts}
@@ -6,12 +6,13 @@ use Rattle.scram_types.specs.declared.rows.Env.{Env}
 use Rattle.scram_types.specs.declared.specification.Demand.{Demand}
 use Rattle.scram_types.specs.declared.specification.Want.{Want}
 
--- The value that is required of factor x, and the first one where none is.
+-- The value that is required of factor `x`, or the first value if none is required.
 abbrev pub wanted_value : List Want → ℕ → ℕ
 wanted_value [] x = 0
 wanted_value (want ∷ wants) x = if want.factor.0 == x then want.value else wanted_value wants x
 
--- Each factor has the value that a demand requires, and each processor is up but those that have to be down.
+-- The environment in which each factor has the value that a demand requires, and each processor is up unless the demand
+-- requires it to be down.
 abbrev pub spoken_env : Parts → Demand → Env
 spoken_env spec demand = record {
   up = bits_below (λ p. not (has_bit demand.down p)) (length spec.procs);

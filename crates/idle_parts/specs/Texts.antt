@@ -1,4 +1,4 @@
--- The text of what is idle in a specification.
+-- The text of the idle parts of a specification.
 use Rattle.std.specs.Prelude.{ℕ, Bool, List, [], ◌∷◌, ◌++◌, length, slice_get, codes, decimal, if◌then◌else◌}
 use Rattle.std.specs.Option.{option_map_or}
 use Rattle.scram_types.specs.Lookups.{app_name, conf_name, factor_name, kind_of_app, proc_name}
@@ -16,61 +16,62 @@ use Rattle.idle_parts.specs.Lines.{idle_line, pair_text}
 use Rattle.idle_parts.specs.Places.{is_app_idle, is_mode_idle, is_proc_idle}
 use Rattle.idle_parts.specs.Wants.{is_demand_idle, is_factor_idle}
 
--- the line of a part, where it is idle
+-- The line of a part, if it is idle.
 abbrev pub line_if : Bool → PartKind → List ℕ → List ℕ
 line_if is_idle kind name = if is_idle then idle_line kind name else []
 
--- the line of rule k, where it is idle
+-- The line of rule `k`, if it is idle.
 abbrev pub idle_rule_text : Parts → ℕ → List ℕ
 idle_rule_text spec k = line_if (is_rule_idle spec k) kind.Rule (decimal k)
 
--- the line of configuration number c
+-- The line of configuration number `c`, if it is idle.
 abbrev pub idle_conf_text : Parts → ℕ → List ℕ
 idle_conf_text spec c = line_if (is_conf_idle spec c) kind.Conf (conf_name spec c)
 
--- the line of factor x
+-- The line of factor `x`, if it is idle.
 abbrev pub idle_factor_text : Parts → ℕ → List ℕ
 idle_factor_text spec x = line_if (is_factor_idle spec x) kind.Factor (factor_name spec x)
 
--- the line of a bound
+-- The line of a bound, if it is idle.
 abbrev pub idle_bound_text : Parts → Bound → List ℕ
 idle_bound_text spec bound = line_if (is_bound_idle spec bound) kind.Bound (pair_text spec bound)
 
--- the line of bound number k
+-- The line of bound number `k`, if it is idle.
 abbrev pub idle_bound_text_at : Parts → ℕ → List ℕ
 idle_bound_text_at spec k = option_map_or (idle_bound_text spec) (slice_get spec.bounds k) []
 
--- the line of a mode of application number a
+-- The line of a mode of application number `a`, if it is idle.
 abbrev pub mode_line : Parts → ℕ → ModeSpec → List ℕ
 mode_line spec a listed =
     line_if (is_mode_idle spec a listed.mode.0) kind.Mode (app_name spec a ++ codes " " ++ mode_text (kind_of_app spec a) listed.mode.0)
 
--- the lines of these modes of application number a
+-- The lines of those of these modes of application number `a` that are idle.
 abbrev pub idle_modes_text : Parts → ℕ → List ModeSpec → List ℕ
 idle_modes_text spec a [] = []
 idle_modes_text spec a (listed ∷ modes) = mode_line spec a listed ++ idle_modes_text spec a modes
 
--- the lines of the modes that application number a lists
+-- The lines of the idle modes that application number `a` lists.
 abbrev pub idle_modes_text_of : Parts → ℕ → List ℕ
 idle_modes_text_of spec a = option_map_or (λ (app : AppSpec). idle_modes_text spec a app.modes) (slice_get spec.apps a) []
 
--- the line of application number a
+-- The line of application number `a`, if it is idle.
 abbrev pub idle_app_text : Parts → ℕ → List ℕ
 idle_app_text spec a = line_if (is_app_idle spec a) kind.App (app_name spec a)
 
--- the line of processor p
+-- The line of processor `p`, if it is idle.
 abbrev pub idle_proc_text : Parts → ℕ → List ℕ
 idle_proc_text spec p = line_if (is_proc_idle spec p) kind.Proc (proc_name spec p)
 
--- the line of a demand
+-- The line of a demand, if it is idle.
 abbrev pub idle_demand_text : Parts → Demand → List ℕ
 idle_demand_text spec demand = line_if (is_demand_idle spec demand) kind.Demand demand.name
 
--- the line of demand number k
+-- The line of demand number `k`, if it is idle.
 abbrev pub idle_demand_text_at : Parts → ℕ → List ℕ
 idle_demand_text_at spec k = option_map_or (idle_demand_text spec) (slice_get spec.demands k) []
 
--- The line of part number n of a kind, where it is idle; of an application a line for each of its modes that is idle.
+-- The line of part number `n` of a kind, if the part is idle. For the kind of modes, the lines of the idle modes of
+-- application number `n`.
 abbrev pub idle_part_text : Parts → PartKind → ℕ → List ℕ
 idle_part_text spec kind.Rule n = idle_rule_text spec n
 idle_part_text spec kind.Conf n = idle_conf_text spec n
@@ -81,7 +82,7 @@ idle_part_text spec kind.App n = idle_app_text spec n
 idle_part_text spec kind.Proc n = idle_proc_text spec n
 idle_part_text spec kind.Demand n = idle_demand_text_at spec n
 
--- How many parts of a kind a specification has; of modes, how many applications.
+-- The number of parts of a kind in a specification. For the kind of modes, the number of applications.
 abbrev pub part_count : Parts → PartKind → ℕ
 part_count spec kind.Rule = length spec.rules
 part_count spec kind.Conf = length spec.confs
@@ -92,11 +93,11 @@ part_count spec kind.App = length spec.apps
 part_count spec kind.Proc = length spec.procs
 part_count spec kind.Demand = length spec.demands
 
--- the lines of the parts of a kind that are idle, in the order of the specification
+-- The lines of the idle parts of a kind, in the order of the specification.
 abbrev pub kind_lines : Parts → PartKind → List ℕ
 kind_lines spec kind = texts_below (idle_part_text spec kind) (part_count spec kind)
 
--- The lines of what a specification says and nothing uses, kind by kind.
+-- The lines of the idle parts of a specification, kind by kind.
 abbrev pub idle_text : Parts → List ℕ
 idle_text spec =
     kind_lines spec kind.Rule ++ kind_lines spec kind.Conf ++ kind_lines spec kind.Factor ++ kind_lines spec kind.Bound

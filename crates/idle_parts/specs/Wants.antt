@@ -1,4 +1,4 @@
--- The factors and demands that concern nothing.
+-- The factors and demands that have no effect.
 use Rattle.std.specs.Prelude.{ℕ, Bool, not, ◌&&◌, ◌==◌, nat_lt, length}
 use Rattle.std.specs.List.{list_any}
 use Rattle.scram_types.specs.Lookups.{kind_of_app}
@@ -21,7 +21,7 @@ any_wants_factor x rule = list_any (λ (want : Want). want.factor.0 == x) rule.w
 abbrev pub is_factor_wanted : Parts → ℕ → Bool
 is_factor_wanted spec x = list_any (any_wants_factor x) spec.rules
 
--- Application a is a power monitor, which some configuration places.
+-- Application `a` is a power monitor that some configuration places.
 abbrev pub is_placed_monitor : Parts → ℕ → Bool
 is_placed_monitor spec a = kind_of_app spec a == POWER_MONITOR && is_app_placed spec a
 
@@ -29,10 +29,11 @@ is_placed_monitor spec a = kind_of_app spec a == POWER_MONITOR && is_app_placed 
 abbrev pub is_supply_read : Parts → ℕ → Bool
 is_supply_read spec x = nat_lt x POWER_FACTORS && any_below (is_placed_monitor spec) (length spec.apps)
 
--- No rule requires a value of factor x, and it is no supply of power that an application reads. Demands do not count.
+-- No rule requires a value of factor `x`, and the factor is not a power supply that an application reads. Demands do
+-- not count.
 abbrev pub is_factor_idle : Parts → ℕ → Bool
 is_factor_idle spec x = not (is_factor_wanted spec x) && not (is_supply_read spec x)
 
--- A demand speaks of no environment in scope.
+-- A demand applies to no environment in scope.
 abbrev pub is_demand_idle : Parts → Demand → Bool
 is_demand_idle spec demand = not (passes_somewhere spec (speaks_of demand))

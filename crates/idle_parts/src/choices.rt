@@ -16,14 +16,15 @@ use scram_types::{Bound, ConfId, List, NoMemory, Spec};
 use spec_forms::{find_asked, is_asked};
 use std::alloc::Global;
 
-// What each configuration may choose: the shares of the rules, and the configurations to which a bound is asked for.
+// The possible choices from each configuration: the shares of the rules, and the configurations to which a bound is
+// required.
 #[derive(Drop)]
 pub(crate) struct Chosen {
     pub(crate) shares: Vec<List<Share>>,
     pub(crate) sets: [u16; 12],
 }
 
-// Returns what each configuration may choose.
+// Returns the possible choices from each configuration.
 pub(crate) fn find_chosen(alloc: Global, spec: &Spec) -> Result<Chosen, NoMemory>
     ensures { IfOk result (λ chosen. IsChosenBy spec.now chosen) }
 {
@@ -32,7 +33,7 @@ pub(crate) fn find_chosen(alloc: Global, spec: &Spec) -> Result<Chosen, NoMemory
     Ok(Chosen { shares, sets })
 }
 
-// Returns whether rule `k` is the first that fits from no configuration in any environment in scope.
+// Returns whether rule `k` is the first that fits for no configuration and no environment in scope.
 pub(crate) fn is_rule_idle(spec: &Spec, shares: &[List<Share>], k: u8) -> bool
     requires shares { HasShares spec.now shares.now }
     requires rule { k < length spec.now.rules }
@@ -63,7 +64,7 @@ fn is_first_from(spec: &Spec, shares: &[Share], k: u8, i: u8) -> bool
     has_environment(spec, &shares[usize::from(k)], k, i)
 }
 
-// Returns the same by the share of the rule.
+// Returns the same from the share of the rule.
 fn has_environment(spec: &Spec, share: &Share, k: u8, i: u8) -> bool
     requires { IsShare spec.now (is_ruled_by spec.now (conf_id i) k) share.now }
     ensures { result ≡ is_first_from spec.now k i }
@@ -80,7 +81,7 @@ fn count_confs(spec: &Spec) -> u8
     spec.confs.items().len() as u8
 }
 
-// Returns whether a configuration is not the start, and no possible target of another one.
+// Returns whether a configuration is neither the start nor a possible target of another configuration.
 pub(crate) fn is_conf_idle(spec: &Spec, sets: &[u16; 12], c: u8) -> bool
     requires sets { HasAskedBounds spec.now sets.now }
     requires conf { c < length spec.now.confs }
@@ -102,7 +103,8 @@ fn is_target_of_others(spec: &Spec, sets: &[u16; 12], c: u8) -> bool
     false
 }
 
-// Returns whether configuration `c` is a possible target of `i`, which is another one; a bound is asked for each of these.
+// Returns whether configuration `c` is a possible target of another configuration `i`. A bound is required for each
+// such target.
 fn is_target_of_other(spec: &Spec, set: u16, c: u8, i: u8) -> bool
     requires set { set ≡ asked_bounds spec.now (conf_id i) }
     requires conf { c < length spec.now.confs }
@@ -112,7 +114,7 @@ fn is_target_of_other(spec: &Spec, set: u16, c: u8, i: u8) -> bool
     i != c && is_asked(spec, set, ConfId(i), ConfId(c))
 }
 
-// Returns whether acceptance does not ask for a bound; `set` has those from its source that are asked for.
+// Returns whether acceptance does not require a bound. `set` has the required targets of the bound's source.
 pub(crate) fn is_bound_idle(spec: &Spec, set: u16, bound: &Bound) -> bool
     requires set { set ≡ asked_bounds spec.now bound.now.from }
     requires to { bound.now.to.0 < length spec.now.confs }

@@ -1,5 +1,5 @@
-//! What a specification says and nothing uses, and the lines that tell it: rules, configurations, factors, bounds, modes,
-//! applications, processors and demands.
+//! The idle parts of a specification, which nothing uses, and their lines: rules, configurations, factors, bounds,
+//! modes, applications, processors and demands.
 #![tactic(auto)]
 
 mod choices;

@@ -1,4 +1,4 @@
-//! The lines that tell what is idle, made without memory.
+//! The lines of idle parts, made without memory.
 
 ghost use Rattle.std.specs.Prelude.{◌≡◌, ◌≤◌, length};
 ghost use Rattle.idle_parts.specs.Lines.{idle_line, part_word};
@@ -19,7 +19,7 @@ pub(crate) enum PartKind {
     Demand,
 }
 
-// Returns the line of a part that is idle, by its kind and its name of at most 64 bytes.
+// Returns the line of an idle part, given its kind and its name of at most 64 bytes.
 pub(crate) fn make_idle_line(kind: PartKind, name: &[u8]) -> Line
     requires { length name.now ≤ 64 }
     ensures { result ≡ idle_line kind name.now }

@@ -1,4 +1,4 @@
-//! The text of what is idle in a specification.
+//! The text of the idle parts of a specification.
 
 ghost use Rattle.std.specs.Prelude.{◌≡◌, ◌<◌, ◌≤◌, ◌++◌, IfOk, OnOk, length};
 ghost use Rattle.choice_forms.specs.Tables.{HasShares};
@@ -19,7 +19,7 @@ use std::alloc::{AllocError, Global};
 use trace_text::lines::Line;
 use trace_text::row_lines::name_of_mode;
 
-/// Returns the lines of what a specification says and nothing uses, kind by kind.
+/// Returns the lines of the idle parts of a specification, kind by kind.
 ///
 /// # Errors
 ///
@@ -47,7 +47,7 @@ fn add_all(text: &mut Vec<u8>, spec: &Spec, chosen: &Chosen) -> Result<(), Alloc
     add_kind(text, spec, chosen, PartKind::Demand)
 }
 
-// Appends the lines of the parts of a kind that are idle.
+// Appends the lines of the idle parts of a kind.
 fn add_kind(
     text: &mut Vec<u8>,
     spec: &Spec,
@@ -80,7 +80,8 @@ fn part_count(spec: &Spec, kind: PartKind) -> u8
     count as u8
 }
 
-// Appends the line of part number `n` of a kind, where it is idle; of an application those of its modes.
+// Appends the line of part number `n` of a kind, if the part is idle. For the kind of modes, appends the lines of the
+// idle modes of application number `n`.
 fn add_part(
     text: &mut Vec<u8>,
     spec: &Spec,
@@ -251,7 +252,7 @@ fn add_demand(text: &mut Vec<u8>, spec: &Spec, demand: &Demand) -> Result<(), Al
     add_if(text, is_demand_idle(spec, demand), PartKind::Demand, name)
 }
 
-// Appends the line of a part, where it is idle.
+// Appends the line of a part, if it is idle.
 fn add_if(text: &mut Vec<u8>, is_idle: bool, kind: PartKind, name: &[u8]) -> Result<(), AllocError>
     requires { length name.now ≤ 64 }
     ensures { OnOk result (text.new.items ≡ text.old.items ++ line_if is_idle kind name.now) }

@@ -1,4 +1,4 @@
-//! The factors and demands that concern nothing.
+//! The factors and demands that have no effect.
 
 ghost use Rattle.std.specs.Prelude.{◌≡◌, ◌<◌, ◌≤◌, ◌^◌, ◌&&◌, length, not};
 ghost use Rattle.choice_table.specs.Demands.{speaks_of};
@@ -15,10 +15,10 @@ use choice_table::{in_scope, speaks_of};
 use scram_types::bits::has_bit;
 use scram_types::{AppId, Choice, Demand, Env, FactorId, Spec, Want};
 
-/// The number of the first factors that supply power, which power monitors read.
+/// The number of factors, from the first on, that supply power. Power monitors read them.
 pub const POWER_FACTORS: u8 = 2;
 
-// Returns whether no rule requires a value of a factor, and it is no supply of power that an application reads.
+// Returns whether no rule requires a value of a factor, and the factor is not a power supply that an application reads.
 pub(crate) fn is_factor_idle(spec: &Spec, factor: FactorId) -> bool
     ensures { result ≡ is_factor_idle spec.now factor.0 }
 {
@@ -74,7 +74,7 @@ fn is_placed_monitor(spec: &Spec, app: AppId) -> bool
     spec.kind_of_app(app).0 == power_monitor::KIND && is_app_placed(spec, app)
 }
 
-// Returns whether a demand speaks of no environment in scope.
+// Returns whether a demand applies to no environment in scope.
 pub(crate) fn is_demand_idle(spec: &Spec, demand: &Demand) -> bool
     requires { IsDemand spec.now.procs spec.now.apps spec.now.confs spec.now.factors demand.now }
     ensures { result ≡ is_demand_idle spec.now demand.now }
@@ -85,15 +85,15 @@ pub(crate) fn is_demand_idle(spec: &Spec, demand: &Demand) -> bool
     !speaks_in_scope(spec, demand, &env)
 }
 
-// Returns whether an environment is in scope and a demand speaks of it.
+// Returns whether an environment is in scope and a demand applies to it.
 fn speaks_in_scope(spec: &Spec, demand: &Demand, env: &Env) -> bool
     ensures { result ≡ (in_scope spec.now env.now && speaks_of demand.now env.now) }
 {
     in_scope(spec, env) && speaks_of(demand, env)
 }
 
-// Returns the environment in which each factor has the value that a demand requires and each processor is up but those
-// that have to be down.
+// Returns the environment in which each factor has the value that a demand requires, and each processor is up unless
+// the demand requires it to be down.
 fn make_spoken(spec: &Spec, demand: &Demand) -> Env
     ensures { result ≡ spoken_env spec.now demand.now }
 {

@@ -1,4 +1,4 @@
--- Bounds of an event that is next, and the list of events with one more.
+-- Bounds of an event that is next, and the list of events with this event appended.
 use Rattle.std.proofs.Common.{◌≡◌, ℕ, ◌+◌, ◌<◌, ◌≤◌, refl, ap, subst, arith, List, [], ◌∷◌, ◌++◌, length}
 use Rattle.std.specs.Prelude.{Option, Some}
 use Rattle.scram_types.specs.Scripts.{ScriptParts}

@@ -64,7 +64,7 @@ module _ {X : Type 0} {Y : X → Type 0} (old new : PairParts) where
     flyers = flyers_go old new (Fly p u) step flyers2 are;
   }
 
-  -- with the kernel of the unit that has made a note
+  -- the kernel of the unit that has made a note
   pub first_notes : (u : ℕ) (p : ProcId) → u ≡ 0 → IsPairStep old (Note u p) new → (first first2 second : KernelParts) (flyers : List (Flyer X Y)) → PairCoreKeeps old first second flyers → IsKernelOf new u first2 → PairCoreKeeps new first2 second flyers
   first_notes u p zero step first first2 second flyers k is =
       let own : IsPairStep old (Note 0 p) new = subst (λ (v : ℕ). IsPairStep old (Note v p) new) zero step in record {
@@ -126,7 +126,7 @@ turn_words m s (Meet u) draft word turn = tt
 turn_words m s (Release u) draft word turn = tt
 turn_words m s (Stop u) draft word turn = tt
 
--- the kernel's image of the next frame, where a unit stores a word of it
+-- the kernel's image of the next frame if a unit stores a word of it
 pub image_stored : (k : PairParts) (u i : ℕ) (kernel : KernelParts) (image : KernelImage) → IsPairNext (pair_flight k) k.halt (pair_in k) (Store u i) → IsKernelOf k u kernel → image ≡ kernel_image kernel.spec kernel.script kernel.past
     → image ≡ kernel_image k.spec k.script (suc ((pair_in k).unit u).frame)
 image_stored k u i kernel image next is said =

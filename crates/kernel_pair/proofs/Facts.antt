@@ -1,4 +1,4 @@
--- What both units have noted where one has released a frame.
+-- The notes of both units if one has released a frame.
 use Rattle.std.proofs.Common.{◌≡◌, ◌≢◌, inl, inr, ℕ, suc, ◌+◌, ◌<◌, ◌≤◌, subst, arith}
 use Rattle.std.specs.Prelude.{Option, None, nat_le, nat_lt, if◌then◌else◌}
 use Rattle.std.proofs.lemmas.Bool.Decides.{nat_tests}

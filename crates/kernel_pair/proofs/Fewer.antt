@@ -1,4 +1,4 @@
--- After an event fewer can come.
+-- After an event fewer events remain.
 use Rattle.std.proofs.Common.{◌≡◌, ◌∙◌, ℕ, zero, suc, ◌+◌, ◌-◌, ◌*◌, ◌<◌, ◌≤◌, Bool, true, false, ◌&&◌, refl, sym, ap, subst, arith}
 use Rattle.std.specs.Prelude.{Option, Some, None, is_none, nat_eq, if◌then◌else◌}
 use native.Mathlib.Decide.{ℕ_discrete}
@@ -44,7 +44,7 @@ one_less m halt s zero x l less = omega arith
 one_less m halt s (suc zero) x l less = omega arith
 one_less m halt s (suc (suc u)) x l less = absurd (omega arith)
 
--- a step more, a frame more
+-- after one more step, and after one more frame
 step_less : (w d j h : ℕ) → 0 < d → j < w → (d * w - suc j) + h < (d * w - j) + h
 step_less w zero j h l n = absurd (omega arith)
 step_less w (suc d) j h l n = let a : suc d * w ≡ d * w + w = mul_suc w d in rw a (omega arith)

@@ -19,7 +19,7 @@ use Rattle.kernel_pair.proofs.Frames.{restart_past_is}
 use Rattle.scram_types.specs.declared.ids.ProcId.{ProcId}
 
 module _ {X : Type 0} {Y : X → Type 0} (m : Flight) (p f : ℕ) where
-  -- before it starts, a processor that has halted has a spare rack
+  -- a processor that has halted has a spare rack before it starts
   pub has_spare : (place : Place) (flyer : Flyer X Y) → IsFlyerAt m p place flyer → to_make (m.restart p) place ≡ Some f → is_halted place ≡ true → is_some flyer.spare ≡ true
   has_spare (At g n) flyer is makes halted = cc
   has_spare (Halted h) flyer is makes halted = let r = restart_past_is (m.restart p) h f makes in is.spare f r.0 r.1
@@ -63,7 +63,7 @@ module _ (m : Flight) (halt : Option UnitHalt) (s : Pair) (p : ProcId) (u f : �
   place_kept : (q : ℕ) → (q ≡ p.0 → ⊥) → places_in (pair_after m halt s (Fly p u)) q ≡ places_in s q
   place_kept q other = ap (λ (b : Bool). (if b then next_made m p.0 (to_make (m.restart p.0) (s.proc p.0).place) (s.proc p.0) else s.proc q).place) (nat_eq_other q p.0 other)
 
-  -- the others stand where they stood
+  -- the other processors stay at their places
   pub flyers_after : {X : Type 0} {Y : X → Type 0} (flyers : List (Flyer X Y)) (flyer : Flyer X Y) → AreFlyersAt m (places_in s) flyers → p.0 < 8 → IsFlyerAt m p.0 (after_frame f (m.halt p.0 f)) flyer
       → AreFlyersAt m (places_in (pair_after m halt s (Fly p u))) (slice_set flyers p.0 flyer)
   flyers_after {X} {Y} flyers flyer are low is =

@@ -1,4 +1,4 @@
--- A pair that is flown on, event by event: fewer events can come, or it stands where it stood.
+-- A pair whose flight goes on, event by event: fewer events remain, or the state has not changed.
 use Rattle.std.proofs.Common.{◌≡◌, ◌∙◌, ◌⊎◌, ℕ, ◌+◌, ◌<◌, ◌≤◌, ap, sym, subst, arith, inl, inr, length}
 use Rattle.std.specs.Prelude.{Option, Some, None}
 use native.Mathlib.Decide.{ℕ_discrete}
@@ -64,7 +64,7 @@ next_of_unit m halt s u e l i = by_event e i (goes m halt u (s.unit u) (s.unit (
     by_event (Release v) i of = own v (Release v) i of
     by_event (Stop v) i of = own v (Stop v) i of
 
--- a made event leaves fewer
+-- fewer events remain after an event
 pub attempted : (old new : PairParts) (e : PairEvent) → IsPairNext (pair_flight old) old.halt (pair_in old) e → IsFlownOn old new (IsPairNext (pair_flight old) old.halt (pair_in old) e → ⊥) → left_in new < left_in old
 attempted old new e next on = by_left (ℕ_discrete (left_in new) (left_in old))
   where
@@ -93,7 +93,7 @@ none_next k none few (e, next) = by_event e next
     by_event (Release u) i = no_unit u (Release u) i.0 i.1
     by_event (Stop u) i = no_unit u (Stop u) i.0 i.1
 
--- a round leaves fewer where the pair is not over
+-- fewer events remain after a round if the pair is not over
 pub round_fewer : (old new : PairParts) → length old.spec.procs ≤ 8 → IsPairOver (pair_flight old) (pair_in old) ⊎ HasNext (pair_flight old) old.halt (pair_in old) → (IsPairOver (pair_flight old) (pair_in old) → ⊥)
     → IsFlownOn old new (NoneNext old) → left_in new < left_in old
 round_fewer old new few (inl over) going on = absurd (going over)
@@ -117,7 +117,7 @@ below_more k n before here q u low l next = by_place (ℕ_discrete q.0 n)
 abbrev Processors : PairParts → Type 0
 Processors k = (q : ProcId) (u : ℕ) → q.0 < 8 → u < 2 → IsPairNext (pair_flight k) k.halt (pair_in k) (Fly q u) → ⊥
 
--- all processors, and then both units
+-- all processors, followed by both units
 pub round_on : (old mid mid2 new : PairParts) → IsFlownOn old mid ((q : ProcId) (u : ℕ) → q.0 < 8 → u < 2 → IsPairNext (pair_flight old) old.halt (pair_in old) (Fly q u) → ⊥)
     → IsFlownOn mid mid2 (next_unit (pair_flight mid) mid.halt (pair_in mid) 0 ≡ None) → IsFlownOn mid2 new (next_unit (pair_flight mid2) mid2.halt (pair_in mid2) 1 ≡ None) → IsFlownOn old new (NoneNext old)
 round_on old mid mid2 new one two_ three =

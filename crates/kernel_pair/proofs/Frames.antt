@@ -1,4 +1,4 @@
--- A processor that makes a frame has what its next place says.
+-- A processor that makes a frame has the words of its next place.
 use Rattle.std.proofs.Common.{◌≡◌, ℕ, suc, ◌+◌, ◌-◌, ◌*◌, ◌%◌, ◌<◌, Bool, true, false, ◌&&◌, refl, sym, ap, subst, ◌∙◌, arith}
 use Rattle.std.specs.Prelude.{Option, Some, None, nat_lt, nat_eq, if◌then◌else◌}
 use Rattle.std.proofs.lemmas.Bool.Decides.{nat_tests}
@@ -49,7 +49,7 @@ begun_at m p f (Halted h) x y d mark bank e =
 pub begun : (m : Flight) (p f : ℕ) (x : Processor) → Flies m → IsProcessor m p x → to_make (m.restart p) x.place ≡ Some f → Begun m p f x
 begun m p f x y o e = begun_at m p f x.place x y o.place o.mark o.bank e
 
--- at the place that frame f leaves, marks, end words and banks are those before the next frame
+-- at the place after frame f, marks, end words and banks are those before the next frame
 standing_past : (m : Flight) (p f : ℕ) (o : Option ℕ) → Flies m → m.up p f ≡ true → f < m.frames → m.halt p f ≡ o → IsStanding m p (after_frame f o)
 standing_past m p f None y u l e = record { fresh = refl; within = l; up = y.stays p f u e; done = end_up m p f u ∙ ap (λ (o : Option ℕ). end_word_after f o) e }
 standing_past m p f (Some s) y u l e = record { step = s; up = u; halts = e }

@@ -1,4 +1,4 @@
--- What holds in a state that has the invariant.
+-- The facts that hold in a state with the invariant.
 use Rattle.std.proofs.Common.{ap, ◌∙◌, ℕ, suc, ◌<◌, List, length}
 use Rattle.std.specs.Prelude.{Option}
 use Rattle.scram_types.specs.declared.ids.ProcId.{ProcId}

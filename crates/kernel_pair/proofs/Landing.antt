@@ -1,4 +1,4 @@
--- What a flight keeps at its opening, and what the kernels have at its end.
+-- The invariant of a flight at its opening, and the kernels at its end.
 use Rattle.std.proofs.Common.{◌≡◌, ◌∙◌, ◌⊎◌, ℕ, suc, ◌<◌, refl, ap, sym, subst, arith, Bool, true, false, inl, inr, List, [], ◌∷◌, ◌++◌, length}
 use Rattle.std.specs.Prelude.{Option, Some, None, drop, is_some, nat_le, slice_index_or, take, if◌then◌else◌}
 use Rattle.std.proofs.lemmas.Bool.Decides.{nat_tests}

@@ -1,4 +1,4 @@
--- An event changes one actor: what is to be shown of that actor for the invariant to stand.
+-- An event changes one actor. These are the facts about that actor from which the invariant follows.
 use Rattle.std.proofs.Common.{◌≡◌, ℕ, zero, suc, ◌<◌, ◌≤◌, arith}
 use Rattle.std.specs.Prelude.{Option}
 use native.Mathlib.Decide.{ℕ_discrete}
@@ -8,19 +8,19 @@ use Rattle.kernel_pair.specs.declared.events.UnitHalt.{UnitHalt}
 use Rattle.kernel_pair.specs.Pairs.{Processor, KernelUnit, Pair, other_unit, with_at, with_proc, with_unit}
 use Rattle.kernel_pair.specs.Kept.{HasMet, IsAhead, IsProcessor, IsReached, IsUnit, PairKept, frames_past}
 
--- what holds of 0 and 1 holds of each unit
+-- a fact that holds for units 0 and 1 holds for each unit
 pub two : (P : ℕ → Type 0) → P 0 → P 1 → (v : ℕ) → v < 2 → P v
 two P a b zero l = a
 two P a b (suc zero) l = b
 two P a b (suc (suc v)) l = absurd (omega arith)
 
--- what holds of a unit and the other one holds of each
+-- a fact that holds for a unit and for the other one holds for each unit
 pub both : (u : ℕ) → u < 2 → (P : ℕ → Type 0) → P u → P (other_unit u) → (v : ℕ) → v < 2 → P v
 both zero l P a b = two P a b
 both (suc zero) l P a b = two P b a
 both (suc (suc u)) l P a b = absurd (omega arith)
 
--- what is to be shown of unit u that becomes x
+-- the facts about unit u that becomes x from which the invariant follows
 pub record UnitMoves (m : Flight) (halt : Option UnitHalt) (s : Pair) (u : ℕ) (x : KernelUnit) : Type 0 where
   pub own : IsUnit m halt u x
   pub ahead : (p : ℕ) → p < m.procs → IsAhead m p (s.proc p).place x

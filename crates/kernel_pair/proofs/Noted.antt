@@ -1,4 +1,4 @@
--- In how many frames the units have noted every processor, before and after an event.
+-- The number of frames in which the units have noted every processor, before and after an event.
 use Rattle.std.proofs.Common.{◌≡◌, ◌∙◌, ℕ, suc, ◌<◌, ◌≤◌, refl, ap, sym, arith}
 use Rattle.std.specs.Prelude.{Option, Some, nat_le, if◌then◌else◌}
 use Rattle.std.proofs.lemmas.Bool.Decides.{nat_tests}
@@ -61,7 +61,7 @@ module _ (m : Flight) (halt : Option UnitHalt) (s : Pair) where
       with_same m s v (released (s.unit v)) (none_noted m.procs (suc (s.unit v).frame) some ∙ sym (all_noted m.procs (s.unit v).step (s.unit v).frame (omega (arith, at)))) u
   noted_same some (Stop v) next i u = with_same m s v (halted_unit (halt_frame halt) (s.unit v)) refl u
 
-  -- a unit whose next event is a note stands in a frame that is flown, and has not noted every processor
+  -- a unit whose next event is a note is in a frame of the flight, and has not noted every processor
   pub record Noting (u : ℕ) : Type 0 where
     pub low : (s.unit u).step < m.procs
     pub below : (s.unit u).frame < m.frames

@@ -1,4 +1,4 @@
--- What a processor reads that makes a frame, and what a unit notes.
+-- The words that a processor reads when it makes a frame, and those that a unit notes.
 use Rattle.std.proofs.Common.{◌≡◌, ℕ, suc, ◌+◌, ◌%◌, ◌<◌, ◌≤◌, true, refl, sym, ap, subst, ◌∙◌, arith}
 use Rattle.std.specs.Prelude.{Option, Some, None}
 use Rattle.std.proofs.lemmas.Bool.Decides.{nat_tests}
@@ -17,7 +17,7 @@ use Rattle.kernel_pair.specs.Kept.{HasMet, IsProcessor, IsStanding, IsUnit, Pair
 use Rattle.kernel_pair.proofs.Frames.{restart_past_is, restart_past_some}
 use Rattle.kernel_pair.proofs.Moving.{both, two}
 
--- while no unit is ahead of frame k, a processor stands as with one kernel in frame k
+-- while no unit is ahead of frame k, a processor has the same place as with one kernel in frame k
 pub placed_by : (m : Flight) (k j p : ℕ) (place : Place) → IsStanding m p place → ((f : ℕ) → to_make (m.restart p) place ≡ Some f → NotBelow k j p f) → frames_past place ≤ suc k → IsPlaced m k j p place
 placed_by m k j p (At f n) w a b = record { up = w.up; low = (a f refl).0; high = b; fresh = λ g. w.fresh; within = rw w.fresh (omega arith); noted = (a f refl).1; done = λ g. w.done }
 placed_by m k j p (Halted h) d a b = record {
@@ -93,7 +93,7 @@ module _ (m : Flight) (halt : Option UnitHalt) (s : Pair) (y : Flies m) (k : Pai
         image = λ i li. rw (side_of m p (suc (s.unit u).frame) (s.proc p).mark mark) (o.bank (side m p (suc (s.unit u).frame)) i (omega arith) li ∙ g.held i li);
       }
 
-  -- what a processor reads that makes frame f by the words of unit u
+  -- the words that a processor reads when it makes frame f by the words of unit u
   pub record Read (u f : ℕ) : Type 0 where
     pub frame : f ≡ (s.unit u).frame
     pub some : 0 < m.frames

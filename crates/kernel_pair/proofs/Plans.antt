@@ -1,4 +1,4 @@
--- Where a unit stands whose next event is given.
+-- The place of a unit whose next event is given.
 use Rattle.std.proofs.Common.{◌≡◌, ℕ, suc, ◌+◌, ◌-◌, ◌<◌, ◌≤◌, Bool, true, false, ◌&&◌, refl, subst, arith}
 use Rattle.std.specs.Prelude.{Option, Some, None, is_some, nat_lt, nat_eq, if◌then◌else◌}
 use Rattle.std.proofs.lemmas.Bool.Decides.{nat_tests}
@@ -27,7 +27,7 @@ IsOf u (Meet v) = v ≡ u
 IsOf u (Release v) = v ≡ u
 IsOf u (Stop v) = v ≡ u
 
--- where unit u stands if its next event is this one
+-- the place of unit u if its next event is this one
 abbrev pub Planned : Flight → ℕ → ℕ → ℕ → ℕ → (ℕ → ℕ) → Bool → PairEvent → Type 0
 Planned m u k j ready ends stops (Fly p v) = ⊥
 Planned m u k j ready ends stops (Note v p) = (j < m.procs) × (p ≡ proc_id j) × (may_note m j k (ends j) ≡ true)
@@ -37,7 +37,7 @@ Planned m u k j ready ends stops (Meet v) = (may_meet k ready ≡ true) × Behin
 Planned m u k j ready ends stops (Release v) = Behind m k j 22
 Planned m u k j ready ends stops (Stop v) = stops ≡ true
 
--- it is one of this unit, which stands there
+-- the event is one of this unit, which is at that place
 abbrev PlansOwn : Flight → ℕ → ℕ → ℕ → ℕ → (ℕ → ℕ) → Bool → PairEvent → Type 0
 PlansOwn m u k j ready ends stops e = IsOf u e × Planned m u k j ready ends stops e
 

@@ -1,4 +1,4 @@
--- Where a pair is not over, some processor or some unit has a next event.
+-- If a pair is not over, some processor or some unit has a next event.
 use Rattle.std.proofs.Common.{◌≡◌, ◌⊎◌, ℕ, suc, ◌+◌, ◌-◌, ◌*◌, ◌%◌, ◌<◌, ◌≤◌, Bool, true, false, ◌||◌, refl, sym, ap, subst, ◌∙◌, inl, inr, arith}
 use Rattle.std.specs.Prelude.{Option, Some, None, nat_lt, nat_le, nat_eq, if◌then◌else◌}
 use Rattle.std.proofs.lemmas.Bool.Decides.{nat_tests}
@@ -164,7 +164,7 @@ module _ (m : Flight) (halt : Option UnitHalt) (s : Pair) (y : Flies m) (k : Pai
   late : (u : ℕ) → u < 2 → Meeting m (s.unit u) (s.unit (other_unit u)).ready → Late m (s.unit u) (s.unit (other_unit u))
   late u l w = let z : IsUnit m halt (other_unit u) (s.unit (other_unit u)) = k.units (other_unit u) (other_less u) in late_by m (s.unit u) (s.unit (other_unit u)) (s.unit (other_unit u)).stopped refl (z.ready) w.waits
 
-  -- where a unit has made its last note, all processors are done
+  -- if a unit has made its last note, all processors are done
   all_done : (u : ℕ) → u < 2 → IsAtEnd m (s.unit u) → ((p r : ℕ) → m.restart p ≡ Some r → suc r ≤ m.frames) → (p : ℕ) → p < m.procs → IsDone m p (s.proc p).place
   all_done u l end within p lp = by_place (s.proc p).place (let o : IsProcessor m p (s.proc p) = k.processors p lp in o.place) (λ f e. (k.ahead u p l lp f e).1 (let n = end.noted_all in omega arith))
     where
@@ -251,7 +251,7 @@ module _ (m : Flight) (halt : Option UnitHalt) (s : Pair) (y : Flies m) (k : Pai
   one_goes within (inl i) = going_on 0 (omega arith) i within
   one_goes within (inr i) = going_on 1 (omega arith) i within
 
-  -- where units are at their end, so are the processors
+  -- if the units are at their end, so are the processors
   units_over : ((p r : ℕ) → m.restart p ≡ Some r → suc r ≤ m.frames) → ((u : ℕ) → u < 2 → (s.unit u).stopped ≡ None → IsAtEnd m (s.unit u)) → ((s.unit 0).stopped ≡ None) ⊎ ((s.unit 1).stopped ≡ None) → IsPairOver m s
   units_over within ends_are (inl i) = over_if 0 (omega arith) (ends_are 0 (omega arith) i) (ends_are 1 (omega arith)) within
   units_over within ends_are (inr i) = over_if 1 (omega arith) (ends_are 1 (omega arith) i) (ends_are 0 (omega arith)) within
@@ -263,7 +263,7 @@ progress m halt s y within k = by_frames (ℕ_discrete m.frames 0)
     by_frames (yes e) = inl (inl e)
     by_frames (no n) = one_goes m halt s y k (omega arith) within (one_stays m halt s k)
 
--- a pair is over where its units are at their end
+-- a pair is over if its units are at their end
 pub over_by : (m : Flight) (halt : Option UnitHalt) (s : Pair) → Flies m → ((p r : ℕ) → m.restart p ≡ Some r → suc r ≤ m.frames) → PairKept m halt s → ((u : ℕ) → u < 2 → (s.unit u).stopped ≡ None → IsAtEnd m (s.unit u)) → IsPairOver m s
 over_by m halt s y within k ends_are = by_frames (ℕ_discrete m.frames 0)
   where

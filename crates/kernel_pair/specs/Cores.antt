@@ -1,4 +1,4 @@
--- What a flight of a kernel on two units keeps beside its machine.
+-- The parts of a flight of a kernel on two units beside its machine.
 use Rattle.std.specs.Prelude.{◌≡◌, ℕ, List, Option, Some, None}
 use Rattle.scram_kernel.specs.Kernels.{KernelParts, kernel_after}
 use Rattle.fail_stop.specs.declared.flyers.Flyer.{Flyer}
@@ -10,26 +10,26 @@ use Rattle.kernel_pair.specs.Laws.{noted_frames}
 use Rattle.kernel_pair.specs.Machines.{PairParts, pair_flight, pair_in}
 use Rattle.kernel_pair.specs.Pairs.{Pair}
 
--- Where each processor stands.
+-- The place of each processor.
 abbrev pub places_in : Pair → ℕ → Place
 places_in s p = (s.proc p).place
 
--- A kernel is that of unit u: it has ended the frames in which the unit has noted every processor.
+-- A kernel is that of unit `u`: it has ended the frames in which the unit has noted every processor.
 abbrev pub IsKernelOf : PairParts → ℕ → KernelParts → Type 0
 IsKernelOf pair u kernel = kernel ≡ kernel_after pair.spec pair.script (noted_frames (pair_flight pair) ((pair_in pair).unit u))
 
--- Both kernels are those of their units, and the eight processors in flight stand where the machine has them.
+-- Both kernels are those of their units, and the eight processors in flight are at their places in the machine.
 pub record PairCoreKeeps {X : Type 0} {Y : X → Type 0} (pair : PairParts) (kernel other : KernelParts) (crew : List (Flyer X Y)) : Type 0 where
   pub first : IsKernelOf pair 0 kernel
   pub second : IsKernelOf pair 1 other
   pub flyers : AreFlyersAt (pair_flight pair) (places_in (pair_in pair)) crew
 
--- A processor in flight after its draft of frame f, by the halt in the frame.
+-- A processor in flight after its draft of frame `f`, with the step of its halt in the frame, if there is one.
 abbrev pub flyer_after : {X : Type 0} {Y : X → Type 0} → Option ℕ → ℕ → Flyer X Y → Flyer X Y
 flyer_after None f flyer = flyer
 flyer_after (Some s) f flyer = flyer_halted f flyer
 
--- An event is one of a unit for which it needs no processor and no word.
+-- An event of a unit that needs neither a processor nor a word.
 abbrev pub IsTurn : PairEvent → Type 0
 IsTurn (Fly p u) = ⊥
 IsTurn (Note u p) = ⊥
@@ -39,7 +39,7 @@ IsTurn (Meet u) = Unit {0}
 IsTurn (Release u) = Unit {0}
 IsTurn (Stop u) = Unit {0}
 
--- An event is no frame of a processor and no note.
+-- The event is neither a frame of a processor nor a note.
 abbrev pub IsQuiet : PairEvent → Type 0
 IsQuiet (Fly p u) = ⊥
 IsQuiet (Note u p) = ⊥

@@ -1,4 +1,5 @@
--- What stands in each state of each schedule of a pair: what each actor has by where it stands, and how the actors stand to each other.
+-- The invariant of each state of each schedule of a pair: the words of each actor by its place, and the places of the
+-- actors relative to each other.
 use Rattle.std.specs.Prelude.{◌≡◌, ℕ, suc, ◌+◌, ◌*◌, ◌<◌, ◌≤◌, true, Option, Some, None, if◌then◌else◌, nat_lt}
 use Rattle.fail_stop.specs.Flights.{Flight, word_in, mark_before, end_before, image_before}
 use Rattle.fail_stop.specs.Events.{Place, At, Halted}
@@ -6,7 +7,7 @@ use Rattle.fail_stop.specs.Kept.{mark_at, end_at, bank_at, kernel_at, release_at
 use Rattle.kernel_pair.specs.declared.events.UnitHalt.{UnitHalt}
 use Rattle.kernel_pair.specs.Pairs.{Processor, KernelUnit, Pair, other_unit, to_make}
 
--- Processor p may stand at the begin of frame f: it is up in it, and done with the frame before.
+-- Processor `p` may be at the beginning of frame `f`: it is up in the frame and done with the frame before.
 pub record Waiting (m : Flight) (p f n : ℕ) : Type 0 where
   pub fresh : n ≡ 0
   pub within : f ≤ m.frames
@@ -19,27 +20,27 @@ pub record Down (m : Flight) (p h : ℕ) : Type 0 where
   pub up : m.up p h ≡ true
   pub halts : m.halt p h ≡ Some step
 
--- Processor p may stand there.
+-- Processor `p` may be at the place.
 abbrev pub IsStanding : Flight → ℕ → Place → Type 0
 IsStanding m p (At f n) = Waiting m p f n
 IsStanding m p (Halted h) = Down m p h
 
--- Processor p has what its place says.
+-- Processor `p` has the mark, the end word and the banks of its place.
 pub record IsProcessor (m : Flight) (p : ℕ) (x : Processor) : Type 0 where
   pub place : IsStanding m p x.place
   pub mark : x.mark ≡ mark_at m p x.place
   pub end : x.end ≡ end_at m p x.place
   pub bank : (b i : ℕ) → b < 2 → i < m.width → x.bank b i ≡ bank_at m p x.place b i
 
--- The number of frames in which a unit in frame k after j steps has been ready.
+-- The number of frames in which a unit in frame `k` after `j` steps has been ready.
 abbrev pub readies : Flight → ℕ → ℕ → ℕ
 readies m k j = if nat_lt (m.procs + 20) j then suc k else k
 
--- The number of frames in which it has met the other unit.
+-- The number of frames in which a unit in frame `k` after `j` steps has met the other unit.
 abbrev pub meetings : Flight → ℕ → ℕ → ℕ
 meetings m k j = if nat_lt (m.procs + 21) j then suc k else k
 
--- The ready word of a unit in frame k after j steps, by the frame of its halt once it has halted.
+-- The ready word of a unit in frame `k` after `j` steps, given the frame of its halt if it has halted.
 abbrev pub ready_at : Flight → Option ℕ → ℕ → ℕ → ℕ
 ready_at m None k j = 2 * readies m k j
 ready_at m (Some t) k j = 2 * t + 1
@@ -50,7 +51,7 @@ pub record IsNamed (halt : Option UnitHalt) (u : ℕ) : Type 0 where
   pub is : halt ≡ Some named
   pub unit : u ≡ named.unit
 
--- Unit u has what its place says. Where no frame is flown it makes no step.
+-- Unit `u` has the words of its place. If the flight has no frame, the unit makes no step.
 pub record IsUnit (m : Flight) (halt : Option UnitHalt) (u : ℕ) (x : KernelUnit) : Type 0 where
   pub below : 0 < m.frames → x.frame < m.frames
   pub still : m.frames ≡ 0 → (x.frame ≡ 0) × (x.step ≡ 0)
@@ -63,30 +64,31 @@ pub record IsUnit (m : Flight) (halt : Option UnitHalt) (u : ℕ) (x : KernelUni
   pub marks : (p : ℕ) → p < m.procs → p < x.step → x.marks p ≡ mark_before m p (suc x.frame)
   pub images : (p i : ℕ) → p < m.procs → p < x.step → i < m.width → x.images p i ≡ word_in (image_before m p (suc x.frame)) i
 
--- Frame f of processor p is not below that of a unit in frame k after j steps, and above it where the unit has noted p.
+-- Frame `f` of processor `p` is not below that of a unit in frame `k` after `j` steps, and is above it if the unit has
+-- noted `p`.
 abbrev pub NotBelow : ℕ → ℕ → ℕ → ℕ → Type 0
 NotBelow k j p f = (k ≤ f) × (p < j → k < f)
 
--- The frame that processor p makes next is not below that of a unit, be it halted or not.
+-- The frame that processor `p` makes next is not below that of a unit, which may have halted.
 abbrev pub IsAhead : Flight → ℕ → Place → KernelUnit → Type 0
 IsAhead m p place x = (f : ℕ) → to_make (m.restart p) place ≡ Some f → NotBelow x.frame x.step p f
 
--- The number of frames that a processor has left behind.
+-- The number of frames before the place of a processor, including the frame in which it has halted.
 abbrev pub frames_past : Place → ℕ
 frames_past (At f n) = f
 frames_past (Halted h) = suc h
 
--- Some unit has released all frames that a processor has left behind.
+-- Some unit has released all frames before the place of a processor, including the frame in which it has halted.
 pub record IsReached (units : ℕ → KernelUnit) (place : Place) : Type 0 where
   pub unit : ℕ
   pub there : unit < 2
   pub high : frames_past place ≤ suc (units unit).frame
 
--- A unit, x, has met the other, y, in no more frames than that has been ready in, unless that has halted.
+-- Unit `x` has met unit `y` in at most the number of frames in which `y` has been ready, unless `y` has halted.
 abbrev pub HasMet : Flight → KernelUnit → KernelUnit → Type 0
 HasMet m x y = y.stopped ≡ None → meetings m x.frame x.step ≤ readies m y.frame y.step
 
--- The invariant.
+-- The invariant of a state of a pair.
 pub record PairKept (m : Flight) (halt : Option UnitHalt) (s : Pair) : Type 0 where
   pub units : (u : ℕ) → u < 2 → IsUnit m halt u (s.unit u)
   pub processors : (p : ℕ) → p < m.procs → IsProcessor m p (s.proc p)

@@ -1,4 +1,5 @@
--- What holds of every pair of a script that fits its specification, whatever the order of events, and whether or not one unit halts.
+-- The laws of every pair of a script that fits its specification, for any order of events, and with or without a halt
+-- of one unit.
 use Rattle.std.specs.Prelude.{◌≡◌, ◌⊎◌, ℕ, suc, ◌<◌, List, length, Option, None, if◌then◌else◌, nat_le}
 use Rattle.scram_types.specs.declared.ids.ProcId.{ProcId}
 use Rattle.scram_types.specs.Scripts.{ScriptParts}
@@ -19,33 +20,33 @@ use Rattle.kernel_pair.specs.Kept.{PairKept}
 abbrev pub noted_frames : Flight → KernelUnit → ℕ
 noted_frames m x = if nat_le m.procs x.step then suc x.frame else x.frame
 
--- Where a unit has released frame k + 1, both have noted frame k, unless the other has halted.
+-- If a unit has released frame `k + 1`, both units have noted frame `k`, unless the other unit has halted.
 abbrev pub BothHaveNoted : Flight → Pair → Type 0
 BothHaveNoted m s = (u k : ℕ) → u < 2 → suc k < (s.unit u).release
     → (k < noted_frames m (s.unit u)) × ((s.unit (other_unit u)).stopped ≡ None → k < noted_frames m (s.unit (other_unit u)))
 
--- What is found in frame f by the words of unit u: these words are those of the kernel's image of the frame, and the bank that a reader
--- picks of each processor is the one that holds its image before the frame.
+-- The words of unit `u` are those of the kernel image of frame `f`, and the bank that a reader picks of each processor
+-- holds its image before the frame.
 pub record FindsBy (spec : Parts) (script : ScriptParts) (s : Pair) (u f : ℕ) : Type 0 where
   pub kernel : (i : ℕ) → i < 20 → (s.unit u).kernel i ≡ word_in (kernel_words spec script f) i
   pub picked : (q : ℕ) → q < length spec.procs → pick (s.proc q).mark f ≡ image_bank_after spec script q f
   pub held : (q i : ℕ) → q < length spec.procs → i < width_of spec
       → (s.proc q).bank (image_bank_after spec script q f) i ≡ word_in (image_words_after spec script q f) i
 
--- A processor that may make a frame by the words of a unit finds what is of that frame.
+-- A processor that may make a frame by the words of a unit finds the words and the images of that frame.
 abbrev pub ProcessorsFind : Parts → ScriptParts → Option UnitHalt → Pair → Type 0
 ProcessorsFind spec script halt s = (p : ProcId) (u : ℕ) → (next : IsPairNext (flight_of spec script) halt s (Fly p u)) → FindsBy spec script s u next.2.0
 
--- What a unit, x, has noted of processor p is its mark and its image after the unit's frame in the one-thread trace.
+-- Unit `x` has noted the mark and the image of processor `p` after the unit's frame in the one-thread trace.
 pub record HasNoted (spec : Parts) (script : ScriptParts) (x : KernelUnit) (p : ℕ) : Type 0 where
   pub mark : x.marks p ≡ mark_after spec script p (suc x.frame)
   pub image : (i : ℕ) → i < width_of spec → x.images p i ≡ word_in (image_words_after spec script p (suc x.frame)) i
 
--- Each unit has noted what is of the end of its frame.
+-- Each unit has noted marks and images of the end of its frame.
 abbrev pub UnitsHaveNoted : Parts → ScriptParts → Pair → Type 0
 UnitsHaveNoted spec script s = (u p : ℕ) → u < 2 → p < length spec.procs → p < (s.unit u).step → HasNoted spec script (s.unit u) p
 
--- Some unit has not halted, and where the pair is over, each such unit has noted all frames.
+-- Some unit has not halted. If the pair is over, each such unit has noted all frames.
 pub record OneUnitStays (m : Flight) (s : Pair) : Type 0 where
   pub stays : ((s.unit 0).stopped ≡ None) ⊎ ((s.unit 1).stopped ≡ None)
   pub noted_all : IsPairOver m s → (u : ℕ) → u < 2 → (s.unit u).stopped ≡ None → noted_frames m (s.unit u) ≡ m.frames
@@ -54,7 +55,7 @@ pub record OneUnitStays (m : Flight) (s : Pair) : Type 0 where
 abbrev pub HasNext : Flight → Option UnitHalt → Pair → Type 0
 HasNext m halt s = (event : PairEvent) × IsPairNext m halt s event
 
--- What holds in a state.
+-- The facts that hold in a state.
 pub record PairHolds (spec : Parts) (script : ScriptParts) (halt : Option UnitHalt) (s : Pair) : Type 0 where
   pub both_noted : BothHaveNoted (flight_of spec script) s
   pub found : ProcessorsFind spec script halt s
@@ -62,7 +63,7 @@ pub record PairHolds (spec : Parts) (script : ScriptParts) (halt : Option UnitHa
   pub one_stays : OneUnitStays (flight_of spec script) s
   pub goes_on : IsPairOver (flight_of spec script) s ⊎ HasNext (flight_of spec script) halt s
 
--- It holds in each state of each schedule from each opening, for every halt of one unit.
+-- The facts hold in each state of each schedule from each opening, for every halt of one unit.
 abbrev pub PairsHold : Type 0
 PairsHold = (spec : Parts) (script : ScriptParts) → IsSpec spec → Fits spec script
     → (halt : Option UnitHalt) (first : Pair) (events : List PairEvent) (state : Pair)

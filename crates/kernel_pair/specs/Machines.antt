@@ -1,4 +1,4 @@
--- A pair with its events, as its callers see it, and what it keeps.
+-- A pair with its events, as its callers see it, and its invariant.
 use Rattle.std.specs.Prelude.{◌≡◌, ℕ, suc, ◌+◌, ◌++◌, ◌≤◌, List, [], ◌∷◌, Option, Some, slice_index_or}
 use Rattle.scram_types.specs.Scripts.{ScriptParts}
 use Rattle.scram_types.specs.Specification.{IsSpec, Parts}
@@ -13,7 +13,7 @@ use Rattle.kernel_pair.specs.Pairs.{IsPairReplay, Pair, pair_after, to_make}
 use Rattle.kernel_pair.specs.Rooms.{pair_left}
 use Rattle.kernel_pair.specs.States.{pair_of}
 
--- The specification, the script and the halt of a unit by which it flies, its state, and the events so far.
+-- The specification, the script and the halt of a unit of a pair, its state, and the events so far.
 pub record PairParts : Type 0 where
   pub spec : Parts
   pub script : ScriptParts
@@ -21,7 +21,7 @@ pub record PairParts : Type 0 where
   pub state : PairState
   pub events : List PairEvent
 
--- These parts.
+-- The pair with these parts.
 abbrev pub parts_of : Parts → ScriptParts → Option UnitHalt → PairState → List PairEvent → PairParts
 parts_of spec script halt state events = record { spec = spec; script = script; halt = halt; state = state; events = events }
 
@@ -29,7 +29,7 @@ parts_of spec script halt state events = record { spec = spec; script = script; 
 abbrev pub pair_flight : PairParts → Flight
 pair_flight k = flight_of k.spec k.script
 
--- The state in which a pair stands.
+-- The state of a pair.
 abbrev pub pair_in : PairParts → Pair
 pair_in k = pair_of k.state
 
@@ -37,8 +37,8 @@ pair_in k = pair_of k.state
 abbrev pub pair_with : PairParts → PairEvent → Pair
 pair_with k event = pair_after (pair_flight k) k.halt (pair_in k) event
 
--- What a pair keeps: its events are a schedule from the opening that leads to its state, and there is room for every event that can
--- still come.
+-- The invariant of a pair: its events are a schedule from the opening to its state, and there is room for every
+-- remaining event.
 pub record PairKeeps (spec : Parts) (script : ScriptParts) (halt : Option UnitHalt) (state : PairState) (events : List PairEvent)
     (room count : ℕ) : Type 0 where
   pub facts : IsSpec spec
@@ -46,7 +46,7 @@ pub record PairKeeps (spec : Parts) (script : ScriptParts) (halt : Option UnitHa
   pub replay : IsPairReplay (flight_of spec script) halt events (pair_of state)
   pub room_left : count + pair_left (flight_of spec script) halt (pair_of state) ≤ room
 
--- A frame comes with the words of its draft, and a store with its word.
+-- A frame has the words of its draft, and a store has its word.
 abbrev pub AreEventWords : Flight → Pair → PairEvent → List ℕ → ℕ → Type 0
 AreEventWords m s (Fly p u) draft word =
     (f : ℕ) → to_make (m.restart p.0) (s.proc p.0).place ≡ Some f → (i : ℕ) → slice_index_or draft i 0 ≡ word_in (m.draft p.0 f) i
@@ -57,7 +57,7 @@ AreEventWords m s (Meet u) draft word = Unit {0}
 AreEventWords m s (Release u) draft word = Unit {0}
 AreEventWords m s (Stop u) draft word = Unit {0}
 
--- An event takes a pair on: its state is the one after the event, and its events are one more.
+-- The state is the one after the event, and the event is appended to the list of events.
 pub record IsPairStep (old : PairParts) (event : PairEvent) (new : PairParts) : Type 0 where
   pub spec : new.spec ≡ old.spec
   pub script : new.script ≡ old.script

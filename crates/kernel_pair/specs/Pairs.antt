@@ -1,4 +1,5 @@
--- A pair of kernel units with its processors: what each actor has, which events are next, what an event does.
+-- A pair of kernel units with its processors: the words of each actor, the events that are next, and the effect of an
+-- event.
 use Rattle.std.specs.Prelude.{◌≤◌, ◌≡◌, ◌⊎◌, ℕ, suc, ◌+◌, ◌-◌, ◌*◌, ◌%◌, ◌<◌, Bool, false, ◌&&◌, ◌||◌, List, [], ◌∷◌, Option, Some, None, is_some, if◌then◌else◌, nat_lt, nat_le, nat_eq}
 use Rattle.scram_types.specs.Lookups.{proc_id}
 use Rattle.fail_stop.specs.Ends.{IsDone}
@@ -8,15 +9,15 @@ use Rattle.kernel_pair.specs.declared.events.UnitHalt.{UnitHalt}
 use Rattle.kernel_pair.specs.declared.events.PairEvent.{PairEvent}
 use Rattle.kernel_pair.specs.declared.events.PairEvent.TheVariants.{Fly, Note, Store, Ready, Meet, Release, Stop}
 
--- A processor: where it stands between two of its frames, its mark, its end word, and word i of bank b.
+-- A processor: its place between two of its frames, its mark, its end word, and word `i` of bank `b`.
 pub record Processor : Type 0 where
   pub place : Place
   pub mark : ℕ
   pub end : ℕ
   pub bank : ℕ → ℕ → ℕ
 
--- A unit: its frame, the steps made in it, the frame of its halt once it has halted, its release word, its ready word and its
--- 20 words, and the marks and the words of the images that it has noted.
+-- A unit: its frame, the steps made in it and the frame of its halt, if it has halted. It also has its release word,
+-- its ready word, its 20 words, and the marks and the words of the images that it has noted.
 pub record KernelUnit : Type 0 where
   pub frame : ℕ
   pub step : ℕ
@@ -27,7 +28,7 @@ pub record KernelUnit : Type 0 where
   pub marks : ℕ → ℕ
   pub images : ℕ → ℕ → ℕ
 
--- A state: each processor, and each unit.
+-- The processors and the units of a pair.
 pub record Pair : Type 0 where
   pub proc : ℕ → Processor
   pub unit : ℕ → KernelUnit
@@ -36,26 +37,27 @@ pub record Pair : Type 0 where
 abbrev pub other_unit : ℕ → ℕ
 other_unit u = 1 - u
 
--- The frame of a restart that comes after frame h.
+-- The frame of a restart, if it comes after frame `h`.
 abbrev pub restart_past : ℕ → Option ℕ → Option ℕ
 restart_past h None = None
 restart_past h (Some r) = if nat_lt h r then Some r else None
 
--- The frame that a processor makes next: the one at whose begin it stands, or that of its restart.
+-- The frame that a processor makes next: the frame at whose beginning it is, or that of its restart.
 abbrev pub to_make : Option ℕ → Place → Option ℕ
 to_make restart (At f n) = Some f
 to_make restart (Halted h) = restart_past h restart
 
--- The frame that a processor makes next is one of those below a release word.
+-- The frame that a processor makes next is below a release word.
 abbrev pub MakesReleased : Option ℕ → Place → ℕ → Type 0
 MakesReleased restart place release = (f : ℕ) × (to_make restart place ≡ Some f) × (f < release)
 
--- A halt in frame f is one of the flight where it comes after fewer steps than this: all steps of a frame may come before it, but
--- for the last frame, which ends with the last note.
+-- The end of the range of the numbers of steps after which a unit may halt in frame `f`. All steps of a frame may come
+-- before a halt, but the last frame ends with the last note.
 abbrev pub halts_below : Flight → ℕ → ℕ
 halts_below m f = if nat_lt (suc f) m.frames then m.procs + 24 else m.procs
 
--- A unit in frame k after j steps has made just the steps of its halt. After all steps of a frame it stands at the begin of the next.
+-- A unit in frame `k` after `j` steps has made exactly the steps before its halt. After all steps of a frame it is at
+-- the beginning of the next one.
 abbrev pub is_at_halt : Flight → UnitHalt → ℕ → ℕ → Bool
 is_at_halt m h k j = (nat_eq k h.frame && nat_eq j h.step) || (nat_eq h.step (m.procs + 23) && (nat_eq k (suc h.frame) && nat_eq j 0))
 
@@ -64,16 +66,17 @@ abbrev pub stops_at : Flight → Option UnitHalt → ℕ → ℕ → ℕ → Boo
 stops_at m None u k j = false
 stops_at m (Some h) u k j = nat_eq u h.unit && (nat_lt h.frame m.frames && (nat_lt h.step (halts_below m h.frame) && is_at_halt m h k j))
 
--- The frame of a halt, 0 without one.
+-- The frame of a halt, or 0 if there is none.
 abbrev pub halt_frame : Option UnitHalt → ℕ
 halt_frame None = 0
 halt_frame (Some h) = h.frame
 
--- The other unit's ready word lets a unit meet it in frame k: that unit has been ready in this frame, or has halted.
+-- The other unit's ready word lets a unit meet it in frame `k`, since that unit has been ready in this frame or has
+-- halted.
 abbrev pub may_meet : ℕ → ℕ → Bool
 may_meet k ready = nat_le (2 * suc k) ready || nat_eq (ready % 2) 1
 
--- The event of unit u in frame k after j steps, once all processors are noted, by the other unit's ready word.
+-- The event of unit `u` in frame `k` after `j` steps, after the last note, given the other unit's ready word.
 abbrev pub plan_noted : Flight → ℕ → ℕ → ℕ → ℕ → Option PairEvent
 plan_noted m u k j ready =
     if nat_lt j (m.procs + 20) then Some (Store u (j - m.procs))
@@ -81,27 +84,28 @@ plan_noted m u k j ready =
     else (if nat_eq j (m.procs + 21) then (if may_meet k ready then Some (Meet u) else None)
     else (if nat_eq j (m.procs + 22) then Some (Release u) else None)))
 
--- The event of unit u in frame k after j steps, by the other unit's ready word and the end words.
+-- The event of unit `u` in frame `k` after `j` steps, given the other unit's ready word and the end words.
 abbrev pub plan_unit : Flight → ℕ → ℕ → ℕ → ℕ → (ℕ → ℕ) → Option PairEvent
 plan_unit m u k j ready ends =
     if nat_lt j m.procs then (if may_note m j k (ends j) then Some (Note u (proc_id j)) else None)
     else (if nat_lt (suc k) m.frames then plan_noted m u k j ready else None)
 
--- The next event of unit u, which has not halted and is x, by whether it halts here.
+-- The next event of unit `u`, which has not halted and has the state `x`, given whether it halts here.
 abbrev pub next_going : Flight → ℕ → KernelUnit → ℕ → (ℕ → ℕ) → Bool → Option PairEvent
 next_going m u x ready ends stops = if stops then Some (Stop u) else plan_unit m u x.frame x.step ready ends
 
--- The next event of unit u, which is x.
+-- The next event of unit `u`, whose state is `x`.
 abbrev pub next_by : Flight → Option UnitHalt → ℕ → KernelUnit → ℕ → (ℕ → ℕ) → Option PairEvent
 next_by m halt u x ready ends =
     if nat_eq m.frames 0 then None
     else (if is_some x.stopped then None else next_going m u x ready ends (stops_at m halt u x.frame x.step))
 
--- The next event of unit u, none where it waits for a processor or for the other unit, has halted or has made its last note.
+-- The next event of unit `u`, or none if it waits for a processor or for the other unit, has halted or has made its
+-- last note.
 abbrev pub next_unit : Flight → Option UnitHalt → Pair → ℕ → Option PairEvent
 next_unit m halt s u = next_by m halt u (s.unit u) (s.unit (other_unit u)).ready (λ p. (s.proc p).end)
 
--- An event is next of its actor. Of one processor two can be: its frame by the words of either unit.
+-- An event is next of its actor. A processor may have two next events, which are its frame by the words of either unit.
 abbrev pub IsPairNext : Flight → Option UnitHalt → Pair → PairEvent → Type 0
 IsPairNext m halt s (Fly p u) = (p.0 < m.procs) × (u < 2) × MakesReleased (m.restart p.0) (s.proc p.0).place (s.unit u).release
 IsPairNext m halt s (Note u p) = (u < 2) × (next_unit m halt s u ≡ Some (Note u p))
@@ -111,7 +115,8 @@ IsPairNext m halt s (Meet u) = (u < 2) × (next_unit m halt s u ≡ Some (Meet u
 IsPairNext m halt s (Release u) = (u < 2) × (next_unit m halt s u ≡ Some (Release u))
 IsPairNext m halt s (Stop u) = (u < 2) × (next_unit m halt s u ≡ Some (Stop u))
 
--- Processor p, which was x, after frame f: its draft stands in the bank that its mark did not name, whole or up to its halt.
+-- Processor `p`, which was `x`, after frame `f`. Its draft is in the bank that its mark did not name, whole or up to
+-- its halt.
 abbrev pub frame_made : Flight → ℕ → ℕ → Processor → Processor
 frame_made m p f x = record {
   place = after_frame f (m.halt p f);
@@ -138,7 +143,8 @@ stepped x = record {
   images = x.images;
 }
 
--- A unit after its note of processor p, which is y: it has the mark, and the words of the bank that this names.
+-- A unit after its note of processor `p`, whose state is `y`: it has the mark, and the words of the bank that the mark
+-- names.
 abbrev pub noted : ℕ → Processor → KernelUnit → KernelUnit
 noted p y x = record {
   frame = x.frame;
@@ -151,7 +157,7 @@ noted p y x = record {
   images = λ q i. if nat_eq q p then y.bank (y.mark % 2) i else x.images q i;
 }
 
--- A unit after a store of word i of what the kernel says of the next frame.
+-- A unit after a store of word `i` of the kernel image of the next frame.
 abbrev pub stored : Flight → ℕ → KernelUnit → KernelUnit
 stored m i x = record {
   frame = x.frame;
@@ -164,7 +170,7 @@ stored m i x = record {
   images = x.images;
 }
 
--- A unit that says that it is ready.
+-- A unit after it has signalled that it is ready.
 abbrev pub readied : KernelUnit → KernelUnit
 readied x = record {
   frame = x.frame;
@@ -177,7 +183,7 @@ readied x = record {
   images = x.images;
 }
 
--- A unit that has released the next frame, at whose begin it then stands.
+-- A unit at the beginning of the next frame, which it has released.
 abbrev pub released : KernelUnit → KernelUnit
 released x = record {
   frame = suc x.frame;
@@ -190,7 +196,7 @@ released x = record {
   images = x.images;
 }
 
--- A unit that has halted, by a halt in frame t.
+-- A unit after a halt in frame `t`.
 abbrev pub halted_unit : ℕ → KernelUnit → KernelUnit
 halted_unit t x = record {
   frame = x.frame;
@@ -203,15 +209,15 @@ halted_unit t x = record {
   images = x.images;
 }
 
--- A family with another member at place i.
+-- A family with another member at index `i`.
 abbrev pub with_at : {A : Type 0} → (ℕ → A) → ℕ → A → ℕ → A
 with_at {A} g i a j = if nat_eq j i then a else g j
 
--- The state in which unit u is x, and all else as before.
+-- The state in which unit `u` is `x`, and everything else is as before.
 abbrev pub with_unit : Pair → ℕ → KernelUnit → Pair
 with_unit s u x = record { proc = s.proc; unit = with_at s.unit u x }
 
--- The state in which processor p is y, and all else as before.
+-- The state in which processor `p` is `y`, and everything else is as before.
 abbrev pub with_proc : Pair → ℕ → Processor → Pair
 with_proc s p y = record { proc = with_at s.proc p y; unit = s.unit }
 
@@ -232,7 +238,7 @@ pub record IsFirstProcessor (m : Flight) (p : ℕ) (x : Processor) : Type 0 wher
   pub end : x.end ≡ 0
   pub bank : (b i : ℕ) → b < 2 → i < m.width → x.bank b i ≡ (if nat_eq b 0 then word_in (m.start p) i else 0)
 
--- A unit at the opening: it has released frame 0, if there is one, and says what that frame is.
+-- A unit at the opening: it has released frame 0, if there is one, and has the words of that frame.
 pub record IsFirstUnit (m : Flight) (x : KernelUnit) : Type 0 where
   pub frame : x.frame ≡ 0
   pub step : x.step ≡ 0
@@ -241,12 +247,12 @@ pub record IsFirstUnit (m : Flight) (x : KernelUnit) : Type 0 where
   pub ready : x.ready ≡ 0
   pub kernel : (i : ℕ) → i < 20 → x.kernel i ≡ word_in (m.kernel_image 0) i
 
--- An opening. What stands past the last processor, past the last unit and past the last word is free.
+-- The state is an opening. Entries past the last processor, the last unit and the last word may be anything.
 pub record IsPairOpening (m : Flight) (s : Pair) : Type 0 where
   pub processors : (p : ℕ) → p < m.procs → IsFirstProcessor m p (s.proc p)
   pub units : (u : ℕ) → u < 2 → IsFirstUnit m (s.unit u)
 
--- The events lead from s to t, each the next of its actor where it stands.
+-- The events lead from `s` to `t`, and each is next of its actor in its state.
 abbrev pub IsPairSchedule : Flight → Option UnitHalt → Pair → List PairEvent → Pair → Type 0
 IsPairSchedule m halt s [] t = t ≡ s
 IsPairSchedule m halt s (e ∷ es) t = IsPairNext m halt s e × IsPairSchedule m halt (pair_after m halt s e) es t
@@ -257,12 +263,13 @@ pub record IsPairReplay (m : Flight) (halt : Option UnitHalt) (events : List Pai
   pub opening : IsPairOpening m first
   pub schedule : IsPairSchedule m halt first events s
 
--- A unit has made its last note.
+-- The unit has made its last note.
 pub record IsAtEnd (m : Flight) (x : KernelUnit) : Type 0 where
   pub last : suc x.frame ≡ m.frames
   pub noted_all : m.procs ≤ x.step
 
--- The pair is over: no frame is flown, or each processor is done, and each unit that has not halted has made its last note.
+-- The pair is over: the flight has no frame, or each processor is done and each unit that has not halted has made its
+-- last note.
 abbrev pub IsPairOver : Flight → Pair → Type 0
 IsPairOver m s = (m.frames ≡ 0)
     ⊎ (((p : ℕ) → p < m.procs → IsDone m p (s.proc p).place) × ((u : ℕ) → u < 2 → (s.unit u).stopped ≡ None → IsAtEnd m (s.unit u)))

@@ -1,13 +1,13 @@
--- A pair that is flown on.
+-- A pair whose flight goes on.
 use Rattle.std.specs.Prelude.{◌≡◌, ◌≤◌, ℕ}
 use Rattle.kernel_pair.specs.Machines.{PairParts, pair_flight, pair_in}
 use Rattle.kernel_pair.specs.Rooms.{pair_left}
 
--- The number of events that can still come.
+-- The number of events of a pair that remain.
 abbrev pub left_in : PairParts → ℕ
 left_in k = pair_left (pair_flight k) k.halt (pair_in k)
 
--- A pair is flown on: fewer events can come, or it stands where it stood, and there this holds.
+-- The flight of a pair goes on: fewer events remain, or the state has not changed and `Stuck` holds in it.
 pub record IsFlownOn (old new : PairParts) (Stuck : Type 0) : Type 0 where
   pub spec : new.spec ≡ old.spec
   pub script : new.script ≡ old.script

@@ -1,4 +1,4 @@
--- What is kept of a state, as the state of the machine.
+-- The state of a pair as the state of its machine.
 use Rattle.std.specs.Prelude.{ℕ, ℤ, pos, List, [], None, nat_lt, slice_index_or, if◌then◌else◌}
 use Rattle.scram_types.specs.Specification.{Parts}
 use Rattle.bank_words.specs.Numbers.{decode}
@@ -15,7 +15,7 @@ use Rattle.fail_stop.specs.ScriptFlights.{flight_of}
 use Rattle.fail_stop.specs.Flights.{Flight}
 use Rattle.bank_words.specs.Marks.{pick}
 
--- The place where a processor stands.
+-- The place of a processor.
 abbrev pub stand_place : Stand → Place
 stand_place (stand.Before f) = At f 0
 stand_place (stand.Halted h) = Halted h
@@ -24,11 +24,11 @@ stand_place (stand.Halted h) = Halted h
 abbrev pub bank_word : List (List ℕ) → ℕ → ℕ → ℕ
 bank_word banks b i = slice_index_or (slice_index_or banks b []) i 0
 
--- The processor of the machine.
+-- The processor of the machine that a processor's state represents.
 abbrev pub processor_of : ProcessorState → Processor
 processor_of x = record { place = stand_place x.stand; mark = x.mark; end = x.end; bank = λ b i. bank_word x.banks b i }
 
--- The unit of the machine.
+-- The unit of the machine that a unit's state represents.
 abbrev pub unit_of : UnitState → KernelUnit
 unit_of x = record {
   frame = x.frame;
@@ -41,19 +41,19 @@ unit_of x = record {
   images = λ p i. slice_index_or (slice_index_or x.images p []) i 0;
 }
 
--- What stands past the last processor.
+-- The state that is read past the last processor.
 abbrev pub blank_processor : ProcessorState
 blank_processor = record { stand = stand.Before 0; mark = 0; end = 0; banks = [] }
 
--- What stands past the last unit.
+-- The state that is read past the last unit.
 abbrev pub blank_unit : UnitState
 blank_unit = record { frame = 0; step = 0; stopped = None; release = 0; ready = 0; words = []; marks = []; images = [] }
 
--- The state of the machine.
+-- The state of the machine that a pair's state represents.
 abbrev pub pair_of : PairState → Pair
 pair_of s = record { proc = λ p. processor_of (slice_index_or s.procs p blank_processor); unit = λ u. unit_of (slice_index_or s.units u blank_unit) }
 
--- Word i of the image that these words hold; 0 past the words of the specification.
+-- Word `i` of the image that these words encode, or 0 past the words of the specification.
 abbrev pub word_decoded : Parts → List ℕ → ℕ → ℤ
 word_decoded spec words i = if nat_lt i (width_of spec) then decode (slice_index_or words i 0) else pos 0
 
@@ -65,7 +65,7 @@ flight_by setup = flight_of setup.spec.now setup.script.now
 abbrev pub end_word_in : List ProcessorState → ℕ → ℕ
 end_word_in procs p = (processor_of (slice_index_or procs p blank_processor)).end
 
--- Word i of the image of processor q that is seen as a frame begins.
+-- Word `i` of the image of processor `q` that is seen as a frame begins.
 abbrev pub word_seen : Parts → List ProcessorState → ℕ → ℕ → ℕ → ℤ
 word_seen spec procs q frame i =
     let x = slice_index_or procs q blank_processor in word_decoded spec (slice_index_or x.banks (pick x.mark frame) []) i

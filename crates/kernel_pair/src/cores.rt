@@ -13,8 +13,7 @@ use scram_kernel::Kernel;
 use scram_types::{Flown, NoMemory, ProcId, Row, Script, Spec};
 use std::alloc::Global;
 
-/// A flight by a specification and a script whose kernel runs on two units, one of which may halt, after a schedule of
-/// events.
+/// A flight whose kernel runs on two units, by a specification, a script and a schedule of events. One unit may halt.
 #[derive(Drop)]
 pub struct PairCore<'a> {
     machine: PairMachine<'a>,
@@ -48,9 +47,9 @@ impl<'a> PairCore<'a> {
     ghost use Rattle.kernel_pair.specs.Pairs.{IsPairNext, IsPairOpening, IsPairOver, IsPairReplay, next_unit, to_make};
     ghost use Rattle.kernel_pair.specs.declared.events.PairEvent.TheVariants.{Fly, Note, Store};
 
-    /// Returns a flight before the first event, with these boxes, and these for restarts: rack `p` is that of
-    /// processor `p`. All memory of the flight is taken here: the rows and reports of both units, and room for every
-    /// event that can come.
+    /// Returns a flight before the first event, with `racks[p]` as the boxes of processor `p` and `spares[p]` as its
+    /// boxes after a restart. All memory of the flight is allocated here: the rows and reports of both units, and room
+    /// for every possible event.
     ///
     /// # Errors
     ///
@@ -86,8 +85,8 @@ impl<'a> PairCore<'a> {
         })
     }
 
-    /// Returns the next event of unit 0 or 1, or `None` exactly where it waits for a processor or for the other unit,
-    /// has halted or has made its last note, or no frame is flown.
+    /// Returns the next event of unit 0 or 1. Returns `None` if and only if the unit waits for a processor or for the
+    /// other unit, has halted or has made its last note, or the flight has no frame.
     pub fn next(&self, unit: u8) -> Option<PairEvent>
         requires { unit < 2 }
         ensures { result ≡ next_unit (pair_flight self.now) self.now.halt (pair_in self.now) unit }
@@ -95,11 +94,11 @@ impl<'a> PairCore<'a> {
         self.machine.next(unit)
     }
 
-    /// Makes an event, where it is next of its actor; else it comes back, and nothing changes.
+    /// Makes an event if it is next of its actor. Otherwise nothing changes.
     ///
     /// # Errors
     ///
-    /// The event, exactly where it is not next of its actor, whatever numbers it has.
+    /// Returns the event if and only if it is not next of its actor, whatever its numbers are.
     pub fn step(&mut self, event: PairEvent) -> Result<(), PairEvent>
         ensures next { IfOk result (λ _. IsPairNext (pair_flight self.old) self.old.halt (pair_in self.old) event) }
         ensures step { IfOk result (λ _. IsPairStep self.old event self.new) }
@@ -122,7 +121,7 @@ impl<'a> PairCore<'a> {
         Ok(())
     }
 
-    // A processor makes its frame by the words of a unit.
+    // Makes the next frame of a processor by the words of a unit.
     fn fly(&mut self, p: ProcId, u: u8)
         requires { IsPairNext (pair_flight self.old) self.old.halt (pair_in self.old) (Fly p u) }
         ensures { IsPairStep self.old (Fly p u) self.new }
@@ -131,7 +130,7 @@ impl<'a> PairCore<'a> {
         self.machine.make(PairEvent::Fly(p, u), &words, 0);
     }
 
-    // A unit notes a processor. With the last one in its frame it ends the frame.
+    // Notes a processor in a unit, and ends the unit's frame with the last processor.
     fn note(&mut self, u: u8, p: ProcId)
         requires { IsPairNext (pair_flight self.old) self.old.halt (pair_in self.old) (Note u p) }
         ensures { IsPairStep self.old (Note u p) self.new }
@@ -145,7 +144,7 @@ impl<'a> PairCore<'a> {
         }
     }
 
-    // A unit stores a word of what the kernel says of the next frame.
+    // Stores a word of the kernel image of the next frame in a unit.
     fn store(&mut self, u: u8, i: u8)
         requires { IsPairNext (pair_flight self.old) self.old.halt (pair_in self.old) (Store u i) }
         ensures { IsPairStep self.old (Store u i) self.new }
@@ -156,7 +155,7 @@ impl<'a> PairCore<'a> {
             .make(PairEvent::Store(u, i), &[0; 64], words[usize::from(i)]);
     }
 
-    // A unit makes an event for which it needs nothing.
+    // Makes an event of a unit that needs neither a processor nor a word.
     fn turn(&mut self, event: PairEvent)
         requires turn { IsTurn event }
         requires next { IsPairNext (pair_flight self.old) self.old.halt (pair_in self.old) event }
@@ -166,7 +165,7 @@ impl<'a> PairCore<'a> {
         self.machine.make(event, &[0; 64], 0);
     }
 
-    // Returns the kernel of a unit, after the frames in which the unit has noted every processor.
+    // Returns the kernel of a unit. The kernel has ended the frames in which the unit has noted every processor.
     fn kernel(&self, u: u8) -> &Kernel<'a>
         requires { u < 2 }
         ensures { result.now ≡ kernel_after self.now.spec self.now.script (noted_frames (pair_flight self.now) ((pair_in self.now).unit u)) }
@@ -174,7 +173,7 @@ impl<'a> PairCore<'a> {
         if u == 0 { &self.first } else { &self.second }
     }
 
-    /// Returns the events so far: a schedule from the opening that leads to the state.
+    /// Returns the events so far, which are a schedule from the opening to the present state.
     pub fn events(&self) -> &[PairEvent]
         ensures events { result.now ≡ self.now.events }
         ensures replay { IsPairReplay (pair_flight self.now) self.now.halt self.now.events (pair_in self.now) }
@@ -182,7 +181,7 @@ impl<'a> PairCore<'a> {
         self.machine.events()
     }
 
-    /// Returns the rows of the frames in which unit 0 or 1 has noted every processor, which are the first rows of the
+    /// Returns the rows of the frames in which unit 0 or 1 has noted every processor. They are the first rows of the
     /// one-thread trace.
     pub fn rows(&self, unit: u8) -> &[Row]
         requires { unit < 2 }
@@ -191,8 +190,8 @@ impl<'a> PairCore<'a> {
         self.kernel(unit).rows()
     }
 
-    /// Returns what a processor sees that may make a frame by the words of a unit: what the kernel says of that
-    /// frame, and every processor's image before it.
+    /// Returns the snapshot of a processor that may make a frame by the words of a unit: the kernel image of that
+    /// frame, and every processor's image before the frame.
     pub fn snapshot(&self, p: ProcId, unit: u8, frame: u32) -> Snapshot
         requires next { IsPairNext (pair_flight self.now) self.now.halt (pair_in self.now) (Fly p unit) }
         requires frame { to_make (restart_of self.now.script p.0) ((pair_in self.now).proc p.0).place ≡ Some frame }
@@ -201,9 +200,9 @@ impl<'a> PairCore<'a> {
         self.machine.snapshot(p, unit, frame)
     }
 
-    /// Both units have noted a frame before either releases the next, unless one has halted; each processor finds what is
-    /// of its frame; one unit has not halted; and where the pair is not over, some processor or some unit has a next
-    /// event. It states this and does nothing.
+    /// States what holds in each state of a flight, and has no effect. Both units have noted a frame before either
+    /// releases the next, unless one has halted. Each processor finds the words and the images of its frame. One unit
+    /// has not halted. If the pair is not over, some processor or unit has a next event.
     pub fn holds(&self)
         ensures facts { IsSpec self.now.spec }
         ensures holds { PairHolds self.now.spec self.now.script self.now.halt (pair_in self.now) }
@@ -211,16 +210,16 @@ impl<'a> PairCore<'a> {
         self.machine.holds();
     }
 
-    /// Returns whether no event can come any more: each processor has flown all frames or has halted for good, and
-    /// each unit that has not halted has made its last note, or no frame is flown.
+    /// Returns whether no further event is possible. Then each processor has made all frames or has halted for good,
+    /// and each unit that has not halted has made its last note, or the flight has no frame.
     pub fn over(&self) -> bool
         ensures { IsTrue result ↔ IsPairOver (pair_flight self.now) (pair_in self.now) }
     {
         self.machine.over()
     }
 
-    /// Returns the rows and reports of a flight that is over, of a unit that has not halted: those of the one-thread
-    /// trace.
+    /// Returns the rows and reports of a unit that has not halted, in a flight that is over. They are those of the
+    /// one-thread trace.
     pub fn finish(self) -> Flown
         requires { IsPairOver (pair_flight self) (pair_in self) }
         ensures rows { result.rows ≡ rows_of self.entry.spec self.entry.script }

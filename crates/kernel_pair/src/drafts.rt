@@ -1,4 +1,4 @@
-//! A processor drafts the frame that it makes.
+//! The draft of the frame that a processor makes.
 
 ghost use Rattle.std.specs.Prelude.{◌≡◌, ◌<◌, ℕ, Some, length, option_map, slice_index_or};
 ghost use Rattle.fail_stop.specs.Drafts.{IsSnapshot};
@@ -22,8 +22,8 @@ use fail_stop::{Flyer, Snapshot};
 use fault_script::halt_in;
 use scram_types::{HaltAt, ProcId};
 
-/// Returns the words of what processor `p` drafts, which may make its frame by the words of a unit. Where it had halted it lives
-/// again in its spare rack, and where it halts in this frame it drops its boxes.
+/// Returns the words of the draft of processor `p`, which may make its frame by the words of a unit. A processor that
+/// had halted restarts in its spare rack, and one that halts in this frame drops its boxes.
 pub(crate) fn draft(flyers: &mut [Flyer], machine: &PairMachine, p: ProcId, u: u8) -> [u64; 64]
     requires next { IsPairNext (pair_flight machine.now) machine.now.halt (pair_in machine.now) (Fly p u) }
     requires flyers { AreFlyersAt (pair_flight machine.now) (places_in (pair_in machine.now)) flyers.old }
@@ -41,7 +41,7 @@ pub(crate) fn draft(flyers: &mut [Flyer], machine: &PairMachine, p: ProcId, u: u
     }
 }
 
-// Returns the words of what processor `p` drafts in the frame of a snapshot.
+// Returns the words of the draft of processor `p` in the frame of a snapshot.
 fn draft_frame(
     flyer: &mut Flyer,
     setup: &Setup,
@@ -64,7 +64,7 @@ fn draft_frame(
     image_encoded(&image)
 }
 
-// A processor halts in a frame, where it has a halt there.
+// Halts a processor in a frame, if it has a halt there.
 fn halt_after(flyer: &mut Flyer, halt: Option<HaltAt>, frame: u32)
     requires { unit_proc flyer.old.unit < 8 }
     ensures { flyer.new ≡ flyer_after (option_map (λ (halt : HaltAt). halt.step) halt) frame flyer.old }

@@ -2,8 +2,8 @@
 
 use scram_types::ProcId;
 
-/// The halt of unit 0 or 1 in a frame, after `step` of its steps there. It halts nowhere where the frame is not flown, has
-/// fewer steps, or ends with the last note of all as that step.
+/// The halt of unit 0 or 1 in a frame, after `step` of its steps there. The unit does not halt if the flight has no
+/// such frame, if the frame has fewer steps, or if these steps end with the last note of the flight.
 #[derive(Clone, Copy, Debug, PartialEq, Eq)]
 pub struct UnitHalt {
     pub unit: u8,
@@ -11,18 +11,18 @@ pub struct UnitHalt {
     pub step: u8,
 }
 
-/// What a processor or a unit does next.
+/// The next action of a processor or of a unit.
 #[derive(Clone, Copy, Debug, PartialEq, Eq)]
 pub enum PairEvent {
-    /// The processor makes its frame, whole or up to its halt, by the words of this unit.
+    /// The processor makes its frame by the words of this unit, whole or up to its halt.
     Fly(ProcId, u8),
     /// The unit notes the mark and the image of this processor after the unit's frame.
     Note(u8, ProcId),
-    /// The unit stores its word of this number, of what the kernel says of the next frame.
+    /// The unit stores this word of the kernel image of the next frame.
     Store(u8, u8),
-    /// The unit has stored all its words, and says so to the other.
+    /// The unit has stored all its words, and signals this to the other unit.
     Ready(u8),
-    /// The unit finds that the other is ready too, or has halted.
+    /// The unit finds that the other unit is ready too, or has halted.
     Meet(u8),
     /// The unit releases the next frame.
     Release(u8),

@@ -1,5 +1,5 @@
-//! The kernel on two units, one of which may halt: whatever the order of events, each unit keeps the log of the one-thread
-//! trace, and each processor reads what the kernel says of its frame.
+//! The kernel on two units, one of which may halt. For any order of events, each unit keeps the log of the one-thread
+//! trace, and each processor reads the kernel image of its frame.
 #![tactic(auto)]
 
 mod cores;

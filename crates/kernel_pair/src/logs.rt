@@ -1,4 +1,4 @@
-//! The log of a unit goes on.
+//! The end of a frame in the log of a unit.
 
 ghost use Rattle.std.specs.Prelude.{◌≡◌, ◌<◌, ◌≤◌, length};
 ghost use Rattle.scram_kernel.specs.Kernels.{kernel_after};
@@ -8,7 +8,7 @@ ghost use Rattle.kernel_pair.specs.Machines.{pair_flight, pair_in};
 use crate::machines::PairMachine;
 use scram_kernel::Kernel;
 
-/// Ends the frame of a unit that has just made a note, where this was the last one of the frame.
+/// Ends the frame of a unit that has just made a note, if the note was the last one of the frame.
 pub(crate) fn end_frame(machine: &PairMachine, u: u8, kernel: &mut Kernel)
     requires u { u < 2 }
     requires steps { ((pair_in machine.now).unit u).step ≤ length machine.now.spec.procs }

@@ -12,7 +12,7 @@ use fail_stop::Snapshot;
 use scram_types::{Image, NoMemory, ProcId};
 use std::alloc::Global;
 
-/// A state by a specification, a script and the halt of a unit, and the events that lead to it.
+/// A state with its specification, its script, the halt of a unit and the events that led to the state.
 #[derive(Drop)]
 pub(crate) struct PairMachine<'a> {
     setup: Setup<'a>,
@@ -47,7 +47,7 @@ impl<'a> PairMachine<'a> {
     ghost use Rattle.kernel_pair.specs.Pairs.{IsPairNext, IsPairOpening, IsPairOver, IsPairReplay, next_unit, to_make};
     ghost use Rattle.kernel_pair.specs.declared.events.PairEvent.TheVariants.{Fly};
 
-    /// Returns the opening, by the kernel's words of the first frame, with room for every event that can come.
+    /// Returns the opening, with the kernel's words of the first frame and with room for every possible event.
     ///
     /// # Errors
     ///
@@ -75,7 +75,7 @@ impl<'a> PairMachine<'a> {
         })
     }
 
-    /// What holds of its state.
+    /// States what holds in the state of the machine.
     pub(crate) fn holds(&self)
         ensures facts { IsSpec self.now.spec }
         ensures fits { Fits self.now.spec self.now.script }
@@ -87,7 +87,7 @@ impl<'a> PairMachine<'a> {
         pairs_hold();
     }
 
-    /// By what it flies.
+    /// Returns the setup of the machine.
     pub(crate) fn setup(&self) -> Setup<'a>
         ensures spec { result.spec.now ≡ self.now.spec }
         ensures script { result.script.now ≡ self.now.script }
@@ -129,7 +129,7 @@ impl<'a> PairMachine<'a> {
         frame_of(self.setup.script, &self.state, p)
     }
 
-    /// Returns what a processor sees that may make this frame by the words of a unit.
+    /// Returns the snapshot of a processor that may make this frame by the words of a unit.
     pub(crate) fn snapshot(&self, p: ProcId, u: u8, frame: u32) -> Snapshot
         requires next { IsPairNext (pair_flight self.now) self.now.halt (pair_in self.now) (Fly p u) }
         requires frame { to_make (restart_of self.now.script p.0) ((pair_in self.now).proc p.0).place ≡ Some frame }
@@ -157,7 +157,7 @@ impl<'a> PairMachine<'a> {
         self.state.units[usize::from(u)].stopped.is_some()
     }
 
-    /// Returns the marks of the processors after the frame of a unit that has noted them all.
+    /// Returns the marks of the processors after the frame of a unit that has noted all of them.
     pub(crate) fn marks(&self, u: u8) -> [u64; 8]
         requires u { u < 2 }
         requires noted { length self.now.spec.procs ≤ ((pair_in self.now).unit u).step }
@@ -167,7 +167,7 @@ impl<'a> PairMachine<'a> {
         self.state.units[usize::from(u)].marks
     }
 
-    /// Returns the images of the processors after the frame of a unit that has noted them all.
+    /// Returns the images of the processors after the frame of a unit that has noted all of them.
     pub(crate) fn images(&self, u: u8) -> [Image; 8]
         requires u { u < 2 }
         requires noted { length self.now.spec.procs ≤ ((pair_in self.now).unit u).step }
@@ -198,7 +198,7 @@ impl<'a> PairMachine<'a> {
 ghost use Rattle.std.specs.Prelude.{◌≡◌, ◌+◌, ◌*◌, length};
 ghost use Rattle.scram_types.specs.Specification.{IsSpec};
 
-// Returns the number of events that can come at most.
+// Returns the maximum number of events.
 fn events_of(setup: &Setup) -> usize
     ensures known { IsSpec setup.now.spec.now }
     ensures events { result ≡ setup.now.script.now.frames * (3 * length setup.now.spec.now.procs + 46) + 1 }

@@ -1,4 +1,4 @@
-//! An event that is next of its actor is made; a pair is over.
+//! Events that are next of their actors, and the end of a pair.
 
 ghost use Rattle.std.specs.Prelude.{◌≡◌, ◌<◌, ◌≤◌, ◌+◌, ◌*◌, ◌^◌, Some, None, IsTrue, ◌↔◌};
 ghost use Rattle.scram_types.specs.Specification.{IsSpec};
@@ -18,7 +18,7 @@ use crate::states::PairState;
 use crate::units::UnitState;
 use scram_types::{ProcId, Script, Spec};
 
-/// Makes an event that is next of its actor. A frame comes with the words of its draft, and a store with its word.
+/// Makes an event that is next of its actor, with the words of its draft for a frame, or with its word for a store.
 pub(crate) fn make(
     setup: &Setup,
     state: &mut PairState,
@@ -44,7 +44,7 @@ pub(crate) fn make(
     }
 }
 
-// A processor makes the frame that it makes next.
+// Makes the next frame of a processor.
 fn make_frame(setup: &Setup, state: &mut PairState, p: ProcId, u: u8, draft: &[u64; 64])
     requires facts { IsSpec setup.now.spec.now }
     requires fits { Fits setup.now.spec.now setup.now.script.now }

@@ -1,4 +1,4 @@
-//! Which events are next.
+//! The events that are next.
 
 ghost use Rattle.std.specs.Prelude.{◌≡◌, ℕ, ◌<◌, ◌≤◌, ◌+◌, ◌^◌, length, [], nat_lt, ◌&&◌, if◌then◌else◌, Some, None, IsTrue, ◌↔◌};
 ghost use Rattle.scram_types.specs.Lookups.{proc_id};
@@ -18,7 +18,7 @@ use fail_stop::notes;
 use fault_script::restart_of;
 use scram_types::{ProcId, Script};
 
-/// Returns whether an event is next of its actor, whatever numbers it has.
+/// Returns whether an event is next of its actor, whatever its numbers are.
 pub(crate) fn is_next(setup: &Setup, state: &PairState, event: PairEvent) -> bool
     ensures { IsTrue result ↔ IsPairNext (flight_by setup.now) setup.now.halt (pair_of state.now) event }
 {
@@ -134,7 +134,7 @@ fn stops_at(setup: &Setup, u: u8, frame: u32, step: u8) -> bool
     }
 }
 
-// Returns whether the halt is one of the flight, and the unit has made just its steps.
+// Returns whether the halt is possible in the flight, and the unit has made exactly the steps before it.
 fn is_halt_here(setup: &Setup, halt: UnitHalt, frame: u32, step: u8) -> bool
     ensures { result ≡ (nat_lt halt.step (halts_below (flight_by setup.now) halt.frame) && is_at_halt (flight_by setup.now) halt frame step) }
 {

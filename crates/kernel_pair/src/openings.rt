@@ -19,8 +19,8 @@ use frame_model::Sys;
 use scram_types::{NoMemory, ProcId, Script, Spec};
 use std::alloc::Global;
 
-/// Returns the state before the first event, by the kernel's words of the first frame. The list of all words, of
-/// which the banks are read, is given back at the end.
+/// Returns the state before the first event, with the kernel's words of the first frame. The list of all words, from
+/// which the banks are read, is freed at the end.
 ///
 /// # Errors
 ///

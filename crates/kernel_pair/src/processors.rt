@@ -1,4 +1,4 @@
-//! A processor between its frames, and what a frame does to it.
+//! A processor between its frames, and the effect of a frame on it.
 
 ghost use Rattle.std.specs.Prelude.{◌≡◌, ℕ, suc, ◌<◌, ◌≤◌, ◌+◌, ◌-◌, ◌*◌, ◌%◌, ◌^◌, length, option_map, if◌then◌else◌, nat_eq, nat_lt, slice_index_or, [], ◌∷◌, ◌&&◌};
 ghost use Rattle.scram_types.specs.declared.scripts.HaltAt.{HaltAt};
@@ -14,14 +14,14 @@ use bank_words::words;
 use fault_script::halt_in;
 use scram_types::{HaltAt, ProcId};
 
-/// Where a processor stands between two of its frames: at the begin of a frame, or halted in one.
+/// The state of a processor between two of its frames: at the beginning of a frame, or halted in one.
 #[derive(Clone, Copy, Debug, PartialEq, Eq)]
 pub enum Stand {
     Before(u32),
     Halted(u32),
 }
 
-/// A processor: where it stands, its mark, its end word and its two banks.
+/// A processor: its state between two frames, its mark, its end word and its two banks.
 #[derive(Clone, Copy, Debug)]
 pub struct ProcessorState {
     pub stand: Stand,
@@ -31,7 +31,7 @@ pub struct ProcessorState {
 }
 
 impl ProcessorState {
-    /// The processor makes this frame, with the words of this draft: up to its halt in the frame, if there is one.
+    /// Makes this frame of the processor with the words of a draft, up to its halt in the frame, if there is one.
     #[tactic(auto, using(crate::proofs::Flying::made_as))]
     pub(crate) fn fly(&mut self, setup: &Setup, p: ProcId, frame: u32, draft: &[u64; 64])
         requires narrow { 8 * length setup.now.spec.now.apps ≤ 64 }
@@ -101,7 +101,7 @@ fn mark_made(width: u32, frame: u32, halt: Option<HaltAt>, mark: u64) -> u64
     }
 }
 
-// The first words of one of two banks become those of a draft.
+// Copies the first words of a draft to one of two banks.
 #[tactic(auto, using(crate::proofs::Flying::laid_on))]
 fn lay_on(banks: &mut [[u64; 64]; 2], side: usize, draft: &[u64; 64], count: u32)
     requires count { count ≤ 64 }
@@ -111,7 +111,7 @@ fn lay_on(banks: &mut [[u64; 64]; 2], side: usize, draft: &[u64; 64], count: u32
     lay(&mut banks[side], draft, count);
 }
 
-// The first words of a bank become those of a draft.
+// Copies the first words of a draft to a bank.
 fn lay(bank: &mut [u64; 64], draft: &[u64; 64], count: u32)
     requires { count ≤ 64 }
     ensures { (i : ℕ) → slice_index_or bank.new i 0 ≡ (if nat_lt i count then slice_index_or draft.now i 0 else slice_index_or bank.old i 0) }

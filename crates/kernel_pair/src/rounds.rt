@@ -1,4 +1,4 @@
-//! A pair is flown to its end on one thread.
+//! The flight of a pair on one thread.
 
 ghost use Rattle.std.specs.Prelude.{◌≡◌, ◌<◌, ◌≤◌, ℕ, None, length};
 ghost use Rattle.kernel_pair.specs.Machines.{pair_flight, pair_in};
@@ -10,7 +10,7 @@ use crate::cores::PairCore;
 use crate::events::PairEvent;
 use scram_types::ProcId;
 
-/// Makes all events that are still to come, in rounds: each processor, then unit 0 as far as it can, then unit 1.
+/// Makes all remaining events, in rounds: each processor, then unit 0 for as long as it has a next event, then unit 1.
 pub fn fly_on(core: &mut PairCore)
     ensures spec { core.new.spec ≡ core.old.spec }
     ensures script { core.new.script ≡ core.old.script }
@@ -35,7 +35,7 @@ fn fly_round(core: &mut PairCore)
     run_unit(core, 1);
 }
 
-// A processor makes its frame, where some unit has released it.
+// Makes the next frame of a processor, if some unit has released it.
 fn fly_processor(core: &mut PairCore, p: ProcId)
     ensures { IsFlownOn core.old core.new ((u : ℕ) → u < 2 → IsPairNext (pair_flight core.old) core.old.halt (pair_in core.old) (Fly p u) → ⊥) }
 {
@@ -43,7 +43,7 @@ fn fly_processor(core: &mut PairCore, p: ProcId)
     attempt(core, PairEvent::Fly(p, 1));
 }
 
-// Makes an event, where it is next of its actor.
+// Makes an event, if it is next of its actor.
 fn attempt(core: &mut PairCore, event: PairEvent)
     ensures { IsFlownOn core.old core.new (IsPairNext (pair_flight core.old) core.old.halt (pair_in core.old) event → ⊥) }
 {
@@ -53,7 +53,7 @@ fn attempt(core: &mut PairCore, event: PairEvent)
     }
 }
 
-// A unit goes on until it has no next event.
+// Makes the events of a unit until it has no next event.
 fn run_unit(core: &mut PairCore, u: u8)
     requires { u < 2 }
     ensures { IsFlownOn core.old core.new (next_unit (pair_flight core.old) core.old.halt (pair_in core.old) u ≡ None) }

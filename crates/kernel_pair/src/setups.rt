@@ -1,4 +1,4 @@
-//! By what a pair flies.
+//! The setup of a pair.
 
 use crate::events::UnitHalt;
 use scram_types::{Script, Spec};

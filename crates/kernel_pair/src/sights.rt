@@ -1,4 +1,4 @@
-//! What is read of the words: the snapshot of a processor that makes a frame, and what a unit has noted.
+//! The snapshot of a processor that makes a frame, and the words that a unit has noted.
 
 ghost use Rattle.std.specs.Prelude.{◌≡◌, ℕ, ◌<◌, ◌≤◌, length, [], pos, slice_index_or};
 ghost use Rattle.scram_types.specs.Specification.{IsSpec};
@@ -19,7 +19,7 @@ use fail_stop::Snapshot;
 use fail_stop::law::kernel_images_come_back;
 use scram_types::{Image, Script, Spec};
 
-/// Returns what a processor sees that makes this frame by the words of a unit, where it finds what is of the frame.
+/// Returns the snapshot of a processor that makes this frame by the words of a unit.
 pub(crate) fn snapshot(
     spec: &Spec,
     script: &Script,
@@ -64,7 +64,7 @@ fn copied(words: &[u64; 20]) -> [u64; 20]
     *words
 }
 
-// Returns the images of the processors that a reader in a frame finds.
+// Returns the images of the processors that a reader finds in a frame.
 fn images_picked(spec: &Spec, procs: &[ProcessorState; 8], frame: u32) -> [Image; 8]
     ensures words { (q : ℕ) → q < 8 → (i : ℕ) → i < 64 → slice_index_or (image_in result q) i (pos 0) ≡ word_seen spec.now procs.now q frame i }
     ensures long { (q : ℕ) → q < 8 → length (image_in result q) ≡ 64 }
@@ -90,7 +90,7 @@ fn image_picked(spec: &Spec, procs: &[ProcessorState; 8], q: usize, frame: u32) 
     image_decoded(spec, &y.banks[usize::from(pick(y.mark, frame))])
 }
 
-/// Returns the images of which a unit has noted these words.
+/// Returns the images of the words that a unit has noted.
 pub(crate) fn images_decoded(spec: &Spec, images: &[[u64; 64]; 8]) -> [Image; 8]
     ensures words { (p : ℕ) → p < 8 → (i : ℕ) → i < 64
         → slice_index_or (image_in result p) i (pos 0) ≡ word_decoded spec.now (slice_index_or images.now p []) i }
@@ -108,7 +108,7 @@ pub(crate) fn images_decoded(spec: &Spec, images: &[[u64; 64]; 8]) -> [Image; 8]
     ]
 }
 
-// Returns the image that these words hold.
+// Returns the image that these words encode.
 fn image_decoded(spec: &Spec, words: &[u64; 64]) -> Image
     ensures words { (i : ℕ) → i < 64 → slice_index_or result i (pos 0) ≡ word_decoded spec.now words.now i }
     ensures long { length result ≡ 64 }

@@ -1,11 +1,11 @@
-//! A state of a pair, and what an event does to it.
+//! A state of a pair, and the effect of an event on it.
 
 use crate::processors::ProcessorState;
 use crate::setups::Setup;
 use crate::units::UnitState;
 use scram_types::ProcId;
 
-/// Each processor and each unit.
+/// The processors and the units of a pair.
 #[derive(Clone, Copy, Debug)]
 pub struct PairState {
     pub procs: [ProcessorState; 8],
@@ -20,7 +20,7 @@ impl PairState {
     ghost use Rattle.kernel_pair.specs.States.{flight_by, pair_of};
     ghost use Rattle.kernel_pair.specs.declared.setups.Setup.{Setup};
 
-    /// Processor `p` makes this frame, with the words of this draft.
+    /// Makes this frame of processor `p` with the words of a draft.
     #[tactic(auto, using(crate::proofs::Setting::processor_with))]
     pub(crate) fn fly(&mut self, setup: &Setup, p: ProcId, frame: u32, draft: &[u64; 64])
         requires p { p.0 < 8 }

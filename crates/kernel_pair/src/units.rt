@@ -1,9 +1,9 @@
-//! A unit of the kernel, and what its events do to it.
+//! A unit of the kernel, and the effect of its events on it.
 
 use crate::processors::ProcessorState;
 
-/// A unit: its frame, the steps made in it, the frame of its halt once it has halted, its release word, its ready word and
-/// its 20 words, and the marks and the words of the images that it has noted.
+/// A unit: its frame, the steps made in it and the frame of its halt, if it has halted. It also has its release word,
+/// its ready word, its 20 words, and the marks and the words of the images that it has noted.
 #[derive(Clone, Copy, Debug)]
 pub struct UnitState {
     pub frame: u32,

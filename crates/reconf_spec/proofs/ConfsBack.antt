@@ -46,7 +46,7 @@ listed_of_kind kind mode (listed ∷ modes) each some =
     of_kind_by (listed.mode.0 == mode) listed mode kind (mode_in modes mode) (λ e. eqb-true listed.mode.0 mode e) (each zero listed refl)
     (listed_of_kind kind mode modes (λ i x e. each (suc i) x e)) some
 
--- how a place is read back where its application has none yet
+-- a place is read back if its application has none yet
 place_back : (spec : Parts) → IsSpec spec → (at : List ℕ) (made : List (Option Place)) (a : ℕ) (place : Place) → IsPlace spec.procs spec.apps a place → slice_get made a ≡ Some None
     → read_place spec.procs spec.apps at made (place_data spec a place) ≡ Ok (set made a (Some place))
 place_back spec is at made a place fits free =

@@ -1,4 +1,4 @@
--- What stands in a list is found by its name, and what is new is not.
+-- An item of a list is found by its name, and a new item is not found.
 use Rattle.std.proofs.Common.{◌≡◌, ◌+◌, ◌<◌, ℕ, zero, suc, Bool, true, false, List, [], ◌∷◌, ◌++◌, length, take, arith, refl, sym, ap, subst}
 use Rattle.std.specs.Prelude.{Some, None, slice_get}
 use Rattle.std.specs.Bool.{Decides}
@@ -22,7 +22,7 @@ not_so : (test : Bool) (P : Type 0) → Decides test P → (P → ⊥) → test 
 not_so true P decides apart = absurd (apart (decides.0 refl))
 not_so false P decides apart = refl
 
--- the name of an element is none of those before it
+-- the name of an element is not that of an element before it
 none_before : {A : Type 0} (name : A → List ℕ) (k : ℕ) (xs : List A) (x : A) (after : List A) → NamesDiffer name (xs ++ x ∷ after) → number_from name k xs (name x) ≡ None
 none_before name k [] x after differ = refl
 none_before name k (y ∷ ys) x after differ =
@@ -36,7 +36,7 @@ cut [] i x P e then = absurd (let none : None ≡ Some x = e in cc)
 cut (y ∷ ys) zero x P e then = then ys (ap (λ z. z ∷ ys) (sym (same_some y x e)))
 cut (y ∷ ys) (suc i) x P e then = cut ys i x P e (λ after is. then after (ap (λ zs. y ∷ zs) is))
 
--- names that differ are new as they come
+-- names that differ are new as they are read
 pub all_new : {A : Type 0} (name : A → List ℕ) (xs : List A) → NamesDiffer name xs → AllAfter (λ (done : List A) (x : A). number_from name 0 done (name x) ≡ None) xs
 all_new {A} name xs differ i x e = cut xs i x _ e (λ after is.
     none_before name 0 (take i xs) x after (subst (NamesDiffer name) (sym is) differ))

@@ -148,7 +148,7 @@ variable_back apps app a variable there below is =
     let named : number_in (variable_names app.kind.0) is.text ≡ Some variable = subst (λ (x : AppSpec). number_in (variable_names x.kind.0) is.text ≡ Some variable) same is.named in
     rw (agree.spelled variable is.text named) named
 
--- what invariants and preconditions have in common, as it is read back
+-- the common part of invariants and preconditions, as it is read back
 interval_back : (spec : Parts) → IsSpec spec → (at : List ℕ) (app : AppId) (variable : ℕ) (least greatest : ℤ) → IsInterval spec.apps app variable least greatest → IsWritableInterval spec.apps app variable least greatest
     → read_interval spec.apps at (string (name_of_item name_of_app spec.apps app.0)) (string (name_of_variable spec.apps app.0 variable)) (integer_data least) (integer_data greatest)
     ≡ Ok (record { app = app; variable = variable; ends = record { least = least; greatest = greatest } })

@@ -94,6 +94,6 @@ set_back name xs unknown barred most at set few differ below free =
     (subst (λ (n : ℕ). folded_from (read_into name xs unknown barred) at 0 n (items_of (names_data name set 0 xs)) ≡ Ok set) none
     (names_back name xs [] xs unknown barred at 0 set differ refl below free))
 
--- where nothing is barred
+-- no number is barred
 pub all_free : (set : ℕ) → IsFree set 0
 all_free set p is = rw (bit_at-zero p) refl

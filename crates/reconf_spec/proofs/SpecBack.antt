@@ -48,7 +48,7 @@ assumption_back spec is at =
 abbrev names_of : Parts → Names
 names_of spec = record { procs = spec.procs; apps = spec.apps; confs = spec.confs; factors = spec.factors }
 
--- what is read back of the lists that the rest of a document names
+-- the lists to which the rest of a document refers, as they are read back
 record NamesAreBack (spec : Parts) : Type 0 where
   procs : read_procs (member_path [] (codes "processors")) (list_data proc_data spec.procs) ≡ Ok spec.procs
   apps : read_unranked (member_path [] (codes "apps")) (list_data (app_data spec.apps) spec.apps) ≡ Ok (map unranked spec.apps)
@@ -90,7 +90,7 @@ with_choice demands policy spec = record {
   window = spec.window;
 }
 
--- what is read back of the rest of a document, but its policy and its demands
+-- the rest of a document as it is read back, without its policy and its demands
 record RestIsBack (spec : Parts) : Type 0 where
   rules : read_choices spec.procs spec.confs spec.factors (member_path [] (codes "rules")) (list_data (choice_data spec) spec.rules) ≡ Ok spec.rules
   bounds : read_bounds spec.confs (member_path [] (codes "bounds")) (list_data (bound_data spec.confs) spec.bounds) ≡ Ok spec.bounds
@@ -111,7 +111,7 @@ rest_is_back spec is writable = record {
   assumption = assumption_back spec is (member_path [] (codes "assumption"));
 }
 
--- what is read back of demands
+-- the demands as they are read back
 abbrev AreBack : Parts → List Demand → Type 0
 AreBack spec demands =
     read_demands spec.procs spec.apps spec.confs spec.factors (member_path [] (codes "demands")) (list_data (demand_data spec) demands) ≡ Ok demands

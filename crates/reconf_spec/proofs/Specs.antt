@@ -1,4 +1,4 @@
--- What the parts of a document keep makes a specification.
+-- The parts of a document, by the facts about them, make a specification.
 use Rattle.std.proofs.Common.{◌≡◌, ◌∙◌, ◌≤◌, ◌==◌, ℕ, true, false, List, length, arith, ap, sym, subst, take}
 use mathlib.Core.Logic.{inl, inr}
 use Rattle.std.specs.Prelude.{IsSome, Option, Some, None, is_some, slice_get}
@@ -39,7 +39,7 @@ variable_below found variable is =
 factor_fits : (done : List Factor) (factor : Factor) → IsNewFactor done factor → IsFactor factor
 factor_fits done factor fits = record { count = fits.count; differ = new_differ itself factor.values (λ i x e. (fits.values i x e).new) }
 
--- modes that are new as they come differ
+-- modes that are new as they are read differ
 modes_differ : (modes : List Mode) → AllAfter (λ (done : List Mode) (mode : Mode). is_among done mode.0 ≡ false) modes
     → (i j : ℕ) (m n : Mode) → slice_get modes i ≡ Some m → slice_get modes j ≡ Some n → m.0 ≡ n.0 → i ≡ j
 modes_differ modes new i j m n there too same = elim (compare i j) [

@@ -1,4 +1,4 @@
--- What a document can say of a specification, in addition to its invariant.
+-- The properties of a specification that a document can express, in addition to its invariant.
 use Rattle.std.specs.Prelude.{◌≤ℤ◌, ℕ, ℤ, Bool, List, map, is_some, slice_get}
 use Rattle.scram_types.specs.declared.ids.AppId.{AppId}
 use Rattle.scram_types.specs.declared.specification.AppSpec.{AppSpec}
@@ -14,21 +14,21 @@ use Rattle.spec_table.specs.Choices.{wants_factor}
 use Rattle.spec_table.specs.Facts.{IsVariable}
 use Rattle.spec_members.specs.Kept.{IsWritableApp, NoneAgain, rank_of}
 
--- an earlier entry requires a value of the same factor
+-- An earlier entry requires a value of the same factor.
 abbrev pub lists_want : List Want → Want → Bool
 lists_want done want = wants_factor done want.factor.0
 
--- the pair has a bound before it
+-- The pair already has a bound.
 abbrev pub lists_pair : List Bound → Bound → Bool
 lists_pair done bound = is_some (bound_in done bound.from.0 bound.to.0)
 
--- An interval for a variable that has a name, and not empty.
+-- A non-empty interval for a variable that has a name.
 pub record IsWritableInterval (apps : List AppSpec) (app : AppId) (variable : ℕ) (least greatest : ℤ) : Type 0 where
   pub named : IsVariable (slice_get apps app.0) variable
   pub in_order : least ≤ℤ greatest
 
--- No list names the same twice, each application has the rank that its needs give it, and each interval is one
--- for a variable that has a name and is not empty.
+-- No list names an item twice, each application has the rank that its needs determine, and each interval is non-empty
+-- and for a variable that has a name.
 pub record IsWritable (spec : Parts) : Type 0 where
   pub apps : Each IsWritableApp spec.apps
   pub ranks : IsRanking spec.apps (map rank_of spec.apps)

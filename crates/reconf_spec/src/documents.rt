@@ -111,7 +111,7 @@ fn read_policy_of(members: &Members<'_>) -> Result<Policy, DocFault>
     }
 }
 
-/// Returns the demands of a document; one of a version without demands has none.
+/// Returns the demands of a document. The list is empty if its version has no demands.
 fn read_demands_of(
     alloc: Global,
     vocabulary: &Vocabulary,
@@ -128,7 +128,7 @@ fn read_demands_of(
     }
 }
 
-/// What a document says behind its names.
+/// The part of a document after its names.
 #[derive(Drop)]
 struct Rest {
     rules: List<Choice>,
@@ -174,7 +174,7 @@ fn read_behind_names(
     })
 }
 
-/// Returns the specification of these names and of what stands behind them.
+/// Creates the specification of these names and the rest of its document.
 fn join(vocabulary: Vocabulary, rest: Rest) -> Spec
     requires fits { FitsRest vocabulary.procs vocabulary.apps vocabulary.confs vocabulary.factors rest }
     ensures value { result ≡ with_rest vocabulary rest }
@@ -199,7 +199,7 @@ fn join(vocabulary: Vocabulary, rest: Rest) -> Spec
     }
 }
 
-/// Returns the specification, once the names are known.
+/// Reads the specification, given its names.
 pub(crate) fn read_rest(
     alloc: Global,
     vocabulary: Vocabulary,

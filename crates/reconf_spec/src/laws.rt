@@ -1,8 +1,8 @@
-//! What the crates below keep together: each function's contract is a law.
+//! The common properties of the crates below, as laws. Each function's contract is a law.
 
 ghost use Rattle.reconf_spec.specs.Laws.{NamesAreOne};
 
-/// The rule of a name is the same in a document and in a specification.
+/// States that the rule for names is the same in a document and in a specification.
 pub fn names_are_one()
     ensures { NamesAreOne }
 {}

@@ -1,5 +1,5 @@
-//! Specification documents: `read_spec` gives the specification that some bytes are, or the first rule that they
-//! break with the path where it is broken, exactly as the definition of the reading says.
+//! Specification documents. `read_spec` returns the specification that the bytes encode, or the first rule that they
+//! break with its path, exactly as its definition says.
 #![tactic(auto)]
 
 mod documents;

@@ -1,4 +1,4 @@
-//! Specifications, as they are read.
+//! The reading of specifications.
 
 ghost use Rattle.std.specs.Prelude.{[], IfErr, IfOk, OnOk};
 ghost use Rattle.serde_json.specs.View.{view};
@@ -27,7 +27,7 @@ use spec_table::configurations::read_confs;
 use spec_table::vocabulary::Vocabulary;
 use std::alloc::Global;
 
-/// Returns the configurations and factors, beside the processors and applications.
+/// Reads the configurations and factors, given the processors and applications.
 fn read_more_names(
     alloc: Global,
     procs: Numbered<Proc, ByName>,
@@ -74,9 +74,9 @@ fn read_document(alloc: Global, document: &Value) -> Result<Spec, SpecError>
     Ok(spec)
 }
 
-/// Returns the specification that the bytes are, or the first rule that they break with the path where it is broken.
-/// A fault carries a cycle of needs exactly where the applications are read and their needs have one. What is read
-/// can be written again.
+/// Returns the specification that the bytes encode, or the first rule that they break with its path. A fault has a
+/// cycle of needs if and only if the applications are read and their needs have one. A specification that is read can
+/// be written again.
 pub fn read_spec(alloc: Global, bytes: &[u8]) -> Result<Spec, SpecError>
     ensures value { AnswersSpec (spec_of bytes.now) result }
     ensures cycle { IfErr result (λ error. ShowsCycle (unranked_of bytes.now) error) }

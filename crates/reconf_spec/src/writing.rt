@@ -1,4 +1,4 @@
-//! Specifications, as they are written.
+//! The writing of specifications.
 
 ghost use Rattle.std.specs.Prelude.{◌≡◌, Ok, Some, IfOk};
 ghost use Rattle.serde_json.specs.Read.{read};
@@ -10,10 +10,10 @@ use scram_types::{NoMemory, Spec};
 use spec_text::write_text;
 use std::alloc::Global;
 
-/// Returns the canonical text of a specification: compact JSON, in version 3 where there are demands, else in version 1
-/// where the policy is to retarget and in version 2 where it is to settle. The places of a configuration and the
-/// applications of a demand stand in the order of applications, sets of processors, applications and configurations in
-/// their orders, and every other list as it is kept.
+/// Returns the canonical text of a specification, which is compact JSON. With demands it is of version 3. Without
+/// demands it is of version 1 if the policy is to retarget, and of version 2 if it is to settle. The places of a
+/// configuration, the applications of a demand, and sets of processors, applications and configurations are in the
+/// order of their items. Every other list keeps its order.
 pub fn write_spec(alloc: Global, spec: &Spec) -> Result<Vec<u8>, NoMemory>
     ensures text { IfOk result (λ text. text.items ≡ spec_text spec.now) }
     ensures value { IfOk result (λ text. read text.items ≡ Some (spec_data spec.now)) }

@@ -1,4 +1,4 @@
--- Numbers and lists of values are read back as they were written.
+-- Numbers and lists of values are read back as written.
 use Rattle.std.proofs.Common.{◌≡◌, ◌≤◌, ◌<◌, ℕ, suc, List, [], ◌∷◌, ◌++◌, length, map, arith, refl, ap, ◌∙◌, sym, subst, append_assoc, append-nil}
 use Rattle.std.specs.Prelude.{Result, Ok, Some, slice_get}
 use Rattle.std.proofs.Math.Seq.{take-append_seam}
@@ -14,7 +14,7 @@ use Rattle.scram_doc.specs.Lists.{AllAfter, elements_at, elements_from}
 use Rattle.scram_doc.specs.Paths.{item_path}
 use Rattle.scram_doc.specs.Values.{items_within, whole_below}
 
--- a step and then the rest
+-- a step that succeeds, followed by the rest
 pub chained : {A B E : Type 0} (r : Result A E) (rest : A → Result B E) (a : A) (b : Result B E) → r ≡ Ok a → rest a ≡ b → chain r rest ≡ b
 chained r rest a b e f = rw (e) f
 
@@ -25,12 +25,12 @@ seam : {A : Type 0} (xs : List A) (x : A) (ys : List A) → slice_get (xs ++ x �
 seam [] x ys = refl
 seam (y ∷ xs) x ys = seam xs x ys
 
--- what an element keeps with those before it
+-- what an element keeps with the elements before it
 pub fact_after : {A : Type 0} (Fact : List A → A → Type 0) (before : List A) (x : A) (after : List A) → AllAfter Fact (before ++ x ∷ after) → Fact before x
 fact_after {A} Fact before x after all =
     subst (λ (ys : List A). Fact ys x) (take-append_seam before (x ∷ after)) (all (length before) x (seam before x after))
 
--- where something else is read of what is written
+-- the elements read back, if what is read differs from what was written
 pub elements_given : {A B : Type 0} (Fact : List B → B → Type 0) (read : List ℕ → List A → Data → Result A DocFault) (f : B → Data) (give : B → A)
     → ((at : List ℕ) (done : List B) (x : B) → Fact done x → read at (map give done) (f x) ≡ Ok (give x))
     → (at : List ℕ) (i : ℕ) (before xs whole : List B) → before ++ xs ≡ whole → AllAfter Fact whole

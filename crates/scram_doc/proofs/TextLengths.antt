@@ -1,4 +1,4 @@
--- How long the text of a value may be. Each byte of a text takes at most six.
+-- Bounds on the length of a value's text. Each byte of a text takes at most six.
 use Rattle.std.proofs.Common.{◌≡◌, ◌+◌, ◌*◌, ◌≤◌, ◌<◌, ◌^◌, ◌/◌, ◌%◌, ℕ, suc, Bool, true, false, cond, List, [], ◌∷◌, ◌++◌, length, map, arith, ap, refl}
 use Rattle.std.specs.Prelude.{nat_lt, slice_get, Option, Some, None}
 use Rattle.std.specs.Option.{option_map_or}
@@ -22,7 +22,7 @@ quoted_length text named = omega (arith, ap length (quoted_letters text named), 
 pub name_length : (text : List ℕ) → is_spelled_name text ≡ true → length (quoted text) ≤ 18
 name_length text named = omega (arith, ap length (quoted_name text named), length-append text (34 ∷ []), name_short text named)
 
--- what is not there has no name, and so two quotes alone
+-- an item that is not found has no name, and is written as two quotes alone
 pub found_length : {A : Type 0} (name : A → List ℕ) (found : Option A) → ((x : A) → found ≡ Some x → is_spelled_name (name x) ≡ true) → length (quoted (option_map_or name found [])) ≤ 18
 found_length name None named = omega arith
 found_length name (Some x) named = name_length (name x) (named x refl)
@@ -53,7 +53,7 @@ escaped_length xs = let inside = escape_length xs in omega (arith, inside, lengt
 abbrev pub exact : List ℕ → ℕ
 exact text = length (quoted text)
 
--- a bound on the length of a value's text, where a text has at most the length that `measure` gives
+-- a bound on the length of a value's text, if `measure` bounds the lengths of the texts in it
 abbrev mutual
   pub weight : (List ℕ → ℕ) → Data → ℕ
   weight measure null = 4

@@ -1,4 +1,4 @@
--- What JSON value some bytes are.
+-- The JSON value that bytes encode.
 use Rattle.std.specs.Prelude.{ℕ, List, [], Option, None, Result, if◌then◌else◌}
 use Rattle.std.specs.Str.{is_utf8}
 use Rattle.serde_json.specs.Data.{Data}
@@ -7,10 +7,10 @@ use Rattle.scram_doc.specs.declared.fault.DocFault.{DocFault}
 use Rattle.scram_doc.specs.declared.rule.TheConstants.{NO_JSON_TEXT}
 use Rattle.scram_doc.specs.Faults.{or_broken}
 
--- a JSON text is UTF-8, and a value nests at most 127 levels deep
+-- The value of a JSON text, which is UTF-8 and nests at most 127 levels deep.
 abbrev pub document : List ℕ → Option Data
 document bytes = if is_utf8 bytes then read bytes else None
 
--- The JSON value of the bytes, and else the first rule of every document is broken at the root.
+-- The JSON value of the bytes. Rule 1 is broken at the root if they are not a JSON text.
 abbrev pub parsed : List ℕ → Result Data DocFault
 parsed bytes = or_broken NO_JSON_TEXT [] (document bytes)

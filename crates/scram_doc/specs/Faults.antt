@@ -1,19 +1,19 @@
--- A broken rule, and what an answer says of a reading that may run out of memory.
+-- Broken rules, and the results of a reading that may run out of memory.
 use Rattle.std.specs.Prelude.{◌≡◌, ℕ, List, Option, Some, None, Result, Ok, Err, ⊤}
 use Rattle.scram_doc.specs.declared.fault.DocFault.{DocFault}
 use Rattle.scram_doc.specs.declared.fault.DocError.{DocError}
 use Rattle.scram_doc.specs.declared.fault.DocError.TheVariants.{Fault, NoMemory}
 
--- This rule is broken at this path.
+-- The rule is broken at the path.
 abbrev pub broken : {A : Type 0} → ℕ → List ℕ → Result A DocFault
 broken rule path = Err (record { rule = rule; path = path })
 
--- what there is, and else the rule is broken
+-- The value, or the broken rule if there is none.
 abbrev pub or_broken : {A : Type 0} → ℕ → List ℕ → Option A → Result A DocFault
 or_broken rule path (Some a) = Ok a
 or_broken rule path None = broken rule path
 
--- the answer is that of the reading, under f, or out of memory
+-- The answer is the result of the reading, or out of memory. `f` maps the value of the answer to that of the reading.
 abbrev pub Answers : {A B : Type 0} → Result B DocFault → (A → B) → Result A DocError → Type 0
 Answers reading f (Ok a) = reading ≡ Ok (f a)
 Answers reading f (Err (Fault fault)) = reading ≡ Err fault

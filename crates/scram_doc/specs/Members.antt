@@ -9,19 +9,20 @@ use Rattle.scram_doc.specs.Chain.{ok_map}
 use Rattle.scram_doc.specs.Faults.{broken, or_broken}
 use Rattle.scram_doc.specs.Paths.{member_path}
 
--- The value at a path is an object, and else rule 2 is broken there.
+-- The value at a path is an object. Rule 2 is broken there if it is not.
 abbrev pub object_at : List ℕ → Data → Result ⊤ DocFault
 object_at at d = ok_map (λ (_ : Members). tt) (or_broken NO_OBJECT at (as_object d))
 
--- the value of the member
+-- The value of a member. Rule 3 is broken at its path if there is none.
 abbrev pub needed : List ℕ → List ℕ → Data → Result Data DocFault
 needed name at d = or_broken MISSING_MEMBER (member_path at name) (get name d)
 
--- There are at most `most` members, and else rule 4 is broken at the path; what is no object has none.
+-- There are at most `most` members. Rule 4 is broken at the path if there are more. A value that is not an object has
+-- none.
 abbrev pub members_within : ℕ → List ℕ → Option Members → Result ⊤ DocFault
 members_within most at (Some ms) = if nat_le (members_len ms) most then Ok tt else broken FURTHER_MEMBER at
 members_within most at None = Ok tt
 
--- The value at a path has at most `most` members, and else rule 4 is broken there.
+-- The value at a path has at most `most` members. Rule 4 is broken there if it has more.
 abbrev pub no_more_than : ℕ → List ℕ → Data → Result ⊤ DocFault
 no_more_than most at d = members_within most at (as_object d)

@@ -1,11 +1,11 @@
--- Things that are numbered by their places in a list, and found by their names.
+-- Items that are numbered by their index in a list and found by their names.
 use Rattle.std.specs.Prelude.{ℕ, List, Option, position}
 use Rattle.std.specs.Str.{bytes_eq}
 
--- the number of the first thing whose name is the text
+-- The index of the first item whose name is the text.
 abbrev pub place_named : {A : Type 0} → (A → List ℕ) → List A → List ℕ → Option ℕ
 place_named {A} name xs text = position (λ (x : A). bytes_eq text (name x)) xs
 
--- A name is named by itself.
+-- The name of a name, which is the name itself.
 abbrev pub itself : List ℕ → List ℕ
 itself name = name

@@ -8,30 +8,30 @@ use Rattle.scram_doc.specs.declared.rule.TheConstants.{NO_LIST, WRONG_LENGTH, NO
 use Rattle.scram_doc.specs.Chain.{chain}
 use Rattle.scram_doc.specs.Faults.{broken, or_broken}
 
--- There are `least` to `most` elements, and else rule 6 is broken at the path.
+-- The elements, if there are `least` to `most`. Rule 6 is broken at the path otherwise.
 abbrev pub items_within : ℕ → ℕ → List ℕ → Items → Result Items DocFault
 items_within least most at ds = if nat_le least (items_len ds) && nat_le (items_len ds) most then Ok ds else broken WRONG_LENGTH at
 
--- the elements, where there are `least` to `most`
+-- The elements of the list at a path, if there are `least` to `most`. Rule 5 or 6 is broken there otherwise.
 abbrev pub list_at : ℕ → ℕ → List ℕ → Data → Result Items DocFault
 list_at least most at d = chain (or_broken NO_LIST at (as_array d)) (λ (ds : Items). items_within least most at ds)
 
--- The text that the value at a path is, and else rule 7 is broken there.
+-- The text of the string at a path. Rule 7 is broken there if the value is not a string.
 abbrev pub text_at : List ℕ → Data → Result (List ℕ) DocFault
 text_at at d = or_broken NO_TEXT at (as_str d)
 
--- The number, if it is one from `least` to `most`.
+-- The number, if it is within the range from `least` to `most`, inclusive.
 abbrev pub int_within : ℤ → ℤ → ℤ → Option ℤ
 int_within least most n = if int_le least n && int_le n most then Some n else None
 
--- a whole number from `least` to `most`
+-- The whole number at a path, if it is from `least` to `most`. Rule 8 is broken there otherwise.
 abbrev pub int_at : ℤ → ℤ → List ℕ → Data → Result ℤ DocFault
 int_at least most at d = or_broken NO_NUMBER_IN_RANGE at (option_and_then (int_within least most) (option_and_then as_i64 (as_number d)))
 
--- The number, if it is one from `least` on and below `end`.
+-- The number, if it is at least `least` and below `end`.
 abbrev pub whole_below : ℕ → ℕ → ℕ → Option ℕ
 whole_below least end n = if nat_le least n && nat_lt n end then Some n else None
 
--- a whole number from `least` on and below `end`
+-- The whole number at a path, if it is at least `least` and below `end`. Rule 8 is broken there otherwise.
 abbrev pub whole_at : ℕ → ℕ → List ℕ → Data → Result ℕ DocFault
 whole_at least end at d = or_broken NO_NUMBER_IN_RANGE at (option_and_then (whole_below least end) (option_and_then as_u64 (as_number d)))

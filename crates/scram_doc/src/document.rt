@@ -6,7 +6,7 @@ use crate::{DocError, DocFault, Path, rule};
 use serde_json::Value;
 use std::alloc::Global;
 
-/// Returns the JSON value of the bytes. Rule 1 is broken where they are no JSON text.
+/// Returns the JSON value that the bytes encode. Rule 1 is broken if they are not a JSON text.
 pub fn parse(alloc: Global, bytes: &[u8]) -> Result<Value, DocError>
     ensures { Answers (parsed bytes.now) view result }
 {

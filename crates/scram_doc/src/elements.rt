@@ -9,7 +9,7 @@ use crate::{DocError, Path, list};
 use serde_json::Value;
 use std::alloc::Global;
 
-/// How the elements of a list are read, each with those before it.
+/// A reader of the elements of a list. An element may depend on the elements before it.
 pub trait Elements<T: Drop> {
     ghost use Rattle.std.specs.Prelude.{◌≡◌, ◌≤◌, List, ℕ, Result, IfOk, length};
     ghost use Rattle.serde_json.specs.Data.{Data};
@@ -17,23 +17,23 @@ pub trait Elements<T: Drop> {
     ghost use Rattle.scram_doc.specs.declared.fault.DocFault.{DocFault};
     ghost use Rattle.scram_doc.specs.Faults.{Answers};
 
-    /// The longest path that an element may have.
+    /// The maximum length of the path of an element.
     ghost room: { ℕ };
 
-    /// What an element is.
+    /// The element that a value encodes, from its path, the elements before it and the value.
     ghost reading: { Self → List ℕ → List T → Data → Result T DocFault };
 
-    /// What each element keeps, with those before it.
+    /// A fact that each element keeps with the elements before it.
     ghost Fits: { Self → List T → T → Type 0 };
 
-    /// Returns the element that the value is, `done` being the elements before it.
+    /// Returns the element that the value encodes. `done` has the elements before it.
     fn read(&self, alloc: Global, done: &[T], v: &Value, at: &Path) -> Result<T, DocError>
         requires room { length at.now ≤ room }
         ensures value { Answers (reading self.now at.now done.now (view v.now)) (λ x. x) result }
         ensures fits { IfOk result (λ x. Fits self.now done.now x) };
 }
 
-/// Returns the elements of a list whose length was tested.
+/// Reads the elements of a list whose length has been checked.
 pub fn read_items<T: Drop, E: Elements<T>>(
     alloc: Global,
     elements: &E,
@@ -57,7 +57,7 @@ pub fn read_items<T: Drop, E: Elements<T>>(
     Ok(done)
 }
 
-/// Returns a list of `least` to `most` elements.
+/// Reads a list of `least` to `most` elements.
 pub fn read_list<T: Drop, E: Elements<T>>(
     alloc: Global,
     elements: &E,

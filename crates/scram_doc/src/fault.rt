@@ -12,7 +12,7 @@ pub struct DocFault {
 }
 
 impl DocFault {
-    /// Returns the rule of this number, broken at this path.
+    /// Creates a fault from the number of a rule and the path where the rule is broken.
     pub fn new(rule: u8, at: &Path) -> DocFault
         ensures { result ≡ record { rule = rule; path = at.now } }
     {
@@ -23,7 +23,7 @@ impl DocFault {
     }
 }
 
-/// Why a document was not read.
+/// The reason why a document was not read.
 #[derive(Debug, Drop)]
 pub enum DocError {
     /// The document breaks a rule.

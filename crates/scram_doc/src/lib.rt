@@ -1,6 +1,6 @@
-//! JSON documents read by path: each call gives the value that stands there, or the number of the broken rule
-//! and the path where it is broken, exactly as its definition says. Lists are read element by element, things with
-//! names are numbered as they come, and lists are written as their canonical values.
+//! JSON documents read by path. Each call returns the value at a path, or the number of the broken rule and the path
+//! where the rule is broken, exactly as its definition says. Lists are read element by element, named items are
+//! numbered in order, and lists are written as their canonical values.
 #![tactic(auto)]
 
 mod document;

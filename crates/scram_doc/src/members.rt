@@ -8,7 +8,7 @@ ghost use Rattle.scram_doc.specs.Members.{object_at, needed, no_more_than};
 use crate::{DocFault, Path, rule};
 use serde_json::{Map, Value};
 
-/// Tests that the value is an object, and else rule 2 is broken at its path.
+/// Checks that the value is an object. Rule 2 is broken at its path if it is not.
 pub fn object(v: &Value, at: &Path) -> Result<(), DocFault>
     ensures { result ≡ object_at at.now (view v.now) }
 {
@@ -19,15 +19,15 @@ pub fn object(v: &Value, at: &Path) -> Result<(), DocFault>
     }
 }
 
-/// Returns the value of a member, or none where the value is no object or lacks it.
+/// Returns the value of a member, or `None` if the value is not an object or has no such member.
 pub fn field<'a>(v: &'a Value, name: &str) -> Option<&'a Value>
     ensures { option_map (λ d. view d.now) result ≡ get name.now (view v.now) }
 {
     v.get(name)
 }
 
-/// Returns the value of a member. Rule 3 is broken at the member's path where the value at `at` has no such member;
-/// there must be room for that path.
+/// Returns the value of a member. Rule 3 is broken at the member's path if the value at `at` has no such member. There
+/// must be room for that path.
 pub fn need<'a>(v: &'a Value, name: &str, at: &Path) -> Result<&'a Value, DocFault>
     requires { length at.now + 1 + length name.now ≤ 64 }
     ensures { ok_map (λ d. view d.now) result ≡ needed name.now at.now (view v.now) }
@@ -35,8 +35,8 @@ pub fn need<'a>(v: &'a Value, name: &str, at: &Path) -> Result<&'a Value, DocFau
     field(v, name).ok_or_else(|| DocFault::new(rule::MISSING_MEMBER, &at.member(name)))
 }
 
-/// Tests that an object has at most `count` members, and else rule 4 is broken at its path. A member that the
-/// text repeats counts once. A value that is no object has no members.
+/// Checks that an object has at most `count` members. Rule 4 is broken at its path if it has more. A member that the
+/// text repeats counts once. A value that is not an object has no members.
 pub fn no_more(v: &Value, count: usize, at: &Path) -> Result<(), DocFault>
     ensures { result ≡ no_more_than count at.now (view v.now) }
 {

@@ -1,4 +1,4 @@
-//! Lists of things with names, which are numbered in the order in which they are listed.
+//! Lists of named items, which are numbered in the order of the list.
 
 ghost use Rattle.std.specs.Prelude.{◌≡◌, ◌≤◌, ◌<◌, ◌+◌, ◌++◌, [], ◌∷◌, None, length, map, IfSome, IfOk};
 ghost use Rattle.serde_json.specs.View.{view, items_view};
@@ -12,19 +12,19 @@ use serde_json::Value;
 use std::alloc::{AllocError, Global};
 use std::marker::{Model, PhantomData};
 
-/// How things are named.
+/// A naming of items.
 pub trait Naming<T> {
     ghost use Rattle.std.specs.Prelude.{◌≡◌, List, ℕ};
 
-    /// The bytes of a thing's name.
+    /// The bytes of an item's name.
     ghost spelling: { T → List ℕ };
 
-    /// Returns the name of a thing.
+    /// Returns the name of an item.
     fn name(item: &T) -> &str
         ensures { result.now ≡ spelling item.now };
 }
 
-/// Names, each of which is numbered by its place.
+/// A list of different names, each numbered by its index.
 #[derive(Drop)]
 pub struct Numbers {
     names: IndexSet<String>,
@@ -55,7 +55,7 @@ impl Numbers {
         self.names.get_index_of(name)
     }
 
-    /// Returns the names with one more, which is not among them.
+    /// Appends a name that is not yet in the list.
     fn with(self, alloc: Global, name: &str) -> Result<Numbers, AllocError>
         requires { place_named itself self name.now ≡ None }
         ensures { IfOk result (λ numbers. numbers ≡ self ++ name.now ∷ []) }
@@ -66,7 +66,7 @@ impl Numbers {
     }
 }
 
-/// Items, each with a name of its own.
+/// A list of items, each with a name of its own.
 #[derive(Drop)]
 pub struct Numbered<T, N: Naming<T>> {
     items: Vec<T>,
@@ -85,7 +85,7 @@ impl<T, N: Naming<T>> Model for Numbered<T, N> {
 }
 
 impl<T, N: Naming<T>> Numbered<T, N> {
-    /// Returns these items, whose names the numbers are of.
+    /// Creates a list of these items. `numbers` has their names in order.
     pub fn of(items: Vec<T>, numbers: Numbers) -> Numbered<T, N>
         requires { numbers ≡ map N.spelling items.items }
         ensures { result ≡ items.items }
@@ -103,7 +103,7 @@ impl<T, N: Naming<T>> Numbered<T, N> {
         &self.items
     }
 
-    /// Returns the number of the item of this name.
+    /// Returns the index of the item with this name, or `None` if there is no such item.
     pub fn number(&self, name: &str) -> Option<usize>
         ensures number { result ≡ place_named N.spelling self.now name.now }
         ensures below { IfSome result (λ number. number < length self.now) }
@@ -111,7 +111,7 @@ impl<T, N: Naming<T>> Numbered<T, N> {
         self.numbers.number(name)
     }
 
-    /// Returns the items, and the numbers of their names.
+    /// Returns the items and the list of their names.
     pub fn into_parts(self) -> (Vec<T>, Numbers)
         ensures items { result.0.items ≡ self }
         ensures numbers { result.1 ≡ map N.spelling self }
@@ -119,7 +119,7 @@ impl<T, N: Naming<T>> Numbered<T, N> {
         (self.items, self.numbers)
     }
 
-    /// Returns the items, in order.
+    /// Returns the items in order.
     pub fn into_items(self) -> Vec<T>
         ensures { result.items ≡ self }
     {
@@ -138,7 +138,7 @@ impl<T: Drop, N: Naming<T>> Numbered<T, N> {
         }
     }
 
-    /// Returns the items with one more, whose name none of them has.
+    /// Appends an item whose name no other item has.
     fn with(self, alloc: Global, item: T) -> Result<Numbered<T, N>, AllocError>
         requires { place_named N.spelling self (N.spelling item) ≡ None }
         ensures { IfOk result (λ numbered. numbered ≡ self ++ item ∷ []) }
@@ -154,7 +154,7 @@ impl<T: Drop, N: Naming<T>> Numbered<T, N> {
     }
 }
 
-/// How the elements of a list are read that have names, each with those before it.
+/// A reader of the elements of a list. Each element has a name, and may depend on the elements before it.
 pub trait NamedElements<T: Drop, N: Naming<T>> {
     ghost use Rattle.std.specs.Prelude.{◌≡◌, ◌≤◌, List, ℕ, None, Result, IfOk, length};
     ghost use Rattle.serde_json.specs.Data.{Data};
@@ -163,16 +163,16 @@ pub trait NamedElements<T: Drop, N: Naming<T>> {
     ghost use Rattle.scram_doc.specs.Faults.{Answers};
     ghost use Rattle.scram_doc.specs.Numbering.{place_named};
 
-    /// The longest path that an element may have.
+    /// The maximum length of the path of an element.
     ghost room: { ℕ };
 
-    /// What an element is.
+    /// The element that a value encodes, from its path, the elements before it and the value.
     ghost reading: { Self → List ℕ → List T → Data → Result T DocFault };
 
-    /// What each element keeps, with those before it.
+    /// A fact that each element keeps with the elements before it.
     ghost Fits: { Self → List T → T → Type 0 };
 
-    /// Returns the element that the value is, `done` being the elements before it.
+    /// Returns the element that the value encodes. `done` has the elements before it.
     fn read(
         &self,
         alloc: Global,
@@ -184,7 +184,7 @@ pub trait NamedElements<T: Drop, N: Naming<T>> {
         ensures value { Answers (reading self.now at.now done.now (view v.now)) (λ x. x) result }
         ensures fits { IfOk result (λ x. Fits self.now done.now x) };
 
-    /// No element has the name of one before it.
+    /// No element has the name of an element before it.
     ghost is_new: { (e : Self) (done : List T) (x : T) → Fits e done x → place_named N.spelling done (N.spelling x) ≡ None };
 }
 
@@ -209,7 +209,7 @@ pub fn read_named_items<T: Drop, N: Naming<T>, E: NamedElements<T, N>>(
     Ok(done)
 }
 
-/// Returns a list of `least` to `most` elements that have names.
+/// Reads a list of `least` to `most` named elements.
 pub fn read_named_list<T: Drop, N: Naming<T>, E: NamedElements<T, N>>(
     alloc: Global,
     elements: &E,

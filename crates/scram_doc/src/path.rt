@@ -6,8 +6,8 @@ use itoa::Buffer;
 use std::fmt;
 use std::marker::Model;
 
-/// The path of a value in a document, of at most 64 bytes: `.` and a member name or an index for each level,
-/// and `.` alone for the whole document. A contract sees its bytes, and none for the whole document.
+/// The path of a value in a document, of at most 64 bytes: `.` and a member name or an index for each level, or `.`
+/// alone for the whole document. In a contract it is the list of its bytes, which is empty for the whole document.
 #[derive(Debug, Drop)]
 pub struct Path {
     text: ArrayString<64>,
@@ -60,7 +60,7 @@ impl Path {
         self.member(buffer.format(index))
     }
 
-    /// Returns the path as it is shown.
+    /// Returns the path in the form in which it is shown.
     pub fn as_str(&self) -> &str
         ensures text { result.now ≡ shown self.now }
         ensures short { length result.now ≤ 64 }

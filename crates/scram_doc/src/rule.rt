@@ -1,6 +1,6 @@
-//! The numbers of the rules that every document keeps. A fault shows its number, so they never change.
+//! The numbers of the rules that hold for every document. They never change, since faults show them.
 
-/// The bytes are no JSON text.
+/// The bytes are not a JSON text.
 pub const NO_JSON_TEXT: u8 = 1;
 
 /// The value is not an object.
@@ -9,13 +9,13 @@ pub const NO_OBJECT: u8 = 2;
 /// A member is missing.
 pub const MISSING_MEMBER: u8 = 3;
 
-/// A member that the table does not have is there.
+/// The object has a member that is not in its table.
 pub const FURTHER_MEMBER: u8 = 4;
 
 /// The value is not a list.
 pub const NO_LIST: u8 = 5;
 
-/// A list is shorter or longer than its limits.
+/// A list is shorter or longer than allowed.
 pub const WRONG_LENGTH: u8 = 6;
 
 /// The value is not a string.

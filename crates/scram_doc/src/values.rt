@@ -7,8 +7,8 @@ ghost use Rattle.scram_doc.specs.Values.{list_at, text_at, int_at, whole_at};
 use crate::{DocFault, Path, rule};
 use serde_json::Value;
 
-/// Returns the elements of a list. Rule 5 is broken at its path where the value is no list, and rule 6 where it has
-/// fewer than `least` or more than `most` elements.
+/// Returns the elements of a list. Rule 5 is broken at its path if the value is not a list. Rule 6 is broken there if
+/// the list has fewer than `least` or more than `most` elements.
 pub fn list<'a>(v: &'a Value, least: usize, most: usize, at: &Path) -> Result<&'a [Value], DocFault>
     ensures items { ok_map (λ ds. items_view ds.now) result ≡ list_at least most at.now (view v.now) }
     ensures least { IfOk result (λ ds. least ≤ length ds.now) }
@@ -32,15 +32,15 @@ fn count_items(items: &[Value]) -> usize
     items.len()
 }
 
-/// Returns the text that the value is, and else rule 7 is broken at its path.
+/// Returns the text of a string. Rule 7 is broken at its path if the value is not a string.
 pub fn text<'a>(v: &'a Value, at: &Path) -> Result<&'a str, DocFault>
     ensures { ok_map (λ s. s.now) result ≡ text_at at.now (view v.now) }
 {
     v.as_str().ok_or_else(|| DocFault::new(rule::NO_TEXT, at))
 }
 
-/// Returns the whole number that the value is, from `least` to `most`, and else rule 8 is broken at its path. A
-/// number with a point or an exponent, `-0` and a number past 64 bits are no whole numbers.
+/// Returns the value, if it is a whole number from `least` to `most`. Rule 8 is broken at its path if it is not. A
+/// number with a point or an exponent, `-0` and a number beyond 64 bits are not whole numbers.
 pub fn int_in(v: &Value, least: i64, most: i64, at: &Path) -> Result<i64, DocFault>
     ensures value { result ≡ int_at least most at.now (view v.now) }
     ensures least { IfOk result (λ n. least ≤ℤ n) }
@@ -58,8 +58,8 @@ fn is_within(number: i64, least: i64, most: i64) -> bool
     least <= number && number <= most
 }
 
-/// Returns the whole number that the value is, from `least` on and below `end`, and else rule 8 is broken at its
-/// path.
+/// Returns the value, if it is a whole number that is at least `least` and below `end`. Rule 8 is broken at its path if
+/// it is not.
 pub fn whole_in(v: &Value, least: u32, end: u32, at: &Path) -> Result<u32, DocFault>
     ensures value { result ≡ whole_at least end at.now (view v.now) }
     ensures least { IfOk result (λ n. least ≤ n) }

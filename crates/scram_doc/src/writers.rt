@@ -1,4 +1,4 @@
-//! The canonical values of lists, as their items are written.
+//! The canonical values of lists.
 
 ghost use Rattle.std.specs.Prelude.{◌≡◌, map, IfOk, OnOk};
 ghost use Rattle.serde_json.specs.Data.{put};
@@ -8,16 +8,16 @@ ghost use Rattle.scram_doc.specs.Canonical.{list_data};
 use serde_json::{Map, Value};
 use std::alloc::{AllocError, Global};
 
-/// How the items of a list are written.
+/// A writer of the items of a list.
 pub trait Writes<T> {
     ghost use Rattle.std.specs.Prelude.{◌≡◌, IfOk};
     ghost use Rattle.serde_json.specs.Data.{Data};
     ghost use Rattle.serde_json.specs.View.{view};
 
-    /// What is written for an item.
+    /// The value that is written for an item.
     ghost written: { Self → T → Data };
 
-    /// Returns the value of an item.
+    /// Returns the value that is written for an item.
     fn value(&self, alloc: Global, item: &T) -> Result<Value, AllocError>
         ensures { IfOk result (λ v. view v ≡ written self.now item.now) };
 }
@@ -38,7 +38,7 @@ pub fn write_list<T, W: Writes<T>>(
     Ok(values)
 }
 
-/// Puts a member of this name into an object: the list of the items.
+/// Writes the list of the items as a member with this name.
 pub fn put_list<T, W: Writes<T>>(
     members: &mut Map<String, Value>,
     alloc: Global,

@@ -1,4 +1,4 @@
--- Applications with their needs, and with their ranks.
+-- Applications with their needs and with their ranks.
 use Rattle.std.proofs.Common.{true, ◌≡◌, ◌<◌, ◌≤◌, ℕ, zero, suc, List, [], ◌∷◌, ◌++◌, drop, length, map, arith, refl, sym, ap, subst, ◌∙◌}
 use Rattle.std.specs.Prelude.{Option, Some, None, is_some, slice_get, slice_index, take, All}
 use Rattle.std.proofs.lemmas.List.Elements.{All-head, All-tail}
@@ -17,7 +17,7 @@ use Rattle.spec_members.specs.Kept.{AreApps, IsWritableApp, rank_of}
 use Rattle.spec_apps.specs.Unranked.{IsUnranked, AreUnranked}
 use Rattle.spec_members.proofs.Distinct.{each_of, new_differ}
 
--- an application with its needs, and where both come from
+-- an application with its needs, and the origins of both
 record Joined (apps : List AppSpec) (needs : List (List AppId)) (a : ℕ) (whole : AppSpec) : Type 0 where
   app : AppSpec
   named : List AppId
@@ -73,7 +73,7 @@ unranked_fit apps needs least most same fits named =
       each = λ i x e. rw (count) (unranked apps needs x i (joined apps needs i x same e) fits named);
     }
 
--- needs and ranks leave the names
+-- needs and ranks do not change the names
 pub joined_names : (apps : List AppSpec) (needs : List (List AppId)) → map name_of_app (with_needs apps needs) ≡ map name_of_app apps
 joined_names [] needs = refl
 joined_names (app ∷ apps) [] = refl
@@ -84,7 +84,7 @@ graded_names [] ranks = refl
 graded_names (app ∷ apps) [] = refl
 graded_names (app ∷ apps) (rank ∷ ranks) = ap (λ (names : List (List ℕ)). name_of_app app ∷ names) (graded_names apps ranks)
 
--- an application with its rank, and where both come from
+-- an application with its rank, and the origins of both
 record Graded (apps : List AppSpec) (ranks : List ℕ) (a : ℕ) (whole : AppSpec) : Type 0 where
   app : AppSpec
   there : slice_get apps a ≡ Some app

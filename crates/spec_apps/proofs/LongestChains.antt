@@ -25,7 +25,7 @@ and_false : (b : Bool) → b && false ≡ false
 and_false true = refl
 and_false false = refl
 
--- each application's rank, as its needs give it
+-- each application's rank, as its needs determine it
 ranks_map : (whole : List ℕ) (apps : List AppSpec) (ranks : List ℕ) → length ranks ≡ length apps
     → ((a : ℕ) (app : AppSpec) → slice_get apps a ≡ Some app → slice_get ranks a ≡ Some (rank_after whole app.needs))
     → ranks ≡ map (λ (app : AppSpec). rank_after whole app.needs) apps
@@ -72,7 +72,7 @@ mapped_at f [] a app e = absurd (let none : None ≡ Some app = e in cc)
 mapped_at f (x ∷ apps) zero app e = let is : x ≡ app = cc in ap f is
 mapped_at f (x ∷ apps) (suc a) app e = mapped_at f apps a app e
 
--- where a needs b, a chain from a is one longer than the longest from b
+-- if a needs b, a chain from a is longer by one link than the longest from b
 one_more_link : (links : ℕ) (apps : List AppSpec) (a b : AppId) → Needs apps a b → links ≤ slice_index (longest_chains links apps) b.0 → suc links ≤ slice_index (longest_chains (suc links) apps) a.0
 one_more_link links apps a b is long =
     let here = mapped_at (λ (app : AppSpec). rank_after (longest_chains links apps) app.needs) apps a.0 is.app is.there in

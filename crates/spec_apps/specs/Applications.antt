@@ -1,4 +1,4 @@
--- How the applications are read, before the names of their needs are looked up.
+-- The reading of applications, before the needs are looked up by name.
 use Rattle.std.specs.Prelude.{ℕ, List, [], codes, is_some, Result, Ok, ⊤, if◌then◌else◌}
 use Rattle.serde_json.specs.Data.{Data, Items}
 use Rattle.scram_types.specs.declared.specification.ModeSpec.{ModeSpec}
@@ -16,16 +16,16 @@ use Rattle.scram_doc.specs.Lists.{elements_at, folded_from}
 use Rattle.spec_members.specs.Names.{read_new_name, name_of_app}
 use Rattle.spec_members.specs.Modes.{read_kind_mode}
 
--- a mode of a kind that is not listed yet
+-- A mode of a kind that is not listed yet.
 abbrev pub read_new_mode : ℕ → List ModeSpec → List ℕ → Data → Result ℕ DocFault
 read_new_mode kind done at d =
     chain (read_kind_mode kind at d) (λ (mode : ℕ). if is_some (mode_in done mode) then broken MODE_TWICE at else Ok mode)
 
--- how many frames a phase takes
+-- The number of frames of a phase.
 abbrev pub read_phase : List ℕ → Data → Result ℕ DocFault
 read_phase at d = whole_at 1 17 at d
 
--- a mode that an application lists, after those before it
+-- A mode that an application lists, after the modes before it.
 abbrev pub read_mode : ℕ → List ℕ → List ModeSpec → Data → Result ModeSpec DocFault
 read_mode kind at done d =
     chain (object_at at d) (λ (_ : ⊤).
@@ -42,15 +42,15 @@ read_mode kind at done d =
     chain (read_phase (member_path at (codes "init")) init) (λ (init : ℕ).
     Ok (record { mode = record { 0 = mode }; load = load; halt = halt; prepare = prepare; init = init })))))))))))))
 
--- the modes that an application lists: 1 to 3
+-- The modes that an application lists, 1 to 3 of them.
 abbrev pub read_modes : ℕ → List ℕ → Data → Result (List ModeSpec) DocFault
 read_modes kind at d = elements_at (read_mode kind) 1 3 at d
 
--- a kind of application, by its name
+-- A kind of application, from its name.
 abbrev pub read_kind : List ℕ → Data → Result ℕ DocFault
 read_kind at d = chain (text_at at d) (λ (text : List ℕ). or_broken UNKNOWN_KIND at (number_in kind_names text))
 
--- A list of 0 to 8 texts; what they name is looked up later.
+-- The value at a path is a text.
 abbrev pub check_text : List ℕ → ⊤ → Data → Result ⊤ DocFault
 check_text at made d = chain (text_at at d) (λ (_ : List ℕ). Ok tt)
 
@@ -58,7 +58,7 @@ check_text at made d = chain (text_at at d) (λ (_ : List ℕ). Ok tt)
 abbrev pub check_text_list : List ℕ → Data → Result ⊤ DocFault
 check_text_list at d = chain (list_at 0 8 at d) (λ (ds : Items). folded_from check_text at 0 tt ds)
 
--- an application, without its needs and its rank
+-- An application without its needs and its rank.
 abbrev pub read_app : List ℕ → List AppSpec → Data → Result AppSpec DocFault
 read_app at done d =
     chain (object_at at d) (λ (_ : ⊤).

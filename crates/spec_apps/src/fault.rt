@@ -1,4 +1,4 @@
-//! Why a specification was not read.
+//! The reasons why a specification is not read.
 
 ghost use Rattle.std.specs.Prelude.{◌≡◌};
 ghost use Rattle.spec_apps.specs.Answers.{plain_fault, plain_error};
@@ -7,8 +7,8 @@ use arrayvec::ArrayVec;
 use scram_doc::{DocError, DocFault, Path};
 use scram_types::{AppId, Name};
 
-/// The first rule that a document breaks, with the path of the value where it is broken. `cycle` is a cycle
-/// of needs where there is one, and empty otherwise; `names` are the names of its applications, in its order.
+/// The first rule that a document breaks, with the path of the value where it is broken. `cycle` is a cycle of needs if
+/// there is one, and empty otherwise. `names` are the names of its applications, in order.
 #[derive(Debug, Drop)]
 pub struct SpecFault {
     pub rule: u8,
@@ -17,7 +17,7 @@ pub struct SpecFault {
     pub names: ArrayVec<Name, 8>,
 }
 
-/// Why a specification was not read.
+/// The reason why a specification was not read.
 #[derive(Debug, Drop)]
 pub enum SpecError {
     /// The document breaks a rule.
@@ -27,7 +27,7 @@ pub enum SpecError {
     NoMemory,
 }
 
-/// A broken rule, with no cycle.
+/// Converts a broken rule, without a cycle.
 impl From<DocFault> for SpecError {
     ghost from_gives = { λ fault error. error ≡ plain_fault fault };
 
@@ -41,7 +41,7 @@ impl From<DocFault> for SpecError {
     }
 }
 
-/// Why a part of the document was not read.
+/// Converts the reason why a part of the document was not read, without a cycle.
 impl From<DocError> for SpecError {
     ghost from_gives = { λ why error. error ≡ plain_error why };
 

@@ -1,5 +1,5 @@
-//! The applications of a specification document are read as exactly what it says, ranked by what they need, or refused
-//! at the first broken rule, with a cycle of needs where they have one.
+//! The applications of a specification document. They are read exactly as the document has them and ranked by their
+//! needs, or refused at the first broken rule, with a cycle of needs if there is one.
 #![tactic(auto)]
 
 mod applications;

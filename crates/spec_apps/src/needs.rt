@@ -1,4 +1,4 @@
-//! What applications need.
+//! The needs of applications.
 
 ghost use Rattle.std.specs.Prelude.{◌≡◌, ◌≤◌, ◌<◌, ℕ, [], length, All, Ok, Some, codes, option_map, slice_get, IfErr, IfOk, OnOk, true};
 ghost use Rattle.serde_json.specs.View.{view};
@@ -38,7 +38,7 @@ fn is_needed(needs: &[AppId], app: AppId) -> bool
     needs.iter().any(|needed| needed.0 == app.0)
 }
 
-/// Needs, among these applications.
+/// A reader of needs among these applications.
 #[derive(Clone, Copy)]
 struct Needs<'a> {
     apps: &'a Numbered<AppSpec, ByName>,
@@ -90,7 +90,7 @@ impl Elements<List<AppId>> for Needs<'_> {
     }
 }
 
-/// Gives each application its needs.
+/// Sets the needs of each application.
 fn set_needs(apps: &mut [AppSpec], needs: Vec<List<AppId>>)
     requires { length needs.items ≤ length apps.old }
     ensures { apps.new ≡ with_needs apps.old needs.items }
@@ -101,7 +101,7 @@ fn set_needs(apps: &mut [AppSpec], needs: Vec<List<AppId>>)
     }
 }
 
-/// Gives each application its rank.
+/// Sets the rank of each application.
 fn set_ranks(apps: &mut [AppSpec], ranks: ArrayVec<u8, 8>)
     requires { length ranks.items ≤ length apps.old }
     ensures { apps.new ≡ with_ranks apps.old ranks.items }
@@ -112,7 +112,7 @@ fn set_ranks(apps: &mut [AppSpec], ranks: ArrayVec<u8, 8>)
     }
 }
 
-/// Returns the applications with their needs, not ranked yet.
+/// Reads the applications with their needs, without ranks.
 fn read_unranked(alloc: Global, v: &Value, at: &Path) -> Result<Numbered<AppSpec, ByName>, DocError>
     requires room { length at.now ≤ 18 }
     ensures value { Answers (read_unranked at.now (view v.now)) (λ apps. apps) result }
@@ -134,7 +134,7 @@ fn name_of(apps: &[AppSpec], app: AppId) -> Name
     apps[usize::from(app.0)].name.copy()
 }
 
-/// Returns the names of applications, in the order in which these are listed.
+/// Returns the names of the listed applications, in order.
 fn names_of(apps: &[AppSpec], listed: &[AppId]) -> ArrayVec<Name, 8>
     requires there { Each (λ (app : AppId). app.0 < length apps.now) listed.now }
     requires few { length listed.now ≤ 8 }
@@ -147,7 +147,7 @@ fn names_of(apps: &[AppSpec], listed: &[AppId]) -> ArrayVec<Name, 8>
     names
 }
 
-/// Returns the applications with their ranks, or the cycle that keeps them from having any.
+/// Returns the applications with their ranks, or the cycle that prevents a ranking.
 fn finish_apps(
     apps: Numbered<AppSpec, ByName>,
     ranked: Result<ArrayVec<u8, 8>, Cycle>,
@@ -181,7 +181,7 @@ fn finish_apps(
     }
 }
 
-/// Returns the applications of a document, 1 to 8 of them, ranked by what they need.
+/// Reads the applications of a document, 1 to 8 of them, ranked by their needs.
 pub fn read_apps(
     alloc: Global,
     members: &Members<'_>,

@@ -1,4 +1,4 @@
--- A member of a document is read where it was found.
+-- The members of a document are read from the values that were found.
 use Rattle.std.proofs.Common.{◌≡◌, ℕ, List, []}
 use Rattle.std.specs.Prelude.{Result, Ok}
 use Rattle.serde_json.specs.Data.{Data}

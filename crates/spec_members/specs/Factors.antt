@@ -1,4 +1,4 @@
--- How the environment factors are read.
+-- The reading of environment factors.
 use Rattle.std.specs.Prelude.{ℕ, List, codes, Result, Ok, ⊤}
 use Rattle.serde_json.specs.Data.{Data}
 use Rattle.scram_types.specs.declared.specification.Factor.{Factor}
@@ -10,11 +10,11 @@ use Rattle.scram_doc.specs.Lists.{elements_at}
 use Rattle.scram_doc.specs.Numbering.{itself}
 use Rattle.spec_members.specs.Names.{read_new_name, name_of_factor}
 
--- the name of a value, which no value of the factor has yet
+-- The name of a value, which no value of the factor has yet.
 abbrev pub read_value_name : List ℕ → List (List ℕ) → Data → Result (List ℕ) DocFault
 read_value_name at done d = read_new_name itself done at d
 
--- a factor, whose name is new, with 2 to 4 values
+-- A factor with a new name and 2 to 4 values.
 abbrev pub read_factor : List ℕ → List Factor → Data → Result Factor DocFault
 read_factor at done d =
     chain (object_at at d) (λ (_ : ⊤).
@@ -25,6 +25,6 @@ read_factor at done d =
     chain (elements_at read_value_name 2 4 (member_path at (codes "values")) values) (λ (values : List (List ℕ)).
     Ok (record { name = name; values = values })))))))
 
--- the factors of a document: 0 to 6
+-- The factors of a document, 0 to 6 of them.
 abbrev pub read_factors : List ℕ → Data → Result (List Factor) DocFault
 read_factors at d = elements_at read_factor 0 6 at d

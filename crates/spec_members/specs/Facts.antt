@@ -1,4 +1,4 @@
--- What processors and factors keep as they are read, and names.
+-- Facts about names, and about processors and factors as they are read.
 use Rattle.std.specs.Prelude.{◌≡◌, ◌≤◌, ℕ, List, length, slice_get, Option, Some, None, IsTrue}
 use Rattle.scram_types.specs.declared.specification.Proc.{Proc}
 use Rattle.scram_types.specs.declared.specification.Factor.{Factor}
@@ -8,31 +8,31 @@ use Rattle.scram_doc.specs.Lists.{AllAfter}
 use Rattle.spec_members.specs.Names.{name_of_proc, name_of_factor}
 use Rattle.scram_doc.specs.Numbering.{itself, place_named}
 
--- A text is a name, which no item has yet.
+-- A text is a name that no item has yet.
 pub record IsFresh {A : Type 0} (name : A → List ℕ) (items : List A) (text : List ℕ) : Type 0 where
   pub new : place_named name items text ≡ None
   pub spelled : IsTrue (is_name text)
 
--- A number is what some text is found to be.
+-- A number is the one that is found for some text.
 pub record IsListed (find : List ℕ → Option ℕ) (number : ℕ) : Type 0 where
   pub text : List ℕ
   pub there : find text ≡ Some number
 
--- a processor whose name none before it has
+-- A processor whose name no processor before it has.
 pub record IsNewProc (done : List Proc) (proc : Proc) : Type 0 where
   pub name : IsFresh name_of_proc done proc.name
   pub is : IsProc proc
 
--- a name that is not yet among the names
+-- A name that is not yet among the names.
 abbrev pub IsNewName : List (List ℕ) → List ℕ → Type 0
 IsNewName done name = IsFresh itself done name
 
--- a factor whose name none before it has
+-- A factor whose name no factor before it has.
 pub record IsNewFactor (done : List Factor) (factor : Factor) : Type 0 where
   pub name : IsFresh name_of_factor done factor.name
   pub count : HasLength 2 4 factor.values
   pub values : AllAfter IsNewName factor.values
 
--- Each factor has few values.
+-- Each factor has at most four values.
 abbrev pub FewValues : List Factor → Type 0
 FewValues factors = (f : ℕ) (factor : Factor) → slice_get factors f ≡ Some factor → length factor.values ≤ 4

@@ -1,4 +1,4 @@
--- The members of a document, as they were found.
+-- The members of a document, as they are found.
 use Rattle.std.specs.Prelude.{◌≡◌, [], codes, Ok, option_map}
 use Rattle.serde_json.specs.View.{view}
 use Rattle.scram_doc.specs.Members.{needed}

@@ -1,4 +1,4 @@
--- What the applications of a document keep, with their needs and ranks.
+-- Facts about the applications of a document, with their needs and ranks.
 use Rattle.std.specs.Prelude.{List, map, ◌≡◌, ℕ, Bool, false, is_some}
 use Rattle.scram_types.specs.declared.specification.AppSpec.{AppSpec}
 use Rattle.scram_types.specs.Specification.{AreSpelled, HasLength, Each, NamesDiffer, IsAppSpec, mode_in}
@@ -9,15 +9,15 @@ use Rattle.scram_types.specs.declared.ids.AppId.{AppId}
 use Rattle.scram_types.specs.declared.specification.ModeSpec.{ModeSpec}
 use Rattle.dep_order.specs.Timetables.{is_named}
 
--- No element stands among those before it.
+-- No element is among the elements before it.
 abbrev pub NoneAgain : {A : Type 0} → (List A → A → Bool) → List A → Type 0
 NoneAgain {A} stands xs = AllAfter (λ (done : List A) (x : A). stands done x ≡ false) xs
 
--- the mode stands among those before it
+-- The mode is among the modes before it.
 abbrev pub lists_mode : List ModeSpec → ModeSpec → Bool
 lists_mode done listed = is_some (mode_in done listed.mode.0)
 
--- the application stands among the needs before it
+-- The application is among the needs before it.
 abbrev pub lists_need : List AppId → AppId → Bool
 lists_need done need = is_named done need.0
 
@@ -25,12 +25,12 @@ lists_need done need = is_named done need.0
 abbrev pub rank_of : AppSpec → ℕ
 rank_of app = app.rank
 
--- an application that names no other and lists no mode twice
+-- An application that needs no application twice and lists no mode twice.
 pub record IsWritableApp (app : AppSpec) : Type 0 where
   pub needs : NoneAgain lists_need app.needs
   pub modes : NoneAgain lists_mode app.modes
 
--- applications as they were read, with their needs and ranks
+-- Applications as they are read, with their needs and ranks.
 pub record AreApps (apps : List AppSpec) : Type 0 where
   pub count : HasLength 1 8 apps
   pub differ : NamesDiffer name_of_app apps

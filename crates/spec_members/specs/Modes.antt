@@ -1,4 +1,4 @@
--- How a mode of a kind is read.
+-- The reading of a mode of a kind.
 use Rattle.std.specs.Prelude.{ℕ, List, [], Result}
 use Rattle.serde_json.specs.Data.{Data}
 use Rattle.app_model.specs.Names.{mode_names, number_in}
@@ -8,6 +8,6 @@ use Rattle.scram_doc.specs.Faults.{or_broken}
 use Rattle.scram_doc.specs.Values.{text_at}
 use Rattle.spec_members.specs.declared.rule.TheConstants.{UNKNOWN_MODE}
 
--- a mode of a kind
+-- A mode of a kind, from its name.
 abbrev pub read_kind_mode : ℕ → List ℕ → Data → Result ℕ DocFault
 read_kind_mode kind at d = chain (text_at at d) (λ (text : List ℕ). or_broken UNKNOWN_MODE at (number_in (mode_names kind) text))

@@ -1,4 +1,4 @@
--- Names and what they name.
+-- Names, and the items that they name.
 use Rattle.std.specs.Prelude.{ℕ, List, is_some, Result, Ok, if◌then◌else◌}
 use Rattle.serde_json.specs.Data.{Data}
 use Rattle.scram_types.specs.declared.specification.Proc.{Proc}
@@ -34,15 +34,15 @@ name_of_factor factor = factor.name
 abbrev pub name_of_demand : Demand → List ℕ
 name_of_demand demand = demand.name
 
--- a text that is a name
+-- A text that is a name.
 abbrev pub read_name : List ℕ → Data → Result (List ℕ) DocFault
 read_name at d = chain (text_at at d) (λ (text : List ℕ). or_broken NO_NAME at (name_of text))
 
--- a name that no item of a list has
+-- A name that no item of a list has.
 abbrev pub read_new_name : {A : Type 0} → (A → List ℕ) → List A → List ℕ → Data → Result (List ℕ) DocFault
 read_new_name name xs at d =
     chain (read_name at d) (λ (new : List ℕ). if is_some (number_named name xs new) then broken NAME_TWICE at else Ok new)
 
--- a text that names an item of a list, or else a rule is broken
+-- The index of the item of a list that a text names. The rule is broken if there is none.
 abbrev pub read_named : {A : Type 0} → (A → List ℕ) → List A → ℕ → List ℕ → Data → Result ℕ DocFault
 read_named name xs rule at d = chain (text_at at d) (λ (text : List ℕ). or_broken rule at (number_named name xs text))

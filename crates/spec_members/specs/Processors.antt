@@ -1,4 +1,4 @@
--- How the processors are read.
+-- The reading of processors.
 use Rattle.std.specs.Prelude.{ℕ, List, codes, Result, Ok, ⊤}
 use Rattle.serde_json.specs.Data.{Data}
 use Rattle.scram_types.specs.declared.specification.Proc.{Proc}
@@ -10,7 +10,7 @@ use Rattle.scram_doc.specs.Values.{whole_at}
 use Rattle.scram_doc.specs.Lists.{elements_at}
 use Rattle.spec_members.specs.Names.{read_new_name, name_of_proc}
 
--- a processor, whose name is new
+-- A processor with a new name.
 abbrev pub read_proc : List ℕ → List Proc → Data → Result Proc DocFault
 read_proc at done d =
     chain (object_at at d) (λ (_ : ⊤).
@@ -21,6 +21,6 @@ read_proc at done d =
     chain (whole_at 0 1000001 (member_path at (codes "capacity")) capacity) (λ (capacity : ℕ).
     Ok (record { name = name; capacity = capacity })))))))
 
--- the processors of a document: 1 to 8
+-- The processors of a document, 1 to 8 of them.
 abbrev pub read_procs : List ℕ → Data → Result (List Proc) DocFault
 read_procs at d = elements_at read_proc 1 8 at d

@@ -6,12 +6,12 @@ use Rattle.scram_doc.specs.declared.fault.DocFault.{DocFault}
 use Rattle.scram_doc.specs.Chain.{chain}
 use Rattle.scram_doc.specs.Members.{object_at, needed, no_more_than}
 
--- There is a number, and it is that of a version.
+-- There is a number, and it is the number of a version.
 abbrev pub is_version : ℕ → Option ℕ → Bool
 is_version number None = false
 is_version number (Some version) = version == number
 
--- the value of a member `scram` is the whole number of a version
+-- The value of a member `scram` is the whole number of a version.
 abbrev pub is_version_in : ℕ → Option Data → Bool
 is_version_in number scram = is_version number (option_and_then as_u64 (option_and_then as_number scram))
 
@@ -19,30 +19,31 @@ is_version_in number scram = is_version number (option_and_then as_u64 (option_a
 abbrev pub has_version : ℕ → Data → Bool
 has_version number d = is_version_in number (get (codes "scram") d)
 
--- A document has a policy: it is of version 2 or 3.
+-- A document has a policy, since it is of version 2 or 3.
 abbrev pub has_policy : Data → Bool
 has_policy d = has_version 2 d || has_version 3 d
 
--- A document has demands: it is of version 3.
+-- A document has demands, since it is of version 3.
 abbrev pub has_demands : Data → Bool
 has_demands d = has_version 3 d
 
--- the members of version 1, in the order in which they are tested
+-- The members of version 1, in the order in which they are checked.
 abbrev pub first_members : List (List ℕ)
 first_members =
     codes "scram" ∷ codes "processors" ∷ codes "apps" ∷ codes "configurations" ∷ codes "factors" ∷ codes "rules" ∷ codes "bounds"
     ∷ codes "start" ∷ codes "goal" ∷ codes "invariants" ∷ codes "preconditions" ∷ codes "assumption" ∷ []
 
--- the members of version 1 up to those that name things, in the order in which they are tested
+-- The members of version 1 up to those that contain names, in the order in which they are checked.
 abbrev pub naming_members : List (List ℕ)
 naming_members = codes "scram" ∷ codes "processors" ∷ codes "apps" ∷ codes "configurations" ∷ codes "factors" ∷ []
 
--- the members of version 1 behind those that name things, in the order in which they are tested
+-- The members of version 1 after those that contain names, in the order in which they are checked.
 abbrev pub members_behind_names : List (List ℕ)
 members_behind_names =
     codes "rules" ∷ codes "bounds" ∷ codes "start" ∷ codes "goal" ∷ codes "invariants" ∷ codes "preconditions" ∷ codes "assumption" ∷ []
 
--- How many members a document may have: those of version 1, the policy and the demands, as far as it has them.
+-- The maximum number of members of a document: those of version 1, with the policy and the demands if its version has
+-- them.
 abbrev pub members_count : Data → ℕ
 members_count d = if has_demands d then 14 else (if has_policy d then 13 else 12)
 
@@ -56,24 +57,24 @@ abbrev pub AreDemands : Data → Option Data → Type 0
 AreDemands d None = has_demands d ≡ false
 AreDemands d (Some demands) = (has_demands d ≡ true) × (needed (codes "demands") [] d ≡ Ok demands)
 
--- each of these members is there, and then the rest
+-- Each of these members is present, and then the result is `rest`.
 abbrev pub each_then : List (List ℕ) → Data → Result ⊤ DocFault → Result ⊤ DocFault
 each_then [] d rest = rest
 each_then (name ∷ names) d rest = chain (needed name [] d) (λ (_ : Data). each_then names d rest)
 
--- each of these members is there
+-- Each of these members is present.
 abbrev pub each_needed : List (List ℕ) → Data → Result ⊤ DocFault
 each_needed names d = each_then names d (Ok tt)
 
--- the policy is there where the document has one
+-- The policy is present if the document has one.
 abbrev pub policy_tested : Data → Result ⊤ DocFault
 policy_tested d = if has_policy d then chain (needed (codes "policy") [] d) (λ (_ : Data). Ok tt) else Ok tt
 
--- the demands are there where the document has them
+-- The demands are present if the document has them.
 abbrev pub demands_tested : Data → Result ⊤ DocFault
 demands_tested d = if has_demands d then chain (needed (codes "demands") [] d) (λ (_ : Data). Ok tt) else Ok tt
 
--- The members of a document are tested: those of version 1, the policy, the demands, and that there is no other.
+-- The document is an object with the members of version 1, the policy and the demands of its version, and no others.
 abbrev pub members_tested : Data → Result ⊤ DocFault
 members_tested d =
     chain (object_at [] d) (λ (_ : ⊤).

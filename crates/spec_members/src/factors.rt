@@ -71,7 +71,7 @@ impl NamedElements<Factor, ByName> for Factors {
     }
 }
 
-/// Returns the environment factors of a document, 0 to 6 of them.
+/// Reads the environment factors of a document, 0 to 6 of them.
 pub fn read_factors(
     alloc: Global,
     members: &Members<'_>,

@@ -1,5 +1,5 @@
-//! The members of a specification document are found by their version; names, processors, factors and modes are read
-//! as exactly what the document says, or refused at the first broken rule.
+//! The members of a specification document, found by the document's version. Names, processors, factors and modes are
+//! read exactly as the document has them, or refused at the first broken rule.
 #![tactic(auto)]
 
 pub mod factors;

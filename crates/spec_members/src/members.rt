@@ -30,14 +30,14 @@ pub struct Members<'a> {
     pub demands: Option<&'a Value>,
 }
 
-/// Returns whether the value of a member `scram` is the number of a version.
+/// Returns whether the member `scram` has the number of a version as its value.
 fn is_version(scram: &Value, number: u64) -> bool
     ensures { result ≡ is_version_in number (Some (view scram.now)) }
 {
     scram.as_u64() == Some(number)
 }
 
-/// Returns the policy of a document, where its version has one.
+/// Returns the policy of a document, or `None` if its version has no policy.
 fn find_policy<'a>(document: &'a Value, scram: &Value) -> Result<Option<&'a Value>, DocFault>
     requires scram { needed (codes "scram") [] (view document.now) ≡ Ok (view scram.now) }
     ensures tested { ok_map (λ _. tt) result ≡ policy_tested (view document.now) }
@@ -50,7 +50,7 @@ fn find_policy<'a>(document: &'a Value, scram: &Value) -> Result<Option<&'a Valu
     }
 }
 
-/// Returns the demands of a document, where its version has them.
+/// Returns the demands of a document, or `None` if its version has no demands.
 fn find_demands<'a>(document: &'a Value, scram: &Value) -> Result<Option<&'a Value>, DocFault>
     requires scram { needed (codes "scram") [] (view document.now) ≡ Ok (view scram.now) }
     ensures tested { ok_map (λ _. tt) result ≡ demands_tested (view document.now) }
@@ -63,7 +63,7 @@ fn find_demands<'a>(document: &'a Value, scram: &Value) -> Result<Option<&'a Val
     }
 }
 
-/// Tests that a document has no other members than those of its version.
+/// Checks that a document has no members beside those of its version.
 fn check_count(document: &Value, scram: &Value) -> Result<(), DocFault>
     requires scram { needed (codes "scram") [] (view document.now) ≡ Ok (view scram.now) }
     ensures { result ≡ no_more_than (members_count (view document.now)) [] (view document.now) }
@@ -78,7 +78,7 @@ fn check_count(document: &Value, scram: &Value) -> Result<(), DocFault>
     no_more(document, count, &Path::root())
 }
 
-/// The version, and the members that name things.
+/// The version, and the members that contain names.
 #[derive(Clone, Copy)]
 struct NamingMembers<'a> {
     scram: &'a Value,
@@ -107,7 +107,7 @@ fn find_naming(document: &Value) -> Result<NamingMembers<'_>, DocFault>
     })
 }
 
-/// The members that stand behind the names in every version.
+/// The members that come after the names in every version.
 #[derive(Clone, Copy)]
 struct MembersBehindNames<'a> {
     rules: &'a Value,
@@ -142,7 +142,7 @@ fn find_behind_names(document: &Value) -> Result<MembersBehindNames<'_>, DocFaul
     })
 }
 
-/// Returns the members of an object that has those of its version and no other.
+/// Returns the members of a document, which must be an object with the members of its version and no others.
 pub fn find_members(document: &Value) -> Result<Members<'_>, DocFault>
     ensures tested { ok_map (λ _. tt) result ≡ members_tested (view document.now) }
     ensures document { IfOk result (λ members. members.document.now ≡ document.now) }

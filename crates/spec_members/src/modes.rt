@@ -1,4 +1,4 @@
-//! Modes of a kind, by their names.
+//! The modes of a kind, by their names.
 
 ghost use Rattle.std.specs.Prelude.{◌≡◌, IfOk};
 ghost use Rattle.serde_json.specs.View.{view};
@@ -13,7 +13,7 @@ use scram_doc::{DocFault, Path, text};
 use scram_types::{KindId, Mode};
 use serde_json::Value;
 
-/// Returns the mode of the kind that the value names.
+/// Reads a mode of the kind from its name.
 pub fn read_kind_mode(kind: KindId, v: &Value, at: &Path) -> Result<Mode, DocFault>
     ensures value { ok_map (λ mode. mode.0) result ≡ read_kind_mode kind.0 at.now (view v.now) }
     ensures of_kind { IfOk result (λ mode. IsListed (number_in (mode_names kind.0)) mode.0) }

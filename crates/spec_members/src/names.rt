@@ -1,4 +1,4 @@
-//! Names, and what they name.
+//! Names, and the items that they name.
 
 ghost use Rattle.std.specs.Prelude.{◌≡◌, ◌<◌, ◌≤◌, length, IfOk, IsTrue};
 ghost use Rattle.serde_json.specs.View.{view};
@@ -12,7 +12,7 @@ use scram_doc::{DocFault, Naming, Numbered, Path, text};
 use scram_types::{AppSpec, Conf, Demand, Factor, Name, Proc};
 use serde_json::Value;
 
-/// The things of a specification are named by their names, and a name by itself.
+/// The naming of the items of a specification: each item by its name, and a name by itself.
 pub struct ByName;
 
 impl Naming<Proc> for ByName {
@@ -63,7 +63,7 @@ impl Naming<Name> for ByName {
     }
 }
 
-/// Returns the name that the value is.
+/// Reads a name.
 #[tactic(auto, using(crate::proofs::Spelled::name_spelled))]
 fn read_name(v: &Value, at: &Path) -> Result<Name, DocFault>
     ensures value { result ≡ read_name at.now (view v.now) }
@@ -75,7 +75,7 @@ fn read_name(v: &Value, at: &Path) -> Result<Name, DocFault>
     }
 }
 
-/// Returns the name that the value is, if no item has it yet.
+/// Reads a name that no item has yet.
 #[tactic(auto, using(crate::proofs::Found::place_found))]
 pub fn read_new_name<T, N: Naming<T>>(
     done: &Numbered<T, N>,
@@ -92,7 +92,7 @@ pub fn read_new_name<T, N: Naming<T>>(
     }
 }
 
-/// Returns the number of the item that the value names, or else the rule is broken.
+/// Returns the number of the item that the value names. The rule `unknown` is broken if there is none.
 #[tactic(auto, using(crate::proofs::Found::place_found))]
 pub fn read_named<T, N: Naming<T>>(
     items: &Numbered<T, N>,

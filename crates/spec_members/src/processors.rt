@@ -47,7 +47,7 @@ impl NamedElements<Proc, ByName> for Procs {
     }
 }
 
-/// Returns the processors of a document, 1 to 8 of them.
+/// Reads the processors of a document, 1 to 8 of them.
 pub fn read_procs(alloc: Global, members: &Members<'_>) -> Result<Numbered<Proc, ByName>, DocError>
     requires members { AreMembers members.now }
     ensures value { Answers (member_in (codes "processors") read_procs (view members.now.document.now)) (λ l. l) result }

@@ -1,10 +1,10 @@
-//! The numbers of the rules of specification documents, which follow those of every document. A fault shows its
-//! number, so they never change.
+//! The numbers of the rules of specification documents. They follow those of every document, and never change, since
+//! faults show them.
 
-/// The version is none of 1, 2 and 3.
+/// The version is not 1, 2 or 3.
 pub const UNKNOWN_VERSION: u8 = 9;
 
-/// A text that gives a name is no name.
+/// A text that must be a name is not a name.
 pub const NO_NAME: u8 = 10;
 
 /// A name is given twice in its list.
@@ -34,8 +34,8 @@ pub const UNKNOWN_FACTOR_OR_VALUE: u8 = 18;
 /// The application's kind has no variable of this name.
 pub const UNKNOWN_VARIABLE: u8 = 19;
 
-/// The same application, processor, configuration, factor or pair of configurations stands twice in one list, or an
-/// application or a processor in two lists of a demand that exclude each other.
+/// The same application, processor, configuration, factor or pair of configurations is listed twice in one list, or an
+/// application or a processor is in two lists of a demand that exclude each other.
 pub const TWICE_IN_LIST: u8 = 20;
 
 /// The needs have a cycle.
@@ -44,7 +44,7 @@ pub const CYCLE_OF_NEEDS: u8 = 21;
 /// The application does not list the mode.
 pub const MODE_NOT_LISTED: u8 = 22;
 
-/// The least value of an interval is above its greatest.
+/// The minimum of an interval is greater than its maximum.
 pub const EMPTY_INTERVAL: u8 = 23;
 
 /// The document has more than 1,048,576 bytes.

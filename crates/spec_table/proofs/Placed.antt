@@ -1,4 +1,4 @@
--- What a list has for applications, with one more.
+-- A list of entries for applications, with one further entry.
 use Rattle.std.proofs.Common.{◌≡◌, ℕ, zero, suc, List, [], ◌∷◌, set, subst}
 use Rattle.std.specs.Prelude.{Option, Some, None, slice_get}
 use Rattle.scram_types.specs.declared.ids.Mode.{Mode}

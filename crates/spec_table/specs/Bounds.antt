@@ -1,4 +1,4 @@
--- How the bounds on reconfigurations are read.
+-- The reading of bounds on reconfigurations.
 use Rattle.std.specs.Prelude.{ℕ, List, codes, is_some, Result, Ok, ⊤, if◌then◌else◌}
 use Rattle.serde_json.specs.Data.{Data}
 use Rattle.scram_types.specs.declared.ids.ConfId.{ConfId}
@@ -15,13 +15,13 @@ use Rattle.spec_members.specs.declared.rule.TheConstants.{TWICE_IN_LIST}
 use Rattle.scram_doc.specs.Lists.{elements_at}
 use Rattle.spec_table.specs.Choices.{read_conf_id}
 
--- the target of a pair that has no bound yet
+-- The target of a pair of configurations that has no bound yet.
 abbrev pub read_new_target : List Conf → List Bound → ConfId → List ℕ → Data → Result ConfId DocFault
 read_new_target confs done from at d =
     chain (read_conf_id confs at d) (λ (to : ConfId).
     if is_some (bound_in done from.0 to.0) then broken TWICE_IN_LIST at else Ok to)
 
--- a bound for a pair that has none yet
+-- A bound for a pair of configurations that has no bound yet.
 abbrev pub read_bound : List Conf → List ℕ → List Bound → Data → Result Bound DocFault
 read_bound confs at done d =
     chain (object_at at d) (λ (_ : ⊤).
@@ -34,6 +34,6 @@ read_bound confs at done d =
     chain (whole_at 1 1001 (member_path at (codes "frames")) frames) (λ (frames : ℕ).
     Ok (record { from = from; to = to; frames = frames })))))))))
 
--- the bounds of a document: 0 to 144
+-- The bounds of a document, 0 to 144 of them.
 abbrev pub read_bounds : List Conf → List ℕ → Data → Result (List Bound) DocFault
 read_bounds confs at d = elements_at (read_bound confs) 0 144 at d

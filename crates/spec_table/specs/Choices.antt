@@ -1,4 +1,4 @@
--- How the rules of the choice table are read.
+-- The reading of rules of the choice table.
 use Rattle.std.specs.Prelude.{ℕ, ◌==◌, Bool, List, codes, Option, Some, None, slice_get, Result, Ok, ⊤, if◌then◌else◌}
 use Rattle.std.specs.List.{list_any}
 use Rattle.std.specs.Str.{bytes_eq}
@@ -22,36 +22,36 @@ use Rattle.spec_members.specs.Names.{read_named, name_of_conf, name_of_factor}
 use Rattle.scram_doc.specs.Numbering.{itself}
 use Rattle.spec_table.specs.Sets.{read_procs_set}
 
--- the configuration that a text names
+-- The configuration that a value names.
 abbrev pub read_conf_id : List Conf → List ℕ → Data → Result ConfId DocFault
 read_conf_id confs at d = ok_map (λ (c : ℕ). record { 0 = c }) (read_named name_of_conf confs UNKNOWN_CONFIGURATION at d)
 
--- the configuration that a text names, or none where it is `*`
+-- The configuration that a text names, or none if the text is `*`.
 abbrev pub source_named : List Conf → List ℕ → List ℕ → Result (Option ConfId) DocFault
 source_named confs at text =
     if bytes_eq text (codes "*") then Ok None
     else ok_map (λ (c : ℕ). Some (record { 0 = c })) (or_broken UNKNOWN_CONFIGURATION at (number_named name_of_conf confs text))
 
--- the configuration that a text names, or none where it is `*`
+-- The configuration that a value names, or none if it is `*`.
 abbrev pub read_source : List Conf → List ℕ → Data → Result (Option ConfId) DocFault
 read_source confs at d = chain (text_at at d) (λ (text : List ℕ). source_named confs at text)
 
--- a required value is one of factor f
+-- A required value is one of factor `f`.
 abbrev pub wants_factor : List Want → ℕ → Bool
 wants_factor wants f = list_any (λ (want : Want). want.factor.0 == f) wants
 
--- a factor that is not yet among the required ones
+-- A factor that is not yet among the required ones.
 abbrev pub read_new_factor : List Factor → List Want → List ℕ → Data → Result ℕ DocFault
 read_new_factor factors done at d =
     chain (read_named name_of_factor factors UNKNOWN_FACTOR_OR_VALUE at d) (λ (f : ℕ).
     if wants_factor done f then broken TWICE_IN_LIST at else Ok f)
 
--- a value of the factor
+-- A value of the factor, as an index in its values.
 abbrev pub read_value_of : Option Factor → List ℕ → Data → Result ℕ DocFault
 read_value_of None at d = broken UNKNOWN_FACTOR_OR_VALUE at
 read_value_of (Some factor) at d = read_named itself factor.values UNKNOWN_FACTOR_OR_VALUE at d
 
--- a value that a rule requires, of a factor of which it requires none yet
+-- A required value, of a factor for which the rule requires no value yet.
 abbrev pub read_want : List Factor → List ℕ → List Want → Data → Result Want DocFault
 read_want factors at done d =
     chain (object_at at d) (λ (_ : ⊤).
@@ -62,7 +62,7 @@ read_want factors at done d =
     chain (read_value_of (slice_get factors f) (member_path at (codes "value")) value) (λ (value : ℕ).
     Ok (record { factor = record { 0 = f }; value = value })))))))
 
--- a rule of the choice table
+-- A rule of the choice table.
 abbrev pub read_choice : List Proc → List Conf → List Factor → List ℕ → List Choice → Data → Result Choice DocFault
 read_choice procs confs factors at done d =
     chain (object_at at d) (λ (_ : ⊤).
@@ -77,6 +77,6 @@ read_choice procs confs factors at done d =
     chain (read_conf_id confs (member_path at (codes "to")) to) (λ (to : ConfId).
     Ok (record { from = from; wants = wants; up = up; to = to })))))))))))
 
--- the choice table: 0 to 64 rules
+-- The choice table, with 0 to 64 rules.
 abbrev pub read_choices : List Proc → List Conf → List Factor → List ℕ → Data → Result (List Choice) DocFault
 read_choices procs confs factors at d = elements_at (read_choice procs confs factors) 0 64 at d

@@ -1,4 +1,4 @@
--- How the configurations are read.
+-- The reading of configurations.
 use Rattle.std.specs.Prelude.{ℕ, List, codes, Option, Some, None, is_some, replicate, set, slice_get, option_and_then, Result, Ok, ⊤, if◌then◌else◌}
 use Rattle.serde_json.specs.Data.{Data, Items}
 use Rattle.scram_types.specs.declared.specification.Proc.{Proc}
@@ -17,24 +17,24 @@ use Rattle.scram_doc.specs.Lists.{elements_at, folded_from}
 use Rattle.spec_members.specs.Names.{read_new_name, read_named, name_of_proc, name_of_app, name_of_conf}
 use Rattle.spec_members.specs.Modes.{read_kind_mode}
 
--- what a list has for application a
+-- The entry of a list for application `a`, if there is one.
 abbrev pub given : {A : Type 0} → List (Option A) → ℕ → Option A
 given {A} xs a = option_and_then (λ (x : Option A). x) (slice_get xs a)
 
--- an application for which a list has nothing yet
+-- An application for which a list has no entry yet.
 abbrev pub read_new_app : {A : Type 0} → List AppSpec → List (Option A) → List ℕ → Data → Result ℕ DocFault
 read_new_app apps xs at d =
     chain (read_named name_of_app apps UNKNOWN_APPLICATION at d) (λ (a : ℕ).
     if is_some (given xs a) then broken TWICE_IN_LIST at else Ok a)
 
--- a mode of the application's kind, which the application lists
+-- A mode of the application's kind that the application lists.
 abbrev pub read_listed_mode : Option AppSpec → List ℕ → Data → Result ℕ DocFault
 read_listed_mode None at d = broken MODE_NOT_LISTED at
 read_listed_mode (Some app) at d =
     chain (read_kind_mode app.kind.0 at d) (λ (mode : ℕ).
     if is_some (mode_in app.modes mode) then Ok mode else broken MODE_NOT_LISTED at)
 
--- the places with one more
+-- The places with one further place.
 abbrev pub read_place : List Proc → List AppSpec → List ℕ → List (Option Place) → Data → Result (List (Option Place)) DocFault
 read_place procs apps at places d =
     chain (object_at at d) (λ (_ : ⊤).
@@ -47,12 +47,12 @@ read_place procs apps at places d =
     chain (read_named name_of_proc procs UNKNOWN_PROCESSOR (member_path at (codes "on")) on) (λ (proc : ℕ).
     Ok (set places a (Some (record { mode = record { 0 = mode }; proc = record { 0 = proc } })))))))))))
 
--- the places of applications, which are off where none is given
+-- The places of applications. An application without a given place is off.
 abbrev pub read_place_list : List Proc → List AppSpec → List ℕ → Data → Result (List (Option Place)) DocFault
 read_place_list procs apps at d =
     chain (list_at 0 8 at d) (λ (ds : Items). folded_from (read_place procs apps) at 0 (replicate 8 None) ds)
 
--- a configuration, whose name is new
+-- A configuration with a new name.
 abbrev pub read_conf : List Proc → List AppSpec → List ℕ → List Conf → Data → Result Conf DocFault
 read_conf procs apps at done d =
     chain (object_at at d) (λ (_ : ⊤).
@@ -63,6 +63,6 @@ read_conf procs apps at done d =
     chain (read_place_list procs apps (member_path at (codes "apps")) places) (λ (places : List (Option Place)).
     Ok (record { name = name; places = places })))))))
 
--- the configurations of a document: 1 to 12
+-- The configurations of a document, 1 to 12 of them.
 abbrev pub read_confs : List Proc → List AppSpec → List ℕ → Data → Result (List Conf) DocFault
 read_confs procs apps at d = elements_at (read_conf procs apps) 1 12 at d

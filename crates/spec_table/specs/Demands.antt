@@ -1,4 +1,4 @@
--- How the demands are read.
+-- The reading of demands.
 use Rattle.std.specs.Prelude.{ℕ, ◌++◌, List, [], ◌∷◌, codes, Option, Some, None, is_some, replicate, set, slice_get, Result, Ok, ⊤, if◌then◌else◌}
 use Rattle.serde_json.specs.Data.{Data, Items}
 use Rattle.scram_types.specs.declared.ids.Mode.{Mode}
@@ -24,17 +24,17 @@ use Rattle.spec_table.specs.Choices.{read_want}
 use Rattle.spec_table.specs.Configurations.{given, read_listed_mode, read_new_app}
 use Rattle.spec_table.specs.Sets.{read_apps_set, read_confs_set, read_procs_set}
 
--- the modes with one that the application lists and that does not yet stand among them
+-- The modes with one further mode, which the application lists and which is not yet among them.
 abbrev pub read_on_mode : Option AppSpec → List ℕ → List Mode → Data → Result (List Mode) DocFault
 read_on_mode found at modes d =
     chain (read_listed_mode found at d) (λ (mode : ℕ).
     if is_among modes mode then broken MODE_TWICE at else Ok (modes ++ record { 0 = mode } ∷ []))
 
--- modes of an application: 0 to 3
+-- The modes of an application, 0 to 3 of them.
 abbrev pub read_on_modes : Option AppSpec → List ℕ → Data → Result (List Mode) DocFault
 read_on_modes found at d = chain (list_at 0 3 at d) (λ (ds : Items). folded_from (read_on_mode found) at 0 [] ds)
 
--- the applications that have to be on, with one more
+-- The applications that must be on, with one further application.
 abbrev pub read_on_app : List AppSpec → List ℕ → List (Option (List Mode)) → Data → Result (List (Option (List Mode))) DocFault
 read_on_app apps at on d =
     chain (object_at at d) (λ (_ : ⊤).
@@ -45,15 +45,16 @@ read_on_app apps at on d =
     chain (read_on_modes (slice_get apps a) (member_path at (codes "modes")) modes) (λ (modes : List Mode).
     Ok (set on a (Some modes))))))))
 
--- the applications that have to be on: 0 to 8
+-- The applications that must be on, 0 to 8 of them.
 abbrev pub read_modes_on : List AppSpec → List ℕ → Data → Result (List (Option (List Mode))) DocFault
 read_modes_on apps at d = chain (list_at 0 8 at d) (λ (ds : Items). folded_from (read_on_app apps) at 0 (replicate 8 None) ds)
 
--- the applications that have to be on, as a set
+-- The set of the applications that must be on.
 abbrev pub on_set : List (Option (List Mode)) → ℕ
 on_set on = bits_below (λ a. is_some (given on a)) 8
 
--- What a demand of an object says of processors and applications, and to what it leads, by its members.
+-- The requirements of a demand on processors, applications and the chosen configuration, read from the members of its
+-- object.
 abbrev pub read_asked : List Proc → List AppSpec → List Conf → List ℕ → Data → Data → Data → Data → Data → Result Asked DocFault
 read_asked procs apps confs at up down to on off =
     chain (read_procs_set procs 0 (member_path at (codes "up")) up) (λ (up : ℕ).
@@ -63,7 +64,7 @@ read_asked procs apps confs at up down to on off =
     chain (read_apps_set apps (on_set on) (member_path at (codes "off")) off) (λ (off : ℕ).
     Ok (record { up = up; down = down; to = to; on = on; off = off }))))))
 
--- a demand, whose name is new
+-- A demand with a new name.
 abbrev pub read_demand : List Proc → List AppSpec → List Conf → List Factor → List ℕ → List Demand → Data → Result Demand DocFault
 read_demand procs apps confs factors at done d =
     chain (object_at at d) (λ (_ : ⊤).
@@ -82,6 +83,6 @@ read_demand procs apps confs factors at done d =
     chain (read_asked procs apps confs at up down to on off) (λ (asked : Asked).
     Ok (record { name = name; from = from; wants = wants; up = asked.up; down = asked.down; to = asked.to; on = asked.on; off = asked.off })))))))))))))))
 
--- the demands of a document: 0 to 64
+-- The demands of a document, 0 to 64 of them.
 abbrev pub read_demands : List Proc → List AppSpec → List Conf → List Factor → List ℕ → Data → Result (List Demand) DocFault
 read_demands procs apps confs factors at d = elements_at (read_demand procs apps confs factors) 0 64 at d

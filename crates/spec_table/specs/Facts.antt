@@ -1,4 +1,4 @@
--- What configurations, rules, bounds and intervals keep as they are read.
+-- Facts about configurations, rules, bounds and intervals as they are read.
 use Rattle.std.specs.Prelude.{◌≡◌, ◌<◌, ◌≤◌, ◌≤ℤ◌, ◌^◌, ℕ, pos, false, true, List, [], ◌∷◌, ◌++◌, length, set, slice_get, Option, Some, None, IsSome}
 use Rattle.scram_types.specs.declared.specification.Proc.{Proc}
 use Rattle.scram_types.specs.declared.specification.AppSpec.{AppSpec}
@@ -26,13 +26,13 @@ use Rattle.spec_table.specs.Choices.{wants_factor}
 use Rattle.spec_table.specs.Configurations.{given}
 use Rattle.spec_members.specs.Facts.{IsFresh}
 
--- There is an application, which lists the mode.
+-- There is an application, and it lists the mode.
 pub record ListsMode (found : Option AppSpec) (mode : ℕ) : Type 0 where
   pub app : AppSpec
   pub there : found ≡ Some app
   pub listed : IsSome (mode_in app.modes mode)
 
--- One more application has its place.
+-- A further application has its place.
 pub record IsPlacedAfter (procs : List Proc) (apps : List AppSpec) (places more : List (Option Place)) : Type 0 where
   pub app : ℕ
   pub place : Place
@@ -43,18 +43,18 @@ pub record IsPlacedAfter (procs : List Proc) (apps : List AppSpec) (places more 
 abbrev pub ArePlaces : List Proc → List AppSpec → List (Option Place) → Type 0
 ArePlaces procs apps places = (a : ℕ) (place : Place) → given places a ≡ Some place → IsPlace procs apps a place
 
--- a configuration whose name none before it has
+-- A configuration whose name no configuration before it has.
 pub record IsNewConf (procs : List Proc) (apps : List AppSpec) (done : List Conf) (conf : Conf) : Type 0 where
   pub name : IsFresh name_of_conf done conf.name
   pub width : length conf.places ≡ 8
   pub places : ArePlaces procs apps conf.places
 
--- a required value, the first of its factor
+-- A required value, the first of its factor.
 pub record IsNewWant (factors : List Factor) (done : List Want) (want : Want) : Type 0 where
   pub new : wants_factor done want.factor.0 ≡ false
   pub is : IsWant factors want
 
--- a rule that names what exists
+-- A rule whose references exist.
 pub record FitsChoice (procs : List Proc) (confs : List Conf) (factors : List Factor) (rule : Choice) : Type 0 where
   pub from : IsInIfNamed confs rule.from
   pub few : length rule.wants ≤ 6
@@ -62,42 +62,42 @@ pub record FitsChoice (procs : List Proc) (confs : List Conf) (factors : List Fa
   pub up : rule.up < 2 ^ length procs
   pub to : IsIn confs rule.to
 
--- a bound, the first of its pair
+-- A bound, the first of its pair of configurations.
 pub record IsNewBound (confs : List Conf) (done : List Bound) (bound : Bound) : Type 0 where
   pub new : bound_in done bound.from.0 bound.to.0 ≡ None
   pub is : IsBound confs bound
 
--- There is a factor, which has a value of this number.
+-- There is a factor, and it has a value of this number.
 pub record HasValue (found : Option Factor) (value : ℕ) : Type 0 where
   pub factor : Factor
   pub there : found ≡ Some factor
   pub below : value < length factor.values
 
--- There is an application, whose kind has a variable of this number.
+-- There is an application, and its kind has a variable of this number.
 pub record IsVariable (found : Option AppSpec) (variable : ℕ) : Type 0 where
   pub app : AppSpec
   pub there : found ≡ Some app
   pub text : List ℕ
   pub named : number_in (variable_names app.kind.0) text ≡ Some variable
 
--- the ends of an interval that is not empty
+-- The ends of a non-empty interval.
 pub record FitsEnds (ends : Ends) : Type 0 where
   pub low_least : minus 1000000000 ≤ℤ ends.least
   pub in_order : ends.least ≤ℤ ends.greatest
   pub high_most : ends.greatest ≤ℤ pos 1000000000
 
--- An interval that is not empty, for a variable that the application's kind has.
+-- A non-empty interval for a variable that the application's kind has.
 pub record FitsInterval (apps : List AppSpec) (interval : Interval) : Type 0 where
   pub there : interval.app.0 < length apps
   pub is_variable : IsVariable (slice_get apps interval.app.0) interval.variable
   pub ends_fit : FitsEnds interval.ends
 
--- an invariant that names what exists
+-- An invariant whose references exist.
 pub record FitsInvariant (apps : List AppSpec) (confs : List Conf) (inv : Invariant) : Type 0 where
   pub from : IsInIfNamed confs inv.from
   pub interval : FitsInterval apps (record { app = inv.app; variable = inv.variable; ends = record { least = inv.least; greatest = inv.greatest } })
 
--- a precondition that names what exists
+-- A precondition whose references exist.
 pub record FitsPrecondition (apps : List AppSpec) (confs : List Conf) (pre : Precondition) : Type 0 where
   pub conf : IsIn confs pre.conf
   pub interval : FitsInterval apps (record { app = pre.app; variable = pre.variable; ends = record { least = pre.least; greatest = pre.greatest } })
@@ -106,36 +106,36 @@ pub record FitsPrecondition (apps : List AppSpec) (confs : List Conf) (pre : Pre
 abbrev pub IsApart : ℕ → ℕ → Type 0
 IsApart set other = (n : ℕ) → has_bit set n ≡ true → has_bit other n ≡ false
 
--- a mode that the application lists and that does not stand before it
+-- A mode that the application lists and that is not among the modes before it.
 pub record IsNewOn (found : Option AppSpec) (done : List Mode) (mode : Mode) : Type 0 where
   pub listed : ListsMode found mode.0
   pub new : is_among done mode.0 ≡ false
 
--- One more mode stands behind the others.
+-- A further mode is appended to the others.
 pub record HasMoreModes (found : Option AppSpec) (modes more : List Mode) : Type 0 where
   pub mode : Mode
   pub new : IsNewOn found modes mode
   pub behind : more ≡ modes ++ mode ∷ []
 
--- There is an application, which lists each of a few modes, none of which stands twice.
+-- There is an application, and it lists each of at most three different modes.
 pub record ListsModes (found : Option AppSpec) (modes : List Mode) : Type 0 where
   pub app : AppSpec
   pub there : found ≡ Some app
   pub few : length modes ≤ 3
   pub each : AllAfter (IsNewOn found) modes
 
--- Each application that has to be on exists and lists the modes.
+-- Each application that must be on exists and lists the modes.
 abbrev pub AreOn : List AppSpec → List (Option (List Mode)) → Type 0
 AreOn apps on = (a : ℕ) (modes : List Mode) → given on a ≡ Some modes → ListsModes (slice_get apps a) modes
 
--- One more application has to be on.
+-- A further application must be on.
 pub record IsOnAfter (apps : List AppSpec) (on more : List (Option (List Mode))) : Type 0 where
   pub app : ℕ
   pub modes : List Mode
   pub lists : ListsModes (slice_get apps app) modes
   pub set : more ≡ set on app (Some modes)
 
--- what a demand asks of an environment's processors and of a configuration names what exists
+-- Requirements of a demand on an environment's processors and on a configuration, whose references exist.
 pub record FitsAsked (procs : List Proc) (apps : List AppSpec) (confs : List Conf) (asked : Asked) : Type 0 where
   pub up : asked.up < 2 ^ length procs
   pub down : asked.down < 2 ^ length procs
@@ -146,7 +146,7 @@ pub record FitsAsked (procs : List Proc) (apps : List AppSpec) (confs : List Con
   pub off : asked.off < 2 ^ length apps
   pub off_apart : (a : ℕ) → has_bit asked.off a ≡ true → given asked.on a ≡ None
 
--- a demand whose name none before it has
+-- A demand whose name no demand before it has.
 pub record IsNewDemand (procs : List Proc) (apps : List AppSpec) (confs : List Conf) (factors : List Factor) (done : List Demand)
     (demand : Demand) : Type 0 where
   pub name : IsFresh name_of_demand done demand.name

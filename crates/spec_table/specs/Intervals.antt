@@ -1,4 +1,4 @@
--- How invariants and preconditions are read: intervals for a variable of an application.
+-- The reading of invariants and preconditions, which are intervals for a variable of an application.
 use Rattle.std.specs.Prelude.{ℕ, ℤ, pos, int_le, List, codes, Option, Some, None, slice_get, Result, Ok, ⊤, if◌then◌else◌}
 use Rattle.serde_json.specs.Data.{Data}
 use Rattle.scram_types.specs.Numbers.{minus}
@@ -22,28 +22,28 @@ use Rattle.scram_doc.specs.Lists.{elements_at}
 use Rattle.spec_members.specs.Names.{read_named, name_of_app}
 use Rattle.spec_table.specs.Choices.{read_conf_id, read_source}
 
--- the application that a text names
+-- The application that a value names.
 abbrev pub read_app_id : List AppSpec → List ℕ → Data → Result AppId DocFault
 read_app_id apps at d = ok_map (λ (a : ℕ). record { 0 = a }) (read_named name_of_app apps UNKNOWN_APPLICATION at d)
 
--- a variable of the application's kind
+-- A variable of the application's kind, from its name.
 abbrev pub read_variable : Option AppSpec → List ℕ → Data → Result ℕ DocFault
 read_variable None at d = broken UNKNOWN_VARIABLE at
 read_variable (Some app) at d =
     chain (text_at at d) (λ (text : List ℕ). or_broken UNKNOWN_VARIABLE at (number_in (variable_names app.kind.0) text))
 
--- an end of an interval
+-- An end of an interval.
 abbrev pub read_end : List ℕ → Data → Result ℤ DocFault
 read_end at d = int_at (minus 1000000000) (pos 1000000000) at d
 
--- the ends of the interval of an object at a path, by its members
+-- The ends of the interval of an object at a path, from its members.
 abbrev pub read_ends : List ℕ → Data → Data → Result Ends DocFault
 read_ends at least greatest =
     chain (read_end (member_path at (codes "least")) least) (λ (low : ℤ).
     chain (read_end (member_path at (codes "greatest")) greatest) (λ (high : ℤ).
     if int_le low high then Ok (record { least = low; greatest = high }) else broken EMPTY_INTERVAL (member_path at (codes "greatest"))))
 
--- the interval of an object at a path, by its members
+-- The interval of an object at a path, from its members.
 abbrev pub read_interval : List AppSpec → List ℕ → Data → Data → Data → Data → Result Interval DocFault
 read_interval apps at app variable least greatest =
     chain (read_app_id apps (member_path at (codes "app")) app) (λ (app : AppId).
@@ -51,7 +51,7 @@ read_interval apps at app variable least greatest =
     chain (read_ends at least greatest) (λ (ends : Ends).
     Ok (record { app = app; variable = variable; ends = ends }))))
 
--- an invariant
+-- An invariant.
 abbrev pub read_invariant : List AppSpec → List Conf → List ℕ → List Invariant → Data → Result Invariant DocFault
 read_invariant apps confs at done d =
     chain (object_at at d) (λ (_ : ⊤).
@@ -65,11 +65,11 @@ read_invariant apps confs at done d =
     chain (read_interval apps at app variable least greatest) (λ (i : Interval).
     Ok (record { from = from; app = i.app; variable = i.variable; least = i.ends.least; greatest = i.ends.greatest }))))))))))
 
--- the invariants of a document: 0 to 64
+-- The invariants of a document, 0 to 64 of them.
 abbrev pub read_invariants : List AppSpec → List Conf → List ℕ → Data → Result (List Invariant) DocFault
 read_invariants apps confs at d = elements_at (read_invariant apps confs) 0 64 at d
 
--- a precondition
+-- A precondition.
 abbrev pub read_precondition : List AppSpec → List Conf → List ℕ → List Precondition → Data → Result Precondition DocFault
 read_precondition apps confs at done d =
     chain (object_at at d) (λ (_ : ⊤).
@@ -83,6 +83,6 @@ read_precondition apps confs at done d =
     chain (read_interval apps at app variable least greatest) (λ (i : Interval).
     Ok (record { conf = conf; app = i.app; variable = i.variable; least = i.ends.least; greatest = i.ends.greatest }))))))))))
 
--- the preconditions of a document: 0 to 64
+-- The preconditions of a document, 0 to 64 of them.
 abbrev pub read_preconditions : List AppSpec → List Conf → List ℕ → Data → Result (List Precondition) DocFault
 read_preconditions apps confs at d = elements_at (read_precondition apps confs) 0 64 at d

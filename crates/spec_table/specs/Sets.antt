@@ -1,4 +1,4 @@
--- How sets of numbers are read: lists of names, each of which is given once.
+-- The reading of sets of numbers from lists of names, each of which is given once.
 use Rattle.std.specs.Prelude.{ℕ, ◌^◌, bit_or, ◌||◌, List, Result, Ok, if◌then◌else◌}
 use Rattle.serde_json.specs.Data.{Data, Items}
 use Rattle.scram_types.specs.declared.specification.AppSpec.{AppSpec}
@@ -13,25 +13,25 @@ use Rattle.scram_doc.specs.Values.{list_at}
 use Rattle.spec_members.specs.declared.rule.TheConstants.{TWICE_IN_LIST, UNKNOWN_APPLICATION, UNKNOWN_CONFIGURATION, UNKNOWN_PROCESSOR}
 use Rattle.spec_members.specs.Names.{name_of_app, name_of_conf, name_of_proc, read_named}
 
--- The set with the number of what a text names, which is not yet in it, nor in a set that is barred. A name of nothing
--- breaks the rule `unknown`.
+-- The set with the number of the item that a text names, which must not yet be in it, nor in a set that is barred. A
+-- name of no item breaks the rule `unknown`.
 abbrev pub read_into : {A : Type 0} → (A → List ℕ) → List A → ℕ → ℕ → List ℕ → ℕ → Data → Result ℕ DocFault
 read_into name xs unknown barred at set d =
     chain (read_named name xs unknown at d) (λ (n : ℕ).
     if has_bit set n || has_bit barred n then broken TWICE_IN_LIST at else Ok (bit_or set (2 ^ n)))
 
--- the set of what the texts of a list name: 0 to `most`
+-- The set of the items that the texts of a list name, at most `most` of them.
 abbrev pub read_set : {A : Type 0} → (A → List ℕ) → List A → ℕ → ℕ → ℕ → List ℕ → Data → Result ℕ DocFault
 read_set name xs unknown barred most at d = chain (list_at 0 most at d) (λ (ds : Items). folded_from (read_into name xs unknown barred) at 0 0 ds)
 
--- the set of the processors that are named, and are not barred: 0 to 8
+-- The set of the named processors, 0 to 8 of them, none of which is barred.
 abbrev pub read_procs_set : List Proc → ℕ → List ℕ → Data → Result ℕ DocFault
 read_procs_set procs barred at d = read_set name_of_proc procs UNKNOWN_PROCESSOR barred 8 at d
 
--- the set of the applications that are named, and are not barred: 0 to 8
+-- The set of the named applications, 0 to 8 of them, none of which is barred.
 abbrev pub read_apps_set : List AppSpec → ℕ → List ℕ → Data → Result ℕ DocFault
 read_apps_set apps barred at d = read_set name_of_app apps UNKNOWN_APPLICATION barred 8 at d
 
--- the set of the configurations that are named: 0 to 12
+-- The set of the named configurations, 0 to 12 of them.
 abbrev pub read_confs_set : List Conf → List ℕ → Data → Result ℕ DocFault
 read_confs_set confs at d = read_set name_of_conf confs UNKNOWN_CONFIGURATION 0 12 at d

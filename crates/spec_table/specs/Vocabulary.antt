@@ -1,4 +1,4 @@
--- What the rest of a document names, and what it keeps.
+-- The items to which the rest of a document refers, and facts about them.
 use Rattle.std.specs.Prelude.{List, []}
 use Rattle.scram_types.specs.declared.specification.Proc.{Proc}
 use Rattle.scram_types.specs.declared.specification.AppSpec.{AppSpec}
@@ -10,14 +10,14 @@ use Rattle.spec_members.specs.Facts.{IsNewProc, IsNewFactor, FewValues}
 use Rattle.spec_table.specs.Facts.{IsNewConf}
 use Rattle.spec_members.specs.Kept.{AreApps}
 
--- what the rest of a document names
+-- The items to which the rest of a document refers.
 pub record Names : Type 0 where
   pub procs : List Proc
   pub apps : List AppSpec
   pub confs : List Conf
   pub factors : List Factor
 
--- processors, applications, configurations and factors as they were read
+-- Processors, applications, configurations and factors as they are read.
 pub record AreNames (procs : List Proc) (apps : List AppSpec) (confs : List Conf) (factors : List Factor) : Type 0 where
   pub procs_count : HasLength 1 8 procs
   pub procs_fit : AllAfter IsNewProc procs

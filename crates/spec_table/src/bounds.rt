@@ -87,7 +87,7 @@ impl Elements<Bound> for Bounds<'_> {
     }
 }
 
-/// Returns the bounds of a document, 0 to 144 of them.
+/// Reads the bounds of a document, 0 to 144 of them.
 pub fn read_bounds(
     alloc: Global,
     vocabulary: &Vocabulary,

@@ -27,7 +27,7 @@ use spec_members::names::{ByName, read_named};
 use spec_members::rule;
 use std::alloc::Global;
 
-/// Returns the configuration that the value names.
+/// Reads a configuration from its name.
 pub fn read_conf_id(
     confs: &Numbered<Conf, ByName>,
     v: &Value,
@@ -40,7 +40,7 @@ pub fn read_conf_id(
     Ok(ConfId(read_named(confs, rule::UNKNOWN_CONFIGURATION, v, at)?))
 }
 
-/// Returns the configuration that the value names, or `None` where it is `*`.
+/// Reads a configuration from its name, or returns `None` if the value is `*`.
 pub fn read_source(
     confs: &Numbered<Conf, ByName>,
     v: &Value,
@@ -177,7 +177,7 @@ impl Elements<Choice> for Choices<'_> {
     }
 }
 
-/// Returns the rules of a document's choice table, 0 to 64 of them.
+/// Reads the rules of a document's choice table, 0 to 64 of them.
 pub fn read_choices(
     alloc: Global,
     vocabulary: &Vocabulary,

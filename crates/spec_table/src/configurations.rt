@@ -52,7 +52,7 @@ fn read_new_app(
     }
 }
 
-/// Returns the mode that the value names, which is one of the application's kind and which it lists.
+/// Reads a mode from its name. The mode is one of the application's kind, and the application lists it.
 pub(crate) fn read_listed_mode(
     app: Option<&AppSpec>,
     v: &Value,
@@ -71,7 +71,7 @@ pub(crate) fn read_listed_mode(
     }
 }
 
-/// Returns the places with the one that the value adds.
+/// Reads the place of an application, and adds it to the places.
 fn read_place(
     procs: &Numbered<Proc, ByName>,
     apps: &Numbered<AppSpec, ByName>,
@@ -159,7 +159,7 @@ impl NamedElements<Conf, ByName> for Confs<'_> {
     }
 }
 
-/// Returns the configurations of a document, 1 to 12 of them.
+/// Reads the configurations of a document, 1 to 12 of them.
 pub fn read_confs(
     alloc: Global,
     procs: &Numbered<Proc, ByName>,

@@ -1,4 +1,4 @@
-//! Demands: what has to run in which environment.
+//! Demands: the applications that must run in an environment.
 
 ghost use Rattle.std.specs.Prelude.{◌≡◌, ◌≤◌, ◌<◌, None, [], codes, is_some, length, replicate, slice_get, IfOk};
 ghost use Rattle.std.specs.Option.{option_copied};
@@ -28,7 +28,7 @@ use std::alloc::Global;
 
 type On = [Option<Modes>; 8];
 
-/// Returns the modes with the one that the value names.
+/// Reads a mode from its name, and adds it to the modes.
 fn read_on_mode(
     app: Option<&AppSpec>,
     modes: Modes,
@@ -48,7 +48,7 @@ fn read_on_mode(
     Ok(modes)
 }
 
-/// Returns the modes that the value lists, 0 to 3 of them, each of which the application lists.
+/// Reads a list of 0 to 3 modes, each of which the application lists.
 fn read_on_modes(app: Option<&AppSpec>, v: &Value, at: &Path) -> Result<Modes, DocFault>
     requires room { length at.now ≤ 46 }
     ensures value { result ≡ read_on_modes (option_copied app.entry) at.now (view v.now) }
@@ -96,7 +96,7 @@ fn find_app(apps: &Numbered<AppSpec, ByName>, app: AppId) -> Option<&AppSpec>
     apps.items().get(usize::from(app.0))
 }
 
-/// Returns the applications that have to be on, with the one that the value adds.
+/// Reads an application that must be on, and adds it to the others.
 fn read_on_app(
     apps: &Numbered<AppSpec, ByName>,
     on: On,
@@ -119,7 +119,7 @@ fn read_on_app(
     Ok(on)
 }
 
-/// Returns the applications that have to be on, 0 to 8 of them.
+/// Reads the applications that must be on, 0 to 8 of them.
 fn read_modes_on(apps: &Numbered<AppSpec, ByName>, v: &Value, at: &Path) -> Result<On, DocFault>
     requires room { length at.now ≤ 34 }
     requires few { length apps.now ≤ 8 }
@@ -134,7 +134,7 @@ fn read_modes_on(apps: &Numbered<AppSpec, ByName>, v: &Value, at: &Path) -> Resu
     Ok(on)
 }
 
-/// Returns the applications that have to be on, as a set.
+/// Returns the set of the applications that must be on.
 fn on_set(on: &On) -> u8
     ensures { result ≡ on_set on.now }
 {
@@ -147,7 +147,7 @@ fn on_set(on: &On) -> u8
     set
 }
 
-/// What a demand asks of the processors of an environment and of the configuration that is chosen.
+/// The requirements of a demand on the processors of an environment and on the configuration that is chosen.
 #[derive(Clone, Copy)]
 struct Asked {
     up: u8,
@@ -157,7 +157,7 @@ struct Asked {
     off: u8,
 }
 
-/// The values of the members of a demand that say what it asks.
+/// The values of the members of a demand that contain its requirements.
 #[derive(Clone, Copy)]
 struct AskedMembers<'a> {
     up: &'a Value,
@@ -167,7 +167,7 @@ struct AskedMembers<'a> {
     off: &'a Value,
 }
 
-/// Returns what the demand at this path asks, by its members.
+/// Reads the requirements of the demand at this path from its members.
 fn read_asked(
     vocabulary: &Vocabulary,
     members: &AskedMembers<'_>,
@@ -259,7 +259,7 @@ impl NamedElements<Demand, ByName> for Demands<'_> {
     }
 }
 
-/// Returns the demands that the value lists, 0 to 64 of them.
+/// Reads the demands in a list, 0 to 64 of them.
 pub fn read_demands(
     alloc: Global,
     vocabulary: &Vocabulary,

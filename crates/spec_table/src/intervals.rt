@@ -1,4 +1,4 @@
-//! Invariants and preconditions: intervals for a variable of an application.
+//! Invariants and preconditions, which are intervals for a variable of an application.
 
 ghost use Rattle.std.specs.Prelude.{◌≡◌, ◌≤◌, ◌≤ℤ◌, ◌<◌, pos, [], codes, length, slice_get, IfOk};
 ghost use Rattle.serde_json.specs.View.{view};
@@ -53,14 +53,14 @@ fn read_end(v: &Value, at: &Path) -> Result<i64, DocFault>
     int_in(v, -MAX_INTERVAL_END, MAX_INTERVAL_END, at)
 }
 
-/// The ends of an interval, which is not empty.
+/// The ends of a non-empty interval.
 #[derive(Clone, Copy)]
 struct Ends {
     least: i64,
     greatest: i64,
 }
 
-/// Returns the ends of the interval of the object at this path, by its members.
+/// Reads the ends of the interval of the object at this path from its members.
 fn read_ends(least: &Value, greatest: &Value, at: &Path) -> Result<Ends, DocFault>
     requires room { length at.now ≤ 40 }
     ensures value { result ≡ read_ends at.now (view least.now) (view greatest.now) }
@@ -76,7 +76,7 @@ fn read_ends(least: &Value, greatest: &Value, at: &Path) -> Result<Ends, DocFaul
     }
 }
 
-/// What invariants and preconditions have in common.
+/// The common part of invariants and preconditions.
 #[derive(Clone, Copy)]
 struct Interval {
     app: AppId,
@@ -84,7 +84,7 @@ struct Interval {
     ends: Ends,
 }
 
-/// The values of the members of an object that say an interval.
+/// The values of the members of an object that describe an interval.
 #[derive(Clone, Copy)]
 struct IntervalMembers<'a> {
     app: &'a Value,
@@ -93,7 +93,7 @@ struct IntervalMembers<'a> {
     greatest: &'a Value,
 }
 
-/// Returns the interval of the object at this path, by its members.
+/// Reads the interval of the object at this path from its members.
 fn read_interval(
     apps: &Numbered<AppSpec, ByName>,
     members: &IntervalMembers<'_>,
@@ -202,7 +202,7 @@ impl Elements<Precondition> for Intervals<'_> {
     }
 }
 
-/// Returns the invariants of a document, 0 to 64 of them.
+/// Reads the invariants of a document, 0 to 64 of them.
 pub fn read_invariants(
     alloc: Global,
     vocabulary: &Vocabulary,
@@ -219,7 +219,7 @@ pub fn read_invariants(
     read_list(alloc, &intervals, members.invariants, 0, MAX_INTERVALS, &at)
 }
 
-/// Returns the preconditions of a document, 0 to 64 of them.
+/// Reads the preconditions of a document, 0 to 64 of them.
 pub fn read_preconditions(
     alloc: Global,
     vocabulary: &Vocabulary,

@@ -1,5 +1,6 @@
-//! What a specification document says of its named things is read exactly, or refused at the first broken rule:
-//! configurations, the choice table, bounds, invariants, preconditions and demands.
+//! The parts of a specification document that refer to its named items: configurations, the choice table, bounds,
+//! invariants, preconditions and demands. They are read exactly as the document has them, or refused at the first
+//! broken rule.
 #![tactic(auto)]
 
 pub mod bounds;

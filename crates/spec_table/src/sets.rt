@@ -15,15 +15,15 @@ use serde_json::Value;
 use spec_members::names::{ByName, read_named};
 use spec_members::rule;
 
-/// What may not stand in a list of names: a name of nothing, which breaks the rule `unknown`, and what has a number of
-/// the set `barred`.
+/// The names that a list must not have: a name of no item, which breaks the rule `unknown`, and a name of an item whose
+/// number is in the set `barred`.
 #[derive(Clone, Copy)]
 struct Refused {
     unknown: u8,
     barred: u16,
 }
 
-/// Returns the set with the number of what the value names.
+/// Reads the name of an item, and adds the item's number to the set.
 fn read_into<T, N: Naming<T>>(
     items: &Numbered<T, N>,
     refused: Refused,
@@ -46,7 +46,7 @@ fn read_into<T, N: Naming<T>>(
     }
 }
 
-/// Returns the set of what the values name.
+/// Returns the set of the numbers of the items that the values name.
 fn read_all<T, N: Naming<T>>(
     items: &Numbered<T, N>,
     refused: Refused,
@@ -67,7 +67,7 @@ fn read_all<T, N: Naming<T>>(
     Ok(set)
 }
 
-/// Returns a set of numbers below `count` as eight bits.
+/// Returns a set of numbers below `count`, which is at most 8, as eight bits.
 fn narrow(set: u16, count: usize) -> u8
     requires few { count ≤ 8 }
     requires below { set < 2 ^ count }
@@ -76,7 +76,7 @@ fn narrow(set: u16, count: usize) -> u8
     set as u8
 }
 
-/// Returns the set of the processors that the value lists, 0 to 8 of them and none of those that are barred.
+/// Reads the set of the listed processors, 0 to 8 of them, none of which is barred.
 pub(crate) fn read_procs_set(
     procs: &Numbered<Proc, ByName>,
     barred: u8,
@@ -98,7 +98,7 @@ pub(crate) fn read_procs_set(
     Ok(narrow(set, procs.items().len()))
 }
 
-/// Returns the set of the applications that the value lists, 0 to 8 of them and none of those that are barred.
+/// Reads the set of the listed applications, 0 to 8 of them, none of which is barred.
 pub(crate) fn read_apps_set(
     apps: &Numbered<AppSpec, ByName>,
     barred: u8,
@@ -120,7 +120,7 @@ pub(crate) fn read_apps_set(
     Ok(narrow(set, apps.items().len()))
 }
 
-/// Returns the set of the configurations that the value lists, 0 to 12 of them.
+/// Reads the set of the listed configurations, 0 to 12 of them.
 pub(crate) fn read_confs_set(
     confs: &Numbered<Conf, ByName>,
     v: &Value,

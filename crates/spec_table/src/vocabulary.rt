@@ -1,11 +1,11 @@
-//! What the rest of a document names.
+//! The items to which the rest of a document refers.
 
 use scram_doc::Numbered;
 use scram_types::{AppSpec, Conf, Factor, Proc};
 use spec_members::names::ByName;
 use std::marker::Model;
 
-/// Processors, applications, configurations and factors as they were read.
+/// The processors, applications, configurations and factors of a document.
 #[derive(Drop)]
 pub struct Vocabulary {
     pub procs: Numbered<Proc, ByName>,

@@ -165,7 +165,7 @@ demand_low spec demand =
     let wants = low (want_data spec.factors) 1 (λ x. omega arith) demand.wants in
     omega (arith, down, from, off, on, to, up, wants)
 
--- how deep the lists of a document are
+-- the depth of the lists of a document
 record AreLow (spec : Parts) : Type 0 where
   apps : items_depth (items_of (map (app_data spec.apps) spec.apps)) ≤ 3
   bounds : items_depth (items_of (map (bound_data spec.confs) spec.bounds)) ≤ 1

@@ -1,4 +1,4 @@
--- How long the canonical text of a specification may be.
+-- Bounds on the length of the canonical text of a specification.
 use Rattle.std.proofs.Common.{◌≡◌, ◌+◌, ◌*◌, ◌≤◌, ◌<◌, ℕ, zero, suc, Bool, true, false, List, [], ◌∷◌, length, arith, refl}
 use Rattle.std.specs.Prelude.{Option, Some, None, ℤ, pos, negsuc, ◌≤ℤ◌, ◌&&◌, nat_le, slice_get}
 use Rattle.std.specs.Char.{is_ascii_lowercase}
@@ -17,7 +17,7 @@ use Rattle.scram_doc.specs.Canonical.{count_data, integer_data}
 use Rattle.scram_doc.proofs.TextLengths.{weight}
 use Rattle.app_model.proofs.ShortNames.{AreShort, mode_names_short, variable_names_short}
 
--- a text at its longest: six bytes for each byte, between two quotes
+-- the maximum length of a text: six bytes for each byte, between two quotes
 abbrev pub widest : List ℕ → ℕ
 widest s = 6 * length s + 2
 
@@ -36,7 +36,7 @@ pub text_short : {A : Type 0} (f : A → List ℕ) (o : Option A) → ((x : A) �
 text_short f None each = omega arith
 text_short f (Some x) each = each x refl
 
--- what some number names, too
+-- so has the name of an item, given by its number
 pub item_short : {A : Type 0} (name : A → List ℕ) (xs : List A) (n : ℕ) → Each (λ (x : A). is_name (name x) ≡ true) xs → length (name_of_item name xs n) ≤ 16
 item_short name xs n named = text_short name (slice_get xs n) (λ x e. name_short (name x) (named n x e))
 

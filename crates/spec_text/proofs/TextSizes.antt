@@ -281,7 +281,7 @@ demands_exact spec is =
     let sum = list_weight exact (demand_data spec) 4500 spec.demands (λ i x e. demand_exact spec is x (is.demands i x e) (is.names.demands i x e)) in
     omega (arith, few, sum)
 
--- how long the lists of a document are
+-- the lengths of the lists of a document
 record HasShortLists (spec : Parts) : Type 0 where
   procs : items_weight widest (items_of (map proc_data spec.procs)) ≤ 2000
   apps : items_weight widest (items_of (map (app_data spec.apps) spec.apps)) ≤ 25000
@@ -321,7 +321,7 @@ lists_short spec is names =
       preconditions = omega (arith, few_preconditions, preconditions);
     }
 
--- what stands beside the lists
+-- the length of the members beside the lists
 record HasShortRest (spec : Parts) : Type 0 where
   goal : weight widest (goal_data spec.goal) ≤ 200
   assumption : weight widest (assumption_data spec) ≤ 200

@@ -1,5 +1,5 @@
--- The canonical value of a specification. Its text is the compact JSON text of this value, in which the members
--- of an object stand in the order of their bytes.
+-- The canonical value of a specification. The canonical text is the compact JSON text of this value, in which the
+-- members of an object are sorted by their bytes.
 use Rattle.std.specs.Prelude.{ℕ, suc, List, [], ◌∷◌, codes, Option, Some, None, slice_get, if◌then◌else◌}
 use Rattle.std.specs.Option.{option_map_or}
 use Rattle.serde_json.specs.Data.{Data, put, string, array, object, Members, no_members, member}
@@ -30,23 +30,23 @@ use Rattle.spec_members.specs.Names.{name_of_proc, name_of_app, name_of_conf, na
 use Rattle.scram_doc.specs.Numbering.{itself}
 use Rattle.scram_types.specs.Bits.{has_bit}
 
--- the name of the item of this number
+-- The name of item number `n`, or empty if there is no such item.
 abbrev pub name_of_item : {A : Type 0} → (A → List ℕ) → List A → ℕ → List ℕ
 name_of_item name xs n = option_map_or name (slice_get xs n) []
 
--- no bytes for what has no name
+-- The name, or empty if there is none.
 abbrev pub name_or_nothing : Option (List ℕ) → List ℕ
 name_or_nothing name = option_map_or itself name []
 
--- the name of a kind
+-- The name of a kind.
 abbrev pub name_of_kind : ℕ → List ℕ
 name_of_kind kind = name_or_nothing (name_in kind_names kind)
 
--- the name of a mode of a kind
+-- The name of a mode of a kind.
 abbrev pub name_of_mode : ℕ → ℕ → List ℕ
 name_of_mode kind mode = name_or_nothing (name_in (mode_names kind) mode)
 
--- the name of a variable of a kind
+-- The name of a variable of a kind.
 abbrev pub name_of_kind_variable : ℕ → ℕ → List ℕ
 name_of_kind_variable kind variable = name_or_nothing (name_in (variable_names kind) variable)
 
@@ -71,7 +71,7 @@ mode_data kind listed = object (
     member (codes "mode") (string (name_of_mode kind listed.mode.0)) (
     member (codes "prepare") (count_data listed.prepare) no_members)))))
 
--- an application that is needed, by its name
+-- The canonical value of a needed application, which is its name.
 abbrev pub need_data : List AppSpec → AppId → Data
 need_data apps need = string (name_of_item name_of_app apps need.0)
 
@@ -90,7 +90,7 @@ place_data spec a place = object (
     member (codes "mode") (string (name_of_app_mode spec.apps a place.mode.0)) (
     member (codes "on") (string (name_of_item name_of_proc spec.procs place.proc.0)) no_members)))
 
--- the places that are given, in the order of applications
+-- The canonical values of the places that are given, in the order of applications.
 abbrev pub places_data : Parts → ℕ → List (Option Place) → List Data
 places_data spec a [] = []
 places_data spec a (None ∷ places) = places_data spec (suc a) places
@@ -108,12 +108,12 @@ factor_data factor = object (
     member (codes "name") (string factor.name) (
     member (codes "values") (list_data (λ (name : List ℕ). string name) factor.values) no_members))
 
--- the configuration that a rule is for, or `*` for any
+-- The name of the configuration to which a rule applies, or `*` if it applies to any.
 abbrev pub source_name : List Conf → Option ConfId → List ℕ
 source_name confs None = codes "*"
 source_name confs (Some c) = name_of_item name_of_conf confs c.0
 
--- the name of a value of factor f
+-- The name of a value of factor `f`.
 abbrev pub name_of_value : List Factor → ℕ → ℕ → List ℕ
 name_of_value factors f value = option_map_or (λ (factor : Factor). name_of_item itself factor.values value) (slice_get factors f) []
 
@@ -123,12 +123,12 @@ want_data factors want = object (
     member (codes "factor") (string (name_of_item name_of_factor factors want.factor.0)) (
     member (codes "value") (string (name_of_value factors want.factor.0 want.value)) no_members))
 
--- the names of the items whose numbers are in a set, in order, the first item having number n
+-- The names of the items whose numbers are in a set, in order, where the first item has number `n`.
 abbrev pub names_data : {A : Type 0} → (A → List ℕ) → ℕ → ℕ → List A → List Data
 names_data name set n [] = []
 names_data name set n (x ∷ xs) = if has_bit set n then string (name x) ∷ names_data name set (suc n) xs else names_data name set (suc n) xs
 
--- The canonical value of a set of items: their names, in order.
+-- The canonical value of a set of items, which is the list of their names in order.
 abbrev pub set_data : {A : Type 0} → (A → List ℕ) → List A → ℕ → Data
 set_data name xs set = array (items_of (names_data name set 0 xs))
 
@@ -169,13 +169,13 @@ precondition_data spec pre = object (
     member (codes "least") (integer_data pre.least) (
     member (codes "variable") (string (name_of_variable spec.apps pre.app.0 pre.variable)) no_members)))))
 
--- The canonical value of an application that has to be on, and of the modes of which it has to be in one.
+-- The canonical value of an application that must be on, with the modes of which it must be in one.
 abbrev pub on_app_data : Parts → ℕ → List Mode → Data
 on_app_data spec a modes = object (
     member (codes "app") (string (name_of_item name_of_app spec.apps a)) (
     member (codes "modes") (list_data (λ (mode : Mode). string (name_of_app_mode spec.apps a mode.0)) modes) no_members))
 
--- the applications that have to be on, in their order, the first of the list having number a
+-- The canonical values of the applications that must be on, in order, where the first of the list has number `a`.
 abbrev pub on_data : Parts → ℕ → List (Option (List Mode)) → List Data
 on_data spec a [] = []
 on_data spec a (None ∷ on) = on_data spec (suc a) on
@@ -205,11 +205,11 @@ assumption_data spec = object (
     member (codes "halts") (count_data spec.halts) (
     member (codes "window") (count_data spec.window) no_members)))
 
--- The canonical value of the start: the name of a configuration.
+-- The canonical value of the start, which is the name of a configuration.
 abbrev pub start_data : Parts → Data
 start_data spec = string (name_of_item name_of_conf spec.confs spec.start.0)
 
--- a specification of version 1, which retargets
+-- The canonical value of a specification of version 1, which retargets.
 abbrev pub retarget_data : Parts → Data
 retarget_data spec = object (
     member (codes "apps") (list_data (app_data spec.apps) spec.apps) (
@@ -225,7 +225,7 @@ retarget_data spec = object (
     member (codes "scram") (count_data 1) (
     member (codes "start") (start_data spec) no_members))))))))))))
 
--- a specification of version 2, which settles
+-- The canonical value of a specification of version 2, which settles.
 abbrev pub settle_data : Parts → Data
 settle_data spec = object (
     member (codes "apps") (list_data (app_data spec.apps) spec.apps) (
@@ -242,7 +242,7 @@ settle_data spec = object (
     member (codes "scram") (count_data 2) (
     member (codes "start") (start_data spec) no_members)))))))))))))
 
--- the members of a specification of version 3, with this policy and these demands
+-- The members of a specification of version 3 with this policy and these demands.
 abbrev pub demanding_members : Policy → List Demand → Parts → Members
 demanding_members policy demands spec =
     member (codes "apps") (list_data (app_data spec.apps) spec.apps) (
@@ -260,26 +260,26 @@ demanding_members policy demands spec =
     member (codes "scram") (count_data 3) (
     member (codes "start") (start_data spec) no_members)))))))))))))
 
--- a specification of version 3, with this policy and these demands
+-- The canonical value of a specification of version 3 with this policy and these demands.
 abbrev pub demanding_data : Policy → List Demand → Parts → Data
 demanding_data policy demands spec = object (demanding_members policy demands spec)
 
--- The third version where there are demands; else the first where the policy is to retarget, and the second where it is
--- to settle.
+-- The canonical value of a specification in version 3 if there are demands. Otherwise the version is 1 if the policy is
+-- to retarget, and 2 if it is to settle.
 abbrev pub data_by : List Demand → Policy → Parts → Data
 data_by [] Retarget spec = retarget_data spec
 data_by [] Settle spec = settle_data spec
 data_by (demand ∷ demands) policy spec = demanding_data policy (demand ∷ demands) spec
 
--- the canonical value of a specification
+-- The canonical value of a specification.
 abbrev pub spec_data : Parts → Data
 spec_data spec = data_by spec.demands spec.policy spec
 
--- the canonical text
+-- The canonical text of a specification.
 abbrev pub spec_text : Parts → List ℕ
 spec_text spec = compact_text (spec_data spec)
 
--- Members of a document as they are put, each at its place in byte order.
+-- The members to which the rest of a document refers, each put at its place in byte order.
 abbrev pub with_named : Parts → Members → Members
 with_named spec ms =
     put (codes "factors") (list_data factor_data spec.factors) (
@@ -287,7 +287,7 @@ with_named spec ms =
     put (codes "apps") (list_data (app_data spec.apps) spec.apps) (
     put (codes "processors") (list_data proc_data spec.procs) ms)))
 
--- the choice table, the bounds, the start and the goal
+-- The members of the choice table, the bounds, the start and the goal.
 abbrev pub with_table : Parts → Members → Members
 with_table spec ms =
     put (codes "goal") (goal_data spec.goal) (
@@ -295,27 +295,27 @@ with_table spec ms =
     put (codes "bounds") (list_data (bound_data spec.confs) spec.bounds) (
     put (codes "rules") (list_data (choice_data spec) spec.rules) ms)))
 
--- the intervals and the failure assumption
+-- The members of the intervals and the failure assumption.
 abbrev pub with_limits : Parts → Members → Members
 with_limits spec ms =
     put (codes "assumption") (assumption_data spec) (
     put (codes "preconditions") (list_data (precondition_data spec) spec.preconditions) (
     put (codes "invariants") (list_data (invariant_data spec) spec.invariants) ms))
 
--- the third version, with its policy and its demands
+-- The members of the third version, with its policy and its demands.
 abbrev pub with_demands : List Demand → Policy → Parts → Members → Members
 with_demands demands policy spec ms =
     put (codes "scram") (count_data 3) (
     put (codes "policy") (string (policy_name policy)) (
     put (codes "demands") (list_data (demand_data spec) demands) ms))
 
--- the version, and the policy and the demands where it has them
+-- The member of the version, and those of the policy and the demands if the version has them.
 abbrev pub with_version : List Demand → Policy → Parts → Members → Members
 with_version [] Retarget spec ms = put (codes "scram") (count_data 1) ms
 with_version [] Settle spec ms = put (codes "scram") (count_data 2) (put (codes "policy") (string (codes "settle")) ms)
 with_version (demand ∷ demands) policy spec ms = with_demands (demand ∷ demands) policy spec ms
 
--- of which environments a demand speaks, and of which configurations it asks something
+-- The members with the environments and configurations to which a demand applies.
 abbrev pub with_condition : Parts → Demand → Members → Members
 with_condition spec demand ms =
     put (codes "down") (set_data name_of_proc spec.procs demand.down) (
@@ -323,7 +323,7 @@ with_condition spec demand ms =
     put (codes "when") (list_data (want_data spec.factors) demand.wants) (
     put (codes "from") (set_data name_of_conf spec.confs demand.from) ms)))
 
--- what a demand asks of the configuration that is chosen
+-- The members with the requirements of a demand on the chosen configuration.
 abbrev pub with_asked : Parts → Demand → Members → Members
 with_asked spec demand ms =
     put (codes "off") (set_data name_of_app spec.apps demand.off) (

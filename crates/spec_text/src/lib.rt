@@ -1,4 +1,4 @@
-//! The canonical text of a specification is the definition's.
+//! The canonical text of a specification, exactly as its definition has it.
 #![tactic(auto)]
 
 mod values;

@@ -1,4 +1,4 @@
-//! The names of what the items of a specification refer to.
+//! The names of the items to which a specification refers.
 
 ghost use Rattle.std.specs.Prelude.{◌≡◌};
 ghost use Rattle.spec_text.specs.Texts.{name_of_app_mode, name_of_value, name_of_variable, policy_name, source_name};
@@ -6,7 +6,7 @@ ghost use Rattle.spec_text.specs.Texts.{name_of_app_mode, name_of_value, name_of
 use app_model::{mode_name, variable_name};
 use scram_types::{AppId, AppSpec, ConfId, Mode, Policy, Spec, Want};
 
-/// Returns the name of a configuration, or `*` for any.
+/// Returns the name of a configuration, or `*` if there is none.
 pub fn source_name(spec: &Spec, from: Option<ConfId>) -> &str
     ensures { result.now ≡ source_name spec.now.confs from }
 {
@@ -16,7 +16,7 @@ pub fn source_name(spec: &Spec, from: Option<ConfId>) -> &str
     }
 }
 
-/// Returns the name of the required value; no bytes where its factor has no such value.
+/// Returns the name of the required value, or an empty name if its factor has no such value.
 pub fn name_of_value(spec: &Spec, want: Want) -> &str
     ensures { result.now ≡ name_of_value spec.now.factors want.factor.0 want.value }
 {

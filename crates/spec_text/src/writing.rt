@@ -1,4 +1,4 @@
-//! Specifications, as they are written.
+//! The writing of specifications.
 
 ghost use Rattle.std.specs.Prelude.{◌≡◌, ◌≤◌, [], Ok, Some, length, map, IfOk, OnOk};
 ghost use Rattle.serde_json.specs.Data.{put};
@@ -19,13 +19,13 @@ use serde_json::{Map, Value, json};
 use spec_members::names::ByName;
 use std::alloc::{AllocError, Global};
 
-/// Writes the items of the lists of a specification.
+/// A writer of the items of a specification's lists.
 #[derive(Clone, Copy)]
 struct Writer<'a> {
     spec: &'a Spec,
 }
 
-/// Writes the modes of an application of a kind.
+/// A writer of the modes of an application of a kind.
 #[derive(Clone, Copy)]
 struct ModeWriter {
     kind: KindId,
@@ -166,7 +166,7 @@ fn make_names<T, N: Naming<T>>(
     Ok(values)
 }
 
-/// Puts a member of this name into an object: the names of the items whose numbers are in a set.
+/// Writes the names of the items whose numbers are in a set as a member with this name.
 fn put_set<T, N: Naming<T>>(
     members: &mut Map<String, Value>,
     alloc: Global,
@@ -245,7 +245,7 @@ impl Writes<Precondition> for Writer<'_> {
     }
 }
 
-/// Writes the modes of an application, by its number.
+/// A writer of the modes of an application, given its number.
 #[derive(Clone, Copy)]
 struct OnWriter<'a> {
     spec: &'a Spec,
@@ -285,7 +285,7 @@ fn make_on(alloc: Global, spec: &Spec, on: &[Option<Modes>; 8]) -> Result<Vec<Va
     Ok(values)
 }
 
-/// Puts of which environments a demand speaks, and of which configurations it asks something.
+/// Writes the members with the environments and configurations to which a demand applies.
 fn put_condition(
     members: &mut Map<String, Value>,
     alloc: Global,
@@ -304,7 +304,7 @@ fn put_condition(
     Ok(())
 }
 
-/// Puts what a demand asks of the configuration that is chosen.
+/// Writes the members with the requirements of a demand on the chosen configuration.
 fn put_asked(
     members: &mut Map<String, Value>,
     alloc: Global,
@@ -348,7 +348,7 @@ fn make_assumption(alloc: Global, spec: &Spec) -> Result<Value, AllocError>
     json!(in alloc; {"changes": spec.changes, "halts": spec.halts, "window": spec.window})
 }
 
-/// Puts what the rest of the document names.
+/// Writes the members to which the rest of the document refers.
 fn put_named(members: &mut Map<String, Value>, alloc: Global, spec: &Spec) -> Result<(), AllocError>
     ensures { OnOk result (members_view members.new.entries ≡ with_named spec.now (members_view members.old.entries)) }
 {
@@ -366,7 +366,7 @@ fn put_named(members: &mut Map<String, Value>, alloc: Global, spec: &Spec) -> Re
     Ok(())
 }
 
-/// Puts the choice table, the bounds, the start and the goal.
+/// Writes the members of the choice table, the bounds, the start and the goal.
 fn put_table(members: &mut Map<String, Value>, alloc: Global, spec: &Spec) -> Result<(), AllocError>
     ensures { OnOk result (members_view members.new.entries ≡ with_table spec.now (members_view members.old.entries)) }
 {
@@ -379,7 +379,7 @@ fn put_table(members: &mut Map<String, Value>, alloc: Global, spec: &Spec) -> Re
     Ok(())
 }
 
-/// Puts the intervals and the failure assumption.
+/// Writes the members of the intervals and of the failure assumption.
 fn put_limits(
     members: &mut Map<String, Value>,
     alloc: Global,
@@ -406,7 +406,7 @@ fn put_limits(
     Ok(())
 }
 
-/// Puts the version of a specification without demands, and its policy where it is not to retarget.
+/// Writes the members of the version of a specification without demands, and of its policy unless it is to retarget.
 fn put_policy(
     members: &mut Map<String, Value>,
     alloc: Global,
@@ -423,7 +423,7 @@ fn put_policy(
     }
 }
 
-/// Puts the demands, the policy and the version of a specification with demands.
+/// Writes the members of the demands, the policy and the version of a specification with demands.
 fn put_demands(
     members: &mut Map<String, Value>,
     alloc: Global,
@@ -438,7 +438,7 @@ fn put_demands(
     serde_json::put(members, alloc, "scram", json!(in alloc; 3)?)
 }
 
-/// Puts the version, and the policy and the demands where it has them.
+/// Writes the member of the version, and those of the policy and the demands if the version has them.
 fn put_version(
     members: &mut Map<String, Value>,
     alloc: Global,
@@ -463,10 +463,10 @@ fn make_spec(alloc: Global, spec: &Spec) -> Result<Value, AllocError>
     Ok(Value::Object(members))
 }
 
-/// Returns the canonical text of a specification: compact JSON, in version 3 where there are demands, else in version 1
-/// where the policy is to retarget and in version 2 where it is to settle. The places of a configuration and the
-/// applications of a demand stand in the order of applications, sets of processors, applications and configurations in
-/// their orders, and every other list as it is kept.
+/// Returns the canonical text of a specification, which is compact JSON. With demands it is of version 3. Without
+/// demands it is of version 1 if the policy is to retarget, and of version 2 if it is to settle. The places of a
+/// configuration, the applications of a demand, and sets of processors, applications and configurations are in the
+/// order of their items. Every other list keeps its order.
 pub fn write_text(alloc: Global, spec: &Spec) -> Result<Vec<u8>, NoMemory>
     ensures text { IfOk result (λ text. text.items ≡ spec_text spec.now) }
     ensures value { IfOk result (λ text. read text.items ≡ Some (spec_data spec.now)) }
