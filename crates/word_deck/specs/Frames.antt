@@ -1,9 +1,9 @@
--- Where a processor stands in a frame.
+-- The place of a processor in a frame.
 use Rattle.std.specs.Prelude.{◌≡◌, ℕ, ◌≤◌, Some}
 use Rattle.fail_stop.specs.Events.{At, Place, frame_of}
 use Rattle.fail_stop.specs.Flights.{Flight}
 
--- The processor has made n steps of its frame.
+-- The processor has made `n` steps of its frame.
 abbrev pub IsAfter : ℕ → Place → Type 0
 IsAfter n place = place ≡ At (frame_of place) n
 
