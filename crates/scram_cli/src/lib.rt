@@ -1,5 +1,5 @@
-//! The command. Its answer is a function of its words and of the bytes of the files that they name, except for the
-//! cycle of needs that is shown if there are several.
+//! The command. Its answer is a function of its words and of the bytes of the files that they name. Only the cycle of
+//! needs that is shown, if there are several, may differ.
 #![tactic(auto)]
 
 mod command;
