@@ -13,7 +13,7 @@ pub(crate) struct Halt {
     pub step: u32,
 }
 
-/// The numbers of processors, frames and steps of the halts, each of which counts from 0.
+/// The numbers of processors, frames and steps for which there is a halt, each from 0 up.
 #[derive(Clone, Copy, Debug)]
 pub(crate) struct Halts {
     procs: u32,
