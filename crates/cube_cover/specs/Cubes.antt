@@ -24,11 +24,11 @@ pub record HasDigits (v : Env) : Type 0 where
 abbrev pub allows : Cube → Env → ℕ → Bool
 allows cube v x = has_bit cube.bits (4 * x + digit_in v x)
 
--- The cube holds the environment, because the environment's digit is open at each place.
+-- The environment's digit is open in the cube at each place.
 unfoldable pub holds : Cube → Env → Bool
 holds cube v = all_below (allows cube v) 14
 
--- Processor `p` may be up, because digit 0 is open at its place.
+-- Processor `p` may be up, as digit 0 is open at its place.
 abbrev pub may_be_up : Cube → ℕ → Bool
 may_be_up cube p = has_bit cube.bits (4 * (6 + p) + 0)
 

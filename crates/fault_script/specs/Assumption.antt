@@ -46,7 +46,7 @@ is_change_too_many spec script f = is_change_frame spec script f && nat_lt (spec
 abbrev pub brings_too_many_down : Parts → ScriptParts → ℕ → Bool
 brings_too_many_down spec script f = not (f == script.frames) && has_too_many_down spec script (f + 1)
 
--- How frame `f` leaves the assumption, or none if it keeps to it.
+-- The way in which frame `f` leaves the assumption, or none if it does not.
 abbrev pub outside_at : Parts → ScriptParts → ℕ → Option Outside
 outside_at spec script f =
     if brings_too_many_down spec script f then Some (record { frame = f; kind = kind.Halts })

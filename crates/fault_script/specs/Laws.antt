@@ -42,7 +42,7 @@ pub record Shows (spec : Parts) (script : ScriptParts) (f : ℕ) : Type 0 where
 abbrev pub EnvironmentsShow : Type 0
 EnvironmentsShow = (spec : Parts) (script : ScriptParts) → IsSpec spec → Fits spec script → (f : ℕ) → Shows spec script f
 
--- Two scripts say the same up to frame f.
+-- Two scripts have the same entries up to frame `f`.
 pub record AgreeUpTo (f : ℕ) (one other : ScriptParts) : Type 0 where
   pub changes : filter (λ (change : Change). nat_le change.frame f) one.changes ≡ filter (λ (change : Change). nat_le change.frame f) other.changes
   pub halts : filter (λ (halt : HaltAt). nat_le halt.frame f) one.halts ≡ filter (λ (halt : HaltAt). nat_le halt.frame f) other.halts

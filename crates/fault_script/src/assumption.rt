@@ -9,7 +9,8 @@ use crate::times::up_at;
 use crate::walks::{Window, next_window, opening_window};
 use scram_types::{ProcId, Script, Spec};
 
-/// How a script leaves the failure assumption: too many processors are down, or the environment changes too often.
+/// The way in which a script leaves the failure assumption: too many processors are down, or the environment changes
+/// too often.
 #[derive(Clone, Copy, Debug, PartialEq, Eq)]
 pub enum OutsideKind {
     Halts,

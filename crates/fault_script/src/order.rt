@@ -69,8 +69,8 @@ fn has_halted_before(halts: &[HaltAt], proc: ProcId, frame: u32) -> bool
     halts.iter().any(|halt| halt.proc.0 == proc.0 && u64::from(halt.frame) + 2 <= u64::from(frame))
 }
 
-/// Returns whether a restart comes after the preceding ones, by frame and then by the processor's number, is the first
-/// of its processor, and is two frames or more after a halt of it.
+/// Returns whether a restart comes after the preceding ones, by frame and then by the processor's number. It must be
+/// the first of its processor, two frames or more after a halt of it.
 pub fn restart_follows(halts: &[HaltAt], before: &[RestartAt], restart: &RestartAt) -> bool
     ensures { result ≡ restart_follows halts.now before.now restart.now }
 {

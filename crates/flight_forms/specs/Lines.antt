@@ -35,8 +35,8 @@ fly_line number spec rows reports =
     codes "fly " ++ decimal number ++ counts_text rows reports ++ codes " longest " ++ decimal (longest_duration reports)
     ++ codes " final " ++ conf_name spec (last_run spec rows).0 ++ codes "\n"
 
--- The line for a flight that was watched. It has the number of frames of a summary, the configuration that its last row
--- runs, the processors that are up in it, and the number of reconfigurations that have begun.
+-- The line for a flight that was watched. It has the number of frames of a summary, the configuration and the
+-- processors that are up in its last row, and the number of reconfigurations begun.
 abbrev pub watch_line : Parts → Summary → List ℕ
 watch_line spec summary =
     codes "watch frames " ++ decimal summary.frames ++ codes " running " ++ conf_or_dash spec (running_conf summary.running)

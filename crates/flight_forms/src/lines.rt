@@ -58,8 +58,8 @@ pub fn make_fly_line(number: u32, spec: &Spec, flown: &Flown) -> Line
     line
 }
 
-/// Returns the line for a flight that was watched. It has the number of frames of a summary, the configuration that its
-/// last row runs, the processors that are up in it, and the number of reconfigurations that have begun.
+/// Returns the line for a flight that was watched. It has the number of frames of a summary, the configuration and the
+/// processors that are up in its last row, and the number of reconfigurations begun.
 pub fn make_watch_line(spec: &Spec, summary: &Summary) -> Line
     ensures { result ≡ watch_line spec.now summary.now }
 {

@@ -52,8 +52,8 @@ pub record IsShort (m : Flight) (list : List Event) (events : ℕ) (next : Event
   pub count : events ≡ length list
   pub next_is : first_next m at words ≡ Some next
 
--- An answer to a list: the one-thread trace if the list is a whole schedule, the first event that is out of turn, or
--- the next event if the list ends too early.
+-- An answer to a list. It is the one-thread trace if the list is a whole schedule, the first event that is out of turn,
+-- or the next event if the list ends too early.
 abbrev pub AnswersReplay : Parts → ScriptParts → List Event → Result Flown ReplayError → Type 0
 AnswersReplay spec script list (Ok flown) = IsWholeSchedule (flight_of spec script) list × (flown.rows ≡ rows_of spec script)
     × (flown.reports ≡ reports_of spec script)

@@ -126,7 +126,7 @@ pub enum SpecificationForm<N> {
 /// A look at a trace.
 #[derive(Clone, Copy, Debug, PartialEq, Eq)]
 pub enum Look {
-    /// Whether the properties of reconfigurations hold for the trace.
+    /// A judgement by the properties of reconfigurations.
     Props,
     /// A summary of the flight.
     Summary,

@@ -9,7 +9,7 @@ use scram_types::ConfId;
 /// The value of `running` in a summary before the first row, or of a last row that runs no configuration.
 pub const NONE_RUNNING: u8 = 255;
 
-/// What a reader learns about a flight after some of its frames.
+/// The state of a flight after some of its frames, as a reader sees it.
 #[derive(Clone, Copy, Debug, PartialEq, Eq)]
 pub struct Summary {
     /// The number of frames that have ended, 0 to 20,000.
@@ -35,8 +35,8 @@ impl Summary {
     }
 }
 
-/// Returns the word of a summary: `frames` in bits 0 to 15, `begun` in bits 16 to 31, `running` in bits 32 to 39 and `up`
-/// in bits 40 to 47.
+/// Returns the word of a summary. It has `frames` in bits 0 to 15, `begun` in bits 16 to 31, `running` in bits 32 to 39
+/// and `up` in bits 40 to 47.
 pub fn summary_encode(summary: &Summary) -> u64
     ensures { result ≡ summary_encode summary.now }
 {

@@ -1,6 +1,6 @@
 //! Flights on threads. A row of `rows.txt` is a form with its words. The specifications and scripts are files beside
-//! it, and blank lines separate the rows. `fly SPEC SCRIPT` flies the mission on one thread and many times on threads,
-//! over words and over a lock, with a thread for each processor or for some of them. It writes the history of each
+//! it, and blank lines separate the rows. `fly SPEC SCRIPT` flies the mission on one thread, and many times on threads
+//! over words and over a lock. Each processor has a thread, or only some of them have. It writes the history of each
 //! flight over the lock, reads it and flies by it again. It prints how often each result was that of one thread. `steps
 //! COUNT SPEC SCRIPT` does so once for each step below `COUNT`, which replaces `STEP` in the script, and compares all
 //! with the one thread of step 0. `meet SPEC SCRIPT` flies the mission over both decks with boxes that count their

@@ -23,8 +23,8 @@ use word_deck::WordFlight;
 /// for long.
 const MAX_READS: u32 = 10_000_000;
 
-/// The result of a reader. It has whether each summary was that of the flight on one thread and none was older than the
-/// preceding one, the number of different summaries, and the number of frames of the last one.
+/// The result of a reader. It says whether each summary was that of the flight on one thread and none was older than
+/// the preceding one. It has the number of different summaries, and the number of frames of the last one.
 #[derive(Clone, Copy, Debug)]
 struct Seen {
     right: bool,

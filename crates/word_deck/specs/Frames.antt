@@ -7,6 +7,6 @@ use Rattle.fail_stop.specs.Flights.{Flight}
 abbrev pub IsAfter : ℕ → Place → Type 0
 IsAfter n place = place ≡ At (frame_of place) n
 
--- Processor p halts in frame f only after the first n stores.
+-- Processor `p` halts in frame `f` only after the first `n` stores.
 abbrev pub HaltsLate : Flight → ℕ → ℕ → ℕ → Type 0
 HaltsLate m p f n = (s : ℕ) → m.halt p f ≡ Some s → n ≤ s

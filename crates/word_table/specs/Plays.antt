@@ -1,4 +1,4 @@
--- What a step shows, as a relation between the step, the seat before it, the number found and the seat after it.
+-- The effects of steps, as relations between a step, the seat before it, the number found and the seat after it.
 use Rattle.std.specs.Prelude.{◌≡◌, ◌<◌, ℕ, Bool, false, List, [], ◌∷◌, ◌++◌, map, slice_index, None, IfSome, nat_lt}
 use Rattle.std.specs.Bool.{MatchBool}
 use Rattle.atomic_table.specs.Table.{Me, Step}
@@ -52,7 +52,7 @@ AwaitsRelease m i (Runs p f n ∷ rest) = (i ≡ index_of ReleaseWord) × Waits 
 AwaitsRelease m i (Stopped p h ∷ rest) = (i ≡ index_of ReleaseWord) × Waits m p (Halted h)
 AwaitsRelease m i (Kernel k j ∷ rest) = ⊥
 
--- The first actor is the kernel, and the word at place i is the end word of the processor that it notes next.
+-- The first actor is the kernel, and the word at place `i` is the end word of the processor that it notes next.
 abbrev pub AwaitsEnd : Flight → ℕ → List Actor → Type 0
 AwaitsEnd m i [] = ⊥
 AwaitsEnd m i (Runs p f n ∷ rest) = ⊥

@@ -4,8 +4,8 @@
 //! A wake is a system call, so it is made only if a thread sleeps. A sleeper counts itself before it loads its word for
 //! the last time, and the writer of the word loads the count after the store. All these steps are sequentially
 //! consistent. So either the last load comes after the store and finds it, or the count was raised before the store. In
-//! the second case the writer finds it raised and wakes the sleeper, which parks only while the word has the value that
-//! it loaded.
+//! the second case the writer finds it raised and wakes the sleeper. A sleeper parks only while the word has the value
+//! that it loaded.
 
 ghost use Rattle.std.specs.Prelude.{◌≡◌, ◌<◌};
 ghost use Rattle.fail_stop.specs.Listed.{places_of_words};
