@@ -24,7 +24,7 @@ use Rattle.cube_cover.proofs.Closed.{digit_factor, digit_processor}
 use Rattle.cube_cover.proofs.Counts.{count_never, count_product, sum_both, sum_most, sum_once, sum_same, sum_zero}
 use Rattle.cube_cover.proofs.Holders.{held_before, held_by_none, held_once, held_taken}
 
--- what is held, by factors and by processors
+-- the environments that are held, by factors and by processors
 
 all_parts : (test : ℕ → Bool) (a n : ℕ) → all_below test (a + n) ≡ (all_below test a && all_below (λ k. test (a + k)) n)
 all_parts test a zero = let e : a + 0 ≡ a = omega arith in rw (e) (keep (all_below test a))

@@ -23,7 +23,8 @@ unfoldable pub is_ruled : List Choice → ConfId → (ℕ → Bool) → Env → 
 is_ruled [] c passes v = false
 is_ruled (rule ∷ rules) c passes v = if rule_fits c v rule then passes rule.to.0 else is_ruled rules c passes v
 
--- In scope, the regions cover the cubes in which a rule of configuration `c` fits, and the rest is where no rule fits.
+-- In scope, the regions hold the environments of the cubes that a rule of configuration `c` fits, by its target, and
+-- the rest holds those that no rule fits.
 pub record AreRegions (spec : Parts) (c : ConfId) (cubes : List Cube) (ruled : List Region) (unruled : List Cube) : Type 0 where
   pub targets : (passes : ℕ → Bool) → Agree spec (is_marked ruled passes) (λ v. is_in cubes v && is_ruled spec.rules c passes v)
   pub rest : Agree spec (is_in unruled) (λ v. is_in cubes v && not (has_rule spec c v))

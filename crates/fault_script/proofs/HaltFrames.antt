@@ -47,7 +47,7 @@ falls script p f up down = by_bool (halts_in script p f) (λ t. t) (λ quiet. tr
 
 -- the frame that is returned
 
--- How a frame leaves the assumption, by its two tests.
+-- The way in which a frame leaves the assumption, by its two tests.
 abbrev left_by : Bool → Bool → ℕ → Option Outside
 left_by a b k = if a then Some (record { frame = k; kind = kind.Halts }) else (if b then Some (record { frame = k; kind = kind.Changes }) else None)
 

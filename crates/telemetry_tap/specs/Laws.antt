@@ -10,7 +10,7 @@ use Rattle.telemetry_tap.specs.declared.summaries.Summary.{Summary}
 use Rattle.telemetry_tap.specs.Summaries.{summary_begun, first_rows, running_number, summary_after, summary_up}
 use Rattle.telemetry_tap.specs.Words.{FitsWord, summary_decode, summary_encode}
 
--- The number of what the last of these rows runs, or `before` if there is no row.
+-- The number of the configuration that the last of these rows runs, or `before` if there is no row.
 abbrev pub last_running : Parts → ℕ → List Row → ℕ
 last_running spec before [] = before
 last_running spec before (row ∷ rows) = last_running spec (running_number (running spec row.acts)) rows

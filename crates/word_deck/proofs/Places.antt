@@ -16,7 +16,7 @@ use Rattle.word_deck.specs.Crews.{comes_back, is_done, place_after, place_flown,
 use Rattle.word_deck.specs.declared.turns.Turn.{Turn}
 use Rattle.word_deck.specs.declared.turns.Turn.TheVariants.{Worked, NotYet, Finished}
 
--- which processors are done
+-- the processors that are done
 
 late : (h : ℕ) (o : Option ℕ) → not (comes_back h o) ≡ true → (r : ℕ) → o ≡ Some r → r ≤ h
 late h None e r s = cc
