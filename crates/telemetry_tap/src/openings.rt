@@ -15,8 +15,8 @@ use scram_types::NoMemory;
 use std::alloc::Global;
 
 impl<'a> Tap<'a> {
-    /// Opens a tap for the flight of a mission, with a writer that has published no row and 0 to 8 readers that have seen
-    /// the summary of no row.
+    /// Opens a tap for the flight of a mission. The writer has published no row, and the 0 to 8 readers have seen the
+    /// summary of no row.
     ///
     /// # Errors
     ///
