@@ -1,4 +1,4 @@
--- Two documents, read and written.
+-- A specification and a script that are read and written.
 use Rattle.std.specs.Prelude.{◌≡◌, ◌++◌, ℕ, List, [], Ok}
 use Rattle.scram_types.specs.Scripts.{ScriptParts}
 use Rattle.scram_types.specs.Specification.{Parts}
@@ -7,17 +7,17 @@ use Rattle.reconf_spec.specs.Documents.{spec_of}
 use Rattle.fault_script.specs.Reading.{script_of}
 use Rattle.mission_gen.specs.Specifications.{mission_text}
 
--- the bytes are this specification and this script
+-- The bytes encode this specification and this script.
 pub record IsRead (spec_bytes script_bytes : List ℕ) (spec : Parts) (script : ScriptParts) : Type 0 where
   pub spec_reads : spec_of spec_bytes ≡ Ok spec
   pub script_reads : script_of spec script_bytes ≡ Ok script
 
--- The canonical texts of both went out, after all that was taken before.
+-- The canonical texts of both were written, after everything that the sink took before.
 pub record AreSent (spec : Parts) (script : ScriptParts) (old new : SinkState) : Type 0 where
   pub sent : new.sent ≡ taken old ++ mission_text spec script
   pub held : new.held ≡ []
 
--- The canonical texts of what the bytes are went out.
+-- The canonical text of each value that the bytes encode was written.
 pub record IsPrinted (spec_bytes script_bytes : List ℕ) (old new : SinkState) : Type 0 where
   pub spec : Parts
   pub script : ScriptParts

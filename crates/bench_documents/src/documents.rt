@@ -1,4 +1,4 @@
-//! Two documents, read and written.
+//! Reading and writing a specification and a script.
 
 ghost use Rattle.std.specs.Prelude.{◌≡◌, ◌∷◌, [], IfOk, OnOk};
 ghost use Rattle.scram_io.specs.Outside.{Grew};
@@ -14,7 +14,7 @@ use scram_types::{NoMemory, Script, Spec};
 use std::alloc::Global;
 use thiserror::Error;
 
-/// Why nothing was read or written.
+/// The reason why nothing was read or written.
 #[derive(Debug, Drop, Error)]
 pub enum Refusal<'a> {
     #[error("usage")]
@@ -29,7 +29,7 @@ pub enum Refusal<'a> {
     Output(#[from] SinkFault),
 }
 
-/// Returns the bytes of a file, of which no document has more than a script.
+/// Returns the bytes of a file, which may be as long as a script.
 pub fn load<'a, F: Files>(
     alloc: Global,
     files: &mut F,
@@ -64,7 +64,7 @@ pub fn read<'a>(alloc: Global, spec: &[u8], script: &[u8]) -> Result<(Spec, Scri
     }
 }
 
-/// Reads both documents once, writes them this number of times, at least once, and has their canonical texts go out.
+/// Reads both documents once, writes them `times` times, at least once, and prints their canonical texts.
 pub fn print<'a, K: Sink>(
     alloc: Global,
     spec: &[u8],

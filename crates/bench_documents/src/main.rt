@@ -1,7 +1,7 @@
 //! Reads or writes a specification and a script a given number of times, so that one reading or writing can be timed.
 //!
-//! `read SPECIFICATION SCRIPT TIMES` reads both documents this number of times. `write SPECIFICATION SCRIPT TIMES`
-//! reads both once, writes both this number of times, at least once, and prints the canonical texts, a line each.
+//! `read SPECIFICATION SCRIPT TIMES` reads both documents `TIMES` times. `write SPECIFICATION SCRIPT TIMES` reads both
+//! once, writes both `TIMES` times, at least once, and prints the canonical texts, one on each line.
 #![tactic(auto)]
 
 mod documents;
@@ -26,7 +26,7 @@ fn main(rt: HostRuntime) -> io::Result<ExitCode> {
     }
 }
 
-/// Does what the words ask for.
+/// Answers the words.
 fn answer<'a>(rt: &HostRuntime, words: &'a [String]) -> Result<(), Refusal<'a>> {
     let [purpose, spec, script, times] = words else {
         return Err(Refusal::Usage);

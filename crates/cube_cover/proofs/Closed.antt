@@ -28,7 +28,7 @@ pub holds_none : (v : Env) → holds (record { bits = 0 }) v ≡ false
 unfolding holds
 holds_none v = all_false (allows (record { bits = 0 }) v) 14 0 (omega arith) (has_none (4 * 0 + digit_in v 0))
 
--- where a cube holds an environment, some digit is open at each place
+-- if a cube holds an environment, some digit is open at each place
 pub open_at : (cube : Cube) (x : ℕ) (v : Env) → x < 14 → HasDigits v → holds cube v ≡ true → bit_and cube.bits (field_of x) ≡ 0 → true ≡ false
 unfolding holds
 open_at cube x v low digits held none =

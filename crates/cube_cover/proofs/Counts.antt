@@ -84,7 +84,7 @@ sum_parted test part (suc n) m inside =
         count_same (λ j. t && (p == j)) (λ j. (p == j && t) || false) m (λ j small. same_part t (p == j))
         ∙ count_more (λ j. false) p m t less (λ e. refl) ∙ ap (λ (n : ℕ). n + once t) (count_none m) ∙ (omega arith)
 
--- one number more is counted, or not
+-- one number is counted, or not
 pub count_pass : (test : ℕ → Bool) (n m : ℕ) → m ≡ count_below test n → test n ≡ true → m + 1 ≡ count_below test (n + 1)
 count_pass test n m is passes = let next : n + 1 ≡ suc n = omega arith in rw (next, is, passes) refl
 

@@ -1,4 +1,4 @@
--- How many environments in scope a cube holds, and cubes that hold no environment twice.
+-- The number of environments in scope that a cube holds, and cubes that hold no environment twice.
 use Rattle.std.proofs.Common.{◌≡◌, ◌∙◌, ℕ, zero, suc, ◌+◌, ◌-◌, ◌*◌, ◌^◌, ◌<◌, ◌≤◌, ◌/◌, ◌%◌, refl, ap, sym, arith, Bool, true, false, ◌&&◌, List, [], ◌∷◌, ◌++◌, length, drop, take, get_or}
 use mathlib.Core.Logic.{inl, inr}
 use Rattle.std.specs.Prelude.{replicate, slice_index, if◌then◌else◌}
@@ -24,7 +24,7 @@ use Rattle.cube_cover.proofs.Closed.{digit_factor, digit_processor}
 use Rattle.cube_cover.proofs.Counts.{count_never, count_product, sum_both, sum_most, sum_once, sum_same, sum_zero}
 use Rattle.cube_cover.proofs.Holders.{held_before, held_by_none, held_once, held_taken}
 
--- what is held, by factors and by processors
+-- the environments that are held, by factors and by processors
 
 all_parts : (test : ℕ → Bool) (a n : ℕ) → all_below test (a + n) ≡ (all_below test a && all_below (λ k. test (a + k)) n)
 all_parts test a zero = let e : a + 0 ≡ a = omega arith in rw (e) (keep (all_below test a))
@@ -64,7 +64,7 @@ open_list cube (a ∷ b ∷ c ∷ d ∷ []) six = absurd (omega arith)
 open_list cube (a ∷ b ∷ c ∷ d ∷ e ∷ []) six = absurd (omega arith)
 open_list cube (a ∷ b ∷ c ∷ d ∷ e ∷ f ∷ g ∷ more) six = absurd (omega arith)
 
--- a cube holds an environment where its factors' values and its processors are open
+-- a cube holds an environment if its factors' values and its processors are open
 pub held_by_parts : (cube : Cube) (v : Env) → length v.factors ≡ 6 → holds cube v ≡ (are_open cube 0 v.factors && allows_up cube v.up)
 unfolding holds
 held_by_parts cube v six =
@@ -143,7 +143,7 @@ module _ (spec : Parts) (made : IsSpec spec) (cube : Cube) where
       turn true false u = refl
       turn false a u = refl
 
-  -- how many environments in scope the cube holds
+  -- the number of environments in scope that the cube holds
   pub size_counted : (sets ways : ℕ) → are_open cube (length spec.factors) zeros ≡ true → sets ≡ count_below (is_down_held spec cube) (2 ^ length spec.procs)
       → ways ≡ open_ways cube 0 spec.factors → sets * ways ≡ count_where spec (holds cube)
   size_counted sets ways shut sets_are ways_are =
@@ -156,7 +156,7 @@ module _ (spec : Parts) (made : IsSpec spec) (cube : Cube) where
 
 -- cubes that hold no environment twice
 
--- by how many of the cubes environment number n is held, where it is in scope
+-- the number of cubes that hold environment number n, or 0 if it is not in scope
 pub held_at : Parts → List Cube → ℕ → ℕ
 held_at spec cubes n = if is_number_in_scope spec n then holders cubes (numbered spec n) else 0
 

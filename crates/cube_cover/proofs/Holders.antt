@@ -1,4 +1,4 @@
--- How many cubes hold an environment.
+-- The number of cubes that hold an environment.
 use Rattle.std.proofs.Common.{◌≡◌, ◌∙◌, ℕ, zero, suc, ◌+◌, ◌<◌, ◌≤◌, refl, ap, sym, arith, Bool, true, false, not, ◌&&◌, ◌||◌, List, [], ◌∷◌, ◌++◌, length, take, get_or}
 use Rattle.std.specs.Prelude.{nat_lt, if◌then◌else◌}
 use Rattle.std.proofs.lemmas.List.{take_more}
@@ -27,7 +27,7 @@ held_before [] (suc k) v = omega arith
 held_before (cube ∷ cubes) zero v = omega arith
 held_before (cube ∷ cubes) (suc k) v = let before = held_before cubes k v in omega arith
 
--- an environment is held where some cube holds it
+-- an environment is held if some cube holds it
 pub held_in : (cubes : List Cube) (v : Env) → is_in cubes v ≡ nat_lt 0 (holders cubes v)
 unfolding holders is_in
 held_in [] v = refl
@@ -37,7 +37,7 @@ held_in (cube ∷ cubes) v = first (holds cube v) (is_in cubes v) (holders cubes
     first true t n e = sym (below_test 0 (once true + n) (omega arith))
     first false t n e = let same : n ≡ once false + n = omega arith in e ∙ ap (nat_lt 0) same
 
--- where no environment is held twice, as many cubes hold it as it passes the test of being held
+-- if no environment is held twice, the number of cubes that hold it is 1 or 0, as it is held or not
 pub held_once : (cubes : List Cube) (v : Env) → holders cubes v ≤ 1 → holders cubes v ≡ once (is_in cubes v)
 held_once cubes v most = count (holders cubes v) most ∙ ap once (sym (held_in cubes v))
   where
@@ -52,20 +52,20 @@ pub add_none : (n : ℕ) (b : Bool) → b ≡ false → n ≡ n + once b
 add_none n true e = absurd (cc)
 add_none n false e = omega arith
 
--- what is cut off at places before, and at one more
+-- the parts that are cut off at the first places, and at the next place
 pub cut_more : (n : ℕ) (c s t : Bool) → (n + once (c && not s)) + once ((c && s) && not t) ≡ n + once (c && not (s && t))
 cut_more n true true t = omega arith
 cut_more n true false t = omega arith
 cut_more n false s t = omega arith
 
--- a part of a list's holders, and of one cube more
+-- a part of a list's holders, and of the next cube
 pub part_more : (n : ℕ) (h p : Bool) → (if p then n else 0) + once (h && p) ≡ (if p then n + once h else 0)
 part_more n true true = refl
 part_more n true false = refl
 part_more n false true = refl
 part_more n false false = refl
 
--- what is held in a split
+-- the environments that are held in a split
 
 kept_whole : (b : Bool) → b ≡ (b && true)
 kept_whole true = refl

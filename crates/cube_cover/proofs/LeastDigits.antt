@@ -1,4 +1,4 @@
--- The environment with the least digits that a cube has open has the least number of all that the cube holds.
+-- The environment with the smallest open digits of a cube has the smallest number of all that the cube holds.
 use Rattle.std.proofs.Common.{◌≡◌, ◌≢◌, ◌∙◌, ℕ, zero, suc, ◌+◌, ◌*◌, ◌-◌, ◌^◌, ◌<◌, ◌≤◌, refl, ap, sym, subst, arith, Bool, true, false, not, ◌||◌, List, [], ◌∷◌, length}
 use mathlib.Core.Logic.{inl, inr}
 use Rattle.std.specs.Prelude.{◌==◌, slice_index, nat_lt, if◌then◌else◌}
@@ -22,7 +22,7 @@ use Rattle.cube_cover.specs.Leasts.{belongs, least_digit, least_env}
 use Rattle.cube_cover.proofs.Closed.{digit_factor, digit_processor}
 use Rattle.cube_cover.proofs.Scopes.{has_digits, is_digit_there}
 
--- sums that grow with what is added
+-- sums that grow with their summands
 
 more_or_same : (a b : Bool) (m : ℕ) → (a ≡ true → b ≡ true) → (if a then m else 0) ≤ (if b then m else 0)
 more_or_same true b m h = rw (h refl) (omega arith)
@@ -53,7 +53,7 @@ digits_grow (f ∷ fs) (a ∷ as_) (b ∷ bs) same h =
     let product = mul-le a (combinations fs) b (combinations fs) first (omega arith) in
     omega (arith, product, rest)
 
--- the least digit that is open
+-- the smallest digit that is open
 
 IsLeastDigit : Cube → ℕ → ℕ → Type 0
 IsLeastDigit cube x d = (least_digit cube x ≤ d) × (has_bit cube.bits (4 * x + least_digit cube x) ≡ true)
@@ -270,7 +270,7 @@ module _ (spec : Parts) (made : IsSpec spec) (cube : Cube) where
           ap (λ (y : ℕ). has_bit cube.bits (4 * y + digit_in (least_env spec cube) y)) (sym split) ∙ processor_held (x - 6) (omega arith)
     ])
 
-  -- so it is found exactly where there is one
+  -- so it is found if and only if there is one
 
   pub found : (env : Env) → env ≡ least_env spec cube → belongs spec env ≡ true → holds cube env ≡ true → in_scope spec env ≡ true → IsLeast spec (λ v. holds cube v) env
   found env is belonging held scope =

@@ -28,7 +28,7 @@ pub marks_one : (regions : List Region) (region : Region) (passes : ℕ → Bool
 unfolding is_marked
 marks_one regions region passes v = list_any-append (is_held passes v) regions (region ∷ []) ∙ ap (λ (b : Bool). list_any (is_held passes v) regions || b) (or-false (is_held passes v region))
 
--- a cube more with its target
+-- a cube is added with its target
 
 spread : (m t h p : Bool) → ((m || (t && p)) || (p && h)) ≡ (m || ((t || h) && p))
 spread true t h p = refl
@@ -61,7 +61,7 @@ picked_more regions k d passes mid after low so_far more v =
     more v ∙ ap (λ (b : Bool). b || is_held passes v (get_or regions k d)) (so_far v)
     ∙ sym (ap (λ (rs : List Region). is_marked rs passes v) (take_more regions k d low) ∙ marks_one (take k regions) (get_or regions k d) passes v)
 
--- what a rule takes
+-- the environments that a rule takes
 
 both_parts : (o f r p : Bool) → ((o && (f && p)) || ((o && not f) && r)) ≡ (o && (if f then p else r))
 both_parts true true r true = refl

@@ -37,14 +37,14 @@ not_both false h b e = refl
 pub both_outside : (met a h b : Bool) → met ≡ a → a ≡ false → (h && b) ≡ ((not met && h) && b)
 both_outside met a h b is e = rw (is, e) refl
 
--- two parts of a list and one item more
+-- two parts of a list and the next item
 either_part : (t c h : Bool) → ((t && h) || (c && h)) ≡ ((t || c) && h)
 either_part true c true = refl
 either_part true true false = refl
 either_part true false false = refl
 either_part false c h = refl
 
--- one region more
+-- the next region
 pub marked_more : (regions : List Region) (by : Cube) (passes : ℕ → Bool) (k : ℕ) (d : Region) (v : Env) → k < length regions
     → ((is_marked (take k regions) passes v && holds by v) || (is_held passes v (get_or regions k d) && holds by v)) ≡ (is_marked (take (k + 1) regions) passes v && holds by v)
 marked_more regions by passes k d v low =
@@ -70,7 +70,7 @@ missed spec made i demand regions by met known all speaks is asks v scope =
         ap (λ (n : ℕ). has_bit n (choose spec i v).0) is ∙ has_bits (λ c. is_met spec demand (conf_id c)) 12 (choose spec i v).0 low
         ∙ ap (is_met spec demand) (same_conf (conf_id (choose spec i v).0) (choose spec i v) refl)
 
--- one demand more
+-- the next demand
 
 in_pushed : {A : Type 0} (xs : List A) (x : A) (k : ℕ) (y : A) → slice_get (xs ++ x ∷ []) k ≡ Some y → (slice_get xs k ≡ Some y) ⊎ ((k ≡ length xs) × (x ≡ y))
 in_pushed [] x zero y h = inr (refl, same_some x y h)
@@ -78,7 +78,7 @@ in_pushed {A} [] x (suc k) y h = let past = slice_get_within {A = A} [] k y h in
 in_pushed (z ∷ xs) x zero y h = inl h
 in_pushed (z ∷ xs) x (suc k) y h = elim (in_pushed xs x k y h) [ inl before ↦ inl before | inr last ↦ inr (ap suc last.0, last.1) ]
 
--- what is found of the demands so far
+-- the environments that are found for the first demands
 abbrev pub AreFound : Parts → ConfId → List (Option Env) → Type 0
 AreFound spec i found = (k : ℕ) (demand : Demand) (env : Option Env) → slice_get spec.demands k ≡ Some demand → slice_get found k ≡ Some env → IsLeastEnv spec (misses spec demand i) env
 

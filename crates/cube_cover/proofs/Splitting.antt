@@ -15,7 +15,7 @@ use Rattle.cube_cover.proofs.Scopes.{has_digits}
 pub digits_in_scope : (spec : Parts) → IsSpec spec → (v : Env) → IsInScope spec v → HasDigits v
 digits_in_scope spec made v scope = has_digits spec made v scope.belongs
 
--- where no digit is left at a place, nothing is held
+-- if no digit is left at a place, nothing is held
 pub shut : (cube : Cube) (v : Env) (is_open : Bool) → is_open ≡ false → (holds cube v ≡ true → is_open ≡ true) → holds cube v ≡ false
 shut cube v is_open e h = by_bool (holds cube v) (λ t. let clash : true ≡ false = sym (h t) ∙ e in absurd (cc)) (λ f. f)
 
@@ -35,7 +35,7 @@ module _ (spec : Parts) (cube by rest next : Cube) (x : ℕ) where
       ∙ cut_more (holders old v) (holds cube v) (all_below (allows by v) x) (allows by v x)
       ∙ ap (λ (n : ℕ). holders old v + once (holds cube v && not (all_below (allows by v) n))) (plus_one x)
 
--- one cube more: of each cube the part that a test names
+-- the next cube, of which the part that passes a test is added
 pub parts_more : (spec : Parts) (cubes : List Cube) (k : ℕ) (d : Cube) (part : Env → Bool) (old new : List Cube) → k < length cubes
     → ((v : Env) → IsInScope spec v → holders old v ≡ (if part v then holders (take k cubes) v else 0)) → Gain spec old new (λ v. holds (get_or cubes k d) v && part v)
     → (v : Env) → IsInScope spec v → holders new v ≡ (if part v then holders (take (k + 1) cubes) v else 0)
@@ -43,7 +43,7 @@ parts_more spec cubes k d part old new low before gain v scope =
     gain v scope ∙ ap (λ (n : ℕ). n + once (holds (get_or cubes k d) v && part v)) (before v scope)
     ∙ part_more (holders (take k cubes) v) (holds (get_or cubes k d) v) (part v) ∙ ap (λ (n : ℕ). if part v then n else 0) (sym (held_taken cubes k d v low))
 
--- what lies outside of a cube, as what passes the test of not being held
+-- the environments outside of a cube, by the test of not being held
 pub outside_test : (n : ℕ) (b : Bool) → (if not b then n else 0) ≡ (if b then 0 else n)
 outside_test n true = refl
 outside_test n false = refl

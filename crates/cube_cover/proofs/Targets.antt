@@ -28,7 +28,7 @@ use Rattle.cube_cover.specs.Regions.{AreAll, AreRegions, HoldsMarked, MarksMore,
 use Rattle.cube_cover.proofs.Holders.{split_beyond}
 use Rattle.cube_cover.proofs.Unions.{least_either, least_same}
 
--- what is chosen exists
+-- the chosen configuration exists
 
 pick_inside : (n : ℕ) (first : Bool) (x y : ConfId) → x.0 < n → y.0 < n → (if first then x else y).0 < n
 pick_inside n true x y a b = a

@@ -14,7 +14,7 @@ use Rattle.cube_cover.specs.declared.cubes.Cube.{Cube}
 use Rattle.cube_cover.specs.Covers.{IsLeast, IsLeastEnv, earlier_env}
 use Rattle.cube_cover.specs.Cubes.{Agree, holds, is_in}
 
--- the least of two
+-- the smallest of two
 
 either_false : (a b : Bool) → a ≡ false → b ≡ false → (a || b) ≡ false
 either_false true b e f = e
@@ -69,7 +69,7 @@ least_same spec s t (Some f) agree a = record {
   least = λ v known scope test. a.least v known scope (agree v (record { belongs = known; scope = scope }) ∙ test);
 }
 
--- a cube more
+-- the next cube
 
 pub in_none : (v : Env) → is_in [] v ≡ false
 unfolding is_in

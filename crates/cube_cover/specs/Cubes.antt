@@ -1,4 +1,4 @@
--- Cubes of environments, and what they hold.
+-- Cubes of environments, and the environments that they hold.
 use Rattle.std.specs.Prelude.{◌≡◌, ℕ, ◌+◌, ◌-◌, ◌*◌, ◌^◌, ◌<◌, ◌≤◌, Bool, true, ◌&&◌, ◌||◌, ◌==◌, nat_lt, List, [], ◌∷◌, length, if◌then◌else◌}
 use Rattle.std.specs.List.{list_any}
 use Rattle.scram_types.specs.declared.rows.Env.{Env}
@@ -9,8 +9,8 @@ use Rattle.choice_table.specs.Environments.{IsEnv, factor_in, in_scope, is_up_in
 use Rattle.choice_table.specs.Numbering.{value_count}
 use Rattle.cube_cover.specs.declared.cubes.Cube.{Cube}
 
--- The digit of an environment at a place: places 0 to 5 are the factors, with their values; place 6 + p is processor p,
--- with 0 where it is up and 1 where it is down.
+-- The digit of an environment at place `x`. Places 0 to 5 are the factors, and the digit is the factor's value. Place
+-- `6 + p` is processor `p`, with digit 0 if it is up and 1 if it is down.
 unfoldable pub digit_in : Env → ℕ → ℕ
 digit_in v x = if nat_lt x 6 then factor_in v x else (if is_up_in v (x - 6) then 0 else 1)
 
@@ -20,15 +20,15 @@ pub record HasDigits (v : Env) : Type 0 where
   pub past : (x : ℕ) → 6 ≤ x → factor_in v x ≡ 0
   pub few : v.up < 256
 
--- The environment's digit at place x is open.
+-- The digit of the environment at place `x` is open in the cube.
 abbrev pub allows : Cube → Env → ℕ → Bool
 allows cube v x = has_bit cube.bits (4 * x + digit_in v x)
 
--- The cube holds the environment: its digit is open at each place.
+-- The environment's digit is open in the cube at each place.
 unfoldable pub holds : Cube → Env → Bool
 holds cube v = all_below (allows cube v) 14
 
--- Processor p may be up: digit 0 is open at its place.
+-- Processor `p` may be up, as digit 0 is open at its place.
 abbrev pub may_be_up : Cube → ℕ → Bool
 may_be_up cube p = has_bit cube.bits (4 * (6 + p) + 0)
 
@@ -36,21 +36,21 @@ may_be_up cube p = has_bit cube.bits (4 * (6 + p) + 0)
 unfoldable pub is_in : List Cube → Env → Bool
 is_in cubes v = list_any (λ (cube : Cube). holds cube v) cubes
 
--- 1 where a test passes, else 0.
+-- 1 if a test passes, else 0.
 abbrev pub once : Bool → ℕ
 once test = if test then 1 else 0
 
--- How many of the cubes hold the environment.
+-- The number of cubes that hold the environment.
 unfoldable pub holders : List Cube → Env → ℕ
 holders [] v = 0
 holders (cube ∷ cubes) v = once (holds cube v) + holders cubes v
 
--- An environment can have digit d at place x.
+-- An environment can have digit `d` at place `x`.
 unfoldable pub is_digit : Parts → ℕ → ℕ → Bool
 is_digit spec x d =
     if nat_lt x 6 then (d == 0 || nat_lt d (value_count spec.factors x)) else (d == 1 || (d == 0 && nat_lt x (length spec.procs + 6)))
 
--- The bits of all digits at place x.
+-- The bits of all digits at place `x`.
 unfoldable pub field_of : ℕ → ℕ
 field_of x = 15 * 2 ^ (4 * x)
 
@@ -63,11 +63,13 @@ pub record IsInScope (spec : Parts) (v : Env) : Type 0 where
 abbrev pub Agree : Parts → (Env → Bool) → (Env → Bool) → Type 0
 Agree spec one other = (v : Env) → IsInScope spec v → one v ≡ other v
 
--- Of each environment in scope, cubes hold one more than before where it passes a test.
+-- Each environment in scope is held by one cube more than before if it passes a test, and by the same number of cubes
+-- otherwise.
 abbrev pub Gain : Parts → List Cube → List Cube → (Env → Bool) → Type 0
 Gain spec before after test = (v : Env) → IsInScope spec v → holders after v ≡ holders before v + once (test v)
 
--- In scope, two lists hold what lies inside and outside of a cube, each environment by as many cubes as before.
+-- In scope, the two lists hold the parts of the cubes inside and outside of `by`. Each environment is held by the same
+-- number of cubes as before.
 pub record IsSplit (spec : Parts) (cubes : List Cube) (by : Cube) (inside outside : List Cube) : Type 0 where
   pub within : (v : Env) → IsInScope spec v → holders inside v ≡ (if holds by v then holders cubes v else 0)
   pub beyond : (v : Env) → IsInScope spec v → holders outside v ≡ (if holds by v then 0 else holders cubes v)

@@ -9,17 +9,17 @@ use Rattle.choice_table.specs.Choices.{choose}
 use Rattle.choice_table.specs.Demands.{asks_of, is_met, speaks_of}
 use Rattle.cube_cover.specs.Covers.{IsLeastEnv}
 
--- The table misses a demand from configuration i: it speaks of the environment and asks of i, and what is chosen does
--- not meet it.
+-- The table misses a demand from configuration `i`. The demand speaks of the environment and asks something of `i`, and
+-- the chosen configuration does not meet it.
 abbrev pub misses : Parts → Demand → ConfId → Env → Bool
 misses spec demand i v = asks_of demand i && speaks_of demand v && not (is_met spec demand (choose spec i v))
 
--- For each demand the least environment in which the table misses it from configuration i.
+-- For each demand, the first environment, by number, in which the table misses the demand from configuration `i`.
 pub record AreMisses (spec : Parts) (i : ConfId) (found : List (Option Env)) : Type 0 where
   pub all : length found ≡ length spec.demands
   pub least : (k : ℕ) (demand : Demand) (env : Option Env) → slice_get spec.demands k ≡ Some demand → slice_get found k ≡ Some env
       → IsLeastEnv spec (misses spec demand i) env
 
--- A configuration is not in a set that is kept as bits.
+-- Configuration `c` is not in a set of configurations, given as bits.
 abbrev pub is_outside : ℕ → ℕ → Bool
 is_outside set c = not (has_bit set c)

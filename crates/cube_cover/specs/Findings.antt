@@ -1,4 +1,4 @@
--- The outcome of a target where it is chosen.
+-- The outcome of one target over the environments in which it is chosen.
 use Rattle.std.specs.Prelude.{◌≡◌, ℕ, Bool, true, not, ◌&&◌, ◌==◌}
 use Rattle.scram_types.specs.declared.ids.ConfId.{ConfId}
 use Rattle.scram_types.specs.declared.rows.Env.{Env}
@@ -8,19 +8,20 @@ use Rattle.choice_table.specs.Choices.{IsTarget, choose, is_runnable}
 use Rattle.cube_cover.specs.declared.covers.Finding.{Finding}
 use Rattle.cube_cover.specs.Covers.{IsLeastEnv}
 
--- Configuration number t is chosen from i.
+-- Configuration number `t` is chosen from configuration `i`.
 abbrev pub is_chosen_at : Parts → ConfId → ℕ → Env → Bool
 is_chosen_at spec i t v = (choose spec i v).0 == t
 
--- It is chosen and cannot run.
+-- Target `t` is chosen from configuration `i` and cannot run.
 abbrev pub is_stuck_at : Parts → ConfId → ℕ → Env → Bool
 is_stuck_at spec i t v = is_chosen_at spec i t v && not (is_runnable spec (conf_id t) v)
 
--- It is chosen, and another target is chosen from it.
+-- Target `t` is chosen from configuration `i`, and another target is chosen from `t`.
 abbrev pub is_left_at : Parts → ConfId → ℕ → Env → Bool
 is_left_at spec i t v = is_chosen_at spec i t v && not ((choose spec (conf_id t) v).0 == t)
 
--- The finding on target t of configuration i: whether it is chosen, and the least environments of its faults.
+-- The finding on target `t` of configuration `i`: whether `t` is chosen, and the first environments, by number, in
+-- which it cannot run or is left again.
 pub record IsFinding (spec : Parts) (i : ConfId) (t : ℕ) (finding : Finding) : Type 0 where
   pub only : finding.is_chosen ≡ true → IsTarget spec i (conf_id t)
   pub all : IsTarget spec i (conf_id t) → finding.is_chosen ≡ true

@@ -14,39 +14,40 @@ use Rattle.cube_cover.specs.Cubes.{Agree, holds, is_in}
 abbrev pub is_held : (ℕ → Bool) → Env → Region → Bool
 is_held passes v region = passes region.target.0 && holds region.cube v
 
--- Some region does.
+-- Some region whose target passes a test holds the environment.
 unfoldable pub is_marked : List Region → (ℕ → Bool) → Env → Bool
 is_marked regions passes v = list_any (is_held passes v) regions
 
--- The first rule that fits has a target that passes a test; false where none fits.
+-- The first rule that fits has a target that passes a test. It is false if no rule fits.
 unfoldable pub is_ruled : List Choice → ConfId → (ℕ → Bool) → Env → Bool
 is_ruled [] c passes v = false
 is_ruled (rule ∷ rules) c passes v = if rule_fits c v rule then passes rule.to.0 else is_ruled rules c passes v
 
--- In scope, regions are those of cubes of configuration c by its rules, and the rest is where no rule fits.
+-- In scope, the regions hold the environments of the cubes that a rule of configuration `c` fits, by its target, and
+-- the rest holds those that no rule fits.
 pub record AreRegions (spec : Parts) (c : ConfId) (cubes : List Cube) (ruled : List Region) (unruled : List Cube) : Type 0 where
   pub targets : (passes : ℕ → Bool) → Agree spec (is_marked ruled passes) (λ v. is_in cubes v && is_ruled spec.rules c passes v)
   pub rest : Agree spec (is_in unruled) (λ v. is_in cubes v && not (has_rule spec c v))
 
--- Regions mark what they marked before, and what is in cubes whose target passes the test.
+-- The regions mark what they marked before, and the environments in the cubes if the target passes the test.
 abbrev pub MarksMore : List Region → List Region → List Cube → ConfId → Type 0
 MarksMore before after cubes target =
     (passes : ℕ → Bool) (v : Env) → is_marked after passes v ≡ (is_marked before passes v || (is_in cubes v && passes target.0))
 
--- In scope, regions mark what they marked before, and what is in cubes where the rule fits, if its target passes the
--- test.
+-- In scope, the regions mark what they marked before, and the environments in the cubes that the rule fits, if its
+-- target passes the test.
 abbrev pub Rule : Parts → ConfId → Choice → List Cube → List Region → List Region → Type 0
 Rule spec c rule cubes before after = (passes : ℕ → Bool) →
     Agree spec (is_marked after passes) (λ v. is_marked before passes v || (is_in cubes v && (rule_fits c v rule && passes rule.to.0)))
 
--- Cubes hold what the regions mark whose target passes a test.
+-- The cubes hold exactly the environments that the regions mark by the test.
 abbrev pub HoldsMarked : List Region → (ℕ → Bool) → List Cube → Type 0
 HoldsMarked regions passes cubes = (v : Env) → is_in cubes v ≡ is_marked regions passes v
 
--- Cubes hold what they held before, and what one more holds, if it is selected.
+-- The cubes hold the environments that they held before, and those of another cube if that cube is selected.
 abbrev pub HoldsMore : List Cube → List Cube → Cube → Bool → Type 0
 HoldsMore before after cube wanted = (v : Env) → is_in after v ≡ (is_in before v || (wanted && holds cube v))
 
--- In scope, regions are where the targets are chosen from configuration i.
+-- In scope, the region that holds an environment has the target that is chosen from configuration `i`.
 abbrev pub AreAll : Parts → ConfId → List Region → Type 0
 AreAll spec i regions = (passes : ℕ → Bool) → Agree spec (is_marked regions passes) (λ v. passes (choose spec i v).0)

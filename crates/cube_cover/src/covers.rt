@@ -1,4 +1,4 @@
-//! Making the cover of a configuration.
+//! Computing the cover of a configuration.
 
 ghost use Rattle.std.specs.Prelude.{◌≡◌, ◌+◌, ◌^◌, ◌<◌, ◌≤◌, ◌&&◌, ◌==◌, IfOk, if◌then◌else◌, length, not, true};
 ghost use Rattle.scram_types.specs.Lookups.{conf_id};
@@ -17,7 +17,7 @@ use crate::splits::split_by;
 use scram_types::{ConfId, Env, NoMemory, Spec};
 use std::alloc::Global;
 
-// The outcome of a target where it is chosen.
+// The outcome of one target over the environments in which it is chosen.
 #[derive(Clone, Copy)]
 pub(crate) struct Finding {
     is_chosen: bool,
@@ -25,8 +25,8 @@ pub(crate) struct Finding {
     unsettled: Option<Env>,
 }
 
-/// Returns the cover of configuration `i`: its possible targets, and the least environments in scope, by number, in
-/// which no rule fits it, the target cannot run, or another target is chosen from the target.
+/// Returns the cover of configuration `i`. It has the possible targets, and the first environments in scope, by number,
+/// in which no rule fits, the target cannot run, or another target is chosen from the target.
 ///
 /// # Errors
 ///
@@ -60,7 +60,7 @@ fn count_confs(spec: &Spec) -> u8
     spec.confs.items().len() as u8
 }
 
-// Returns the one cube of all environments.
+// Returns a vector with the cube that holds all environments.
 pub(crate) fn all_cubes(alloc: Global, spec: &Spec) -> Result<Vec<Cube>, NoMemory>
     requires { IsSpec spec.now }
     ensures all { IfOk result (λ cubes. Agree spec.now (is_in cubes.items) (λ v. true)) }
@@ -71,7 +71,7 @@ pub(crate) fn all_cubes(alloc: Global, spec: &Spec) -> Result<Vec<Cube>, NoMemor
     Ok(cubes)
 }
 
-// Returns the regions with what no rule fits as a region more: there the configuration itself is the target.
+// Returns the regions, followed by the cubes that no rule fits, with configuration `i` itself as their target.
 pub(crate) fn all_regions(found: Regions, i: ConfId) -> Result<Vec<Region>, NoMemory>
     ensures { IfOk result (λ regions. MarksMore found.ruled.items regions.items found.unruled.items i) }
 {
@@ -80,7 +80,7 @@ pub(crate) fn all_regions(found: Regions, i: ConfId) -> Result<Vec<Region>, NoMe
     Ok(regions)
 }
 
-// Returns what target `t` means in the regions of configuration `i`.
+// Returns the finding on target `t` in the regions of configuration `i`.
 fn find(
     alloc: Global,
     spec: &Spec,
@@ -104,8 +104,8 @@ fn find(
     })
 }
 
-// Returns the least environment of the cubes in which another target is chosen from `t`; `i` itself is settled where
-// it is chosen from itself.
+// Returns the first environment of the cubes, by number, in which another target is chosen from `t`, or `None`.
+// Configuration `i` itself counts as settled if it is chosen from itself.
 fn find_unsettled(
     alloc: Global,
     spec: &Spec,

@@ -14,18 +14,18 @@ ghost use Rattle.cube_cover.specs.Cubes.{HasDigits, allows, digit_in, holds, is_
 use scram_types::bits::has_bit;
 use scram_types::{Choice, ConfId, Demand, Env, Place, Spec, Want};
 
-/// A set of environments: for each factor a set of its values, and for each processor up, down or either.
-/// Bit `4 * x + d` says whether digit `d` is open at place `x`. Places 0 to 5 are the factors, whose digits are
-/// their values; place `6 + p` is processor `p`, with digit 0 where it is up and 1 where it is down.
+/// A set of environments. It has a set of values for each factor, and for each processor up, down or either. Bit `4 * x
+/// + d` says whether digit `d` is open at place `x`. Places 0 to 5 are the factors, whose digits are their values.
+/// Place `6 + p` is processor `p`, with digit 0 if it is up and 1 if it is down.
 #[derive(Clone, Copy, Debug, PartialEq, Eq)]
 pub(crate) struct Cube {
     pub(crate) bits: u64,
 }
 
-// The first digit of each place.
+// Digit 0 of each place, as bits.
 const FIRST_DIGITS: u64 = 0x11_1111_1111_1111;
 
-// Returns all environments of a specification.
+// Returns the cube that holds all environments of a specification.
 pub(crate) fn whole(spec: &Spec) -> Cube
     requires { IsSpec spec.now }
     ensures { (v : Env) → IsEnv spec.now v → holds result v ≡ true }
@@ -60,14 +60,14 @@ pub(crate) fn count_values(spec: &Spec, x: u8) -> u8
     }
 }
 
-// Returns the environments that meet what a rule requires in addition to its source.
+// Returns the cube of the environments that meet the requirements of a rule other than its source.
 pub(crate) fn rule_cube(rule: &Choice) -> Cube
     ensures { (v : Env) → HasDigits v → holds result v ≡ (list_all (has_wanted v) rule.now.wants && all_up rule.now.up v) }
 {
     with_up(with_wants(rule.wants.items()), rule.up)
 }
 
-// Returns the environments that a demand speaks of.
+// Returns the cube of the environments that a demand speaks of.
 pub(crate) fn demand_cube(demand: &Demand) -> Cube
     ensures { (v : Env) → HasDigits v → holds result v ≡ speaks_of demand.now v }
 {
@@ -85,7 +85,8 @@ fn with_wants(wants: &[Want]) -> Cube
     cube
 }
 
-// Narrows a cube to the environments with a required value; a factor past the last possible one has value 0.
+// Returns the environments of the cube in which a factor has a required value. A factor past the last possible one has
+// value 0.
 fn with_wanted(cube: Cube, want: &Want) -> Cube
     ensures { (v : Env) → HasDigits v → holds result v ≡ (holds cube v && has_wanted v want.now) }
 {
@@ -134,7 +135,7 @@ fn with_member(cube: Cube, set: u8, p: u8, d: u8) -> Cube
     }
 }
 
-// Returns the environments in which configuration `c` can run.
+// Returns the cube of the environments in which configuration `c` can run.
 pub(crate) fn running(spec: &Spec, c: ConfId) -> Cube
     ensures { (v : Env) → HasDigits v → holds result v ≡ is_runnable spec.now c v }
 {
@@ -184,7 +185,7 @@ fn with_digit(cube: Cube, x: u8, d: u8) -> Cube
     }
 }
 
-// Returns the environments of the cube whose digit at place `x` the cube `by` has open there.
+// Returns the environments of the cube whose digit at place `x` is open in the cube `by`.
 pub(crate) fn inside_at(cube: Cube, by: Cube, x: u8) -> Cube
     requires { x < 14 }
     ensures { (v : Env) → HasDigits v → holds result v ≡ (holds cube v && allows by v x) }
@@ -194,7 +195,7 @@ pub(crate) fn inside_at(cube: Cube, by: Cube, x: u8) -> Cube
     }
 }
 
-// Returns the environments of the cube whose digit at place `x` the cube `by` does not have open there.
+// Returns the environments of the cube whose digit at place `x` is not open in the cube `by`.
 pub(crate) fn outside_at(cube: Cube, by: Cube, x: u8) -> Cube
     requires { x < 14 }
     ensures { (v : Env) → HasDigits v → holds result v ≡ (holds cube v && not (allows by v x)) }
@@ -204,7 +205,7 @@ pub(crate) fn outside_at(cube: Cube, by: Cube, x: u8) -> Cube
     }
 }
 
-// Returns whether some digit is open at place `x`; where none is, no environment is held.
+// Returns whether some digit is open at place `x`. If none is, the cube holds no environment.
 pub(crate) fn is_open_at(cube: Cube, x: u8) -> bool
     requires { x < 14 }
     ensures { (v : Env) → HasDigits v → holds cube v ≡ true → result ≡ true }
@@ -229,7 +230,8 @@ pub(crate) fn both(one: Cube, other: Cube) -> Cube
     }
 }
 
-// Returns whether each place has a digit open in both; where one has none, no environment is held by both.
+// Returns whether each place has a digit that is open in both cubes. If some place has none, no environment is held by
+// both.
 pub(crate) fn meet(one: Cube, other: Cube) -> bool
     ensures { (v : Env) → HasDigits v → (holds one v && holds other v) ≡ true → result ≡ true }
 {

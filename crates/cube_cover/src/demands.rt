@@ -1,4 +1,4 @@
-//! The least environments in which the choice table misses a demand.
+//! The first environments in which the choice table misses a demand.
 
 ghost use Rattle.std.specs.Prelude.{◌≡◌, ◌&&◌, ◌<◌, IfOk, length};
 ghost use Rattle.scram_types.specs.Bits.{bits_below};
@@ -19,9 +19,9 @@ use scram_types::bits::is_in;
 use scram_types::{ConfId, Demand, Env, NoMemory, Spec};
 use std::alloc::Global;
 
-/// Returns for each demand, in their order, the least environment in scope, by number, in which the table misses it from
-/// configuration `i`: the demand speaks of the environment and asks something of a choice from `i`, and what is chosen
-/// does not meet it.
+/// Returns for each demand, in order, the first environment in scope, by number, in which the table misses the demand
+/// from configuration `i`, or `None`. A demand is missed if it speaks of the environment and asks something of a choice
+/// from `i`, and the chosen configuration does not meet it.
 ///
 /// # Errors
 ///
@@ -51,7 +51,8 @@ fn chosen_regions(alloc: Global, spec: &Spec, i: ConfId) -> Result<Vec<Region>, 
     Ok(regions)
 }
 
-// Returns the least environment in which the table misses a demand from configuration `i`, by the regions of `i`.
+// Returns the first environment, by number, in which the table misses a demand from configuration `i`, or `None`.
+// `regions` are the regions of `i`.
 fn least_miss(spec: &Spec, i: ConfId, demand: &Demand, regions: &[Region]) -> Option<Env>
     requires known { IsSpec spec.now }
     requires inside { i.0 < length spec.now.confs }
@@ -77,7 +78,7 @@ fn met_by(spec: &Spec, demand: &Demand) -> u16
     bits
 }
 
-// Returns the least environment of the cube `by` whose target is not in the set `met`.
+// Returns the first environment of the cube `by`, by number, whose target is not in the set `met`, or `None`.
 fn least_outside(spec: &Spec, regions: &[Region], met: u16, by: Cube) -> Option<Env>
     requires { IsSpec spec.now }
     ensures { IsLeastEnv spec.now (λ v. is_marked regions.now (is_outside met) v && holds by v) result }

@@ -1,9 +1,9 @@
-//! What holds of all specifications: each function's contract is a law.
+//! Laws that hold for all specifications. Each function's contract is a law.
 
 ghost use Rattle.cube_cover.specs.Shares.{SharesAddUp};
 
-/// The environments in scope in which one rule or another is the first that fits a configuration, and those in which
-/// none fits, are all environments in scope, each once.
+/// The environments in which some rule is the first that fits a configuration, and those in which none fits, are all
+/// environments in scope, each counted once.
 pub fn shares_add_up()
     ensures { SharesAddUp }
 {}

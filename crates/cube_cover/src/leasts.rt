@@ -1,4 +1,4 @@
-//! The least environments that cubes hold.
+//! The first environments, by number, that cubes hold.
 
 ghost use Rattle.std.specs.Prelude.{◌≡◌, ◌*◌, ◌+◌, ◌<◌, ◌≤◌, length};
 ghost use Rattle.scram_types.specs.Bits.{bits_below, has_bit};
@@ -12,7 +12,7 @@ use choice_table::{in_scope, number_of};
 use scram_types::bits::has_bit;
 use scram_types::{Env, Spec};
 
-// Returns the environment in scope with the least number that one of the cubes holds.
+// Returns the environment in scope with the smallest number that one of the cubes holds, or `None` if they hold none.
 pub(crate) fn least_of(spec: &Spec, cubes: &[Cube]) -> Option<Env>
     requires { IsSpec spec.now }
     ensures { IsLeastEnv spec.now (is_in cubes.now) result }
@@ -24,7 +24,7 @@ pub(crate) fn least_of(spec: &Spec, cubes: &[Cube]) -> Option<Env>
     least
 }
 
-// Returns the one of two environments that has the lesser number.
+// Returns the environment with the smaller number, or the one that is present, or `None`.
 pub(crate) fn earlier_env(spec: &Spec, one: Option<Env>, other: Option<Env>) -> Option<Env>
     ensures { result ≡ earlier_env spec.now one other }
 {
@@ -42,7 +42,7 @@ pub(crate) fn earlier_env(spec: &Spec, one: Option<Env>, other: Option<Env>) -> 
     }
 }
 
-// Returns the environment in scope with the least number that a cube holds.
+// Returns the environment in scope with the smallest number that a cube holds, or `None` if it holds none.
 pub(crate) fn least_env(spec: &Spec, cube: Cube) -> Option<Env>
     requires { IsSpec spec.now }
     ensures { IsLeastEnv spec.now (holds cube) result }
@@ -55,7 +55,7 @@ pub(crate) fn least_env(spec: &Spec, cube: Cube) -> Option<Env>
     }
 }
 
-// Returns the environment whose digits are the least that are open; past the last processor none is up.
+// Returns the environment with the smallest open digits of a cube. Processors past the last one are not up.
 fn make_least(spec: &Spec, cube: Cube) -> Env
     ensures { result ≡ least_env spec.now cube }
 {
@@ -84,7 +84,7 @@ fn least_up(spec: &Spec, cube: Cube) -> u8
     up
 }
 
-// Returns the least digit that is open at place `x`, and the last one where none is.
+// Returns the smallest digit that is open at place `x`, or 3 if none of the digits 0 to 2 is open.
 #[tactic(auto, unfolding(crate::specs::Leasts::least_digit))]
 fn least_digit(cube: Cube, x: u8) -> u8
     requires { x < 14 }
@@ -101,7 +101,7 @@ fn least_digit(cube: Cube, x: u8) -> u8
     }
 }
 
-// Returns whether each factor has a value that it can have.
+// Returns whether each factor has a value that the specification allows.
 fn belongs(spec: &Spec, env: &Env) -> bool
     ensures { result ≡ belongs spec.now env.now }
 {

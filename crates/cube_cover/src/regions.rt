@@ -11,21 +11,21 @@ use crate::splits::split_by;
 use scram_types::{Choice, ConfId, NoMemory, Spec};
 use std::alloc::Global;
 
-// A cube in all of whose environments the same target is chosen.
+// A cube of environments in all of which the same target is chosen.
 #[derive(Clone, Copy)]
 pub(crate) struct Region {
     pub(crate) cube: Cube,
     pub(crate) target: ConfId,
 }
 
-// Regions of the cubes of a configuration: those in which some rule fits, with its target, and the rest.
+// The regions of the cubes of a configuration: those in which some rule fits, with their targets, and the rest.
 #[derive(Drop)]
 pub(crate) struct Regions {
     pub(crate) ruled: Vec<Region>,
     pub(crate) unruled: Vec<Cube>,
 }
 
-// Splits cubes by the rules of configuration `c`, one after another.
+// Splits cubes by the rules of configuration `c`, rule by rule.
 pub(crate) fn regions_of(
     alloc: Global,
     spec: &Spec,
@@ -46,7 +46,7 @@ pub(crate) fn regions_of(
     })
 }
 
-// Moves to the regions what a rule takes of cubes, and gives the rest.
+// Moves the environments that a rule fits from the cubes to the regions, and returns the rest.
 fn apply_rule(
     alloc: Global,
     spec: &Spec,
@@ -79,7 +79,7 @@ pub(crate) fn is_source(from: Option<ConfId>, c: ConfId) -> bool
     }
 }
 
-// Adds cubes to the regions, with their target.
+// Appends cubes with the same target to the regions.
 pub(crate) fn assign(
     regions: &mut Vec<Region>,
     cubes: &[Cube],
@@ -107,7 +107,7 @@ pub(crate) fn with_target(alloc: Global, regions: &[Region], t: u8) -> Result<Ve
     Ok(cubes)
 }
 
-// Returns the cubes of the regions with another target.
+// Returns the cubes of the regions whose target is not `t`.
 pub(crate) fn with_other_target(
     alloc: Global,
     regions: &[Region],
@@ -122,7 +122,7 @@ pub(crate) fn with_other_target(
     Ok(cubes)
 }
 
-// Adds a cube to others if it is selected.
+// Appends a cube to others if it is selected.
 fn push_where(cubes: &mut Vec<Cube>, cube: Cube, is_wanted: bool) -> Result<(), NoMemory>
     ensures { OnOk result (HoldsMore cubes.old.items cubes.new.items cube is_wanted) }
 {

@@ -1,4 +1,4 @@
-//! The environments in scope, parted by the rule that is the first that fits.
+//! The environments in scope, divided by the first rule that fits.
 
 ghost use Rattle.std.specs.Prelude.{◌≡◌, ◌&&◌, IfOk};
 ghost use Rattle.scram_types.specs.Specification.{IsSpec};
@@ -16,22 +16,22 @@ use crate::splits::split_by;
 use scram_types::{Choice, ConfId, Env, NoMemory, Spec};
 use std::alloc::Global;
 
-/// The environments in scope in which something holds: their number, and the least of them by number.
+/// A share of the environments in scope: their number, and the first of them, by number.
 #[derive(Clone, Copy, Debug, PartialEq, Eq)]
 pub struct Share {
     pub count: u32,
     pub first: Option<Env>,
 }
 
-// What a rule takes of cubes, and the cubes of the rest.
+// The share that a rule takes of some cubes, and the cubes of the rest.
 #[derive(Drop)]
 struct Taken {
     share: Share,
     rest: Vec<Cube>,
 }
 
-/// Returns for each rule, in order, the environments in scope in which it is the first that fits configuration `c`, and
-/// behind them those in which none fits.
+/// Returns for each rule, in order, the share of the environments in scope in which it is the first that fits
+/// configuration `c`. The last share is that of the environments in which no rule fits.
 ///
 /// # Errors
 ///
@@ -51,8 +51,8 @@ pub fn shares_of(alloc: Global, spec: &Spec, c: ConfId) -> Result<Vec<Share>, No
     Ok(shares)
 }
 
-/// Returns the number of the first rule that fits configuration `c` in an environment, and the number of rules where
-/// none fits.
+/// Returns the index of the first rule that fits configuration `c` in an environment, or the number of rules if none
+/// fits.
 pub fn first_rule(spec: &Spec, c: ConfId, env: &Env) -> usize
     requires { IsEnv spec.now env.now }
     ensures { result ≡ first_rule spec.now.rules c env.now }
@@ -86,7 +86,7 @@ fn take_rule(
     })
 }
 
-// Returns the environments in which a rule fits configuration `c`.
+// Returns the cube of the environments in which a rule fits configuration `c`.
 fn fitting_cube(rule: &Choice, c: ConfId) -> Cube
     ensures { (v : Env) → HasDigits v → holds result v ≡ rule_fits c v rule.now }
 {

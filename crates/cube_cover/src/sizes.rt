@@ -1,4 +1,4 @@
-//! How many environments in scope cubes hold.
+//! The number of environments in scope that cubes hold.
 
 ghost use Rattle.std.specs.Prelude.{◌≡◌, ◌+◌, ◌*◌, ◌-◌, ◌^◌, ◌<◌, ◌≤◌, length, replicate};
 ghost use Rattle.scram_types.specs.Bits.{count_below};
@@ -12,7 +12,7 @@ use choice_table::in_scope;
 use scram_types::bits::has_bit;
 use scram_types::{Env, Spec};
 
-// Returns in how many environments in scope one of the cubes holds; no two of them may hold the same one.
+// Returns the number of environments in scope that the cubes hold. No two cubes may hold the same environment in scope.
 pub(crate) fn count_held(spec: &Spec, cubes: &[Cube]) -> u32
     requires known { IsSpec spec.now }
     requires disjoint { AreDisjoint spec.now cubes.now }
@@ -25,8 +25,8 @@ pub(crate) fn count_held(spec: &Spec, cubes: &[Cube]) -> u32
     count
 }
 
-// Returns how many environments in scope a cube holds: each set of processors that may be down in it, with each
-// combination of the values that are open.
+// Returns the number of environments in scope that a cube holds. It is the product of the number of sets of processors
+// that may be down and the number of combinations of open values.
 fn size_of(spec: &Spec, cube: Cube) -> u32
     requires { IsSpec spec.now }
     ensures { result ≡ count_where spec.now (holds cube) }
@@ -38,7 +38,7 @@ fn size_of(spec: &Spec, cube: Cube) -> u32
     }
 }
 
-// Returns whether the places past the last factor have digit 0 open, as each environment has it there.
+// Returns whether digit 0 is open at each place past the last factor. Each environment has digit 0 there.
 fn are_zeros_open(spec: &Spec, cube: Cube) -> bool
     requires { IsSpec spec.now }
     ensures { result ≡ are_open cube (length spec.now.factors) (replicate (6 - length spec.now.factors) 0) }
@@ -59,7 +59,7 @@ fn count_factors(spec: &Spec) -> u8
     spec.factors.items().len() as u8
 }
 
-// Returns how many sets of processors may be down, in scope and in the cube.
+// Returns the number of sets of processors that may be down, in scope and in the cube.
 fn count_sets_held(spec: &Spec, cube: Cube) -> u32
     requires { IsSpec spec.now }
     ensures value { result ≡ count_below (is_down_held spec.now cube) (2 ^ length spec.now.procs) }
@@ -74,7 +74,7 @@ fn count_sets_held(spec: &Spec, cube: Cube) -> u32
     sets
 }
 
-// Returns how many sets of processors there are.
+// Returns the number of sets of processors.
 fn count_sets(spec: &Spec) -> u32
     requires { IsSpec spec.now }
     ensures value { result ≡ 2 ^ length spec.now.procs }
@@ -105,7 +105,7 @@ fn is_down_held(spec: &Spec, cube: Cube, down: u32) -> bool
     allows_up(cube, up) && in_scope(spec, &env)
 }
 
-// Returns the processors that are up where those of the set `down` are down.
+// Returns the processors that are up if those of the set `down` are down.
 fn up_beside(spec: &Spec, down: u32) -> u8
     requires known { IsSpec spec.now }
     requires set { down < 2 ^ length spec.now.procs }
@@ -114,7 +114,7 @@ fn up_beside(spec: &Spec, down: u32) -> u8
     (count_sets(spec) - 1 - down) as u8
 }
 
-// Returns whether exactly the processors of the set `up` may be up.
+// Returns whether the cube allows exactly the processors of the set `up` to be up.
 fn allows_up(cube: Cube, up: u8) -> bool
     ensures { result ≡ allows_up cube up }
 {
@@ -134,7 +134,7 @@ fn digit_of_processor(up: u8, p: u8) -> u8
     if has_bit(up, p) { 0 } else { 1 }
 }
 
-// Returns how many combinations of the factors' values are open.
+// Returns the number of combinations of open values of the factors.
 fn count_combinations(spec: &Spec, cube: Cube) -> u32
     requires { IsSpec spec.now }
     ensures value { result ≡ open_ways cube 0 spec.now.factors }
@@ -147,7 +147,7 @@ fn count_combinations(spec: &Spec, cube: Cube) -> u32
     product
 }
 
-// Returns how many values of factor `x` are open.
+// Returns the number of open values of factor `x`.
 fn count_open(spec: &Spec, cube: Cube, x: u8) -> u32
     requires known { IsSpec spec.now }
     requires place { x < 6 }

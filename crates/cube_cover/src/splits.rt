@@ -9,7 +9,7 @@ use crate::cubes::{Cube, inside_at, is_open, is_open_at, meet, outside_at};
 use scram_types::{NoMemory, Spec};
 use std::alloc::Global;
 
-// Cubes inside of a cube, and cubes outside of it.
+// Cubes inside a cube, and cubes outside of it.
 #[derive(Drop)]
 pub(crate) struct Split {
     pub(crate) inside: Vec<Cube>,
@@ -34,7 +34,8 @@ pub(crate) fn split_by(
     Ok(Split { inside, outside })
 }
 
-// Adds the parts of one cube to those of others. A cube that does not meet `by` lies outside whole.
+// Appends the parts of a cube inside and outside of `by` to two lists. A cube that does not meet `by` lies outside as a
+// whole.
 fn split_cube(
     spec: &Spec,
     cube: Cube,
@@ -55,7 +56,7 @@ fn split_cube(
     Ok(())
 }
 
-// Cuts off what lies outside of the cube `by`, place by place, and gives what is left.
+// Cuts off the parts outside of the cube `by`, place by place, and returns the part inside.
 fn cut(spec: &Spec, cube: Cube, by: Cube, outside: &mut Vec<Cube>) -> Result<Cube, NoMemory>
     requires { IsSpec spec.now }
     ensures beyond { OnOk result (Gain spec.now outside.old.items outside.new.items (λ v. holds cube v && not (holds by v))) }
@@ -88,7 +89,7 @@ fn push_outside_at(
     Ok(())
 }
 
-// Adds a cube to others where it holds an environment in scope.
+// Appends a cube to others, unless more processors are down in all its environments than the scope allows.
 fn push_in_scope(spec: &Spec, cube: Cube, cubes: &mut Vec<Cube>) -> Result<(), NoMemory>
     requires { IsSpec spec.now }
     ensures { OnOk result (Gain spec.now cubes.old.items cubes.new.items (holds cube)) }
@@ -100,7 +101,7 @@ fn push_in_scope(spec: &Spec, cube: Cube, cubes: &mut Vec<Cube>) -> Result<(), N
     Ok(())
 }
 
-// Returns how many processors are down in each environment that the cube holds.
+// Returns the number of processors that are down in each environment that the cube holds.
 fn count_always_down(spec: &Spec, cube: Cube) -> u8
     ensures { result ≡ count_below (λ p. not (may_be_up cube p)) (length spec.now.procs) }
 {

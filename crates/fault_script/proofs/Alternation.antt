@@ -1,4 +1,4 @@
--- Where each halt is one that its processor may have, no processor halts three times, or twice before its restart.
+-- If each halt is one that its processor may have, no processor halts three times, or twice before its restart.
 use Rattle.std.proofs.Common.{◌≡◌, ◌≤◌, ◌<◌, ◌==◌, ℕ, zero, suc, true, ◌&&◌, List, [], ◌∷◌, ◌++◌, arith, ap, sym, ◌∙◌, inl, inr, ◌||◌, subst, append-nil, append_assoc}
 use Rattle.std.specs.Prelude.{Some, Ok, slice_get, nat_le, ⊤}
 use Rattle.std.specs.List.{list_any}

@@ -1,4 +1,4 @@
--- The value of a script that fits is read back to the script.
+-- A script that fits is read back from its value.
 use Rattle.std.proofs.Common.{◌≡◌, ◌≤◌, ◌+◌, ℕ, zero, suc, true, take, drop, List, [], ◌∷◌, ◌++◌, length, arith, refl, ap, ◌∙◌, sym, subst, append_assoc}
 use Rattle.std.specs.Prelude.{Ok, Some, IsUtf8, slice_get, codes}
 use Rattle.std.proofs.lemmas.Bool.{le-leb}
@@ -42,7 +42,7 @@ restart_back : (spec : Parts) (frames : ℕ) (at : List ℕ) (r : RestartAt) →
 restart_back spec frames at r is fits =
     rw (proc_found_back spec r.proc is fits.proc, whole_back 2 frames r.frame fits.least fits.most) refl
 
--- each item, with those before it and those after it in the whole list
+-- each item, with the preceding and the following items of the whole list
 abbrev pub EachSplit : {A : Type 0} → (List A → A → List A → Type 0) → List A → Type 0
 EachSplit {A} Fact whole = (xs : List A) (x : A) (ys : List A) → xs ++ x ∷ ys ≡ whole → Fact xs x ys
 

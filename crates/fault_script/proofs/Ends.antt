@@ -1,4 +1,4 @@
--- A fact about the items of a list goes on to one more item at its end.
+-- A fact about the items of a list still holds after another item is appended.
 use Rattle.std.proofs.Common.{◌≡◌, ◌<◌, ◌+◌, ◌-◌, ℕ, zero, suc, List, [], ◌∷◌, ◌++◌, length, arith, refl, ap, ◌∙◌, sym, subst}
 use Rattle.std.specs.Prelude.{Some, slice_get}
 use Rattle.std.proofs.lemmas.Option.{same_Some}
@@ -6,7 +6,7 @@ use Rattle.scram_types.specs.Specification.{Each}
 use Rattle.fault_script.specs.Fits.{EachLater, EachNext}
 use Rattle.fault_script.specs.Orders.{last_of}
 
--- what stands in a list with one more item at its end
+-- the items of a list after an item is appended
 pub data Place {A : Type 0} (xs : List A) (x : A) (i : ℕ) (y : A) : Type 0 where
   before : slice_get xs i ≡ Some y → i < length xs → Place xs x i y
   end : i ≡ length xs → y ≡ x → Place xs x i y

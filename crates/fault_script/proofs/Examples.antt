@@ -1,4 +1,4 @@
--- Worked examples of the failure assumption: computed, and compared with what it says.
+-- Worked examples of the failure assumption, computed and compared with its definition.
 use Rattle.std.proofs.Common.{◌≡◌, refl, ℕ, List, [], ◌∷◌, pos}
 use Rattle.std.specs.Prelude.{Some, None, replicate}
 use Rattle.scram_types.specs.declared.scripts.Change.{Change}
@@ -39,7 +39,7 @@ halt p frame = record { proc = record { 0 = p }; frame = frame; step = 0 }
 abbrev script : ℕ → List Change → List HaltAt → List RestartAt → ScriptParts
 script frames changes halts restarts = record { frames = frames; changes = changes; halts = halts; restarts = restarts }
 
--- the window is longer than the script, and its third change one too many
+-- the window is longer than the script, and its third change is one too many
 changes_again : first_outside (assumed 0 40) (script 20 (change 1 1 ∷ change 3 0 ∷ change 5 1 ∷ []) [] []) ≡ Some (record { frame = 5; kind = kind.Changes })
 changes_again = refl
 
@@ -47,7 +47,7 @@ changes_again = refl
 stays : first_outside (assumed 0 40) (script 20 (change 1 1 ∷ change 3 1 ∷ change 5 0 ∷ []) [] []) ≡ None
 stays = refl
 
--- a window of four frames lets the first change go
+-- the first change is no longer in a window of four frames
 far_apart : first_outside (assumed 0 4) (script 20 (change 1 1 ∷ change 3 0 ∷ change 5 1 ∷ []) [] []) ≡ None
 far_apart = refl
 

@@ -1,4 +1,4 @@
--- The script that is read of a document fits the specification.
+-- The script that is read from a document fits the specification.
 use Rattle.std.proofs.Common.{◌≡◌, ◌≤◌, ◌<◌, ◌+◌, ◌==◌, ℕ, suc, true, ◌&&◌, List, [], ◌∷◌, ◌++◌, length, arith, refl, ap, sym, ◌∙◌, subst, inl, inr, nat_lt, length-append}
 use Rattle.std.specs.Prelude.{Option, Some, None, Ok, Err, Result, slice_get, nat_le, not, option_map, codes, IfOk}
 use Rattle.std.specs.List.{list_any}
@@ -103,7 +103,7 @@ pub record Read {A : Type 0} (Good : List A → Type 0) (count : ℕ) (xs : List
   pub good : Good xs
   pub count_is : length xs ≡ count
 
--- where each element that is read keeps what those before it keep, the whole list keeps it
+-- if each element keeps a property that the preceding ones have, the whole list has it
 elements_ok : {A : Type 0} (Good : List A → Type 0) (read : List ℕ → List A → Data → Result A DocFault)
     → ((at : List ℕ) (before : List A) (x : A) (d : Data) → Good before → read at before d ≡ Ok x → Good (before ++ x ∷ []))
     → (at : List ℕ) (i : ℕ) (before xs : List A) (ds : Items) → Good before → elements_from read at i before ds ≡ Ok xs → Read Good (length before + items_len ds) xs
@@ -116,7 +116,7 @@ elements_ok Good read more at i before xs (item d ds) good e =
     let long = length-append before (x ∷ []) in let count = next.count_is in
     record { good = next.good; count_is = omega (arith, long, count) })
 
--- what is read of a list, and how long it can be
+-- the items that are read from a list, and its maximum length
 pub record Listed {A : Type 0} (Good : List A → Type 0) (most : ℕ) (xs : List A) : Type 0 where
   pub good : Good xs
   pub few : length xs ≤ most

@@ -1,4 +1,4 @@
--- What stands in a specification is found by its name.
+-- The entries of a specification are found by their names.
 use Rattle.std.proofs.Common.{◌≡◌, ◌+◌, ◌<◌, ℕ, List, length, arith, refl}
 use Rattle.std.specs.Prelude.{Some, slice_get}
 use Rattle.scram_types.specs.declared.scripts.Change.{Change}

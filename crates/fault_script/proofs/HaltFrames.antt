@@ -1,4 +1,4 @@
--- Where too many processors are down, the frame that is shown is one in which a processor halts.
+-- If too many processors are down, the frame that is returned is one in which a processor halts.
 use Rattle.std.proofs.Common.{◌≡◌, ℕ, zero, suc, ◌+◌, ◌-◌, ◌<◌, ◌≤◌, Bool, true, false, not, refl, arith, ap, sym, subst, ◌∙◌, List, [], ◌∷◌, length}
 use mathlib.Core.Logic.{inl, inr}
 use Rattle.std.specs.Prelude.{◌&&◌, ◌||◌, ◌==◌, Option, Some, None, if◌then◌else◌, nat_lt, slice_get}
@@ -45,9 +45,9 @@ up_stays script p f quiet up = rw (quiet) (up_stays_since script p f (latest_hal
 falls : (script : ScriptParts) (p f : ℕ) → is_up script p f ≡ true → is_up script p (suc f) ≡ false → halts_in script p f ≡ true
 falls script p f up down = by_bool (halts_in script p f) (λ t. t) (λ quiet. true_false (is_up script p (suc f)) (up_stays script p f quiet up) down)
 
--- the frame that is shown
+-- the frame that is returned
 
--- How a frame leaves the assumption, by its two tests.
+-- The way in which a frame leaves the assumption, by its two tests.
 abbrev left_by : Bool → Bool → ℕ → Option Outside
 left_by a b k = if a then Some (record { frame = k; kind = kind.Halts }) else (if b then Some (record { frame = k; kind = kind.Changes }) else None)
 
@@ -104,7 +104,7 @@ over_any script none p g (halt ∷ halts) =
 down_is : (script : ScriptParts) → script.restarts ≡ [] → (p g : ℕ) → not (is_up script p g) ≡ list_any (has_gone p g) script.halts
 down_is script none p g = ap not (sym (up_by_lists script p g)) ∙ over_any script none p g script.halts
 
--- How many halts of a list are in frames before g.
+-- The number of halts of a list in frames before g.
 halts_before : List HaltAt → ℕ → ℕ
 halts_before [] g = 0
 halts_before (halt ∷ halts) g = halts_before halts g + bit_of (nat_lt halt.frame g)

@@ -1,4 +1,4 @@
--- What the environment of a frame holds, where the script fits.
+-- The environment of a frame of a script that fits.
 use Rattle.std.proofs.Common.{◌≡◌, ℕ, suc, ◌<◌, Bool, true, false, refl, arith, ap, sym, ◌∙◌, List, [], ◌∷◌, length, subst}
 use Rattle.std.specs.Prelude.{◌&&◌, ◌==◌, Some, if◌then◌else◌, nat_le, slice_get}
 use Rattle.std.proofs.lemmas.Option.{slice_get_within}
@@ -13,7 +13,7 @@ use Rattle.fault_script.specs.Times.{is_up, value_after}
 use Rattle.fault_script.specs.Fits.{IsChange}
 use Rattle.fault_script.specs.Laws.{EnvironmentsShow}
 
--- the value after changes keeps a fact that the value before has and each change of the factor gives
+-- the value after changes has a property that the first value has and each change of the factor gives
 keeps : (P : ℕ → Type 0) (b : Bool) (new old : ℕ) → (b ≡ true → P new) → P old → P (if b then new else old)
 keeps P true new old made had = made refl
 keeps P false new old made had = had

@@ -1,4 +1,4 @@
--- What lists of none, one and two items keep, for the small specification of the tests.
+-- The properties of lists of no, one and two items, for the small specification of the tests.
 use Rattle.std.proofs.Common.{rules, ◌≡◌, ℕ, zero, suc, List, [], ◌∷◌, subst, sym, refl, ap, ◌∙◌, arith}
 use Rattle.std.specs.Prelude.{slice_index_or, IsTrue, codes, pos}
 use Rattle.scram_types.specs.declared.specification.AppSpec.{AppSpec}

@@ -1,4 +1,4 @@
--- What a list's laws say of an item and of those before it.
+-- The laws of a list for an item and the preceding ones.
 use Rattle.std.proofs.Common.{◌≡◌, ◌+◌, ◌-◌, ℕ, zero, suc, Bool, true, false, ◌||◌, List, [], ◌∷◌, ◌++◌, length, arith, refl, ap, sym, ◌∙◌, inl, inr}
 use Rattle.std.specs.Prelude.{Option, Some, None, slice_get}
 use Rattle.std.specs.List.{list_any}
@@ -21,7 +21,7 @@ pub seam : {A : Type 0} (xs ys : List A) (x : A) → slice_get (xs ++ x ∷ ys) 
 seam [] ys x = refl
 seam (z ∷ zs) ys x = seam zs ys x
 
--- the last of those before an item, and the item
+-- the item that precedes an item, and the item
 pub next_at : {A : Type 0} (R : A → A → Type 0) (xs ys : List A) (x l : A) → EachNext R (xs ++ x ∷ ys) → last_of xs ≡ Some l → R l x
 next_at R xs ys x l each last =
     let within = slice_get_within xs (length xs - 1) l last in

@@ -1,4 +1,4 @@
--- What is known of a step that gave a value.
+-- The facts that follow from a step that gave a value.
 use Rattle.std.proofs.Common.{◌≡◌, ◌≤◌, ◌<◌, ◌+◌, ℕ, zero, suc, Bool, true, false, ◌&&◌, ◌||◌, List, [], ◌∷◌, length, arith, refl, ap, sym, ◌∙◌, nat_lt, inl, inr}
 use Rattle.std.specs.Prelude.{Option, Some, None, Result, Ok, Err, nat_le, option_and_then, bytes_eq, cond, slice_get, ⊤}
 use Rattle.std.proofs.lemmas.Bool.{and_parts, or_cases}
@@ -73,13 +73,13 @@ or_none : (a b : Bool) → (a || b) ≡ false → (a ≡ false) × (b ≡ false)
 or_none true b e = absurd cc
 or_none false b e = (refl, e)
 
--- where no item passes a test, none does
+-- if no item passes a test, the item at an index does not
 pub none_passes : {A : Type 0} (p : A → Bool) (xs : List A) (i : ℕ) (y : A) → list_any p xs ≡ false → slice_get xs i ≡ Some y → p y ≡ false
 none_passes p [] i y none e = absurd cc
 none_passes p (x ∷ xs) zero y none e = let parts = or_none (p x) (list_any p xs) none in ap p (sym (same_Some x y e)) ∙ parts.0
 none_passes p (x ∷ xs) (suc i) y none e = let parts = or_none (p x) (list_any p xs) none in none_passes p xs i y parts.1 e
 
--- where some item passes a test, one does
+-- if some item passes a test, there is an index of such an item
 pub some_passes : {A P : Type 0} (p : A → Bool) (xs : List A) → list_any p xs ≡ true → ((i : ℕ) (y : A) → slice_get xs i ≡ Some y → p y ≡ true → P) → P
 some_passes p [] some then = absurd cc
 some_passes p (x ∷ xs) some then =

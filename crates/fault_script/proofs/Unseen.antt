@@ -1,4 +1,4 @@
--- What a script says after a frame does not show in it.
+-- The environment and the commits of a frame do not depend on the script's entries for later frames.
 use Rattle.std.proofs.Math.Bool.{and-false}
 use Rattle.std.proofs.Common.{◌≡◌, ℕ, Bool, true, false, refl, arith, ap, sym, ◌∙◌, List, [], ◌∷◌, length}
 use Rattle.std.specs.Prelude.{◌&&◌, ◌||◌, ◌==◌, filter, if◌then◌else◌, nat_le, nat_lt}

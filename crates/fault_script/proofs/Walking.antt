@@ -1,4 +1,4 @@
--- What the changes that came so far make of the factors' values.
+-- The factors' values after the changes that have come so far.
 use Rattle.std.proofs.Common.{◌≡◌, ℕ, zero, suc, ◌+◌, ◌-◌, ◌<◌, ◌≤◌, Bool, true, false, not, refl, arith, ap, sym, subst, ◌∙◌, List, [], ◌∷◌, length, get_or}
 use mathlib.Core.Logic.{inl, inr}
 use Rattle.scram_types.proofs.Naturals.{at_or_below, above_test, below_or_at, at_most_test}
@@ -41,7 +41,7 @@ value_more (first ∷ changes) x zero value change there =
     taken_none changes x (newest first x value) ∙ ap (λ (c : Change). newest c x value) is
 value_more (first ∷ changes) x (suc n) value change there = value_more changes x n (newest first x value) change there
 
--- two lists of six numbers, each of which is that of the other
+-- two lists of six numbers that are equal one by one
 pub six_same : (a b c d e f g h i j k l : ℕ) → a ≡ g → b ≡ h → c ≡ i → d ≡ j → e ≡ k → f ≡ l
     → ◌≡◌ {A = List ℕ} (a ∷ b ∷ c ∷ d ∷ e ∷ f ∷ []) (g ∷ h ∷ i ∷ j ∷ k ∷ l ∷ [])
 six_same a b c d e f g h i j k l p q r s t u = rw (p, q, r, s, t, u) refl
@@ -95,7 +95,7 @@ ascend_step changes later k x y at_k before (Some z) e =
     let after = ordered z y (later k z y e (ap (slice_get changes) (sym (plus_one k)) ∙ at_k)) in
     omega arith
 
--- changes go by frame
+-- changes are in the order of frames
 ascending : (changes : List Change) → EachNext ChangeBefore changes → (k n : ℕ) (x y : Change) → n ≤ k → slice_get changes n ≡ Some x → slice_get changes k ≡ Some y → x.frame ≤ y.frame
 ascending changes later zero n x y h at_n at_k = same_item changes n zero x y (omega arith) at_n at_k
 ascending changes later (suc k) n x y h at_n at_k = elim (at_or_below n k h) [
@@ -169,7 +169,7 @@ walk_moves spec script fits f after at taken values whole up = record {
   env = env_whole spec script (f + 1) after.env up (values ∙ values_are script (f + 1) after.taken fits.changes_ordered taken whole);
 }
 
--- a walk stands at its own frame
+-- a walk is at its own frame
 pub stands_there : (spec : Parts) (script : ScriptParts) (f : ℕ) (walk : Walk) → IsWalk spec script f walk → IsWalk spec script walk.frame walk
 stands_there spec script f walk is = subst (λ g. IsWalk spec script g walk) (sym is.frame) is
 
@@ -262,7 +262,7 @@ window_moves spec script f window after left late is leads trails c l changes =
       changes = rw (← apart) (omega arith);
     }
 
--- what a window says of its frame
+-- what a window shows of its frame
 pub window_tells : (spec : Parts) (script : ScriptParts) (f : ℕ) (window : Window) → IsWindow spec script f window
     → (window.changed && nat_lt (spec.changes + 1) window.changes) ≡ is_change_too_many spec script f
 window_tells spec script f window is =
@@ -270,7 +270,7 @@ window_tells spec script f window is =
     let held : window.changes ≡ changes_in_window spec script f = omega arith in
     rw (is.changed, held) refl
 
--- what a list of changes reads past its end
+-- the entry that is read past the end of a list of changes
 abbrev pub blank : Change
 blank = record { frame = 0; factor = record { 0 = 0 }; value = 0 }
 

@@ -1,4 +1,4 @@
--- The failure assumption: how many processors are down, and how often the environment changes.
+-- The failure assumption: the number of processors that may be down, and how often the environment may change.
 use Rattle.std.specs.Prelude.{◌≡◌, ℕ, zero, suc, ◌+◌, ◌-◌, ◌≤◌, Bool, false, not, ◌&&◌, ◌==◌, nat_lt, length, Option, Some, None, if◌then◌else◌}
 use Rattle.std.specs.Str.{bytes_eq}
 use Rattle.scram_types.specs.declared.rows.Env.{Env}
@@ -11,11 +11,11 @@ use Rattle.fault_script.specs.declared.assumption.OutsideKind.TheVariants as kin
 use Rattle.fault_script.specs.Times.{is_up}
 use Rattle.fault_script.specs.Environments.{env_at}
 
--- How many of the first n processors are down in frame f.
+-- The number of processors below `n` that are down in frame `f`.
 abbrev pub down_below : ScriptParts → ℕ → ℕ → ℕ
 down_below script f n = count_below (λ p. not (is_up script p f)) n
 
--- More processors are down in frame f than are assumed ever to be.
+-- More processors are down in frame `f` than the specification assumes.
 abbrev pub has_too_many_down : Parts → ScriptParts → ℕ → Bool
 has_too_many_down spec script f = nat_lt spec.halts (down_below script f (length spec.procs))
 
@@ -23,50 +23,50 @@ has_too_many_down spec script f = nat_lt spec.halts (down_below script f (length
 abbrev pub is_same_env : Env → Env → Bool
 is_same_env v w = v.up == w.up && bytes_eq v.factors w.factors
 
--- The environment of frame f differs from that of the frame before; frame 0 has none before.
+-- The environment of frame `f` differs from that of the preceding frame. Frame 0 is no change frame.
 abbrev pub is_change_frame : Parts → ScriptParts → ℕ → Bool
 is_change_frame spec script zero = false
 is_change_frame spec script (suc f) = not (is_same_env (env_at spec script f) (env_at spec script (suc f)))
 
--- How many of the frames up to f are change frames.
+-- The number of change frames up to frame `f`, inclusive.
 abbrev pub changes_upto : Parts → ScriptParts → ℕ → ℕ
 changes_upto spec script zero = 0
 changes_upto spec script (suc f) = changes_upto spec script f + (if is_change_frame spec script (suc f) then 1 else 0)
 
--- How many change frames a window that ends with frame f holds. It may begin before the first frame.
+-- The number of change frames in the window that ends with frame `f`. The window may begin before the first frame.
 abbrev pub changes_in_window : Parts → ScriptParts → ℕ → ℕ
 changes_in_window spec script f = changes_upto spec script f - changes_upto spec script (f - spec.window)
 
--- Frame f is a change frame, and one too many for the window that ends with it.
+-- Frame `f` is a change frame, and the window that ends with it has too many change frames.
 abbrev pub is_change_too_many : Parts → ScriptParts → ℕ → Bool
 is_change_too_many spec script f = is_change_frame spec script f && nat_lt (spec.changes + 1) (changes_in_window spec script f)
 
--- Too many processors are down in the frame after f, which is asked after up to the number of frames: what
--- halts in frame f is down in the next one.
+-- Too many processors are down in the frame after `f`, and `f` is not the number of frames. A processor that halts in
+-- frame `f` is down in the next frame.
 abbrev pub brings_too_many_down : Parts → ScriptParts → ℕ → Bool
 brings_too_many_down spec script f = not (f == script.frames) && has_too_many_down spec script (f + 1)
 
--- How frame f leaves the assumption.
+-- The way in which frame `f` leaves the assumption, or none if it does not.
 abbrev pub outside_at : Parts → ScriptParts → ℕ → Option Outside
 outside_at spec script f =
     if brings_too_many_down spec script f then Some (record { frame = f; kind = kind.Halts })
     else (if is_change_too_many spec script f then Some (record { frame = f; kind = kind.Changes }) else None)
 
--- The first frame from 0 to the number of frames that leaves the assumption.
+-- The first frame that leaves the assumption, of the frames from 0 to the number of frames, inclusive.
 abbrev pub first_outside : Parts → ScriptParts → Option Outside
 first_outside spec script = first_below (outside_at spec script) (suc script.frames)
 
--- A script keeps to the failure assumption. A window of frames holds at most one change and the changes
--- that are assumed beyond it; it may stick out of the script at either end.
+-- A script keeps to the failure assumption. A window has at most one change frame more than the assumed number of
+-- changes. It may begin before the first frame and end after the last one.
 pub record IsWithin (spec : Parts) (script : ScriptParts) : Type 0 where
   pub scope : (f : ℕ) → f ≤ script.frames → down_below script f (length spec.procs) ≤ spec.halts
   pub few : (f : ℕ) → f ≤ script.frames → changes_upto spec script f ≤ changes_upto spec script (f - spec.window) + spec.changes + 1
 
--- A script is outside nowhere exactly where it is within.
+-- No frame of the script leaves the assumption if and only if the script keeps to it.
 pub record LeavesNowhere (spec : Parts) (script : ScriptParts) : Type 0 where
   pub within : first_outside spec script ≡ None → IsWithin spec script
   pub nowhere : IsWithin spec script → first_outside spec script ≡ None
 
--- A script keeps to the failure assumption exactly where no frame of it leaves the assumption.
+-- A script keeps to the failure assumption if and only if no frame of it leaves the assumption.
 abbrev pub WithinWhereNowhereOutside : Type 0
 WithinWhereNowhereOutside = (spec : Parts) (script : ScriptParts) → LeavesNowhere spec script

@@ -1,4 +1,4 @@
--- When a script fits a specification.
+-- The scripts that fit a specification.
 use Rattle.std.specs.Prelude.{◌≡◌, ◌⊎◌, ℕ, ◌+◌, ◌<◌, ◌≤◌, List, length, slice_get, Some}
 use Rattle.scram_types.specs.declared.limits.TheConstants.{MAX_CHANGES, MAX_FRAMES}
 use Rattle.scram_types.specs.declared.scripts.Change.{Change}
@@ -17,7 +17,7 @@ pub record IsChange (spec : Parts) (frames : ℕ) (change : Change) : Type 0 whe
   pub there : slice_get spec.factors change.factor.0 ≡ Some factor
   pub value : change.value < length factor.values
 
--- A halt comes after some of the stores, or after the mark, of a processor that exists.
+-- A halt is of a processor that exists, after a number of its stores or after its mark.
 pub record IsHalt (spec : Parts) (frames : ℕ) (halt : HaltAt) : Type 0 where
   pub proc : halt.proc.0 < length spec.procs
   pub frame : halt.frame < frames
@@ -29,31 +29,31 @@ pub record IsRestart (spec : Parts) (frames : ℕ) (restart : RestartAt) : Type 
   pub least : 2 ≤ restart.frame
   pub most : restart.frame < frames
 
--- One comes before another by frame and then by number.
+-- A pair of a frame and a number comes before another, by frame and then by number.
 abbrev pub Before : ℕ → ℕ → ℕ → ℕ → Type 0
 Before frame number next_frame next_number = (frame < next_frame) ⊎ ((frame ≡ next_frame) × (number < next_number))
 
--- Each item of a list and the next one.
+-- A relation holds for each item of a list and the next one.
 abbrev pub EachNext : {A : Type 0} → (A → A → Type 0) → List A → Type 0
 EachNext {A} R xs = (i : ℕ) (x y : A) → slice_get xs i ≡ Some x → slice_get xs (i + 1) ≡ Some y → R x y
 
--- Each item of a list and each later one.
+-- A relation holds for each item of a list and each later one.
 abbrev pub EachLater : {A : Type 0} → (A → A → Type 0) → List A → Type 0
 EachLater {A} R xs = (i j : ℕ) (x y : A) → i < j → slice_get xs i ≡ Some x → slice_get xs j ≡ Some y → R x y
 
--- One change comes before another by frame, and in one frame by factor.
+-- One change comes before another, by frame and then by factor.
 abbrev pub ChangeBefore : Change → Change → Type 0
 ChangeBefore a b = Before a.frame a.factor.0 b.frame b.factor.0
 
--- One halt comes before another by frame, and in one frame by processor.
+-- One halt comes before another, by frame and then by processor.
 abbrev pub HaltBefore : HaltAt → HaltAt → Type 0
 HaltBefore a b = Before a.frame a.proc.0 b.frame b.proc.0
 
--- One restart comes before another by frame, and in one frame by processor.
+-- One restart comes before another, by frame and then by processor.
 abbrev pub RestartBefore : RestartAt → RestartAt → Type 0
 RestartBefore a b = Before a.frame a.proc.0 b.frame b.proc.0
 
--- Processor p halts in a frame at least two before f.
+-- Processor `p` halts two frames or more before frame `f`.
 pub record HaltsWellBefore (halts : List HaltAt) (p f : ℕ) : Type 0 where
   pub place : ℕ
   pub halt : HaltAt
@@ -61,7 +61,7 @@ pub record HaltsWellBefore (halts : List HaltAt) (p f : ℕ) : Type 0 where
   pub proc : halt.proc.0 ≡ p
   pub frame : halt.frame + 2 ≤ f
 
--- Processor p restarts in a frame up to f.
+-- Processor `p` restarts in frame `f` or an earlier one.
 pub record RestartsBy (restarts : List RestartAt) (p f : ℕ) : Type 0 where
   pub place : ℕ
   pub restart : RestartAt
@@ -69,15 +69,15 @@ pub record RestartsBy (restarts : List RestartAt) (p f : ℕ) : Type 0 where
   pub proc : restart.proc.0 ≡ p
   pub frame : restart.frame ≤ f
 
--- Of three halts no two later ones are of the first one's processor.
+-- No three halts of a list are of the same processor.
 abbrev pub AtMostTwice : List HaltAt → Type 0
 AtMostTwice halts = (i j k : ℕ) (x y z : HaltAt) → i < j → j < k
     → slice_get halts i ≡ Some x → slice_get halts j ≡ Some y → slice_get halts k ≡ Some z
     → x.proc.0 ≡ y.proc.0 → x.proc.0 ≡ z.proc.0 → ⊥
 
--- A script fits a specification: what it names exists, its numbers and lengths are in range, and its lists
--- go by frame. A processor restarts once at most, two frames or more after a halt of it; it halts twice
--- at most, and the second time not before its restart.
+-- A script fits a specification. The names in it exist, its numbers and lengths are in range, and its lists are in
+-- order. A processor restarts at most once, two frames or more after a halt of it. A processor halts at most twice, and
+-- the second time not before its restart.
 pub record Fits (spec : Parts) (script : ScriptParts) : Type 0 where
   pub frames : script.frames ≤ MAX_FRAMES
   pub changes_count : length script.changes ≤ MAX_CHANGES

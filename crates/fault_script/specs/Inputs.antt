@@ -1,4 +1,4 @@
--- What happens to a frame.
+-- The input of each frame.
 use Rattle.std.specs.Prelude.{ℕ, length}
 use Rattle.scram_types.specs.Bits.{bits_below}
 use Rattle.scram_types.specs.Scripts.{ScriptParts}
@@ -6,8 +6,8 @@ use Rattle.scram_types.specs.Specification.{Parts}
 use Rattle.fault_script.specs.declared.inputs.Input.{Input}
 use Rattle.fault_script.specs.Times.{factors_at, halts_after_mark, halts_before_mark, restarts_in}
 
--- What happens to frame f: the factors' values, and which processors halt in it before and after the mark and
--- restart.
+-- The input of frame `f`: the factors' values, and the sets of processors that halt in it before the mark, halt in it
+-- after the mark, and restart in it.
 abbrev pub input_at : Parts → ScriptParts → ℕ → Input
 input_at spec script f = record {
   factors = factors_at script f;

@@ -1,4 +1,4 @@
--- What environments over time keep.
+-- Laws of the environments over time.
 use Rattle.std.specs.Prelude.{◌≡◌, ◌⊎◌, ℕ, suc, ◌<◌, ◌≤◌, ◌^◌, true, false, nat_le, [], filter, length, slice_get, Some}
 use Rattle.std.specs.Int.{bit_at}
 use Rattle.scram_types.specs.declared.scripts.Change.{Change}
@@ -13,7 +13,7 @@ use Rattle.fault_script.specs.Times.{commits, factor_at, halts_in, is_up, restar
 use Rattle.fault_script.specs.Environments.{env_at}
 use Rattle.fault_script.specs.Fits.{Fits}
 
--- A halt shows in the next frame: a processor that halts in frame h is down in the environment of frame h + 1.
+-- A processor that halts in frame `h` is down in the environment of frame `h + 1`.
 abbrev pub HaltsShow : Type 0
 HaltsShow = (spec : Parts) (script : ScriptParts) → Fits spec script → (p h : ℕ) → halts_in script p h ≡ true
     → (is_up script p (suc h) ≡ false) × (bit_at (env_at spec script (suc h)).up p ≡ 0)
@@ -23,14 +23,14 @@ abbrev pub LossesShow : Type 0
 LossesShow = (spec : Parts) (script : ScriptParts) → Fits spec script → (p f : ℕ) → commits spec script p f ≡ false
     → (is_up script p f ≡ false) ⊎ (is_up script p (suc f) ≡ false)
 
--- A processor is up in frame f exactly where it has restarted since each of its halts in a frame below f.
+-- A processor is up in frame `f` if and only if it has restarted since each of its halts in a frame below `f`.
 abbrev pub UpAfterEachHalt : Type 0
 UpAfterEachHalt = (script : ScriptParts) (p f : ℕ) →
     (is_up script p f ≡ true → (h : ℕ) → h < f → halts_in script p h ≡ true → restarted script p h f ≡ true)
     × (((h : ℕ) → h < f → halts_in script p h ≡ true → restarted script p h f ≡ true) → is_up script p f ≡ true)
 
--- What an environment holds: a processor's bit says whether it is up, no bit past the last processor is set, each
--- factor has one of its values, and zeros stand past the last factor.
+-- A processor's bit in the environment of frame `f` says whether it is up, and no bit past the last processor is set.
+-- Each factor has one of its values, and the entries past the last factor are zero.
 pub record Shows (spec : Parts) (script : ScriptParts) (f : ℕ) : Type 0 where
   pub up : (p : ℕ) → p < length spec.procs → is_up script p f ≡ true → bit_at (env_at spec script f).up p ≡ 1
   pub down : (p : ℕ) → p < length spec.procs → is_up script p f ≡ false → bit_at (env_at spec script f).up p ≡ 0
@@ -38,23 +38,24 @@ pub record Shows (spec : Parts) (script : ScriptParts) (f : ℕ) : Type 0 where
   pub values : (x : ℕ) (factor : Factor) → slice_get spec.factors x ≡ Some factor → factor_at script x f < length factor.values
   pub rest : (x : ℕ) → length spec.factors ≤ x → factor_at script x f ≡ 0
 
--- The environment of each frame says which processors are up and which values the factors have.
+-- The environment of each frame shows the processors that are up and the values of the factors.
 abbrev pub EnvironmentsShow : Type 0
 EnvironmentsShow = (spec : Parts) (script : ScriptParts) → IsSpec spec → Fits spec script → (f : ℕ) → Shows spec script f
 
--- Two scripts say the same up to frame f.
+-- Two scripts have the same entries up to frame `f`.
 pub record AgreeUpTo (f : ℕ) (one other : ScriptParts) : Type 0 where
   pub changes : filter (λ (change : Change). nat_le change.frame f) one.changes ≡ filter (λ (change : Change). nat_le change.frame f) other.changes
   pub halts : filter (λ (halt : HaltAt). nat_le halt.frame f) one.halts ≡ filter (λ (halt : HaltAt). nat_le halt.frame f) other.halts
   pub restarts : filter (λ (restart : RestartAt). nat_le restart.frame f) one.restarts ≡ filter (λ (restart : RestartAt). nat_le restart.frame f) other.restarts
 
--- Nothing of frame f depends on what the script says of later frames.
+-- The environment of frame `f` and the processors that commit it do not depend on the script's entries for later
+-- frames.
 abbrev pub LaterIsUnseen : Type 0
 LaterIsUnseen = (spec : Parts) (one other : ScriptParts) (f : ℕ) → AgreeUpTo f one other
     → (env_at spec one f ≡ env_at spec other f) × ((p : ℕ) → commits spec one p f ≡ commits spec other p f)
 
--- Where too many processors are down, the frame that is shown is one in which a processor halts, and without restarts
--- it is the frame of halt number `halts + 1` in the script's order.
+-- If too many processors are down, a processor halts in the frame that is returned. Without restarts it is the frame of
+-- halt number `halts + 1` in the script's order.
 abbrev pub TooManyDownShowsAHalt : Type 0
 TooManyDownShowsAHalt = (spec : Parts) (script : ScriptParts) → Fits spec script
     → (f : ℕ) → first_outside spec script ≡ Some (record { frame = f; kind = kind.Halts })

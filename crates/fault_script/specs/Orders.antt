@@ -1,4 +1,4 @@
--- What a script's lists keep: their order, and how halts and restarts of a processor alternate.
+-- The rules of a script's lists: their order, and how halts and restarts of a processor alternate.
 use Rattle.std.specs.Prelude.{ℕ, ◌+◌, ◌-◌, Bool, true, not, ◌&&◌, ◌||◌, ◌==◌, nat_lt, nat_le, List, [], ◌∷◌, length, Option, Some, None, slice_get, if◌then◌else◌}
 use Rattle.std.specs.List.{list_any}
 use Rattle.scram_types.specs.declared.scripts.Change.{Change}
@@ -8,7 +8,7 @@ use Rattle.fault_script.specs.declared.version.Version.{Version}
 use Rattle.fault_script.specs.declared.version.Version.TheVariants.{First, Second}
 use Rattle.fault_script.specs.Times.{is_halt_of, is_restart_of}
 
--- by frame and then by number, both after the last
+-- A frame and a number come after the last ones, by frame and then by number.
 abbrev pub comes_after : ℕ → ℕ → ℕ → ℕ → Bool
 comes_after last_frame last_number frame number = nat_lt last_frame frame || (last_frame == frame && nat_lt last_number number)
 
@@ -16,51 +16,52 @@ comes_after last_frame last_number frame number = nat_lt last_frame frame || (la
 abbrev pub last_of : {A : Type 0} → List A → Option A
 last_of xs = slice_get xs (length xs - 1)
 
--- A change comes after the last one, if there is one.
+-- A change comes after the last change, if there is one.
 abbrev pub change_after : Option Change → Change → Bool
 change_after None change = true
 change_after (Some last) change = comes_after last.frame last.factor.0 change.frame change.factor.0
 
--- a change comes after those before it
+-- A change comes after the preceding ones.
 abbrev pub change_follows : List Change → Change → Bool
 change_follows before change = change_after (last_of before) change
 
--- A halt comes after the last one, if there is one.
+-- A halt comes after the last halt, if there is one.
 abbrev pub halt_after : Option HaltAt → HaltAt → Bool
 halt_after None halt = true
 halt_after (Some last) halt = comes_after last.frame last.proc.0 halt.frame halt.proc.0
 
--- a halt comes after those before it; in the first version, no processor halts twice
+-- A halt comes after the preceding ones. In the first version, no processor halts twice.
 abbrev pub halt_follows : Version → List HaltAt → HaltAt → Bool
 halt_follows First before halt = halt_after (last_of before) halt && not (list_any (is_halt_of halt.proc.0) before)
 halt_follows Second before halt = halt_after (last_of before) halt
 
--- A restart comes after the last one, if there is one.
+-- A restart comes after the last restart, if there is one.
 abbrev pub restart_after : Option RestartAt → RestartAt → Bool
 restart_after None restart = true
 restart_after (Some last) restart = comes_after last.frame last.proc.0 restart.frame restart.proc.0
 
--- A halt is of processor p and in a frame at least two before f.
+-- A halt is of processor `p` and two frames or more before frame `f`.
 abbrev pub is_halt_before : ℕ → ℕ → HaltAt → Bool
 is_halt_before p f halt = halt.proc.0 == p && nat_le (halt.frame + 2) f
 
--- a restart comes after those before it, is the first of its processor, and two frames or more after a halt of it
+-- A restart comes after the preceding ones, is the first of its processor, and is two frames or more after a halt of
+-- it.
 abbrev pub restart_follows : List HaltAt → List RestartAt → RestartAt → Bool
 restart_follows halts before restart =
     restart_after (last_of before) restart
     && not (list_any (is_restart_of restart.proc.0) before)
     && list_any (is_halt_before restart.proc.0 restart.frame) halts
 
--- how many of the halts are of processor p
+-- The number of halts of processor `p`.
 abbrev pub halts_of : ℕ → List HaltAt → ℕ
 halts_of p [] = 0
 halts_of p (halt ∷ halts) = (if halt.proc.0 == p then 1 else 0) + halts_of p halts
 
--- A restart is of processor p and in a frame up to f.
+-- A restart is of processor `p` and in frame `f` or an earlier one.
 abbrev pub is_restart_by : ℕ → ℕ → RestartAt → Bool
 is_restart_by p f restart = restart.proc.0 == p && nat_le restart.frame f
 
--- a processor may halt once, and once more where it has restarted
+-- A processor may halt once, and a second time if it has restarted by then.
 abbrev pub may_halt : List RestartAt → List HaltAt → HaltAt → Bool
 may_halt restarts before halt =
     halts_of halt.proc.0 before == 0

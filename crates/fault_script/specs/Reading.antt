@@ -1,4 +1,4 @@
--- The script that a document is, or the first rule that it breaks.
+-- The script that a document encodes, or the first rule that it breaks.
 use Rattle.std.specs.Prelude.{ℕ, suc, ◌+◌, ◌==◌, ◌||◌, Bool, List, [], ◌∷◌, ◌++◌, length, codes, Option, Some, None, option_and_then, slice_get, Result, Ok, nat_le, if◌then◌else◌, ⊤}
 use Rattle.serde_json.specs.Data.{Data}
 use Rattle.scram_doc.specs.declared.fault.DocFault.{DocFault}
@@ -26,27 +26,27 @@ use Rattle.fault_script.specs.Orders.{change_follows, halt_follows, may_halt, re
 use Rattle.fault_script.specs.Times.{words}
 use Rattle.fault_script.specs.Versions.{halts_limit, member_count, version_of}
 
--- the rule is kept where the test passes
+-- Success if the test passes, else the fault of a rule at a path.
 abbrev pub keep : Bool → ℕ → List ℕ → Result ⊤ DocFault
 keep test rule at = if test then Ok tt else broken rule at
 
--- 1 or 2, tested after its range
+-- Checks that the value is 1 or 2. Its range is checked first.
 abbrev pub read_scram : List ℕ → Data → Result ⊤ DocFault
 read_scram at d = chain (whole_at 0 1001 at d) (λ (n : ℕ). keep (n == 1 || n == 2) UNKNOWN_VERSION at)
 
--- the processor that a text names
+-- The processor that a text names.
 abbrev pub read_named_proc : Parts → List ℕ → Data → Result ProcId DocFault
 read_named_proc spec at d = chain (text_at at d) (λ (text : List ℕ). or_broken UNKNOWN_NAME at (proc_named spec text))
 
--- the factor that a text names
+-- The factor that a text names.
 abbrev pub read_named_factor : Parts → List ℕ → Data → Result FactorId DocFault
 read_named_factor spec at d = chain (text_at at d) (λ (text : List ℕ). or_broken UNKNOWN_NAME at (factor_named spec text))
 
--- the number of the factor's value of this name
+-- The number of the factor's value with this name, or none.
 abbrev pub find_value : Parts → FactorId → List ℕ → Option ℕ
 find_value spec x text = option_and_then (λ (factor : Factor). value_named factor text) (slice_get spec.factors x.0)
 
--- the value of a factor that a text names
+-- The value of a factor that a text names.
 abbrev pub read_named_value : Parts → FactorId → List ℕ → Data → Result ℕ DocFault
 read_named_value spec x at d = chain (text_at at d) (λ (text : List ℕ). or_broken UNKNOWN_NAME at (find_value spec x text))
 
@@ -62,7 +62,7 @@ change_values spec frames at frame factor value =
     chain (read_named_value spec factor (member_path at (codes "value")) value) (λ (value : ℕ).
     Ok (make_change frame factor value))))
 
--- The change that the value at a path is.
+-- The change that the value at a path encodes.
 abbrev pub read_change : Parts → ℕ → List ℕ → Data → Result Change DocFault
 read_change spec frames at d =
     chain (object_at at d) (λ (_ : ⊤).
@@ -72,13 +72,13 @@ read_change spec frames at d =
     chain (no_more_than 3 at d) (λ (_ : ⊤).
     change_values spec frames at frame factor value)))))
 
--- a change that comes after those before it
+-- The change that a value encodes, which must come after the preceding ones.
 abbrev pub read_next_change : Parts → ℕ → List ℕ → List Change → Data → Result Change DocFault
 read_next_change spec frames at before d =
     chain (read_change spec frames at d) (λ (change : Change).
     chain (keep (change_follows before change) OUT_OF_ORDER at) (λ (_ : ⊤). Ok change))
 
--- The changes of a script, each after those before it.
+-- The changes of a script, each of which must come after the preceding ones.
 abbrev pub read_changes : Parts → ℕ → List ℕ → Data → Result (List Change) DocFault
 read_changes spec frames at d = elements_at (read_next_change spec frames) 0 MAX_CHANGES at d
 
@@ -94,7 +94,7 @@ halt_values spec frames at proc frame step =
     chain (whole_at 0 (words spec + 2) (member_path at (codes "step")) step) (λ (step : ℕ).
     Ok (make_halt proc frame step))))
 
--- The halt that the value at a path is.
+-- The halt that the value at a path encodes.
 abbrev pub read_halt : Parts → ℕ → List ℕ → Data → Result HaltAt DocFault
 read_halt spec frames at d =
     chain (object_at at d) (λ (_ : ⊤).
@@ -104,13 +104,13 @@ read_halt spec frames at d =
     chain (no_more_than 3 at d) (λ (_ : ⊤).
     halt_values spec frames at proc frame step)))))
 
--- a halt that comes after those before it
+-- The halt that a value encodes, which must come after the preceding ones.
 abbrev pub read_next_halt : Parts → Version → ℕ → List ℕ → List HaltAt → Data → Result HaltAt DocFault
 read_next_halt spec version frames at before d =
     chain (read_halt spec frames at d) (λ (halt : HaltAt).
     chain (keep (halt_follows version before halt) OUT_OF_ORDER at) (λ (_ : ⊤). Ok halt))
 
--- The halts of a script, each after those before it.
+-- The halts of a script, each of which must come after the preceding ones.
 abbrev pub read_halts : Parts → Version → ℕ → List ℕ → Data → Result (List HaltAt) DocFault
 read_halts spec version frames at d = elements_at (read_next_halt spec version frames) 0 (halts_limit version) at d
 
@@ -125,7 +125,7 @@ restart_values spec frames at proc frame =
     chain (whole_at 2 frames (member_path at (codes "frame")) frame) (λ (frame : ℕ).
     Ok (make_restart proc frame)))
 
--- The restart that the value at a path is.
+-- The restart that the value at a path encodes.
 abbrev pub read_restart : Parts → ℕ → List ℕ → Data → Result RestartAt DocFault
 read_restart spec frames at d =
     chain (object_at at d) (λ (_ : ⊤).
@@ -134,25 +134,25 @@ read_restart spec frames at d =
     chain (no_more_than 2 at d) (λ (_ : ⊤).
     restart_values spec frames at proc frame))))
 
--- a restart that comes after those before it
+-- The restart that a value encodes, which must come after the preceding ones.
 abbrev pub read_next_restart : Parts → ℕ → List HaltAt → List ℕ → List RestartAt → Data → Result RestartAt DocFault
 read_next_restart spec frames halts at before d =
     chain (read_restart spec frames at d) (λ (restart : RestartAt).
     chain (keep (restart_follows halts before restart) WRONG_RESTART at) (λ (_ : ⊤). Ok restart))
 
--- the first version has no restarts
+-- The restarts of a script. The first version has none.
 abbrev pub read_restarts : Parts → ℕ → List HaltAt → List ℕ → Option Data → Result (List RestartAt) DocFault
 read_restarts spec frames halts at None = Ok []
 read_restarts spec frames halts at (Some d) = elements_at (read_next_restart spec frames halts) 0 8 at d
 
--- each halt from place i on is one that its processor may have, after those before it
+-- Checks that each halt, the first of which has index `i`, is one that its processor may have after the preceding ones.
 abbrev pub keep_halts : List RestartAt → List ℕ → ℕ → List HaltAt → List HaltAt → Result ⊤ DocFault
 keep_halts restarts at i before [] = Ok tt
 keep_halts restarts at i before (halt ∷ halts) =
     chain (keep (may_halt restarts before halt) WRONG_HALT (item_path at i)) (λ (_ : ⊤).
     keep_halts restarts at (suc i) (before ++ halt ∷ []) halts)
 
--- the values of a script's members
+-- The values of a script's members.
 pub record ScriptMembers : Type 0 where
   pub scram : Data
   pub frames : Data
@@ -165,12 +165,13 @@ abbrev pub make_members : Data → Data → Data → Data → Option Data → Sc
 make_members scram frames changes halts restarts =
     record { scram = scram; frames = frames; changes = changes; halts = halts; restarts = restarts }
 
--- The restarts, which a script of the second version must have and one of the first has not.
+-- The value of the member `restarts`, which a script of the second version must have and a script of the first must not
+-- have.
 abbrev pub need_restarts : Version → Data → Result (Option Data) DocFault
 need_restarts First d = Ok None
 need_restarts Second d = ok_map (λ (restarts : Data). Some restarts) (needed (codes "restarts") [] d)
 
--- The values of the members of a script's document, which has those of its version and no other.
+-- The values of the members of a script document, which has exactly those of its version.
 abbrev pub find_members : Version → Data → Result ScriptMembers DocFault
 find_members version d =
     chain (object_at [] d) (λ (_ : ⊤).
@@ -182,7 +183,7 @@ find_members version d =
     chain (no_more_than (member_count version) [] d) (λ (_ : ⊤).
     Ok (make_members scram frames changes halts restarts))))))))
 
--- How many frames a script has; its version is tested before.
+-- The number of frames of a script, read after its version is checked.
 abbrev pub read_frames : Data → Data → Result ℕ DocFault
 read_frames scram frames =
     chain (read_scram (member_path [] (codes "scram")) scram) (λ (_ : ⊤).
@@ -193,7 +194,7 @@ abbrev pub make_script : ℕ → List Change → List HaltAt → List RestartAt 
 make_script frames changes halts restarts =
     record { frames = frames; changes = changes; halts = halts; restarts = restarts }
 
--- The script whose members have these values, each read and tested in the order of the members.
+-- The script whose members have these values, each read and checked in the order of the members.
 abbrev pub read_values : Parts → Version → ScriptMembers → Result ScriptParts DocFault
 read_values spec version m =
     chain (read_frames m.scram m.frames) (λ (frames : ℕ).
@@ -203,11 +204,11 @@ read_values spec version m =
     chain (keep_halts restarts (member_path [] (codes "halts")) 0 [] halts) (λ (_ : ⊤).
     Ok (make_script frames changes halts restarts))))))
 
--- The script that a JSON value is, or the first broken rule with its path.
+-- The script that a JSON value encodes, or the first broken rule with its path.
 abbrev pub script_in : Parts → Data → Result ScriptParts DocFault
 script_in spec d = chain (find_members (version_of d) d) (λ (m : ScriptMembers). read_values spec (version_of d) m)
 
--- the script that the bytes are, or the first broken rule with its path; the length is tested first
+-- The script that the bytes encode, or the first broken rule with its path. The length is checked first.
 abbrev pub script_of : Parts → List ℕ → Result ScriptParts DocFault
 script_of spec bytes =
     if nat_le (length bytes) MAX_SCRIPT_BYTES then chain (parsed bytes) (λ (d : Data). script_in spec d) else broken TOO_LONG []

@@ -9,8 +9,8 @@ use crate::times::up_at;
 use crate::walks::{Window, next_window, opening_window};
 use scram_types::{ProcId, Script, Spec};
 
-/// In which way a script leaves the failure assumption: too many processors are down, or the
-/// environment changes too often.
+/// The way in which a script leaves the failure assumption: too many processors are down, or the environment changes
+/// too often.
 #[derive(Clone, Copy, Debug, PartialEq, Eq)]
 pub enum OutsideKind {
     Halts,
@@ -24,15 +24,14 @@ pub struct Outside {
     pub kind: OutsideKind,
 }
 
-/// Returns whether a script that fits the specification keeps to its failure assumption: in no frame, that after the
-/// last one included, are more than `halts` processors down, and any `window` consecutive frames hold at most
-/// `changes + 1` frames whose environment differs from that of the frame before. A window may begin before the first
-/// frame.
+/// Checks that a script that fits the specification keeps to its failure assumption. In every frame, and in the frame
+/// after the last one, at most `halts` processors are down. Any `window` consecutive frames have at most `changes + 1`
+/// frames whose environment differs from that of the preceding frame. A window may begin before the first frame.
 ///
 /// # Errors
 ///
-/// The first frame that leaves the assumption: one with a halt that brings too many processors down,
-/// or else one that changes the environment once too often for the window that ends with it.
+/// The first frame that leaves the assumption. It has a halt that brings too many processors down, or else it changes
+/// the environment once too often for the window that ends with it.
 pub fn within(spec: &Spec, script: &Script) -> Result<(), Outside>
     requires { Fits spec.now script.now }
     ensures within { OnOk result (first_outside spec.now script.now ≡ None) }
@@ -51,7 +50,8 @@ pub fn within(spec: &Spec, script: &Script) -> Result<(), Outside>
     }
 }
 
-// Returns how a frame leaves the assumption, with the window that ends with it.
+// Returns how a frame leaves the assumption, or `None` if it keeps to it. `window` is the window that ends with the
+// frame.
 fn outside_at(spec: &Spec, script: &Script, window: &Window, frame: u32) -> Option<Outside>
     requires window { IsWindow spec.now script.now frame window.now }
     requires frame { frame ≤ script.now.frames }
@@ -72,7 +72,8 @@ fn outside_at(spec: &Spec, script: &Script, window: &Window, frame: u32) -> Opti
     None
 }
 
-// Returns whether too many processors are down in the frame after this one.
+// Returns whether too many processors are down in the frame after this one. After frame number `frames` none is
+// considered.
 fn brings_too_many_down(spec: &Spec, script: &Script, frame: u32) -> bool
     requires { frame ≤ script.now.frames }
     ensures { result ≡ brings_too_many_down spec.now script.now frame }
@@ -86,7 +87,7 @@ fn has_too_many_down(spec: &Spec, script: &Script, frame: u32) -> bool
     spec.halts < count_down(script, spec.procs.items().len() as u8, frame)
 }
 
-// Returns how many of the first `processors` processors are down in a frame.
+// Returns the number of processors below `processors` that are down in a frame.
 fn count_down(script: &Script, processors: u8, frame: u32) -> u8
     ensures value { result ≡ down_below script.now frame processors }
     ensures most { result ≤ processors }
@@ -106,7 +107,7 @@ fn is_change_too_many(spec: &Spec, window: &Window) -> bool
     window.changed && u32::from(spec.changes) + 1 < window.changes
 }
 
-/// A script keeps to the failure assumption exactly where no frame leaves it.
+/// A script keeps to the failure assumption if and only if no frame leaves it.
 pub fn within_where_nowhere_outside()
     ensures { WithinWhereNowhereOutside }
 {}

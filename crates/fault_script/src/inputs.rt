@@ -1,4 +1,4 @@
-//! What happens to a frame.
+//! The input of a frame.
 
 ghost use Rattle.std.specs.Prelude.{◌≡◌, ◌+◌, ◌<◌, ◌^◌, if◌then◌else◌};
 ghost use Rattle.scram_types.specs.Specification.{IsSpec};
@@ -7,8 +7,8 @@ ghost use Rattle.fault_script.specs.Times.{factors_at, halts_before_mark, halts_
 
 use scram_types::{HaltAt, Script, Spec};
 
-/// What happens to a frame: the factors' values in it, and the processors, as bits, that halt in it
-/// before their mark, that halt in it after their mark, and that are up again from it on.
+/// The input of a frame: the values of the factors in it, and three sets of processors, as bits. They are those that
+/// halt in it before their mark, those that halt in it after their mark, and those that are up again from it on.
 #[derive(Clone, Copy, Debug, PartialEq, Eq)]
 pub struct Input {
     pub factors: [u8; 6],
@@ -17,7 +17,7 @@ pub struct Input {
     pub back: u8,
 }
 
-// Returns what happens to a frame in which the factors have these values.
+// Returns the input of a frame in which the factors have these values.
 pub(crate) fn input_at(spec: &Spec, script: &Script, frame: u32, factors: &[u8; 6]) -> Input
     requires { factors.now ≡ factors_at script.now frame }
     ensures input { result ≡ input_at spec.now script.now frame }
@@ -39,7 +39,7 @@ pub(crate) fn input_at(spec: &Spec, script: &Script, frame: u32, factors: &[u8; 
     input
 }
 
-// Returns the set of processors below `p`, with `p` where it is in.
+// Returns the set of processors below `p`, with `p` added if `is_in` is `true`.
 fn with(set: u8, p: u8, is_in: bool) -> u8
     requires p { p < 8 }
     requires set { set < 2 ^ p }

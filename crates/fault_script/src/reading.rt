@@ -16,7 +16,7 @@ use scram_types::{Change, FactorId, HaltAt, List, ProcId, RestartAt, Script, Spe
 use serde_json::Value;
 use std::alloc::Global;
 
-// Tests that a rule is kept.
+// Checks that a rule is kept, and returns the fault if it is not.
 fn keep(test: bool, rule: u8, at: &Path) -> Result<(), ScriptFault>
     ensures { result ≡ keep test rule at.now }
 {
@@ -52,7 +52,7 @@ fn read_named_factor(spec: &Spec, v: &Value, at: &Path) -> Result<FactorId, Scri
     }
 }
 
-/// Returns the number of the value of this name that a factor has, or `None` where there is no such factor or value.
+/// Returns the number of the factor's value with this name, or `None` if there is no such factor or value.
 pub fn find_value(spec: &Spec, factor: FactorId, text: &[u8]) -> Option<u8>
     ensures { result ≡ find_value spec.now factor text.now }
 {
@@ -90,7 +90,7 @@ fn read_change(spec: &Spec, frames: u32, v: &Value, at: &Path) -> Result<Change,
     })
 }
 
-/// The changes of a script with `frames` frames, each of which comes after those before it.
+/// The changes of a script with `frames` frames, each of which comes after the preceding ones.
 #[derive(Clone, Copy)]
 struct Changes<'a> {
     spec: &'a Spec,
@@ -153,7 +153,7 @@ fn read_halt(spec: &Spec, frames: u32, v: &Value, at: &Path) -> Result<HaltAt, S
     })
 }
 
-/// The halts of a script with `frames` frames, each of which comes after those before it.
+/// The halts of a script with `frames` frames, each of which comes after the preceding ones.
 #[derive(Clone, Copy)]
 struct Halts<'a> {
     spec: &'a Spec,
@@ -214,7 +214,7 @@ fn read_restart(spec: &Spec, frames: u32, v: &Value, at: &Path) -> Result<Restar
     Ok(RestartAt { proc, frame })
 }
 
-/// The restarts of a script with `frames` frames, each of which comes after those before it.
+/// The restarts of a script with `frames` frames, each of which comes after the preceding ones.
 #[derive(Clone, Copy)]
 struct Restarts<'a> {
     spec: &'a Spec,
@@ -248,7 +248,7 @@ impl Elements<RestartAt> for Restarts<'_> {
     }
 }
 
-// Returns the restarts of a document that has a list of them.
+// Returns the restarts of a document, which are none if it has no list of them.
 fn read_restarts(
     alloc: Global,
     restarts: &Restarts<'_>,
@@ -268,7 +268,7 @@ fn read_restarts(
     }
 }
 
-// Tests that each halt is one that its processor may have.
+// Checks that each halt is one that its processor may have.
 fn keep_halts(restarts: &[RestartAt], halts: &[HaltAt], at: &Path) -> Result<(), ScriptFault>
     requires path { length at.now ≤ 30 }
     requires few { length halts.now ≤ 16 }
@@ -380,8 +380,8 @@ fn read_document(alloc: Global, spec: &Spec, v: &Value) -> Result<Script, Script
     read_values(alloc, spec, version, &members)
 }
 
-/// Returns the script that a document is, for a specification, or the first rule that it breaks, with the path where
-/// it is broken.
+/// Returns the script that a document encodes, for a specification, or the first rule that it breaks, with the path at
+/// which it breaks it.
 pub fn read_script(alloc: Global, bytes: &[u8], spec: &Spec) -> Result<Script, ScriptError>
     ensures script { Answers (script_of spec.now bytes.now) (λ script. script) result }
     ensures fits { IfOk result (λ script. Fits spec.now script) }

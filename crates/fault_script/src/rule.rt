@@ -1,4 +1,4 @@
-//! The numbers of the rules that a script alone keeps. A fault shows its number, so they never change.
+//! The numbers of the rules that apply to scripts alone. A fault shows its number, so the numbers never change.
 
 /// `scram` is neither 1 nor 2.
 pub const UNKNOWN_VERSION: u8 = 9;
@@ -6,13 +6,13 @@ pub const UNKNOWN_VERSION: u8 = 9;
 /// No factor, no value of the factor or no processor has this name.
 pub const UNKNOWN_NAME: u8 = 10;
 
-/// A change or a halt is not after the one before it, or a processor halts again in version 1.
+/// A change or a halt is not after the preceding one, or a processor halts again in version 1.
 pub const OUT_OF_ORDER: u8 = 11;
 
 /// The document has more than 2,097,152 bytes.
 pub const TOO_LONG: u8 = 12;
 
-/// A restart is not after the one before it, is its processor's second, or comes too early after a halt.
+/// A restart is not after the preceding one, is its processor's second, or comes too early after a halt.
 pub const WRONG_RESTART: u8 = 13;
 
 /// A processor halts a third time, or a second time before its restart.

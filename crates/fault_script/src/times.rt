@@ -1,4 +1,4 @@
-//! What a script says of a processor and of a frame.
+//! Queries of a script about a processor and about a frame.
 
 ghost use Rattle.std.specs.Prelude.{◌≡◌};
 ghost use Rattle.std.specs.List.{list_all};
@@ -6,8 +6,8 @@ ghost use Rattle.fault_script.specs.Times.{factors_at, halt_in, halt_of, is_over
 
 use scram_types::{HaltAt, ProcId, Script};
 
-/// Returns the values of the six factors in a frame, each by its number: that of the factor's last change up to the
-/// frame, and 0 without one.
+/// Returns the values of the six factors in a frame, by number. The value of a factor is that of its last change up to
+/// the frame, or 0 if there is none.
 pub fn factors_at(script: &Script, frame: u32) -> [u8; 6]
     ensures { result ≡ factors_at script.now frame }
 {
@@ -33,7 +33,7 @@ fn value_at(script: &Script, factor: u8, frame: u32) -> u8
     value
 }
 
-/// Returns the first halt of a processor, or `None` where the script has no halt of it.
+/// Returns the first halt of a processor, or `None` if the script has none.
 pub fn halt_of(script: &Script, proc: ProcId) -> Option<HaltAt>
     ensures { result ≡ halt_of script.now proc.0 }
 {
@@ -45,7 +45,7 @@ pub fn halt_of(script: &Script, proc: ProcId) -> Option<HaltAt>
     None
 }
 
-/// Returns the halt of a processor in a frame, or `None` where it has none there.
+/// Returns the halt of a processor in a frame, or `None` if the script has none.
 pub fn halt_in(script: &Script, proc: ProcId, frame: u32) -> Option<HaltAt>
     ensures { result ≡ halt_in script.now proc.0 frame }
 {
@@ -57,7 +57,7 @@ pub fn halt_in(script: &Script, proc: ProcId, frame: u32) -> Option<HaltAt>
     None
 }
 
-/// Returns the frame in which a processor restarts, or `None` where it never does.
+/// Returns the frame in which a processor restarts, or `None` if it never does.
 pub fn restart_of(script: &Script, proc: ProcId) -> Option<u32>
     ensures { result ≡ restart_of script.now proc.0 }
 {
@@ -69,8 +69,8 @@ pub fn restart_of(script: &Script, proc: ProcId) -> Option<u32>
     None
 }
 
-/// Returns whether a processor is up in a frame: it has no halt in an earlier frame, or it has restarted since the
-/// latest such halt and up to this frame.
+/// Returns whether a processor is up in a frame. It is up if it has no halt in an earlier frame, or has restarted since
+/// the latest such halt and up to this frame.
 pub fn up_at(script: &Script, proc: ProcId, frame: u32) -> bool
     ensures { result ≡ is_up script.now proc.0 frame }
 {

@@ -12,8 +12,7 @@ pub enum Version {
     Second,
 }
 
-/// Returns the version whose table a document has: the second where its member `scram` is the number 2, and else the
-/// first.
+/// Returns the version of a document: the second if its member `scram` is the number 2, else the first.
 pub fn version_of(v: &Value) -> Version
     ensures { result ≡ version_of (view v.now) }
 {
@@ -27,7 +26,7 @@ pub fn version_of(v: &Value) -> Version
 }
 
 impl Version {
-    /// Returns how many members a script has.
+    /// Returns the number of members of a script document.
     pub fn member_count(self) -> usize
         ensures { result ≡ member_count self }
     {
@@ -37,7 +36,7 @@ impl Version {
         }
     }
 
-    /// Returns the most halts that a script may list.
+    /// Returns the maximum number of halts in a script.
     pub fn halts_limit(self) -> usize
         ensures count { result ≡ halts_limit self }
         ensures most { result ≤ 16 }

@@ -1,4 +1,4 @@
-//! Going along the frames of a script once, with the changes of a window counted.
+//! Walks along the frames of a script, with the changes of a window counted.
 
 ghost use Rattle.std.specs.Prelude.{◌≡◌, ◌+◌, ◌<◌, length, not};
 ghost use Rattle.scram_types.specs.Bits.{bits_below};
@@ -11,8 +11,8 @@ use crate::inputs::{Input, input_at};
 use crate::times::up_at;
 use scram_types::{Change, Env, ProcId, Script, Spec};
 
-/// A walk along the frames of a script, which looks at each change once: the frame at which it stands,
-/// and the environment of that frame.
+/// A walk along the frames of a script, which visits each change once. It has the frame at which it is, and the
+/// environment of that frame.
 #[derive(Clone, Copy, Debug)]
 pub struct Walk {
     pub frame: u32,
@@ -27,7 +27,7 @@ impl Walk {
     ghost use Rattle.fault_script.specs.Inputs.{input_at};
     ghost use Rattle.fault_script.specs.Walks.{IsWalk};
 
-    /// Returns the walk that stands at frame 0.
+    /// Returns the walk at frame 0.
     pub fn first(spec: &Spec, script: &Script) -> Walk
         requires { Fits spec.now script.now }
         ensures { IsWalk spec.now script.now 0 result }
@@ -42,7 +42,7 @@ impl Walk {
         }
     }
 
-    /// Returns the walk that stands at the next frame; the last one is that after the script's last frame.
+    /// Returns the walk at the next frame. The last possible frame is the one after the script's last frame.
     pub fn next(&self, spec: &Spec, script: &Script) -> Walk
         requires fits { Fits spec.now script.now }
         requires walk { IsWalk spec.now script.now self.now.frame self.now }
@@ -66,7 +66,7 @@ impl Walk {
         }
     }
 
-    /// Returns what happens to the frame at which the walk stands.
+    /// Returns the input of the frame at which the walk is.
     pub fn input(&self, spec: &Spec, script: &Script) -> Input
         requires { IsWalk spec.now script.now self.now.frame self.now }
         ensures input { result ≡ input_at spec.now script.now self.now.frame }
@@ -77,8 +77,8 @@ impl Walk {
     }
 }
 
-// A window that ends with a frame: how many frames in it changed the environment, and whether its last
-// frame did. Of its two walks one stands at that frame, the other at the frame before the window.
+// A window that ends with a frame. It has the number of frames in it that changed the environment, and whether its last
+// frame did. One of its two walks is at its last frame, the other at the frame before the window.
 #[derive(Clone, Copy)]
 pub(crate) struct Window {
     lead: Walk,
@@ -128,7 +128,8 @@ pub(crate) fn next_window(spec: &Spec, script: &Script, window: &Window, frame: 
     }
 }
 
-// Returns how many changes come up to a frame, and the factors' values after them, by those of fewer changes.
+// Returns the number of changes up to a frame, and the factors' values after them, given the number and the values of
+// an earlier frame.
 fn take_changes(
     changes: &[Change],
     before: usize,

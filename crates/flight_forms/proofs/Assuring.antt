@@ -1,4 +1,4 @@
--- What is flown and answered with status 0 is assured.
+-- Each flight that is answered with status 0 is assured.
 use Rattle.std.proofs.Common.{◌≡◌, ℕ, List, [], refl, sym}
 use Rattle.std.specs.Prelude.{◌≢◌, Option, Some, None, Result, Ok, Err}
 use Rattle.scram_types.specs.declared.rows.Flown.{Flown}
@@ -34,7 +34,7 @@ use Rattle.flight_forms.specs.Missions.{UnlessRefused, mission_refusal, refusal_
 use Rattle.flight_forms.specs.Texts.{flight_text, watch_text}
 use Rattle.bank_words.specs.declared.events.Event.{Event}
 
--- where status 0 is answered, the specification and the script make a mission
+-- if status 0 is answered, the specification and the script make a mission
 
 script_zero : (spec : Parts) (script : ScriptParts) (A : ℕ → List ℕ → Type 0) (outside : Option Outside) → Accepts spec → Fits spec script → first_outside spec script ≡ outside
     → (text : List ℕ) → UnlessRefused (script_refusal outside) A ANSWERED text → IsMission (mission_of spec script) × A ANSWERED text

@@ -1,4 +1,4 @@
--- From the script and the schedule in files to what is answered of them.
+-- From the script and the schedule in files to the answers to them.
 use Rattle.std.proofs.Common.{◌≡◌, ℕ, List, ◌∷◌}
 use Rattle.std.specs.Prelude.{Result}
 use Rattle.scram_types.specs.declared.limits.TheConstants.{MAX_SCRIPT_BYTES}
@@ -16,7 +16,7 @@ use Rattle.form_base.proofs.Reading.{document_reads, refused_reads}
 use Rattle.flight_forms.specs.Documents.{AsksSchedule, AsksScript, BreaksSchedule, BreaksScript, SaysSchedule, SaysScript, long_schedule, long_script}
 use Rattle.bank_words.specs.declared.events.Event.{Event}
 
--- the script was read, and then what is answered of it
+-- the script was read, and then answered
 pub script_reads : {U : Type 0} (spec : Parts) (name : List ℕ) (names : List (List ℕ)) (Then : ScriptParts → Answer) (Rest : U → ℕ → List ℕ → Type 0) (value : ScriptParts) (before mid after : FilesState) (result : Result U Refusal)
     → HasRead MAX_SCRIPT_BYTES name (SaysScript spec value) before mid → StaysSteady before mid name → Prepares (Then value) Rest names mid after result
     → Prepares (AsksScript spec name Then) Rest (name ∷ names) before after result
@@ -31,7 +31,7 @@ pub script_unread : (spec : Parts) (name : List ℕ) (names : List (List ℕ)) (
 script_unread spec name names Then before after refusal is steady unread =
     refused_reads (SaysScript spec) (BreaksScript spec) MAX_SCRIPT_BYTES long_script name names Then before after refusal is steady unread
 
--- the schedule was read, and then what is answered of it
+-- the schedule was read, and then answered
 pub schedule_reads : {U : Type 0} (spec : Parts) (name : List ℕ) (names : List (List ℕ)) (Then : List Event → Answer) (Rest : U → ℕ → List ℕ → Type 0) (value : List Event) (before mid after : FilesState) (result : Result U Refusal)
     → HasRead MAX_SCHEDULE_BYTES name (SaysSchedule spec value) before mid → StaysSteady before mid name → Prepares (Then value) Rest names mid after result
     → Prepares (AsksSchedule spec name Then) Rest (name ∷ names) before after result

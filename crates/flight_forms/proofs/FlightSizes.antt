@@ -1,4 +1,4 @@
--- How many rows and reports the flight of a script that fits has at most.
+-- The maximum numbers of rows and reports in the flight of a script that fits.
 use Rattle.std.proofs.Common.{◌≤◌, arith, length}
 use Rattle.scram_types.specs.Scripts.{ScriptParts}
 use Rattle.scram_types.specs.Specification.{Parts}

@@ -1,4 +1,4 @@
--- From a specification and a script to what is answered of their mission.
+-- From a specification and a script to the answer to their mission.
 use Rattle.std.proofs.Common.{◌≡◌, ◌∙◌, ℕ, List, refl, sym, ap, arith, subst, inl, inr}
 use Rattle.std.specs.Prelude.{◌⊎◌, Option, Some, None, Result, Ok, Err}
 use Rattle.scram_types.specs.Scripts.{ScriptParts}
@@ -21,7 +21,7 @@ use Rattle.flight_forms.specs.Missions.{MakesMission, UnlessRefused, mission_ref
 use Rattle.flight_forms.specs.Replays.{MakesReplay, TellsReplay}
 use Rattle.bank_words.specs.declared.events.Event.{Event}
 
--- where there is no refusal, the answer is the rest
+-- if there is no refusal, the answer is the rest
 unless_none : (refusal : Option (ℕ × List ℕ)) (A : ℕ → List ℕ → Type 0) (status : ℕ) (text : List ℕ) → refusal ≡ None → A status text → UnlessRefused refusal A status text
 unless_none refusal A status text none is = rw none is
 

@@ -1,4 +1,4 @@
--- What is answered by a flight.
+-- The answers of flights.
 use Rattle.std.specs.Prelude.{◌≡◌, ◌≢◌, ℕ, List, Result, Ok, Err}
 use Rattle.scram_types.specs.declared.rows.Flown.{Flown}
 use Rattle.scram_types.specs.Scripts.{ScriptParts}
@@ -22,79 +22,80 @@ use Rattle.flight_forms.specs.Missions.{UnlessRefused, mission_refusal}
 use Rattle.flight_forms.specs.Texts.{flight_text, watch_text}
 use Rattle.bank_words.specs.declared.events.Event.{Event}
 
--- The answer to a mission: this text.
+-- The answer to a mission is its text with status 0.
 abbrev pub TellsFlight : (MissionParts → List ℕ) → MissionParts → ℕ → List ℕ → Type 0
 TellsFlight text mission = Gives (ANSWERED, text mission)
 
--- The answer where a specification and a script are read: this text of their mission.
+-- The answer after a specification and a script are read, with this text of their mission.
 abbrev pub ScriptAnswers : (MissionParts → List ℕ) → Parts → ScriptParts → Answer
 ScriptAnswers text spec script = WithoutFiles (UnlessRefused (mission_refusal spec script) (TellsFlight text (mission_of spec script)))
 
--- The answer to the names of a specification's file and of a script's: this text of their mission.
+-- The answer to the names of the files of a specification and a script, with this text of their mission.
 abbrev pub FlightAnswers : (MissionParts → List ℕ) → List ℕ → List ℕ → Answer
 FlightAnswers text specification script = AsksSpecification specification (λ (spec : Parts). AsksScript spec script (ScriptAnswers text spec))
 
--- The answer to `run` and the names of a specification's file and of a script's.
+-- The answer to `run` with the names of the files of a specification and a script.
 abbrev pub RunAnswers : List ℕ → List ℕ → Answer
 RunAnswers = FlightAnswers (flight_text Trace)
 
--- The answer to `pair` and the names of a specification's file and of a script's: that of `run`, whichever halt of a unit is asked for.
+-- The answer to `pair` with the names of the files of a specification and a script. It is that of `run`, whichever halt
+-- of a unit is asked for.
 abbrev pub PairAnswers : List ℕ → List ℕ → Answer
 PairAnswers = RunAnswers
 
--- The answer to `watch` and the names of a specification's file and of a script's.
+-- The answer to `watch` with the names of the files of a specification and a script.
 abbrev pub WatchAnswers : List ℕ → List ℕ → Answer
 WatchAnswers = FlightAnswers watch_text
 
--- How a list is refused that is no schedule which flies to the end.
+-- The refusal of a list that is no schedule to the end of the flight.
 abbrev pub replay_refusal : Parts → ReplayError → ℕ × List ℕ
 replay_refusal spec (replay_error.Illegal index given next) = (BROKEN_SCHEDULE, illegal_line spec index given next)
 replay_refusal spec (replay_error.Short events next) = (BROKEN_SCHEDULE, short_line spec events next)
 replay_refusal spec replay_error.NoMemory = (OUT_OF_MEMORY, memory_line)
 
--- The answer where a list was flown as a schedule, by what came of it; where it flew to the end, that is the answer of the
--- flight on one thread.
+-- The answer to a list that was flown as a schedule, by the result of the replay. If the flight came to its end, it is
+-- the answer of the flight on one thread.
 abbrev pub replay_answer : Parts → ScriptParts → Result Flown ReplayError → ℕ × List ℕ
 replay_answer spec script (Ok flown) = (ANSWERED, flight_text Trace (mission_of spec script))
 replay_answer spec script (Err error) = replay_refusal spec error
 
--- Status and text are the answer to a list that is flown as a schedule; there is one such answer.
+-- Status and text are the answer to a list that is flown as a schedule, of which there is one.
 pub record IsReplayAnswer (spec : Parts) (script : ScriptParts) (list : List Event) (status : ℕ) (text : List ℕ) : Type 0 where
   pub flown : Result Flown ReplayError
   pub answers : AnswersReplay spec script list flown
   pub had_memory : flown ≢ Err replay_error.NoMemory
   pub gives : Gives (replay_answer spec script flown) status text
 
--- The answer to `replay` where all files are read.
+-- The answer to `replay` after all files are read.
 abbrev pub ListAnswers : Parts → ScriptParts → List Event → Answer
 ListAnswers spec script list = WithoutFiles (UnlessRefused (mission_refusal spec script) (IsReplayAnswer spec script list))
 
--- The answer to `replay` where a specification and a script are read.
+-- The answer to `replay` after a specification and a script are read.
 abbrev pub ScheduleAnswers : List ℕ → Parts → ScriptParts → Answer
 ScheduleAnswers schedule spec script = AsksSchedule spec schedule (ListAnswers spec script)
 
--- The answer to `replay` and the names of the files of a specification, a script and a schedule.
+-- The answer to `replay` with the names of the files of a specification, a script and a schedule.
 abbrev pub ReplayAnswers : List ℕ → List ℕ → List ℕ → Answer
 ReplayAnswers specification script schedule =
     AsksSpecification specification (λ (spec : Parts). AsksScript spec script (ScheduleAnswers schedule spec))
 
--- The specification of generated missions: the value of its text, for which the script of this number fits.
+-- The specification of generated missions. It is the value of its text, and the script of this number fits it.
 pub record IsGenerated (number : ℕ) (spec : Parts) : Type 0 where
   pub reads : spec_of generated_text ≡ Ok spec
   pub sound : IsSpec spec
   pub fits : Fits spec (generated_script number)
 
--- The answer to `gen` and a number.
+-- The answer to `gen` with a number.
 pub record GenAnswers (number : ℕ) (status : ℕ) (text : List ℕ) : Type 0 where
   pub spec : Parts
   pub generated : IsGenerated number spec
   pub gives : Gives (ANSWERED, mission_text spec (generated_script number)) status text
 
--- The answer to the mission of a number, flown: one line.
+-- The answer to the mission of a number after it was flown, which is one line or a refusal.
 abbrev pub SummaryAnswers : ℕ → Parts → ScriptParts → ℕ → List ℕ → Type 0
 SummaryAnswers number spec script = UnlessRefused (mission_refusal spec script) (TellsFlight (flight_text (Summary number)) (mission_of spec script))
 
--- The answer to `fly` and a number.
+-- The answer to `fly` with a number.
 pub record FlyAnswers (number : ℕ) (status : ℕ) (text : List ℕ) : Type 0 where
   pub spec : Parts
   pub generated : IsGenerated number spec

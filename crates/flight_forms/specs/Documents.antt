@@ -1,4 +1,4 @@
--- What is answered of the files of scripts and of schedules.
+-- The answers to the files of scripts and of schedules.
 use Rattle.std.specs.Prelude.{◌≡◌, ℕ, List, [], Ok, Err}
 use Rattle.scram_types.specs.declared.limits.TheConstants.{MAX_SCRIPT_BYTES}
 use Rattle.scram_types.specs.Scripts.{ScriptParts}
@@ -17,7 +17,7 @@ use Rattle.form_base.specs.declared.status.TheConstants.{BROKEN_SCHEDULE, BROKEN
 use Rattle.form_base.specs.Answers.{Answer, AnswersDocument, AnswersFile}
 use Rattle.flight_forms.specs.Lines.{script_line}
 
--- The bytes are this script, which fits the specification.
+-- The bytes encode this script, which fits the specification.
 pub record SaysScript (spec : Parts) (script : ScriptParts) (bytes : List ℕ) : Type 0 where
   pub is : script_of spec bytes ≡ Ok script
   pub fits : Fits spec script
@@ -28,15 +28,15 @@ pub record BreaksScript (spec : Parts) (refusal : ℕ × List ℕ) (bytes : List
   pub is : script_of spec bytes ≡ Err fault
   pub line : refusal ≡ (BROKEN_SCRIPT, script_line fault)
 
--- What is answered of a script with too many bytes.
+-- The refusal of a script with too many bytes.
 abbrev pub long_script : ℕ × List ℕ
 long_script = (BROKEN_SCRIPT, script_line (record { rule = script_rule.TOO_LONG; path = [] }))
 
--- The file of this name is asked for, and this is answered of the script that it holds.
+-- The file of this name is read, and the answer is that of the script in it.
 abbrev pub AsksScript : Parts → List ℕ → (ScriptParts → Answer) → Answer
 AsksScript spec name Then = AnswersFile MAX_SCRIPT_BYTES long_script name (AnswersDocument (SaysScript spec) (BreaksScript spec) Then)
 
--- The bytes are this schedule.
+-- The bytes encode this schedule.
 pub record SaysSchedule (spec : Parts) (list : List Event) (bytes : List ℕ) : Type 0 where
   pub is : schedule_of spec bytes ≡ Ok list
 
@@ -46,10 +46,10 @@ pub record BreaksSchedule (spec : Parts) (refusal : ℕ × List ℕ) (bytes : Li
   pub is : schedule_of spec bytes ≡ Err fault
   pub line : refusal ≡ (BROKEN_SCHEDULE, fault_line fault)
 
--- What is answered of a schedule with too many bytes.
+-- The refusal of a schedule with too many bytes.
 abbrev pub long_schedule : ℕ × List ℕ
 long_schedule = (BROKEN_SCHEDULE, fault_line (record { line = 0; rule = schedule_rule.TOO_LONG }))
 
--- The file of this name is asked for, and this is answered of the schedule that it holds.
+-- The file of this name is read, and the answer is that of the schedule in it.
 abbrev pub AsksSchedule : Parts → List ℕ → (List Event → Answer) → Answer
 AsksSchedule spec name Then = AnswersFile MAX_SCHEDULE_BYTES long_schedule name (AnswersDocument (SaysSchedule spec) (BreaksSchedule spec) Then)

@@ -1,4 +1,4 @@
--- The lines in which a script and a flight are answered.
+-- The lines that answer a script or a flight.
 use Rattle.std.specs.Prelude.{ℕ, List, ◌++◌, codes, decimal}
 use Rattle.scram_types.specs.Lookups.{conf_name}
 use Rattle.scram_types.specs.Specification.{Parts}
@@ -15,28 +15,28 @@ use Rattle.telemetry_tap.specs.Summaries.{running_conf}
 use Rattle.form_base.specs.Lines.{counts_text, rule_text}
 use Rattle.flight_forms.specs.Summaries.{last_run, longest_duration}
 
--- a script document breaks a rule
+-- The line for a script document that breaks a rule.
 abbrev pub script_line : DocFault → List ℕ
 script_line fault = codes "refused: script" ++ rule_text fault.rule fault.path ++ codes "\n"
 
--- in which way a script leaves the failure assumption
+-- The text of the way in which a script leaves the failure assumption.
 abbrev pub outside_kind_text : OutsideKind → List ℕ
 outside_kind_text Halts = codes "halts"
 outside_kind_text Changes = codes "changes"
 
--- where a script leaves the failure assumption
+-- The line for a script that leaves the failure assumption.
 abbrev pub outside_line : Outside → List ℕ
 outside_line outside = codes "refused: outside at frame " ++ decimal outside.frame ++ codes ": " ++ outside_kind_text outside.kind ++ codes "\n"
 
--- the flight of a mission's number: its frames and its reconfigurations, how many frames the longest
--- finished one took, and the configuration that was run last
+-- The line for the flight of a mission's number. It has the number of frames, the number of reconfigurations, the
+-- duration of the longest finished one in frames, and the last configuration that was run.
 abbrev pub fly_line : ℕ → Parts → List Row → List Report → List ℕ
 fly_line number spec rows reports =
     codes "fly " ++ decimal number ++ counts_text rows reports ++ codes " longest " ++ decimal (longest_duration reports)
     ++ codes " final " ++ conf_name spec (last_run spec rows).0 ++ codes "\n"
 
--- a flight that was watched: the number of frames of a summary, what its last row runs, the processors that are up in it, and
--- the number of reconfigurations that have begun
+-- The line for a flight that was watched. It has the number of frames of a summary, the configuration and the
+-- processors that are up in its last row, and the number of reconfigurations begun.
 abbrev pub watch_line : Parts → Summary → List ℕ
 watch_line spec summary =
     codes "watch frames " ++ decimal summary.frames ++ codes " running " ++ conf_or_dash spec (running_conf summary.running)

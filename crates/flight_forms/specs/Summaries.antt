@@ -1,4 +1,4 @@
--- What the line of a flight says about its rows and reports.
+-- The values in the line of a flight that come from its rows and reports.
 use Rattle.std.specs.Prelude.{ℕ, ◌-◌, max, List, [], ◌∷◌, Option, Some, None}
 use Rattle.scram_types.specs.declared.rows.Report.{Report}
 use Rattle.scram_types.specs.declared.rows.Row.{Row}
@@ -6,31 +6,31 @@ use Rattle.scram_types.specs.declared.ids.ConfId.{ConfId}
 use Rattle.scram_types.specs.Specification.{Parts}
 use Rattle.frame_model.specs.Runs.{running}
 
--- the frames from the begin to the end of a finished reconfiguration; an unfinished one has no target, and
--- counts nothing
+-- The number of frames from the begin to the end of a finished reconfiguration, or 0 for an unfinished one, which has
+-- no target.
 abbrev pub duration_to : Option ConfId → Report → ℕ
 duration_to None report = 0
 duration_to (Some to) report = report.end - report.begin
 
--- the same of a reconfiguration
+-- The number of frames of a finished reconfiguration, or 0.
 abbrev pub duration : Report → ℕ
 duration report = duration_to report.to report
 
--- the greatest duration of a finished reconfiguration, 0 without one
+-- The maximum duration of a finished reconfiguration, or 0 if none is finished.
 abbrev pub longest_duration : List Report → ℕ
 longest_duration [] = 0
 longest_duration (report ∷ reports) = max (duration report) (longest_duration reports)
 
--- a configuration, or the one before it where there is none
+-- A configuration, or the preceding one if there is none.
 abbrev pub or_before : Option ConfId → ConfId → ConfId
 or_before None before = before
 or_before (Some c) before = c
 
--- the last configuration that one of the rows runs, or the one before them where none runs one
+-- The last configuration that one of the rows runs, or the preceding one if no row runs one.
 abbrev pub last_run_from : Parts → ConfId → List Row → ConfId
 last_run_from spec before [] = before
 last_run_from spec before (row ∷ rows) = last_run_from spec (or_before (running spec row.acts) before) rows
 
--- the last configuration that a row runs, or the start configuration where none runs one
+-- The last configuration that a row runs, or the start configuration if no row runs one.
 abbrev pub last_run : Parts → List Row → ConfId
 last_run spec rows = last_run_from spec spec.start rows

@@ -1,4 +1,4 @@
--- What is printed of a flight.
+-- The texts that are printed for a flight.
 use Rattle.std.specs.Prelude.{ℕ, List}
 use Rattle.scram_types.specs.declared.rows.Report.{Report}
 use Rattle.scram_types.specs.declared.rows.Row.{Row}
@@ -20,6 +20,6 @@ flown_text (Summary number) spec rows reports = fly_line number spec rows report
 abbrev pub flight_text : FlightText → MissionParts → List ℕ
 flight_text told mission = flown_text told mission.spec (rows_of mission.spec mission.script) (reports_of mission.spec mission.script)
 
--- The line of a flight that was watched: the summary of all its frames.
+-- The line for a flight that was watched, with the summary of all its frames.
 abbrev pub watch_text : MissionParts → List ℕ
 watch_text mission = watch_line mission.spec (summary_after mission mission.script.frames)

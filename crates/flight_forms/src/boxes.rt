@@ -4,7 +4,7 @@ ghost use Rattle.std.specs.Prelude.{◌≡◌, vec_len};
 
 use app_model::Rack;
 
-/// The boxes that fly a mission: a rack for each of eight processors, and one for its restart.
+/// The racks of boxes that fly a mission: one for each of eight processors, and one for each processor's restart.
 #[derive(Drop)]
 pub struct Boxes {
     pub racks: Vec<Rack>,

@@ -1,4 +1,4 @@
-//! Scripts and schedules, as files hold them.
+//! Scripts and schedules in files.
 
 ghost use Rattle.std.specs.Prelude.{◌≡◌};
 ghost use Rattle.scram_types.specs.declared.limits.TheConstants.{MAX_SCRIPT_BYTES};

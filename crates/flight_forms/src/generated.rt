@@ -1,4 +1,4 @@
-//! The forms `gen` and `fly`: missions from a number, printed or flown.
+//! The forms `gen` and `fly`, which print or fly the mission of a number.
 
 ghost use Rattle.std.specs.Prelude.{◌≡◌};
 ghost use Rattle.form_base.specs.Endings.{Tells};
@@ -18,7 +18,7 @@ use std::alloc::{AllocGlobal, Global};
 use std::sync::Wait;
 use std::thread::Threads;
 
-/// Prints the mission of a number, 0 to 999,999: its specification and its script, a line each.
+/// Prints the mission of a number, 0 to 999,999, as two lines: its specification and its script.
 pub fn print_generated<K: Sink>(alloc: Global, number: u32, out: &mut K) -> Status
     ensures { Tells (GenAnswers number) (K.state out.old) (K.state out.new) result.code }
 {

@@ -1,5 +1,5 @@
-//! The forms in which missions are flown: `run`, `watch`, `pair`, `replay`, `gen` and `fly`. What each prints is the answer
-//! to the bytes of the files that its words name, and what is flown is assured.
+//! The forms in which missions are flown: `run`, `watch`, `pair`, `replay`, `gen` and `fly`. Each prints the answer to
+//! the bytes of the files that its words name, and each flight is assured.
 #![tactic(auto)]
 
 mod boxes;

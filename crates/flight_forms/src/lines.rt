@@ -1,4 +1,4 @@
-//! The lines in which a script and a flight are answered, made without memory.
+//! The lines that answer a script or a flight, made without allocation.
 
 ghost use Rattle.std.specs.Prelude.{◌≡◌, ◌+◌, ◌≤◌, ◌++◌, ◌<◌, ◌^◌, length};
 ghost use Rattle.scram_types.specs.declared.limits.TheConstants.{MAX_LINE_BYTES};
@@ -23,7 +23,7 @@ pub fn make_script_line(fault: &ScriptFault) -> Line
     line
 }
 
-/// Returns the line for a script that leaves the failure assumption: the frame, and in which way.
+/// Returns the line for a script that leaves the failure assumption, with the frame and the way in which it does.
 pub fn make_outside_line(outside: &Outside) -> Line
     ensures { result ≡ outside_line outside.now }
 {
@@ -36,8 +36,8 @@ pub fn make_outside_line(outside: &Outside) -> Line
     line
 }
 
-/// Returns the line for the flown mission of a number: the numbers of its frames and of its reconfigurations, how
-/// many frames the longest finished one took, and the configuration that was run last.
+/// Returns the line for the flown mission of a number. It has the number of frames, the number of reconfigurations, the
+/// duration of the longest finished one in frames, and the last configuration that was run.
 pub fn make_fly_line(number: u32, spec: &Spec, flown: &Flown) -> Line
     requires rows { length flown.now.rows < 2 ^ 32 }
     requires reports { length flown.now.reports < 2 ^ 32 }
@@ -58,8 +58,8 @@ pub fn make_fly_line(number: u32, spec: &Spec, flown: &Flown) -> Line
     line
 }
 
-/// Returns the line of a flight that was watched: the number of frames of a summary, the configuration that its last row
-/// runs, the processors that are up in it, and the number of reconfigurations that have begun.
+/// Returns the line for a flight that was watched. It has the number of frames of a summary, the configuration and the
+/// processors that are up in its last row, and the number of reconfigurations begun.
 pub fn make_watch_line(spec: &Spec, summary: &Summary) -> Line
     ensures { result ≡ watch_line spec.now summary.now }
 {

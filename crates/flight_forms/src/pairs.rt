@@ -21,7 +21,7 @@ use scram_io::{Files, Sink};
 use scram_types::{Flown, NoMemory};
 use std::alloc::Global;
 
-/// The files of a mission, and the halt of a unit with which it is flown.
+/// The names of the files of a mission, and the halt of a unit with which the mission is flown.
 #[derive(Clone, Copy)]
 pub struct PairFiles<'a> {
     pub specification: &'a str,
@@ -76,8 +76,8 @@ fn fly_pair<K: Sink>(
     }
 }
 
-// Returns the trace of a mission, flown in rounds. Its frame has the states of the pair, which no other form is to have on its
-// stack, so it is not inlined.
+// Returns the trace of a mission, flown in rounds. The function's frame has the states of the pair, which no other form
+// is to have on its stack, so it is not inlined.
 #[inline(never)]
 fn fly_on_units(
     alloc: Global,

@@ -25,7 +25,7 @@ use scram_io::{Files, Sink};
 use scram_types::{List, Script, Spec};
 use std::alloc::Global;
 
-/// The files of a mission and of a schedule by which it is flown.
+/// The names of the files of a mission and of a schedule by which it is flown.
 #[derive(Clone, Copy)]
 pub struct ReplayFiles<'a> {
     pub specification: &'a str,
@@ -159,7 +159,7 @@ fn fly_replay<K: Sink>(alloc: Global, replayed: &Replay, out: &mut K, boxes: Box
     }
 }
 
-/// Returns how a list is refused that is no schedule which flies to the end.
+/// Returns the refusal of a list that is no schedule to the end of the flight.
 fn refusal_of(spec: &Spec, error: ReplayError) -> Refusal
     ensures { told result ≡ replay_refusal spec.now error }
 {

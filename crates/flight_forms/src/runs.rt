@@ -24,12 +24,12 @@ use std::thread::Threads;
 use trace_text::put_trace;
 use word_deck::WordFlight;
 
-/// The text that is printed of a flight.
+/// The text that is printed for a flight.
 #[derive(Clone, Copy, Debug, PartialEq, Eq)]
 pub enum FlightText {
-    /// Its whole trace.
+    /// The whole trace of the flight.
     Trace,
-    /// One line for the mission of this number.
+    /// One line, for the mission of this number.
     Summary(u32),
 }
 
@@ -57,7 +57,7 @@ pub fn run<R: AllocGlobal + Threads + Wait + Sync, F: Files, K: Sink>(
     }
 }
 
-/// Flies a mission with a thread for each processor, and prints this text of it.
+/// Flies a mission with a thread for each processor, and prints a text of it.
 pub fn fly<R: AllocGlobal + Threads + Wait + Sync, K: Sink>(
     rt: &R,
     mission: &Mission,
@@ -90,7 +90,7 @@ fn fly_on_threads<R: AllocGlobal + Threads + Wait + Sync>(
     Ok(flight.run(rt).flown)
 }
 
-/// Prints this text of a mission that was flown.
+/// Prints a text of a mission that was flown.
 pub fn tell_flown<K: Sink>(
     out: &mut K,
     mission: &Mission,

@@ -1,4 +1,4 @@
-//! What the line of a flight says about its rows and reports.
+//! The values in the line of a flight that come from its rows and reports.
 
 ghost use Rattle.std.specs.Prelude.{◌≡◌};
 ghost use Rattle.flight_forms.specs.Summaries.{duration, last_run, longest_duration};
@@ -6,7 +6,7 @@ ghost use Rattle.flight_forms.specs.Summaries.{duration, last_run, longest_durat
 use frame_model::running;
 use scram_types::{ConfId, Report, Row, Spec};
 
-/// Returns how many frames the longest finished reconfiguration took, 0 without one.
+/// Returns the duration of the longest finished reconfiguration in frames, or 0 if none is finished.
 pub fn longest_duration(reports: &[Report]) -> u32
     ensures { result ≡ longest_duration reports.now }
 {
@@ -26,7 +26,7 @@ fn duration(report: &Report) -> u32
     }
 }
 
-/// Returns the last configuration that a row runs, or the start configuration where none runs one.
+/// Returns the last configuration that a row runs, or the start configuration if no row runs one.
 pub fn last_run(spec: &Spec, rows: &[Row]) -> ConfId
     ensures { result ≡ last_run spec.now rows.now }
 {

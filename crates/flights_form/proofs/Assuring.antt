@@ -1,4 +1,4 @@
--- What is answered with status 0 is assured.
+-- Each answer with status 0 is assured.
 use Rattle.std.proofs.Common.{◌≡◌, ◌∙◌, ◌+◌, sym, ◌-◌, ◌-ℤ◌, pos, ap, arith, ℕ, zero, suc, List, [], ◌∷◌, refl, subst, inl, inr}
 use Rattle.std.specs.Prelude.{Option, Some, None, Result, Ok, Err, slice_get}
 use Rattle.scram_types.specs.Scripts.{ScriptParts}
@@ -35,7 +35,7 @@ use Rattle.flights_form.proofs.Kept.{gap_kept, gap_total_kept, margin_kept, marg
 use Rattle.flights_form.specs.Outcomes.{AreOutcomes, IsOutcome, outcome_read, outcome_within}
 use Rattle.flights_form.specs.Scripts.{BreaksScripts, SaysScripts, lines_of}
 
--- what came of the line in a place
+-- the outcome of the line at an index
 outcome_at : (spec : Parts) (lines : List (List ℕ)) (outcomes : List Outcome) (k : ℕ) (line : List ℕ) (outcome : Outcome) → AreOutcomes spec lines outcomes
     → slice_get lines k ≡ Some line → slice_get outcomes k ≡ Some outcome → IsOutcome spec line outcome
 outcome_at spec [] [] k line outcome are there that = absurd (let e = there in cc)
@@ -47,7 +47,7 @@ outcome_at spec (l ∷ lines) (o ∷ outcomes) zero line outcome are there that 
     subst (λ (x : List ℕ). IsOutcome spec x outcome) same_line (subst (λ (x : Outcome). IsOutcome spec l x) same are.0)
 outcome_at spec (l ∷ lines) (o ∷ outcomes) (suc k) line outcome are there that = outcome_at spec lines outcomes k line outcome are.1 there that
 
--- what is told of a mission holds of each of its reconfigurations and applications
+-- the facts of a mission hold for each of its reconfigurations and applications
 
 margin_of_finished : (spec : Parts) (reports : List Report) (k : ℕ) (report : Report) (to : ConfId) → slice_get reports k ≡ Some report → report.to ≡ Some to → KeepsSp3 spec report
     → KeepsMargin spec (least_margin spec reports) report to

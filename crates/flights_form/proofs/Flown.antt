@@ -18,7 +18,7 @@ use Rattle.flights_form.specs.Scripts.{lines_of}
 use Rattle.flights_form.specs.Totals.{totals_of, with_outcome}
 use Rattle.flights_form.proofs.Summed.{totals_more}
 
--- what came of lines, and of those behind them
+-- the outcomes of lines, and of those after them
 are_both : (spec : Parts) (front behind : List (List ℕ)) (outcomes others : List Outcome) → AreOutcomes spec front outcomes → AreOutcomes spec behind others
     → AreOutcomes spec (front ++ behind) (outcomes ++ others)
 are_both spec [] behind [] others first second = second
@@ -26,12 +26,12 @@ are_both spec [] behind (outcome ∷ outcomes) others first second = absurd firs
 are_both spec (line ∷ front) behind [] others first second = absurd first
 are_both spec (line ∷ front) behind (outcome ∷ outcomes) others first second = (first.0, are_both spec front behind outcomes others first.1 second)
 
--- what comes of lines that are not yet flown
+-- the outcomes of lines that are not yet flown
 all_come : (spec : Parts) (lines : List (List ℕ)) → AreOutcomes spec lines (map (outcome_of spec) lines)
 all_come spec [] = tt
 all_come spec (line ∷ lines) = (inl refl, all_come spec lines)
 
--- the lines on flights, and on those behind them
+-- the lines for flights, and for those after them
 lines_both : (spec : Parts) (k : ℕ) (outcomes others : List Outcome) → outcome_lines spec k (outcomes ++ others) ≡ outcome_lines spec k outcomes ++ outcome_lines spec (k + length outcomes) others
 lines_both spec k [] others = let same : k ≡ k + 0 = omega arith in ap (λ (n : ℕ). outcome_lines spec n others) same
 lines_both spec k (outcome ∷ outcomes) others =
@@ -40,7 +40,7 @@ lines_both spec k (outcome ∷ outcomes) others =
     (lines_both spec (k + 1) outcomes others ∙ ap (λ (n : ℕ). outcome_lines spec (k + 1) outcomes ++ outcome_lines spec n others) same)
     ∙ sym (append_assoc (outcome_line spec k outcome) (outcome_lines spec (k + 1) outcomes) (outcome_lines spec (k + length (outcome ∷ outcomes)) others))
 
--- the lines on flights, on one behind them, and on all others
+-- the lines for flights, for the next one, and for all others
 lines_at : (spec : Parts) (outcomes others : List Outcome) (outcome : Outcome) (totals : Totals) → totals ≡ totals_of outcomes
     → outcome_lines spec 0 (outcomes ++ outcome ∷ others) ≡ (outcome_lines spec 0 outcomes ++ outcome_line spec totals.lines outcome) ++ outcome_lines spec (length outcomes + 1) others
 lines_at spec outcomes others outcome totals are =
@@ -53,7 +53,7 @@ lines_at spec outcomes others outcome totals are =
 pub flown_none : (spec : Parts) (bytes : List ℕ) (old new : SinkState) → Printed old new [] → IsFlownTo spec bytes bytes (totals_of []) old new
 flown_none spec bytes old new printed = record { front = []; outcomes = []; parts = refl; answers = tt; totals_are = refl; printed = printed }
 
--- one more line was flown, and the line on it was printed
+-- the next line was flown, and the line for it was printed
 pub flown_next : (spec : Parts) (bytes rest line behind : List ℕ) (totals : Totals) (outcome : Outcome) (old mid new : SinkState) → IsFlownTo spec bytes rest totals old mid
     → lines_of rest ≡ line ∷ lines_of behind → IsOutcome spec line outcome → Printed mid new (outcome_line spec totals.lines outcome)
     → IsFlownTo spec bytes behind (with_outcome totals outcome) old new
@@ -68,7 +68,7 @@ flown_next spec bytes rest line behind totals outcome old mid new flown split co
       (printed_more old mid new (outcome_lines spec 0 flown.outcomes) (outcome_line spec totals.lines outcome) flown.printed printed);
 }
 
--- one more line was flown, and the line on it was cut off
+-- the next line was flown, and the line for it was cut off
 pub flown_cut : (spec : Parts) (bytes rest line behind : List ℕ) (totals : Totals) (outcome : Outcome) (fault : SinkFault) (old mid new : SinkState) → IsFlownTo spec bytes rest totals old mid
     → lines_of rest ≡ line ∷ lines_of behind → IsOutcome spec line outcome → CutOff mid new (outcome_line spec totals.lines outcome)
     → PrintsLines spec bytes (Err fault) old new
@@ -92,7 +92,7 @@ flown_all spec bytes rest totals old new flown none = record {
   prints = (flown.totals_are, flown.printed);
 }
 
--- the text of what came of all lines was printed
+-- the text of the outcomes of all lines was printed
 pub series_tells : {A E : Type 0} (spec : Parts) (scripts : List ℕ) (result : Result A E) (old new : SinkState) (code : ℕ) → code ≡ status_after result ANSWERED
     → PrintsFlights spec scripts result old new → Tells (TellsFlights spec scripts) old new code
 series_tells {A} {E} spec scripts result old new code same prints = rw same (record {

@@ -1,4 +1,4 @@
--- The lines in which flights are answered.
+-- The lines that answer flights.
 use Rattle.std.specs.Prelude.{ℕ, List, [], ◌++◌, codes, decimal, Option, Some, None}
 use Rattle.std.specs.Fmt.{signed_decimal}
 use Rattle.scram_types.specs.Lookups.{app_name, conf_name}
@@ -11,39 +11,39 @@ use Rattle.flights_form.specs.declared.totals.FlightGap.{FlightGap}
 use Rattle.flights_form.specs.declared.totals.FlightMargin.{FlightMargin}
 use Rattle.flights_form.specs.declared.totals.Totals.{Totals}
 
--- the frames of the greatest gap, its application and its first frame; 0 where there is none
+-- The number of frames of the longest gap, its application and its first frame, or 0 if there is none.
 abbrev pub greatest_text : Parts → Option AppGap → List ℕ
 greatest_text spec None = codes " gap 0"
 greatest_text spec (Some gap) = codes " gap " ++ decimal gap.gap.frames ++ codes " " ++ app_name spec gap.app.0 ++ codes " at " ++ decimal gap.gap.at
 
--- the reconfiguration of the least margin, and this margin; `-` where none is finished
+-- The reconfiguration with the minimum margin, and this margin, or `-` if there is none.
 abbrev pub worst_text : Parts → Option Margin → List ℕ
 worst_text spec None = codes " worst -"
 worst_text spec (Some margin) =
     codes " worst " ++ conf_name spec margin.report.from.0 ++ target_text spec margin.report margin.report.to
     ++ codes " margin " ++ signed_decimal margin.frames
 
--- the line of flight k, which came to this
+-- The line of flight `k` with these facts.
 abbrev pub flown_line : Parts → ℕ → FlightFacts → List ℕ
 flown_line spec k facts =
     codes "flight " ++ decimal k ++ codes " frames " ++ decimal facts.frames ++ codes " reconfigurations " ++ decimal facts.reconfigurations
     ++ codes " unfinished " ++ decimal facts.unfinished ++ greatest_text spec facts.gap ++ worst_text spec facts.margin ++ codes "\n"
 
--- what stands before the line of a refusal
+-- The text that precedes the line of the refusal of flight `k`.
 abbrev pub refused_start : ℕ → List ℕ
 refused_start k = codes "flight " ++ decimal k ++ codes " "
 
--- the least margin of all, and the first flight that has it
+-- The minimum margin of all flights, and the first flight that has it.
 abbrev pub margin_total : Option FlightMargin → List ℕ
 margin_total None = []
 margin_total (Some margin) = codes " margin " ++ signed_decimal margin.frames ++ codes " in flight " ++ decimal margin.flight
 
--- the greatest gap of all, and the first flight that has it
+-- The longest gap of all flights, and the first flight that has it.
 abbrev pub gap_total : Option FlightGap → List ℕ
 gap_total None = []
 gap_total (Some gap) = codes " gap " ++ decimal gap.frames ++ codes " in flight " ++ decimal gap.flight
 
--- the last line
+-- The last line, with the totals.
 abbrev pub totals_line : Totals → List ℕ
 totals_line totals =
     codes "flights " ++ decimal totals.lines ++ codes " refused " ++ decimal totals.refused ++ margin_total totals.margin ++ gap_total totals.gap ++ codes "\n"

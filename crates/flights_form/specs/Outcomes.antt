@@ -1,4 +1,4 @@
--- What comes of a line: its script is read, tested and flown.
+-- The outcome of a line, whose script is read, checked and flown.
 use Rattle.std.specs.Prelude.{◌≡◌, ◌⊎◌, ℕ, List, [], ◌∷◌, Option, Some, None, Result, Ok, Err, ⊤}
 use Rattle.scram_types.specs.Scripts.{ScriptParts}
 use Rattle.scram_types.specs.Specification.{Parts}
@@ -13,30 +13,30 @@ use Rattle.flights_form.specs.declared.outcomes.Outcome.{Outcome}
 use Rattle.flights_form.specs.declared.outcomes.Outcome.TheVariants.{Flown, Refused}
 use Rattle.flights_form.specs.Facts.{facts_of}
 
--- What comes of a script that fits the specification, by where it leaves the failure assumption: it is refused as by `run`,
--- or what its one-thread flight came to.
+-- The outcome of a script that fits the specification, by how it leaves the failure assumption. The script is refused
+-- as by `run`, or the outcome has the facts of its one-thread flight.
 abbrev pub outcome_within : Parts → ScriptParts → Option Outside → Outcome
 outcome_within spec script (Some outside) = Refused (outside_line outside)
 outcome_within spec script None = Flown (facts_of spec (rows_of spec script) (reports_of spec script))
 
--- What comes of what a line is read as.
+-- The outcome of a line that was read as a script, or was refused.
 abbrev pub outcome_read : Parts → Result ScriptParts DocFault → Outcome
 outcome_read spec (Err fault) = Refused (script_line fault)
 outcome_read spec (Ok script) = outcome_within spec script (first_outside spec script)
 
--- What comes of a line.
+-- The outcome of a line.
 abbrev pub outcome_of : Parts → List ℕ → Outcome
 outcome_of spec line = outcome_read spec (script_of spec line)
 
--- The line is refused because the allocator is out of memory.
+-- The outcome of a line that is refused because the allocator is out of memory.
 abbrev pub memory_outcome : Outcome
 memory_outcome = Refused memory_line
 
--- This came of a line: what comes of it, or the allocator was out of memory.
+-- An outcome is that of a line, or out of memory.
 abbrev pub IsOutcome : Parts → List ℕ → Outcome → Type 0
 IsOutcome spec line outcome = (outcome ≡ outcome_of spec line) ⊎ (outcome ≡ memory_outcome)
 
--- These came of lines, one of each, in their order.
+-- These are the outcomes of lines, one for each, in order.
 abbrev pub AreOutcomes : Parts → List (List ℕ) → List Outcome → Type 0
 AreOutcomes spec [] [] = ⊤
 AreOutcomes spec [] (outcome ∷ outcomes) = ⊥

@@ -1,4 +1,4 @@
--- What is printed while a file of scripts is flown.
+-- The text that is printed while a file of scripts is flown.
 use Rattle.std.specs.Prelude.{◌≡◌, ℕ, List, ◌++◌, Result, Ok, Err}
 use Rattle.scram_types.specs.Specification.{Parts}
 use Rattle.scram_io.specs.Outside.{CutOff, Printed, Prints, SinkState}
@@ -15,18 +15,18 @@ use Rattle.flights_form.specs.Totals.{totals_of, with_outcome}
 abbrev pub TellsSeries : Series → ℕ → List ℕ → Type 0
 TellsSeries series = TellsFlights series.accepted series.scripts
 
--- The line on what came of one more line was printed, and these are the totals with it; or it was cut off.
+-- The line for the outcome of the next line was printed, and these are the totals with it, or the line was cut off.
 abbrev pub PrintsOutcome : Parts → Totals → Outcome → Result Totals SinkFault → SinkState → SinkState → Type 0
 PrintsOutcome spec totals outcome (Ok next) old new = (next ≡ with_outcome totals outcome) × Printed old new (outcome_line spec totals.lines outcome)
 PrintsOutcome spec totals outcome (Err fault) old new = CutOff old new (outcome_line spec totals.lines outcome)
 
--- One more line was flown, and the line on what came of it was printed or cut off.
+-- The next line was flown, and the line for its outcome was printed or cut off.
 pub record PrintsLine (spec : Parts) (line : List ℕ) (totals : Totals) (result : Result Totals SinkFault) (old new : SinkState) : Type 0 where
   pub outcome : Outcome
   pub comes : IsOutcome spec line outcome
   pub prints : PrintsOutcome spec totals outcome result old new
 
--- The lines of a file up to the rest of it were flown, these are their totals, and the lines on them were printed.
+-- The lines of a file up to its rest were flown, these are their totals, and the lines for their outcomes were printed.
 pub record IsFlownTo (spec : Parts) (bytes rest : List ℕ) (totals : Totals) (old new : SinkState) : Type 0 where
   pub front : List (List ℕ)
   pub outcomes : List Outcome
@@ -35,19 +35,18 @@ pub record IsFlownTo (spec : Parts) (bytes rest : List ℕ) (totals : Totals) (o
   pub totals_are : totals ≡ totals_of outcomes
   pub printed : Printed old new (outcome_lines spec 0 outcomes)
 
--- What became of flying all lines and printing the lines on them: they were printed, and these are the totals; or they
--- were cut off.
+-- The lines for all outcomes were printed, and these are the totals, or the lines were cut off.
 abbrev pub PrintsOutcomes : Parts → List Outcome → Result Totals SinkFault → SinkState → SinkState → Type 0
 PrintsOutcomes spec outcomes (Ok totals) old new = (totals ≡ totals_of outcomes) × Printed old new (outcome_lines spec 0 outcomes)
 PrintsOutcomes spec outcomes (Err fault) old new = CutOff old new (outcome_lines spec 0 outcomes)
 
--- All lines of a file were flown, and the lines on them were printed or cut off.
+-- All lines of a file were flown, and the lines for their outcomes were printed or cut off.
 pub record PrintsLines (spec : Parts) (bytes : List ℕ) (result : Result Totals SinkFault) (old new : SinkState) : Type 0 where
   pub outcomes : List Outcome
   pub answers : AreOutcomes spec (lines_of bytes) outcomes
   pub prints : PrintsOutcomes spec outcomes result old new
 
--- All lines of a file were flown, and the text of what came of them was printed or cut off.
+-- All lines of a file were flown, and the text of their outcomes was printed or cut off.
 pub record PrintsFlights {A E : Type 0} (spec : Parts) (bytes : List ℕ) (result : Result A E) (old new : SinkState) : Type 0 where
   pub outcomes : List Outcome
   pub answers : AreOutcomes spec (lines_of bytes) outcomes

@@ -1,4 +1,4 @@
--- What all flights came to.
+-- The totals of all flights.
 use Rattle.std.specs.Prelude.{ℕ, ◌+◌, int_lt, Bool, true, false, List, [], ◌∷◌, length, nat_lt, Option, Some, None, option_map, if◌then◌else◌}
 use Rattle.std.specs.List.{count_by}
 use Rattle.flights_form.specs.declared.facts.AppGap.{AppGap}
@@ -9,44 +9,44 @@ use Rattle.flights_form.specs.declared.totals.FlightGap.{FlightGap}
 use Rattle.flights_form.specs.declared.totals.FlightMargin.{FlightMargin}
 use Rattle.flights_form.specs.declared.totals.Totals.{Totals}
 
--- whether a line was refused
+-- The outcome is a refusal.
 abbrev pub is_refused : Outcome → Bool
 is_refused (Flown facts) = false
 is_refused (Refused line) = true
 
--- the margin of flight k, where it has one
+-- The margin of flight `k`, or none.
 abbrev pub margin_in_flight : ℕ → Outcome → Option FlightMargin
 margin_in_flight k (Flown facts) = option_map (λ (margin : Margin). record { frames = margin.frames; flight = k }) facts.margin
 margin_in_flight k (Refused line) = None
 
--- the lesser of two flights' margins, the first where they are equal
+-- The smaller of two flights' margins, or the first if they are equal.
 abbrev pub lesser_in_flight : Option FlightMargin → Option FlightMargin → Option FlightMargin
 lesser_in_flight None later = later
 lesser_in_flight (Some margin) None = Some margin
 lesser_in_flight (Some margin) (Some later) = if int_lt later.frames margin.frames then Some later else Some margin
 
--- the least margin of these flights, and the first one that has it, `k` being the number of the first flight
+-- The minimum margin of these flights, the first of which is flight `k`, and the first flight that has it.
 abbrev pub least_in_flights : ℕ → List Outcome → Option FlightMargin
 least_in_flights k [] = None
 least_in_flights k (outcome ∷ outcomes) = lesser_in_flight (margin_in_flight k outcome) (least_in_flights (k + 1) outcomes)
 
--- the gap of flight k, where it has one
+-- The gap of flight `k`, or none.
 abbrev pub gap_in_flight : ℕ → Outcome → Option FlightGap
 gap_in_flight k (Flown facts) = option_map (λ (gap : AppGap). record { frames = gap.gap.frames; flight = k }) facts.gap
 gap_in_flight k (Refused line) = None
 
--- the greater of two flights' gaps, the first where they are equal
+-- The longer of two flights' gaps, or the first if they are equal.
 abbrev pub greater_in_flight : Option FlightGap → Option FlightGap → Option FlightGap
 greater_in_flight None later = later
 greater_in_flight (Some gap) None = Some gap
 greater_in_flight (Some gap) (Some later) = if nat_lt gap.frames later.frames then Some later else Some gap
 
--- the greatest gap of these flights, and the first one that has it, `k` being the number of the first flight
+-- The longest gap of these flights, the first of which is flight `k`, and the first flight that has it.
 abbrev pub greatest_in_flights : ℕ → List Outcome → Option FlightGap
 greatest_in_flights k [] = None
 greatest_in_flights k (outcome ∷ outcomes) = greater_in_flight (gap_in_flight k outcome) (greatest_in_flights (k + 1) outcomes)
 
--- the numbers of lines and of those refused, the least margin and the greatest gap
+-- The numbers of lines and of refused lines, the minimum margin and the longest gap.
 abbrev pub totals_of : List Outcome → Totals
 totals_of outcomes = record {
   lines = length outcomes;
@@ -55,7 +55,7 @@ totals_of outcomes = record {
   gap = greatest_in_flights 0 outcomes;
 }
 
--- the same, with one more
+-- The totals with the next outcome.
 abbrev pub with_outcome : Totals → Outcome → Totals
 with_outcome totals outcome = record {
   lines = totals.lines + 1;

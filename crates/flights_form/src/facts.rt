@@ -1,4 +1,4 @@
-//! What a flight came to, in a few numbers.
+//! The facts of a flight, as a few numbers.
 
 ghost use Rattle.std.specs.Prelude.{◌≡◌, ◌<◌, ◌≤◌, ◌-◌, ◌-ℤ◌, ◌^◌, length, pos};
 ghost use Rattle.flights_form.specs.Facts.{facts_of, gap_of_app, greater_gap, greatest_gap, least_margin, lesser_margin, margin_in, margin_to};
@@ -16,15 +16,15 @@ pub struct AppGap {
     pub gap: Gap,
 }
 
-/// The margin of a finished reconfiguration: by how many frames it stayed below its bound.
+/// The margin of a finished reconfiguration: its bound less the frames that it took.
 #[derive(Clone, Copy, Debug, PartialEq, Eq)]
 pub struct Margin {
     pub frames: i64,
     pub report: Report,
 }
 
-/// What a flight came to: the numbers of its frames and reconfigurations, and of those that are unfinished, its greatest
-/// gap and its least margin.
+/// The facts of a flight: the numbers of its frames, of its reconfigurations and of the unfinished ones, its longest
+/// gap and its minimum margin.
 #[derive(Clone, Copy, Debug, PartialEq, Eq)]
 pub struct FlightFacts {
     pub frames: u32,
@@ -34,7 +34,7 @@ pub struct FlightFacts {
     pub margin: Option<Margin>,
 }
 
-/// Returns what a flight with these rows and reports came to.
+/// Returns the facts of a flight with these rows and reports.
 pub fn facts_of(spec: &Spec, rows: &[Row], reports: &[Report]) -> FlightFacts
     requires rows { length rows.now < 2 ^ 32 }
     requires reports { length reports.now < 2 ^ 32 }

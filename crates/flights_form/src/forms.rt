@@ -20,8 +20,8 @@ use scram_types::Spec;
 use std::alloc::Global;
 use trace_text::lines::Line;
 
-/// Flies each script of a file, a line each, by the specification in another, on the caller's thread, and prints a line
-/// on each and one on all.
+/// Flies each line of a file of scripts by the specification in another file, on the caller's thread, and prints a line
+/// for each and one for all.
 pub fn flights<F: Files, K: Sink>(
     alloc: Global,
     named: ScriptsFiles<'_>,
@@ -64,7 +64,7 @@ fn put_flights<K: Sink>(
     }
 }
 
-// Puts the line on each line of a file, and returns what all came to.
+// Prints the line for each line of a file, and returns the totals.
 fn put_lines<K: Sink>(
     alloc: Global,
     out: &mut K,
@@ -86,7 +86,7 @@ fn put_lines<K: Sink>(
     Ok(totals)
 }
 
-// Flies one more line, puts the line on what comes of it, and returns the totals with it.
+// Flies the next line, prints the line for its outcome, and returns the totals with it.
 fn put_line<K: Sink>(
     alloc: Global,
     out: &mut K,

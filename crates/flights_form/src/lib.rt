@@ -1,4 +1,4 @@
-//! The form `flights`: each line of a file is a script, which is flown and answered by one line. What it prints is the
+//! The form `flights`. Each line of a file is a script, which is flown and answered by one line. The form prints the
 //! answer to the bytes of the files that its words name.
 #![tactic(auto)]
 

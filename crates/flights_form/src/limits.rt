@@ -1,4 +1,4 @@
 //! The limit of a file of scripts.
 
-/// The most bytes of a file that holds scripts, a line each.
+/// The maximum length of a file of scripts, in bytes.
 pub const MAX_SCRIPTS_BYTES: usize = 33_554_432;

@@ -1,4 +1,4 @@
-//! The lines in which flights are answered, made without memory.
+//! The lines that answer flights, made without allocation.
 
 ghost use Rattle.std.specs.Prelude.{◌≡◌, ◌+◌, ◌≤◌, ◌++◌, length};
 ghost use Rattle.scram_types.specs.declared.limits.TheConstants.{MAX_LINE_BYTES};
@@ -10,7 +10,7 @@ use scram_types::Spec;
 use trace_text::lines::Line;
 use trace_text::report_lines::add_target;
 
-/// Returns the line of flight `k`, which came to this.
+/// Returns the line of flight `k` with these facts.
 pub fn make_flown_line(spec: &Spec, k: u32, facts: &FlightFacts) -> Line
     ensures { result ≡ flown_line spec.now k facts.now }
 {
@@ -29,7 +29,7 @@ pub fn make_flown_line(spec: &Spec, k: u32, facts: &FlightFacts) -> Line
     line
 }
 
-/// Returns what stands before the line of the refusal of line `k`.
+/// Returns the text that precedes the line of the refusal of line `k`.
 pub fn make_refused_start(k: u32) -> Line
     ensures { result ≡ refused_start k }
 {
@@ -40,7 +40,7 @@ pub fn make_refused_start(k: u32) -> Line
     line
 }
 
-/// Returns the last line: the numbers of lines and of those that are refused, the least margin and the greatest gap.
+/// Returns the last line, with the numbers of lines and of refused lines, the minimum margin and the longest gap.
 pub fn make_totals_line(totals: &Totals) -> Line
     ensures { result ≡ totals_line totals.now }
 {

@@ -1,4 +1,4 @@
-//! What comes of a line: its script is read, tested and flown.
+//! The outcome of a line, whose script is read, checked and flown.
 
 ghost use Rattle.std.specs.Prelude.{◌≡◌, ◌⊎◌, IfOk};
 ghost use Rattle.fault_script.specs.Assumption.{first_outside};
@@ -17,16 +17,17 @@ use scram_types::{NoMemory, Script, Spec};
 use std::alloc::Global;
 use trace_text::lines::Line;
 
-/// What comes of a line of the file.
+/// The outcome of a line of the file.
 #[derive(Drop)]
 pub enum Outcome {
-    /// The script was flown, and came to this.
+    /// The script was flown, with these facts.
     Flown(FlightFacts),
-    /// The line was refused; the line of the refusal says why.
+    /// The line was refused, with this line of the refusal.
     Refused(Line),
 }
 
-/// Reads the script in a line, and flies it on the caller's thread where it keeps to the failure assumption.
+/// Reads the script in a line, flies it on the caller's thread if it keeps to the failure assumption, and returns the
+/// outcome.
 pub fn fly_line(alloc: Global, spec: &Spec, line: &[u8]) -> Outcome
     ensures { IsOutcome spec.now line.now result }
 {
@@ -61,7 +62,8 @@ fn fly_on_one_thread(alloc: Global, spec: &Spec, script: &Script) -> Outcome
     }
 }
 
-// Flies a script, and returns what the flight came to. Its racks have no boxes: a rack without one answers the same law.
+// Flies a script, and returns the facts of the flight. The racks have no boxes, since a rack without a box follows the
+// same law.
 #[tactic(auto, using(trace_props::proofs::Sizes::few_reports))]
 fn sum_up(alloc: Global, spec: &Spec, script: &Script) -> Result<FlightFacts, NoMemory>
     requires { Fits spec.now script.now }

@@ -1,4 +1,4 @@
-//! A file of scripts, a line each.
+//! A file of scripts, one on each line.
 
 ghost use Rattle.std.specs.Prelude.{◌≡◌, ◌<◌, ◌≤◌, ◌∷◌, [], IfErr, IfOk, IfSome, MatchOption, length};
 ghost use Rattle.scram_io.specs.Outside.{Rose, StaysSteady};
@@ -43,7 +43,7 @@ fn too_long() -> Refusal
     Refusal::new(Refused::Script, make_script_line(&fault))
 }
 
-/// Returns the first line of a file and the bytes behind it, or `None` where there is no line.
+/// Returns the first line of a file and the bytes after it, or `None` if there is no line.
 pub fn next_line(bytes: &[u8]) -> Option<(&[u8], &[u8])>
     ensures lines { MatchOption result (lines_of bytes.now ≡ []) (λ parts. lines_of bytes.now ≡ parts.0.now ∷ lines_of parts.1.now) }
     ensures shorter { IfSome result (λ parts. length parts.1.now < length bytes.now) }
@@ -54,7 +54,7 @@ pub fn next_line(bytes: &[u8]) -> Option<(&[u8], &[u8])>
     }
 }
 
-// Returns the line that no line feed ends, where there is a byte.
+// Returns the last line, which no line feed ends, or `None` if there is no byte.
 fn last_line(bytes: &[u8]) -> Option<(&[u8], &[u8])>
     requires { pieces_of 10 bytes.now ≡ bytes.now ∷ [] }
     ensures lines { MatchOption result (lines_of bytes.now ≡ []) (λ parts. lines_of bytes.now ≡ parts.0.now ∷ lines_of parts.1.now) }

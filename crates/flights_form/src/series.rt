@@ -1,4 +1,4 @@
-//! Series of flights: an accepted specification, and the scripts of a file that are flown by it.
+//! A series of flights, of an accepted specification and the scripts of a file.
 
 ghost use Rattle.std.specs.Prelude.{◌≤◌, ◌∷◌, [], IfOk, ℕ, List, length};
 ghost use Rattle.form_base.specs.Answers.{WithoutFiles};
@@ -18,7 +18,7 @@ use scram_io::Files;
 use scram_types::{List, Spec};
 use std::alloc::Global;
 
-/// The files of a series of flights: a specification, and scripts, a line each.
+/// The names of the files of a series of flights: a specification, and scripts, one on each line.
 #[derive(Clone, Copy)]
 pub struct ScriptsFiles<'a> {
     pub specification: &'a str,

@@ -1,25 +1,25 @@
-//! What all flights came to.
+//! The totals of all flights.
 
 ghost use Rattle.std.specs.Prelude.{◌≡◌, ◌<◌, ◌≤◌, ◌+◌, ◌-◌, ◌^◌, [], if◌then◌else◌};
 ghost use Rattle.flights_form.specs.Totals.{gap_in_flight, greater_in_flight, is_refused, lesser_in_flight, margin_in_flight, totals_of, with_outcome};
 
 use crate::outcomes::Outcome;
 
-/// The least margin of all flights, in frames, and the first flight that has it.
+/// The minimum margin of all flights, in frames, and the first flight that has it.
 #[derive(Clone, Copy, Debug, PartialEq, Eq)]
 pub struct FlightMargin {
     pub frames: i64,
     pub flight: u32,
 }
 
-/// The greatest gap of all flights, in frames, and the first flight that has it.
+/// The longest gap of all flights, in frames, and the first flight that has it.
 #[derive(Clone, Copy, Debug, PartialEq, Eq)]
 pub struct FlightGap {
     pub frames: u32,
     pub flight: u32,
 }
 
-/// The numbers of lines and of those that are refused, the least margin and the greatest gap.
+/// The numbers of lines and of refused lines, the minimum margin and the longest gap.
 #[derive(Clone, Copy, Debug, PartialEq, Eq)]
 pub struct Totals {
     pub lines: u32,
@@ -41,7 +41,7 @@ impl Totals {
         }
     }
 
-    /// Returns these totals with what comes of one more line.
+    /// Returns these totals with the outcome of the next line.
     pub fn with(&self, outcome: &Outcome) -> Totals
         requires lines { self.now.lines < 2 ^ 32 - 1 }
         requires refused { self.now.refused ≤ self.now.lines }

@@ -1,4 +1,4 @@
--- The line of an event gives that event.
+-- The line of an event encodes that event.
 use Rattle.std.proofs.Common.{ℕ, ◌≡◌, ◌<◌, ◌≤◌, Bool, true, List, [], ◌∷◌, ◌++◌, Some, Ok, length, decimal, append_assoc, arith, refl, sym, ap, subst}
 use Rattle.std.specs.Prelude.{◌==◌, ◌&&◌, codes, nat_le}
 use Rattle.std.specs.List.{list_all}
@@ -22,7 +22,7 @@ use Rattle.schedule_replay.specs.Verbs.{verb_named, word_count}
 use Rattle.schedule_replay.specs.Events.{HasEvent, event_text}
 use Rattle.schedule_replay.specs.Reading.{event_read, event_told, is_legible}
 
--- a line without its line feed: it can be printed, and gives an event
+-- a line without its line feed is printable and encodes an event
 pub record LineBack (spec : Parts) (line : List ℕ) (event : Event) : Type 0 where
   pub plain : is_plain line ≡ true
   pub read : event_read spec line ≡ Ok event

@@ -1,4 +1,4 @@
--- What is reported of a line is the first rule that it does not keep.
+-- The rule that is reported for a line is the first that it breaks.
 use Rattle.std.proofs.Common.{ℕ, ◌≡◌, ◌≤◌, ◌∙◌, Bool, true, false, List, [], ◌∷◌, Option, Some, None, Result, Ok, Err, length, arith, refl, ap}
 use Rattle.std.specs.Prelude.{◌==◌, ◌&&◌, is_some, nat_le, option_and_then, option_map, if◌then◌else◌}
 use Rattle.std.specs.List.{list_all}
@@ -74,7 +74,7 @@ formed : (verb : Verb) (line : List ℕ) → words_for verb line ≡ (if has_wor
 formed verb line =
     counted verb (words_of line) (nat_le (length (words_of line)) 16) (list_all is_filled (words_of line)) (length (words_of line) == word_count verb) refl refl
 
--- rules 3 and 4 where the first word is known
+-- rules 3 and 4 if the first word is known
 form_case : (spec : Parts) (line : List ℕ) (verb : Verb) (has : Bool) →
     told_by (unless NO_FORM (if has then Some (words_of line) else None) (λ (words : List (List ℕ)). unless UNKNOWN_EVENT (event_told spec verb words) (λ (event : Event). Ok event)))
     ≡ least_from 3 (is_some (if has then Some verb else None) ∷ keeps (if has then Some verb else None) (names_event spec (words_of line)) ∷ [])

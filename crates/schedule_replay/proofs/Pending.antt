@@ -1,4 +1,4 @@
--- Where the flight is not over, the least processor that has a next event has one, or else the kernel.
+-- If the flight is not over, some processor or the kernel has a next event.
 use Rattle.std.proofs.Common.{◌≡◌, ◌∙◌, ◌⊎◌, ℕ, zero, suc, ◌<◌, inl, inr, ap, subst, sym, refl, arith}
 use Rattle.std.specs.Prelude.{Option, Some, None, nat_lt}
 use native.Mathlib.Decide.{ℕ_discrete}

@@ -1,4 +1,4 @@
--- What is written is read back.
+-- The text that is written is read back.
 use Rattle.std.proofs.Common.{ℕ, suc, ◌≡◌, ◌≤◌, ◌+◌, ◌∙◌, List, [], ◌∷◌, ◌++◌, Result, Ok, Err, length, refl, sym, ap, append_assoc, append-nil}
 use Rattle.std.specs.Prelude.{IfOk, Vec, codes}
 use Rattle.scram_types.specs.Specification.{IsSpec, Parts}
@@ -13,7 +13,7 @@ use Rattle.schedule_replay.specs.Reading.{events_from, read_on, schedule_of}
 use Rattle.schedule_replay.proofs.EventsBack.{line_back}
 use Rattle.schedule_replay.proofs.Walk.{line_then, of_length}
 
--- the line of an event, and what is read behind it
+-- the line of an event, and the lines that are read after it
 one_line : (spec : Parts) (k : ℕ) (so_far : List Event) (event : Event) (rest : List ℕ) → IsSpec spec → HasEvent spec event
     → events_from spec k so_far (pieces_of 10 (event_line spec event ++ rest)) ≡ events_from spec (k + 1) (so_far ++ event ∷ []) (pieces_of 10 rest)
 one_line spec k so_far event rest sound has =

@@ -1,4 +1,4 @@
--- The turn of a processor leads from the begin of a frame to its end.
+-- The turn of a processor takes it from the begin of a frame to its end.
 use Rattle.std.proofs.lemmas.Bool.{lt-ltb}
 use Rattle.std.proofs.Common.{◌≡◌, ◌≢◌, ◌∙◌, ℕ, zero, suc, ◌+◌, ◌-◌, ◌<◌, ◌≤◌, Bool, true, false, refl, ap, subst, arith, List, [], ◌∷◌, ◌++◌}
 use Rattle.std.specs.Prelude.{Option, Some, None, nat_eq, nat_lt, if◌then◌else◌}
@@ -51,7 +51,7 @@ joined m s (e ∷ es) t fs u i j = (i.0, joined m (happened m s e) es t fs u i.1
 pub kept_after : (m : Flight) (s : Machine) (e : Event) → Flies m → Kept m s.at s.words → IsNext m s.at s.words e → Kept m (happened m s e).at (happened m s e).words
 kept_after m s e y kept next = keeps m s.at s.words (happened m s e).at (happened m s e).words y kept e next (happens_so m s e)
 
--- processor p has come to a place, and all others stand where they stood
+-- processor p is at a place, and all others are where they were
 pub record Came (m : Flight) (p : ℕ) (s t : Machine) (place : Place) : Type 0 where
   pub kept : Kept m t.at t.words
   pub frame : t.at.frame ≡ s.at.frame
@@ -64,7 +64,7 @@ pub record Leads (m : Flight) (s : Machine) (es : List Event) (p : ℕ) (place :
   pub schedule : IsSchedule m s es state
   pub came : Came m p s state place
 
--- the last step of a frame leads here
+-- the last step of a frame ends at this place
 abbrev pub ended_at : ℕ → Option ℕ → Place
 ended_at f None = At (suc f) 0
 ended_at f (Some s) = Halted f
@@ -201,7 +201,7 @@ module _ (m : Flight) (y : Flies m) (p : ℕ) (low : p < m.procs) where
   ends s f None is kept here = ends_done s f is kept here
   ends s f (Some st) is kept here = ends_by s f st (nat_lt m.width st) refl is kept here
 
-  -- the steps of a frame behind the start
+  -- the steps of a frame after the start
   pub steps_lead : (s : Machine) (f : ℕ) → Kept m s.at s.words → next_of m s.at s.words p ≡ Some (Start (proc_id p)) → moved m (Start (proc_id p)) p (s.at.proc p) ≡ At f 1
       → Leads m s (steps_by m p (m.halt p f)) p (ended_at f (m.halt p f))
   steps_lead s f kept next goes =

@@ -1,4 +1,4 @@
--- The round-robin schedule leads from the opening to the end of the flight.
+-- The round-robin schedule takes the flight from the opening to its end.
 use Rattle.std.proofs.lemmas.Bool.{eq-eqb, le-ltb, lt-ltb}
 use Rattle.std.proofs.Common.{◌≡◌, ◌∙◌, ℕ, zero, suc, ◌+◌, ◌-◌, ◌*◌, ◌/◌, ◌%◌, ◌<◌, ◌≤◌, Bool, true, false, ◌||◌, refl, ap, sym, subst, inl, inr, arith, List, [], ◌∷◌, ◌++◌}
 use Rattle.std.specs.Prelude.{Option, Some, None, nat_eq, nat_lt, nat_le, ◌&&◌, if◌then◌else◌}
@@ -35,7 +35,7 @@ not_at_once : (o : Option ℕ) (f : ℕ) → back_by o f f ≡ false
 not_at_once None f = refl
 not_at_once (Some r) f = grind (arith, nat_tests)
 
--- whose turn in frame f is to come, and whose has been
+-- the processors whose turn in frame f is to come, and those whose turn has been
 abbrev Waits : ℕ → Place → Type 0
 Waits f (At g n) = (g ≡ f) × (n ≡ 0)
 Waits f (Halted h) = h < f
@@ -180,7 +180,7 @@ module _ (m : Flight) (y : Flies m) where
       or_true true = refl
       or_true false = refl
 
-  -- the kernel has made some steps, and the processors stand where they stood
+  -- the kernel has made some steps, and the processors are where they were
   record Kernel (s : Machine) (es : List Event) (f j : ℕ) : Type 0 where
     state : Machine
     schedule : IsSchedule m s es state

@@ -1,4 +1,4 @@
--- A list of events leads to one state, and has one answer.
+-- A list of events has one state after it, and one answer.
 use Rattle.std.proofs.Common.{ℕ, zero, suc, ◌≡◌, ◌≢◌, ◌<◌, ◌≤◌, ◌-◌, ◌*◌, ◌∙◌, List, [], ◌∷◌, Option, Some, Result, Ok, Err, take, arith, refl, sym, ap, subst, inl, inr}
 use Rattle.std.specs.Prelude.{slice_get}
 use Rattle.std.proofs.lemmas.Bool.{cases_order}

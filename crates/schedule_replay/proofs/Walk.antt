@@ -1,4 +1,4 @@
--- One line more of a schedule.
+-- The next line of a schedule.
 use Rattle.std.proofs.Common.{ℕ, ◌≡◌, ◌<◌, ◌≤◌, ◌+◌, ◌∙◌, List, [], ◌∷◌, ◌++◌, Result, Ok, Err, length, arith, refl, sym, ap}
 use Rattle.std.proofs.lemmas.Bool.{le-ltb}
 use Rattle.scram_types.specs.Specification.{Parts}
@@ -24,7 +24,7 @@ step : (spec : Parts) (k : ℕ) (so_far : List Event) (text rest behind : List �
 step spec k so_far text rest behind read split here =
     sym (line_then spec k so_far text (pieces_of 10 behind) (some_piece 10 behind)) ∙ ap (events_from spec k so_far) (sym split) ∙ here
 
--- the reading goes on behind a line that is read
+-- the reading continues after a line that is read
 pub taken : (spec : Parts) (k : ℕ) (so_far : List Event) (text rest behind : List ℕ) (event : Event) (read : Result (List Event) ScheduleFault) → pieces_of 10 rest ≡ text ∷ pieces_of 10 behind
     → event_read spec text ≡ Ok event → events_from spec k so_far (pieces_of 10 rest) ≡ read
     → events_from spec (k + 1) (so_far ++ event ∷ []) (pieces_of 10 behind) ≡ read

@@ -1,4 +1,4 @@
--- Which events a specification has, and their text.
+-- The events of a specification, and their text.
 use Rattle.std.specs.Prelude.{ℕ, ◌<◌, List, [], ◌∷◌, ◌++◌, length, codes, decimal, ⊤}
 use Rattle.scram_types.specs.Specification.{Each, Parts}
 use Rattle.scram_types.specs.Lookups.{proc_name}
@@ -6,7 +6,7 @@ use Rattle.bank_words.specs.declared.events.Event.{Event}
 use Rattle.bank_words.specs.declared.events.Event.TheVariants.{Start, Look, Store, Flip, Done, Halt, KNote, KStore, Release}
 use Rattle.fault_script.specs.Times.{words as width_of}
 
--- The specification has an event: its processors exist, and its number is that of a word.
+-- The specification has an event. The event's processors exist, and its number is that of a word.
 abbrev pub HasEvent : Parts → Event → Type 0
 HasEvent spec (Start p) = p.0 < length spec.procs
 HasEvent spec (Look p q) = (p.0 < length spec.procs) × (q.0 < length spec.procs)
@@ -22,7 +22,7 @@ HasEvent spec Release = ⊤
 abbrev pub HasEvents : Parts → List Event → Type 0
 HasEvents spec events = Each (HasEvent spec) events
 
--- An event as a line of a schedule gives it.
+-- The text of an event in a line of a schedule.
 abbrev pub event_text : Parts → Event → List ℕ
 event_text spec (Start p) = codes "start " ++ proc_name spec p.0
 event_text spec (Look p q) = codes "look " ++ proc_name spec p.0 ++ codes " " ++ proc_name spec q.0
@@ -38,7 +38,7 @@ event_text spec Release = codes "release"
 abbrev pub event_line : Parts → Event → List ℕ
 event_line spec event = event_text spec event ++ codes "\n"
 
--- A schedule as text: a line for each event, in order.
+-- The text of a schedule, with a line for each event, in order.
 abbrev pub schedule_text : Parts → List Event → List ℕ
 schedule_text spec [] = []
 schedule_text spec (event ∷ events) = event_line spec event ++ schedule_text spec events

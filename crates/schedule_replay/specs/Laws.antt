@@ -1,4 +1,4 @@
--- What holds of every list that is flown.
+-- The laws of every list that is flown.
 use Rattle.std.specs.Prelude.{◌≡◌, ◌≢◌, List, Result, Err}
 use Rattle.bank_words.specs.declared.events.Event.{Event}
 use Rattle.scram_types.specs.Scripts.{ScriptParts}
@@ -8,7 +8,7 @@ use Rattle.schedule_replay.specs.declared.replays.ReplayError.{ReplayError}
 use Rattle.schedule_replay.specs.declared.replays.ReplayError.TheVariants.{NoMemory}
 use Rattle.schedule_replay.specs.Replaying.{AnswersReplay}
 
--- Apart from out of memory a list has one answer.
+-- Apart from out of memory, a list has one answer.
 abbrev pub OneAnswer : Type 0
 OneAnswer = (spec : Parts) (script : ScriptParts) (list : List Event) → (one other : Result Flown ReplayError)
     → one ≢ Err NoMemory → other ≢ Err NoMemory → AnswersReplay spec script list one → AnswersReplay spec script list other → one ≡ other

@@ -1,4 +1,4 @@
--- Which rules a line of a schedule breaks, each rule on its own. What rule 4 asks it asks by the form of the line.
+-- The rules that a line of a schedule breaks, each rule on its own. Rule 4 depends on the form of the line.
 use Rattle.std.specs.Prelude.{ℕ, ◌==◌, ◌&&◌, not, Bool, true, false, List, length, Option, Some, None, is_some, option_and_then, if◌then◌else◌}
 use Rattle.std.specs.List.{list_all}
 use Rattle.scram_types.specs.Specification.{Parts}
@@ -13,15 +13,15 @@ use Rattle.schedule_replay.specs.declared.verbs.Verb.TheVariants.{Start, Look, S
 use Rattle.schedule_replay.specs.Reading.{event_read, is_legible, verb_of}
 use Rattle.schedule_replay.specs.Verbs.{word_count}
 
--- whether no word is empty, and their number is that of an event of a kind
+-- The words are not empty, and their number is that of an event of a kind.
 abbrev pub has_words : List (List ℕ) → Verb → Bool
 has_words words verb = list_all is_filled words && (length words == word_count verb)
 
--- the kind of event whose form the words of a line have, if there is one
+-- The kind of event whose form the words of a line have, or none.
 abbrev pub event_form : List ℕ → Option Verb
 event_form line = option_and_then (λ (verb : Verb). if has_words (words_of line) verb then Some verb else None) (verb_of line)
 
--- Rule 4: each processor is known, and a number is that of a word of an image, or of one of the kernel's words.
+-- Rule 4. Each processor is known, and a number is that of a word of an image or of one of the kernel's words.
 abbrev pub names_event : Parts → List (List ℕ) → Verb → Bool
 names_event spec words Start = is_some (proc_named spec (word_at words 1))
 names_event spec words Look = is_some (proc_named spec (word_at words 1)) && is_some (proc_named spec (word_at words 2))
@@ -33,8 +33,7 @@ names_event spec words Note = is_some (proc_named spec (word_at words 1))
 names_event spec words KernelStore = is_some (spelled_number 20 (word_at words 1))
 names_event spec words Release = true
 
--- Whether a line, which stands here without its line feed, breaks the rule of this number. Rule 4 asks nothing of a line that has
--- no form.
+-- A line, without its line feed, breaks the rule of this number. A line that has no form does not break rule 4.
 abbrev pub breaks_event_rule : Parts → List ℕ → ℕ → Bool
 breaks_event_rule spec line rule =
     if rule == BROKEN_LINE then not (is_legible line)
@@ -42,6 +41,6 @@ breaks_event_rule spec line rule =
     else (if rule == NO_FORM then not (is_some (event_form line))
     else (if rule == UNKNOWN_EVENT then not (keeps (event_form line) (names_event spec (words_of line))) else false)))
 
--- A line that breaks no rule is read, and of any other the least rule that it breaks is reported.
+-- A line that breaks no rule is read, and for any other line the first rule that it breaks, by number, is reported.
 abbrev pub LeastEventRuleIsTold : Type 0
 LeastEventRuleIsTold = (spec : Parts) (line : List ℕ) → TellsLeast (breaks_event_rule spec line) (event_read spec line)

@@ -1,4 +1,4 @@
--- The schedule that bytes are, or the first line that breaks a rule, with the least rule that it breaks.
+-- The schedule that bytes encode, or the first line that breaks a rule, with the first rule that it breaks.
 use Rattle.std.specs.Prelude.{◌≡◌, ℕ, ◌+◌, ◌==◌, ◌&&◌, Bool, List, [], ◌∷◌, ◌++◌, length, nat_le, nat_lt, Option, Some, None, option_map, option_and_then, ⊤, Result, Ok, Err, Vec, if◌then◌else◌}
 use Rattle.std.specs.List.{list_all}
 use Rattle.scram_types.specs.Specification.{Parts}
@@ -20,19 +20,20 @@ use Rattle.schedule_replay.specs.declared.verbs.Verb.{Verb}
 use Rattle.schedule_replay.specs.declared.verbs.Verb.TheVariants.{Start, Look, Store, Flip, Done, Halt, Note, KernelStore, Release}
 use Rattle.schedule_replay.specs.Verbs.{verb_named, word_count}
 
--- Rule 1 of a line that has its line feed: its bytes are printable, and they are not too many.
+-- Rule 1 for a line that has its line feed. Its bytes are printable, and it is not too long.
 abbrev pub is_legible : List ℕ → Bool
 is_legible line = nat_le (length line) MAX_EVENT_BYTES && list_all is_printable line
 
--- The kind of event that the first word of a line names; rule 2 asks for one.
+-- The kind of event that the first word of a line names, or none. Rule 2 requires one.
 abbrev pub verb_of : List ℕ → Option Verb
 verb_of line = verb_named (word_at (words_of line) 0)
 
--- The words of a line, where their number is that of an event of a kind.
+-- The words of a line if their number is that of an event of a kind, else none.
 abbrev pub words_counted : Verb → List (List ℕ) → Option (List (List ℕ))
 words_counted verb words = if length words == word_count verb then Some words else None
 
--- The words of a line for an event of a kind: rule 3 requires that none is empty, and the number that the kind has.
+-- The words of a line for an event of a kind, or none. Rule 3 requires that no word is empty and that their number is
+-- that of the kind.
 abbrev pub words_for : Verb → List ℕ → Option (List (List ℕ))
 words_for verb line = option_and_then (words_counted verb) (words_in line)
 
@@ -40,7 +41,7 @@ words_for verb line = option_and_then (words_counted verb) (words_in line)
 abbrev pub proc_in : Parts → List (List ℕ) → Option ProcId
 proc_in spec words = proc_named spec (word_at words 1)
 
--- The event that the words of a line of a kind give; rule 4 asks for one.
+-- The event that the words of a line of a kind encode, or none. Rule 4 requires one.
 abbrev pub event_told : Parts → Verb → List (List ℕ) → Option Event
 event_told spec Start words = option_map event.Start (proc_in spec words)
 event_told spec Look words =
@@ -54,38 +55,38 @@ event_told spec Note words = option_map event.KNote (proc_in spec words)
 event_told spec KernelStore words = option_map event.KStore (spelled_number 20 (word_at words 1))
 event_told spec Release words = Some event.Release
 
--- The event that a printable line gives.
+-- The event that a printable line encodes, or the first rule that the line breaks.
 abbrev pub line_event : Parts → List ℕ → Result Event ℕ
 line_event spec line =
     unless UNKNOWN_WORD (verb_of line) (λ (verb : Verb).
     unless NO_FORM (words_for verb line) (λ (words : List (List ℕ)).
     unless UNKNOWN_EVENT (event_told spec verb words) (λ (event : Event). Ok event)))
 
--- The event that a line gives, or the least rule that the line breaks.
+-- The event that a line encodes, or the first rule that the line breaks.
 abbrev pub event_read : Parts → List ℕ → Result Event ℕ
 event_read spec line = if is_legible line then line_event spec line else Err BROKEN_LINE
 
--- A fault in a line of a number, counted from 1.
+-- The fault of a rule in a line, whose number is counted from 1.
 abbrev pub schedule_fault : ℕ → ℕ → ScheduleFault
 schedule_fault line rule = record { line = line; rule = rule }
 
--- The reading goes on behind a line that is read, and ends at line k where that one breaks a rule.
+-- The reading continues after a line that is read, and ends at line `k` if that line breaks a rule.
 abbrev pub read_on : ℕ → Result Event ℕ → (Event → Result (List Event) ScheduleFault) → Result (List Event) ScheduleFault
 read_on k (Ok event) next = next event
 read_on k (Err rule) next = Err (schedule_fault k rule)
 
--- From line k on, behind lines with these events: the lines, and what follows the last line feed, which has to be nothing.
+-- The events of the preceding lines and of the lines from line `k` on. The text after the last line feed must be empty.
 abbrev pub events_from : Parts → ℕ → List Event → List (List ℕ) → Result (List Event) ScheduleFault
 events_from spec k so_far [] = Ok so_far
 events_from spec k so_far (last ∷ []) = if is_filled last then Err (schedule_fault k BROKEN_LINE) else Ok so_far
 events_from spec k so_far (line ∷ next ∷ lines) =
     read_on k (event_read spec line) (λ (event : Event). events_from spec (k + 1) (so_far ++ event ∷ []) (next ∷ lines))
 
--- The events that the lines give. A file that is too long breaks its rule at line 0.
+-- The events that the lines encode, or a fault. A file that is too long breaks its rule at line 0.
 abbrev pub schedule_of : Parts → List ℕ → Result (List Event) ScheduleFault
 schedule_of spec bytes = if nat_lt MAX_SCHEDULE_BYTES (length bytes) then Err (schedule_fault 0 TOO_LONG) else events_from spec 1 [] (pieces_of 10 bytes)
 
--- An answer of the reader: it is the reading's, or out of memory.
+-- An answer of the reader is the result of the reading, or out of memory.
 abbrev pub AnswersSchedule : {A : Type 0} → Result (List Event) ScheduleFault → Result (Vec Event A) ScheduleError → Type 0
 AnswersSchedule reading (Ok list) = reading ≡ Ok list.items
 AnswersSchedule reading (Err (Fault fault)) = reading ≡ Err fault

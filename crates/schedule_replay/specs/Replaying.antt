@@ -13,28 +13,28 @@ use Rattle.scram_types.specs.declared.rows.Flown.{Flown}
 use Rattle.schedule_replay.specs.declared.replays.ReplayError.{ReplayError}
 use Rattle.schedule_replay.specs.declared.replays.ReplayError.TheVariants as error
 
--- The first of two, where there is one, else the second.
+-- The first of two events if there is one, else the second.
 abbrev pub first_of_two : Option Event → Option Event → Option Event
 first_of_two (Some event) other = Some event
 first_of_two None other = other
 
--- The next event of the least of the processors below n that has one.
+-- The next event of the first processor below `n` that has one.
 abbrev pub next_below : Flight → Places → (Word → ℕ) → ℕ → Option Event
 next_below m at words zero = None
 next_below m at words (suc n) = first_of_two (next_below m at words n) (next_of m at words n)
 
--- The next event of the least processor that has one, else that of the kernel.
+-- The next event of the first processor that has one, else that of the kernel.
 abbrev pub first_next : Flight → Places → (Word → ℕ) → Option Event
 first_next m at words = first_of_two (next_below m at words m.procs) (next_kernel m at words)
 
--- The events are a schedule at whose end the machine is over.
+-- The events are a schedule at whose end the flight is over.
 pub record IsWholeSchedule (m : Flight) (list : List Event) : Type 0 where
   pub at : Places
   pub words : Word → ℕ
   pub replay : IsReplay m list at words
   pub over : IsOver m at
 
--- The events before this place are a schedule, and behind it the event at this place is not the next of its actor.
+-- The events before index `index` are a schedule, and the event at that index is not the next of its actor after them.
 pub record IsIllegal (m : Flight) (list : List Event) (index : ℕ) (given : Event) (next : Option Event) : Type 0 where
   pub at : Places
   pub words : Word → ℕ
@@ -43,7 +43,7 @@ pub record IsIllegal (m : Flight) (list : List Event) (index : ℕ) (given : Eve
   pub next_is : next ≡ next_of_actor m at words given
   pub not_next : next ≢ Some given
 
--- The events are a schedule at whose end the machine is not over.
+-- The events are a schedule at whose end the flight is not over.
 pub record IsShort (m : Flight) (list : List Event) (events : ℕ) (next : Event) : Type 0 where
   pub at : Places
   pub words : Word → ℕ
@@ -52,8 +52,8 @@ pub record IsShort (m : Flight) (list : List Event) (events : ℕ) (next : Event
   pub count : events ≡ length list
   pub next_is : first_next m at words ≡ Some next
 
--- An answer to a list: the one-thread trace where the list is a whole schedule, the first event that is out of turn, or what comes next
--- where the list ends too early.
+-- An answer to a list. It is the one-thread trace if the list is a whole schedule, the first event that is out of turn,
+-- or the next event if the list ends too early.
 abbrev pub AnswersReplay : Parts → ScriptParts → List Event → Result Flown ReplayError → Type 0
 AnswersReplay spec script list (Ok flown) = IsWholeSchedule (flight_of spec script) list × (flown.rows ≡ rows_of spec script)
     × (flown.reports ≡ reports_of spec script)

@@ -1,5 +1,5 @@
--- The round-robin schedule: frame by frame, each processor in order makes all its steps, and then the kernel makes
--- its own.
+-- The round-robin schedule. In each frame, each processor in order makes all its steps, and then the kernel makes its
+-- own.
 use Rattle.std.specs.Prelude.{◌≡◌, ℕ, zero, suc, List, [], ◌∷◌, ◌++◌, Option, Some, None, nat_lt, if◌then◌else◌}
 use Rattle.scram_types.specs.Lookups.{proc_id}
 use Rattle.scram_types.specs.Scripts.{ScriptParts}
@@ -13,35 +13,37 @@ use Rattle.fail_stop.specs.Schedules.{IsSchedule, Machine, opening}
 use Rattle.fail_stop.specs.ScriptFlights.{flight_of}
 use Rattle.fault_script.specs.Fits.{Fits}
 
--- The end of a frame of processor p, behind its stores: the flip and that it is done, or its halt, which may come before the flip.
+-- The steps of processor `p` in a frame after its stores: the flip and the end of the frame, or its halt, which may
+-- come before the flip.
 abbrev pub ending : Flight → ℕ → Option ℕ → List Event
 ending m p None = Flip (proc_id p) ∷ Done (proc_id p) ∷ []
 ending m p (Some step) = if nat_lt m.width step then Flip (proc_id p) ∷ Halt (proc_id p) ∷ [] else Halt (proc_id p) ∷ []
 
--- All steps of processor p in a frame, by its halt there: the start, a look at each processor, the stores, the end.
+-- All steps of processor `p` in a frame, given its halt there: the start, a look at each processor, the stores and the
+-- last steps.
 abbrev pub steps_by : Flight → ℕ → Option ℕ → List Event
 steps_by m p halt =
     Start (proc_id p) ∷ (listed_below (λ (q : ℕ). Look (proc_id p) (proc_id q)) m.procs
     ++ (listed_below (λ (i : ℕ). Store (proc_id p) i) (stores_by m.width halt) ++ ending m p halt))
 
--- All steps of processor p in frame f: none where it is down.
+-- All steps of processor `p` in frame `f`, of which there are none if the processor is down.
 abbrev pub turn_of_proc : Flight → ℕ → ℕ → List Event
 turn_of_proc m p f = if m.up p f then steps_by m p (m.halt p f) else []
 
--- The turns of the processors below n in frame f.
+-- The turns of the processors below `n` in frame `f`.
 abbrev pub turns_of_procs : Flight → ℕ → ℕ → List Event
 turns_of_procs m f zero = []
 turns_of_procs m f (suc n) = turns_of_procs m f n ++ turn_of_proc m n f
 
--- What the kernel does behind its notes in frame f: nothing in the last one.
+-- The steps of the kernel after its notes in frame `f`, of which there are none in the last frame.
 abbrev pub releasing : Flight → ℕ → List Event
 releasing m f = if nat_lt (suc f) m.frames then listed_below KStore 20 ++ Release ∷ [] else []
 
--- All steps of the kernel in frame f: a note of each processor, its stores, the release.
+-- All steps of the kernel in frame `f`: a note of each processor, its stores and the release.
 abbrev pub turn_of_kernel : Flight → ℕ → List Event
 turn_of_kernel m f = listed_below (λ (p : ℕ). KNote (proc_id p)) m.procs ++ releasing m f
 
--- The frames below f of the round-robin schedule.
+-- The round-robin schedule of the frames below `f`.
 abbrev pub frames_in_turns : Flight → ℕ → List Event
 frames_in_turns m zero = []
 frames_in_turns m (suc f) = frames_in_turns m f ++ (turns_of_procs m f m.procs ++ turn_of_kernel m f)
@@ -50,16 +52,16 @@ frames_in_turns m (suc f) = frames_in_turns m f ++ (turns_of_procs m f m.procs +
 abbrev pub in_turns : Parts → ScriptParts → List Event
 in_turns spec script = frames_in_turns (flight_of spec script) script.frames
 
--- Some events were added to a list.
+-- A list is another one with some events appended.
 abbrev pub Adds : List Event → List Event → List Event → Type 0
 Adds old new events = new ≡ old ++ events
 
--- The events are a schedule from the opening, at whose end the machine is over.
+-- The events are a schedule from the opening, at whose end the flight is over.
 pub record LeadsToTheEnd (m : Flight) (events : List Event) : Type 0 where
   pub state : Machine
   pub schedule : IsSchedule m (opening m) events state
   pub over : IsOver m state.at
 
--- Of every script that fits, the round-robin schedule leads to the end.
+-- The round-robin schedule of every script that fits ends with the flight over.
 abbrev pub TurnsLeadToTheEnd : Type 0
 TurnsLeadToTheEnd = (spec : Parts) (script : ScriptParts) → Fits spec script → LeadsToTheEnd (flight_of spec script) (in_turns spec script)

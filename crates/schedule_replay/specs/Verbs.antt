@@ -1,9 +1,9 @@
--- The words that lines of a schedule begin with.
+-- The first words of lines of a schedule.
 use Rattle.std.specs.Prelude.{ℕ, List, Option, Some, None, bytes_eq, codes, if◌then◌else◌}
 use Rattle.schedule_replay.specs.declared.verbs.Verb.{Verb}
 use Rattle.schedule_replay.specs.declared.verbs.Verb.TheVariants.{Start, Look, Store, Flip, Done, Halt, Note, KernelStore, Release}
 
--- The kind of event that a word names.
+-- The kind of event that a word names, or none.
 abbrev pub verb_named : List ℕ → Option Verb
 verb_named word =
     if bytes_eq word (codes "start") then Some Start
@@ -16,7 +16,7 @@ verb_named word =
     else (if bytes_eq word (codes "kstore") then Some KernelStore
     else (if bytes_eq word (codes "release") then Some Release else None))))))))
 
--- How many words a line of this kind has, the first one too.
+-- The number of words of a line of this kind, including the first.
 abbrev pub word_count : Verb → ℕ
 word_count Start = 2
 word_count Look = 3

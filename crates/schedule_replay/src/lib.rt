@@ -1,5 +1,6 @@
-//! A schedule's text is read as exactly its events, or refused at its first broken line with the least rule that it
-//! breaks; what is written of events that the specification has is read back where it is not too long.
+//! Schedules as text. A schedule's text is read as exactly its events, or refused at its first broken line, with the
+//! first rule that the line breaks. A text that is written for events of the specification is read back, if it is not
+//! too long.
 #![tactic(auto)]
 
 pub mod event_lines;

@@ -1,7 +1,7 @@
 //! The limits of a schedule's text.
 
-/// The most bytes of a file that holds a schedule.
+/// The maximum length of a file that holds a schedule, in bytes.
 pub const MAX_SCHEDULE_BYTES: usize = 33_554_432;
 
-/// The most bytes of a schedule's line, without its line feed.
+/// The maximum length of a line of a schedule, in bytes, excluding the line feed.
 pub const MAX_EVENT_BYTES: usize = 64;

@@ -20,18 +20,18 @@ use event_core::flyers::Flyers;
 use scram_types::{Flown, NoMemory, ProcId, Script, Spec};
 use std::alloc::Global;
 
-/// Why a list was not flown as a schedule to the end.
+/// The reasons why a list was not flown as a schedule to the end.
 #[derive(Clone, Copy, Debug)]
 pub enum ReplayError {
-    /// The event at this place, counted from 0, is the first that is not the next of its actor; what is next of that actor,
-    /// if anything is.
+    /// The event at this index, counted from 0, is the first that is not the next of its actor. `next` is that actor's
+    /// next event, if it has one.
     Illegal {
         index: u32,
         given: Event,
         next: Option<Event>,
     },
-    /// All events of the list, of this number, were made, and the flight is not over. The event is the next of the least
-    /// processor that has one, else of the kernel.
+    /// All events of the list were made, and the flight is not over. The next event is that of the first processor that
+    /// has one, else that of the kernel.
     Short {
         events: u32,
         next: Event,
@@ -48,14 +48,14 @@ impl From<NoMemory> for ReplayError {
     }
 }
 
-/// Flies a list of events as a schedule, on one thread. Where it is a schedule at whose end the flight is over, the
-/// rows and reports are those of the one-thread trace, whatever the list is. Rack `p` is that of processor `p`, and
-/// spare rack `p` is for its restart. It does not block.
+/// Flies a list of events as a schedule, on one thread. If the list is a schedule at whose end the flight is over, the
+/// rows and reports are those of the one-thread trace. Rack `p` is that of processor `p`, and spare rack `p` is for its
+/// restart. It does not block.
 ///
 /// # Errors
 ///
-/// The first event that is not the next of its actor; what would come next, where the list ends before the flight
-/// does; out of memory.
+/// The first event that is not the next of its actor, the event that would come next if the list ends before the flight
+/// does, or out of memory.
 pub fn replay(
     alloc: Global,
     spec: &Spec,
@@ -75,7 +75,7 @@ pub fn replay(
     land(core, spec, events)
 }
 
-// Makes the events of a list, one after another, as long as each is the next of its actor.
+// Makes the events of a list in order, as long as each is the next of its actor.
 fn fly<'a>(
     core: Core<'a>,
     spec: &Spec,
@@ -101,7 +101,7 @@ fn fly<'a>(
     Ok(core)
 }
 
-// Makes an event, where it is the next of its actor.
+// Makes an event if it is the next of its actor.
 fn make(core: &mut Core, spec: &Spec, flyers: &mut Flyers, event: Event) -> Result<(), ReplayError>
     requires spec { core.old.spec ≡ spec.now }
     requires fits { FlyBy core.old flyers.old }
@@ -124,7 +124,7 @@ fn make(core: &mut Core, spec: &Spec, flyers: &mut Flyers, event: Event) -> Resu
     }
 }
 
-// Returns how many events were made. They are a schedule.
+// Returns the number of events that were made. These events are a schedule.
 fn events_made(core: &Core) -> u32
     ensures count { result ≡ length core.now.history }
     ensures schedule { IsReplay (flown core.now) core.now.history (standing core.now) (standing_words core.now) }
@@ -132,7 +132,7 @@ fn events_made(core: &Core) -> u32
     core.history().len() as u32
 }
 
-// Returns the word with which an event is made where it is next of its actor.
+// Returns the word with which an event is made if it is the next of its actor.
 fn word_where_next(core: &Core, spec: &Spec, flyers: &mut Flyers, event: Event) -> u64
     requires spec { core.now.spec ≡ spec.now }
     requires fits { FlyBy core.now flyers.old }
@@ -146,7 +146,7 @@ fn word_where_next(core: &Core, spec: &Spec, flyers: &mut Flyers, event: Event) 
     }
 }
 
-// Returns the flight's rows and reports where it is over, else what would come next.
+// Returns the flight's rows and reports if it is over, else the event that would come next.
 fn land(core: Core, spec: &Spec, events: &[Event]) -> Result<Flown, ReplayError>
     requires spec { core.spec ≡ spec.now }
     requires history { core.history ≡ events.now }
@@ -161,7 +161,7 @@ fn land(core: Core, spec: &Spec, events: &[Event]) -> Result<Flown, ReplayError>
     }
 }
 
-// Returns the next event of the least processor that has one, else of the kernel, where the flight is not over.
+// Returns the next event of the first processor that has one, else that of the kernel, or `None` if the flight is over.
 fn pending(core: &Core, spec: &Spec) -> Option<Event>
     requires spec { core.now.spec ≡ spec.now }
     ensures over { result ≡ None → IsOver (flown core.now) (standing core.now) }

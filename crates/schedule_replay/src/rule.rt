@@ -1,12 +1,12 @@
-//! The numbers of the rules of a schedule. A fault shows its number, so they never change.
+//! The numbers of the rules of a schedule. A fault shows its number, so the numbers never change.
 
 /// The line lacks its line feed, has a byte that is not printable, or is too long.
 pub const BROKEN_LINE: u8 = 1;
 
-/// The line's first word is none of those that events begin with.
+/// The line's first word is not the first word of any event.
 pub const UNKNOWN_WORD: u8 = 2;
 
-/// The line's words, their count or the spaces between them are wrong.
+/// The line's words, their number or the spaces between them are wrong.
 pub const NO_FORM: u8 = 3;
 
 /// A processor is unknown, or a number is not spelled as printed or leaves its range.

@@ -1,4 +1,4 @@
-//! A schedule read from its bytes.
+//! Reading a schedule from bytes.
 
 ghost use Rattle.std.specs.Prelude.{◌≡◌, IfOk};
 ghost use Rattle.schedule_replay.specs.Events.{HasEvents};
@@ -14,7 +14,7 @@ use scram_types::Spec;
 use std::alloc::Global;
 use trace_text::pieces::split_once;
 
-/// The first line, counted from 1, that breaks a rule, with the least rule, 1 to 5, that it breaks. A schedule that is
+/// The first line, counted from 1, that breaks a rule, and the first rule, 1 to 5, that it breaks. A schedule that is
 /// too long breaks rule 5 at line 0.
 #[derive(Clone, Copy, Debug, PartialEq, Eq)]
 pub struct ScheduleFault {
@@ -22,15 +22,15 @@ pub struct ScheduleFault {
     pub rule: u8,
 }
 
-/// Why bytes were not read as a schedule.
+/// The reasons why bytes were not read as a schedule.
 #[derive(Clone, Copy, Debug, PartialEq, Eq)]
 pub enum ScheduleError {
     Fault(ScheduleFault),
     NoMemory,
 }
 
-/// Returns the events that the lines give, in order, or the first line that breaks a rule with the least rule that it
-/// breaks. The specification has each event that is read.
+/// Returns the events that the lines encode, in order, or the first line that breaks a rule, with the first rule that
+/// it breaks. The specification has each event that is read.
 pub fn read_schedule(alloc: Global, bytes: &[u8], spec: &Spec) -> Result<Vec<Event>, ScheduleError>
     ensures read { AnswersSchedule (schedule_of spec.now bytes.now) result }
     ensures known { IfOk result (λ list. HasEvents spec.now list.items) }

@@ -1,4 +1,4 @@
-//! A schedule written as text.
+//! Writing a schedule as text.
 
 ghost use Rattle.std.specs.Prelude.{◌≡◌, ◌≤◌, IfOk, Ok, length};
 ghost use Rattle.schedule_replay.specs.Events.{HasEvents, schedule_text};
@@ -11,8 +11,8 @@ use bank_words::Event;
 use scram_types::{NoMemory, Spec};
 use std::alloc::Global;
 
-/// Returns the text of a schedule: a line for each of its events. Where it has at most `MAX_SCHEDULE_BYTES`, it is read
-/// back to the same events.
+/// Returns the text of a schedule, with a line for each event. If the text has at most `MAX_SCHEDULE_BYTES` bytes, the
+/// same events are read back from it.
 ///
 /// # Errors
 ///

@@ -17,8 +17,8 @@ use fault_script::{halt_in, up_at};
 use scram_types::{HaltAt, NoMemory, ProcId, Script, Spec};
 use std::alloc::Global;
 
-/// Returns the round-robin schedule: frame by frame, each processor in order makes all its steps, and
-/// then the kernel makes its own. A processor that is down makes none; one that restarts does so in its turn.
+/// Returns the round-robin schedule. In each frame, each processor in order makes all its steps, and then the kernel
+/// makes its own. A processor that is down makes none, and a processor that restarts does so in its turn.
 ///
 /// # Errors
 ///
@@ -190,14 +190,14 @@ fn add(list: &mut Vec<Event>, event: Event) -> Result<(), NoMemory>
     Ok(())
 }
 
-/// Returns how many processors there are.
+/// Returns the number of processors.
 pub(crate) fn proc_count(spec: &Spec) -> u8
     ensures { result ≡ length spec.now.procs }
 {
     spec.procs.items().len() as u8
 }
 
-// Returns how many words an image has.
+// Returns the number of words of an image.
 fn image_words(spec: &Spec) -> u8
     ensures { result ≡ 8 * length spec.now.apps }
 {

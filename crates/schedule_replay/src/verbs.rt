@@ -1,9 +1,9 @@
-//! The words that lines of a schedule begin with.
+//! The first words of lines of a schedule.
 
 ghost use Rattle.std.specs.Prelude.{◌≡◌, bytes_eq};
 ghost use Rattle.schedule_replay.specs.Verbs.{verb_named, word_count};
 
-/// What the first word of a line says: the kind of its event.
+/// The kind of an event, given by the first word of its line.
 #[derive(Clone, Copy, Debug, PartialEq, Eq)]
 pub enum Verb {
     Start,
@@ -17,7 +17,7 @@ pub enum Verb {
     Release,
 }
 
-/// Returns the kind of event that a word names.
+/// Returns the kind of event that a word names, or `None`.
 pub fn verb_named(word: &[u8]) -> Option<Verb>
     ensures { result ≡ verb_named word.now }
 {
@@ -44,7 +44,7 @@ pub fn verb_named(word: &[u8]) -> Option<Verb>
     }
 }
 
-/// Returns how many words a line of this kind has.
+/// Returns the number of words of a line of this kind.
 pub fn word_count(verb: Verb) -> usize
     ensures { result ≡ word_count verb }
 {

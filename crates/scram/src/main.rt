@@ -1,5 +1,5 @@
-//! The program: it hands its words, the real files, standard output and the boxes of all processors to
-//! the command, and ends with the command's status.
+//! The program. It passes its words, the files of the system, standard output and the boxes of all processors to the
+//! command, and ends with the command's status.
 #![tactic(auto)]
 
 use app_model::racks_fit;
@@ -16,15 +16,15 @@ use std::thread::Threads;
 
 /// The status of an out-of-memory error before the command is called.
 const NO_MEMORY: u8 = 9;
-/// The status where a line that is printed here is not written.
+/// The status if a line that is printed here cannot be written.
 const UNWRITTEN_OUTPUT: u8 = 4;
-/// The status where the boxes that the program makes are not those of the kinds, which its line says.
+/// The status if the boxes that the program makes are not those of the kinds, which a line says.
 const UNFIT_RACKS: u8 = 1;
 
 fn main(rt: HostRuntime) -> ExitCode {
     let words = match words(&rt) {
         Ok(words) => words,
-        // A word that is no UTF-8 is in no form of the command, and no words are in none either.
+        // A word that is not UTF-8 is in no form of the command, and neither is an empty list of words.
         Err(error) if error.kind() != ErrorKind::OutOfMemory => Vec::new(rt.alloc()),
         Err(_) => return refuse_memory(&rt),
     };
@@ -42,7 +42,7 @@ fn refuse_memory(rt: &HostRuntime) -> ExitCode {
     }
 }
 
-/// Makes the boxes, and does what the words ask for: the status.
+/// Creates the boxes, answers the words, and returns the status.
 fn answer<R: AllocGlobal + Files + Print + Threads + Wait + Sync>(
     rt: &HostRuntime,
     threads: &R,

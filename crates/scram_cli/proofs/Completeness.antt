@@ -1,4 +1,4 @@
--- Where nothing fails and a mission is read, its flight is answered, or the allocator was out of memory.
+-- If nothing fails and a mission is read, its flight is answered, or the allocator was out of memory.
 use Rattle.std.proofs.Common.{◌≡◌, ℕ, ◌<◌, ◌≤◌, List, [], ◌∷◌, length, refl, sym, ◌∙◌, ap, inl, inr, ◌⊎◌, arith}
 use Rattle.std.proofs.lemmas.Bool.Decides.{nat_tests}
 use Rattle.std.specs.Prelude.{Bool, true, false, Option, Some, None, IfSome, IsTrue, Result, Ok, Err, cond, nat_le}
@@ -27,12 +27,12 @@ use Rattle.flight_forms.specs.Missions.{UnlessRefused, mission_refusal, refusal_
 use Rattle.flight_forms.specs.Texts.{flight_text}
 use Rattle.scram_cli.specs.Laws.{EndsAnswered, HasRoomFor, HoldsMission, MissionsAreAnswered}
 
--- a value is read of no more bytes than the limit
+-- a value is read from at most the limit of bytes
 short_by : {A E : Type 0} (few : Bool) (read : Result A E) (fault : E) (value : A) → cond few read (Err fault) ≡ Ok value → few ≡ true
 short_by true read fault value is = refl
 short_by false read fault value is = absurd (let e = is in cc)
 
--- what was read after a file has the map's bytes, and is answered with it; no count fell meanwhile
+-- the file was read with the map's bytes, and the answer uses it; no count fell meanwhile
 record RestAnswers (map : FileMap) (Answers : Answer) (before after : FilesState) (status : ℕ) (text : List ℕ) : Type 0 where
   rest : History
   between : FilesState
@@ -40,7 +40,7 @@ record RestAnswers (map : FileMap) (Answers : Answer) (before after : FilesState
   agrees : Agrees map rest
   answers : Answers between after rest status text
 
--- the file is there, its bytes are few enough, and no count rose: the answer is that of its bytes
+-- the file is there and not too long, and no count rose, so the answer is that of its bytes
 
 bytes_answered : (limit : ℕ) (name : List ℕ) (A : List ℕ → Answer) (map : FileMap) (bytes : List ℕ) (before after : FilesState) (reads : History)
     (status : ℕ) (text : List ℕ) → file_at name map ≡ Some bytes → Agrees map reads → AnswersBytes limit name A before after reads status text
@@ -79,7 +79,7 @@ file_answered limit long name A map bytes start before after reads status text f
 file_answered limit long name A map bytes start before after reads status text file few quiet count agrees (inr is) =
     not_unread limit long name map bytes start before after reads status text file few quiet count agrees is
 
--- a document that says a value is answered by it
+-- a document that encodes a value is answered by the value
 
 said_spec : (spec : Parts) (Then : Parts → Answer) (bytes : List ℕ) (before after : FilesState) (reads : History) (status : ℕ) (text : List ℕ) → spec_of bytes ≡ Ok spec
     → AnswersDocument SaysSpecification BreaksSpecification Then bytes before after reads status text → Then spec before after reads status text
@@ -98,7 +98,7 @@ said_script spec script Then bytes before after reads status text reading (inl i
     rw same at is.2
 said_script spec script Then bytes before after reads status text reading (inr is) = absurd (let read = is.1.is in cc)
 
--- the flight is answered where nothing is refused
+-- the flight is answered if nothing is refused
 
 script_none : (outside : Option Outside) (A : ℕ → List ℕ → Type 0) (status : ℕ) (text : List ℕ) → outside ≡ None → UnlessRefused (script_refusal outside) A status text → A status text
 script_none (Some outside) A status text is gives = absurd (let e = is in cc)
@@ -109,7 +109,7 @@ refused_none : (spec : Parts) (script : ScriptParts) (shown : Option Shown) (A :
 refused_none spec script (Some shown) A status text is nowhere gives = absurd (let e = is in cc)
 refused_none spec script None A status text is nowhere answers = script_none (first_outside spec script) A status text nowhere answers
 
--- the one answer where the files hold a mission
+-- the one answer if the files hold a mission
 mission_answered : (specification script : List ℕ) (map : FileMap) (mission : MissionParts) (before after : FilesState) (reads : History) (status : ℕ) (text : List ℕ)
     → HoldsMission map specification script mission → Unrisen before.faults after.faults → Agrees map reads
     → RunAnswers specification script before after reads status text → Gives (ANSWERED, flight_text Trace mission) status text
@@ -142,7 +142,7 @@ has_room specification script map mission before old holds room = record {
   memory = room.memory;
 }
 
--- what was shown is the answer, or that the allocator was out of memory, where no count rose
+-- the text that was written is the answer, or the allocator was out of memory, if no count rose
 shown_whole : (old new : SinkState) (code status : ℕ) (text : List ℕ) → Unrisen old.faults new.faults
     → ((code ≡ status) × WentOut old new text) ⊎ ((code ≡ UNWRITTEN_OUTPUT) × StoppedIn old new text) → (code ≡ status) × WentOut old new text
 shown_whole old new code status text quiet (inl is) = is

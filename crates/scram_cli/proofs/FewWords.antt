@@ -1,8 +1,8 @@
--- Words of which there are few.
+-- Lists of few words.
 use Rattle.std.proofs.Common.{ℕ, ◌≡◌, ◌<◌, List, [], ◌∷◌, length, arith, refl}
 use Rattle.scram_cli.specs.Forms.{form_of, form_of_few}
 
--- fewer than three are no words of `choose`
+-- fewer than three words are not those of `choose`
 pub few_words : (words : List (List ℕ)) → length words < 3 → form_of_few words ≡ form_of words
 few_words [] low = refl
 few_words (a ∷ []) low = refl

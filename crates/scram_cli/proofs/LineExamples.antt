@@ -1,4 +1,4 @@
--- Worked lines: computed, and compared with what is printed.
+-- Worked lines, computed and compared with what is printed.
 use Rattle.std.proofs.Common.{◌≡◌, refl, ℕ, List, [], ◌∷◌, pos}
 use Rattle.std.specs.Prelude.{Option, Some, None, codes, replicate}
 use Rattle.std.specs.Fmt.{digits}
@@ -30,7 +30,7 @@ two_valued name = record { name = name; values = codes "ok" ∷ codes "failed" �
 abbrev proc : List ℕ → Proc
 proc name = record { name = name; capacity = 100 }
 
--- the names of a mission, and what its failure assumption is
+-- the names of a mission, and its failure assumption
 abbrev named : List Factor → List Bound → Parts
 named factors bounds = record {
   procs = proc (codes "p0") ∷ proc (codes "p1") ∷ [];
@@ -140,7 +140,7 @@ accepted : accepted_line alternators ≡ codes "accepted: configurations 2 state
 unfolding digits
 accepted = refl
 
--- a number with a zero in front, in the first line
+-- a number with a leading zero, in the first line
 trace : trace_line (record { line = 1; rule = 5 }) ≡ codes "refused: trace rule 5 at line 1\n"
 unfolding digits
 trace = refl
@@ -163,7 +163,7 @@ holds : (row : Row) → holds_line (record { rows = replicate 11 row; reports = 
 unfolding digits
 holds row = refl
 
--- without rows the start configuration is shown, and an unfinished reconfiguration is none of the longest
+-- without rows the start configuration is shown, and an unfinished reconfiguration does not count as the longest
 flown : fly_line 18 alternators [] (reconfiguration (Some (conf_id 1)) 10 15 ∷ reconfiguration (Some (conf_id 0)) 50 57 ∷ reconfiguration None 60 99 ∷ [])
     ≡ codes "fly 18 frames 0 reconfigurations 3 longest 7 final full\n"
 unfolding digits reconfiguration

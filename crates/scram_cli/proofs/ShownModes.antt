@@ -1,4 +1,4 @@
--- The modes and the acts of a flight's rows name what exists.
+-- The modes and the acts of a flight's rows name things that exist.
 use Rattle.std.proofs.Common.{◌≡◌, ◌∙◌, ℕ, suc, ◌<◌, ◌≤◌, ◌-◌, Bool, true, false, cond, List, [], ◌∷◌, length, arith, refl, sym, subst}
 use Rattle.std.specs.Prelude.{◌==◌, ⊤, nat_lt, Option, Some, None, IsSome, option_and_then, slice_get}
 use Rattle.std.specs.Option.{option_map_or}
@@ -33,7 +33,7 @@ use Rattle.frame_model.specs.States.{act_of_order, act_on}
 use Rattle.frame_model.specs.Tasks.{halting_order, initialising_order, off_task, preparing_order, task_at, task_for, task_in}
 use Rattle.trace_text.specs.Flights.{IsActShown, IsModeShown, IsMove}
 
--- what is chosen exists
+-- the chosen configuration exists
 
 target_by : (t : Bool) (spec : Parts) (one other : ConfId) → IsIn spec.confs one → IsIn spec.confs other → IsIn spec.confs (cond t one other)
 target_by true spec one other h k = h
@@ -89,7 +89,7 @@ placed_in spec sound c a (Some conf) there place is = (sound.confs c conf there)
 pub placed : (spec : Parts) → IsSpec spec → (c : ConfId) (a : ℕ) (place : Place) → place_of spec c a ≡ Some place → IsPlace spec.procs spec.apps a place
 placed spec sound c a place is = placed_in spec sound c.0 a (slice_get spec.confs c.0) refl place is
 
--- what a mode costs
+-- the cost of a mode
 
 listed_by : (t : Bool) (kind : ℕ) (listed : ModeSpec) (more : Option ModeSpec) (found : ModeSpec) → IsModeSpec kind listed → (more ≡ Some found → IsModeSpec kind found) →
     cond t (Some listed) more ≡ Some found → IsModeSpec kind found
@@ -153,7 +153,7 @@ initialising_shown offset time age short =
     order_by (nat_lt age offset) order.Hold (cond (nat_lt (age - offset) time) (order.Init (age - offset) time) order.Hold) (λ e. tt)
     (order_by (nat_lt (age - offset) time) (order.Init (age - offset) time) order.Hold (λ e. (ltb-true (age - offset) time e, short)) tt)
 
--- what application a does: it is off, or an order names it at its place
+-- the act of application a: it is off, or an order names it at its place
 pub data IsTold (spec : Parts) (a : ℕ) (told : order_tasks.Task) : Type 0 where
   Nothing : told ≡ off_task → IsTold spec a told
   Told : (o : Order) (place : Place) → told ≡ task_at o place → IsOrderShown o → IsPlace spec.procs spec.apps a place → IsTold spec a told

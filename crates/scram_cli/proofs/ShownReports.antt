@@ -1,4 +1,4 @@
--- The reconfigurations that rows show lie within the flight, and what is printed of a flight is read.
+-- The reconfigurations that rows show are within the flight, and the text that is printed for a flight is read.
 use Rattle.std.proofs.Common.{◌≡◌, ℕ, zero, suc, ◌<◌, ◌≤◌, ◌+◌, Bool, true, false, cond, List, [], ◌∷◌, ◌++◌, length, arith, refl, subst}
 use Rattle.std.specs.Prelude.{IfSome, Option, Some, None, option_map}
 use Rattle.scram_types.specs.declared.rows.Row.{Row}
@@ -44,7 +44,7 @@ runs_known spec (Some j) h = omega (arith, h)
 running_known : (spec : Parts) (acts : List Act) → IfSome (running spec acts) (IsIn spec.confs)
 running_known spec acts = runs_known spec (least_from (λ c. runs spec acts (conf_id c)) 0 (length spec.confs)) (found_low (λ c. runs spec acts (conf_id c)) 0 (length spec.confs))
 
--- what is read before the row of frame f
+-- the reading before the row of frame f
 pub record IsLeft (spec : Parts) (f : ℕ) (c : ConfId) (begin : ℕ) : Type 0 where
   pub known : IsIn spec.confs c
   pub past : begin < f
@@ -65,7 +65,7 @@ read_shown : (spec : Parts) (f : ℕ) (reading : Reading) (acts : List Act) → 
 read_shown spec f (Steady c) acts known = left_by (runs spec acts c) spec f c known
 read_shown spec f (Leaving c begin) acts left = arrive_shown spec f c begin (running spec acts) left (running_known spec acts)
 
--- lists that keep a fact
+-- lists whose items have a property
 
 each_append : {A : Type 0} (P : A → Type 0) (xs ys : List A) → Each P xs → Each P ys → Each P (xs ++ ys)
 each_append P [] ys h k i x there = k i x there

@@ -1,4 +1,4 @@
--- The rows of a flight lie in the ranges of the specification, of the kinds and of the aircraft.
+-- The rows of a flight are in the ranges of the specification, of the kinds and of the aircraft.
 use Rattle.std.proofs.Common.{◌≡◌, ◌∙◌, ℕ, zero, suc, ◌<◌, ◌≤◌, ◌-◌, Bool, true, false, cond, List, [], ◌∷◌, length, arith, refl, sym, subst}
 use Rattle.std.specs.Prelude.{◌&&◌, ℤ, pos, negsuc, ◌≤ℤ◌, int_le, Option, Some, None, replicate, slice_get, slice_index, slice_index_or}
 use Rattle.std.proofs.lemmas.Int.{ints}

@@ -1,4 +1,5 @@
--- What the command answers: a status and a text, by its words and by what it reads of the files that they name.
+-- The answers of the command: a status and a text, by its words and the bytes that it reads of the files that they
+-- name.
 use Rattle.std.specs.Prelude.{ℕ, List, Option, Some, None, codes}
 use Rattle.form_base.specs.declared.status.TheConstants.{ANSWERED, BROKEN_USAGE}
 use Rattle.form_base.specs.Answers.{Answer, Gives, WithoutFiles}
@@ -24,11 +25,11 @@ use Rattle.scram_cli.specs.declared.forms.SpecificationForm.{SpecificationForm}
 use Rattle.scram_cli.specs.declared.forms.SpecificationForm.TheVariants.{Check, Bounds, Explain, ExplainScript, Fill, Choices, Choose}
 use Rattle.scram_cli.specs.Pages.{page_text}
 
--- The line where the words have no form.
+-- The line for words that have no form.
 abbrev pub usage_line : List ℕ
 usage_line = codes "refused: usage\n"
 
--- The answer to what is asked about flights.
+-- The answer to a form on flights.
 abbrev pub FlightFormAnswers : FlightForm (List ℕ) → Answer
 FlightFormAnswers (Run specification script) = RunAnswers specification script
 FlightFormAnswers (Watch specification script) = WatchAnswers specification script
@@ -39,7 +40,7 @@ FlightFormAnswers (Flights specification scripts) = FlightsAnswers specification
 FlightFormAnswers (Gen number) = WithoutFiles (GenAnswers number)
 FlightFormAnswers (Fly number) = WithoutFiles (FlyAnswers number)
 
--- The answer to what is asked about a specification.
+-- The answer to a form on a specification.
 abbrev pub QuestionAnswers : SpecificationForm (List ℕ) → Answer
 QuestionAnswers (Check specification) = CheckAnswers specification
 QuestionAnswers (Bounds specification) = BoundsAnswers specification
@@ -56,8 +57,8 @@ LookAnswers Summary specification trace = ViewAnswers summary_text specification
 LookAnswers Columns specification trace = ViewAnswers columns_text specification trace
 LookAnswers Picture specification trace = ViewAnswers picture_text specification trace
 
--- The answer to the words: where they have no form, that; else what the form asks, of exactly the files that it has to
--- read, each once, in their order.
+-- The answer to a form, or to words that have no form. A form reads exactly the files that it needs, each once, in
+-- their order.
 abbrev pub FormAnswers : Option (Form (List ℕ)) → Answer
 FormAnswers None = WithoutFiles (Gives (BROKEN_USAGE, usage_line))
 FormAnswers (Some (Flight flight)) = FlightFormAnswers flight

@@ -1,4 +1,4 @@
-//! The top call.
+//! The function that runs the command.
 
 ghost use Rattle.std.specs.Prelude.{◌≡◌, ◌∷◌, [], Some, map, string_bytes, vec_len};
 ghost use Rattle.scram_io.specs.Outside.{Rose};
@@ -41,20 +41,30 @@ use trace_forms::props_form;
 use trace_props::missions::reconfigurations_are_assured;
 use trace_text::lines::Line;
 
-/// Does what the words after the program's name ask for: `run SPEC SCRIPT` flies a mission, `watch SPEC SCRIPT` flies
-/// it while two readers read its summary, `pair SPEC SCRIPT UNIT FRAME STEP` flies it with the kernel on two units,
-/// of which the one named may halt in that frame after that number of its steps, `check SPEC` prints whether a
-/// specification is accepted, `bounds SPEC` which bounds it has to give, `props SPEC TRACE` judges a trace, by any
-/// specification, `replay SPEC SCRIPT SCHEDULE` flies a mission by a schedule, `fill SPEC` prints a specification with
-/// the bounds and the window that serve, `explain SPEC` and `explain SPEC SCRIPT` why one of them is refused,
-/// `choices SPEC` what each rule chooses, `choose SPEC CONF STATE..` what is chosen in a state, `summary SPEC TRACE`,
-/// `columns SPEC TRACE` and `picture SPEC TRACE` print what a trace shows, `faults SPEC COUNT` prints each script with
-/// that number of faults, `flights SPEC SCRIPTS` flies each line of a file, `gen N` prints the mission of a number, and
-/// `fly N` flies it; `--help` and `--version` describe the program. What is printed has gone out when the call ends, or
-/// the status is 4.
+/// Answers the form that the words after the program's name have.
 ///
-/// A mission is flown with a thread for each processor; by a schedule and on two units it is flown without threads.
-/// `racks` are the boxes of the processors, and `spares` those of processors that restart.
+/// - `run SPEC SCRIPT` flies a mission.
+/// - `watch SPEC SCRIPT` flies it while two readers read its summary.
+/// - `pair SPEC SCRIPT UNIT FRAME STEP` flies it with the kernel on two units, of which unit `UNIT` may halt in frame
+///   `FRAME` after `STEP` of its steps.
+/// - `replay SPEC SCRIPT SCHEDULE` flies it by a schedule.
+/// - `check SPEC` prints whether a specification is accepted.
+/// - `explain SPEC` and `explain SPEC SCRIPT` print why a specification or a script is refused.
+/// - `bounds SPEC` prints the bounds that a specification has to give.
+/// - `fill SPEC` prints a specification with bounds and a window that suffice.
+/// - `choices SPEC` prints what each rule chooses.
+/// - `choose SPEC CONF STATE..` prints what is chosen in a state.
+/// - `props SPEC TRACE` judges a trace by any specification.
+/// - `summary SPEC TRACE`, `columns SPEC TRACE` and `picture SPEC TRACE` print what a trace shows.
+/// - `faults SPEC COUNT` prints each script with `COUNT` faults.
+/// - `flights SPEC SCRIPTS` flies each line of a file.
+/// - `gen N` prints the mission of a number, and `fly N` flies it.
+/// - `--help` and `--version` describe the program.
+///
+/// All printed text has been written when the call ends, or the status is 4.
+///
+/// A mission is flown with a thread for each processor, but without threads by a schedule or on two units. `racks` are
+/// the boxes of the processors, and `spares` those of processors that restart.
 pub fn scram<R: AllocGlobal + Threads + Wait + Sync, F: Files, K: Sink>(
     rt: &R,
     words: &[String],
@@ -79,7 +89,7 @@ pub fn scram<R: AllocGlobal + Threads + Wait + Sync, F: Files, K: Sink>(
     send_answer(rt, words, files, out, Boxes { racks, spares })
 }
 
-// Has all that was put go out.
+// Answers the words, and flushes the sink.
 fn send_answer<R: AllocGlobal + Threads + Wait + Sync, F: Files, K: Sink>(
     rt: &R,
     words: &[String],
@@ -99,7 +109,7 @@ fn send_answer<R: AllocGlobal + Threads + Wait + Sync, F: Files, K: Sink>(
     }
 }
 
-// Printed text may still be held back.
+// Answers the words. The sink may still hold back printed text.
 fn answer_words<R: AllocGlobal + Threads + Wait + Sync, F: Files, K: Sink>(
     rt: &R,
     words: &[String],
@@ -134,14 +144,14 @@ fn usage() -> Refusal
     Refusal::new(Refused::Usage, line)
 }
 
-// Prints a page that describes the command.
+// Prints a page on the command.
 fn tell_page<K: Sink>(out: &mut K, page: Page) -> Status
     ensures { Tells (Gives (ANSWERED, page_text page)) (K.state out.old) (K.state out.new) result.code }
 {
     tell(out, ANSWERED, page_text(page).as_bytes())
 }
 
-// Does what a form asks.
+// Answers a form.
 fn answer_form<R: AllocGlobal + Threads + Wait + Sync, F: Files, K: Sink>(
     rt: &R,
     form: Form<&str>,
@@ -177,7 +187,7 @@ fn answer_form<R: AllocGlobal + Threads + Wait + Sync, F: Files, K: Sink>(
     }
 }
 
-// Does what is asked about flights.
+// Answers a form on flights.
 fn answer_flight<R: AllocGlobal + Threads + Wait + Sync, F: Files, K: Sink>(
     rt: &R,
     flight: FlightForm<&str>,
@@ -263,7 +273,7 @@ fn answer_flight<R: AllocGlobal + Threads + Wait + Sync, F: Files, K: Sink>(
     }
 }
 
-// Answers what is asked about a specification.
+// Answers a form on a specification.
 fn answer_question<F: Files, K: Sink>(
     alloc: Global,
     question: SpecificationForm<&str>,
@@ -305,7 +315,7 @@ fn answer_question<F: Files, K: Sink>(
     }
 }
 
-// Looks at the trace of a flight by a specification.
+// Prints a look at the trace of a flight, by a specification.
 fn look_at<F: Files, K: Sink>(
     alloc: Global,
     look: Look,

@@ -9,24 +9,24 @@ use faults_form::{FaultCount, fault_count};
 use kernel_pair::UnitHalt;
 use trace_text::numbers::read_number;
 
-/// The numbers of missions lie below this.
+/// The exclusive upper limit of the numbers of missions.
 const MISSIONS: u64 = 1_000_000;
 
-/// The numbers of units, and of frames and steps of their halts, lie below these.
+/// The exclusive upper limits of the numbers of units, and of the frames and steps of their halts.
 const UNITS: u64 = 2;
 
 const HALT_FRAMES: u64 = 20_000;
 
 const HALT_STEPS: u64 = 32;
 
-/// What the words ask for. `N` is what names a file.
+/// The form of the words. `N` is the type of the name of a file.
 #[derive(Debug, Drop)]
 pub enum Form<N> {
-    /// Something about flights.
+    /// A form on flights.
     Flight {
         flight: FlightForm<N>,
     },
-    /// Something about a specification.
+    /// A form on a specification.
     Specification {
         question: SpecificationForm<N>,
     },
@@ -36,86 +36,86 @@ pub enum Form<N> {
         specification: N,
         trace: N,
     },
-    /// The pages that describe the command.
+    /// A page on the command.
     Told {
         page: Page,
     },
 }
 
-/// What the words ask for about flights.
+/// A form on flights.
 #[derive(Debug, Drop)]
 pub enum FlightForm<N> {
-    /// To fly the mission in two files.
+    /// Flies the mission in two files.
     Run {
         specification: N,
         script: N,
     },
-    /// To fly the mission in two files while readers look at it, and to print its last summary in one line.
+    /// Flies the mission in two files while readers read its summary, and prints its last summary in one line.
     Watch {
         specification: N,
         script: N,
     },
-    /// To fly the mission in two files with the kernel on two units, of which one may halt.
+    /// Flies the mission in two files with the kernel on two units, of which one may halt.
     Pair {
         specification: N,
         script: N,
         halt: UnitHalt,
     },
-    /// To fly the mission in two files by the schedule in a third.
+    /// Flies the mission in two files by the schedule in a third.
     Replay {
         specification: N,
         script: N,
         schedule: N,
     },
-    /// To print each script with this number of faults, 1 to 3, that keeps to a specification's failure assumption.
+    /// Prints each script with this number of faults, 1 to 3, that keeps to a specification's failure assumption.
     Faults {
         specification: N,
         count: FaultCount,
     },
-    /// To fly each script in a file, and to print a line on each.
+    /// Flies each script in a file, and prints a line for each.
     Flights {
         specification: N,
         scripts: N,
     },
-    /// To print the mission of a number, 0 to 999,999.
+    /// Prints the mission of a number, 0 to 999,999.
     Gen {
         number: u32,
     },
-    /// To fly the mission of a number, 0 to 999,999, and to print its summary.
+    /// Flies the mission of a number, 0 to 999,999, and prints its summary.
     Fly {
         number: u32,
     },
 }
 
-/// What the words ask for about a specification.
+/// A form on a specification.
 #[derive(Debug, Drop)]
 pub enum SpecificationForm<N> {
-    /// Whether it is accepted.
+    /// Prints whether the specification is accepted.
     Check {
         specification: N,
     },
-    /// Which bounds it has to give.
+    /// Prints the bounds that the specification has to give.
     Bounds {
         specification: N,
     },
-    /// Why it is refused, or what of it nothing uses.
+    /// Prints why the specification is refused, or which parts of it nothing uses.
     Explain {
         specification: N,
     },
-    /// Why it or a script for it is refused, or what of it nothing uses.
+    /// Prints why the specification or a script for it is refused, or which parts of the specification nothing uses.
     ExplainScript {
         specification: N,
         script: N,
     },
-    /// The same with the bounds and the window that serve.
+    /// Prints the specification with bounds and a window that suffice.
     Fill {
         specification: N,
     },
-    /// What each of its rules chooses, from where and in how many environments.
+    /// Prints what each rule chooses, from where and in how many environments.
     Choices {
         specification: N,
     },
-    /// What it chooses from a configuration, named first, in a state.
+    /// Prints what is chosen in a state from a configuration, which is named first.
     Choose {
         specification: N,
         conf: N,
@@ -123,20 +123,20 @@ pub enum SpecificationForm<N> {
     },
 }
 
-/// How a trace is looked at.
+/// A look at a trace.
 #[derive(Clone, Copy, Debug, PartialEq, Eq)]
 pub enum Look {
-    /// Whether the properties of reconfigurations hold of it.
+    /// A judgement by the properties of reconfigurations.
     Props,
-    /// What the flight came to.
+    /// A summary of the flight.
     Summary,
-    /// As a table of comma-separated values.
+    /// The trace as a table of comma-separated values.
     Columns,
-    /// As a picture, in SVG.
+    /// The trace as a picture, in SVG.
     Picture,
 }
 
-/// Returns the form that the words after the program's name have.
+/// Returns the form of the words after the program's name, or `None`.
 pub fn form_of(words: &[String]) -> Option<Form<&str>>
     ensures { option_map (with_names (λ name. name.now)) result ≡ form_of (map string_bytes words.now) }
 {
@@ -167,7 +167,7 @@ fn choose_form<'a>(specification: &'a str, conf: &'a str, state: &[String]) -> O
     }
 }
 
-// Returns the form of at most six words.
+// Returns the form of at most six words, or `None`.
 fn form_of_few(words: &[String]) -> Option<Form<&str>>
     ensures { option_map (with_names (λ name. name.now)) result ≡ form_of_few (map string_bytes words.now) }
 {
@@ -217,7 +217,7 @@ fn form_of_two<'a>(command: &str, word: &'a str) -> Option<Form<&'a str>>
     }
 }
 
-// Returns what a command and the name of a specification's file ask.
+// Returns the form on a specification of a command and the name of a file, or `None`.
 fn question_of<'a>(command: &str, specification: &'a str) -> Option<SpecificationForm<&'a str>>
     ensures { option_map (question_with_names (λ name. name.now)) result ≡ question_of command.now specification.now }
 {
@@ -293,7 +293,7 @@ fn form_of_explained<'a>(
     }
 }
 
-// Returns the flight that a command and the names of a specification's file and of another one ask for.
+// Returns the form on flights of a command and the names of a specification's file and of another file, or `None`.
 fn flight_of_three<'a>(
     command: &str,
     specification: &'a str,

@@ -1,5 +1,5 @@
-//! The command: what it answers, and with which bytes, is a function of its words and of the files
-//! that they name, but for which cycle of needs is shown where there are several.
+//! The command. Its answer is a function of its words and of the bytes of the files that they name. Only the cycle of
+//! needs that is shown, if there are several, may differ.
 #![tactic(auto)]
 
 mod command;

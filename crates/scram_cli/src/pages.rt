@@ -1,12 +1,12 @@
-//! The pages that describe the command.
+//! The pages on the command.
 
 ghost use Rattle.std.specs.Prelude.{◌≡◌};
 ghost use Rattle.scram_cli.specs.Pages.{page_text};
 
-/// A page that describes the command.
+/// A page on the command.
 #[derive(Clone, Copy, Debug, PartialEq, Eq)]
 pub enum Page {
-    /// The forms and the statuses, a line each.
+    /// The forms and the statuses, one on each line.
     Help,
     /// The program's version, and the toolchain by which it is proved.
     Version,
@@ -52,7 +52,7 @@ pub const HELP: &str = concat!(
     "docs/GUIDE.md tells how to write a mission, docs/FORMATS.md what each line means.\n",
 );
 
-/// The version, and the toolchain's line.
+/// The version, with the line of the toolchain.
 pub const VERSION: &str = "scram 1.0.0, proved with rattle-kit-13f logic dac8208d650f15bf\n";
 
 /// Returns the text of a page.

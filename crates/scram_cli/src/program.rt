@@ -19,15 +19,15 @@ use std::rt;
 use std::sync::Wait;
 use std::thread::Threads;
 
-/// Does what the words after the program's name ask for, with the files of the system and standard output. Both are
-/// handed back with what they note: the names and bytes of what was read, in order, and the bytes that went out.
+/// Answers the words after the program's name, with the files of the system and standard output. It returns both with
+/// their histories: the names and bytes that were read, in order, and the bytes that were written.
 ///
-/// The status and the bytes that went out are the answer to the words and to the bytes that were read; where the status
-/// is 0, what was flown is assured. There is no premise on files or output.
+/// The status and the bytes that were written are the answer to the words and to the bytes that were read. If the
+/// status is 0, what was flown is assured. There is no premise on files or output.
 ///
 /// # Errors
 ///
-/// Where there is no memory for the bytes that standard output holds back; then nothing was read or printed.
+/// Out of memory for the bytes that standard output holds back. Then nothing was read or printed.
 pub fn run_program<'a, R: AllocGlobal + rt::Files + Print + Threads + Wait + Sync>(
     rt: &'a R,
     words: &[String],

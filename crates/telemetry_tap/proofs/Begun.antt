@@ -1,4 +1,4 @@
--- How many reconfigurations have begun.
+-- The number of reconfigurations that have begun.
 use Rattle.std.proofs.Common.{◌≡◌, ◌∙◌, ℕ, zero, suc, ◌+◌, ◌-◌, ◌<◌, ◌≤◌, ap, sym, subst, refl, inl, inr, arith, Bool, true, false, List, [], ◌∷◌, ◌++◌, length, append_assoc}
 use Rattle.std.specs.Prelude.{Option, Some, None, filter, map, slice_get, take, if◌then◌else◌}
 use Rattle.std.proofs.Math.Seq.{take-append_seam}
@@ -78,7 +78,7 @@ one_more spec rows row =
     let e = adds spec (reading_of spec rows) (length rows) (length (rows ++ row ∷ [])) (length rows) row.acts in
     omega (arith, parts, a, b, d, e)
 
--- the reconfigurations that begin in the first m frames are those that the first m rows show
+-- the number of reconfigurations that begin in the first m frames is that of the first m rows
 pub begun_as_read : BeginningsAreRead → (mission : MissionParts) (m : ℕ) → m ≤ mission.script.frames → summary_begun mission m ≡ length (reports mission.spec (first_rows mission m))
 begun_as_read law mission m le =
     let rows = listed_below (row_at mission.spec mission.script) m in

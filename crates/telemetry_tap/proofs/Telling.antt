@@ -44,7 +44,7 @@ summaries_tell_rows law mission m le =
     λ i. record { frames = one i; running = two i; up = three i; begun = four i } in
     rows ∙ ap (summary_of mission.spec (summary_up mission 0)) (sym (first_listed mission m le))
 
--- the summary goes on with a row
+-- the summary after another row
 pub summary_next : BeginningsAreRead → (mission : MissionParts) (m : ℕ) (row : Row) (begun : ℕ) (reading : Reading) → slice_get (rows_of mission.spec mission.script) m ≡ Some row
     → begun ≡ summary_begun mission m → reading ≡ reading_of mission.spec (first_rows mission m)
     → ◌≡◌ {A = Summary} (record { frames = m + 1; running = running_number (running mission.spec row.acts); up = row.env.up; begun = begun + begun_with mission.spec reading row.acts })

@@ -15,38 +15,38 @@ use Rattle.frame_model.specs.Runs.{running, runs}
 use Rattle.telemetry_tap.specs.declared.summaries.TheConstants.{NONE_RUNNING}
 use Rattle.telemetry_tap.specs.declared.summaries.Summary.{Summary}
 
--- The number by which a summary names what a row runs.
+-- The number by which a summary names the configuration that a row runs, if any.
 abbrev pub running_number : Option ConfId → ℕ
 running_number None = NONE_RUNNING
 running_number (Some conf) = conf.0
 
--- The configuration that a summary names by this number, if any.
+-- The configuration that a summary names by this number, or none.
 abbrev pub running_conf : ℕ → Option ConfId
 running_conf number = if number == NONE_RUNNING then None else Some (conf_id number)
 
--- What the last of the first m rows runs.
+-- The number of the configuration that the last of the first `m` rows runs, or `NONE_RUNNING`.
 abbrev pub summary_running : MissionParts → ℕ → ℕ
 summary_running mission zero = NONE_RUNNING
 summary_running mission (suc k) = running_number (running mission.spec (row_at mission.spec mission.script k).acts)
 
--- The processors that are up in the last of the first m rows, or in frame 0 where m is 0.
+-- The processors that are up in the last of the first `m` rows, or in frame 0 if `m` is 0.
 abbrev pub summary_up : MissionParts → ℕ → ℕ
 summary_up mission zero = (env_at mission.spec mission.script 0).up
 summary_up mission (suc k) = (row_at mission.spec mission.script k).env.up
 
--- How many reconfigurations of the flight begin in the first m frames.
+-- The number of reconfigurations of the flight that begin in the first `m` frames.
 abbrev pub summary_begun : MissionParts → ℕ → ℕ
 summary_begun mission m = length (filter (begins_below m) (reports_of mission.spec mission.script))
 
--- The summary after the first m frames.
+-- The summary after the first `m` frames.
 abbrev pub summary_after : MissionParts → ℕ → Summary
 summary_after mission m = record { frames = m; running = summary_running mission m; up = summary_up mission m; begun = summary_begun mission m }
 
--- The first m rows of the flight.
+-- The first `m` rows of the flight.
 abbrev pub first_rows : MissionParts → ℕ → List Row
 first_rows mission m = take m (rows_of mission.spec mission.script)
 
--- How many reconfigurations begin with a row, after what has been read off the rows before it.
+-- The number of reconfigurations that begin with a row, given what has been read off the preceding rows.
 abbrev pub begun_with : Parts → Reading → List Act → ℕ
 begun_with spec (Steady c) acts = if runs spec acts c then 0 else 1
 begun_with spec (Leaving c begin) acts = 0

@@ -1,4 +1,4 @@
--- Taps, and the seats that are theirs.
+-- Taps and their seats.
 use Rattle.std.specs.Prelude.{All, List, ◌≡◌, ℕ, true, false, [], Some}
 use Rattle.coverage_check.specs.Missions.{MissionParts}
 use Rattle.frame_model.specs.Readings.{reading_of}
@@ -11,19 +11,19 @@ use Rattle.telemetry_tap.specs.Summaries.{summary_begun, first_rows}
 abbrev pub tap_mission : Tap → MissionParts
 tap_mission tap = tap.table.shared.key
 
--- How many rows a writer has published.
+-- The number of rows that a writer has published.
 abbrev pub rows_published : Writer → ℕ
 rows_published writer = writer.published
 
--- How many rows the last summary has that a reader has seen.
+-- The number of rows in the last summary that a reader has seen.
 abbrev pub rows_seen : Reader → ℕ
 rows_seen reader = reader.inner.me.0.seen
 
--- How many loads a reader has made.
+-- The number of loads that a reader has made.
 abbrev pub loads_of : Reader → ℕ
 loads_of reader = reader.inner.me.0.loads
 
--- A writer is the tap's, and keeps what its next summary takes.
+-- A writer belongs to the tap, and keeps what its next summary needs.
 pub record IsWriterOf (tap : Tap) (writer : Writer) : Type 0 where
   pub table : writer.inner.table_id ≡ tap.table.shared.table_id
   pub mission : writer.inner.me.0.mission ≡ Some (tap_mission tap)
@@ -33,13 +33,13 @@ pub record IsWriterOf (tap : Tap) (writer : Writer) : Type 0 where
   pub begun : writer.begun ≡ summary_begun (tap_mission tap) writer.published
   pub reading : writer.reading ≡ reading_of (tap_mission tap).spec (first_rows (tap_mission tap) writer.published)
 
--- A reader is the tap's.
+-- A reader belongs to the tap.
 pub record IsReaderOf (tap : Tap) (reader : Reader) : Type 0 where
   pub table : reader.inner.table_id ≡ tap.table.shared.table_id
   pub mission : reader.inner.me.0.mission ≡ Some (tap_mission tap)
   pub reads : reader.inner.me.0.writes ≡ false
   pub empty : reader.inner.me.1 ≡ []
 
--- These are readers of a tap that have seen the summary of no row.
+-- Each reader belongs to the tap and has seen the summary of no row.
 abbrev pub AreNewReaders : Tap → List Reader → Type 0
 AreNewReaders tap readers = All (λ (reader : Reader). IsReaderOf tap reader × (rows_seen reader ≡ 0)) readers

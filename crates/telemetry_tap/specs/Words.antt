@@ -6,11 +6,11 @@ use Rattle.telemetry_tap.specs.declared.summaries.Summary.{Summary}
 abbrev pub summary_encode : Summary → ℕ
 summary_encode s = s.frames + 65536 * s.begun + 4294967296 * s.running + 1099511627776 * s.up
 
--- The summary whose parts stand in these bits.
+-- The summary whose parts are in the bits of a word.
 abbrev pub summary_decode : ℕ → Summary
 summary_decode word = record { frames = word % 65536; running = word / 4294967296 % 256; up = word / 1099511627776 % 256; begun = word / 65536 % 65536 }
 
--- The word has room for each part of a summary.
+-- Each part of a summary fits its bits of the word.
 pub record FitsWord (s : Summary) : Type 0 where
   pub frames : s.frames < 65536
   pub begun : s.begun < 65536

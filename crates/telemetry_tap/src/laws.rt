@@ -1,4 +1,4 @@
-//! What the definitions in this crate's contracts mean: each function's contract is a law.
+//! Laws on the definitions in this crate's contracts. Each function's contract is a law.
 
 ghost use Rattle.telemetry_tap.specs.Laws.{SummariesComeBack, SummariesGoOn, SummariesTellRows};
 
@@ -11,15 +11,15 @@ pub fn summaries_tell_rows()
     beginnings_are_read();
 }
 
-/// Between two summaries of a flight the number of reconfigurations that have begun does not fall, and it rises by at most
-/// one with each frame.
+/// From one summary of a flight to a later one the number of reconfigurations that have begun does not fall, and rises
+/// by at most one with each frame.
 pub fn summaries_go_on()
     ensures { SummariesGoOn }
 {
     beginnings_are_read();
 }
 
-/// A summary comes back from its word, and a word of 48 bits from its summary.
+/// A summary is decoded from its word, and a word of 48 bits is encoded again from its summary.
 pub fn summaries_come_back()
     ensures { SummariesComeBack }
 {}

@@ -1,6 +1,7 @@
-//! Telemetry of a flight. One writer publishes a summary of the flight with each row, in one word that readers load: no
-//! lock, no memory, and no call waits. The rule on the word and the views is that the word is that of the summary of the
-//! rows published so far, so that a reader sees a summary that was true, and none that is older than what it saw before.
+//! Telemetry of a flight. One writer publishes a summary of the flight with each row, in one word that readers load.
+//! There is no lock, no memory is allocated, and no call waits. By the rule on the word and the views, the word is that
+//! of the summary of the rows published so far. So a reader sees a summary that was true, and never an older one than
+//! before.
 #![tactic(auto)]
 
 pub mod laws;

@@ -1,4 +1,4 @@
-//! The opening of a tap.
+//! Opening a tap.
 
 ghost use Rattle.std.specs.Prelude.{◌≡◌, ◌≤◌, IfOk, OnOk, [], length};
 ghost use Rattle.telemetry_tap.specs.Taps.{AreNewReaders, IsWriterOf, rows_published, tap_mission};
@@ -15,8 +15,8 @@ use scram_types::NoMemory;
 use std::alloc::Global;
 
 impl<'a> Tap<'a> {
-    /// Opens a tap for the flight of a mission, with a writer that has published no row and 0 to 8 readers that have seen
-    /// the summary of no row.
+    /// Opens a tap for the flight of a mission. The writer has published no row, and the 0 to 8 readers have seen the
+    /// summary of no row.
     ///
     /// # Errors
     ///
@@ -39,7 +39,7 @@ impl<'a> Tap<'a> {
         Ok((tap, writer, dealt))
     }
 
-    // Makes the tap and its writer.
+    // Creates the tap and its writer.
     fn lay(alloc: Global, mission: &'a Mission) -> Result<(Tap<'a>, Writer), NoMemory>
         ensures mission { IfOk result (λ t. tap_mission t.0 ≡ mission.entry.now) }
         ensures writer { IfOk result (λ t. IsWriterOf t.0 t.1) }

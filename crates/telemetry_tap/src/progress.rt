@@ -1,4 +1,4 @@
-//! How a summary goes on with a row.
+//! The change of a summary with a row.
 
 ghost use Rattle.std.specs.Prelude.{◌≡◌, ◌≤◌};
 ghost use Rattle.telemetry_tap.specs.Summaries.{begun_with, running_number};
@@ -7,7 +7,7 @@ use crate::summaries::NONE_RUNNING;
 use frame_model::{Reading, runs};
 use scram_types::{Act, ConfId, Row, Spec};
 
-/// Returns the number of reconfigurations that begin with a row, after what has been read off the rows before it.
+/// Returns the number of reconfigurations that begin with a row, given what has been read off the preceding rows.
 pub(crate) fn begun_with(spec: &Spec, reading: Reading, acts: &[Act; 8]) -> u32
     ensures same { result ≡ begun_with spec.now reading acts.now }
     ensures few { result ≤ 1 }
@@ -18,7 +18,7 @@ pub(crate) fn begun_with(spec: &Spec, reading: Reading, acts: &[Act; 8]) -> u32
     }
 }
 
-/// Returns the number by which a summary names what a row runs.
+/// Returns the number by which a summary names the configuration that a row runs, or `NONE_RUNNING`.
 pub(crate) fn running_number(conf: Option<ConfId>) -> u8
     ensures { result ≡ running_number conf }
 {

@@ -23,7 +23,7 @@ impl<'a> Tap<'a> {
         self.mission
     }
 
-    /// Publishes the summary after the next row of the mission. Does not allocate and does not block.
+    /// Publishes the summary after the next row of the mission. It does not allocate and does not block.
     pub fn publish(&self, writer: &mut Writer, row: &Row)
         requires writer { IsWriterOf self.now writer.old }
         requires row { slice_get (rows_of (tap_mission self.now).spec (tap_mission self.now).script) (rows_published writer.old) ≡ Some row.now }
@@ -49,8 +49,8 @@ impl<'a> Tap<'a> {
         writer.reading = reading;
     }
 
-    /// Returns the summary that the word holds, which has no fewer rows than this reader has seen. Does not allocate and
-    /// does not block.
+    /// Returns the summary that the word holds, which has at least as many rows as this reader has seen. It does not
+    /// allocate and does not block.
     pub fn read(&self, reader: &mut Reader) -> Summary
         requires reader { IsReaderOf self.now reader.old }
         ensures reader { IsReaderOf self.now reader.new }
@@ -65,8 +65,8 @@ impl<'a> Tap<'a> {
         summary_decode(word)
     }
 
-    /// Returns a new reader, which has seen the summary of all rows that the writer has published. Does not allocate and
-    /// does not block.
+    /// Returns a new reader, which has seen the summary of all rows that the writer has published. It does not allocate
+    /// and does not block.
     pub fn note(&self, writer: &mut Writer) -> Reader
         requires writer { IsWriterOf self.now writer.old }
         ensures writer { IsWriterOf self.now writer.new }

@@ -6,24 +6,24 @@ ghost use Rattle.telemetry_tap.specs.Words.{summary_decode, summary_encode};
 
 use scram_types::ConfId;
 
-/// The `running` of a summary before the first row, and of one whose last row runs no configuration.
+/// The value of `running` in a summary before the first row, or of a last row that runs no configuration.
 pub const NONE_RUNNING: u8 = 255;
 
-/// What a reader learns of a flight after some of its frames.
+/// The state of a flight after some of its frames, as a reader sees it.
 #[derive(Clone, Copy, Debug, PartialEq, Eq)]
 pub struct Summary {
     /// The number of frames that have ended, 0 to 20,000.
     pub frames: u32,
     /// The number of the configuration that the last row runs, or `NONE_RUNNING`.
     pub running: u8,
-    /// The processors that are up in the last row, or in frame 0 where there is no row: bit `p` for processor `p`.
+    /// The processors that are up in the last row, or in frame 0 if there is no row. Bit `p` is for processor `p`.
     pub up: u8,
-    /// The number of reconfigurations that have begun, 0 to 20,000, one that is under way included.
+    /// The number of reconfigurations that have begun, 0 to 20,000, including one that is under way.
     pub begun: u32,
 }
 
 impl Summary {
-    /// Returns the configuration that the last row runs, if any.
+    /// Returns the configuration that the last row runs, or `None`.
     pub fn running_conf(&self) -> Option<ConfId>
         ensures { result ≡ running_conf self.now.running }
     {
@@ -35,8 +35,8 @@ impl Summary {
     }
 }
 
-/// Returns the word of a summary: `frames` in bits 0 to 15, `begun` in bits 16 to 31, `running` in bits 32 to 39 and `up`
-/// in bits 40 to 47.
+/// Returns the word of a summary. It has `frames` in bits 0 to 15, `begun` in bits 16 to 31, `running` in bits 32 to 39
+/// and `up` in bits 40 to 47.
 pub fn summary_encode(summary: &Summary) -> u64
     ensures { result ≡ summary_encode summary.now }
 {
@@ -46,7 +46,7 @@ pub fn summary_encode(summary: &Summary) -> u64
         + 1_099_511_627_776 * u64::from(summary.up)
 }
 
-/// Returns the summary whose word this is.
+/// Returns the summary of a word.
 pub fn summary_decode(word: u64) -> Summary
     ensures { result ≡ summary_decode word }
 {

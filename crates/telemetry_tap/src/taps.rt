@@ -1,4 +1,4 @@
-//! Taps: a writer publishes the summaries of a flight, and readers load them.
+//! Taps, at which a writer publishes the summaries of a flight and readers load them.
 
 ghost use Rattle.std.specs.Prelude.{◌≡◌};
 
@@ -19,7 +19,7 @@ pub struct Tap<'a> {
 }
 
 /// The one writer of a tap. For the next summary it keeps the number of rows that it has published, the number of
-/// reconfigurations that have begun in them, and what has been read off them.
+/// reconfigurations in them, and what has been read off the rows.
 #[derive(Drop)]
 pub struct Writer {
     pub(crate) published: u32,

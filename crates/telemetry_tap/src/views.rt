@@ -1,11 +1,10 @@
-//! What a seat at the table knows, the rule that every step keeps, and what a step shows. No value of these types is
-//! made.
+//! The views of seats at the table, the rule that every step keeps, and the steps. No value of these types is made.
 
 use atomic_table::{Play, Split, TableRule};
 use coverage_check::Mission;
 
-/// The mission, whether this is the writer's view, the number of rows that the seat has published or seen the summary of,
-/// and the number of its loads.
+/// The mission, whether this is the writer's view, the number of rows that the seat has published or has seen in a
+/// summary, and the number of its loads.
 pub struct TapView {
     pub mission: Option<Mission>,
     pub writes: bool,
@@ -13,8 +12,8 @@ pub struct TapView {
     pub loads: u64,
 }
 
-/// The rule of the table: one view is the writer's, the word is that of the summary of the rows that it has published, and
-/// no reader has seen more rows.
+/// The rule of the table. One view is the writer's, the word is that of the summary of the rows that the writer has
+/// published, and no reader has seen more rows.
 pub struct TapRule;
 
 impl TableRule<(), TapView, Mission> for TapRule {
@@ -43,7 +42,7 @@ impl Play<(), TapView> for ReadsSummary {
     ghost then = { reads_summary };
 }
 
-/// The writer's seat stays as it is, and gives a reader that has seen what it has published.
+/// A split of the writer's seat, which stays as it is. The new reader has seen the rows that the writer has published.
 pub struct GivesReader;
 
 impl Split<TapView> for GivesReader {

@@ -1,4 +1,4 @@
-//! Watches, to which a flight hands its rows while it runs.
+//! Watches, which take the rows of a flight while it runs.
 
 ghost use Rattle.std.specs.Prelude.{◌≡◌, ◌+◌, Some, slice_get};
 ghost use Rattle.frame_model.specs.Flights.{rows_of};
@@ -7,15 +7,15 @@ ghost use Rattle.telemetry_tap.specs.Taps.{IsWriterOf};
 use crate::taps::{Tap, Writer};
 use scram_types::Row;
 
-/// Takes the rows of a mission while it is flown, each once and in order.
+/// A receiver of the rows of a mission while it is flown. It takes each row once and in order.
 pub trait Watch: Drop {
     ghost use Rattle.std.specs.Prelude.{ℕ};
     ghost use Rattle.coverage_check.specs.Missions.{MissionParts};
 
-    /// The mission whose rows it takes.
+    /// The mission whose rows the watch takes.
     ghost watched: { Self → MissionParts };
 
-    /// The number of rows that it has taken.
+    /// The number of rows that the watch has taken.
     ghost taken: { Self → ℕ };
 
     /// Takes the next row.

@@ -1,4 +1,5 @@
-//! Tests of what reads, writes and makes documents. They stand by themselves, since a crate that has tests is proved twice.
+//! Tests of the crates that read, write and generate documents. They are a crate of their own, since a crate that has
+//! tests is proved twice.
 #![tactic(auto)]
 
 #[cfg(test)]

@@ -10,7 +10,7 @@ fn is_change(change: &Change, worked: &(u32, u8, u8)) -> bool {
     change.frame == worked.0 && change.factor.0 == worked.1 && change.value == worked.2
 }
 
-/// Returns whether the changes begin with these.
+/// Returns whether the changes begin with the worked ones.
 fn begin_with(changes: &[Change], worked: &[(u32, u8, u8)]) -> bool {
     worked.len() <= changes.len()
         && changes

@@ -1,4 +1,4 @@
-//! A small document read by path, and what each call refuses.
+//! A small document that is read by path, and the refusals of each call.
 
 ghost use Rattle.std.specs.Prelude.{◌≤◌, length};
 
@@ -11,11 +11,11 @@ use std::alloc::Global;
 use std::rt::HostRuntime;
 use std::test::Fail;
 
-/// Tests a small document: `scram`, and a list of 1 to 8 objects with `name` and `capacity`.
+/// Checks a small document, which has `scram` and a list of 1 to 8 objects with `name` and `capacity`.
 ///
 /// # Errors
 ///
-/// The first rule that it breaks.
+/// The first rule that the document breaks.
 fn read_document(v: &Value) -> Result<(), DocFault> {
     let root = Path::root();
     object(v, &root)?;
@@ -42,7 +42,7 @@ fn read_processor(v: &Value, at: &Path) -> Result<(), DocFault>
     Ok(())
 }
 
-/// Returns the rule and the path of the first fault, and 0 and none where there is no fault.
+/// Returns the rule and the path of the first fault, or 0 and the empty path if there is no fault.
 fn first_fault(alloc: Global, bytes: &[u8]) -> Result<(u8, Path), DocError> {
     let value = parse(alloc, bytes);
     match value {
@@ -55,7 +55,8 @@ fn first_fault(alloc: Global, bytes: &[u8]) -> Result<(u8, Path), DocError> {
     }
 }
 
-/// Returns the first row whose document is not refused by its rule at its path; 0 and `.` stand for no fault.
+/// Returns the index of the first row whose document is not refused by its rule at its path, or `None`. A row with 0
+/// and `.` expects no fault.
 fn first_wrong(alloc: Global, rows: &[(&str, u8, &str)]) -> Result<Option<usize>, DocError> {
     for (i, (document, rule, path)) in rows.iter().enumerate() {
         let fault = first_fault(alloc, document.as_bytes())?;
@@ -162,7 +163,7 @@ fn whole_numbers_have_no_point_no_exponent_and_64_bits(rt: HostRuntime) -> Resul
     Ok(())
 }
 
-/// Returns a number of `[`, and then the same number of `]`.
+/// Returns `open` times `[`, followed by `close` times `]`.
 fn brackets(alloc: Global, open: usize, close: usize) -> Result<Vec<u8>, Fail> {
     let mut bytes = Vec::new(alloc);
     for _ in 0..open {

@@ -1,12 +1,12 @@
-//! What a script says of a frame.
+//! The values of a script in a frame.
 
 use fault_script::{factors_at, halt_in, halt_of, restart_of, up_at};
 use scram_types::{Change, FactorId, HaltAt, List, ProcId, RestartAt, Script};
 use std::alloc::{AllocError, Global};
 use std::rt::HostRuntime;
 
-// Factor 1 changes in frames 3 and 5. Processor 0 halts in 4 and stays down; processor 1 halts in 2,
-// restarts in 6 and halts again in that very frame.
+// Returns a script in which factor 1 changes in frames 3 and 5. Processor 0 halts in 4 and stays down. Processor 1
+// halts in 2, restarts in 6 and halts again in that same frame.
 fn script(alloc: Global) -> Result<Script, AllocError> {
     let change = |frame, value| Change {
         frame,

@@ -1,4 +1,4 @@
-//! The example of the documents' format is read and written. What is refused at which rule, and longer documents, are
+//! Reading and writing the example of the documents' format. The refusals by each rule, and longer documents, are
 //! worked rows.
 
 use reconf_spec::{SpecError, read_spec, write_spec};
@@ -20,11 +20,11 @@ const EXAMPLE: &str = r#"{"scram":1,
 "preconditions":[{"configuration":"full","app":"link","variable":"queued","least":0,"greatest":8}],
 "assumption":{"halts":0,"changes":1,"window":40}}"#;
 
-/// Its canonical text.
+/// The canonical text of the example.
 const CANONICAL: &str =
     r#"{"apps":[{"kind":"datalink","modes":[{"halt":1,"init":1,"load":20,"mode":"fast","prepare":1}],"name":"link","needs":[]}],"assumption":{"changes":1,"halts":0,"window":40},"bounds":[{"frames":10,"from":"full","to":"full"}],"configurations":[{"apps":[{"app":"link","mode":"fast","on":"p0"}],"name":"full"}],"factors":[],"goal":{"altitude":5000,"heading":900},"invariants":[],"preconditions":[{"app":"link","configuration":"full","greatest":8,"least":0,"variable":"queued"}],"processors":[{"capacity":100,"name":"p0"}],"rules":[{"from":"*","to":"full","up":["p0"],"when":[]}],"scram":1,"start":"full"}"#;
 
-/// Returns the rule and the path of the first fault, and 0 and `.` where there is none.
+/// Returns the rule and the path of the first fault, or 0 and `.` if there is none.
 fn refusal(alloc: Global, bytes: &[u8]) -> Result<(u8, Path), NoMemory> {
     match read_spec(alloc, bytes).err() {
         None => Ok((0, Path::root())),
@@ -33,7 +33,7 @@ fn refusal(alloc: Global, bytes: &[u8]) -> Result<(u8, Path), NoMemory> {
     }
 }
 
-/// Returns a number of opening brackets, and then closing ones up to this length.
+/// Returns `open` opening brackets, followed by closing brackets up to `length` bytes.
 fn brackets(alloc: Global, open: usize, length: usize) -> Result<Vec<u8>, NoMemory> {
     let mut bytes = Vec::new(alloc);
     bytes.resize(open, b'[')?;
@@ -74,7 +74,7 @@ fn a_byte_before_it_and_cuts_are_no_json_text(rt: HostRuntime) -> Result<(), Fai
     Ok(())
 }
 
-/// Returns the canonical text of the specification that a text is; no byte where it is none.
+/// Returns the canonical text of the specification that a text encodes, or no bytes if it encodes none.
 fn rewritten(alloc: Global, bytes: &[u8]) -> Result<Vec<u8>, NoMemory> {
     match read_spec(alloc, bytes) {
         Ok(spec) => write_spec(alloc, &spec),
@@ -93,7 +93,7 @@ fn the_example_is_written_in_its_canonical_text(rt: HostRuntime) -> Result<(), F
     Ok(())
 }
 
-/// Returns the text with `new` in the place of the first `old`; the text itself where it has none.
+/// Returns the text with the first `old` replaced by `new`, or the text itself if it has no `old`.
 fn changed(alloc: Global, text: &str, old: &str, new: &str) -> Result<String, NoMemory> {
     match text.split_once(old) {
         Some((before, after)) => Ok(format!(in alloc; "{before}{new}{after}")?),

@@ -1,4 +1,4 @@
-//! Frames that two live processors draft beside the one-thread frame.
+//! Frames that two live processors draft, compared with the frames of one thread.
 
 ghost use Rattle.std.specs.Prelude.{◌<◌};
 
@@ -15,8 +15,8 @@ use std::io::{self, ErrorKind};
 use std::rt::HostRuntime;
 use test_kit::{Counters, print_image};
 
-/// Flies `uav`, and prints how often the autopilots were called: the racks are those of its processors, and the one
-/// thread has racks without boxes.
+/// Flies `uav`, and prints how often the autopilots were called. The racks are those of its processors, and the racks
+/// of the one thread have no boxes.
 pub fn start(rt: &HostRuntime, rack: Rack, other: Rack, counters: &Counters) -> io::Result<()> {
     let racks = empty_racks(rt.alloc())?;
     let one = Live::new(ProcId(0), rack);
@@ -47,7 +47,7 @@ fn fly(
     print_return(rt, two, racks.pop())
 }
 
-/// Halts a processor after the last frame, and restarts it where there is a rack for it.
+/// Halts a processor after the last frame, and restarts it if there is a rack for it.
 fn print_return(rt: &HostRuntime, live: Live, spare: Option<Rack>) -> io::Result<()>
     requires { live.proc.0 < 8 }
 {
@@ -59,7 +59,7 @@ fn print_return(rt: &HostRuntime, live: Live, spare: Option<Rack>) -> io::Result
     }
 }
 
-/// Flies fourteen frames, and prints the drafts of three and what came of all.
+/// Flies fourteen frames, and prints the drafts of three frames and the results of all.
 fn fly_all(
     rt: &HostRuntime,
     spec: &Spec,
@@ -87,7 +87,7 @@ fn fly_all(
     Ok(())
 }
 
-/// Returns what happens to a frame: the first alternator is failed from frame 10 on.
+/// Returns the input of a frame. The first alternator is failed from frame 10 on.
 fn input_of(frame: u32) -> Input {
     let mut factors = [0; 6];
     if frame >= 10 {
@@ -101,7 +101,7 @@ fn input_of(frame: u32) -> Input {
     }
 }
 
-/// Returns what the processors see in a frame.
+/// Returns the snapshot that the processors see in a frame.
 fn snapshot(spec: &Spec, sys: &Sys, input: &Input, images: &[Image; 8]) -> Snapshot {
     let factors = input.factors;
     let env = Env {
@@ -122,7 +122,7 @@ fn snapshot(spec: &Spec, sys: &Sys, input: &Input, images: &[Image; 8]) -> Snaps
     }
 }
 
-/// Returns the start images: each area in its keeper's image.
+/// Returns the start images, with each area in its keeper's image.
 fn start_images(sys: &Sys) -> [Image; 8] {
     let mut images = [[0; 64]; 8];
     for a in 0..8 {
@@ -158,7 +158,7 @@ fn print_images(rt: &HostRuntime, spec: &Spec, images: &[Image; 8]) -> io::Resul
     print_image(rt, spec, 1, &images[1])
 }
 
-/// Prints each area that does not stand in its keeper's image after the frame.
+/// Prints each area that is not in its keeper's image after the frame.
 fn print_areas(rt: &HostRuntime, sys: &Sys, row: &Row, images: &[Image; 8]) -> io::Result<()> {
     for a in 0..8 {
         if let Some(keeper) = sys.keepers[a] {

@@ -1,7 +1,7 @@
-//! Drafts of live processors with real boxes. The aircraft `uav` flies fourteen frames, and its first alternator fails in
-//! frame 10. Each processor drafts every frame from what it sees, all images are those drafts, and the same frames are
-//! flown on one thread, without boxes, beside it. Printed are the start images and the drafts of frames 0, 10 and 13,
-//! worked out by hand; each area that was flown and does not stand in its keeper's image; and how often the boxes in the
+//! Drafts of live processors with real boxes. The aircraft `uav` flies fourteen frames, and its first alternator fails
+//! in frame 10. Each processor drafts every frame from what it sees, and all images are those drafts. The same frames
+//! are flown on one thread, without boxes. The program prints the start images and the drafts of frames 0, 10 and 13,
+//! worked out by hand. It also prints each flown area that is not in its keeper's image, and how often the boxes at the
 //! autopilots' places were called.
 #![tactic(auto)]
 

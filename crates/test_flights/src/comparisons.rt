@@ -1,4 +1,4 @@
-//! Flights on threads beside that on one thread.
+//! Flights on threads, compared with the flight on one thread.
 
 use crate::decks::fly_over_words;
 use crate::documents::{Documents, read_documents, read_mission};
@@ -13,10 +13,11 @@ use std::sync::Wait;
 use std::thread::Threads;
 use test_kit::{fly_alone, is_same, number, split_word};
 
-/// How often each mission is flown with a thread for each processor.
+/// The number of times that each mission is flown with a thread for each processor.
 const TIMES: u32 = 50;
 
-/// How many flights gave what was expected: over words, over a lock, and by the histories of those over the lock.
+/// The numbers of flights that gave what was expected: over words, over a lock, and by the histories of the flights
+/// over the lock.
 #[derive(Clone, Copy, Debug)]
 struct Counts {
     words: u32,
@@ -24,8 +25,8 @@ struct Counts {
     again: u32,
 }
 
-/// Flights of one mission: the processors for which a thread is asked, in words and by places, and how often it is
-/// flown.
+/// Flights of one mission. It has the processors for which a thread is asked, as text and by index, and how often the
+/// mission is flown.
 #[derive(Clone, Copy, Debug)]
 struct Trial<'a> {
     whom: &'a str,
@@ -34,7 +35,7 @@ struct Trial<'a> {
 }
 
 impl<'a> Trial<'a> {
-    /// Returns one flight with threads for these processors.
+    /// Returns a trial of one flight with threads for these processors.
     fn once(whom: &'a str, asked: [bool; 8]) -> Trial<'a> {
         Trial {
             whom,
@@ -61,7 +62,7 @@ impl Counts {
     }
 }
 
-/// Flies the mission of two files on one thread and on threads, over words and over a lock, and prints what came of it.
+/// Flies the mission of two files on one thread and on threads, over words and over a lock, and prints the results.
 pub fn fly<R: AllocGlobal + Threads + Wait + Sync>(
     rt: &HostRuntime,
     threads: &R,
@@ -95,7 +96,7 @@ fn fly_mission<R: AllocGlobal + Threads + Wait + Sync>(
     print_flights(rt, threads, mission, &wanted, last)
 }
 
-/// Flies a mission as often as a trial says, and prints how often that gave what is expected.
+/// Flies a mission as often as a trial says, and prints how often the result was the expected one.
 fn print_flights<R: AllocGlobal + Threads + Wait + Sync>(
     rt: &HostRuntime,
     threads: &R,
@@ -119,7 +120,7 @@ fn count_flights<R: AllocGlobal + Threads + Wait + Sync>(
     Ok(counts)
 }
 
-/// Flies the mission of two files for each step below a count, and prints how often what came of it was that of one thread
+/// Flies the mission of two files for each step below a count, and prints how often the result was that of one thread
 /// and step 0.
 pub fn fly_steps<R: AllocGlobal + Threads + Wait + Sync>(
     rt: &HostRuntime,
@@ -174,7 +175,7 @@ fn print_wanted(rt: &HostRuntime, wanted: &Flown) -> io::Result<()> {
     )
 }
 
-/// Returns the processors but one.
+/// Returns all processors but the one at an index.
 fn all_but(place: usize) -> [bool; 8] {
     let mut asked = [true; 8];
     if place < 8 {
@@ -183,7 +184,8 @@ fn all_but(place: usize) -> [bool; 8] {
     asked
 }
 
-/// Flies a mission over words, over a lock, and by the history of that, and counts which gave what is expected.
+/// Flies a mission over words, over a lock, and by the history of the flight over the lock, and counts the expected
+/// results.
 fn fly_both<R: AllocGlobal + Threads + Wait + Sync>(
     rt: &R,
     mission: &Mission,

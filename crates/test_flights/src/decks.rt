@@ -16,7 +16,7 @@ use std::sync::Wait;
 use std::thread::Threads;
 use word_deck::WordFlight;
 
-/// What the processors of a flight share: words, or a core under a lock.
+/// The state that the processors of a flight share: words, or a core under a lock.
 #[derive(Clone, Copy, Debug)]
 pub enum Deck {
     Words,
@@ -34,7 +34,7 @@ pub fn fly_over<R: AllocGlobal + Threads + Wait + Sync>(
     fly_with(rt, mission, deck, racks, spares)
 }
 
-/// Flies a mission with a thread for each processor, with these boxes, and these for restarts.
+/// Flies a mission with a thread for each processor, with these boxes and these spare boxes for restarts.
 pub fn fly_with<R: AllocGlobal + Threads + Wait + Sync>(
     rt: &R,
     mission: &Mission,
@@ -51,7 +51,7 @@ pub fn fly_with<R: AllocGlobal + Threads + Wait + Sync>(
     }
 }
 
-/// Flies a mission over words, with a thread for each processor or for those that are asked for.
+/// Flies a mission over words, with a thread for each processor or for those in `asked`.
 pub fn fly_over_words<R: AllocGlobal + Threads + Wait + Sync>(
     rt: &R,
     mission: &Mission,
@@ -71,7 +71,8 @@ pub fn fly_over_words<R: AllocGlobal + Threads + Wait + Sync>(
     }
 }
 
-/// Flies a mission over a lock, with a thread for each processor or for those that are asked for: the core at its end.
+/// Flies a mission over a lock, with a thread for each processor or for those in `asked`, and returns the core at its
+/// end.
 pub fn fly_over_lock<'a, R: AllocGlobal + Threads + Wait + Sync>(
     rt: &R,
     mission: &'a Mission,

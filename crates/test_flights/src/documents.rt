@@ -28,7 +28,7 @@ pub fn read_mission(rt: &HostRuntime, names: &str) -> io::Result<Mission> {
 }
 
 impl Documents {
-    /// Returns the mission of both, with a step in the place of `STEP`, if that stands in the script.
+    /// Returns the mission of both texts, with a step in the place of `STEP`, if the script has it.
     pub fn mission(&self, alloc: Global, step: u32) -> io::Result<Mission> {
         let script = fill(alloc, self.script.as_str(), "STEP", step)?;
         mission_of_texts(alloc, self.spec.as_str(), script.as_str())

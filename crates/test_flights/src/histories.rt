@@ -15,7 +15,7 @@ use std::io::{self, ErrorKind};
 use std::sync::Wait;
 use std::thread::Threads;
 
-/// Flies a mission over a lock: what came of it, and its history as a text.
+/// Flies a mission over a lock, and returns the result and the history as text.
 pub fn fly_and_write<R: AllocGlobal + Threads + Wait + Sync>(
     rt: &R,
     mission: &Mission,
@@ -38,8 +38,8 @@ fn write_history(alloc: Global, mission: &Mission, core: &Core) -> io::Result<Ve
     }
 }
 
-/// Reads a history that was written and flies by it once more, on one thread: what came of it,
-/// where it is a schedule at whose end the flight is over.
+/// Reads a history that was written, flies by it again on one thread, and returns the result. The history must be a
+/// schedule at whose end the flight is over.
 pub fn fly_again<R: AllocGlobal>(rt: &R, mission: &Mission, text: &[u8]) -> io::Result<Flown> {
     match read_schedule(rt.alloc(), text, mission.spec()) {
         Ok(events) => replay_events(rt, mission, &events),

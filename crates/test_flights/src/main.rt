@@ -1,13 +1,13 @@
-//! Flights on threads. A row of `rows.txt` is a form with its words; specifications and scripts lie beside it, and blank
-//! lines part the rows. `fly SPEC SCRIPT` flies the mission on one thread and many times on threads, over words and over a
-//! lock, with a thread for each processor and for some of them alone, writes the history of each flight over the lock, reads
-//! it and flies by it once more, and prints how often each gave what the one thread gave. `steps COUNT SPEC SCRIPT` flies it
-//! so once for each step below `COUNT`, which stands in the script as `STEP`, and compares all with the one thread of step 0.
-//! `meet SPEC SCRIPT` flies it over both with boxes that count their calls, and in which each box of the first two processors
-//! waits until one of the other's was called; so none waits in vain where both have threads, and the first one called does
-//! where one thread flies both. A box is called once in each frame in which its processor hosts its application, in its first
-//! rack until a halt, and in its spare one after a restart. `repeat DECK TIMES SPEC SCRIPT` flies it so often and compares
-//! nothing, so that it can be timed.
+//! Flights on threads. A row of `rows.txt` is a form with its words. The specifications and scripts are files beside
+//! it, and blank lines separate the rows. `fly SPEC SCRIPT` flies the mission on one thread, and many times on threads
+//! over words and over a lock. Each processor has a thread, or only some of them have. It writes the history of each
+//! flight over the lock, reads it and flies by it again. It prints how often each result was that of one thread. `steps
+//! COUNT SPEC SCRIPT` does so once for each step below `COUNT`, which replaces `STEP` in the script, and compares all
+//! with the one thread of step 0. `meet SPEC SCRIPT` flies the mission over both decks with boxes that count their
+//! calls. Each box of the first two processors waits until a box of the other one was called. So no box waits in vain
+//! if both have threads, and the first one called does if one thread flies both. A box is called once in each frame in
+//! which its processor hosts its application, in its first rack until a halt, and in its spare rack after a restart.
+//! `repeat DECK TIMES SPEC SCRIPT` flies the mission `TIMES` times and compares nothing, so that it can be timed.
 #![tactic(auto)]
 
 mod comparisons;
@@ -30,7 +30,7 @@ fn main(rt: HostRuntime) -> io::Result<()> {
     each_row(&rt, |title, _lines| answer(&rt, &rt, title))
 }
 
-/// Does what a row says.
+/// Answers a row.
 fn answer<R: AllocGlobal + Threads + Wait + Sync>(
     rt: &HostRuntime,
     threads: &R,

@@ -1,4 +1,4 @@
-//! Flights in which boxes of two processors wait for one another, so that they end in time only where each has a thread.
+//! Flights in which boxes of two processors wait for one another, so that they end in time only if each has a thread.
 
 use crate::decks::{Deck, fly_with};
 use crate::documents::read_mission;
@@ -56,7 +56,7 @@ fn fly_counted<R: AllocGlobal + Threads + Wait + Sync>(
     fly_fitting(rt, mission, deck, racks, spares)
 }
 
-/// Flies a mission with these boxes, where each is of the kind of its place.
+/// Flies a mission with these boxes, if each is of the kind of its place.
 fn fly_fitting<R: AllocGlobal + Threads + Wait + Sync>(
     rt: &R,
     mission: &Mission,

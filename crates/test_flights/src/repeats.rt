@@ -11,8 +11,8 @@ use std::sync::Wait;
 use std::thread::Threads;
 use test_kit::{fly_alone, number, split_word};
 
-/// Flies the mission of two files over a deck again and again, and prints how many rows the last flight gave, and how many
-/// flights gave a row of each frame.
+/// Flies the mission of two files over a deck again and again. It prints the number of rows of the last flight, and how
+/// many flights had a row for each frame.
 pub fn repeat<R: AllocGlobal + Threads + Wait + Sync>(
     rt: &HostRuntime,
     threads: &R,
@@ -56,7 +56,7 @@ fn fly_once<R: AllocGlobal + Threads + Wait + Sync>(
     }
 }
 
-/// Returns the deck of a name; none where one thread flies.
+/// Returns the deck of a name, or `None` for one thread.
 fn deck_named(name: &str) -> io::Result<Option<Deck>> {
     match name {
         "words" => Ok(Some(Deck::Words)),

@@ -1,4 +1,4 @@
-//! Values that were worked out, on the boxes of the five kinds.
+//! Worked values for the boxes of the five kinds.
 
 use airframe::step;
 use app_model::kinds::{autopilot, data_link, navigator, power_monitor, task};
@@ -14,7 +14,8 @@ const NONE: Area = [0; 8];
 // Altitude and heading of a level flight, in feet and in tenths of a degree.
 const LEVEL: (i64, i64) = (5_000, 900);
 
-// Returns what a box sees that flies from one altitude and heading and is to reach another, where nothing leads it.
+// Returns what a box sees that flies from one altitude and heading and is to reach another, with no application that
+// leads it.
 fn seen_in(mode: u8, own: Area, from: (i64, i64), to: (i64, i64)) -> Seen {
     Seen {
         mode: Mode(mode),
@@ -38,7 +39,7 @@ fn make_world(alt: i64, climb: i64, heading: i64, bank: i64) -> World {
     }
 }
 
-// Returns the answer to a call, to the same call again, and to it after another one.
+// Returns the answer to a call, to the same call again, and to the call after another one.
 fn answers(app: &mut dyn App, order: Order, seen: &Seen) -> (Area, Area, Area) {
     let first = app.frame(order, seen);
     let again = app.frame(order, seen);
@@ -126,7 +127,7 @@ fn plain_autopilot_answers_as_was_worked_out(rt: HostRuntime) {
     assert_eq!(rt; answers(&mut app, Order::Run, &seen), (want, want, want));
 }
 
-// Returns a flight control whose autopilot has this status and asks for this pitch, in level flight.
+// Returns what a flight control sees in level flight if its autopilot has this status and asks for this pitch.
 fn seen_with_autopilot(mode: u8, elevator: i64, status: i64, pitch: i64) -> Seen {
     let own = [1, elevator, 0, 0, 0, 0, 0, 0];
     let autopilot = [status, pitch, 0, 0, 0, 0, 0, 0];
@@ -186,7 +187,7 @@ fn flight_control_answers_as_was_worked_out(rt: HostRuntime) {
     }
 }
 
-// Returns a power monitor with this charge, where the two alternators have these values, in level flight.
+// Returns what a power monitor sees in level flight with this charge, if the two alternators have these values.
 fn seen_with_charge(mode: u8, charge: i64, first: u8, second: u8) -> Seen {
     Seen {
         factors: [first, second, 0, 0, 0, 0],
@@ -242,7 +243,7 @@ fn navigator_answers_as_was_worked_out(rt: HostRuntime) {
     }
 }
 
-// Returns a data link, where the first four applications have these statuses, in level flight.
+// Returns what a data link sees in level flight if the first four applications have these statuses.
 fn seen_with_statuses(mode: u8, own: Area, statuses: [i64; 4]) -> Seen {
     let [first, second, third, fourth] = statuses;
     Seen {
@@ -285,7 +286,7 @@ fn data_link_answers_as_was_worked_out(rt: HostRuntime) {
     }
 }
 
-/// Returns what the rack of the last processor answers to two orders.
+/// Returns the answers of the last processor's rack to two orders.
 fn racks_answer(mut racks: Vec<Rack>, seen: &Seen) -> (Area, Area) {
     let run = racks_frame(&mut racks, ProcId(7), KindId(2), Order::Run, seen);
     let off = racks_frame(&mut racks, ProcId(7), KindId(4), Order::Off, seen);

@@ -1,4 +1,5 @@
-//! Tests of what stands below the documents. They stand by themselves, since a crate that has tests is proved twice.
+//! Tests of the crates below the documents. They are a crate of their own, since a crate that has tests is proved
+//! twice.
 #![tactic(auto)]
 
 #[cfg(test)]

@@ -56,7 +56,7 @@ fn sink_in_memory(rt: HostRuntime) -> Result<(), Fail> {
     Ok(())
 }
 
-// Reads by any files and puts to any sink.
+// Reads from any files and writes to any sink.
 fn copy_file<F: Files, K: Sink>(
     alloc: Global,
     files: &mut F,
@@ -91,7 +91,7 @@ fn adapters(rt: HostRuntime) -> Result<(), Fail> {
     Ok(())
 }
 
-// Gives or takes one byte a call, a number of times, and then fails or does nothing.
+// A stream that gives or takes one byte a call, a number of times, and then fails or does nothing.
 #[derive(Drop)]
 struct Trickle {
     calls: u32,

@@ -1,4 +1,4 @@
-//! Ranks of applications, and a cycle of their needs.
+//! Ranks of applications, and a cycle of needs.
 
 ghost use Rattle.std.specs.Prelude.{◌≡◌, IfOk};
 

@@ -1,7 +1,7 @@
 //! Whole missions through the calls themselves. A row of `rows.txt` is `fly SPECIFICATION SCRIPT TRACE`, `judge
-//! SPECIFICATION TRACE` or `cover SPECIFICATION`, whose files lie beside it, and blank lines part the rows. The traces were
-//! made by an independent model of the rules, but for that of `uav`, which is worked out by hand; so were the judgements and
-//! the covers, and the targets by a walk over all environments.
+//! SPECIFICATION TRACE` or `cover SPECIFICATION`. The files are beside it, and blank lines separate the rows. The
+//! traces were made by an independent model of the rules, except that of `uav`, which is worked out by hand. So are the
+//! judgements and the covers. The targets were found by a walk over all environments.
 #![tactic(auto)]
 
 mod covers;
@@ -22,7 +22,7 @@ fn main(rt: HostRuntime) -> io::Result<()> {
     })
 }
 
-/// Does what a row asks for, and prints what came of it.
+/// Answers a row, and prints the result.
 fn answer(rt: &HostRuntime, row: &str) -> io::Result<()> {
     let (form, files) = split_word(row);
     let (spec, rest) = split_word(files);

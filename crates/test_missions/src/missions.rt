@@ -7,7 +7,7 @@ use std::io;
 use std::rt::HostRuntime;
 use test_kit::{fly_alone, fly_frames, given, is_same, mission_of_texts};
 
-/// Flies a mission by `rows` and by `one_thread`, and prints whether both give what a trace says.
+/// Flies a mission by `rows` and by `one_thread`, and prints whether both agree with a trace.
 pub fn fly(rt: &HostRuntime, spec: &str, script: &str, trace: &str) -> io::Result<()> {
     let mission = mission_of_texts(rt.alloc(), spec, script)?;
     fly_mission(rt, &mission, trace)
@@ -33,7 +33,7 @@ fn print_targets(rt: &HostRuntime, spec: &Spec) -> io::Result<()> {
     Ok(())
 }
 
-/// Prints the configurations of a set that is kept as bits.
+/// Prints the configurations of a set, given as bits.
 fn print_set(rt: &HostRuntime, spec: &Spec, set: u16) -> io::Result<()> {
     for (j, conf) in spec.confs.items().iter().enumerate() {
         if j < 16 && set >> j & 1 == 1 {

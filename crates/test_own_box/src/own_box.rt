@@ -14,8 +14,8 @@ use app_model::{App, Seen};
 use scram_types::ranges::{clamped_in, make_range};
 use scram_types::{Area, KindId, Order};
 
-/// A flight control that asks what a surface can reach in one frame, and goes to the point there that lies nearest to the
-/// command. The law of its kind says it the other way round, by the step that the surface makes.
+/// A flight control that finds the positions that a surface can reach in one frame, and moves to the one nearest to the
+/// command. The law of its kind is stated by the step that the surface makes.
 #[derive(Drop)]
 pub struct OwnFlightControl {}
 
@@ -34,7 +34,7 @@ impl App for OwnFlightControl {
     }
 }
 
-/// Returns what a run leaves.
+/// Returns the area after a run.
 fn run(seen: &Seen) -> Area
     ensures { result ≡ flight_control_ran seen.now }
 {
@@ -78,7 +78,7 @@ fn next_aileron(seen: &Seen) -> i64
     }
 }
 
-/// Returns what the autopilot commands: 0 where it does not run.
+/// Returns the command of the autopilot, or 0 if the autopilot does not run.
 fn commanded(seen: &Seen, variable: usize) -> i64
     requires { variable < 8 }
     ensures value { result ≡ command seen.now variable }
@@ -91,7 +91,7 @@ fn commanded(seen: &Seen, variable: usize) -> i64
     }
 }
 
-/// Returns where a surface comes in one frame.
+/// Returns the position that a surface reaches in one frame.
 #[tactic(auto, unfolding(app_model::specs::FlightControl::closer, scram_types::specs::Ranges::clamp_in, scram_types::specs::Numbers::clamp))]
 fn reached(from: i64, wanted: i64, step: u32) -> i64
     requires from { IsWord from }

@@ -17,8 +17,8 @@ use test_kit::mission_of_texts;
 use trace_text::put_trace;
 use word_deck::WordFlight;
 
-/// Flies the mission of the documents that lie beside the program with these boxes, where each is of the kind of its
-/// place, and prints the trace.
+/// Flies the mission of the documents beside the program with these boxes, if each is of the kind of its place, and
+/// prints the trace.
 pub fn fly<R: AllocGlobal + Threads + Wait + Sync>(
     rt: &HostRuntime,
     threads: &R,

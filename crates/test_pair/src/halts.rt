@@ -17,7 +17,7 @@ pub(crate) struct Halts {
 }
 
 impl Halts {
-    /// Returns the halts of a row, or `None` where it has none.
+    /// Returns the halts of a row, or `None` if it has none.
     pub(crate) fn of_row(row: &str) -> io::Result<Option<Halts>> {
         let units = number_after(row, "units ", 0)?;
         let frames = number_after(row, "frames ", 1)?;
@@ -41,7 +41,7 @@ impl Halts {
             .saturating_mul(self.steps)
     }
 
-    /// Returns the halt of this number: the step changes first, and then the frame.
+    /// Returns the halt of this number. The step varies fastest, and then the frame.
     pub(crate) fn halt(&self, number: u32) -> UnitHalt {
         let frames = number / self.steps;
         UnitHalt {
@@ -52,7 +52,8 @@ impl Halts {
     }
 }
 
-/// Returns the halt of a row whose line `halt ` has its unit, frame and step, if there is one.
+/// Returns the halt that the line `halt ` of a row gives by unit, frame and step, or `None` if the row has no such
+/// line.
 pub(crate) fn halt_of_row(row: &str) -> io::Result<Option<UnitHalt>> {
     let Some(words) = line_after(row, "halt ") else {
         return Ok(None);
@@ -66,7 +67,7 @@ pub(crate) fn halt_of_row(row: &str) -> io::Result<Option<UnitHalt>> {
     }))
 }
 
-/// The lowest eight bits of a number.
+/// Returns the lowest eight bits of a number.
 pub(crate) fn low_byte(number: u32) -> u8 {
     (number % 256) as u8
 }

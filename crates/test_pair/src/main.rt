@@ -1,9 +1,9 @@
-//! Flights of the kernel on two units. In `rows.txt` a blank line parts the rows, and `= ` stands before a row's script. With
-//! `units `, `frames ` and `steps ` it is flown to its end once for each halt of a unit, in a frame and after a number of
-//! steps that lie below the numbers behind these words, and once without a halt where it has none of them; every answer is
-//! compared with that of one thread. With lines of `try ` a flight with the halt behind `halt ` makes one event after another,
-//! and each is printed with what came of it and with the next events of both units. What the program has to print follows
-//! from the rules, worked out by hand.
+//! Flights of the kernel on two units. In `rows.txt` blank lines separate the rows, and a row's script follows `= `.
+//! With `units `, `frames ` and `steps ` the script is flown to its end once for each halt below these numbers, of a
+//! unit, in a frame and after a number of steps. A row without these lines is flown once, with the halt after `halt `
+//! if it has one. Every answer is compared with that of one thread. With lines of `try ` a flight with the halt after
+//! `halt ` makes one event after another. Each is printed with its result and with the next events of both units. The
+//! expected output follows from the rules, worked out by hand.
 #![tactic(auto)]
 
 mod halts;

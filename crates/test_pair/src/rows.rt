@@ -1,4 +1,4 @@
-//! Flights to their end, compared with one thread.
+//! Flights to their end, compared with the flight on one thread.
 
 ghost use Rattle.fault_script.specs.Fits.{Fits};
 
@@ -11,7 +11,7 @@ use std::io::{self, ErrorKind};
 use std::rt::HostRuntime;
 use test_kit::{fly_alone, is_same};
 
-/// The number of flights, of those that gave another answer than one thread, and of the events of all.
+/// The number of flights, of those with another answer than one thread, and of the events of all.
 #[derive(Clone, Copy)]
 struct Compared {
     flights: u32,
@@ -19,7 +19,7 @@ struct Compared {
     events: usize,
 }
 
-/// Flies the script of a row with each of its halts, and on one thread, and prints what came of it.
+/// Flies the script of a row with each of its halts, and on one thread, and prints the results.
 pub(crate) fn fly_row(rt: &HostRuntime, mission: &Mission, row: &str) -> io::Result<()> {
     let single = fly_alone(rt.alloc(), mission)?;
     fly_all(rt, mission, row, &single)

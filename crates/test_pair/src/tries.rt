@@ -12,7 +12,7 @@ use std::io::{self, ErrorKind};
 use std::rt::HostRuntime;
 use test_kit::number;
 
-/// Makes the events of a row, and prints what came of each.
+/// Makes the events of a row, and prints the result of each.
 pub(crate) fn try_row(rt: &HostRuntime, mission: &Mission, row: &str) -> io::Result<()> {
     mission.holds();
     let halt = halt_of_row(row)?;
@@ -39,7 +39,8 @@ fn try_halt(
     }
 }
 
-// What asks nothing of a core that it may change counts as one that may make its boxes; so these ask what each core has.
+// A function that requires nothing of a mutable core counts as one that may make its boxes, so these functions require
+// what each core has.
 fn try_lines(rt: &HostRuntime, core: &mut PairCore, row: &str) -> io::Result<()>
     requires { IsSpec core.old.spec }
 {
@@ -54,7 +55,7 @@ fn try_lines(rt: &HostRuntime, core: &mut PairCore, row: &str) -> io::Result<()>
     Ok(())
 }
 
-/// Makes the event of these words, or for `go UNIT` all next events of a unit, one after another.
+/// Makes the event of these words, or for `go UNIT` all next events of a unit in order.
 fn try_words(rt: &HostRuntime, core: &mut PairCore, words: &str) -> io::Result<()>
     requires { IsSpec core.old.spec }
 {
@@ -68,7 +69,7 @@ fn try_words(rt: &HostRuntime, core: &mut PairCore, words: &str) -> io::Result<(
     }
 }
 
-/// Makes the next events of a unit until it has none, and counts them; no row has a thousand.
+/// Makes the next events of a unit until it has none, and returns their number. No row has a thousand.
 fn go(core: &mut PairCore, unit: u32) -> u32
     requires { IsSpec core.old.spec }
 {
@@ -85,7 +86,7 @@ fn go(core: &mut PairCore, unit: u32) -> u32
     1_000
 }
 
-/// Returns the event of a name and one or two numbers.
+/// Returns the event with a name and one or two numbers.
 fn event_of(words: &str) -> io::Result<PairEvent> {
     let (name, rest) = words.split_once(' ').unwrap_or((words, ""));
     let (first, second) = rest.split_once(' ').unwrap_or((rest, "0"));

@@ -1,4 +1,4 @@
-//! What is printed of a flight.
+//! The output for a flight.
 
 use schedule_replay::ReplayError;
 use schedule_replay::refusals::{make_illegal_line, make_short_line};
@@ -10,7 +10,7 @@ use trace_text::lines::Line;
 use trace_text::report_lines::{make_end_line, make_report_line};
 use trace_text::row_lines::{make_app_line, make_row_line};
 
-/// Prints the trace of a flight, or the line in which its schedule is refused.
+/// Prints the trace of a flight, or the line that refuses its schedule.
 pub fn print_answer(
     rt: &HostRuntime,
     spec: &Spec,
@@ -29,7 +29,7 @@ pub fn print_answer(
     }
 }
 
-/// Prints a line that ends with its line feed.
+/// Prints a line, which ends with a line feed.
 pub fn print_line(rt: &HostRuntime, line: &Line) -> io::Result<()> {
     match str::from_utf8(line.as_bytes()) {
         Ok(text) => print!(rt; "{text}"),

@@ -8,7 +8,7 @@ module _ (next : ℕ → Option Event) (place end : ℕ) where
   opened : place < end → first_in next place (end - place) ≡ found_at place (next place) (first_in next (suc place) (end - suc place))
   opened low = let many : end - place ≡ suc (end - suc place) = omega (arith, low) in ap (first_in next place) many
 
-  -- one place further, where nothing is next here
+  -- one place further, if nothing is next here
   pub one_further : place < end → next place ≡ None → first_in next (place + 1) (end - (place + 1)) ≡ first_in next place (end - place)
   one_further low none = let step : place + 1 ≡ suc place = omega arith in
       ap (λ p. first_in next p (end - p)) step ∙ sym (opened low ∙ ap (λ o. found_at place o (first_in next (suc place) (end - suc place))) none)

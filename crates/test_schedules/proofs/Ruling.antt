@@ -1,4 +1,4 @@
--- A history by a rule goes on with the event that the rule chooses.
+-- A history by a rule continues with the event that the rule chooses.
 use Rattle.std.proofs.Common.{◌≡◌, ◌∙◌, ℕ, ◌-◌, Bool, refl, ap, sym, subst, List, [], ◌∷◌, ◌++◌}
 use Rattle.std.specs.Prelude.{Option, Some, None, IfSome, nat_eq, option_map, if◌then◌else◌}
 use Rattle.std.proofs.Math.Path.{fun_ext}
@@ -17,7 +17,7 @@ use Rattle.test_schedules.specs.Ruled.{AreChosen, IsByRule}
 use Rattle.test_schedules.specs.declared.choices.Chooser.{Chooser}
 use Rattle.test_schedules.specs.declared.choices.Rule.{Rule}
 
--- the rule has come to this chooser
+-- the chooser after the events of the rule
 abbrev pub IsRuledTo : Flight → Rule → Chooser → List Event → Places → (Word → ℕ) → Type 0
 IsRuledTo m rule chooser events at words = (b : IsByRule m rule events at words) × (b.chooser ≡ chooser)
 
@@ -68,7 +68,7 @@ ruled_more m rule chooser events at at2 words words2 e place ruled is next happe
       ap (λ (c : Chooser). chooser_after c place) ruled.1,
     )
 
--- which actor was chosen, by the event alone
+-- the actor that was chosen, by the event alone
 place_of : (o : Option (ℕ × Event)) (e : Event) (chooser later : Chooser) → Some e ≡ option_map (λ found. found.1) o → IfSome o (λ found. later ≡ chooser_after chooser found.0)
     → (place : ℕ) × (o ≡ Some (place, e)) × (later ≡ chooser_after chooser place)
 place_of None e chooser later is after = cc

@@ -1,4 +1,4 @@
--- Which actor is asked first for the next event, and which makes it.
+-- The order in which actors are asked for the next event, and the actor that makes it.
 use Rattle.std.specs.Prelude.{ℕ, zero, suc, ◌+◌, ◌-◌, ◌%◌, Bool, true, false, Option, Some, None, nat_eq, nat_lt, if◌then◌else◌}
 use Rattle.rand_pcg.specs.Lcg.{Lcg, increment_of, started}
 use Rattle.rand_pcg.specs.Pcg.{multiplier_64, pcg32}
@@ -17,37 +17,40 @@ is_backwards GreatestFirst = true
 is_backwards KernelFirst = false
 is_backwards (Seeded seed) = false
 
--- The next event of the actor at a place: the processors in order, or from the last one down, and then the kernel.
+-- The next event of the actor at a place. The order has the processors, from the first or from the last, and then the
+-- kernel.
 abbrev pub next_in_order : Flight → Places → (Word → ℕ) → Bool → ℕ → Option Event
 next_in_order m at words backwards place =
     if nat_eq place m.procs then next_kernel m at words
     else next_of m at words (if backwards then m.procs - 1 - place else place)
 
--- A place is found where its actor has a next event; else it is what is found behind it.
+-- The place with its actor's next event if there is one, else what is found after the place.
 abbrev pub found_at : ℕ → Option Event → Option (ℕ × Event) → Option (ℕ × Event)
 found_at place None rest = rest
 found_at place (Some event) rest = Some (place, event)
 
--- The first place from this one on, among this number, whose actor has a next event, and the event.
+-- The first place whose actor has a next event, among a number of places from this one on, and the event.
 abbrev pub first_in : (ℕ → Option Event) → ℕ → ℕ → Option (ℕ × Event)
 first_in next place zero = None
 first_in next place (suc many) = found_at place (next place) (first_in next (suc place) many)
 
--- The first of two that is found.
+-- The first of two results if it is found, else the second.
 abbrev pub either_found : Option (ℕ × Event) → Option (ℕ × Event) → Option (ℕ × Event)
 either_found None other = other
 either_found (Some found) other = Some found
 
--- Each actor is asked once: from a place to the last one, the kernel, and then those before that place.
+-- The first place whose actor has a next event, with the event. The places from `begin` to the kernel's are asked
+-- first, and then those before `begin`.
 abbrev pub first_from : (ℕ → Option Event) → ℕ → ℕ → Option (ℕ × Event)
 first_from next procs begin = either_found (first_in next begin (procs + 1 - begin)) (first_in next 0 begin)
 
--- The place after that of the actor that made the last event; the first one behind the kernel, and before any event.
+-- The place after that of the actor that made the last event. After the kernel, and before any event, it is the first
+-- place.
 abbrev pub place_behind : ℕ → Option ℕ → ℕ
 place_behind procs None = 0
 place_behind procs (Some place) = if nat_lt place procs then suc place else 0
 
--- The place that a rule asks first, by the actor that made the last event and the number that the generator gives.
+-- The place that a rule asks first, given the place of the last event's actor and the number from the generator.
 abbrev pub begin_by : Rule → ℕ → Option ℕ → ℕ → ℕ
 begin_by InTurns procs last word = place_behind procs last
 begin_by LeastFirst procs last word = 0
@@ -55,7 +58,7 @@ begin_by GreatestFirst procs last word = 0
 begin_by KernelFirst procs last word = procs
 begin_by (Seeded seed) procs last word = word % (procs + 1)
 
--- The generator after a choice: a seeded rule takes one number for each.
+-- The generator after a choice, from which a seeded rule takes one number for each choice.
 abbrev pub generator_after : Rule → Lcg → Lcg
 generator_after InTurns generator = generator
 generator_after LeastFirst generator = generator
@@ -63,7 +66,7 @@ generator_after GreatestFirst generator = generator
 generator_after KernelFirst generator = generator
 generator_after (Seeded seed) generator = (pcg32 generator).1
 
--- The seed of a rule, 0 where it has none.
+-- The seed of a rule, or 0 if it has none.
 abbrev pub seed_of : Rule → ℕ
 seed_of InTurns = 0
 seed_of LeastFirst = 0
@@ -71,11 +74,11 @@ seed_of GreatestFirst = 0
 seed_of KernelFirst = 0
 seed_of (Seeded seed) = seed
 
--- A rule before the first choice.
+-- The chooser of a rule before the first choice.
 abbrev pub first_chooser : Rule → Chooser
 first_chooser rule = record { rule = rule; last = None; generator = started 64 multiplier_64 (seed_of rule) (increment_of 64 1) }
 
--- A rule after it has chosen the actor at a place.
+-- The chooser of a rule after it has chosen the actor at a place.
 abbrev pub chooser_after : Chooser → ℕ → Chooser
 chooser_after chooser place = record { rule = chooser.rule; last = Some place; generator = generator_after chooser.rule chooser.generator }
 
@@ -83,7 +86,6 @@ chooser_after chooser place = record { rule = chooser.rule; last = Some place; g
 abbrev pub begin_of : ℕ → Chooser → ℕ
 begin_of procs chooser = begin_by chooser.rule procs chooser.last (pcg32 chooser.generator).0
 
--- The actor that a rule chooses, by the place in its order, and the next event of that actor; none where no actor has
--- one.
+-- The place of the actor that a rule chooses, and the next event of that actor, or none if no actor has one.
 abbrev pub chosen : Flight → Places → (Word → ℕ) → Chooser → Option (ℕ × Event)
 chosen m at words chooser = first_from (next_in_order m at words (is_backwards chooser.rule)) m.procs (begin_of m.procs chooser)

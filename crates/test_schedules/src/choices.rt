@@ -1,4 +1,4 @@
-//! Which actor makes the next event.
+//! The choice of the actor that makes the next event.
 
 ghost use Rattle.std.specs.Prelude.{◌≡◌, ℕ, ◌+◌, ◌-◌, ◌≤◌, ◌<◌, IfSome, None, if◌then◌else◌, length, option_map};
 ghost use Rattle.event_core.specs.Cores.{IsNextIn, flown, standing, standing_words};
@@ -11,22 +11,22 @@ use rand_core::utils::NextWord;
 use rand_pcg::Pcg32;
 use scram_types::ProcId;
 
-/// The rule that chooses the actor of the next event. Actors without a next event are passed over.
+/// The rule that chooses the actor of the next event. Actors without a next event are skipped.
 #[derive(Clone, Copy, Debug)]
 pub enum Rule {
-    /// The actor after that of the last one: the processors in order, then the kernel.
+    /// The actor after that of the last event, in the order of the processors and then the kernel.
     InTurns,
-    /// The least-numbered processor, and the kernel where none has a next event.
+    /// The first processor that has a next event, or the kernel if none has one.
     LeastFirst,
-    /// The greatest-numbered processor, and the kernel where none has a next event.
+    /// The last processor that has a next event, or the kernel if none has one.
     GreatestFirst,
-    /// The kernel, and the least-numbered processor where it has no next event.
+    /// The kernel, or the first processor that has a next event if the kernel has none.
     KernelFirst,
-    /// The actor that a generator of random numbers with this seed names.
+    /// The actor given by a generator of random numbers with this seed.
     Seeded(u64),
 }
 
-/// What a rule has to know from one choice to the next.
+/// The state of a rule from one choice to the next.
 #[derive(Drop)]
 pub(crate) struct Chooser {
     rule: Rule,
@@ -35,7 +35,7 @@ pub(crate) struct Chooser {
 }
 
 impl Chooser {
-    /// Before the first choice.
+    /// Returns the state of a rule before the first choice.
     pub(crate) fn new(rule: Rule) -> Chooser
         ensures { result ≡ first_chooser rule }
     {
@@ -46,7 +46,7 @@ impl Chooser {
         }
     }
 
-    // Returns the place among the actors at which to look first.
+    // Returns the place of the actor that is asked first.
     fn begin(&mut self, procs: usize) -> usize
         requires { procs ≤ 8 }
         ensures begin { result ≡ begin_of procs self.old }
@@ -64,7 +64,7 @@ impl Chooser {
         }
     }
 
-    /// Returns the next event of the actor that the rule chooses; none where the flight is over.
+    /// Returns the next event of the actor that the rule chooses, or `None` if the flight is over.
     pub(crate) fn choose(&mut self, core: &Core, procs: usize) -> Option<Event>
         requires procs { procs ≡ length core.now.spec.procs }
         requires few { procs ≤ 8 }
@@ -86,7 +86,7 @@ impl Chooser {
     }
 }
 
-// Returns the seed of a rule, 0 where it has none.
+// Returns the seed of a rule, or 0 if it has none.
 fn seed_of(rule: Rule) -> u64
     ensures { result ≡ seed_of rule }
 {
@@ -99,8 +99,8 @@ fn seed_of(rule: Rule) -> u64
     }
 }
 
-// Returns the place after that of the actor that made the last event; the first one behind the kernel, and before any
-// event.
+// Returns the place after that of the actor that made the last event. After the kernel, and before any event, it is the
+// first place.
 fn place_behind(procs: usize, last: Option<usize>) -> usize
     requires { procs ≤ 8 }
     ensures place { result ≡ place_behind procs last }
@@ -124,8 +124,8 @@ fn is_backwards(rule: Rule) -> bool
     }
 }
 
-// Returns the next event of the actor at a place: the processors in order, or from the last one down, and then the
-// kernel.
+// Returns the next event of the actor at a place. The order has the processors, from the first or from the last, and
+// then the kernel.
 fn next_in_order(core: &Core, procs: usize, backwards: bool, place: usize) -> Option<Event>
     requires procs { procs ≡ length core.now.spec.procs }
     requires few { procs ≤ 8 }
@@ -142,8 +142,8 @@ fn next_in_order(core: &Core, procs: usize, backwards: bool, place: usize) -> Op
     }
 }
 
-// Returns the first place, of those from `begin` and then of those before it, whose actor has a next event, and the
-// event.
+// Returns the first place whose actor has a next event, with the event. The places from `begin` on are asked first, and
+// then those before it.
 fn first_from(core: &Core, procs: usize, backwards: bool, begin: usize) -> Option<(usize, Event)>
     requires procs { procs ≡ length core.now.spec.procs }
     requires few { procs ≤ 8 }
@@ -159,7 +159,7 @@ fn first_from(core: &Core, procs: usize, backwards: bool, begin: usize) -> Optio
     }
 }
 
-// Returns the first place, of those from `begin` and below `end`, whose actor has a next event, and the event.
+// Returns the first place from `begin` on and below `end` whose actor has a next event, with the event.
 fn first_in(
     core: &Core,
     procs: usize,

@@ -12,8 +12,9 @@ use std::rt::HostRuntime;
 use test_kit::{fly_frames, is_same, line_after, number_after};
 use trace_props::props;
 
-/// What came of the flights of a row: how many there were, how many gave another answer than one thread, how many were
-/// judged otherwise than Ok, and how many gave another answer than the first one, of which there are the events too.
+/// The results of the flights of a row: their number, how many gave another answer than one thread, and how many were
+/// not judged Ok. It also has how many gave another answer than the first flight, and the first answer with its number
+/// of events.
 #[derive(Drop)]
 struct Compared {
     flights: u32,
@@ -24,7 +25,7 @@ struct Compared {
     first: Option<Flown>,
 }
 
-/// Flies each script of a row by each of its rules and seeds, and on one thread, and prints what came of it.
+/// Flies each script of a row by each of its rules and seeds, and on one thread, and prints the results.
 pub(crate) fn fly_row(rt: &HostRuntime, spec: &Spec, row: &str) -> io::Result<()> {
     if line_after(row, "by ").is_none() {
         return Ok(());
@@ -44,7 +45,7 @@ pub(crate) fn fly_row(rt: &HostRuntime, spec: &Spec, row: &str) -> io::Result<()
     print_compared(rt, row, &compared)
 }
 
-/// A script with its specification, and what came of it on one thread.
+/// A script with its specification, and its result on one thread.
 #[derive(Drop)]
 struct Case<'a> {
     spec: &'a Spec,

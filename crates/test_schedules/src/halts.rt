@@ -5,7 +5,7 @@ ghost use Rattle.std.specs.Prelude.{◌<◌};
 use std::io::{self, ErrorKind};
 use test_kit::number_after;
 
-/// A halt: of which processor, in which frame, after how many stores.
+/// A halt, given by its processor, its frame and the number of stores before it.
 #[derive(Clone, Copy, Debug)]
 pub(crate) struct Halt {
     pub proc: u32,
@@ -13,7 +13,7 @@ pub(crate) struct Halt {
     pub step: u32,
 }
 
-/// How many processors, frames and steps there are, from 0 up.
+/// The numbers of processors, frames and steps for which there is a halt, each from 0 up.
 #[derive(Clone, Copy, Debug)]
 pub(crate) struct Halts {
     procs: u32,
@@ -24,7 +24,7 @@ pub(crate) struct Halts {
 }
 
 impl Halts {
-    /// Those of a row; where it does not say, the one number 0.
+    /// Returns the halts of a row. A number that the row does not give is 1.
     pub(crate) fn of_row(row: &str) -> io::Result<Halts> {
         let procs = number_after(row, "processors ", 1)?;
         let frames = number_after(row, "frames ", 1)?;
@@ -39,14 +39,14 @@ impl Halts {
         })
     }
 
-    /// Returns how many halts there are.
+    /// Returns the number of halts.
     pub(crate) fn count(&self) -> u32 {
         self.procs
             .saturating_mul(self.frames)
             .saturating_mul(self.steps)
     }
 
-    /// Returns the halt of this number: the step changes first, and then the frame.
+    /// Returns the halt of this number. The step varies fastest, and then the frame.
     pub(crate) fn halt(&self, number: u32) -> Halt {
         let frames = number / self.steps;
         Halt {

@@ -12,7 +12,7 @@ use std::io::{self, ErrorKind};
 use std::rt::HostRuntime;
 use test_kit::{number, print_image, split_word};
 
-/// Flies the number of events of a row's script that each of its lines says, and prints what the core shows.
+/// Flies a row's script for the number of events that each of its lines gives, and prints what the core shows.
 pub(crate) fn look_row(rt: &HostRuntime, spec: &Spec, row: &str) -> io::Result<()> {
     let halt = Halts::of_row(row)?.halt(0);
     for line in row.split('\n') {
@@ -63,7 +63,7 @@ fn print_kernel(rt: &HostRuntime, core: &Core) -> io::Result<()> {
     )
 }
 
-/// Prints what the core said of an event, how many events it had before, and how many it has.
+/// Prints the core's answer to an event, the number of events before it, and the number after it.
 fn print_answer(
     rt: &HostRuntime,
     core: &Core,
@@ -80,7 +80,7 @@ fn print_answer(
     }
 }
 
-/// Prints what the second processor finds in the image of the first one, where it has looked.
+/// Prints what the second processor finds in the image of the first one, if it has looked.
 fn print_seen(rt: &HostRuntime, spec: &Spec, core: &Core) -> io::Result<()> {
     let Some(Event::Store(p, _)) = core.next_of(ProcId(1)) else {
         return println!(rt; "has not looked");

@@ -1,10 +1,11 @@
-//! Flights of missions by many schedules. In `rows.txt` a blank line parts the rows, and `= ` stands before a row's
-//! script. It is flown to its end by each rule behind `by `, and by as many seeds as stand behind `seeds `, and every
-//! answer is compared with that of one thread and judged. Where the script has a halt, `PROC`, `FRAME` and `STEP` stand in
-//! it for each processor, frame and step below the numbers behind `processors `, `frames ` and `steps `, and `RESTART` for
-//! the frame two after that of the halt. With the line `alike` the answers of all scripts are compared with the first one,
-//! which is shown. `on ` names the file of another specification than `uav`, and `after ` says how many events are flown by which
-//! rule, and what is asked then. What it has to print follows from the rules, worked out by hand.
+//! Flights of missions by many schedules. In `rows.txt` blank lines separate the rows, and a row's script follows `= `.
+//! The script is flown to its end by each rule after `by `, and by the number of seeds after `seeds `. Every answer is
+//! judged, and compared with that of one thread. In a script with a halt, `PROC`, `FRAME` and `STEP` are replaced by
+//! each processor, frame and step below the numbers after `processors `, `frames ` and `steps `. `RESTART` is replaced
+//! by the frame two after that of the halt. With the line `alike` the answers of all scripts are compared with the
+//! first one, which is printed. `on ` names the file of another specification than `uav`. `after ` gives the number of
+//! events that are flown, the rule, and what is asked then. The expected output follows from the rules, worked out by
+//! hand.
 #![tactic(auto)]
 
 mod choices;

@@ -1,5 +1,5 @@
-//! Flights of a core to its end by a rule, with live processors, whose racks have no boxes. Whatever the rule, the core
-//! that comes out is that of the specification and the script, and is over.
+//! Flights of a core to its end by a rule, with live processors whose racks have no boxes. Whatever the rule, the
+//! resulting core is that of the specification and the script, and is over.
 
 ghost use Rattle.std.specs.Prelude.{◌≡◌, ◌<◌, ◌≤◌, ◌⊎◌, ◌++◌, [], ◌∷◌, IfOk, length};
 ghost use Rattle.event_core.specs.Cores.{HappensIn, IsNextIn, IsWordIn, flown, standing, standing_words};
@@ -17,8 +17,8 @@ use event_core::flyers::Flyers;
 use scram_types::{NoMemory, Script, Spec};
 use std::alloc::Global;
 
-/// Flies a specification and a script to the end by a rule. The core that comes out is over, so `finish` gives the
-/// one-thread trace.
+/// Flies a specification and a script to the end by a rule, and returns the core. The core is over, so `finish` gives
+/// the one-thread trace.
 ///
 /// # Errors
 ///
@@ -42,8 +42,7 @@ pub fn fly<'a>(
     Ok(fly_on(core, spec, &mut flyers, rule))
 }
 
-/// Flies this number of events of a specification and a script by a rule, and fewer only where the flight is over
-/// before.
+/// Flies this number of events of a specification and a script by a rule, or fewer if the flight is over before.
 ///
 /// # Errors
 ///
@@ -68,7 +67,7 @@ pub fn fly_some<'a>(
     Ok(fly_events(core, spec, &mut flyers, rule, events))
 }
 
-// Flies to the end.
+// Flies to the end, and returns the core.
 fn fly_on<'a>(core: Core<'a>, spec: &Spec, flyers: &mut Flyers, rule: Rule) -> Core<'a>
     requires spec { core.spec ≡ spec.now }
     requires opened { core.history ≡ [] }
@@ -88,7 +87,7 @@ fn fly_on<'a>(core: Core<'a>, spec: &Spec, flyers: &mut Flyers, rule: Rule) -> C
     core
 }
 
-// Flies this number of events, or fewer where the flight is over before.
+// Flies this number of events, or fewer if the flight is over before.
 fn fly_events<'a>(
     core: Core<'a>,
     spec: &Spec,
@@ -117,7 +116,7 @@ fn fly_events<'a>(
     core
 }
 
-// Makes the next event of its actor, with its word where it is a store.
+// Makes the next event of its actor, with its word if it is a store.
 fn make(core: &mut Core, spec: &Spec, flyers: &mut Flyers, event: Event)
     requires spec { core.old.spec ≡ spec.now }
     requires next { IsNextIn core.old event }

@@ -1,4 +1,4 @@
-//! What the lines of a row say.
+//! The script and the rules in the lines of a row.
 
 ghost use Rattle.std.specs.Prelude.{IfOk};
 ghost use Rattle.fault_script.specs.Fits.{Fits};

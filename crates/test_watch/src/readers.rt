@@ -1,4 +1,4 @@
-//! Readers beside a flight.
+//! Readers during a flight.
 
 ghost use Rattle.std.specs.Prelude.{◌≡◌};
 ghost use Rattle.fault_script.specs.Fits.{Fits};
@@ -19,11 +19,12 @@ use telemetry_tap::{Publisher, Reader, Summary, Tap, Watch};
 use test_kit::{fly_alone, given, is_same, mission_of_texts};
 use word_deck::WordFlight;
 
-/// The number of reads after which a reader gives up, so that readers do not take the processors of a busy machine for long.
+/// The number of reads after which a reader gives up, so that readers do not occupy the processors of a busy machine
+/// for long.
 const MAX_READS: u32 = 10_000_000;
 
-/// What a reader saw: whether each summary was that of the flight on one thread and none was older than the one before, how
-/// many different ones it saw, and how many frames the last one had.
+/// The result of a reader. It says whether each summary was that of the flight on one thread and none was older than
+/// the preceding one. It has the number of different summaries, and the number of frames of the last one.
 #[derive(Clone, Copy, Debug)]
 struct Seen {
     right: bool,
@@ -52,7 +53,7 @@ fn generated_mission(alloc: Global, number: u32) -> io::Result<Mission> {
     }
 }
 
-/// Returns the text of the mission of a number, a line for its specification and one for its script.
+/// Returns the text of the mission of a number, with a line for its specification and one for its script.
 fn generated_text(alloc: Global, number: u32) -> io::Result<String> {
     match generate(alloc, number) {
         Ok((spec, script)) => text_of(alloc, &spec, &script),
@@ -112,14 +113,15 @@ fn print_seen(rt: &HostRuntime, name: &str, seen: Option<Seen>) -> io::Result<()
     }
 }
 
-/// Where readers read, and what they are to see.
+/// The tap that readers read, and the summaries that they are to see.
 #[derive(Clone, Copy)]
 struct Station<'t, 'a> {
     tap: &'t Tap<'a>,
     summaries: &'t [Summary],
 }
 
-/// Flies a mission while these readers read: what came of the flight, and what each reader that has a thread saw.
+/// Flies a mission while these readers read. It returns the result of the flight, and what each reader that has a
+/// thread saw.
 fn read_beside<'a, W: Watch, R: Threads + Wait + Sync>(
     rt: &R,
     station: Station<'_, 'a>,
@@ -201,7 +203,7 @@ impl Seen {
     }
 }
 
-/// Returns whether a summary is that of its number of frames in this list.
+/// Returns whether a summary is the entry of a list for its number of frames.
 fn is_listed(summary: &Summary, summaries: &[Summary]) -> bool {
     match summaries.get(summary.frames as usize) {
         Some(listed) => *listed == *summary,

@@ -1,4 +1,4 @@
-//! What a processor finds as its frame begins.
+//! The images that a processor finds at the begin of its frame.
 
 ghost use Rattle.std.specs.Prelude.{◌≡◌, ◌<◌, length};
 ghost use Rattle.word_table.specs.Actors.{steps_of};
@@ -10,8 +10,8 @@ use std::rt::HostRuntime;
 use test_kit::print_image;
 use word_table::{Seat, Words};
 
-/// Has the seat's processor start its next frame, where that is released, and look at the first processor. Prints the
-/// areas of the applications that it finds there.
+/// Starts the next frame of the seat's processor if it is released, looks at the first processor, and prints the areas
+/// of the applications found there.
 #[tactic(auto, using(crate::proofs::Looking::waits_at, word_deck::proofs::Steps::looks))]
 pub fn look(rt: &HostRuntime, words: &Words, seat: &mut Seat) -> io::Result<()>
     requires seat { IsSeatOf words.now.table seat.old }

@@ -1,11 +1,11 @@
-//! Flights of `uav`, whose goal is higher here, turn by turn over the table of words. A row of `rows.txt` has a
-//! title, lines that say what is done, and a script behind `= `. `rounds N WHO ..` makes these turns, of `p0`, `p1`
-//! or the `kernel`, this number of times; then `turns WHO ..` makes turns once, and prints what each answers; then
-//! `order WHO ..` makes turns in this order again and again until all have finished, and compares the rows with those
-//! of one thread. At the end `look` has the second processor start its next frame and look at the first one, and
-//! prints what it finds; else the table is closed, and the marks are printed. `steps N` does all that for each step
-//! of the halt below `N`, which stands in the script as `STEP`, and `on ` names the file of another specification.
-//! What it has to print follows from the rules, worked out by hand.
+//! Flights of `uav` with a higher goal, turn by turn over the table of words. A row of `rows.txt` has a title, lines
+//! that say what is done, and a script after `= `. `rounds N WHO ..` makes the turns of `p0`, `p1` or the `kernel` `N`
+//! times. Then `turns WHO ..` makes turns once, and prints the result of each. Then `order WHO ..` makes turns in this
+//! order again and again until all have finished, and compares the rows with those of one thread. At the end the table
+//! is closed, and the marks are printed. With `look` the second processor instead starts its next frame and looks at
+//! the first one, and what it finds is printed. `steps N` does all that for each step of the halt below `N`, which
+//! replaces `STEP` in the script, and `on ` names the file of another specification. The expected output follows from
+//! the rules, worked out by hand.
 #![tactic(auto)]
 
 mod crews;

@@ -10,10 +10,10 @@ use test_kit::{number, split_word};
 use word_deck::Turn;
 use word_table::WordTable;
 
-/// A flight of the rows needs fewer rounds.
+/// The maximum number of rounds, which is more than a flight of the rows needs.
 const ROUNDS: u32 = 100_000;
 
-/// Makes the turns of these names once, and prints what each answers.
+/// Makes the turns of these names once, and prints the result of each.
 pub fn print_turns(
     rt: &HostRuntime,
     mission: &Mission,
@@ -31,7 +31,7 @@ pub fn print_turns(
     Ok(())
 }
 
-/// Makes the turns of these names this number of times, as `TIMES NAME ..`.
+/// Makes the turns of these names a number of times, given as `TIMES NAME ..`.
 pub fn repeat_turns(
     mission: &Mission,
     words: &WordTable,
@@ -48,8 +48,8 @@ pub fn repeat_turns(
     Ok(())
 }
 
-/// Makes the turns of these names in order, again and again, until all of a round answer that they have finished. The
-/// number of rounds.
+/// Makes the turns of these names in order, again and again, until all of a round are finished, and returns the number
+/// of rounds.
 pub fn fly_rounds(
     mission: &Mission,
     words: &WordTable,
@@ -67,7 +67,7 @@ pub fn fly_rounds(
     Err(ErrorKind::TimedOut.into())
 }
 
-// Makes the turns of these names: whether all answer that they have finished.
+// Makes the turns of these names, and returns whether all are finished.
 fn make_round(
     mission: &Mission,
     words: &WordTable,
@@ -86,7 +86,7 @@ fn make_round(
     Ok(finished)
 }
 
-// Returns the turn of this name.
+// Makes the turn of this name, and returns its result.
 fn make_turn(
     mission: &Mission,
     words: &WordTable,

@@ -18,7 +18,7 @@ use test_kit::{fill, fly_alone, line_after, mission_of_texts, number_after};
 use word_deck::KernelCrew;
 use word_table::{KSeat, Seat, WordTable, Words};
 
-/// Flies the script of a row, for each step of its halt, and prints what came of it.
+/// Flies the script of a row, for each step of its halt, and prints the results.
 pub fn fly_row(rt: &HostRuntime, text: &str, row: &str) -> io::Result<()> {
     for step in 0..number_after(row, "steps ", 1)? {
         fly_step(rt, text, row, step)?;
@@ -38,7 +38,7 @@ fn mission_of(rt: &HostRuntime, text: &str, row: &str, step: u32) -> io::Result<
     mission_of_texts(rt.alloc(), text, script.as_str())
 }
 
-// Returns the words, the kernel's seat and the pair of processors.
+// Opens the words of a mission, and flies it as the row's lines say.
 fn open(rt: &HostRuntime, mission: &Mission, row: &str) -> io::Result<()> {
     let racks = empty_racks(rt.alloc())?;
     let spares = empty_racks(rt.alloc())?;
@@ -70,7 +70,7 @@ fn fly(rt: &HostRuntime, words: Words, kseat: KSeat, pair: Pair, row: &str) -> i
     }
 }
 
-// Makes the turns that the row's lines say.
+// Makes the turns that the row's lines ask for.
 fn fly_actors(
     rt: &HostRuntime,
     mission: &Mission,
@@ -86,7 +86,7 @@ fn fly_actors(
     fly_asked(rt, mission, words, actors, row)
 }
 
-// Makes turns again and again, where the row asks for it.
+// Makes turns again and again if the row asks for it.
 fn repeat_asked(
     mission: &Mission,
     words: &WordTable,
@@ -102,7 +102,7 @@ fn repeat_asked(
     }
 }
 
-// Makes turns and prints what they answer, where the row asks for it.
+// Makes turns and prints their results if the row asks for it.
 fn print_asked(
     rt: &HostRuntime,
     mission: &Mission,
@@ -119,7 +119,7 @@ fn print_asked(
     }
 }
 
-// Flies to the end, and compares the rows with those of one thread, where the row asks for it.
+// Flies to the end, and compares the rows with those of one thread, if the row asks for it.
 fn fly_asked(
     rt: &HostRuntime,
     mission: &Mission,
@@ -140,7 +140,7 @@ fn fly_asked(
     }
 }
 
-// Compares rows with those of one thread.
+// Compares rows with those of one thread, and prints the result.
 fn print_compared(rt: &HostRuntime, mission: &Mission, rows: &[Row]) -> io::Result<()> {
     let flown = fly_alone(rt.alloc(), mission)?;
     if flown.rows.items() == rows {
@@ -150,7 +150,7 @@ fn print_compared(rt: &HostRuntime, mission: &Mission, rows: &[Row]) -> io::Resu
     }
 }
 
-// Has the second processor look, where the row asks for it; else closes the table, and prints the marks.
+// Makes the second processor look if the row asks for it. Otherwise it closes the table, and prints the marks.
 fn close(rt: &HostRuntime, words: Words, actors: Actors, row: &str) -> io::Result<()>
     requires { ActorsFit words.table (mission_in words.table) actors }
 {

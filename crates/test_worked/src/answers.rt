@@ -1,4 +1,4 @@
-//! What the command answers to the words of a row.
+//! The answer of the command to the words of a row.
 
 use crate::files::numbers;
 use app_model::{Rack, racks_fit};
@@ -13,18 +13,18 @@ use std::sync::Wait;
 use std::thread::Threads;
 use test_kit::{Counters, counted_racks, counted_spares};
 
-/// More bytes than any row puts.
+/// A number of bytes that is larger than the output of any row.
 const ROOM: u32 = 200_000;
 
-/// What the command reads and writes.
+/// The files that the command reads, and the sink to which it writes.
 #[derive(Drop)]
 pub struct Outside {
     pub files: MemFiles,
     pub sink: MemSink,
 }
 
-/// Makes the boxes and calls the command: the status, and what was put. The processor `plain` has the autopilot that
-/// remembers nothing.
+/// Creates the boxes, calls the command, and returns the status and the sink. The processor `plain` has the autopilot
+/// that remembers nothing.
 pub fn answer<R: AllocGlobal + Threads + Wait + Sync>(
     rt: &HostRuntime,
     threads: &R,
@@ -37,7 +37,7 @@ pub fn answer<R: AllocGlobal + Threads + Wait + Sync>(
     call(threads, words, outside, racks, spares)
 }
 
-/// Returns the same with boxes that count their calls.
+/// Calls the command with boxes that count their calls, and returns the status and the sink.
 pub fn answer_counted<R: AllocGlobal + Threads + Wait + Sync>(
     rt: &HostRuntime,
     threads: &R,
@@ -50,7 +50,7 @@ pub fn answer_counted<R: AllocGlobal + Threads + Wait + Sync>(
     call(threads, words, outside, racks, spares)
 }
 
-/// Returns the sink of a row, which fails where the row says so.
+/// Returns the sink of a row, which fails if the row says so.
 pub fn make_sink(rt: &HostRuntime, row: &str) -> io::Result<MemSink> {
     let failing = numbers(rt.alloc(), row, "! put ")?;
     let rooms = numbers(rt.alloc(), row, "! room ")?;
@@ -61,7 +61,7 @@ pub fn make_sink(rt: &HostRuntime, row: &str) -> io::Result<MemSink> {
     }
 }
 
-/// Returns the processor that has the plain autopilot, where the row says so.
+/// Returns the processor that has the plain autopilot, or `None` if the row names none.
 pub fn plain_processor(rt: &HostRuntime, row: &str) -> io::Result<Option<u32>> {
     let procs = numbers(rt.alloc(), row, "! plain ")?;
     Ok(procs.first().copied())
@@ -85,7 +85,7 @@ fn call<R: AllocGlobal + Threads + Wait + Sync>(
     Ok((status.code, sink))
 }
 
-/// Prints what was put, and of a flight's frames the selected ones.
+/// Prints the bytes that were put, but only the selected frames of a flight.
 pub fn print_answer(rt: &HostRuntime, bytes: &[u8], frames: &str) -> io::Result<()> {
     let Ok(text) = str::from_utf8(bytes) else {
         return Err(ErrorKind::InvalidData.into());
@@ -100,7 +100,7 @@ pub fn print_answer(rt: &HostRuntime, bytes: &[u8], frames: &str) -> io::Result<
     Ok(())
 }
 
-/// Returns whether a line is selected, where it is said of the line before it.
+/// Returns whether a line is selected, given whether the preceding line is.
 fn is_line_wanted(line: &str, frames: &str, before: bool) -> bool {
     match line.split_once(' ') {
         Some(("frame", rest)) => is_frame_wanted(rest, frames),

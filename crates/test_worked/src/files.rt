@@ -1,10 +1,10 @@
-//! The files of a row. The first is a file of the data folder, changed as each line `~ PIECE => OTHER PIECE` says.
-//! The second has the lines that stand after `= `, and is not there where no line begins with `=`; the third likewise
-//! after `- `. Of lines `! read N`, `! put N` and `! room N` the first two name a call that fails, from 0, and the
-//! last the bytes that the sink has room for; where a put is named, the count of the lines that went out is printed.
-//! Lines `! first N` and `! second N` let a file have this number of bytes, with spaces at its end, `! plain N` gives
-//! processor N the autopilot that remembers nothing, and `! counted` gives each processor boxes that count their
-//! calls, of which those of the first two processors wait for one another; then the counts are printed.
+//! The files of a row. The first is a file of the data folder, changed as each line `~ PIECE => OTHER PIECE` says. The
+//! second has the lines after `= `, and is missing if no line begins with `=`. The third has the lines after `- ` in
+//! the same way. `! read N` and `! put N` name a call that fails, counted from 0, and `! room N` the number of bytes
+//! for which the sink has room. If a put is named, the number of lines that were written is printed. `! first N` and `!
+//! second N` extend a file to this number of bytes, with spaces at its end. `! plain N` gives processor `N` the
+//! autopilot that remembers nothing. `! counted` gives each processor boxes that count their calls, of which those of
+//! the first two processors wait for one another, and the counts are printed.
 
 use scram_io::MemFiles;
 use std::alloc::Global;
@@ -54,7 +54,7 @@ pub fn is_put_failing(row: &str) -> bool {
     row.split('\n').any(|line| line.starts_with("! put "))
 }
 
-/// Returns the numbers that stand in a row's lines after these words.
+/// Returns the numbers in a row's lines that begin with these words.
 pub fn numbers(alloc: Global, row: &str, words: &str) -> io::Result<Vec<u32>> {
     let mut numbers = Vec::new(alloc);
     for line in row.split('\n') {
@@ -65,7 +65,7 @@ pub fn numbers(alloc: Global, row: &str, words: &str) -> io::Result<Vec<u32>> {
     Ok(numbers)
 }
 
-/// Returns the text, with spaces at its end where a row's line with these words asks for more bytes.
+/// Returns the text, with spaces appended if a row's line with these words asks for more bytes.
 fn pad(alloc: Global, text: String, row: &str, words: &str) -> io::Result<String> {
     match numbers(alloc, row, words)?.first() {
         Some(length) => {
@@ -77,8 +77,8 @@ fn pad(alloc: Global, text: String, row: &str, words: &str) -> io::Result<String
     }
 }
 
-/// Returns the file of the lines that begin with a mark, each without it and the space behind it. A mark alone is no
-/// line of the file, but has it be there.
+/// Returns the file of the lines that begin with a mark, each without the mark and the space after it. A mark alone is
+/// no line of the file, but makes the file exist.
 fn listed_file(alloc: Global, row: &str, mark: &str) -> io::Result<Option<String>> {
     let mut file = None;
     for line in row.split('\n') {
@@ -90,7 +90,7 @@ fn listed_file(alloc: Global, row: &str, mark: &str) -> io::Result<Option<String
     Ok(file)
 }
 
-/// Returns the text, and a line after it where there is one.
+/// Returns the text, with a line appended if there is one.
 fn append_line(alloc: Global, text: String, line: Option<&str>) -> io::Result<String> {
     match line {
         Some(line) => Ok(format!(in alloc; "{text}{line}\n")?),

@@ -1,8 +1,8 @@
-//! The worked rows: it gives the title of each row in `rows.txt` to the command as its words, on files of which some pieces
-//! are changed, and prints what the command answers, of a flight's frames those alone that stand behind `: `. What it has to
-//! print follows from the rules, worked out by hand, but for the lines of `fly`, which another program computed, the missions
-//! of `gen`, which `bench/generate` prints, the flights and bounds of `vtol`, which `bench/flights` prints, and the other
-//! traces that are judged, which this command printed.
+//! The worked rows. The program gives the title of each row in `rows.txt` to the command as its words, on files of
+//! which some pieces are changed. It prints what the command answers, and of a flight's frames only those named after
+//! `: `. The expected output follows from the rules, worked out by hand, with four exceptions. The lines of `fly` were
+//! computed by another program. The missions of `gen` are printed by `bench/generate`, and the flights and bounds of
+//! `vtol` by `bench/flights`. The other traces that are judged were printed by this command.
 #![tactic(auto)]
 
 mod answers;
@@ -51,7 +51,7 @@ fn answer_words<R: AllocGlobal + Threads + Wait + Sync>(
     }
 }
 
-/// Prints what the command answers, and where a put is to fail, how many lines went out.
+/// Prints the answer of the command, and if a put is to fail, the number of lines that were written.
 fn print_plain(
     rt: &HostRuntime,
     status: u8,
@@ -67,7 +67,7 @@ fn print_plain(
     println!(rt; "status {status}\n")
 }
 
-/// Prints what the command answers with boxes that count their calls, and the counts.
+/// Prints the answer of the command with boxes that count their calls, and the counts.
 fn print_counted<R: AllocGlobal + Threads + Wait + Sync>(
     rt: &HostRuntime,
     threads: &R,

@@ -1,4 +1,4 @@
--- The result of a flight: the trace, and where the seats stand.
+-- The result of a flight: the trace, and the places of the seats.
 use Rattle.std.proofs.Common.{◌≡◌, ◌∙◌, ◌<◌, ◌≤◌, ap, arith, sym, subst, List, length}
 use Rattle.std.specs.Prelude.{Some}
 use Rattle.std.proofs.lemmas.Option.{slice_get_within}

@@ -1,4 +1,4 @@
--- What a turn of a processor does to its place.
+-- The change of a processor's place by a turn.
 use Rattle.std.proofs.Common.{◌≡◌, ◌∙◌, ◌↔◌, ℕ, ◌<◌, ◌≤◌, sym, refl, subst, arith, Bool, true, false, not}
 use Rattle.std.specs.Prelude.{Option, Some, None, is_some, if◌then◌else◌}
 use Rattle.std.proofs.lemmas.Bool.Decides.{nat_tests}
@@ -16,7 +16,7 @@ use Rattle.word_deck.specs.Crews.{comes_back, is_done, place_after, place_flown,
 use Rattle.word_deck.specs.declared.turns.Turn.{Turn}
 use Rattle.word_deck.specs.declared.turns.Turn.TheVariants.{Worked, NotYet, Finished}
 
--- which processors are done
+-- the processors that are done
 
 late : (h : ℕ) (o : Option ℕ) → not (comes_back h o) ≡ true → (r : ℕ) → o ≡ Some r → r ≤ h
 late h None e r s = cc
@@ -58,7 +58,7 @@ none_later : {R : Type 0} (h : ℕ) (o : Option ℕ) (spare : Option R) → h < 
 none_later h None spare l r e more = cc
 none_later h (Some q) spare l r e more = let same : q ≡ r = cc in absurd (omega (arith, same, more))
 
--- the spare rack after a start: of one that had halted none is asked for
+-- the spare rack after a start, which a processor that had halted no longer needs
 pub spare_begun : {X : Type 0} {Y : X → Type 0} (m : Flight) (p q : ℕ) (place : Place) (unit : HeldUnit X Y) (spare : Option (Rack X Y)) → Waits m p place → IsUnitAt q place unit → HasSpare m p (frame_of place) spare
     → HasSpare m p (frame_awaited m p place) (spare_started unit spare)
 spare_begun m p q (At f n) (Up live) spare w is s = s

@@ -1,4 +1,4 @@
--- What threads of a flight share.
+-- The values that threads of a flight share.
 use denote.RattleType.{RattleType}
 use denote.Param.Object.{Ghosts, table_of}
 use denote.Param.Sent.{Sends}
@@ -37,7 +37,7 @@ mission_sync = search (spec_sync, script_sync, sendable, crosses) depth 40
 pub table_sync : IsSync table.the_row
 table_sync = search (shared.the_sync, lease.the_sync, sendable, crosses) depth 40
 
--- what goes to a thread of its own, where the boxes may
+-- the values that may go to a thread of its own if the boxes may
 
 pub seat_fields : IsSend seat.the_field.row
 seat_fields = search (shared_seat.the_send, sendable, crosses) depth 40 fits 5000

@@ -15,13 +15,14 @@ use Rattle.word_deck.specs.Landing.{IsLanded}
 abbrev pub AreOpen : WordTable → List Seat → Type 0
 AreOpen words seats = (p : ℕ) (seat : Seat) → slice_get seats p ≡ Some seat → IsSeatOf words seat × (proc_of seat ≡ p) × (seat_place seat ≡ At 0 0)
 
--- The same, whatever the table's mission.
+-- Each of these seats belongs to the table with its mission, is that of the processor with its index, and is at its
+-- opening place.
 abbrev pub AreAtTable : WordTable → List Seat → Type 0
 AreAtTable words seats = (p : ℕ) (seat : Seat) → slice_get seats p ≡ Some seat
     → (seat.inner.table_id ≡ words.table.shared.table_id) × (seat.inner.me.0.mission ≡ Some (mission_in words))
     × (proc_of seat ≡ p) × (seat_place seat ≡ At 0 0)
 
--- Each crew is one of this table between two turns.
+-- Each crew belongs to the table and is between two turns.
 abbrev pub AllCrewsFit : {X : Type 0} {Y : X → Type 0} → WordTable → List (Crew X Y) → Type 0
 AllCrewsFit {X = X} {Y = Y} words crews = All (λ (crew : Crew X Y). CrewFits words crew) crews
 
@@ -33,23 +34,23 @@ numbers_in {X = X} {Y = Y} crews = map (λ (crew : Crew X Y). proc_of crew.seat)
 abbrev pub AreLanded : WordTable → List Seat → Type 0
 AreLanded words seats = (p : ℕ) (seat : Seat) → slice_get seats p ≡ Some seat → IsLanded words p seat
 
--- The numbers of the processors that fly in the caller's turns after one more has started.
+-- The numbers of the processors that fly in the caller's turns after processor `p` has started.
 abbrev pub numbers_boarded : Boarding → ℕ → List ℕ → List ℕ
 numbers_boarded (Threaded flying) p numbers = numbers
 numbers_boarded Own p numbers = numbers ++ p ∷ []
 numbers_boarded (Landed seat) p numbers = numbers
 
--- The numbers of those that fly in the caller's turns, of which p is the last one where it is one of them.
+-- The numbers of the processors that fly in the caller's turns. Processor `p` is the last of them if it flies there.
 pub record IsBoardedLast (boarding : Boarding) (p : ℕ) (numbers : List ℕ) : Type 0 where
   pub front : List ℕ
   pub same : numbers ≡ numbers_boarded boarding p front
 
--- Where the processor that had this seat flies.
+-- The promise, or the landed seat, of a started processor is that of the processor that had this seat.
 abbrev pub IsBoarded : WordTable → Seat → Boarding → Type 0
 IsBoarded words was (Threaded flying) = (flying.handle.promise.0.value ≡ words) × (flying.handle.promise.1.value ≡ was)
 IsBoarded words was Own = Unit {0}
 IsBoarded words was (Landed seat) = IsLanded words (proc_of was) seat
 
--- The kernel's seat is a table's, whatever its mission.
+-- The kernel's seat belongs to the table with its mission.
 abbrev pub IsAtTable : WordTable → KSeat → Type 0
 IsAtTable words kseat = (kseat.inner.table_id ≡ words.table.shared.table_id) × (kseat.inner.me.0.mission ≡ Some (mission_in words))

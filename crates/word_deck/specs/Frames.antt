@@ -1,12 +1,12 @@
--- Where a processor stands in a frame.
+-- The place of a processor in a frame.
 use Rattle.std.specs.Prelude.{◌≡◌, ℕ, ◌≤◌, Some}
 use Rattle.fail_stop.specs.Events.{At, Place, frame_of}
 use Rattle.fail_stop.specs.Flights.{Flight}
 
--- The processor has made n steps of its frame.
+-- The processor has made `n` steps of its frame.
 abbrev pub IsAfter : ℕ → Place → Type 0
 IsAfter n place = place ≡ At (frame_of place) n
 
--- Processor p halts in frame f only after the first n stores.
+-- Processor `p` halts in frame `f` only after the first `n` stores.
 abbrev pub HaltsLate : Flight → ℕ → ℕ → ℕ → Type 0
 HaltsLate m p f n = (s : ℕ) → m.halt p f ≡ Some s → n ≤ s

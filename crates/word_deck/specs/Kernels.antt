@@ -1,4 +1,4 @@
--- The kernel with what it needs in a flight.
+-- The kernel with the values that it needs in a flight.
 use Rattle.std.specs.Prelude.{◌≡◌, ◌⊎◌, ℕ, suc, ◌<◌, ◌≤◌, length, if◌then◌else◌, nat_lt}
 use Rattle.coverage_check.specs.Missions.{MissionParts}
 use Rattle.frame_model.specs.Flights.{image_after, image_in}
@@ -11,11 +11,11 @@ use Rattle.word_deck.specs.declared.kernels.Noted.{Noted}
 use Rattle.word_deck.specs.declared.turns.Turn.{Turn}
 use Rattle.word_deck.specs.declared.turns.Turn.TheVariants.{Worked, NotYet, Finished}
 
--- In how many frames the kernel has noted every one of this number of processors.
+-- The number of frames in which the kernel has noted all of `procs` processors.
 abbrev pub frames_noted : ℕ → KSeat → ℕ
 frames_noted procs kseat = if nat_lt (kernel_steps kseat) procs then kernel_frame kseat else suc (kernel_frame kseat)
 
--- The first n processors are noted in frame k: these are their marks and images after it.
+-- The marks and images of the first `n` processors are those after frame `k`, in which the kernel has noted them.
 pub record AreNoted (mission : MissionParts) (k n : ℕ) (noted : Noted) : Type 0 where
   pub marks : (p : ℕ) → p < n → mark_in noted.marks p ≡ mark_after mission.spec mission.script p (suc k)
   pub images : (p : ℕ) → p < n → image_in noted.images p ≡ image_after mission.spec mission.script p (suc k)
@@ -24,21 +24,22 @@ pub record AreNoted (mission : MissionParts) (k n : ℕ) (noted : Noted) : Type 
 abbrev pub IsKernelDone : ℕ → ℕ → KSeat → Type 0
 IsKernelDone procs frames kseat = (frames ≡ 0) ⊎ ((suc (kernel_frame kseat) ≡ frames) × (kernel_steps kseat ≡ procs))
 
--- The kernel stands between two turns: it has not noted all processors of its frame, or this is the last frame.
+-- The kernel is between two turns. It has not noted all processors of its frame, or this is the last frame.
 pub record IsKernelBetween (procs frames : ℕ) (kseat : KSeat) : Type 0 where
   pub within : kernel_frame kseat ≤ frames
   pub flies : 0 < frames → kernel_frame kseat < frames
   pub steps : kernel_steps kseat ≤ procs
   pub last : kernel_steps kseat ≡ procs → suc (kernel_frame kseat) ≡ frames
 
--- What a kernel with its seat keeps between two turns.
+-- The invariant of a kernel with its seat between two turns.
 pub record KernelCrewKeeps (mission : MissionParts) (kseat : KSeat) (kernel : KernelParts) (noted : Noted) : Type 0 where
   pub between : IsKernelBetween (length mission.spec.procs) mission.script.frames kseat
   pub log : kernel ≡ kernel_after mission.spec mission.script (frames_noted (length mission.spec.procs) kseat)
   pub noted_are : AreNoted mission (kernel_frame kseat) (kernel_steps kseat) noted
 
--- How a turn moves the kernel: it stays and has tried once more, or is as it was where nothing was left; it has noted more
--- processors of its frame, the last ones of the last frame too; or it stands at the begin of the next frame.
+-- The change of the kernel's seat by a turn. After `NotYet` it is the same and counts another try. After `Worked` the
+-- kernel has noted more processors of its frame, or is at the begin of the next frame. After `Finished` it is in the
+-- same frame and has made no fewer steps.
 abbrev pub IsKernelMoved : Turn → ℕ → ℕ → KSeat → KSeat → Type 0
 IsKernelMoved NotYet procs frames before after =
     (kernel_frame after ≡ kernel_frame before) × (kernel_steps after ≡ kernel_steps before) × (kernel_tries after ≡ suc (kernel_tries before))

@@ -1,5 +1,5 @@
-//! Processors at their seats. The type keeps that the unit is that of the seat, and has halted exactly where that has. The
-//! fields are public so that clauses can name them.
+//! Processors at their seats. The type guarantees that the unit is that of the seat's processor, and has halted if and
+//! only if that processor has. The fields are public so that clauses can name them.
 
 ghost use Rattle.std.specs.Prelude.{◌≡◌, ◌<◌, IfSome, Some, false};
 ghost use Rattle.fail_stop.specs.Flyers.{IsUnitAt};
@@ -16,7 +16,7 @@ use fault_script::{halt_in, restart_of};
 use scram_types::Image;
 use word_table::{Seat, WordTable};
 
-/// A processor of a flight on words, at its seat, with what it saw and drafted last.
+/// A processor of a flight on words, at its seat, with the images that it looked at and drafted last.
 #[derive(Drop)]
 pub struct Crew {
     pub seat: Seat,
@@ -41,7 +41,7 @@ impl Crew {
     ghost use Rattle.word_table.specs.declared.tables.WordTable as word_tables;
     ghost use Rattle.word_deck.specs.declared.turns.Turn.TheVariants.{Finished, Worked};
 
-    /// Returns a processor at its opening place, with its boxes and those for its restart.
+    /// Returns a processor at its opening place, with its boxes and the boxes for its restart.
     pub fn processor(seat: Seat, rack: Rack, spare: Rack) -> Crew
         requires opening { seat_place seat ≡ At 0 0 }
         requires few { proc_of seat < 8 }
@@ -63,9 +63,9 @@ impl Crew {
         }
     }
 
-    /// Tries to fly the frame that the processor waits for, whole or up to its halt in it. A processor that has
-    /// halted lives again with the start of the frame of its restart, in its spare rack. `NotYet` comes only where
-    /// the release that this call loads does not show the frame; `Finished` comes exactly where the processor has
+    /// Tries to fly the frame that the processor waits for, whole or up to its halt in it. A processor that has halted
+    /// lives again from the start of the frame of its restart, with its spare rack. It returns `NotYet` only if the
+    /// release that this call loads does not show the frame. It returns `Finished` if and only if the processor has
     /// then flown all frames or has halted for good. It does not block.
     #[tactic(auto, using(crate::proofs::Places::waits, crate::proofs::Places::done_by, crate::proofs::Places::flown_after, crate::proofs::Places::finished_by, crate::proofs::Places::tried_by))]
     pub fn turn(&mut self, mission: &Mission, words: &WordTable) -> Turn
@@ -114,7 +114,8 @@ impl Crew {
         }
     }
 
-    // Starts the frame that the processor waits for, where it is released, and lives again with that where it had halted.
+    // Starts the frame that the processor waits for if it is released. A processor that had halted lives again from
+    // then on.
     #[tactic(auto, using(crate::proofs::Places::spare_there, crate::proofs::Places::spare_begun, crate::proofs::Units::few))]
     fn begin(&mut self, words: &WordTable) -> Option<KernelImage>
         requires fits { CrewFits words.now self.old }
@@ -131,7 +132,7 @@ impl Crew {
         Some(image)
     }
 
-    // Flies the frame that has been started: looks, draft, and the steps up to the halt or the end.
+    // Flies the frame that has been started: the looks, the draft, and the steps up to the halt or the end.
     fn fly(&mut self, mission: &Mission, words: &WordTable, kernel: KernelImage)
         requires mission { mission_in words.now ≡ mission.now }
         requires flies { CrewFlies words.now 1 self.old }
@@ -149,7 +150,7 @@ impl Crew {
         self.end(mission, words);
     }
 
-    // Makes the image that which the unit, which lives, drafts in the frame of what it saw last.
+    // Sets the image to the draft that the unit, which is up, makes in the frame of its last snapshot.
     #[tactic(auto, using(crate::proofs::Steps::drafted_by))]
     fn draft(&mut self, mission: &Mission)
         requires lives { is_halted (seat_place self.old.seat) ≡ false }
@@ -164,7 +165,7 @@ impl Crew {
             .draft(mission.spec(), &self.snap, &mut self.image);
     }
 
-    // Ends the frame that it has drafted: commits it, or halts where the script has a halt in it.
+    // Ends the frame that the processor has drafted. It commits the frame, or halts if the script has a halt in it.
     fn end(&mut self, mission: &Mission, words: &WordTable)
         requires mission { mission_in words.now ≡ mission.now }
         requires flies { CrewFlies words.now (length mission.now.spec.procs + 1) self.old }

@@ -1,5 +1,5 @@
-//! Which thread makes the kernel's turns. Where threads are started a type parameter stands for the kernel, since
-//! nothing is known of what a closure gives that holds a type with a lifetime.
+//! The choice of the thread that makes the kernel's turns. The functions that start threads take the kernel as a type
+//! parameter, since nothing is known of the result of a closure if it holds a type with a lifetime.
 
 ghost use Rattle.std.specs.Prelude.{◌≡◌};
 ghost use Rattle.word_table.specs.Tables.{mission_in};
@@ -22,10 +22,11 @@ pub(crate) trait KernelActor: Drop {
 
     ghost done: { WordTable → Self → Type 0 };
 
-    // The ghost name of a reference that it holds, so that its lender knows that it is still the same one.
+    // The ghost name of a reference that the kernel holds, so that the lender of the reference knows that it is still
+    // the same.
     ghost lent: { Self → ℕ };
 
-    /// Returns the kernel's turn.
+    /// Makes a turn of the kernel, and returns its result.
     fn work(&mut self, words: &WordTable) -> Turn
         requires mission { mission_in words.now ≡ mission_of self.old }
         requires seated { seated words.now self.old }

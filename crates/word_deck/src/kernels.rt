@@ -1,4 +1,4 @@
-//! The kernel with what it needs in a flight.
+//! The kernel with the values that it needs in a flight.
 
 ghost use Rattle.std.specs.Prelude.{◌≡◌, ◌↔◌, ◌+◌, ◌<◌, ◌≤◌, length};
 ghost use Rattle.frame_model.specs.Storage.{kernel_image};
@@ -14,15 +14,15 @@ use scram_kernel::Kernel;
 use scram_types::{Image, ProcId, Row};
 use word_table::{KSeat, WordTable};
 
-/// What the kernel has noted of processors in its frame: their marks and images after it.
+/// The marks and images of the processors that the kernel has noted in its frame, after that frame.
 #[derive(Clone, Copy)]
 pub(crate) struct Noted {
     pub(crate) marks: [u64; 8],
     pub(crate) images: [Image; 8],
 }
 
-/// The kernel of a flight on words at its seat, and what it has noted in its frame. Its rows are those of the frames in
-/// which it has noted every processor.
+/// The kernel of a flight on words, at its seat, with the marks and images that it has noted in its frame. Its rows are
+/// those of the frames in which it has noted every processor.
 #[derive(Drop)]
 pub struct KernelCrew<'a> {
     pub mission: &'a Mission,
@@ -33,7 +33,7 @@ pub struct KernelCrew<'a> {
 }
 
 impl<'a> KernelCrew<'a> {
-    /// Returns the kernel before the first frame at its seat.
+    /// Returns the kernel at its seat, before the first frame.
     #[tactic(auto, using(crate::proofs::Noting::below))]
     pub fn kernel(mission: &'a Mission, kseat: KSeat, kernel: Kernel<'a>) -> KernelCrew<'a>
         requires frame { kernel_frame kseat ≡ 0 }
@@ -55,19 +55,18 @@ impl<'a> KernelCrew<'a> {
         }
     }
 
-    /// Returns the rows of the frames in which the kernel has noted every processor: the first rows of the one-thread
-    /// trace.
+    /// Returns the rows of the frames in which the kernel has noted every processor. They are the first rows of the
+    /// one-thread trace.
     pub fn rows(&self) -> &[Row]
         ensures { let m = self.now.mission.now in result.now ≡ rows_below m.spec m.script (frames_noted (length m.spec.procs) self.now.kseat) }
     {
         self.kernel.rows()
     }
 
-    /// Tries to make the next steps of the kernel: it notes the processors, in order, that are done with its frame or
-    /// have halted. Once all are noted it ends the frame, and where there is a next one it says what that is and
-    /// releases it. `NotYet` comes only where the end word that this call loads does not allow the next note;
-    /// `Finished` comes exactly where the kernel has then made its last note, or no frame is flown. It does not
-    /// block.
+    /// Tries to make the next steps of the kernel. It notes the processors, in order, that are done with its frame or
+    /// have halted. Once all are noted it ends the frame, and if there is a next frame, publishes and releases it. It
+    /// returns `NotYet` only if the end word that this call loads does not allow the next note. It returns `Finished`
+    /// if and only if the kernel has then made its last note, or no frame is flown. It does not block.
     #[tactic(auto, using(crate::proofs::Noting::below, crate::proofs::Noting::all))]
     pub fn turn(&mut self, words: &WordTable) -> Turn
         requires mission { mission_in words.now ≡ self.old.mission.now }
@@ -98,7 +97,7 @@ impl<'a> KernelCrew<'a> {
         Turn::Worked
     }
 
-    /// Returns the seat and the log.
+    /// Returns the seat, and the kernel's log.
     #[tactic(auto, using(crate::proofs::Noting::done_log))]
     pub(crate) fn into_parts(self) -> (KSeat, Kernel<'a>)
         ensures seat { result.0 ≡ self.entry.kseat }
@@ -115,7 +114,7 @@ impl<'a> KernelCrew<'a> {
     }
 }
 
-// Notes processors in order, as far as they may be noted.
+// Notes processors in order, until one may not be noted.
 fn note_all(words: &WordTable, procs: u32, kseat: &mut KSeat, noted: &mut Noted)
     requires seat { IsKernelSeatOf words.now kseat.old }
     requires procs { procs ≡ length (mission_in words.now).spec.procs }
@@ -139,7 +138,7 @@ fn note_all(words: &WordTable, procs: u32, kseat: &mut KSeat, noted: &mut Noted)
     }
 }
 
-// Ends the frame all of whose processors have been noted, and returns what the kernel says of the next one.
+// Ends the frame all of whose processors have been noted, and returns the kernel image of the next frame.
 #[tactic(auto, using(crate::proofs::Noting::images_for, crate::proofs::Noting::marks_for))]
 fn end_frame(mission: &Mission, noted: &Noted, kernel: &mut Kernel) -> KernelImage
     requires frame { kernel.old.past < mission.now.script.frames }
@@ -152,7 +151,7 @@ fn end_frame(mission: &Mission, noted: &Noted, kernel: &mut Kernel) -> KernelIma
     kernel.tick(&noted.marks, &noted.images)
 }
 
-// Says what the next frame is, word by word, and releases it.
+// Publishes the kernel image of the next frame, word by word, and releases the frame.
 fn say(words: &WordTable, procs: u32, kseat: &mut KSeat, image: &KernelImage)
     requires seat { IsKernelSeatOf words.now kseat.old }
     requires procs { procs ≡ length (mission_in words.now).spec.procs }

@@ -1,6 +1,6 @@
-//! Processors that fly on threads of their own. A thread gives back the seat alone, since no handle of a thread is
-//! taken that gives back boxes. So the boxes of each processor lie on a cell, from which they are taken by its
-//! thread, or the caller where no thread can be made.
+//! Processors that fly on threads of their own. A thread gives back only the seat, since no thread handle is accepted
+//! that gives back boxes. So the boxes of each processor are in a cell. The processor's thread takes them from there,
+//! or the caller if no thread can be created.
 
 ghost use Rattle.std.specs.Prelude.{◌≡◌, IfErr, IfOk};
 ghost use Rattle.fail_stop.specs.Events.{At};
@@ -26,7 +26,7 @@ pub(crate) struct RackPair {
     pub(crate) spare: Rack,
 }
 
-/// Where the pair of a processor lies until it flies.
+/// A cell for the boxes of a processor until the processor flies.
 #[derive(Drop)]
 pub(crate) struct RackCell {
     pair: Mutex<Option<RackPair>>,
@@ -42,12 +42,12 @@ impl RackCell {
         }
     }
 
-    // Takes the pair, where it lies there still.
+    // Takes the pair out of the cell, or returns `None` if the cell is empty.
     fn take<R: Wait>(&self, rt: &R) -> Option<RackPair> {
         self.pair.lock(rt).take()
     }
 
-    // Lays a pair there.
+    // Puts a pair into the cell.
     fn put<R: Wait>(&self, rt: &R, pair: Option<RackPair>) {
         *self.pair.lock(rt) = pair;
     }
@@ -60,7 +60,7 @@ pub(crate) struct Landing {
     pub(crate) flown: bool,
 }
 
-/// The promise of a thread: the processor that had this seat at this table has landed, or has not flown.
+/// The promise of a thread that the processor that had this seat at this table has landed, or has not flown.
 #[derive(Drop)]
 pub(crate) struct Lander(Snapshot<WordTable>, Snapshot<Seat>);
 
@@ -68,8 +68,8 @@ impl Promise<Landing> for Lander {
     ghost kept_by = { λ promise landing. Lands promise.0.value promise.1.value landing };
 }
 
-/// What the actors of a flight share: the words, a cell for each processor, and the processors for which a thread is
-/// asked.
+/// The values that the actors of a flight share: the words, a cell for each processor, and the processors for which a
+/// thread is asked.
 #[derive(Drop)]
 pub(crate) struct Resources {
     pub(crate) words: WordTable,
@@ -77,14 +77,15 @@ pub(crate) struct Resources {
     pub(crate) asked: [bool; 8],
 }
 
-/// A mission, and what its actors share.
+/// A mission, and the values that its actors share.
 #[derive(Clone, Copy)]
 pub(crate) struct Shared<'a> {
     pub(crate) mission: &'a Mission,
     pub(crate) resources: &'a Resources,
 }
 
-/// What one processor flies with: the mission, the words, the cell of its racks, and whether a thread is asked for it.
+/// The values with which one processor flies: the mission, the words, the cell of its racks, and whether a thread is
+/// asked for it.
 #[derive(Clone, Copy)]
 pub(crate) struct Site<'a> {
     pub(crate) mission: &'a Mission,
@@ -93,7 +94,7 @@ pub(crate) struct Site<'a> {
     pub(crate) asked: bool,
 }
 
-/// Flies a processor until nothing is left to do.
+/// Runs a processor until its turn is `Finished`, and returns its seat.
 pub(crate) fn fly_crew<R: Wait>(
     rt: &R,
     mission: &Mission,
@@ -122,8 +123,8 @@ pub(crate) fn fly_crew<R: Wait>(
     unreachable!()
 }
 
-/// Starts a thread for a processor. Where none can be made the landing says what has come of it: it has not flown, and
-/// its pair lies on the cell.
+/// Starts a thread for a processor. If no thread can be created, the landing says that the processor has not flown, and
+/// its pair is in the cell.
 pub(crate) fn start<'s, E, R: Wait + Threads + Sync>(
     scope: &Scope<'s, E>,
     rt: &'s R,
@@ -155,7 +156,7 @@ pub(crate) fn start<'s, E, R: Wait + Threads + Sync>(
     match spawned {
         Ok(handle) => Ok(handle),
         Err(refused) => {
-            // The call gives back the seat and flies nothing, since it finds no pair.
+            // This call gives back the seat and flies nothing, since it finds no pair.
             let pair = cell.take(rt);
             let landing = (refused.value)();
             cell.put(rt, pair);
@@ -164,7 +165,7 @@ pub(crate) fn start<'s, E, R: Wait + Threads + Sync>(
     }
 }
 
-// Flies a processor with the pair from its cell; one whose pair has been taken from there is not flown.
+// Flies a processor with the pair from its cell, or leaves it where it is if the cell is empty.
 #[tactic(auto, using(crate::proofs::Units::few))]
 fn fly_seat<R: Wait>(
     rt: &R,
@@ -191,8 +192,8 @@ fn fly_seat<R: Wait>(
     }
 }
 
-/// Returns the processor that has this seat, with the pair from its cell. No proof says that it lies there: where it
-/// does not, the processor flies with racks without boxes.
+/// Returns the processor of this seat, with the pair from its cell. No proof says that the pair is there. If it is not,
+/// the processor flies with racks without boxes.
 #[tactic(auto, using(crate::proofs::Units::few))]
 pub(crate) fn crew_from<R: Wait>(rt: &R, words: &WordTable, cell: &RackCell, seat: Seat) -> Crew
     requires seat { IsSeatOf words.now seat }
@@ -209,8 +210,8 @@ pub(crate) fn crew_from<R: Wait>(rt: &R, words: &WordTable, cell: &RackCell, sea
     }
 }
 
-/// Returns the seat of a processor that has landed; one that has not flown is flown by the caller, with the pair from
-/// the cell.
+/// Returns the seat of a processor that has landed. A processor that has not flown is flown by the caller, with the
+/// pair from the cell.
 pub(crate) fn land<R: Wait>(rt: &R, site: &Site<'_>, landing: Landing, was: Snapshot<Seat>) -> Seat
     requires mission { mission_in site.now.words.now ≡ site.now.mission.now }
     requires lands { Lands site.now.words.now was.value landing }

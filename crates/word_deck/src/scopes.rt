@@ -1,4 +1,4 @@
-//! A thread for each processor, and the kernel's turns between their starts and their ends.
+//! A thread for each processor, with the kernel's turns made while the threads run.
 
 ghost use Rattle.std.specs.Prelude.{ℕ, List, ◌≡◌, ◌≤◌, ◌<◌, ◌+◌, [], ◌∷◌, ◌++◌, length, vec_capacity, vec_len};
 ghost use Rattle.fail_stop.specs.Events.{At};
@@ -17,8 +17,8 @@ use std::thread;
 use std::thread::{PromisedHandle, Scope, Threads};
 use word_table::{Seat, WordTable};
 
-/// The processors of a flight: the seats of those that have not started, those that fly in the caller's turns, and the
-/// seats of those that have landed.
+/// The processors of a flight: the seats of those that have not started, the processors that fly in the caller's turns,
+/// and the seats of those that have landed.
 #[derive(Drop)]
 pub(crate) struct Roster {
     pub(crate) waiting: Vec<Seat>,
@@ -32,7 +32,7 @@ pub(crate) struct Flying {
     pub(crate) handle: PromisedHandle<Landing, Lander>,
 }
 
-/// Where a processor flies: on a thread, as the last of those in the caller's turns, or nowhere any more.
+/// The way in which a processor flies: on a thread, as the last of those in the caller's turns, or not any more.
 #[derive(Drop)]
 pub(crate) enum Boarding {
     Threaded(Flying),
@@ -40,7 +40,7 @@ pub(crate) enum Boarding {
     Landed(Seat),
 }
 
-/// Flies all processors and the kernel, which comes back with its last note made.
+/// Flies all processors and the kernel, and returns the kernel after its last note.
 pub(crate) fn fly<K: KernelActor, R: Threads + Wait + Sync>(
     rt: &R,
     shared: &Shared<'_>,
@@ -93,7 +93,7 @@ pub(crate) fn fly<K: KernelActor, R: Threads + Wait + Sync>(
     )
 }
 
-// Flies the processors that have not started, the last one first, and between their starts and their ends the kernel.
+// Starts the processors that have not started, the last one first, flies the kernel, and then lands the processors.
 fn fly_rest<'s, E, K: KernelActor, R: Threads + Wait + Sync>(
     scope: &Scope<'s, E>,
     rt: &'s R,
@@ -139,8 +139,8 @@ fn fly_rest<'s, E, K: KernelActor, R: Threads + Wait + Sync>(
     kernel
 }
 
-// Returns the seat of a processor that has started, once it has landed: the caller waits for its thread, or flies it
-// to its end.
+// Returns the seat of a processor that has started, once it has landed. The caller waits for the processor's thread, or
+// flies the processor to its end.
 fn land_boarded<R: Threads + Wait>(
     rt: &R,
     site: &Site<'_>,
@@ -171,8 +171,8 @@ fn land_boarded<R: Threads + Wait>(
     }
 }
 
-// Makes the kernel's turns and those of the processors that fly in the caller's, until the kernel is done. It sleeps only
-// where no processor waits for a turn of the caller.
+// Makes the kernel's turns, and those of the processors that fly in the caller's turns, until the kernel is done. It
+// sleeps only if no processor flies in the caller's turns.
 fn fly_kernel<K: KernelActor, R: Wait>(
     rt: &R,
     shared: &Shared<'_>,
@@ -206,7 +206,7 @@ fn fly_kernel<K: KernelActor, R: Wait>(
     unreachable!()
 }
 
-// One turn for each of these processors.
+// Makes one turn of each of these processors.
 fn turn_all(mission: &Mission, words: &WordTable, own: &mut Vec<Crew>)
     requires mission { mission_in words.now ≡ mission.now }
     requires own { AllCrewsFit words.now own.old.items }
@@ -218,7 +218,7 @@ fn turn_all(mission: &Mission, words: &WordTable, own: &mut Vec<Crew>)
     }
 }
 
-// Starts a processor: on a thread of its own where one is asked for and can be made, and else in the caller's turns.
+// Starts a processor on a thread of its own if one is asked for and can be created, else in the caller's turns.
 fn board<'s, E, R: Threads + Wait + Sync>(
     scope: &Scope<'s, E>,
     rt: &'s R,

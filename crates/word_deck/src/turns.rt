@@ -1,6 +1,7 @@
 //! The result of a turn.
 
-/// The result of a turn of an actor: it has made steps and has more to make, nothing was ready, or it has none left.
+/// The result of a turn: the actor has made steps and has more to make, nothing was ready, or the actor has no more
+/// steps.
 #[derive(Clone, Copy, Debug, PartialEq, Eq)]
 pub enum Turn {
     Worked,

@@ -23,8 +23,8 @@ use telemetry_tap::Watch;
 use trace_props::missions::reconfigurations_are_assured;
 use word_table::{KSeat, Seat, WordTable, Words};
 
-/// A flight of a mission that is ready to start, with all memory that it takes: the words, the kernel, the seats of all
-/// processors, their boxes, and room for what comes back.
+/// A flight of a mission that is ready to start, with all memory that it needs. It has the words, the kernel, the seats
+/// and the boxes of all processors, and room for the seats that come back.
 #[derive(Drop)]
 pub struct WordFlight<'a> {
     mission: &'a Mission,
@@ -44,8 +44,8 @@ pub struct WordFlight<'a> {
     ghost room: { vec_len roster.waiting ≤ vec_capacity roster.landed },
 }
 
-/// The result of a flight: the trace, and the words with all their seats, each where nothing is left to do. The seats
-/// of the processors stand in the order of their numbers.
+/// The result of a flight: the trace, and the words with all their seats, whose actors have no more steps. The seats of
+/// the processors are in the order of their numbers.
 #[derive(Drop)]
 pub struct Landed<'a> {
     pub flown: Flown,
@@ -55,8 +55,8 @@ pub struct Landed<'a> {
 }
 
 impl<'a> WordFlight<'a> {
-    /// Returns a flight of a mission with these boxes, and these for restarts: rack `p` is that of processor `p`. All
-    /// memory of the flight is allocated here; the only error is out of memory.
+    /// Returns a flight of a mission with racks of boxes and spare racks for restarts. Rack `p` is that of processor
+    /// `p`. All memory of the flight is allocated here, and the only error is out of memory.
     #[tactic(auto, using(crate::proofs::Outcomes::at_table))]
     pub fn open(
         alloc: Global,
@@ -87,9 +87,9 @@ impl<'a> WordFlight<'a> {
         })
     }
 
-    /// Flies the mission with a thread for each processor and the kernel on the caller's. A processor for which no
-    /// thread can be made flies in the caller's turns. The result is the one-thread trace, of which SP1 to SP6 hold,
-    /// and the words with all seats, each where nothing is left to do. It blocks until the threads have ended, and
+    /// Flies the mission with a thread for each processor and the kernel on the caller's thread. A processor for which
+    /// no thread can be created flies in the caller's turns. The result is the one-thread trace, for which SP1 to SP6
+    /// hold, and the words with all seats, whose actors have no more steps. It blocks until the threads have ended, and
     /// has no error.
     pub fn run<R: Threads + Wait + Sync>(self, rt: &R) -> Landed<'a>
         ensures flown { IsTraceOf self.entry.mission.now result.flown }
@@ -103,7 +103,7 @@ impl<'a> WordFlight<'a> {
         self.run_on(rt, [true; 8])
     }
 
-    /// The same where threads are asked for these processors alone.
+    /// Flies as `run` does, but asks for threads only for the processors that are set in `asked`.
     pub fn run_on<R: Threads + Wait + Sync>(self, rt: &R, asked: [bool; 8]) -> Landed<'a>
         ensures flown { IsTraceOf self.entry.mission.now result.flown }
         ensures mission { result.words.mission ≡ self.entry.mission }
@@ -123,7 +123,8 @@ impl<'a> WordFlight<'a> {
         land_all(mission, resources, kernel, seats)
     }
 
-    /// Flies as `run` does, and hands each row to a watch as the kernel writes it. The watch has then taken all rows.
+    /// Flies as `run` does, and hands each row to a watch as the kernel writes it. In the end the watch has taken all
+    /// rows.
     pub fn run_watched<W: Watch, R: Threads + Wait + Sync>(
         self,
         rt: &R,
@@ -149,7 +150,7 @@ impl<'a> WordFlight<'a> {
             resources: &resources,
         };
         let (kernel, seats) = fly(rt, &shared, kernel, roster);
-        // A name for the reference, since the proof else does not learn what stands behind it.
+        // The reference gets a name, since the proof otherwise does not learn the value that it refers to.
         let WatchedKernel {
             kernel,
             watch: _last,
@@ -157,7 +158,7 @@ impl<'a> WordFlight<'a> {
         land_all(mission, resources, kernel, seats)
     }
 
-    // Returns what a flight starts with, where threads are asked for these processors.
+    // Returns the values with which a flight starts, if threads are asked for these processors.
     fn prepare<R: Threads>(self, rt: &R, asked: [bool; 8]) -> (Resources, KernelCrew<'a>, Roster)
         ensures table { result.0.words.table ≡ self.entry.words.table }
         ensures mission { mission_in result.0.words ≡ self.entry.mission.now }
@@ -189,7 +190,7 @@ impl<'a> WordFlight<'a> {
     }
 }
 
-// Returns what has come of a flight whose kernel has made its last note and whose processors have landed.
+// Returns the result of a flight whose kernel has made its last note and whose processors have landed.
 fn land_all<'a>(
     mission: &'a Mission,
     resources: Resources,
@@ -226,11 +227,10 @@ fn land_all<'a>(
     }
 }
 
-// The least of the numbers that were measured (docs/PERFORMANCE.md) at which no thread parks while each has a
-// processor.
+// The smallest of the measured numbers (docs/PERFORMANCE.md) at which no thread parks if each thread has a processor.
 const SPINS: u32 = 10_000;
 
-// Returns how many times a wait spins before it parks: 0 on a machine with one processor.
+// Returns how many times a wait spins before it parks, which is 0 on a machine with one processor.
 fn spins_of<R: Threads>(rt: &R) -> u32 {
     match thread::available_parallelism(rt) {
         Ok(count) if count.get() > 1 => SPINS,

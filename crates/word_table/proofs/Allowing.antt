@@ -1,4 +1,4 @@
--- What each kind of step is allowed to do, and what it shows.
+-- The steps of each kind that are allowed, and what they show.
 use Rattle.std.proofs.Common.{◌≡◌, ℕ, zero, suc, ◌+◌, ◌-◌, ◌*◌, ◌%◌, ◌<◌, ◌≤◌, Bool, true, false, refl, sym, ap, subst, ◌∙◌, arith, List, [], ◌∷◌}
 use Rattle.std.specs.Prelude.{Option, Some, None, IfSome, nat_lt, slice_index, slice_set}
 use Rattle.std.specs.Bool.{MatchBool}
@@ -32,7 +32,7 @@ module _ (mission : MissionParts) (slots id : ℕ) (me : Sat) (y : IsSound (miss
       (me.0, keeps, tt, loaded m mission s id me.0 y r here me.0 i refl refl, ((refl, empty), shown mission s id me.0 i r here planned))
 
   module _ (p f n : ℕ) (l : p < m.procs) (alone : me.0.actors ≡ Runs p f (suc n) ∷ []) where
-    -- the load with which a look is made
+    -- the load that is a look
     pub look_allows : (q i : ℕ) → me.0.mission ≡ Some mission → plan m p f (suc n) ≡ Some (Look (proc_id p) (proc_id q)) → Allows (Ruled m mission) slots id me i (λ n. n) (looks (step slots i 0 0 none) me)
     look_allows q i planned next = λ s r homes here small.
         let there : r.at.proc p ≡ At f (suc n) = stands m mission s id me.0 y r here p (At f (suc n)) alone in
@@ -103,7 +103,7 @@ module _ (mission : MissionParts) (slots id : ℕ) (me : Sat) (y : IsSound (miss
           (refl, empty),
         )
 
-  -- the load of the release makes the start, from a halted place too, or is a try
+  -- the load of the release is a start, from a halted place too, or a try
   module _ (p f : ℕ) (x : Place) (l : p < m.procs) (alone : me.0.actors ≡ actor_at p x ∷ []) (planned : me.0.mission ≡ Some mission)
       (next : (release : ℕ) → nat_lt f release ≡ true → next_from m p release x ≡ Some (Start (proc_id p))) (to : moved m (Start (proc_id p)) p x ≡ At f 1)
       (wait : awaited m (actor_at p x) ≡ f) (go : begun m (actor_at p x) ≡ Runs p f 1) (awaits : AwaitsRelease m 0 (actor_at p x ∷ [])) where
@@ -143,7 +143,7 @@ module _ (mission : MissionParts) (slots id : ℕ) (me : Sat) (y : IsSound (miss
   start_allows p (At f (suc n)) l alone planned waits = absurd (let none = waits.0 in omega (arith, none))
   start_allows p (Halted h) l alone planned waits = back_allows p h (m.restart p) l alone planned refl waits
 
-  -- the load of an end word makes the note, or is a try
+  -- the load of an end word is a note or a try
   module _ (k p : ℕ) (l : p < m.procs) (flown : k < m.frames) (alone : me.0.actors ≡ Kernel k p ∷ []) (planned : me.0.mission ≡ Some mission) where
     note_told : (i : ℕ) → i ≡ index_of (EndWord p) → (w : View) (n : ℕ) (b : Bool) → may_note m p k n ≡ b → MatchBool b (Has (w, me.1) (each_actor one_more me.0)) (Has (w, me.1) (tried me.0))
         → IfSome me.0.mission (λ mission. TellsNote (mission_flight mission) i n me.0 (w, me.1))

@@ -48,7 +48,7 @@ one_last list width p marks images mark image long longer low before last q most
         let at_image : slice_index_or (slice_set images p image) q [] ≡ slice_index_or images q [] = get_or-set_other images p q image [] d in
         rw (at_mark, at_image) (before q (omega (arith, most, d)))
 
--- what stands past the processors that have been read stays as it is
+-- the entries past the processors that have been read are unchanged
 pub nobodys_left : (p : ℕ) (marks : List ℕ) (images : List (List ℤ)) (mark : ℕ) (image : List ℤ) → ((q : ℕ) → p ≤ q → q < 8 → AreNobodys (slice_index marks q) (slice_index_or images q []))
     → (q : ℕ) → p + 1 ≤ q → q < 8 → AreNobodys (slice_index (slice_set marks p mark) q) (slice_index_or (slice_set images p image) q [])
 nobodys_left p marks images mark image before q least most =
@@ -58,7 +58,7 @@ nobodys_left p marks images mark image before q least most =
       get_or-set_other images p q image [] other ∙ was.1,
     )
 
--- a seat that an iterator gives is one of those that it was made of
+-- a seat that an iterator yields is one of its seats
 at_front : (l rest : List Seat) (x : Seat) → slice_get (l ++ x ∷ rest) (length l) ≡ Some x
 at_front [] rest x = refl
 at_front (y ∷ l) rest x = at_front l rest x

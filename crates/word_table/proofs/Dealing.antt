@@ -41,7 +41,7 @@ opt_other None (Some b) n = refl
 opt_other (Some a) None n = refl
 opt_other (Some a) (Some b) n = let d : a ≢ b = λ e. n (ap (λ (x : ℕ). Some x) e) in grind (arith, nat_tests)
 
--- actor o goes to view n
+-- actor o moves to view n
 moved_home : (Option ℕ → ℕ) → Option ℕ → ℕ → Option ℕ → ℕ
 moved_home home o n q = if opt_eq q o then n else home q
 

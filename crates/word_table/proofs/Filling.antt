@@ -10,8 +10,8 @@ use Rattle.word_table.specs.declared.actors.Actor.{Actor}
 use Rattle.word_table.specs.Plays.{IsFound}
 use Rattle.word_table.specs.Reading.{AreRead, IsWordRead}
 
--- The words of an image up to word n are as they are to be: those from word `from` up to word `to` were found from place `at`
--- on, and past them it has zeros.
+-- The words of an image up to word n have their final values. The words from `from` up to `to` were found from place
+-- `at` on, and the later ones are zero.
 pub record AreReadBelow (m : Flight) (actors : List Actor) (at from to n : ℕ) (image : List ℤ) : Type 0 where
   pub long : length image ≡ 64
   pub read : (i : ℕ) → from ≤ i → i < to → i < n → IsWordRead m actors (at + i) (slice_index_or image i (pos 0))
@@ -55,7 +55,7 @@ all_read m actors at from to image each few = record {
   by_length i over (yes d) = get_or_past image i (pos 0) (omega (arith, d, each.long))
   by_length i over (no d) = each.past i over (omega (arith, d))
 
--- the same of words as they are
+-- the same for plain words
 pub more_found : (m : Flight) (actors : List Actor) (to : ℕ) (words : List ℕ) (w : ℕ) → length words ≡ 20 → ((i : ℕ) → i < to → IsFound m actors (8 + i) (slice_index words i)) → to < 20 → IsFound m actors (8 + to) w
     → (i : ℕ) → i < to + 1 → IsFound m actors (8 + i) (slice_index (slice_set words to w) i)
 more_found m actors to words w long before low found i most = by_place (ℕ_discrete i to)

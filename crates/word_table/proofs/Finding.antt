@@ -1,4 +1,4 @@
--- What the words that are found say of the mission.
+-- The values that found words have by the mission.
 use Rattle.std.proofs.Common.{◌≡◌, ℕ, suc, ℤ, pos, ◌+◌, ◌*◌, ◌%◌, ◌<◌, ◌≤◌, Bool, true, false, refl, sym, ap, subst, ◌∙◌, arith, List, [], ◌∷◌, length}
 use Rattle.std.specs.Prelude.{Option, Some, None, nat_eq, slice_index, slice_index_or, slice_set}
 use Rattle.std.proofs.lemmas.Bool.Decides.{nat_tests}
@@ -76,7 +76,7 @@ module _ (mission : MissionParts) (fits : Fits mission.spec mission.script) wher
   flies : Flies m
   flies = script_flies mission.spec mission.script fits
 
-  -- what a processor finds in a frame
+  -- the words that a processor finds in a frame
   module _ (p f n : ℕ) (l : p < m.procs) (begun : 0 < n) where
     pub mark_found : (q i z : ℕ) → q < m.procs → i ≡ index_of (MarkWord q) → IsFound m (Runs p f n ∷ []) i z → pick z f ≡ image_bank_after mission.spec mission.script q f
     mark_found q i z lq place found =
@@ -96,7 +96,7 @@ module _ (mission : MissionParts) (fits : Fits mission.spec mission.script) wher
     kernel_found x i z lx place found =
         found.value ∙ ap (slice_index found.list) place ∙ kernel_reads m found.at (stored_in found.list) flies found.kept p f n x l found.stand.0 begun lx
 
-  -- what the kernel finds of a processor that it may note, and of one that it has noted
+  -- the words that the kernel finds of a processor that it may note, and of one that it has noted
   module _ (k p : ℕ) (l : p < m.procs) where
     pub halt_found : (i z : ℕ) → i ≡ index_of (EndWord p) → IsFound m (Kernel k p ∷ []) i z → may_note m p k z ≡ true → nat_eq (z % 2) 1 ≡ has_halted_by m p k
     halt_found i z place found may =

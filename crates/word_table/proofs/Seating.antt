@@ -24,7 +24,7 @@ use Rattle.word_table.specs.Actors.{StandsAt, actor_at, mission_flight, who, wit
 use Rattle.word_table.specs.Plays.{AllStand, IsFound, ShowsWord, each_actor}
 use Rattle.word_table.specs.Rule.{AreApart, Hosts, IsAmong, IsViewOf, Ruled}
 
--- What the law asks of a flight.
+-- The facts of a flight that the law requires.
 pub record IsSound (m : Flight) : Type 0 where
   pub flies : Flies m
   pub few : m.procs ≤ 8
@@ -89,7 +89,7 @@ view_same views i j v w same there here = some-injective v w (sym there ∙ ap (
 pub set_there : (views : List View) (id : ℕ) (v w : View) → get_elem? views id ≡ some v → get_elem? (slice_set views id w) id ≡ some w
 set_there views id v w here = set_here views id w (within views id v here)
 
--- an actor has its view after a view has become one of the same actors
+-- an actor keeps its view when a view is replaced by one with the same actors
 pub view_after : (views : List View) (id : ℕ) (v w : View) → get_elem? views id ≡ some v → ((o : Option ℕ) → IsAmong o v.actors → IsAmong o w.actors) → (o : Option ℕ) (j : ℕ) → IsViewOf views o j → IsViewOf (slice_set views id w) o j
 view_after views id v w here stays o j is = by_place (ℕ_discrete j id)
   where

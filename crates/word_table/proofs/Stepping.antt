@@ -1,4 +1,4 @@
--- What it says that an event is the next step of a seat.
+-- The facts that follow if an event is the next step of a seat.
 use Rattle.std.proofs.Common.{◌≡◌, ◌∙◌, ℕ, zero, suc, ◌+◌, ◌<◌, ◌≤◌, Bool, true, false, refl, List, [], ◌∷◌}
 use Rattle.std.specs.Prelude.{Some}
 use Rattle.scram_types.specs.Lookups.{proc_id}

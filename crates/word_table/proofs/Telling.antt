@@ -1,4 +1,4 @@
--- What a step shows of a seat whose mission and actors are known.
+-- The effects of a step on a seat with a known mission and known actors.
 use Rattle.std.proofs.Common.{◌≡◌, ◌∙◌, ℕ, suc, ◌<◌, Bool, true, false, refl, ap, subst, arith, List, [], ◌∷◌, map}
 use Rattle.std.specs.Prelude.{Option, Some, IfSome, nat_lt}
 use Rattle.std.proofs.lemmas.Bool.Decides.{nat_tests}

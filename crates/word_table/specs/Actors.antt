@@ -1,4 +1,4 @@
--- Actors, and where they stand.
+-- Actors and their places.
 use Rattle.std.specs.Prelude.{◌≡◌, ◌<◌, ◌≤◌, ℕ, zero, suc, Bool, true, false, List, [], ◌∷◌, Option, Some, None}
 use Rattle.coverage_check.specs.Missions.{MissionParts}
 use Rattle.bank_words.specs.declared.events.Event.{Event}
@@ -13,55 +13,56 @@ use Rattle.word_table.specs.declared.actors.View.{View}
 abbrev pub mission_flight : MissionParts → Flight
 mission_flight mission = flight_of mission.spec mission.script
 
--- The number of a processor, or none for the kernel.
+-- The number of an actor that is a processor, or none for the kernel.
 abbrev pub who : Actor → Option ℕ
 who (Runs p f n) = Some p
 who (Stopped p h) = Some p
 who (Kernel k j) = None
 
--- An actor stands where it says.
+-- The places agree with the place of an actor.
 abbrev pub StandsAt : Places → Actor → Type 0
 StandsAt at (Runs p f n) = at.proc p ≡ At f n
 StandsAt at (Stopped p h) = at.proc p ≡ Halted h
 StandsAt at (Kernel k j) = (at.frame ≡ k) × (at.step ≡ j)
 
--- Processor p at a place.
+-- The actor that is processor `p` at a place.
 abbrev pub actor_at : ℕ → Place → Actor
 actor_at p (At f n) = Runs p f n
 actor_at p (Halted h) = Stopped p h
 
--- A place by its parts.
+-- The place with these parts.
 abbrev pub place_at : ℕ → ℕ → Bool → Place
 place_at frame step true = Halted frame
 place_at frame step false = At frame step
 
--- The next step of processor p where it waits for no release; none at the begin of a frame, and where it has halted.
+-- The next step of processor `p` at a place, or none if the processor is at the begin of a frame or has halted.
 abbrev pub step_at : Flight → ℕ → Place → Option Event
 step_at m p (At f zero) = None
 step_at m p (At f (suc n)) = plan m p f (suc n)
 step_at m p (Halted h) = None
 
--- The steps made in the frame of a place; none where the processor has halted.
+-- The number of steps made in the frame of a place, or 0 if the processor has halted.
 abbrev pub steps_of : Place → ℕ
 steps_of (At f n) = n
 steps_of (Halted h) = 0
 
--- A place is in a flight: a step is made only in a frame that is flown.
+-- A place is within the flight. The processor has made steps only in a frame that is flown.
 abbrev pub IsInFlight : Flight → Place → Type 0
 IsInFlight m (At f n) = (f ≤ m.frames) × (0 < n → f < m.frames)
 IsInFlight m (Halted h) = h < m.frames
 
--- The frame of a restart that is still to come after frame h; h itself where none is.
+-- The frame of a restart, or frame `h` if there is no restart.
 abbrev pub restart_or : ℕ → Option ℕ → ℕ
 restart_or h None = h
 restart_or h (Some r) = r
 
--- The frame for whose release processor p waits at a place: where it has halted, that of its restart.
+-- The frame for whose release processor `p` waits at a place. If the processor has halted, it is the frame of its
+-- restart.
 abbrev pub frame_awaited : Flight → ℕ → Place → ℕ
 frame_awaited m p (At f n) = f
 frame_awaited m p (Halted h) = restart_or h (m.restart p)
 
--- Processor p waits for a release: it has made no step of a frame that is flown, or has halted and restarts later.
+-- Processor `p` waits for a release. It has made no step of a frame that is flown, or has halted and restarts later.
 abbrev pub Waits : Flight → ℕ → Place → Type 0
 Waits m p (At f n) = (n ≡ 0) × (f < m.frames)
 Waits m p (Halted h) = h < restart_or h (m.restart p)
@@ -78,7 +79,7 @@ begun m (Runs p f n) = Runs p f 1
 begun m (Stopped p h) = Runs p (restart_or h (m.restart p)) 1
 begun m (Kernel k j) = Kernel k j
 
--- An actor one step on.
+-- An actor after one step.
 abbrev pub one_more : Actor → Actor
 one_more (Runs p f n) = Runs p f (suc n)
 one_more (Stopped p h) = Stopped p h
@@ -90,20 +91,20 @@ next_frame (Runs p f n) = Runs p (suc f) 0
 next_frame (Stopped p h) = Stopped p h
 next_frame (Kernel k j) = Kernel (suc k) 0
 
--- A processor that halts in its frame.
+-- An actor after its processor has halted in its frame.
 abbrev pub halted_actor : Actor → Actor
 halted_actor (Runs p f n) = Stopped p f
 halted_actor (Stopped p h) = Stopped p h
 halted_actor (Kernel k j) = Kernel k j
 
--- A view of one actor.
+-- The view with only one actor.
 abbrev pub with_actor : View → Actor → View
 with_actor v a = record { mission = v.mission; tries = v.tries; actors = a ∷ [] }
 
--- A view of other actors.
+-- The view with other actors.
 abbrev pub with_actors : View → List Actor → View
 with_actors v actors = record { mission = v.mission; tries = v.tries; actors = actors }
 
--- A view after a load that found nothing ready.
+-- The view after a load that found nothing ready.
 abbrev pub tried : View → View
 tried v = record { mission = v.mission; tries = suc v.tries; actors = v.actors }

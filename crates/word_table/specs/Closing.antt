@@ -1,24 +1,24 @@
--- What the last words hold.
+-- The marks and images that the words of a closed table hold.
 use Rattle.std.specs.Prelude.{◌≡◌, ◌+◌, ◌%◌, ◌<◌, ◌≤◌, ℕ, ℤ, pos, List, [], length, replicate, slice_index, slice_index_or}
 use Rattle.bank_words.specs.Numbers.{decode}
 use Rattle.fail_stop.specs.Events.{BankWord, MarkWord}
 use Rattle.fail_stop.specs.Listed.{index_of, stored_in}
 
--- The first `width` words of an image stand from a place on, and past them it has zeros.
+-- The first `width` words of an image are stored from place `at` on, and its other words are zero.
 pub record IsStoredImage (list : List ℕ) (width at : ℕ) (image : List ℤ) : Type 0 where
   pub long : length image ≡ 64
   pub words : (i : ℕ) → i < width → slice_index_or image i (pos 0) ≡ decode (slice_index list (at + i))
   pub past : (i : ℕ) → width ≤ i → slice_index_or image i (pos 0) ≡ pos 0
 
--- The mark of processor p, and the image in the bank that it names.
+-- The mark of processor `p`, and the image in the bank that the mark names.
 pub record AreLast (list : List ℕ) (width p mark : ℕ) (image : List ℤ) : Type 0 where
   pub mark_is : mark ≡ stored_in list (MarkWord p)
   pub image_is : IsStoredImage list width (index_of (BankWord p (mark % 2) 0)) image
 
--- No processor has left this mark and this image: they are zero.
+-- A mark and an image that belong to no processor, which are zero.
 abbrev pub AreNobodys : ℕ → List ℤ → Type 0
 AreNobodys mark image = (mark ≡ 0) × (image ≡ replicate 64 (pos 0))
 
--- No processor from n on has left a mark or an image.
+-- The marks and images from index `n` on belong to no processor.
 abbrev pub AreNobodysFrom : ℕ → List ℕ → List (List ℤ) → Type 0
 AreNobodysFrom n marks images = (p : ℕ) → n ≤ p → p < 8 → AreNobodys (slice_index marks p) (slice_index_or images p [])

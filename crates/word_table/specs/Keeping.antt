@@ -1,4 +1,4 @@
--- What a table keeps of the mission that it is made of.
+-- The facts that a table keeps about its mission.
 use Rattle.std.specs.Prelude.{◌≡◌, ◌≤◌, ℕ, List, length, Option}
 use Rattle.scram_types.specs.Eights.{eight}
 use Rattle.scram_types.specs.Specification.{IsSpec}
@@ -8,12 +8,12 @@ use Rattle.fail_stop.specs.Listed.{places_of_words}
 use Rattle.fault_script.specs.Fits.{Fits}
 use Rattle.fault_script.specs.Times.{restart_of, words}
 
--- The specification of a mission is one, and its script fits it.
+-- The specification of a mission keeps its invariant, and the script fits the specification.
 pub record IsFlown (mission : MissionParts) : Type 0 where
   pub facts : IsSpec mission.spec
   pub fits : Fits mission.spec mission.script
 
--- The table has a place for each word, and the numbers are those of the mission.
+-- The table has a place for each word, and its numbers are those of the mission.
 pub record TableKeeps (mission : MissionParts) (table : TableId) (frames procs width : ℕ) (restarts : List (Option ℕ)) : Type 0 where
   pub places : table.words ≡ places_of_words
   pub slots : table.slots ≡ 0

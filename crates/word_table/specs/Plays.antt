@@ -1,4 +1,4 @@
--- What a step shows, of the step, the seat before, the number found and the seat after.
+-- The effects of steps, as relations between a step, the seat before it, the number found and the seat after it.
 use Rattle.std.specs.Prelude.{◌≡◌, ◌<◌, ℕ, Bool, false, List, [], ◌∷◌, ◌++◌, map, slice_index, None, IfSome, nat_lt}
 use Rattle.std.specs.Bool.{MatchBool}
 use Rattle.atomic_table.specs.Table.{Me, Step}
@@ -11,7 +11,7 @@ use Rattle.word_table.specs.declared.actors.Actor.TheVariants.{Runs, Stopped, Ke
 use Rattle.word_table.specs.declared.actors.View.{View}
 use Rattle.word_table.specs.Actors.{StandsAt, Waits, awaited, begun, halted_actor, mission_flight, next_frame, one_more, tried, with_actors}
 
--- A seat as the table has it: its view, and the slots that it holds, which are none.
+-- A seat in the table: its view, and its slots, which are none.
 abbrev pub Sat : Type 0
 Sat = Me (Unit {0}) View
 
@@ -19,16 +19,17 @@ Sat = Me (Unit {0}) View
 abbrev pub Stepped : Type 0
 Stepped = Step (Unit {0})
 
--- A seat has this view and no slot.
+-- A seat has view `v` and no slot.
 abbrev pub Has : Sat → View → Type 0
 Has me v = (me.0 ≡ v) × (me.1 ≡ [])
 
--- Each of these actors stands where it says.
+-- Each of these actors is at its place.
 abbrev pub AllStand : Places → List Actor → Type 0
 AllStand at [] = Unit {0}
 AllStand at (a ∷ rest) = StandsAt at a × AllStand at rest
 
--- A number is the word at place i in a state that the law of events allows, in which these actors stand where they say.
+-- Number `n` is the word at place `i` in some state that the law of events allows, in which these actors are at their
+-- places.
 pub record IsFound (m : Flight) (actors : List Actor) (i n : ℕ) : Type 0 where
   pub at : Places
   pub list : List ℕ
@@ -36,70 +37,70 @@ pub record IsFound (m : Flight) (actors : List Actor) (i n : ℕ) : Type 0 where
   pub value : n ≡ slice_index list i
   pub stand : AllStand at actors
 
--- What a load shows to a seat.
+-- The number that a load shows to a seat with view `v` is a word found at place `i`.
 abbrev pub ShowsWord : View → ℕ → ℕ → Type 0
 ShowsWord v i n = IfSome v.mission (λ mission. IsFound (mission_flight mission) v.actors i n)
 
--- A view with each of its actors moved.
+-- A view after each of its actors has moved.
 abbrev pub each_actor : (Actor → Actor) → View → View
 each_actor go v = with_actors v (map go v.actors)
 
--- The first actor is a processor that waits for a release, and the word at place i is that.
+-- The first actor is a processor that waits for a release, and the word at place `i` is the release word.
 abbrev pub AwaitsRelease : Flight → ℕ → List Actor → Type 0
 AwaitsRelease m i [] = ⊥
 AwaitsRelease m i (Runs p f n ∷ rest) = (i ≡ index_of ReleaseWord) × Waits m p (At f n)
 AwaitsRelease m i (Stopped p h ∷ rest) = (i ≡ index_of ReleaseWord) × Waits m p (Halted h)
 AwaitsRelease m i (Kernel k j ∷ rest) = ⊥
 
--- The first actor is the kernel, and the word at place i is the end word of the processor that it notes next.
+-- The first actor is the kernel, and the word at place `i` is the end word of the processor that it notes next.
 abbrev pub AwaitsEnd : Flight → ℕ → List Actor → Type 0
 AwaitsEnd m i [] = ⊥
 AwaitsEnd m i (Runs p f n ∷ rest) = ⊥
 AwaitsEnd m i (Stopped p h ∷ rest) = ⊥
 AwaitsEnd m i (Kernel k j ∷ rest) = (k < m.frames) × (j < m.procs) × (i ≡ index_of (EndWord j))
 
--- Whether the first actor may start, by the release.
+-- The first actor may start, by the value of the release word.
 abbrev pub may_start : Flight → List Actor → ℕ → Bool
 may_start m [] release = false
 may_start m (a ∷ rest) release = nat_lt (awaited m a) release
 
--- Whether the first actor, which is the kernel, may note its next processor, by that one's end word.
+-- The first actor is the kernel and may note its next processor, by the value of that processor's end word.
 abbrev pub can_note : Flight → List Actor → ℕ → Bool
 can_note m [] end = false
 can_note m (Runs p f n ∷ rest) end = false
 can_note m (Stopped p h ∷ rest) end = false
 can_note m (Kernel k j ∷ rest) end = may_note m j k end
 
--- The seat moves by `go`, or has tried once more.
+-- The actors move by `go` if they are ready, and otherwise the view counts another try.
 abbrev pub GoesOrTries : Bool → (Actor → Actor) → View → Sat → Type 0
 GoesOrTries ready go v after = MatchBool ready (Has after (each_actor go v)) (Has after (tried v))
 
--- Where its actor waits for the word, the seat moves by `go` or has tried once more; elsewhere it stays.
+-- If the actor waits for the word, the seat moves by `go` or counts another try. Otherwise the seat stays as it is.
 abbrev pub GoesWhereItWaits : Type 0 → Bool → (Actor → Actor) → View → Sat → Type 0
 GoesWhereItWaits waits ready go v after = (waits → GoesOrTries ready go v after) × (¬ waits → Has after v)
 
--- What a load of word i shows that may be a start.
+-- The seat after a load of word `i` that may be a start.
 abbrev pub TellsStart : Flight → ℕ → ℕ → View → Sat → Type 0
 TellsStart m i n v after = GoesWhereItWaits (AwaitsRelease m i v.actors) (may_start m v.actors n) (begun m) v after
 
--- What a load of word i shows that may be a note.
+-- The seat after a load of word `i` that may be a note.
 abbrev pub TellsNote : Flight → ℕ → ℕ → View → Sat → Type 0
 TellsNote m i n v after = GoesWhereItWaits (AwaitsEnd m i v.actors) (can_note m v.actors n) one_more v after
 
--- A load that is no event shows a word, and the seat stays.
+-- A load that is no event shows a word and leaves the seat as it is.
 abbrev pub reads : Stepped → Sat → ℕ → Sat → Type 0
 reads s me n after = Has after me.0 × ShowsWord me.0 s.word n
 
--- A load with which a look is made shows a word too.
+-- A load that is a look shows a word and is a step of the actor.
 abbrev pub looks : Stepped → Sat → ℕ → Sat → Type 0
 looks s me n after = Has after (each_actor one_more me.0) × ShowsWord me.0 s.word n
 
--- A load of the release for which a processor waits makes the start, or is a try; any other load leaves the seat.
+-- A load of the release for which a processor waits is a start or a try. Any other load leaves the seat as it is.
 abbrev pub starts : Stepped → Sat → ℕ → Sat → Type 0
 starts s me n after = IfSome me.0.mission (λ mission. TellsStart (mission_flight mission) s.word n me.0 after)
 
--- A load of the end word for which the kernel waits makes the note, or is a try; any other load leaves the seat. It shows
--- the word.
+-- A load of the end word for which the kernel waits is a note or a try. Any other load leaves the seat as it is. The
+-- load shows the word.
 abbrev pub notes : Stepped → Sat → ℕ → Sat → Type 0
 notes s me n after = IfSome me.0.mission (λ mission. TellsNote (mission_flight mission) s.word n me.0 after) × ShowsWord me.0 s.word n
 
@@ -107,7 +108,7 @@ notes s me n after = IfSome me.0.mission (λ mission. TellsNote (mission_flight 
 abbrev pub stores : Stepped → Sat → ℕ → Sat → Type 0
 stores s me n after = Has after (each_actor one_more me.0)
 
--- A store of the end word of a frame that is done, or of the release, after which its actor stands before the next frame.
+-- A store of the end word of a finished frame, or of the release. After it the actor is at the begin of the next frame.
 abbrev pub finishes_frame : Stepped → Sat → ℕ → Sat → Type 0
 finishes_frame s me n after = Has after (each_actor next_frame me.0)
 
@@ -115,28 +116,28 @@ finishes_frame s me n after = Has after (each_actor next_frame me.0)
 abbrev pub halts : Stepped → Sat → ℕ → Sat → Type 0
 halts s me n after = Has after (each_actor halted_actor me.0)
 
--- The first of some actors.
+-- The first actor of a list, as a list.
 abbrev pub first_of : List Actor → List Actor
 first_of [] = []
 first_of (a ∷ rest) = a ∷ []
 
--- All but the first of some actors.
+-- The actors of a list after the first.
 abbrev pub others_of : List Actor → List Actor
 others_of [] = []
 others_of (a ∷ rest) = rest
 
--- A split leaves all but the first actor.
+-- The view that a split leaves, with all actors but the first.
 abbrev pub other_actors : View → View
 other_actors v = with_actors v (others_of v.actors)
 
--- A split gives the first actor to the new seat.
+-- The view of the new seat of a split, with the first actor.
 abbrev pub first_actor : View → View
 first_actor v = with_actors v (first_of v.actors)
 
--- A join puts the other's actors behind the own ones.
+-- The view after a join, with its own actors followed by those of the other view.
 abbrev pub all_actors : View → View → View
 all_actors v w = with_actors v (v.actors ++ w.actors)
 
--- What is left of the other view.
+-- The view of a seat that a join has used up.
 abbrev pub spent : View
 spent = record { mission = None; tries = 0; actors = [] }

@@ -6,20 +6,20 @@ use Rattle.word_table.specs.declared.actors.Actor.{Actor}
 use Rattle.word_table.specs.declared.actors.Actor.TheVariants.{Runs}
 use Rattle.word_table.specs.Plays.{IsFound}
 
--- The one actor is a processor that has begun frame f.
+-- The only actor is a processor that has begun frame `f`.
 pub record IsReader (m : Flight) (actors : List Actor) (f : ℕ) : Type 0 where
   pub proc : ℕ
   pub before : ℕ
   pub low : proc < m.procs
   pub alone : actors ≡ Runs proc f (suc before) ∷ []
 
--- A number that an image has was found as a word.
+-- A number of an image is the value of a word that was found at place `i`.
 pub record IsWordRead (m : Flight) (actors : List Actor) (i : ℕ) (x : ℤ) : Type 0 where
   pub word : ℕ
   pub found : IsFound m actors i word
   pub value : x ≡ decode word
 
--- The words of an image from word `from` up to word `to` were found from place `at` on, and past them it has zeros.
+-- The words of an image from word `from` up to word `to` were found from place `at` on, and the later ones are zero.
 pub record AreRead (m : Flight) (actors : List Actor) (at from to : ℕ) (image : List ℤ) : Type 0 where
   pub long : length image ≡ 64
   pub read : (i : ℕ) → from ≤ i → i < to → IsWordRead m actors (at + i) (slice_index_or image i (pos 0))

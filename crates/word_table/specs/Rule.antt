@@ -13,39 +13,39 @@ use Rattle.word_table.specs.declared.actors.Actor.TheVariants.{Runs, Kernel}
 use Rattle.word_table.specs.declared.actors.View.{View}
 use Rattle.word_table.specs.Actors.{StandsAt, mission_flight, who}
 
--- The actors of view j stand where they say, and in no other view.
+-- The home of each actor of view `j` is `j`, and each of these actors is at its place.
 abbrev pub Hosts : Places → (Option ℕ → ℕ) → ℕ → List Actor → Type 0
 Hosts at home j [] = Unit {0}
 Hosts at home j (a ∷ rest) = (home (who a) ≡ j) × StandsAt at a × Hosts at home j rest
 
--- An actor is not among these.
+-- An actor is not in a list.
 abbrev pub IsNotIn : Option ℕ → List Actor → Type 0
 IsNotIn o [] = Unit {0}
 IsNotIn o (a ∷ rest) = (who a ≢ o) × IsNotIn o rest
 
--- These actors differ.
+-- The actors of a list are all different.
 abbrev pub AreApart : List Actor → Type 0
 AreApart [] = Unit {0}
 AreApart (a ∷ rest) = IsNotIn (who a) rest × AreApart rest
 
--- An actor is one of these.
+-- An actor is in a list.
 abbrev pub IsAmong : Option ℕ → List Actor → Type 0
 IsAmong o [] = ⊥
 IsAmong o (a ∷ rest) = (who a ≡ o) ⊎ IsAmong o rest
 
--- An actor is one of a flight's: one of its processors, or the kernel.
+-- An actor belongs to a flight: it is one of its processors, or the kernel.
 abbrev pub IsActorOf : Flight → Option ℕ → Type 0
 IsActorOf m (Some p) = p < m.procs
 IsActorOf m None = Unit {0}
 
--- There is a view j, and it has the actor.
+-- View `j` exists and has the actor.
 pub record IsViewOf (views : List View) (o : Option ℕ) (j : ℕ) : Type 0 where
   pub view : View
   pub there : get_elem? views j ≡ some view
   pub among : IsAmong o view.actors
 
--- The rule, by the flight of a mission: the law of events holds of words and places, each actor of the flight has one
--- view, which is its home, and stands where that says, and each view with an actor knows the mission.
+-- The rule, by the flight of a mission. The law of events holds for words and places. Each actor of the flight has
+-- exactly one view, which is its home, and is at its place. Each view with an actor knows the mission.
 pub record Ruled (m : Flight) (mission : MissionParts) (s : State (Unit {0}) View) : Type 0 where
   pub at : Places
   pub home : Option ℕ → ℕ
@@ -60,11 +60,11 @@ pub record Ruled (m : Flight) (mission : MissionParts) (s : State (Unit {0}) Vie
 abbrev pub IsRuled : MissionParts → State (Unit {0}) View → Type 0
 IsRuled mission s = Ruled (mission_flight mission) mission s
 
--- The n processors from p on at their opening places, and the kernel.
+-- The `n` processors from `p` on at their opening places, followed by the kernel.
 abbrev pub opening_actors : ℕ → ℕ → List Actor
 opening_actors p zero = Kernel 0 0 ∷ []
 opening_actors p (suc n) = Runs p 0 0 ∷ opening_actors (suc p) n
 
--- The first view has all actors.
+-- The first view, which has all actors.
 abbrev pub first_view : MissionParts → View
 first_view mission = record { mission = Some mission; tries = 0; actors = opening_actors 0 (length mission.spec.procs) }

@@ -1,4 +1,4 @@
--- Tables, and the seats that are theirs.
+-- Tables and their seats.
 use Rattle.std.specs.Prelude.{◌≡◌, ◌<◌, ℕ, ℤ, Bool, not, ◌&&◌, List, [], length, slice_get, slice_index, slice_index_or, Option, Some, is_none}
 use Rattle.bank_words.specs.declared.events.Event.{Event}
 use Rattle.bank_words.specs.declared.images.KernelImage.{KernelImage}
@@ -16,11 +16,11 @@ use Rattle.word_table.specs.declared.tables.WordTable.{WordTable}
 use Rattle.word_table.specs.Keeping.{IsFlown}
 use Rattle.word_table.specs.Actors.{IsInFlight, actor_at, frame_awaited, mission_flight, place_at, step_at}
 
--- The mission whose words a table has.
+-- The mission of a table.
 abbrev pub mission_in : WordTable → MissionParts
 mission_in words = words.table.shared.key
 
--- Its flight.
+-- The flight of a table's mission.
 abbrev pub flight_in : WordTable → Flight
 flight_in words = mission_flight (mission_in words)
 
@@ -28,27 +28,27 @@ flight_in words = mission_flight (mission_in words)
 abbrev pub proc_of : Seat → ℕ
 proc_of seat = seat.proc.0
 
--- Where a seat's processor stands.
+-- The place of a seat's processor.
 abbrev pub seat_place : Seat → Place
 seat_place seat = place_at seat.frame seat.step seat.halted
 
--- How many loads of a seat found nothing ready.
+-- The number of loads of a seat that found nothing ready.
 abbrev pub tries_of : Seat → ℕ
 tries_of seat = seat.inner.me.0.tries
 
--- The frame in which the kernel stands, and the steps that it has made there.
+-- The kernel's current frame.
 abbrev pub kernel_frame : KSeat → ℕ
 kernel_frame kseat = kseat.frame
 
--- The steps that the kernel has made in its frame.
+-- The number of steps that the kernel has made in its current frame.
 abbrev pub kernel_steps : KSeat → ℕ
 kernel_steps kseat = kseat.step
 
--- How many loads of the kernel's seat found nothing ready.
+-- The number of loads of the kernel's seat that found nothing ready.
 abbrev pub kernel_tries : KSeat → ℕ
 kernel_tries kseat = kseat.inner.me.0.tries
 
--- A seat is one of a table's: of a processor of its mission.
+-- A seat belongs to a table, for a processor of its mission.
 pub record IsSeatOf (words : WordTable) (seat : Seat) : Type 0 where
   pub holds : IsFlown (mission_in words)
   pub table : seat.inner.table_id ≡ words.table.shared.table_id
@@ -56,26 +56,26 @@ pub record IsSeatOf (words : WordTable) (seat : Seat) : Type 0 where
   pub proc : proc_of seat < length (mission_in words).spec.procs
   pub in_flight : IsInFlight (flight_in words) (seat_place seat)
 
--- The kernel's seat is a table's.
+-- The kernel's seat belongs to a table.
 pub record IsKernelSeatOf (words : WordTable) (kseat : KSeat) : Type 0 where
   pub holds : IsFlown (mission_in words)
   pub table : kseat.inner.table_id ≡ words.table.shared.table_id
   pub mission : kseat.inner.me.0.mission ≡ Some (mission_in words)
 
--- These are all seats of a table's processors, in the order of their numbers.
+-- A list has the seats of all processors of a table, in the order of their numbers.
 pub record AreSeatsOf (words : WordTable) (seats : List Seat) : Type 0 where
   pub count : length seats ≡ length (mission_in words).spec.procs
   pub each : (p : ℕ) (seat : Seat) → slice_get seats p ≡ Some seat → IsSeatOf words seat × (proc_of seat ≡ p)
 
--- Each seat stands at the begin of frame 0.
+-- Each seat is at the begin of frame 0.
 abbrev pub AreOpening : List Seat → Type 0
 AreOpening seats = (p : ℕ) (seat : Seat) → slice_get seats p ≡ Some seat → seat_place seat ≡ At 0 0
 
--- Processor p has halted by the end of frame k, and has not lived again by then.
+-- Processor `p` has halted by the end of frame `k`, and is not up again by then.
 abbrev pub has_halted_by : Flight → ℕ → ℕ → Bool
 has_halted_by m p k = not (m.up p k && is_none (m.halt p k))
 
--- The mark of a processor where it stands is that of this number of frames of a mission.
+-- The number of frames that the mark of a processor at a place covers.
 abbrev pub frames_marked : MissionParts → Place → ℕ
 frames_marked mission place = marked (mission_flight mission) place
 
@@ -87,48 +87,48 @@ actor_of seat = actor_at (proc_of seat) (seat_place seat)
 abbrev pub awaited_by : WordTable → Seat → ℕ
 awaited_by words seat = frame_awaited (flight_in words) (proc_of seat) (seat_place seat)
 
--- The next step of a seat's processor in the frame in which it stands; none before the frame is started.
+-- The next step of a seat's processor in its current frame, or none before the frame is started.
 abbrev pub next_step : WordTable → Seat → Option Event
 next_step words seat = step_at (flight_in words) (proc_of seat) (seat_place seat)
 
--- Where a seat's processor stands after its frame: at the next frame, or halted.
+-- The place of a seat's processor after its frame: at the next frame, or halted.
 abbrev pub frame_end : WordTable → Seat → Place
 frame_end words seat = after_frame (frame_of (seat_place seat)) ((flight_in words).halt (proc_of seat) (frame_of (seat_place seat)))
 
--- What the kernel says of frame f of a table's mission.
+-- The kernel image of frame `f` of a table's mission.
 abbrev pub kernel_image_of : WordTable → ℕ → KernelImage
 kernel_image_of words f = kernel_image (mission_in words).spec (mission_in words).script f
 
--- An image is what the kernel says of the frame for whose release a seat's processor waits.
+-- An image is the kernel image of the frame for whose release a seat's processor waits.
 abbrev pub IsAwaitedImage : WordTable → Seat → KernelImage → Type 0
 IsAwaitedImage words seat image = image ≡ kernel_image_of words (awaited_by words seat)
 
--- Where a seat's processor stands once it has started that frame.
+-- The place of a seat's processor after it has started the frame for which it waits.
 abbrev pub started_place : WordTable → Seat → Place
 started_place words seat = At (awaited_by words seat) 1
 
--- What the kernel says of frame f of a table's mission, as words.
+-- The words of the kernel image of frame `f` of a table's mission.
 abbrev pub kernel_words_of : WordTable → ℕ → List ℕ
 kernel_words_of words f = kernel_words (mission_in words).spec (mission_in words).script f
 
--- The words of what processor p drafts in frame f.
+-- The words of the draft of processor `p` in frame `f`.
 abbrev pub drafted_words : WordTable → ℕ → ℕ → List ℕ
 drafted_words words p f = draft_words (mission_in words).spec (mission_in words).script p f
 
--- The mark of processor p after its first n frames.
+-- The mark of processor `p` after the first `n` frames.
 abbrev pub committed_mark : WordTable → ℕ → ℕ → ℕ
 committed_mark words p n = mark_after (mission_in words).spec (mission_in words).script p n
 
--- The image that processor p has committed after the first n frames.
+-- The image that processor `p` has committed after the first `n` frames.
 abbrev pub committed_image : WordTable → ℕ → ℕ → List ℤ
 committed_image words p n = image_after (mission_in words).spec (mission_in words).script p n
 
--- The mark of each seat's processor is that of the frames that it has committed where it stands.
+-- The mark at each seat's index is that of the frames that its processor has committed at its place.
 abbrev pub AreMarksOf : WordTable → List Seat → List ℕ → Type 0
 AreMarksOf words seats marks = (p : ℕ) (seat : Seat) → slice_get seats p ≡ Some seat
     → slice_index marks p ≡ committed_mark words p (frames_marked (mission_in words) (seat_place seat))
 
--- The image of each seat's processor is the one that it has committed where it stands.
+-- The image at each seat's index is the one that its processor has committed at its place.
 abbrev pub AreImagesOf : WordTable → List Seat → List (List ℤ) → Type 0
 AreImagesOf words seats images = (p : ℕ) (seat : Seat) → slice_get seats p ≡ Some seat
     → slice_index_or images p [] ≡ committed_image words p (frames_marked (mission_in words) (seat_place seat))

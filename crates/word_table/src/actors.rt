@@ -1,27 +1,28 @@
-//! What a seat at the table knows, the rule that every step keeps, and what a step shows. No value of these types is
-//! made.
+//! The views of seats at the table, the rule that every step keeps, and the steps. No value of these types is made.
 
 use atomic_table::{Join, Play, Split, TableRule};
 use coverage_check::Mission;
 
-/// An actor where it stands: a processor by its number, its frame and the steps made in it, a processor that has halted
-/// and the frame in which it did, or the kernel by its frame and the steps made in it.
+/// An actor with its place. A running processor has its number, its frame and the number of steps made in it. A halted
+/// processor has its number and the frame in which it halted. The kernel has its frame and the number of steps made in
+/// it.
 pub enum Actor {
     Runs(u64, u64, u64),
     Stopped(u64, u64),
     Kernel(u64, u64),
 }
 
-/// The mission that is flown, how many loads found nothing ready, and the actors that step by the seat. A view that is
+/// The mission that is flown, the number of loads that found nothing ready, and the actors of the seat. A view that is
 /// spent has no mission and no actor.
 pub struct View {
     pub mission: Option<Mission>,
     pub tries: u64,
-    /// A clause reads an array as a list, of any length.
+    /// A clause reads this array as a list of any length.
     pub actors: [Actor; 0],
 }
 
-/// The rule of the table: the law of events on words and places, and each actor has one view and stands where that says.
+/// The rule of the table. The law of events holds for words and places, and each actor has one view and is at its
+/// place.
 pub struct WordRule;
 
 impl TableRule<(), View, Mission> for WordRule {
@@ -41,7 +42,7 @@ impl Play<(), View> for Reads {
     ghost then = { reads };
 }
 
-/// A load with which a look is made.
+/// A load that is a look.
 pub struct Looks;
 
 impl Play<(), View> for Looks {
@@ -50,7 +51,7 @@ impl Play<(), View> for Looks {
     ghost then = { looks };
 }
 
-/// A load with which a frame is started where it is the release for which a processor waits, and shows the frame.
+/// A load that starts a frame if its word is the release for which a processor waits, and the release shows the frame.
 pub struct Starts;
 
 impl Play<(), View> for Starts {
@@ -68,7 +69,7 @@ impl Play<(), View> for Stores {
     ghost then = { stores };
 }
 
-/// A store of the end word of a frame that is done.
+/// A store of the end word of a finished frame.
 pub struct Ends;
 
 impl Play<(), View> for Ends {
@@ -86,7 +87,8 @@ impl Play<(), View> for Halts {
     ghost then = { halts };
 }
 
-/// A load with which a processor is noted where it is the end word for which the kernel waits, and allows the note.
+/// A load that notes a processor if its word is the end word for which the kernel waits, and the end word allows the
+/// note.
 pub struct Notes;
 
 impl Play<(), View> for Notes {
@@ -113,7 +115,7 @@ impl Play<(), View> for Releases {
     ghost then = { finishes_frame };
 }
 
-/// A seat gives up its first actor to a new one, or takes in the actors of another.
+/// A transfer of actors: a seat gives its first actor to a new seat, or takes the actors of another seat.
 pub struct Deals;
 
 impl Split<View> for Deals {

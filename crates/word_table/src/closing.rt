@@ -1,4 +1,4 @@
-//! The end of a table.
+//! Closing a table.
 
 ghost use Rattle.std.specs.Prelude.{◌≡◌, ◌+◌, ◌≤◌, ◌<◌, ◌∷◌, [], length, map, slice_index, slice_index_or, ℕ};
 ghost use Rattle.std.specs.Mem.Slots.{IsFull, slots_items, slots_len};
@@ -17,8 +17,8 @@ use fail_stop::words::{bank_index, mark_index};
 use scram_types::{Image, ProcId};
 use std::alloc::Global;
 
-/// The marks of the processors as they were stored last, and the images that these name. What stands past the last
-/// processor is zero.
+/// The marks of the processors as they were last stored, and the images that the marks name. The entries past the last
+/// processor are zero.
 #[derive(Clone, Copy, Debug)]
 pub struct LastWords {
     pub images: [Image; 8],
@@ -26,8 +26,8 @@ pub struct LastWords {
 }
 
 impl WordTable {
-    /// Ends the table: all its seats are given back, and the marks and the marked images are those of the frames that
-    /// each processor has committed where it stands. Past the last processor both are zero. It does not block.
+    /// Closes the table and takes back all its seats. The marks and the images are those of the frames that each
+    /// processor has committed at its place. The entries past the last processor are zero. It does not block.
     pub fn close(self, kseat: KSeat, seats: Vec<Seat>) -> LastWords
         requires kernel { IsKernelSeatOf self kseat }
         requires seats { AreSeatsOf self seats.items }
@@ -53,7 +53,7 @@ impl WordTable {
         last
     }
 
-    // One seat with all actors.
+    // Returns one seat with all actors.
     fn gather(&self, kseat: KSeat, seats: Vec<Seat>) -> atomic_table::Seat<(), View>
         requires kernel { IsKernelSeatOf self.now kseat }
         requires seats { AreSeatsOf self.now seats.items }
@@ -79,7 +79,7 @@ impl WordTable {
     }
 }
 
-// Returns the marks and the images that they name, as they stand in the words.
+// Returns the marks in the words, and the images that the marks name.
 fn last_words(closed: &Closed<(), Global>, procs: usize, width: usize) -> LastWords
     requires full { IsFull closed.now.words }
     requires places { slots_len closed.now.words ≡ places_of_words }
@@ -99,7 +99,7 @@ fn last_words(closed: &Closed<(), Global>, procs: usize, width: usize) -> LastWo
     LastWords { images, marks }
 }
 
-// Returns the image whose words stand from place `at` on.
+// Returns the image whose words are stored from place `at` on.
 fn stored_image(closed: &Closed<(), Global>, at: usize, width: usize) -> Image
     requires full { IsFull closed.now.words }
     requires places { slots_len closed.now.words ≡ places_of_words }

@@ -12,7 +12,7 @@ use fail_stop::notes::may_note;
 use fail_stop::words::{bank_index, end_index, kernel_index, mark_index};
 use scram_types::{Image, ProcId};
 
-/// What a processor has committed by the end of a frame: whether it has halted, and its mark.
+/// A processor's commitment by the end of a frame: whether the processor has halted, and its mark.
 #[derive(Clone, Copy, Debug)]
 pub struct Marked {
     pub halted: bool,
@@ -20,9 +20,9 @@ pub struct Marked {
 }
 
 impl WordTable {
-    /// Tries to note that a processor is done with the kernel's frame or has halted: `Some` is what it has committed
-    /// by the end of that frame, and then the image is that which the mark names. `None` comes only where the end word
-    /// that this call loads does not allow the note, and then the image stays as it was. It does not block.
+    /// Tries to note that a processor is done with the kernel's frame or has halted. It returns what the processor has
+    /// committed by the end of that frame, and the image becomes the one that the mark names. It returns `None` only if
+    /// the end word that this call loads does not allow the note, and then the image is unchanged. It does not block.
     pub fn gone(&self, kseat: &mut KSeat, p: ProcId, image: &mut Image) -> Option<Marked>
         requires seat { IsKernelSeatOf self.now kseat.old }
         requires frame { kernel_frame kseat.old < (mission_in self.now).script.frames }
@@ -53,7 +53,7 @@ impl WordTable {
         })
     }
 
-    /// Returns whether a processor may be noted in a frame, by its end word.
+    /// Returns whether an end word allows a processor to be noted in a frame.
     pub(crate) fn may_note(&self, p: ProcId, frame: u32, end: u64) -> bool
         requires { p.0 < 8 }
         ensures { result ≡ may_note (flight_in self.now) p.0 frame end }
@@ -61,7 +61,7 @@ impl WordTable {
         may_note(self.restarts[usize::from(p.0)], frame, end)
     }
 
-    /// Stores word `i` of what the kernel says of the next frame. It does not block.
+    /// Stores word `i` of the kernel image of the next frame. It does not block.
     pub fn publish(&self, kseat: &mut KSeat, i: u32, word: u64)
         requires seat { IsKernelSeatOf self.now kseat.old }
         requires i { i < 20 }
@@ -80,7 +80,7 @@ impl WordTable {
         kseat.step += 1;
     }
 
-    /// Releases the next frame, and wakes the processors that sleep on it. It does not block.
+    /// Releases the next frame, and wakes the processors that sleep on the release. It does not block.
     pub fn release(&self, kseat: &mut KSeat)
         requires seat { IsKernelSeatOf self.now kseat.old }
         requires next { kernel_steps kseat.old ≡ length (mission_in self.now).spec.procs + 20 }

@@ -1,7 +1,8 @@
-//! The words that processors and the kernel share while they fly: one table of words, no lock, each word written by one
-//! owner. The rule on words and views is the law of events, so that every load means something: a look shows the image
-//! of the frame, a start what the kernel says of it, and a note what a processor has committed, whatever the others do
-//! meanwhile. A store is lawful only with the word of the one-thread trace, and every step only as its actor's next one.
+//! The words that processors and the kernel share in a flight. There is one table of words and no lock, and each word
+//! has one writer. The rule on words and views is the law of events, so every load has a meaning, whatever the other
+//! actors do meanwhile. A look shows the image of the frame, a start the kernel image of it, and a note what a
+//! processor has committed. A store is lawful only with the word of the one-thread trace, and a step only as the next
+//! step of its actor.
 #![tactic(auto)]
 
 pub mod actors;

@@ -1,4 +1,4 @@
-//! Loads that are no events, and what is read by them.
+//! Loads that are no events, and the images and words that are read with them.
 
 ghost use Rattle.std.specs.Prelude.{◌≡◌, ◌+◌, ◌≤◌, ◌<◌, ℕ, [], Some, length, slice_index};
 ghost use Rattle.frame_model.specs.Storage.{image_bank_after};
@@ -29,8 +29,8 @@ impl WordTable {
         self.table.shared.load::<Reads>(seat, i)
     }
 
-    /// Fills an image with the words from word `from` on, which stand from place `at` on; what stands past the last one
-    /// becomes zero.
+    /// Fills an image with the words from word `from` on. The words are stored from place `at` on, and the words past
+    /// the last one become zero.
     pub(crate) fn read_image(
         &self,
         seat: &mut Seat<(), View>,
@@ -58,7 +58,7 @@ impl WordTable {
         }
     }
 
-    /// Returns the bank of a processor that a reader in a frame takes.
+    /// Returns the bank of a processor that a reader in a frame reads.
     pub(crate) fn bank_picked(&self, seat: &mut Seat<(), View>, frame: u32, q: ProcId) -> usize
         requires table { seat.old.table_id ≡ self.now.table.shared.table_id }
         requires holds { IsFlown (mission_in self.now) }

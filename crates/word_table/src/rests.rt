@@ -1,11 +1,11 @@
-//! Waiting until there may be something to do: a wait spins, and then parks. Nothing is promised: it may end without
-//! a cause.
+//! Waiting until there may be something to do. A wait spins, and then parks. Nothing is promised, and a wait may end
+//! without a cause.
 //!
-//! A wake is a call of the system, so it is made only where somebody sleeps. A sleeper counts itself before it looks at
-//! its word for the last time, and who stores the word looks at the count after the store. All these steps are
-//! sequentially consistent. So either that last look comes after the store, and finds it, or the count was raised before
-//! the store, and whoever stores the word finds it raised and wakes the sleeper; and it parks only while the word is
-//! still the one that it saw.
+//! A wake is a system call, so it is made only if a thread sleeps. A sleeper counts itself before it loads its word for
+//! the last time, and the writer of the word loads the count after the store. All these steps are sequentially
+//! consistent. So either the last load comes after the store and finds it, or the count was raised before the store. In
+//! the second case the writer finds it raised and wakes the sleeper. A sleeper parks only while the word has the value
+//! that it loaded.
 
 ghost use Rattle.std.specs.Prelude.{◌≡◌, ◌<◌};
 ghost use Rattle.fail_stop.specs.Listed.{places_of_words};
@@ -18,7 +18,7 @@ use scram_types::ProcId;
 use std::sync::Wait;
 use std::sync::atomic::{AtomicU64, Ordering};
 
-/// How many threads sleep on words of a table, or are about to: the kernel's, and those of processors.
+/// The number of threads that sleep on words of a table, or are about to: the kernel's, and those of processors.
 #[derive(Drop)]
 pub(crate) struct Sleepers {
     kernel: AtomicU64,
@@ -26,7 +26,7 @@ pub(crate) struct Sleepers {
 }
 
 impl Sleepers {
-    /// Returns the counts of a table on which nobody sleeps.
+    /// Returns the counts of a table on which no thread sleeps.
     pub(crate) fn new() -> Sleepers {
         Sleepers {
             kernel: AtomicU64::new(0),
@@ -36,7 +36,7 @@ impl Sleepers {
 }
 
 impl WordTable {
-    /// Wakes the kernel where it sleeps on the word at place `at`, which has been stored.
+    /// Wakes the kernel if it sleeps on the word at place `at`, which has been stored.
     pub(crate) fn wake_kernel(&self, at: usize)
         requires { at < places_of_words }
     {
@@ -52,7 +52,7 @@ impl WordTable {
         }
     }
 
-    /// Spins and then parks while the release does not show the frame for which the seat waits. It may end without a
+    /// Spins and then parks while the release does not show the frame for which the seat waits. It may return without a
     /// cause.
     pub fn rest<R: Wait>(&self, rt: &R, seat: &Seat)
         requires { IsSeatOf self.now seat.now }
@@ -73,7 +73,7 @@ impl WordTable {
         self.sleepers.processors.fetch_sub(1, Ordering::SeqCst);
     }
 
-    /// Spins and then parks while the processor whose note is next may not be noted. It may end without a cause.
+    /// Spins and then parks while the next processor of the kernel may not be noted. It may return without a cause.
     pub fn rest_kernel<R: Wait>(&self, rt: &R, kseat: &KSeat) {
         if kseat.step >= self.procs {
             return;

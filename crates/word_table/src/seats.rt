@@ -1,4 +1,4 @@
-//! Seats: by a seat one actor steps on the words, and it knows where that stands.
+//! Seats. By a seat one actor steps on the words, and the seat knows the actor's place.
 
 ghost use Rattle.std.specs.Prelude.{◌≡◌, [], ◌∷◌, true};
 ghost use Rattle.word_table.specs.Actors.{actor_at, place_at};
@@ -43,14 +43,14 @@ impl Seat {
         self.proc
     }
 
-    /// Returns the frame in which the processor stands; where it has halted, that in which it halted.
+    /// Returns the current frame of the processor, or the frame in which it halted if it has halted.
     pub fn frame(&self) -> u32
         ensures { result ≡ frame_of (seat_place self.now) }
     {
         self.frame
     }
 
-    /// Returns how many steps the processor has made in its frame; 0 where it has halted.
+    /// Returns the number of steps that the processor has made in its frame, or 0 if the processor has halted.
     pub fn steps(&self) -> u32
         ensures { result ≡ steps_of (seat_place self.now) }
     {
@@ -68,14 +68,14 @@ impl Seat {
 impl KSeat {
     ghost use Rattle.word_table.specs.Tables.{kernel_frame, kernel_steps};
 
-    /// Returns the frame in which the kernel stands.
+    /// Returns the current frame of the kernel.
     pub fn frame(&self) -> u32
         ensures { result ≡ kernel_frame self.now }
     {
         self.frame
     }
 
-    /// Returns how many steps the kernel has made in its frame.
+    /// Returns the number of steps that the kernel has made in its frame.
     pub fn steps(&self) -> u32
         ensures { result ≡ kernel_steps self.now }
     {

@@ -17,9 +17,9 @@ use fail_stop::words::{bank_index, end_index, mark_index};
 use scram_types::{Image, ProcId};
 
 impl WordTable {
-    /// Tries to start the frame for which the seat waits: `Some` is what the kernel says of that frame. A processor
-    /// that has halted starts the frame of its restart. `None` comes only where the release that this call loads does
-    /// not show the frame. It does not block.
+    /// Tries to start the frame for which the seat waits, and returns the kernel image of that frame. A processor that
+    /// has halted starts the frame of its restart. It returns `None` only if the release that this call loads does not
+    /// show the frame. It does not block.
     pub fn started(&self, seat: &mut Seat) -> Option<KernelImage>
         requires seat { IsSeatOf self.now seat.old }
         requires waits { Waits (flight_in self.now) (proc_of seat.old) (seat_place seat.old) }
@@ -55,7 +55,7 @@ impl WordTable {
         }
     }
 
-    /// Fills an image with that of a processor as the frame of the seat begins. It does not block.
+    /// Fills `image` with the image of a processor as of the begin of the seat's frame. It does not block.
     pub fn look(&self, seat: &mut Seat, q: ProcId, image: &mut Image)
         requires seat { IsSeatOf self.now seat.old }
         requires q { q.0 < length (mission_in self.now).spec.procs }
@@ -89,7 +89,7 @@ impl WordTable {
         seat.step += 1;
     }
 
-    /// Commits the frame of the seat: the mark names it, and the bank in which its draft was stored. It does not
+    /// Commits the frame of the seat by storing the mark, which names the frame and the bank of its draft. It does not
     /// block.
     pub fn flip(&self, seat: &mut Seat)
         requires seat { IsSeatOf self.now seat.old }
@@ -106,7 +106,7 @@ impl WordTable {
         seat.step += 1;
     }
 
-    /// Ends the frame of the seat, and wakes the kernel if it sleeps on that. It does not block.
+    /// Ends the frame of the seat, and wakes the kernel if it sleeps on the end word. It does not block.
     pub fn done(&self, seat: &mut Seat)
         requires seat { IsSeatOf self.now seat.old }
         requires next { next_step self.now seat.old ≡ Some (Done (proc_id (proc_of seat.old))) }
@@ -123,7 +123,7 @@ impl WordTable {
         self.wake_kernel(at);
     }
 
-    /// Halts the seat's processor in its frame, and wakes the kernel if it sleeps on that. It does not block.
+    /// Halts the seat's processor in its frame, and wakes the kernel if it sleeps on the end word. It does not block.
     pub fn halt(&self, seat: &mut Seat)
         requires seat { IsSeatOf self.now seat.old }
         requires next { next_step self.now seat.old ≡ Some (Halt (proc_id (proc_of seat.old))) }

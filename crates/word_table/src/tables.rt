@@ -8,7 +8,8 @@ use atomic_table::Table;
 use coverage_check::Mission;
 use std::alloc::Global;
 
-/// The words of a mission, with the numbers of it that its steps go by. It has no lifetime, so threads can share it.
+/// The words of a mission, with the numbers of the mission that its steps use. It has no lifetime, so threads can share
+/// it.
 #[derive(Drop)]
 pub struct WordTable {
     pub(crate) table: Table<(), View, Mission, WordRule, Global>,
@@ -24,7 +25,7 @@ pub struct WordTable {
 impl WordTable {
     ghost use Rattle.std.specs.Prelude.{◌≡◌};
 
-    /// Sets how many times a wait spins before it parks; 0 unless it is set.
+    /// Sets how many times a wait spins before it parks. The default is 0.
     pub fn set_spins(&mut self, spins: u32)
         ensures { self.new.table ≡ self.old.table }
     {

@@ -1,4 +1,4 @@
-//! The words of a mission, with the mission beside them.
+//! The words of a mission, together with the mission.
 
 ghost use Rattle.std.specs.Prelude.{◌≡◌};
 
@@ -12,8 +12,8 @@ use scram_types::{Image, NoMemory, ProcId};
 use std::alloc::Global;
 use std::sync::Wait;
 
-/// The shared atomic words of a mission, with the mission. Threads share the table of words in it; the calls here
-/// forward to the table.
+/// The shared atomic words of a mission, with the mission. Threads share the table of words in it. The methods forward
+/// to the table.
 #[derive(Drop)]
 pub struct Words<'a> {
     pub mission: &'a Mission,
@@ -33,7 +33,7 @@ impl<'a> Words<'a> {
     ghost use Rattle.word_table.specs.declared.seats.Seat as seat_types;
 
     /// Returns the words of a mission before its first frame, the kernel's seat, and the seats of the processors in
-    /// order, each where its actor opens. The only error is out of memory.
+    /// order. Each actor is at its opening place. The only error is out of memory.
     pub fn open(
         alloc: Global,
         mission: &'a Mission,
@@ -48,16 +48,16 @@ impl<'a> Words<'a> {
         Ok((Words { mission, table }, kseat, seats))
     }
 
-    /// Returns the mission whose words these are.
+    /// Returns the mission of these words.
     pub fn mission(&self) -> &Mission
         ensures { result.now ≡ mission_in self.now.table }
     {
         self.mission
     }
 
-    /// Tries to start the frame for which the seat waits: `Some` is what the kernel says of that frame. A processor
-    /// that has halted starts the frame of its restart. `None` comes only where the release that this call loads does
-    /// not show the frame. It does not block.
+    /// Tries to start the frame for which the seat waits, and returns the kernel image of that frame. A processor that
+    /// has halted starts the frame of its restart. It returns `None` only if the release that this call loads does not
+    /// show the frame. It does not block.
     pub fn started(&self, seat: &mut Seat) -> Option<KernelImage>
         requires seat { IsSeatOf self.now.table seat.old }
         requires waits { Waits (flight_in self.now.table) (proc_of seat.old) (seat_place seat.old) }
@@ -70,7 +70,7 @@ impl<'a> Words<'a> {
         self.table.started(seat)
     }
 
-    /// Fills an image with that of a processor as the frame of the seat begins. It does not block.
+    /// Fills `image` with the image of a processor as of the begin of the seat's frame. It does not block.
     pub fn look(&self, seat: &mut Seat, q: ProcId, image: &mut Image)
         requires seat { IsSeatOf self.now.table seat.old }
         requires q { q.0 < length (mission_in self.now.table).spec.procs }
@@ -97,7 +97,7 @@ impl<'a> Words<'a> {
         self.table.store(seat, i, word);
     }
 
-    /// Commits the frame of the seat: the mark names it, and the bank in which its draft was stored. It does not
+    /// Commits the frame of the seat by storing the mark, which names the frame and the bank of its draft. It does not
     /// block.
     pub fn flip(&self, seat: &mut Seat)
         requires seat { IsSeatOf self.now.table seat.old }
@@ -110,7 +110,7 @@ impl<'a> Words<'a> {
         self.table.flip(seat);
     }
 
-    /// Ends the frame of the seat, and wakes the kernel if it sleeps on that. It does not block.
+    /// Ends the frame of the seat, and wakes the kernel if it sleeps on the end word. It does not block.
     pub fn done(&self, seat: &mut Seat)
         requires seat { IsSeatOf self.now.table seat.old }
         requires next { next_step self.now.table seat.old ≡ Some (Done (proc_id (proc_of seat.old))) }
@@ -122,7 +122,7 @@ impl<'a> Words<'a> {
         self.table.done(seat);
     }
 
-    /// Halts the seat's processor in its frame, and wakes the kernel if it sleeps on that. It does not block.
+    /// Halts the seat's processor in its frame, and wakes the kernel if it sleeps on the end word. It does not block.
     pub fn halt(&self, seat: &mut Seat)
         requires seat { IsSeatOf self.now.table seat.old }
         requires next { next_step self.now.table seat.old ≡ Some (Halt (proc_id (proc_of seat.old))) }
@@ -134,9 +134,9 @@ impl<'a> Words<'a> {
         self.table.halt(seat);
     }
 
-    /// Tries to note that a processor is done with the kernel's frame or has halted: `Some` is what it has committed
-    /// by the end of that frame, and then the image is that which the mark names. `None` comes only where the end word
-    /// that this call loads does not allow the note, and then the image stays as it was. It does not block.
+    /// Tries to note that a processor is done with the kernel's frame or has halted. It returns what the processor has
+    /// committed by the end of that frame, and the image becomes the one that the mark names. It returns `None` only if
+    /// the end word that this call loads does not allow the note, and then the image is unchanged. It does not block.
     pub fn gone(&self, kseat: &mut KSeat, p: ProcId, image: &mut Image) -> Option<Marked>
         requires seat { IsKernelSeatOf self.now.table kseat.old }
         requires frame { kernel_frame kseat.old < (mission_in self.now.table).script.frames }
@@ -153,7 +153,7 @@ impl<'a> Words<'a> {
         self.table.gone(kseat, p, image)
     }
 
-    /// Stores word `i` of what the kernel says of the next frame. It does not block.
+    /// Stores word `i` of the kernel image of the next frame. It does not block.
     pub fn publish(&self, kseat: &mut KSeat, i: u32, word: u64)
         requires seat { IsKernelSeatOf self.now.table kseat.old }
         requires i { i < 20 }
@@ -168,7 +168,7 @@ impl<'a> Words<'a> {
         self.table.publish(kseat, i, word);
     }
 
-    /// Releases the next frame, and wakes the processors that sleep on it. It does not block.
+    /// Releases the next frame, and wakes the processors that sleep on the release. It does not block.
     pub fn release(&self, kseat: &mut KSeat)
         requires seat { IsKernelSeatOf self.now.table kseat.old }
         requires next { kernel_steps kseat.old ≡ length (mission_in self.now.table).spec.procs + 20 }
@@ -181,7 +181,7 @@ impl<'a> Words<'a> {
         self.table.release(kseat);
     }
 
-    /// Spins and then parks while the release does not show the frame for which the seat waits. It may end without a
+    /// Spins and then parks while the release does not show the frame for which the seat waits. It may return without a
     /// cause.
     pub fn rest<R: Wait>(&self, rt: &R, seat: &Seat)
         requires { IsSeatOf self.now.table seat.now }
@@ -189,13 +189,13 @@ impl<'a> Words<'a> {
         self.table.rest(rt, seat);
     }
 
-    /// Spins and then parks while the processor whose note is next may not be noted. It may end without a cause.
+    /// Spins and then parks while the next processor of the kernel may not be noted. It may return without a cause.
     pub fn rest_kernel<R: Wait>(&self, rt: &R, kseat: &KSeat) {
         self.table.rest_kernel(rt, kseat);
     }
 
-    /// Ends the table: all its seats are given back, and the marks and the marked images are those of the frames that
-    /// each processor has committed where it stands. Past the last processor both are zero. It does not block.
+    /// Closes the table and takes back all its seats. The marks and the images are those of the frames that each
+    /// processor has committed at its place. The entries past the last processor are zero. It does not block.
     pub fn close(self, kseat: KSeat, seats: Vec<Seat>) -> LastWords
         requires kernel { IsKernelSeatOf self.table kseat }
         requires seats { AreSeatsOf self.table seats.items }
