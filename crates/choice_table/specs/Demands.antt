@@ -19,16 +19,16 @@ all_down set v = bit_and set v.up == 0
 
 -- A demand applies to an environment: each factor has the value that the demand requires, each processor of `up` is up
 -- and each of `down` is down.
-abbrev pub speaks_of : Demand → Env → Bool
-speaks_of demand v = list_all (has_wanted v) demand.wants && all_up demand.up v && all_down demand.down v
+abbrev pub applies_in : Demand → Env → Bool
+applies_in demand v = list_all (has_wanted v) demand.wants && all_up demand.up v && all_down demand.down v
 
 -- A set of configurations holds `c`, or it is empty, which means all of them.
 abbrev pub is_empty_or_holds : ℕ → ConfId → Bool
 is_empty_or_holds set c = set == 0 || has_bit set c.0
 
 -- A demand applies to a choice from `c`.
-abbrev pub asks_of : Demand → ConfId → Bool
-asks_of demand c = is_empty_or_holds demand.from c
+abbrev pub applies_from : Demand → ConfId → Bool
+applies_from demand c = is_empty_or_holds demand.from c
 
 -- The list of modes is empty, or it holds the mode.
 abbrev pub modes_allow : List Mode → Mode → Bool
@@ -50,12 +50,12 @@ is_met spec demand c = is_empty_or_holds demand.to c && all_below (is_met_by spe
 
 -- Configuration `c` meets a demand, or the demand does not apply to the environment and to a choice from `c`.
 abbrev pub meets : Parts → ConfId → Env → Demand → Bool
-meets spec c v demand = not (speaks_of demand v && asks_of demand c) || is_met spec demand c
+meets spec c v demand = not (applies_in demand v && applies_from demand c) || is_met spec demand c
 
 -- Configuration `c` meets each demand that applies to an environment and to a choice from `c`.
 abbrev pub meets_all : Parts → ConfId → Env → Bool
 meets_all spec c v = list_all (meets spec c v) spec.demands
 
 -- Some demand applies to an environment.
-abbrev pub is_spoken_of : Parts → Env → Bool
-is_spoken_of spec v = list_any (λ (demand : Demand). speaks_of demand v) spec.demands
+abbrev pub has_demand_in : Parts → Env → Bool
+has_demand_in spec v = list_any (λ (demand : Demand). applies_in demand v) spec.demands

@@ -2,7 +2,7 @@
 
 ghost use Rattle.std.specs.Prelude.{◌≡◌};
 ghost use Rattle.scram_types.specs.Searches.{all_below};
-ghost use Rattle.choice_table.specs.Demands.{all_down, asks_of, is_empty_or_holds, is_met, is_met_by, is_placed, is_spoken_of, meets, meets_all, modes_allow, speaks_of};
+ghost use Rattle.choice_table.specs.Demands.{all_down, applies_from, applies_in, has_demand_in, is_empty_or_holds, is_met, is_met_by, is_placed, meets, meets_all, modes_allow};
 
 use crate::choices::{are_up, have_wanted};
 use scram_types::bits::{has_bit, is_in};
@@ -10,15 +10,15 @@ use scram_types::{AppId, ConfId, Demand, Env, Mode, Modes, Place, Spec};
 
 /// Returns whether a demand applies to an environment. It does if each factor has the value that the demand requires,
 /// each processor of `up` is up and each of `down` is down.
-pub fn speaks_of(demand: &Demand, env: &Env) -> bool
-    ensures { result ≡ speaks_of demand.now env.now }
+pub fn applies_in(demand: &Demand, env: &Env) -> bool
+    ensures { result ≡ applies_in demand.now env.now }
 {
     have_wanted(demand.wants.items(), env) && are_up(demand.up, env) && are_down(demand.down, env)
 }
 
 /// Returns whether a demand applies to a choice from configuration `c`.
-pub fn asks_of(demand: &Demand, c: ConfId) -> bool
-    ensures { result ≡ asks_of demand.now c }
+pub fn applies_from(demand: &Demand, c: ConfId) -> bool
+    ensures { result ≡ applies_from demand.now c }
 {
     is_empty_or_holds(demand.from, c)
 }
@@ -79,17 +79,17 @@ pub fn meets_all(spec: &Spec, c: ConfId, env: &Env) -> bool
 fn meets(spec: &Spec, c: ConfId, env: &Env, demand: &Demand) -> bool
     ensures { result ≡ meets spec.now c env.now demand.now }
 {
-    !(speaks_of(demand, env) && asks_of(demand, c)) || is_met(spec, demand, c)
+    !(applies_in(demand, env) && applies_from(demand, c)) || is_met(spec, demand, c)
 }
 
 /// Returns whether some demand applies to an environment.
-pub fn is_spoken_of(spec: &Spec, env: &Env) -> bool
-    ensures { result ≡ is_spoken_of spec.now env.now }
+pub fn has_demand_in(spec: &Spec, env: &Env) -> bool
+    ensures { result ≡ has_demand_in spec.now env.now }
 {
     spec.demands
         .items()
         .iter()
-        .any(|demand| speaks_of(demand, env))
+        .any(|demand| applies_in(demand, env))
 }
 
 // Returns whether each processor of a set is down.

@@ -9,6 +9,6 @@ pub mod laws;
 pub mod numbering;
 
 pub use choices::{choose, has_rule, runnable};
-pub use demands::{asks_of, is_met, is_spoken_of, meets_all, speaks_of};
+pub use demands::{applies_from, applies_in, has_demand_in, is_met, meets_all};
 pub use environments::in_scope;
 pub use numbering::{Numbered, env_of, next_in_scope, number_of, states};

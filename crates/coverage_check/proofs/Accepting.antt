@@ -21,7 +21,7 @@ use Rattle.scram_types.proofs.Options.{none_both, none_left, none_right, some_no
 use Rattle.scram_types.proofs.Equality.{same_conf}
 use Rattle.choice_table.specs.Environments.{IsEnv, in_scope}
 use Rattle.choice_table.specs.Choices.{IsTarget, choose, has_rule, has_source, is_runnable}
-use Rattle.choice_table.specs.Demands.{asks_of, is_met, speaks_of}
+use Rattle.choice_table.specs.Demands.{applies_from, applies_in, is_met}
 use Rattle.choice_table.specs.Numbering.{states}
 use Rattle.cube_cover.specs.Demands.{misses}
 use Rattle.cube_cover.proofs.Targets.{choose_inside}
@@ -91,13 +91,13 @@ module _ (spec : Parts) (made : IsSpec spec) where
       (map_none _ (first_unmet_env spec asked c) (below_none (requirement_refusal_of spec asked) (length spec.confs) c.0 e known)) v belongs scope
 
   demand_met : demand_refusal spec ≡ None → (c : ConfId) (v : Env) → c.0 < length spec.confs → IsEnv spec v → in_scope spec v ≡ true → (k : ℕ) (demand : Demand) → slice_get spec.demands k ≡ Some demand
-      → asks_of demand c ≡ true → speaks_of demand v ≡ true → is_met spec demand (choose spec c v) ≡ true
+      → applies_from demand c ≡ true → applies_in demand v ≡ true → is_met spec demand (choose spec c v) ≡ true
   demand_met e c v known belongs scope k demand there asks speaks =
       let none = below_none (demand_refusal_at spec c.0) (length spec.demands) k (below_none (demand_refusal_in spec) (length spec.confs) c.0 e known)
       (slice_get_within spec.demands k demand there) in
       let here : demand_refusal_of spec c.0 k demand ≡ None = rw there at none in
       let missed = passes_nowhere spec made (misses spec demand c) (map_none _ (first_missed_env spec demand c) here) v belongs scope in
-      not-false (is_met spec demand (choose spec c v)) (and_false (asks_of demand c && speaks_of demand v) _ missed (and_true (asks_of demand c) (speaks_of demand v) asks speaks))
+      not-false (is_met spec demand (choose spec c v)) (and_false (applies_from demand c && applies_in demand v) _ missed (and_true (applies_from demand c) (applies_in demand v) asks speaks))
 
   served : (i j : ConfId) (o : Option ℕ) → bound_in spec.bounds i.0 j.0 ≡ o → option_map_or (λ (t : ℕ). nat_le (least spec i j) t) o false ≡ true → IsServed spec i j
   served i j None given test = absurd (cc)
@@ -260,9 +260,9 @@ module _ (spec : Parts) (made : IsSpec spec) where
         none_below (demand_refusal_at spec c) (length spec.demands) (λ k inside.
         at_none (slice_get spec.demands k) (demand_refusal_of spec c k) (λ demand there.
         none_map _ (first_missed_env spec demand (conf_id c)) (sym (first_is_least spec made (misses spec demand (conf_id c)) None (λ v belongs scope.
-        both_false (asks_of demand (conf_id c) && speaks_of demand v) _ (λ both.
+        both_false (applies_from demand (conf_id c) && applies_in demand v) _ (λ both.
         not_from_true (is_met spec demand (choose spec (conf_id c) v)) (accepts.demanded (conf_id c) v known belongs scope k demand there
-        (and_left (asks_of demand (conf_id c)) _ both) (and_right (asks_of demand (conf_id c)) _ both)))))))))
+        (and_left (applies_from demand (conf_id c)) _ both) (and_right (applies_from demand (conf_id c)) _ both)))))))))
 
     pub unrefused : first_refusal spec ≡ None
     unrefused = none_both (form_refusal spec) _

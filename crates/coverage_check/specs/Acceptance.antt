@@ -12,7 +12,7 @@ use Rattle.scram_types.specs.Specification.{Each, IsSpec, Parts, bound_in}
 use Rattle.scram_types.specs.Lookups.{place_of, conf_id, app_id, proc_id, opening_env}
 use Rattle.choice_table.specs.Environments.{IsEnv, in_scope}
 use Rattle.choice_table.specs.Choices.{IsTarget, choose, has_rule, has_source, is_runnable}
-use Rattle.choice_table.specs.Demands.{asks_of, is_met, speaks_of}
+use Rattle.choice_table.specs.Demands.{applies_from, applies_in, is_met}
 use Rattle.choice_table.specs.Numbering.{environments, is_number_in_scope, numbered, states}
 use Rattle.cube_cover.specs.Demands.{misses}
 use Rattle.coverage_check.specs.declared.shown.Shown.{Shown}
@@ -81,7 +81,7 @@ pub record Accepts (spec : Parts) : Type 0 where
   pub kept : Each (λ (inv : Invariant). (i : ConfId) → i.0 < length spec.confs → has_source inv.from i ≡ true → IsKept spec inv i) spec.invariants
   pub entered : Each (λ (pre : Precondition). holds_entering spec pre (place_of spec pre.conf pre.app.0) ≡ true) spec.preconditions
   pub demanded : (c : ConfId) (v : Env) → c.0 < length spec.confs → IsEnv spec v → in_scope spec v ≡ true
-      → Each (λ (demand : Demand). asks_of demand c ≡ true → speaks_of demand v ≡ true → is_met spec demand (choose spec c v) ≡ true) spec.demands
+      → Each (λ (demand : Demand). applies_from demand c ≡ true → applies_in demand v ≡ true → is_met spec demand (choose spec c v) ≡ true) spec.demands
 
 -- A specification has no refusal if and only if it is accepted.
 pub record RefusesTheRest (spec : Parts) : Type 0 where

@@ -14,7 +14,7 @@ use Rattle.scram_types.proofs.BitSets.{has_bits}
 use Rattle.scram_types.proofs.Equality.{same_conf}
 use Rattle.scram_types.proofs.Options.{same_some}
 use Rattle.choice_table.specs.Choices.{choose}
-use Rattle.choice_table.specs.Demands.{asks_of, is_met, speaks_of}
+use Rattle.choice_table.specs.Demands.{applies_from, applies_in, is_met}
 use Rattle.cube_cover.specs.declared.cubes.Cube.{Cube}
 use Rattle.cube_cover.specs.declared.regions.Region.{Region}
 use Rattle.cube_cover.specs.Covers.{IsLeastEnv}
@@ -54,13 +54,13 @@ marked_more regions by passes k d v low =
 
 -- all regions of a configuration of which the demand asks something
 pub missed : (spec : Parts) (made : IsSpec spec) (i : ConfId) (demand : Demand) (regions : List Region) (by : Cube) (met : ℕ) → i.0 < length spec.confs
-    → AreAll spec i regions → Agree spec (holds by) (speaks_of demand) → met ≡ bits_below (λ c. is_met spec demand (conf_id c)) 12 → asks_of demand i ≡ true
+    → AreAll spec i regions → Agree spec (holds by) (applies_in demand) → met ≡ bits_below (λ c. is_met spec demand (conf_id c)) 12 → applies_from demand i ≡ true
     → Agree spec (λ v. is_marked regions (is_outside met) v && holds by v) (misses spec demand i)
 missed spec made i demand regions by met known all speaks is asks v scope =
     ap (λ (b : Bool). b && holds by v) (all (is_outside met) v scope ∙ ap not inside)
     ∙ ap (λ (b : Bool). not (is_met spec demand (choose spec i v)) && b) (speaks v scope)
-    ∙ swap_and (not (is_met spec demand (choose spec i v))) (speaks_of demand v)
-    ∙ sym (ap (λ (b : Bool). b && speaks_of demand v && not (is_met spec demand (choose spec i v))) asks)
+    ∙ swap_and (not (is_met spec demand (choose spec i v))) (applies_in demand v)
+    ∙ sym (ap (λ (b : Bool). b && applies_in demand v && not (is_met spec demand (choose spec i v))) asks)
   where
     low : (choose spec i v).0 < 12
     low = let less = choose_inside spec made i v known in let few = made.confs_count.few in omega arith

@@ -6,13 +6,13 @@ use Rattle.scram_types.specs.declared.specification.Demand.{Demand}
 use Rattle.scram_types.specs.Bits.{has_bit}
 use Rattle.scram_types.specs.Specification.{Parts}
 use Rattle.choice_table.specs.Choices.{choose}
-use Rattle.choice_table.specs.Demands.{asks_of, is_met, speaks_of}
+use Rattle.choice_table.specs.Demands.{applies_from, applies_in, is_met}
 use Rattle.cube_cover.specs.Covers.{IsLeastEnv}
 
 -- The table misses a demand from configuration `i`. The demand speaks of the environment and asks something of `i`, and
 -- the chosen configuration does not meet it.
 abbrev pub misses : Parts → Demand → ConfId → Env → Bool
-misses spec demand i v = asks_of demand i && speaks_of demand v && not (is_met spec demand (choose spec i v))
+misses spec demand i v = applies_from demand i && applies_in demand v && not (is_met spec demand (choose spec i v))
 
 -- For each demand, the first environment, by number, in which the table misses the demand from configuration `i`.
 pub record AreMisses (spec : Parts) (i : ConfId) (found : List (Option Env)) : Type 0 where

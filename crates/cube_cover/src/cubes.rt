@@ -5,7 +5,7 @@ ghost use Rattle.std.specs.List.{list_all};
 ghost use Rattle.scram_types.specs.Bits.{has_bit};
 ghost use Rattle.scram_types.specs.Specification.{IsSpec};
 ghost use Rattle.choice_table.specs.Choices.{all_up, has_wanted, is_place_up, is_runnable};
-ghost use Rattle.choice_table.specs.Demands.{all_down, speaks_of};
+ghost use Rattle.choice_table.specs.Demands.{all_down, applies_in};
 ghost use Rattle.choice_table.specs.Environments.{IsEnv};
 ghost use Rattle.choice_table.specs.Numbering.{value_count};
 ghost use Rattle.scram_types.specs.Searches.{all_below};
@@ -69,7 +69,7 @@ pub(crate) fn rule_cube(rule: &Choice) -> Cube
 
 // Returns the cube of the environments that a demand speaks of.
 pub(crate) fn demand_cube(demand: &Demand) -> Cube
-    ensures { (v : Env) → HasDigits v → holds result v ≡ speaks_of demand.now v }
+    ensures { (v : Env) → HasDigits v → holds result v ≡ applies_in demand.now v }
 {
     let up = with_up(with_wants(demand.wants.items()), demand.up);
     with_down(up, demand.down)

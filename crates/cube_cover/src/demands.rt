@@ -14,7 +14,7 @@ use crate::covers::{all_cubes, all_regions};
 use crate::cubes::{Cube, both, demand_cube, meet};
 use crate::leasts::{earlier_env, least_env};
 use crate::regions::{Region, regions_of};
-use choice_table::{asks_of, is_met};
+use choice_table::{applies_from, is_met};
 use scram_types::bits::is_in;
 use scram_types::{ConfId, Demand, Env, NoMemory, Spec};
 use std::alloc::Global;
@@ -59,7 +59,7 @@ fn least_miss(spec: &Spec, i: ConfId, demand: &Demand, regions: &[Region]) -> Op
     requires regions { AreAll spec.now i regions.now }
     ensures { IsLeastEnv spec.now (misses spec.now demand.now i) result }
 {
-    if !asks_of(demand, i) {
+    if !applies_from(demand, i) {
         return None;
     }
     least_outside(spec, regions, met_by(spec, demand), demand_cube(demand))

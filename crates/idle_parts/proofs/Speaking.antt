@@ -18,7 +18,7 @@ use Rattle.scram_types.proofs.Items.{all_pass}
 use Rattle.scram_types.proofs.Naturals.{at_most, at_most_test, equal, equal_test, low_or_high}
 use Rattle.scram_types.proofs.Options.{same_some}
 use Rattle.choice_table.specs.Choices.{all_up, has_wanted}
-use Rattle.choice_table.specs.Demands.{all_down, speaks_of}
+use Rattle.choice_table.specs.Demands.{all_down, applies_in}
 use Rattle.choice_table.specs.Environments.{IsEnv, down_count, factor_in, in_scope, is_up_in}
 use Rattle.choice_table.proofs.Members.{sets_by_members}
 use Rattle.cube_cover.proofs.Bits.{has_and, has_none}
@@ -153,7 +153,7 @@ module _ (spec : Parts) (made : IsSpec spec) (demand : Demand) (is : IsDemand sp
         | inr high ↦ no_bit_past spoken.up (length spec.procs) p few_up high
       ])
 
-  module _ (v : Env) (scope : in_scope spec v ≡ true) (speaks : speaks_of demand v ≡ true) where
+  module _ (v : Env) (scope : in_scope spec v ≡ true) (speaks : applies_in demand v ≡ true) where
     all_wanted : list_all (has_wanted v) demand.wants ≡ true
     all_wanted = and_left (list_all (has_wanted v) demand.wants) _ (and_left (list_all (has_wanted v) demand.wants && all_up demand.up v) _ speaks)
 
@@ -168,7 +168,7 @@ module _ (spec : Parts) (made : IsSpec spec) (demand : Demand) (is : IsDemand sp
         equal_test _ want.value (value_at spec demand want.factor.0 (omega (arith, inside, few)) ∙ value_same v demand.wants i want all_wanted there))
 
     -- a demand that applies to an environment applies to this one
-    pub spoken_speaks : speaks_of demand spoken ≡ true
+    pub spoken_speaks : applies_in demand spoken ≡ true
     spoken_speaks =
         and_true (list_all (has_wanted spoken) demand.wants && all_up demand.up spoken) _
         (and_true (list_all (has_wanted spoken) demand.wants) _ wants_there ups) downs
@@ -191,9 +191,9 @@ module _ (spec : Parts) (made : IsSpec spec) (demand : Demand) (is : IsDemand sp
     spoken_in_scope = at_most_test _ spec.halts (let most = at_most (down_count spec v) spec.halts scope in let fewer = fewer_down in omega (arith, most, fewer))
 
   -- a demand applies to some environment in scope if and only if it applies to this one and this one is in scope
-  pub spoken_somewhere : passes_somewhere spec (speaks_of demand) ≡ (in_scope spec spoken && speaks_of demand spoken)
+  pub spoken_somewhere : passes_somewhere spec (applies_in demand) ≡ (in_scope spec spoken && applies_in demand spoken)
   spoken_somewhere = same_test _ _
-      (λ passes. let found = passes_found spec made (speaks_of demand) passes in
+      (λ passes. let found = passes_found spec made (applies_in demand) passes in
       and_true (in_scope spec spoken) _ (spoken_in_scope found.v found.scope found.passes) (spoken_speaks found.v found.scope found.passes))
-      (λ both. passes_in spec made (speaks_of demand) spoken spoken_belongs
+      (λ both. passes_in spec made (applies_in demand) spoken spoken_belongs
       (and_left (in_scope spec spoken) _ both) (and_right (in_scope spec spoken) _ both))

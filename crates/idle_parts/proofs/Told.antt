@@ -7,7 +7,7 @@ use Rattle.scram_types.specs.Searches.{any_below}
 use Rattle.scram_types.proofs.Booleans.{and_left, and_right, and_true, by_bool, true_false}
 use Rattle.scram_types.proofs.Naturals.{differ_test, equal, equal_test}
 use Rattle.scram_types.proofs.Searches.{any_below_found, any_below_is}
-use Rattle.choice_table.specs.Demands.{speaks_of}
+use Rattle.choice_table.specs.Demands.{applies_in}
 use Rattle.coverage_check.proofs.Reaching.{target_test, target_tested}
 use Rattle.cube_cover.specs.Shares.{is_ruled_by}
 use Rattle.idle_parts.specs.Choices.{is_first_from, is_target_of_other}
@@ -67,8 +67,8 @@ confs_are_told spec c made = record {
 
 pub demands_are_told : DemandsAreTold
 demands_are_told spec demand made = record {
-  idle = λ idle v belongs scope. fails_in spec made (speaks_of demand) (not_true (passes_somewhere spec (speaks_of demand)) idle) v belongs scope;
+  idle = λ idle v belongs scope. fails_in spec made (applies_in demand) (not_true (passes_somewhere spec (applies_in demand)) idle) v belongs scope;
   used = λ used.
-      (let found = passes_found spec made (speaks_of demand) (not_false (passes_somewhere spec (speaks_of demand)) used) in
+      (let found = passes_found spec made (applies_in demand) (not_false (passes_somewhere spec (applies_in demand)) used) in
       record { v = found.v; belongs = found.belongs; scope = found.scope; speaks = found.passes });
 }

@@ -6,7 +6,7 @@ use Rattle.scram_types.specs.declared.ids.ConfId.{ConfId}
 use Rattle.scram_types.specs.declared.specification.Choice.{Choice}
 use Rattle.scram_types.specs.declared.specification.Demand.{Demand}
 use Rattle.choice_table.specs.Choices.{IsTarget, rule_fits}
-use Rattle.choice_table.specs.Demands.{speaks_of}
+use Rattle.choice_table.specs.Demands.{applies_in}
 use Rattle.choice_table.specs.Environments.{IsEnv, in_scope}
 use Rattle.idle_parts.specs.Choices.{is_conf_idle, is_rule_idle}
 use Rattle.idle_parts.specs.Wants.{is_demand_idle}
@@ -51,11 +51,11 @@ pub record SpeaksSomewhere (spec : Parts) (demand : Demand) : Type 0 where
   pub v : Env
   pub belongs : IsEnv spec v
   pub scope : in_scope spec v ≡ true
-  pub speaks : speaks_of demand v ≡ true
+  pub speaks : applies_in demand v ≡ true
 
 -- A demand is idle if and only if it applies to no environment in scope.
 pub record DemandIsTold (spec : Parts) (demand : Demand) : Type 0 where
-  pub idle : is_demand_idle spec demand ≡ true → (v : Env) → IsEnv spec v → in_scope spec v ≡ true → speaks_of demand v ≡ false
+  pub idle : is_demand_idle spec demand ≡ true → (v : Env) → IsEnv spec v → in_scope spec v ≡ true → applies_in demand v ≡ false
   pub used : is_demand_idle spec demand ≡ false → SpeaksSomewhere spec demand
 
 -- Each demand is shown as idle if and only if it applies to no environment in scope.

@@ -8,7 +8,7 @@ use Rattle.scram_types.specs.declared.specification.Choice.{Choice}
 use Rattle.scram_types.specs.declared.specification.Demand.{Demand}
 use Rattle.scram_types.specs.declared.specification.Want.{Want}
 use Rattle.app_model.specs.declared.kinds.power_monitor.TheConstants.{KIND as POWER_MONITOR}
-use Rattle.choice_table.specs.Demands.{speaks_of}
+use Rattle.choice_table.specs.Demands.{applies_in}
 use Rattle.idle_parts.specs.declared.wants.TheConstants.{POWER_FACTORS}
 use Rattle.idle_parts.specs.Places.{is_app_placed}
 use Rattle.idle_parts.specs.Somewhere.{passes_somewhere}
@@ -36,4 +36,4 @@ is_factor_idle spec x = not (is_factor_wanted spec x) && not (is_supply_read spe
 
 -- A demand applies to no environment in scope.
 abbrev pub is_demand_idle : Parts → Demand → Bool
-is_demand_idle spec demand = not (passes_somewhere spec (speaks_of demand))
+is_demand_idle spec demand = not (passes_somewhere spec (applies_in demand))

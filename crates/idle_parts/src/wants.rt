@@ -1,7 +1,7 @@
 //! The factors and demands that have no effect.
 
 ghost use Rattle.std.specs.Prelude.{◌≡◌, ◌<◌, ◌≤◌, ◌^◌, ◌&&◌, length, not};
-ghost use Rattle.choice_table.specs.Demands.{speaks_of};
+ghost use Rattle.choice_table.specs.Demands.{applies_in};
 ghost use Rattle.choice_table.specs.Environments.{in_scope};
 ghost use Rattle.scram_types.specs.Bits.{bits_below, has_bit};
 ghost use Rattle.scram_types.specs.Searches.{any_below};
@@ -11,7 +11,7 @@ ghost use Rattle.idle_parts.specs.Wants.{is_demand_idle, is_factor_idle, is_fact
 
 use crate::places::is_app_placed;
 use app_model::kinds::power_monitor;
-use choice_table::{in_scope, speaks_of};
+use choice_table::{applies_in, in_scope};
 use scram_types::bits::has_bit;
 use scram_types::{AppId, Choice, Demand, Env, FactorId, Spec, Want};
 
@@ -87,9 +87,9 @@ pub(crate) fn is_demand_idle(spec: &Spec, demand: &Demand) -> bool
 
 // Returns whether an environment is in scope and a demand applies to it.
 fn speaks_in_scope(spec: &Spec, demand: &Demand, env: &Env) -> bool
-    ensures { result ≡ (in_scope spec.now env.now && speaks_of demand.now env.now) }
+    ensures { result ≡ (in_scope spec.now env.now && applies_in demand.now env.now) }
 {
-    in_scope(spec, env) && speaks_of(demand, env)
+    in_scope(spec, env) && applies_in(demand, env)
 }
 
 // Returns the environment in which each factor has the value that a demand requires, and each processor is up unless

@@ -15,7 +15,7 @@ use Rattle.scram_types.proofs.Booleans.{and_left, and_right, not_true, true_fals
 use Rattle.scram_types.proofs.Items.{all_pass}
 use Rattle.scram_types.proofs.Naturals.{equal_test}
 use Rattle.scram_types.proofs.Searches.{each_all}
-use Rattle.choice_table.specs.Demands.{asks_of, is_met, meets, speaks_of}
+use Rattle.choice_table.specs.Demands.{applies_from, applies_in, is_met, meets}
 use Rattle.choice_table.specs.Environments.{in_scope}
 use Rattle.fault_script.specs.Assumption.{is_same_env}
 use Rattle.fault_script.specs.Environments.{env_at}
@@ -108,7 +108,7 @@ module _ (spec : Parts) (script : ScriptParts) (sound : IsSpec spec) (t : ℕ) (
     in_scope_there = subst (λ v. (is_env spec v && in_scope spec v) ≡ true) (env_is t (omega arith) (omega arith)) (within.scope t (let low = inside in omega arith))
 
     meets_each : Accepts spec → (k : ℕ) (demand : Demand) → slice_get spec.demands k ≡ Some demand → meets spec settled.conf row.env demand ≡ true
-    meets_each accepts k demand there = met_if (speaks_of demand row.env) (asks_of demand settled.conf) (is_met spec demand settled.conf)
+    meets_each accepts k demand there = met_if (applies_in demand row.env) (applies_from demand settled.conf) (is_met spec demand settled.conf)
         (λ asks speaks. subst (λ (c : ConfId). is_met spec demand c ≡ true) settled.stays
         (accepts.demanded settled.conf row.env settled.known (env_of_test spec sound row.env (and_left (is_env spec row.env) _ in_scope_there))
         (and_right (is_env spec row.env) _ in_scope_there) k demand there asks speaks))

@@ -13,7 +13,7 @@ use Rattle.scram_types.specs.Numbers.{word}
 use Rattle.scram_types.specs.Specification.{Each, Parts, bound_in, greatest_bound_in}
 use Rattle.scram_types.specs.Lookups.{env_before, env_in}
 use Rattle.choice_table.specs.Choices.{choose, has_source}
-use Rattle.choice_table.specs.Demands.{is_spoken_of, meets_all}
+use Rattle.choice_table.specs.Demands.{has_demand_in, meets_all}
 use Rattle.app_model.specs.Areas.{Between}
 use Rattle.coverage_check.specs.Timing.{greatest_bound}
 use Rattle.frame_model.specs.Readings.{reports}
@@ -117,7 +117,7 @@ pub record IsCalm (spec : Parts) (rows : List Row) (t : ℕ) (row : Row) : Type 
 -- The running configuration meets each demand that matches the environment and applies to the configuration. If no
 -- configuration runs, no demand matches the environment.
 abbrev pub satisfies : Parts → Env → Option ConfId → Bool
-satisfies spec v None = not (is_spoken_of spec v)
+satisfies spec v None = not (has_demand_in spec v)
 satisfies spec v (Some c) = meets_all spec c v
 
 -- The configuration that runs in a row satisfies the demands.

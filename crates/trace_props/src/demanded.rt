@@ -5,7 +5,7 @@ ghost use Rattle.trace_props.specs.Judging.{breaks_after, held_by, is_lost, is_u
 ghost use Rattle.trace_props.specs.Properties.{is_satisfied, satisfies};
 
 use crate::causes::is_another_env;
-use choice_table::{is_spoken_of, meets_all};
+use choice_table::{has_demand_in, meets_all};
 use coverage_check::greatest_bound;
 use frame_model::running;
 use scram_types::lookups::env_in;
@@ -96,6 +96,6 @@ fn satisfies(spec: &Spec, env: &Env, running: Option<ConfId>) -> bool
 {
     match running {
         Some(conf) => meets_all(spec, conf, env),
-        None => !is_spoken_of(spec, env),
+        None => !has_demand_in(spec, env),
     }
 }
