@@ -32,7 +32,7 @@ use Rattle.coverage_check.specs.Choosing.{first_unmet_env, is_unmet, leaves_star
 use Rattle.coverage_check.specs.Timing.{bound_refusal, bound_refusal_of, can_return, further, greatest_bound, has_short_window, is_bound_asked, is_bounded, is_target, lacks_bound, least, window_refusal}
 use Rattle.coverage_check.specs.Holding.{breaks_entering, breaks_from, holds_entering, holds_from, holds_leaving, holds_on_way, holds_reached, invariant_refusal, invariant_refusal_at, invariant_refusal_of, precondition_refusal, precondition_refusal_at, precondition_refusal_of}
 use Rattle.coverage_check.specs.Demands.{demand_refusal, demand_refusal_at, demand_refusal_in, demand_refusal_of, first_missed_env}
-use Rattle.coverage_check.specs.Acceptance.{Accepts, AcceptsWhereUnrefused, IsKept, IsServed, IsShaped, choice_refusal, first_refusal, form_refusal, range_refusal, time_refusal}
+use Rattle.coverage_check.specs.Acceptance.{Accepts, AcceptsIffUnrefused, IsKept, IsServed, IsShaped, choice_refusal, first_refusal, form_refusal, range_refusal, time_refusal}
 use Rattle.coverage_check.proofs.Showing.{none_shown, not_shown}
 use Rattle.coverage_check.proofs.Reaching.{first_is_least, passes_nowhere, target_test, target_tested}
 
@@ -273,5 +273,5 @@ module _ (spec : Parts) (made : IsSpec spec) where
         (none_both (time_refusal spec) _ (none_both (bound_refusal spec) _ no_bound no_window)
         (none_both (range_refusal spec) _ (none_both (invariant_refusal spec) _ no_invariant no_precondition) no_demand)))
 
-pub accepts_where_unrefused : AcceptsWhereUnrefused
-accepts_where_unrefused spec made = record { accepted = accepted spec made; unrefused = unrefused spec made }
+pub accepts_iff_unrefused : AcceptsIffUnrefused
+accepts_iff_unrefused spec made = record { accepted = accepted spec made; unrefused = unrefused spec made }

@@ -84,13 +84,13 @@ pub record Accepts (spec : Parts) : Type 0 where
       → Each (λ (demand : Demand). applies_from demand c ≡ true → applies_in demand v ≡ true → is_met spec demand (choose spec c v) ≡ true) spec.demands
 
 -- A specification has no refusal if and only if it is accepted.
-pub record RefusesTheRest (spec : Parts) : Type 0 where
+pub record AcceptedIffUnrefused (spec : Parts) : Type 0 where
   pub accepted : first_refusal spec ≡ None → Accepts spec
   pub unrefused : Accepts spec → first_refusal spec ≡ None
 
 -- Each specification is accepted if and only if no refusal is found for it.
-abbrev pub AcceptsWhereUnrefused : Type 0
-AcceptsWhereUnrefused = (spec : Parts) → IsSpec spec → RefusesTheRest spec
+abbrev pub AcceptsIffUnrefused : Type 0
+AcceptsIffUnrefused = (spec : Parts) → IsSpec spec → AcceptedIffUnrefused spec
 
 -- The place in a refusal exists in the specification, and the condition is false there.
 pub data IsBroken (spec : Parts) (shown : Shown) : Type 0 where

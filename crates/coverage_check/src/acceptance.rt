@@ -1,7 +1,7 @@
 //! Acceptance: the conditions A1 to A13, in order.
 
 ghost use Rattle.std.specs.Prelude.{◌≡◌, IfErr, IfOk, None, OnOk};
-ghost use Rattle.coverage_check.specs.Acceptance.{AcceptsWhereUnrefused, ShownIsBroken, choice_refusal, first_refusal, form_refusal, range_refusal, time_refusal};
+ghost use Rattle.coverage_check.specs.Acceptance.{AcceptsIffUnrefused, ShownIsBroken, choice_refusal, first_refusal, form_refusal, range_refusal, time_refusal};
 ghost use Rattle.coverage_check.specs.Answers.{IsRefusal};
 ghost use Rattle.coverage_check.specs.TargetSets.{HasCovers};
 
@@ -144,8 +144,8 @@ fn refuse_ranges(spec: &Spec, covers: &[Cover; 12]) -> Option<Shown>
 }
 
 /// States that no refusal is found for a specification if and only if all conditions hold.
-pub fn accepts_where_unrefused()
-    ensures { AcceptsWhereUnrefused }
+pub fn accepts_iff_unrefused()
+    ensures { AcceptsIffUnrefused }
 {}
 
 /// States that the place in a refusal exists in the specification, and the condition is false there.

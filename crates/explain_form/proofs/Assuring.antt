@@ -10,7 +10,7 @@ use Rattle.fault_script.specs.Fits.{Fits}
 use Rattle.coverage_check.specs.declared.shown.Shown.{Shown}
 use Rattle.coverage_check.specs.Acceptance.{Accepts, first_refusal}
 use Rattle.coverage_check.specs.Missions.{IsMission, mission_of}
-use Rattle.coverage_check.proofs.Accepting.{accepts_where_unrefused}
+use Rattle.coverage_check.proofs.Accepting.{accepts_iff_unrefused}
 use Rattle.coverage_check.proofs.Flights.{is_mission}
 use Rattle.document_explanations.specs.Scripts.{BreaksExplainedScript, long_explained_script}
 use Rattle.document_explanations.specs.Specifications.{BreaksExplainedSpecification, long_explained_specification}
@@ -27,7 +27,7 @@ use Rattle.explain_form.specs.Texts.{accepted_text, explain_answer, outside_answ
 explain_zero : (spec : Parts) (shown : Option Shown) → IsSpec spec → first_refusal spec ≡ shown → (text : List ℕ) → Gives (explain_answer spec shown) ANSWERED text
     → Accepts spec × (text ≡ accepted_text spec)
 explain_zero spec (Some shown) sound is text gives = not_zero 5 _ text gives
-explain_zero spec None sound is text gives = ((accepts_where_unrefused spec sound).accepted is, text_of_gives (accepted_text spec) text gives)
+explain_zero spec None sound is text gives = ((accepts_iff_unrefused spec sound).accepted is, text_of_gives (accepted_text spec) text gives)
 
 outside_zero : (spec : Parts) (script : ScriptParts) (outside : Option Outside) → Accepts spec → Fits spec script → first_outside spec script ≡ outside → (text : List ℕ)
     → Gives (outside_answer spec script outside) ANSWERED text → IsMission (mission_of spec script) × (text ≡ accepted_text spec)
@@ -38,7 +38,7 @@ script_zero : (spec : Parts) (script : ScriptParts) (shown : Option Shown) → I
     → Gives (script_answer spec script shown) ANSWERED text → IsMission (mission_of spec script) × (text ≡ accepted_text spec)
 script_zero spec script (Some shown) sound fits is text gives = not_zero 5 _ text gives
 script_zero spec script None sound fits is text gives =
-    outside_zero spec script (first_outside spec script) ((accepts_where_unrefused spec sound).accepted is) fits refl text gives
+    outside_zero spec script (first_outside spec script) ((accepts_iff_unrefused spec sound).accepted is) fits refl text gives
 
 no_broken_specification : (text bytes : List ℕ) → BreaksExplainedSpecification (ANSWERED, text) bytes → ANSWERED ≢ ANSWERED
 no_broken_specification text bytes breaks =

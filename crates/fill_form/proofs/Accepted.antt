@@ -17,7 +17,7 @@ use Rattle.scram_types.proofs.Equality.{same_conf}
 use Rattle.scram_types.proofs.Naturals.{at_most_test, equal, not_below_test}
 use Rattle.scram_types.proofs.Options.{none_both, none_left, none_right}
 use Rattle.scram_types.proofs.Searches.{below_none, none_below}
-use Rattle.coverage_check.proofs.Accepting.{accepts_where_unrefused}
+use Rattle.coverage_check.proofs.Accepting.{accepts_iff_unrefused}
 use Rattle.coverage_check.proofs.Showing.{none_shown, not_shown}
 use Rattle.coverage_check.specs.Acceptance.{choice_refusal, form_refusal, range_refusal}
 use Rattle.coverage_check.specs.Demands.{demand_refusal}
@@ -168,7 +168,7 @@ filled_is_accepted spec made writable form choice range demand free =
     record {
       sound = sound;
       writable = filled_is_writable spec made writable times;
-      accepted = (accepts_where_unrefused (filled spec) sound).accepted
+      accepted = (accepts_iff_unrefused (filled spec) sound).accepted
           (none_both _ _ (form_kept spec form) (none_both _ _ (choice_kept spec choice)
           (none_both _ _ (none_both _ _ (bounds_serve spec) (window_serves spec)) (none_both _ _ (range_kept spec range) (demand_kept spec demand)))));
     }

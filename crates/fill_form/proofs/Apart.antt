@@ -12,7 +12,7 @@ use Rattle.scram_types.proofs.Booleans.{and_left, and_right, and_true, by_bool, 
 use Rattle.scram_types.proofs.Naturals.{equal, equal_test}
 use Rattle.scram_types.proofs.Options.{same_some}
 use Rattle.reconf_spec.specs.Writable.{lists_pair}
-use Rattle.spec_members.specs.Kept.{NoneAgain}
+use Rattle.spec_members.specs.Kept.{NoDuplicates}
 
 -- a bound is for a pair
 abbrev pub is_for : ℕ → ℕ → Bound → Bool
@@ -97,22 +97,22 @@ turned x y none = by_bool (is_for y.from.0 y.to.0 x) (λ t.
 
 -- the two statements agree
 
-tail_new : (x : Bound) (xs : List Bound) → NoneAgain lists_pair (x ∷ xs) → NoneAgain lists_pair xs
+tail_new : (x : Bound) (xs : List Bound) → NoDuplicates lists_pair (x ∷ xs) → NoDuplicates lists_pair xs
 tail_new x xs new i y there =
     (or_false (is_for y.from.0 y.to.0 x) (gives (take i xs) y.from.0 y.to.0) (sym (gives_cons x (take i xs) y.from.0 y.to.0) ∙ new (suc i) y there)).1
 
-head_new : (x : Bound) (xs : List Bound) → NoneAgain lists_pair (x ∷ xs) → Each (λ (y : Bound). is_for x.from.0 x.to.0 y ≡ false) xs
+head_new : (x : Bound) (xs : List Bound) → NoDuplicates lists_pair (x ∷ xs) → Each (λ (y : Bound). is_for x.from.0 x.to.0 y ≡ false) xs
 head_new x xs new i y there =
     turned y x (or_false (is_for y.from.0 y.to.0 x) (gives (take i xs) y.from.0 y.to.0) (sym (gives_cons x (take i xs) y.from.0 y.to.0) ∙ new (suc i) y there)).0
 
-pub apart_of_new : (xs : List Bound) → NoneAgain lists_pair xs → Apart xs
+pub apart_of_new : (xs : List Bound) → NoDuplicates lists_pair xs → Apart xs
 apart_of_new [] new = tt
 apart_of_new (x ∷ xs) new = (
   none_of xs x.from.0 x.to.0 (all_of_each (λ (y : Bound). is_for x.from.0 x.to.0 y ≡ false) xs (head_new x xs new)),
   apart_of_new xs (tail_new x xs new),
 )
 
-pub new_of_apart : (xs : List Bound) → Apart xs → NoneAgain lists_pair xs
+pub new_of_apart : (xs : List Bound) → Apart xs → NoDuplicates lists_pair xs
 new_of_apart [] apart i y there = absurd (cc)
 new_of_apart (x ∷ xs) apart zero y there = refl
 new_of_apart (x ∷ xs) apart (suc i) y there =

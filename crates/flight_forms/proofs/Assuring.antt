@@ -14,7 +14,7 @@ use Rattle.mission_gen.specs.Specifications.{mission_text}
 use Rattle.coverage_check.specs.declared.shown.Shown.{Shown}
 use Rattle.coverage_check.specs.Acceptance.{Accepts, first_refusal}
 use Rattle.coverage_check.specs.Missions.{IsMission, MissionParts, mission_of}
-use Rattle.coverage_check.proofs.Accepting.{accepts_where_unrefused}
+use Rattle.coverage_check.proofs.Accepting.{accepts_iff_unrefused}
 use Rattle.coverage_check.proofs.Flights.{is_mission}
 use Rattle.trace_props.specs.Missions.{ReconfigurationsAreAssured}
 use Rattle.fail_stop.specs.ScriptFlights.{flight_of}
@@ -45,7 +45,7 @@ mission_zero_by : (spec : Parts) (script : ScriptParts) (A : ℕ → List ℕ �
     → (text : List ℕ) → UnlessRefused (refusal_by spec script shown) A ANSWERED text → IsMission (mission_of spec script) × A ANSWERED text
 mission_zero_by spec script A (Some shown) sound fits is text gives = not_zero 5 _ text gives
 mission_zero_by spec script A None sound fits is text answers =
-    script_zero spec script A (first_outside spec script) ((accepts_where_unrefused spec sound).accepted is) fits refl text answers
+    script_zero spec script A (first_outside spec script) ((accepts_iff_unrefused spec sound).accepted is) fits refl text answers
 
 mission_zero : (spec : Parts) (script : ScriptParts) (A : ℕ → List ℕ → Type 0) → IsSpec spec → Fits spec script
     → (text : List ℕ) → UnlessRefused (mission_refusal spec script) A ANSWERED text → IsMission (mission_of spec script) × A ANSWERED text

@@ -12,7 +12,7 @@ use Rattle.fault_script.specs.Reading.{script_of}
 use Rattle.fault_script.proofs.Fitting.{script_of_fits}
 use Rattle.coverage_check.specs.declared.shown.Shown.{Shown}
 use Rattle.coverage_check.specs.Acceptance.{Accepts, first_refusal}
-use Rattle.coverage_check.proofs.Accepting.{accepts_where_unrefused}
+use Rattle.coverage_check.proofs.Accepting.{accepts_iff_unrefused}
 use Rattle.coverage_check.proofs.Flights.{is_mission}
 use Rattle.frame_model.specs.Flights.{reports_of, rows_of}
 use Rattle.trace_props.specs.Missions.{ReconfigurationsAreAssured}
@@ -98,7 +98,7 @@ accepted_zero spec scripts None text told = (refl, told)
 series_assured : ReconfigurationsAreAssured → (spec : Parts) → IsSpec spec → (scripts text : List ℕ) → ScriptsAnswers spec scripts ANSWERED text → AreAssuredFlights spec scripts text
 series_assured law spec sound scripts text answers =
     let told = accepted_zero spec scripts (first_refusal spec) text answers in
-    let accepts = (accepts_where_unrefused spec sound).accepted told.0 in
+    let accepts = (accepts_iff_unrefused spec sound).accepted told.0 in
     let is = told.1.1 in
     record {
       accepts = accepts;

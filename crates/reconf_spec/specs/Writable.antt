@@ -12,7 +12,7 @@ use Rattle.scram_types.specs.Specification.{Parts, Each, bound_in}
 use Rattle.dep_order.specs.Ranks.{IsRanking}
 use Rattle.spec_table.specs.Choices.{wants_factor}
 use Rattle.spec_table.specs.Facts.{IsVariable}
-use Rattle.spec_members.specs.Kept.{IsWritableApp, NoneAgain, rank_of}
+use Rattle.spec_members.specs.Kept.{IsWritableApp, NoDuplicates, rank_of}
 
 -- An earlier entry requires a value of the same factor.
 abbrev pub lists_want : List Want → Want → Bool
@@ -32,8 +32,8 @@ pub record IsWritableInterval (apps : List AppSpec) (app : AppId) (variable : �
 pub record IsWritable (spec : Parts) : Type 0 where
   pub apps : Each IsWritableApp spec.apps
   pub ranks : IsRanking spec.apps (map rank_of spec.apps)
-  pub rules : Each (λ (rule : Choice). NoneAgain lists_want rule.wants) spec.rules
-  pub bounds : NoneAgain lists_pair spec.bounds
+  pub rules : Each (λ (rule : Choice). NoDuplicates lists_want rule.wants) spec.rules
+  pub bounds : NoDuplicates lists_pair spec.bounds
   pub invariants : Each (λ (inv : Invariant). IsWritableInterval spec.apps inv.app inv.variable inv.least inv.greatest) spec.invariants
   pub preconditions : Each (λ (pre : Precondition). IsWritableInterval spec.apps pre.app pre.variable pre.least pre.greatest) spec.preconditions
-  pub demands : Each (λ (demand : Demand). NoneAgain lists_want demand.wants) spec.demands
+  pub demands : Each (λ (demand : Demand). NoDuplicates lists_want demand.wants) spec.demands

@@ -142,7 +142,7 @@ struct Rest {
     demands: List<Demand>,
 }
 
-fn read_behind_names(
+fn read_after_names(
     alloc: Global,
     vocabulary: &Vocabulary,
     members: &Members<'_>,
@@ -209,6 +209,6 @@ pub(crate) fn read_rest(
     ensures value { Answers (rest_in vocabulary (view members.now.document.now)) (λ spec. spec) result }
     ensures writable { IfOk result IsWritable }
 {
-    let rest = read_behind_names(alloc, &vocabulary, members)?;
+    let rest = read_after_names(alloc, &vocabulary, members)?;
     Ok(join(vocabulary, rest))
 }

@@ -15,7 +15,7 @@ use Rattle.reconf_spec.specs.Documents.{spec_of}
 use Rattle.coverage_check.specs.declared.shown.Shown.{Shown}
 use Rattle.coverage_check.specs.Acceptance.{first_refusal}
 use Rattle.coverage_check.specs.Missions.{MissionParts}
-use Rattle.coverage_check.proofs.Accepting.{accepts_where_unrefused}
+use Rattle.coverage_check.proofs.Accepting.{accepts_iff_unrefused}
 use Rattle.form_base.specs.declared.status.TheConstants.{ANSWERED, UNWRITTEN_OUTPUT}
 use Rattle.form_base.specs.Answers.{Answer, AnswersBytes, AnswersDocument, AnswersFile, AnswersLonger, AnswersUnread, Gives, WithoutFiles}
 use Rattle.form_base.specs.Endings.{AreInTurn, AreThere, HasRoom, IsMemoryRefusal, StoppedIn, WentOut}
@@ -127,7 +127,7 @@ mission_answered specification script map mission before after reads status text
     let answered : ScriptAnswers (flight_text Trace) mission.spec mission.script second.between after second.rest status text =
     said_script mission.spec mission.script (ScriptAnswers (flight_text Trace) mission.spec) holds.script second.between after second.rest status text holds.is_script second.answers in
     refused_none mission.spec mission.script (first_refusal mission.spec) (Gives (ANSWERED, flight_text Trace mission)) status text
-    ((accepts_where_unrefused mission.spec holds.sound).unrefused holds.is_mission.accepts)
+    ((accepts_iff_unrefused mission.spec holds.sound).unrefused holds.is_mission.accepts)
     ((leaves_nowhere mission.spec mission.script).nowhere holds.is_mission.within) answered.1
 
 has_room : (specification script : List ℕ) (map : FileMap) (mission : MissionParts) (before : FilesState) (old : SinkState) → HoldsMission map specification script mission

@@ -5,7 +5,7 @@ use Rattle.scram_types.specs.Specification.{IsSpec, Parts}
 use Rattle.coverage_check.specs.declared.shown.Shown.{Shown}
 use Rattle.coverage_check.specs.Acceptance.{Accepts, first_refusal}
 use Rattle.coverage_check.specs.Form.{state_refusal}
-use Rattle.coverage_check.proofs.Accepting.{accepts_where_unrefused}
+use Rattle.coverage_check.proofs.Accepting.{accepts_iff_unrefused}
 use Rattle.form_base.specs.declared.status.TheConstants.{ANSWERED}
 use Rattle.form_base.specs.Answers.{Gives}
 use Rattle.form_base.specs.Assurance.{IsAssuring}
@@ -17,7 +17,7 @@ use Rattle.spec_forms.specs.Lines.{accepted_line}
 check_zero : (spec : Parts) (shown : Option Shown) → IsSpec spec → first_refusal spec ≡ shown → (text : List ℕ) → Gives (check_answer spec shown) ANSWERED text
     → Accepts spec × (text ≡ accepted_line spec)
 check_zero spec (Some shown) sound is text gives = not_zero 5 _ text gives
-check_zero spec None sound is text gives = ((accepts_where_unrefused spec sound).accepted is, text_of_gives (accepted_line spec) text gives)
+check_zero spec None sound is text gives = ((accepts_iff_unrefused spec sound).accepted is, text_of_gives (accepted_line spec) text gives)
 
 pub check_assures : (specification : List ℕ) → IsAssuring (CheckAnswers specification) (AssuresCheck specification)
 check_assures specification before after reads text is = specification_assures specification _ _

@@ -5,7 +5,7 @@ use Rattle.scram_doc.specs.Members.{needed}
 use Rattle.serde_json.specs.Data.{Data}
 use Rattle.spec_members.specs.declared.members.Members.{Members}
 use Rattle.spec_members.specs.declared.members.NamingMembers.{NamingMembers}
-use Rattle.spec_members.specs.declared.members.MembersBehindNames.{MembersBehindNames}
+use Rattle.spec_members.specs.declared.members.MembersAfterNames.{MembersAfterNames}
 use Rattle.spec_members.specs.Versions.{AreDemands, IsPolicy}
 
 -- Each value is that of its member.
@@ -17,7 +17,7 @@ pub record AreNamingMembers (d : Data) (m : NamingMembers) : Type 0 where
   pub factors : needed (codes "factors") [] d ≡ Ok (view m.factors.now)
 
 -- Each value is that of its member.
-pub record AreMembersBehindNames (d : Data) (m : MembersBehindNames) : Type 0 where
+pub record AreMembersAfterNames (d : Data) (m : MembersAfterNames) : Type 0 where
   pub rules : needed (codes "rules") [] d ≡ Ok (view m.rules.now)
   pub bounds : needed (codes "bounds") [] d ≡ Ok (view m.bounds.now)
   pub start : needed (codes "start") [] d ≡ Ok (view m.start.now)

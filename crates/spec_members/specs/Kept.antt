@@ -10,8 +10,8 @@ use Rattle.scram_types.specs.declared.specification.ModeSpec.{ModeSpec}
 use Rattle.dep_order.specs.Timetables.{is_named}
 
 -- No element is among the elements before it.
-abbrev pub NoneAgain : {A : Type 0} → (List A → A → Bool) → List A → Type 0
-NoneAgain {A} stands xs = AllAfter (λ (done : List A) (x : A). stands done x ≡ false) xs
+abbrev pub NoDuplicates : {A : Type 0} → (List A → A → Bool) → List A → Type 0
+NoDuplicates {A} stands xs = AllAfter (λ (done : List A) (x : A). stands done x ≡ false) xs
 
 -- The mode is among the modes before it.
 abbrev pub lists_mode : List ModeSpec → ModeSpec → Bool
@@ -27,8 +27,8 @@ rank_of app = app.rank
 
 -- An application that needs no application twice and lists no mode twice.
 pub record IsWritableApp (app : AppSpec) : Type 0 where
-  pub needs : NoneAgain lists_need app.needs
-  pub modes : NoneAgain lists_mode app.modes
+  pub needs : NoDuplicates lists_need app.needs
+  pub modes : NoDuplicates lists_mode app.modes
 
 -- Applications as they are read, with their needs and ranks.
 pub record AreApps (apps : List AppSpec) : Type 0 where

@@ -38,8 +38,8 @@ abbrev pub naming_members : List (List ℕ)
 naming_members = codes "scram" ∷ codes "processors" ∷ codes "apps" ∷ codes "configurations" ∷ codes "factors" ∷ []
 
 -- The members of version 1 after those that contain names, in the order in which they are checked.
-abbrev pub members_behind_names : List (List ℕ)
-members_behind_names =
+abbrev pub members_after_names : List (List ℕ)
+members_after_names =
     codes "rules" ∷ codes "bounds" ∷ codes "start" ∷ codes "goal" ∷ codes "invariants" ∷ codes "preconditions" ∷ codes "assumption" ∷ []
 
 -- The maximum number of members of a document: those of version 1, with the policy and the demands if its version has

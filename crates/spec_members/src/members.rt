@@ -4,8 +4,8 @@ ghost use Rattle.std.specs.Prelude.{◌≡◌, [], Ok, Some, codes, option_map, 
 ghost use Rattle.serde_json.specs.View.{view};
 ghost use Rattle.scram_doc.specs.Chain.{ok_map};
 ghost use Rattle.scram_doc.specs.Members.{needed, no_more_than};
-ghost use Rattle.spec_members.specs.Found.{AreMembers, AreMembersBehindNames, AreNamingMembers};
-ghost use Rattle.spec_members.specs.Versions.{AreDemands, IsPolicy, demands_tested, each_needed, is_version_in, members_behind_names, members_count, members_tested, naming_members, policy_tested};
+ghost use Rattle.spec_members.specs.Found.{AreMembers, AreMembersAfterNames, AreNamingMembers};
+ghost use Rattle.spec_members.specs.Versions.{AreDemands, IsPolicy, demands_tested, each_needed, is_version_in, members_after_names, members_count, members_tested, naming_members, policy_tested};
 
 use scram_doc::{DocFault, Path, need, no_more, object};
 use serde_json::Value;
@@ -109,7 +109,7 @@ fn find_naming(document: &Value) -> Result<NamingMembers<'_>, DocFault>
 
 /// The members that come after the names in every version.
 #[derive(Clone, Copy)]
-struct MembersBehindNames<'a> {
+struct MembersAfterNames<'a> {
     rules: &'a Value,
     bounds: &'a Value,
     start: &'a Value,
@@ -119,9 +119,9 @@ struct MembersBehindNames<'a> {
     assumption: &'a Value,
 }
 
-fn find_behind_names(document: &Value) -> Result<MembersBehindNames<'_>, DocFault>
-    ensures tested { ok_map (λ _. tt) result ≡ each_needed members_behind_names (view document.now) }
-    ensures members { IfOk result (AreMembersBehindNames (view document.now)) }
+fn find_after_names(document: &Value) -> Result<MembersAfterNames<'_>, DocFault>
+    ensures tested { ok_map (λ _. tt) result ≡ each_needed members_after_names (view document.now) }
+    ensures members { IfOk result (AreMembersAfterNames (view document.now)) }
 {
     let root = Path::root();
     let rules = need(document, "rules", &root)?;
@@ -131,7 +131,7 @@ fn find_behind_names(document: &Value) -> Result<MembersBehindNames<'_>, DocFaul
     let invariants = need(document, "invariants", &root)?;
     let preconditions = need(document, "preconditions", &root)?;
     let assumption = need(document, "assumption", &root)?;
-    Ok(MembersBehindNames {
+    Ok(MembersAfterNames {
         rules,
         bounds,
         start,
@@ -150,7 +150,7 @@ pub fn find_members(document: &Value) -> Result<Members<'_>, DocFault>
 {
     object(document, &Path::root())?;
     let naming = find_naming(document)?;
-    let behind = find_behind_names(document)?;
+    let behind = find_after_names(document)?;
     let policy = find_policy(document, naming.scram)?;
     let demands = find_demands(document, naming.scram)?;
     check_count(document, naming.scram)?;

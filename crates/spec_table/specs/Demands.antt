@@ -19,7 +19,7 @@ use Rattle.scram_doc.specs.Paths.{member_path}
 use Rattle.scram_doc.specs.Values.{list_at}
 use Rattle.spec_members.specs.declared.rule.TheConstants.{MODE_TWICE}
 use Rattle.spec_members.specs.Names.{name_of_demand, read_new_name}
-use Rattle.spec_table.specs.declared.demands.Asked.{Asked}
+use Rattle.spec_table.specs.declared.demands.Requirements.{Requirements}
 use Rattle.spec_table.specs.Choices.{read_want}
 use Rattle.spec_table.specs.Configurations.{given, read_listed_mode, read_new_app}
 use Rattle.spec_table.specs.Sets.{read_apps_set, read_confs_set, read_procs_set}
@@ -55,8 +55,8 @@ on_set on = bits_below (λ a. is_some (given on a)) 8
 
 -- The requirements of a demand on processors, applications and the chosen configuration, read from the members of its
 -- object.
-abbrev pub read_asked : List Proc → List AppSpec → List Conf → List ℕ → Data → Data → Data → Data → Data → Result Asked DocFault
-read_asked procs apps confs at up down to on off =
+abbrev pub read_requirements : List Proc → List AppSpec → List Conf → List ℕ → Data → Data → Data → Data → Data → Result Requirements DocFault
+read_requirements procs apps confs at up down to on off =
     chain (read_procs_set procs 0 (member_path at (codes "up")) up) (λ (up : ℕ).
     chain (read_procs_set procs up (member_path at (codes "down")) down) (λ (down : ℕ).
     chain (read_confs_set confs (member_path at (codes "to")) to) (λ (to : ℕ).
@@ -80,7 +80,7 @@ read_demand procs apps confs factors at done d =
     chain (read_new_name name_of_demand done (member_path at (codes "name")) name) (λ (name : List ℕ).
     chain (read_confs_set confs (member_path at (codes "from")) from) (λ (from : ℕ).
     chain (elements_at (read_want factors) 0 6 (member_path at (codes "when")) wants) (λ (wants : List Want).
-    chain (read_asked procs apps confs at up down to on off) (λ (asked : Asked).
+    chain (read_requirements procs apps confs at up down to on off) (λ (asked : Requirements).
     Ok (record { name = name; from = from; wants = wants; up = asked.up; down = asked.down; to = asked.to; on = asked.on; off = asked.off })))))))))))))))
 
 -- The demands of a document, 0 to 64 of them.

@@ -17,7 +17,7 @@ use Rattle.scram_types.specs.ModeLists.{is_among}
 use Rattle.scram_types.specs.Specification.{IsOn, IsPlace, IsWant, IsBound, IsIn, IsInIfNamed, mode_in, bound_in}
 use Rattle.scram_types.specs.Numbers.{minus}
 use Rattle.app_model.specs.Names.{variable_names, number_in}
-use Rattle.spec_table.specs.declared.demands.Asked.{Asked}
+use Rattle.spec_table.specs.declared.demands.Requirements.{Requirements}
 use Rattle.spec_table.specs.declared.intervals.Ends.{Ends}
 use Rattle.spec_table.specs.declared.intervals.Interval.{Interval}
 use Rattle.scram_doc.specs.Lists.{AllAfter}
@@ -136,7 +136,7 @@ pub record IsOnAfter (apps : List AppSpec) (on more : List (Option (List Mode)))
   pub set : more ≡ set on app (Some modes)
 
 -- Requirements of a demand on an environment's processors and on a configuration, whose references exist.
-pub record FitsAsked (procs : List Proc) (apps : List AppSpec) (confs : List Conf) (asked : Asked) : Type 0 where
+pub record FitsRequirements (procs : List Proc) (apps : List AppSpec) (confs : List Conf) (asked : Requirements) : Type 0 where
   pub up : asked.up < 2 ^ length procs
   pub down : asked.down < 2 ^ length procs
   pub down_apart : IsApart asked.down asked.up
@@ -153,4 +153,4 @@ pub record IsNewDemand (procs : List Proc) (apps : List AppSpec) (confs : List C
   pub from : demand.from < 2 ^ length confs
   pub few : length demand.wants ≤ 6
   pub wants : AllAfter (IsNewWant factors) demand.wants
-  pub asked : FitsAsked procs apps confs (record { up = demand.up; down = demand.down; to = demand.to; on = demand.on; off = demand.off })
+  pub asked : FitsRequirements procs apps confs (record { up = demand.up; down = demand.down; to = demand.to; on = demand.on; off = demand.off })

@@ -8,8 +8,8 @@ ghost use Rattle.scram_doc.specs.Faults.{Answers};
 ghost use Rattle.scram_doc.specs.Lists.{AllAfter, folded_from};
 ghost use Rattle.spec_members.specs.Found.{AreMembers};
 ghost use Rattle.spec_table.specs.Configurations.{given, read_new_app};
-ghost use Rattle.spec_table.specs.Demands.{on_set, read_asked, read_demand, read_demands, read_modes_on, read_on_app, read_on_mode, read_on_modes};
-ghost use Rattle.spec_table.specs.Facts.{AreOn, FitsAsked, HasMoreModes, IsNewDemand, IsNewOn, IsOnAfter};
+ghost use Rattle.spec_table.specs.Demands.{on_set, read_demand, read_demands, read_modes_on, read_on_app, read_on_mode, read_on_modes, read_requirements};
+ghost use Rattle.spec_table.specs.Facts.{AreOn, FitsRequirements, HasMoreModes, IsNewDemand, IsNewOn, IsOnAfter};
 
 use crate::choices::Wants;
 use crate::configurations::read_listed_mode;
@@ -149,7 +149,7 @@ fn on_set(on: &On) -> u8
 
 /// The requirements of a demand on the processors of an environment and on the configuration that is chosen.
 #[derive(Clone, Copy)]
-struct Asked {
+struct Requirements {
     up: u8,
     down: u8,
     to: u16,
@@ -159,7 +159,7 @@ struct Asked {
 
 /// The values of the members of a demand that contain its requirements.
 #[derive(Clone, Copy)]
-struct AskedMembers<'a> {
+struct RequirementMembers<'a> {
     up: &'a Value,
     down: &'a Value,
     to: &'a Value,
@@ -168,15 +168,15 @@ struct AskedMembers<'a> {
 }
 
 /// Reads the requirements of the demand at this path from its members.
-fn read_asked(
+fn read_requirements(
     vocabulary: &Vocabulary,
-    members: &AskedMembers<'_>,
+    members: &RequirementMembers<'_>,
     at: &Path,
-) -> Result<Asked, DocFault>
+) -> Result<Requirements, DocFault>
     requires room { length at.now ≤ 24 }
-    ensures value { result ≡ read_asked vocabulary.now.procs vocabulary.now.apps vocabulary.now.confs at.now (view members.now.up.now)
+    ensures value { result ≡ read_requirements vocabulary.now.procs vocabulary.now.apps vocabulary.now.confs at.now (view members.now.up.now)
         (view members.now.down.now) (view members.now.to.now) (view members.now.on.now) (view members.now.off.now) }
-    ensures fits { IfOk result (FitsAsked vocabulary.now.procs vocabulary.now.apps vocabulary.now.confs) }
+    ensures fits { IfOk result (FitsRequirements vocabulary.now.procs vocabulary.now.apps vocabulary.now.confs) }
 {
     let procs = &vocabulary.procs;
     let up = read_procs_set(procs, 0, members.up, &at.member("up"))?;
@@ -185,7 +185,7 @@ fn read_asked(
     let apps = &vocabulary.apps;
     let on = read_modes_on(apps, members.on, &at.member("on"))?;
     let off = read_apps_set(apps, on_set(&on), members.off, &at.member("off"))?;
-    Ok(Asked {
+    Ok(Requirements {
         up,
         down,
         to,
@@ -232,20 +232,20 @@ impl NamedElements<Demand, ByName> for Demands<'_> {
         let from = read_confs_set(&vocabulary.confs, from, &at.member("from"))?;
         let known = Wants { vocabulary };
         let wants = read_list(alloc, &known, wants, 0, MAX_FACTORS, &at.member("when"))?;
-        let members = AskedMembers {
+        let members = RequirementMembers {
             up,
             down,
             to,
             on,
             off,
         };
-        let Asked {
+        let Requirements {
             up,
             down,
             to,
             on,
             off,
-        } = read_asked(vocabulary, &members, at)?;
+        } = read_requirements(vocabulary, &members, at)?;
         Ok(Demand {
             name,
             from,

@@ -15,16 +15,16 @@ abbrev pub change_text : Parts → List Row → ℕ → List ℕ
 change_text spec rows k = if differ spec (env_before spec rows k) (env_in rows k) then change_line spec rows k else []
 
 -- The first row after the row in which a reconfiguration is decided.
-abbrev pub first_behind : List Row → Report → ℕ
-first_behind rows report = decided_in rows report.begin + 1
+abbrev pub first_row_after_decision : List Row → Report → ℕ
+first_row_after_decision rows report = decided_in rows report.begin + 1
 
 -- The number of rows after the decision, up to the reconfiguration's end or the last row.
-abbrev pub rows_behind : List Row → Report → ℕ
-rows_behind rows report = min (report.end + 1) (length rows) - first_behind rows report
+abbrev pub rows_after_decision : List Row → Report → ℕ
+rows_after_decision rows report = min (report.end + 1) (length rows) - first_row_after_decision rows report
 
 -- The lines of the changes after the decision of a reconfiguration, up to its end.
 abbrev pub changes_text : Parts → List Row → Report → List ℕ
-changes_text spec rows report = texts_below (λ (j : ℕ). change_text spec rows (first_behind rows report + j)) (rows_behind rows report)
+changes_text spec rows report = texts_below (λ (j : ℕ). change_text spec rows (first_row_after_decision rows report + j)) (rows_after_decision rows report)
 
 -- The reconfiguration preceding number n, or nothing if n is 0.
 abbrev pub report_before : List Report → ℕ → Option Report
@@ -49,9 +49,9 @@ abbrev pub totals_text : Parts → List Row → List ℕ
 totals_text spec rows = texts_below (app_text spec rows) (length spec.apps) ++ world_line rows
 
 -- The lines after the line of the flight.
-abbrev pub behind_text : Parts → List Row → List Report → List ℕ
-behind_text spec rows reports = texts_below (reconfiguration_text spec rows reports) (length reports) ++ totals_text spec rows
+abbrev pub text_after_flight_line : Parts → List Row → List Report → List ℕ
+text_after_flight_line spec rows reports = texts_below (reconfiguration_text spec rows reports) (length reports) ++ totals_text spec rows
 
 -- The summary of a flight.
 abbrev pub summary_text : Parts → List Row → List Report → List ℕ
-summary_text spec rows reports = flight_line rows reports ++ behind_text spec rows reports
+summary_text spec rows reports = flight_line rows reports ++ text_after_flight_line spec rows reports

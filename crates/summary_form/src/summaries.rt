@@ -5,7 +5,7 @@ ghost use Rattle.scram_io.specs.Outside.{Prints};
 ghost use Rattle.form_base.specs.Endings.{Ends, IsTaken};
 ghost use Rattle.form_base.specs.Texts.{texts_below};
 ghost use Rattle.trace_files.specs.Looks.{ViewAnswers};
-ghost use Rattle.summary_form.specs.Summary.{app_text, behind_text, change_text, changes_text, first_behind, reconfiguration_text, report_before, report_text, rows_behind, summary_text, totals_text};
+ghost use Rattle.summary_form.specs.Summary.{app_text, change_text, changes_text, first_row_after_decision, reconfiguration_text, report_before, report_text, rows_after_decision, summary_text, text_after_flight_line, totals_text};
 
 use crate::lines::{
     make_app_line, make_change_line, make_flight_line, make_reconfiguration_line, make_world_line,
@@ -46,20 +46,20 @@ fn put_summary<K: Sink>(out: &mut K, spec: &Spec, flown: &Flown) -> Result<(), S
     ensures { Prints result (K.state out.old) (K.state out.new) (summary_text spec.now flown.now.rows flown.now.reports) }
 {
     match out.put(make_flight_line(flown).as_bytes()) {
-        Ok(()) => put_behind(out, spec, flown.rows.items(), flown.reports.items()),
+        Ok(()) => put_after_flight_line(out, spec, flown.rows.items(), flown.reports.items()),
         Err(fault) => Err(fault),
     }
 }
 
 // Writes the lines after the line of the flight.
-fn put_behind<K: Sink>(
+fn put_after_flight_line<K: Sink>(
     out: &mut K,
     spec: &Spec,
     rows: &[Row],
     reports: &[Report],
 ) -> Result<(), SinkFault>
     requires rows { length rows.now < 2 ^ 32 }
-    ensures { Prints result (K.state out.old) (K.state out.new) (behind_text spec.now rows.now reports.now) }
+    ensures { Prints result (K.state out.old) (K.state out.new) (text_after_flight_line spec.now rows.now reports.now) }
 {
     match put_reconfigurations(out, spec, rows, reports) {
         Ok(()) => put_totals(out, spec, rows),
@@ -138,8 +138,8 @@ fn put_changes<K: Sink>(
     requires rows { length rows.now < 2 ^ 32 }
     ensures { Prints result (K.state out.old) (K.state out.new) (changes_text spec.now rows.now report.now) }
 {
-    let first = first_behind(rows, report);
-    for j in 0..rows_behind(rows, report) {
+    let first = first_row_after_decision(rows, report);
+    for j in 0..rows_after_decision(rows, report) {
         match put_change(out, spec, rows, first + j) {
             Ok(()) => {}
             Err(fault) => return Err(fault),
@@ -148,19 +148,19 @@ fn put_changes<K: Sink>(
     Ok(())
 }
 
-fn first_behind(rows: &[Row], report: &Report) -> usize
-    ensures value { result ≡ first_behind rows.now report.now }
+fn first_row_after_decision(rows: &[Row], report: &Report) -> usize
+    ensures value { result ≡ first_row_after_decision rows.now report.now }
     ensures small { result ≤ 2 ^ 32 + 1 }
 {
     decided_in(rows, report.begin) + 1
 }
 
-fn rows_behind(rows: &[Row], report: &Report) -> usize
-    ensures value { result ≡ rows_behind rows.now report.now }
-    ensures within { 0 < result → result + first_behind rows.now report.now ≤ length rows.now }
+fn rows_after_decision(rows: &[Row], report: &Report) -> usize
+    ensures value { result ≡ rows_after_decision rows.now report.now }
+    ensures within { 0 < result → result + first_row_after_decision rows.now report.now ≤ length rows.now }
 {
     let over = (report.end as usize + 1).min(rows.len());
-    over.saturating_sub(first_behind(rows, report))
+    over.saturating_sub(first_row_after_decision(rows, report))
 }
 
 fn put_change<K: Sink>(out: &mut K, spec: &Spec, rows: &[Row], k: usize) -> Result<(), SinkFault>

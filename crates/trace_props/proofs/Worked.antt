@@ -17,7 +17,7 @@ use Rattle.fault_script.specs.Fits.{Fits, IsChange}
 use Rattle.fault_script.proofs.Assuming.{leaves_nowhere}
 use Rattle.fault_script.proofs.SmallSpec.{differ_none, differ_one, differ_two, each_none, each_one, each_two}
 use Rattle.coverage_check.specs.Missions.{IsMission, mission_of}
-use Rattle.coverage_check.proofs.Accepting.{accepts_where_unrefused}
+use Rattle.coverage_check.proofs.Accepting.{accepts_iff_unrefused}
 use Rattle.coverage_check.proofs.Examples.{bound, first_rule, other_rule}
 use Rattle.frame_model.specs.Flights.{reports_of, row_at, rows_of}
 use Rattle.frame_model.specs.Runs.{act_at, running}
@@ -143,7 +143,7 @@ fits = record {
 
 is_mission : IsMission (mission_of spec script)
 is_mission = record {
-  accepts = (accepts_where_unrefused spec sound).accepted refl;
+  accepts = (accepts_iff_unrefused spec sound).accepted refl;
   fits = fits;
   within = (leaves_nowhere spec script).within refl;
 }

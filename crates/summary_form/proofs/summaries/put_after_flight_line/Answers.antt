@@ -2,7 +2,7 @@ use Rattle.std.proofs.Common.{length}
 use Rattle.form_base.specs.Texts.{texts_below}
 use Rattle.scram_io.proofs.Puts.{cut_more, prints_more}
 use Rattle.summary_form.specs.Summary.{reconfiguration_text, totals_text}
-use Rattle.summary_form.proofs.summaries.put_behind.Goals as goal
+use Rattle.summary_form.proofs.summaries.put_after_flight_line.Goals as goal
 
 pub returns-in-Ok : goal.returns-in-Ok
 returns-in-Ok g c =

@@ -3,7 +3,7 @@ use Rattle.std.proofs.Math.Nat.{pow-le-pow_right}
 use Rattle.spec_table.specs.Facts.{AreOn}
 use Rattle.spec_table.specs.Vocabulary.{Names}
 use Rattle.spec_table.proofs.OnSets.{off_apart}
-use Rattle.spec_table.proofs.demands.read_asked.Goals as goal
+use Rattle.spec_table.proofs.demands.read_requirements.Goals as goal
 
 pub returns-clause-fits : goal.returns-clause-fits
 returns-clause-fits c =
