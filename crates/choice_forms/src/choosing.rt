@@ -5,7 +5,7 @@ ghost use Rattle.scram_types.specs.Lookups.{opening_env};
 ghost use Rattle.choice_table.specs.Environments.{IsEnv};
 ghost use Rattle.scram_io.specs.Outside.{Prints};
 ghost use Rattle.form_base.specs.Answers.{Gives};
-ghost use Rattle.form_base.specs.Endings.{Ends, IsTaken, Prepares, Settles};
+ghost use Rattle.form_base.specs.Endings.{Ends, IsTaken, Prepares, PreparesWithoutFiles};
 ghost use Rattle.form_base.specs.Refusals.{told};
 ghost use Rattle.choice_forms.specs.Answers.{ChooseAnswers};
 ghost use Rattle.choice_forms.specs.Choosing.{IsUnknown, choose_answer, chosen_line, env_after, env_after_all, others_up, taken_down, valued, with_value};
@@ -85,7 +85,7 @@ fn read_chosen<F: Files>(
 }
 
 fn chosen_of(alloc: Global, spec: Spec, conf: &str, state: &[StateWord]) -> Result<Chosen, Refusal>
-    ensures { Settles (Gives (choose_answer spec conf.now state.now)) TellsChosen result }
+    ensures { PreparesWithoutFiles (Gives (choose_answer spec conf.now state.now)) TellsChosen result }
 {
     let chosen = find_chosen(alloc, &spec, conf, state);
     drop(spec);
@@ -98,7 +98,7 @@ fn find_chosen(
     conf: &str,
     state: &[StateWord],
 ) -> Result<Chosen, Refusal>
-    ensures { Settles (Gives (choose_answer spec.now conf.now state.now)) TellsChosen result }
+    ensures { PreparesWithoutFiles (Gives (choose_answer spec.now conf.now state.now)) TellsChosen result }
 {
     match spec.conf_named(conf.as_bytes()) {
         Some(c) => match env_after_all(spec, state) {

@@ -7,7 +7,7 @@ ghost use Rattle.cube_cover.specs.Shares.{AreShares, IsShare, is_ruled_by};
 ghost use Rattle.coverage_check.specs.Form.{state_refusal};
 ghost use Rattle.scram_io.specs.Outside.{Prints};
 ghost use Rattle.form_base.specs.Answers.{Gives};
-ghost use Rattle.form_base.specs.Endings.{Ends, IsTaken, Prepares, Settles};
+ghost use Rattle.form_base.specs.Endings.{Ends, IsTaken, Prepares, PreparesWithoutFiles};
 ghost use Rattle.form_base.specs.declared.status.TheConstants.{ANSWERED};
 ghost use Rattle.choice_forms.specs.Answers.{ChoicesAnswers, choices_answer};
 ghost use Rattle.choice_forms.specs.Tables.{HasShares, ShowsShares, TellsChoices, choice_text, choices_text, choices_text_from};
@@ -65,7 +65,7 @@ fn read_table<F: Files>(alloc: Global, specification: &str, files: &mut F) -> Re
 }
 
 fn find_table(alloc: Global, spec: Spec) -> Result<Table, Refusal>
-    ensures settles { Settles (Gives (choices_answer spec (state_refusal spec))) TellsChoices result }
+    ensures prepares { PreparesWithoutFiles (Gives (choices_answer spec (state_refusal spec))) TellsChoices result }
     ensures shares { IfOk result ShowsShares }
 {
     if let Some(shown) = refuse_states(&spec) {

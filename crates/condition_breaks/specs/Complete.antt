@@ -21,34 +21,34 @@ use Rattle.condition_breaks.specs.Breaks.{breaks}
 use Rattle.condition_breaks.specs.Form.{is_need_off}
 
 -- A list contains a place.
-abbrev pub StandsIn : List Break → Break → Type 0
-StandsIn found place = (i : ℕ) × (slice_get found i ≡ Some place)
+abbrev pub Contains : List Break → Break → Type 0
+Contains found place = (i : ℕ) × (slice_get found i ≡ Some place)
 
 -- Wherever a condition does not hold, its place is among those of the condition. One place represents all equal
 -- configurations, all environments and all sources of an invariant.
 pub record HasEach (spec : Parts) : Type 0 where
   pub needs : (c a b : ℕ) → c < length spec.confs → a < length spec.apps → b < length spec.apps → is_need_off spec (conf_id c) a b ≡ true
-      → StandsIn (breaks spec 1) (broken.NeedOff (conf_id c) (app_id a) (app_id b))
-  pub states : has_too_many_states spec ≡ true → StandsIn (breaks spec 2) broken.ManyStates
-  pub empty : (c : ℕ) → c < length spec.confs → is_empty spec (conf_id c) ≡ true → StandsIn (breaks spec 3) (broken.NothingOn (conf_id c))
+      → Contains (breaks spec 1) (broken.NeedOff (conf_id c) (app_id a) (app_id b))
+  pub states : has_too_many_states spec ≡ true → Contains (breaks spec 2) broken.ManyStates
+  pub empty : (c : ℕ) → c < length spec.confs → is_empty spec (conf_id c) ≡ true → Contains (breaks spec 3) (broken.NothingOn (conf_id c))
   pub twins : (c d : ℕ) → c < length spec.confs → d < c → is_empty spec (conf_id c) ≡ false → is_same spec (conf_id c) (conf_id d) ≡ true
-      → (twin : ConfId) × StandsIn (breaks spec 3) (broken.SameAgain (conf_id c) twin)
+      → (twin : ConfId) × Contains (breaks spec 3) (broken.SameAgain (conf_id c) twin)
   pub loads : (c p : ℕ) → c < length spec.confs → p < length spec.procs → is_overloaded spec (conf_id c) p ≡ true
-      → StandsIn (breaks spec 4) (broken.Overloaded (conf_id c) (proc_id p))
+      → Contains (breaks spec 4) (broken.Overloaded (conf_id c) (proc_id p))
   pub unmet : (asked : Requirement) (c n : ℕ) → c < length spec.confs → n < environments spec → is_number_in_scope spec n ≡ true
       → is_unmet spec asked (conf_id c) (numbered spec n) ≡ true
-      → (v : Env) × StandsIn (breaks spec (number_of_requirement asked)) (broken.Unmet asked (conf_id c) v)
-  pub start : leaves_start spec ≡ true → StandsIn (breaks spec 8) broken.StartLeft
+      → (v : Env) × Contains (breaks spec (number_of_requirement asked)) (broken.Unmet asked (conf_id c) v)
+  pub start : leaves_start spec ≡ true → Contains (breaks spec 8) broken.StartLeft
   pub bounds : (i j : ℕ) → i < length spec.confs → j < length spec.confs → lacks_bound spec (conf_id i) j ≡ true
-      → StandsIn (breaks spec 9) (broken.BoundLacking (conf_id i) (conf_id j))
-  pub window : has_short_window spec ≡ true → StandsIn (breaks spec 10) broken.WindowShort
+      → Contains (breaks spec 9) (broken.BoundLacking (conf_id i) (conf_id j))
+  pub window : has_short_window spec ≡ true → Contains (breaks spec 10) broken.WindowShort
   pub invariants : (k i : ℕ) (inv : Invariant) → slice_get spec.invariants k ≡ Some inv → i < length spec.confs → breaks_from spec inv (conf_id i) ≡ true
-      → (found : Unheld) × (found.invariant ≡ k) × StandsIn (breaks spec 11) (broken.Unheld found)
+      → (found : Unheld) × (found.invariant ≡ k) × Contains (breaks spec 11) (broken.Unheld found)
   pub preconditions : (k : ℕ) (pre : Precondition) → slice_get spec.preconditions k ≡ Some pre → breaks_entering spec pre ≡ true
-      → StandsIn (breaks spec 12) (broken.PreconditionMissed k)
+      → Contains (breaks spec 12) (broken.PreconditionMissed k)
   pub demands : (c k n : ℕ) (demand : Demand) → c < length spec.confs → slice_get spec.demands k ≡ Some demand → n < environments spec
       → is_number_in_scope spec n ≡ true → misses spec demand (conf_id c) (numbered spec n) ≡ true
-      → (v : Env) × StandsIn (breaks spec 13) (broken.DemandMissed (conf_id c) k v)
+      → (v : Env) × Contains (breaks spec 13) (broken.DemandMissed (conf_id c) k v)
 
 -- No place is left out.
 abbrev pub NoneIsLeftOut : Type 0

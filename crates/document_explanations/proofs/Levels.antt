@@ -5,7 +5,7 @@ use Rattle.std.proofs.lemmas.List.Elements.{All-from_get_or}
 use Rattle.std.proofs.lemmas.List.Splits.{slice_split_at, slice_split_none}
 use Rattle.trace_text.specs.Pieces.{pieces_of}
 use Rattle.trace_text.proofs.Splitting.{some_piece}
-use Rattle.document_explanations.specs.Paths.{all_but_last, behind_dot, wanted_below, wanted_along}
+use Rattle.document_explanations.specs.Paths.{after_dot, all_but_last, wanted_below, wanted_along}
 use Rattle.document_explanations.specs.declared.objects.Wanted.{Wanted}
 
 abbrev pub Lacks : List ℕ → Type 0
@@ -39,7 +39,7 @@ step_above text level rest w pieces =
     ap (λ (levels : List (List ℕ)). wanted_along (all_but_last levels) w) pieces ∙ above_more level (pieces_of 46 rest) w (some_piece 46 rest)
 
 -- a path that does not begin with a dot has no level
-pub no_dot_first : (path : List ℕ) → ((rest : List ℕ) → path ≢ 46 ∷ rest) → behind_dot path ≡ []
+pub no_dot_first : (path : List ℕ) → ((rest : List ℕ) → path ≢ 46 ∷ rest) → after_dot path ≡ []
 no_dot_first [] other = refl
 no_dot_first (b ∷ path) other = rw (ne_eqb b 46 (λ same. other path (ap (λ (c : ℕ). c ∷ path) same)))
 

@@ -17,9 +17,9 @@ use Rattle.document_explanations.specs.declared.paths.TheConstants.{INDEX_END}
 use Rattle.document_explanations.specs.declared.rules.DocumentKind.{DocumentKind}
 
 -- A path without its first dot, which is 46.
-abbrev pub behind_dot : List ℕ → List ℕ
-behind_dot [] = []
-behind_dot (b ∷ path) = if b == 46 then path else []
+abbrev pub after_dot : List ℕ → List ℕ
+after_dot [] = []
+after_dot (b ∷ path) = if b == 46 then path else []
 
 -- The levels of a text with dots between them. An empty text has none.
 abbrev pub levels_in : List ℕ → List (List ℕ)
@@ -28,7 +28,7 @@ levels_in (b ∷ text) = pieces_of 46 (b ∷ text)
 
 -- The levels of a path. The path of the whole document has none.
 abbrev pub levels_of : List ℕ → List (List ℕ)
-levels_of path = levels_in (behind_dot path)
+levels_of path = levels_in (after_dot path)
 
 -- The value that is expected of an element.
 abbrev pub wanted_element : Element → Wanted

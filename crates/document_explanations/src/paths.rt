@@ -4,7 +4,7 @@ ghost use Rattle.std.specs.Prelude.{◌≡◌, ◌∷◌, ◌<◌, [], IfSome, M
 ghost use Rattle.serde_json.specs.View.{view};
 ghost use Rattle.trace_text.specs.Pieces.{pieces_of};
 ghost use Rattle.document_explanations.specs.Objects.{member_read};
-ghost use Rattle.document_explanations.specs.Paths.{all_but_last, behind_dot, child, wanted_below, value_along, value_at, wanted_along, wanted_at, wanted_element};
+ghost use Rattle.document_explanations.specs.Paths.{after_dot, all_but_last, child, wanted_below, value_along, value_at, wanted_along, wanted_at, wanted_element};
 
 use crate::objects::{Element, Wanted, find_member};
 use crate::rules::DocumentKind;
@@ -16,8 +16,8 @@ use trace_text::numbers::read_number;
 const INDEX_END: u64 = 100_000;
 
 // Returns the levels of a path with dots between them, which is empty for the whole document.
-fn behind_dot(path: &Path) -> &str
-    ensures { result.now ≡ behind_dot path.now }
+fn after_dot(path: &Path) -> &str
+    ensures { result.now ≡ after_dot path.now }
 {
     match path.as_str().strip_prefix('.') {
         Some(levels) => levels,
@@ -77,7 +77,7 @@ pub fn wanted_at(kind: DocumentKind, rule: u8, path: &Path) -> Option<Wanted>
     ensures { result ≡ wanted_at kind rule path.now }
 {
     let root = Wanted::Object(kind.root());
-    let levels = behind_dot(path);
+    let levels = after_dot(path);
     if levels.is_empty() {
         return Some(root);
     }
@@ -115,7 +115,7 @@ fn value_along<'a>(v: &'a Value, levels: &str) -> Option<&'a Value>
 pub fn value_at<'a>(document: &'a Value, path: &Path) -> Option<&'a Value>
     ensures { option_map (λ d. view d.now) result ≡ value_at path.now (view document.now) }
 {
-    let levels = behind_dot(path);
+    let levels = after_dot(path);
     if levels.is_empty() {
         Some(document)
     } else {

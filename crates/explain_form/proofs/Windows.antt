@@ -9,7 +9,7 @@ use Rattle.scram_types.specs.Specification.{Parts}
 use Rattle.scram_types.proofs.BitSets.{count_none, count_same}
 use Rattle.scram_types.proofs.Naturals.{at_or_below, below_test, not_below_test}
 use Rattle.fault_script.specs.Assumption.{changes_upto, is_change_frame}
-use Rattle.explain_form.specs.Laws.{WindowsAreTold}
+use Rattle.explain_form.specs.Laws.{WindowsAreExact}
 use Rattle.explain_form.specs.Outsides.{is_change_told, is_in_window}
 
 module _ (spec : Parts) (script : ScriptParts) where
@@ -46,8 +46,8 @@ module _ (spec : Parts) (script : ScriptParts) where
           omega (arith, at, all))
     ]
 
-pub windows_are_told : WindowsAreTold
-windows_are_told spec script last =
+pub windows_are_exact : WindowsAreExact
+windows_are_exact spec script last =
     let all = counted spec script last (suc last) (omega arith) in
     let upto = upto_is spec script last in
     let early = upto_is spec script (last - spec.window) in

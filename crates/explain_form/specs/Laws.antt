@@ -7,6 +7,6 @@ use Rattle.fault_script.specs.Assumption.{changes_in_window}
 use Rattle.explain_form.specs.Outsides.{is_change_told}
 
 -- The number of frames that are shown is the number of change frames in the window that ends with the last one.
-abbrev pub WindowsAreTold : Type 0
-WindowsAreTold = (spec : Parts) (script : ScriptParts) (last : ℕ)
+abbrev pub WindowsAreExact : Type 0
+WindowsAreExact = (spec : Parts) (script : ScriptParts) (last : ℕ)
     → count_below (is_change_told spec script last) (suc last) ≡ changes_in_window spec script last

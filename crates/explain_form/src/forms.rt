@@ -6,7 +6,7 @@ ghost use Rattle.fault_script.specs.Assumption.{first_outside};
 ghost use Rattle.fault_script.specs.Fits.{Fits};
 ghost use Rattle.document_explanations.specs.Scripts.{AsksExplainedScript};
 ghost use Rattle.form_base.specs.Answers.{Gives};
-ghost use Rattle.form_base.specs.Endings.{Ends, IsTaken, Prepares, Settles};
+ghost use Rattle.form_base.specs.Endings.{Ends, IsTaken, Prepares, PreparesWithoutFiles};
 ghost use Rattle.form_base.specs.declared.status.TheConstants.{ANSWERED, NOT_ACCEPTED, UNASSUMED_SCRIPT};
 ghost use Rattle.explain_form.specs.Answers.{ExplainAnswers, ExplainScriptAnswers, IsTold, MissionAnswers, TellsExplanation};
 ghost use Rattle.explain_form.specs.Texts.{accepted_text, explain_answer, outside_answer, refused_text, script_answer, unassumed_text};
@@ -110,7 +110,7 @@ fn read_script<F: Files>(
 }
 
 fn explain_specification(alloc: Global, spec: Spec) -> Result<Explanation, Refusal>
-    ensures settles { Settles (Gives (explain_answer spec (first_refusal spec))) TellsExplanation result }
+    ensures prepares { PreparesWithoutFiles (Gives (explain_answer spec (first_refusal spec))) TellsExplanation result }
     ensures told { IfOk result IsTold }
 {
     match accept(alloc, spec) {
@@ -129,7 +129,7 @@ fn explain_specification(alloc: Global, spec: Spec) -> Result<Explanation, Refus
 
 fn explain_both(alloc: Global, spec: Spec, script: Script) -> Result<Explanation, Refusal>
     requires { Fits spec script }
-    ensures settles { Settles (Gives (script_answer spec script (first_refusal spec))) TellsExplanation result }
+    ensures prepares { PreparesWithoutFiles (Gives (script_answer spec script (first_refusal spec))) TellsExplanation result }
     ensures told { IfOk result IsTold }
 {
     match accept(alloc, spec) {
@@ -150,7 +150,7 @@ fn explain_both(alloc: Global, spec: Spec, script: Script) -> Result<Explanation
 }
 
 fn explain_refused(alloc: Global, spec: Spec, shown: &Shown) -> Result<Explanation, Refusal>
-    ensures settles { Settles (Gives (NOT_ACCEPTED, refused_text spec shown.now)) TellsExplanation result }
+    ensures prepares { PreparesWithoutFiles (Gives (NOT_ACCEPTED, refused_text spec shown.now)) TellsExplanation result }
     ensures told { IfOk result IsTold }
 {
     let text = make_refused(alloc, &spec, shown);
@@ -167,7 +167,7 @@ fn explain_refused(alloc: Global, spec: Spec, shown: &Shown) -> Result<Explanati
 // Explains an accepted specification and a script that fits it.
 fn explain_assumed(alloc: Global, spec: &Spec, script: &Script) -> Result<Explanation, Refusal>
     requires { Fits spec.now script.now }
-    ensures settles { Settles (Gives (outside_answer spec.now script.now (first_outside spec.now script.now))) TellsExplanation result }
+    ensures prepares { PreparesWithoutFiles (Gives (outside_answer spec.now script.now (first_outside spec.now script.now))) TellsExplanation result }
     ensures told { IfOk result IsTold }
 {
     match within(spec, script) {
@@ -177,7 +177,7 @@ fn explain_assumed(alloc: Global, spec: &Spec, script: &Script) -> Result<Explan
 }
 
 fn explain_accepted(alloc: Global, spec: &Spec) -> Result<Explanation, Refusal>
-    ensures settles { Settles (Gives (ANSWERED, accepted_text spec.now)) TellsExplanation result }
+    ensures prepares { PreparesWithoutFiles (Gives (ANSWERED, accepted_text spec.now)) TellsExplanation result }
     ensures told { IfOk result IsTold }
 {
     match make_accepted(alloc, spec) {
@@ -196,7 +196,7 @@ fn explain_outside(
     outside: &Outside,
 ) -> Result<Explanation, Refusal>
     requires { first_outside spec.now script.now ≡ Some outside.now }
-    ensures settles { Settles (Gives (UNASSUMED_SCRIPT, unassumed_text spec.now script.now outside.now)) TellsExplanation result }
+    ensures prepares { PreparesWithoutFiles (Gives (UNASSUMED_SCRIPT, unassumed_text spec.now script.now outside.now)) TellsExplanation result }
     ensures told { IfOk result IsTold }
 {
     match make_unassumed(alloc, spec, script, outside) {

@@ -1,9 +1,9 @@
 //! Laws of the lines on the failure assumption. Each function's contract is a law.
 
-ghost use Rattle.explain_form.specs.Laws.{WindowsAreTold};
+ghost use Rattle.explain_form.specs.Laws.{WindowsAreExact};
 
 /// States that the number of frames that are shown is the number of change frames that the failure assumption counts in
 /// the window.
-pub fn windows_are_told()
-    ensures { WindowsAreTold }
+pub fn windows_are_exact()
+    ensures { WindowsAreExact }
 {}

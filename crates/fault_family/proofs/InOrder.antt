@@ -20,7 +20,7 @@ use Rattle.fault_family.specs.declared.faults.FaultKind.{FaultKind}
 use Rattle.fault_family.specs.declared.faults.FaultKind.TheVariants.{Change, Halt, Restart}
 use Rattle.fault_family.specs.Families.{extended, may_follow}
 use Rattle.fault_family.specs.Faults.{detail, precedes, rank, subject}
-use Rattle.fault_family.specs.Laws.{ComesFirst, FamiliesAreOrdered, StandsFor, here, further}
+use Rattle.fault_family.specs.Laws.{ComesFirst, Contains, FamiliesAreOrdered, here, further}
 use Rattle.fault_family.specs.NextFaults.{candidates, factor_changes, faults_in, frames_after, frames_behind, gaps, proc_halts, kinds_of, numbers_below, restarts_of, factor_value_count}
 use Rattle.fault_family.specs.Scripts.{is_within, script_of_faults}
 use Rattle.fault_family.proofs.Joined.{stands_in_part, stands_listed, stands_mapped, stands_one, stands_part, stands_where}
@@ -29,13 +29,13 @@ use Rattle.fault_family.proofs.MemberScripts.{rest_later}
 
 -- order of lists that are joined
 
-later_cons : {A : Type 0} (R : A → A → Type 0) (x : A) (xs : List A) → ((y : A) → StandsFor xs y → R x y) → EachLater R xs → EachLater R (x ∷ xs)
+later_cons : {A : Type 0} (R : A → A → Type 0) (x : A) (xs : List A) → ((y : A) → Contains xs y → R x y) → EachLater R xs → EachLater R (x ∷ xs)
 later_cons R x xs first each zero zero y z less p q = absurd (omega (arith, less))
 later_cons R x xs first each zero (suc j) y z less p q = subst (λ w. R w z) (same_Some x y p) (first z (j, q))
 later_cons R x xs first each (suc i) zero y z less p q = absurd (omega (arith, less))
 later_cons R x xs first each (suc i) (suc j) y z less p q = each i j y z (omega (arith, less)) p q
 
-later_joined : {A : Type 0} (R : A → A → Type 0) (xs ys : List A) → EachLater R xs → EachLater R ys → ((x y : A) → StandsFor xs x → StandsFor ys y → R x y) → EachLater R (xs ++ ys)
+later_joined : {A : Type 0} (R : A → A → Type 0) (xs ys : List A) → EachLater R xs → EachLater R ys → ((x y : A) → Contains xs x → Contains ys y → R x y) → EachLater R (xs ++ ys)
 later_joined R [] ys first second across = second
 later_joined R (x ∷ xs) ys first second across =
     later_cons R x (xs ++ ys)
@@ -43,7 +43,7 @@ later_joined R (x ∷ xs) ys first second across =
     (later_joined R xs ys (rest_later R x xs first) second (λ w y stands. across w y (suc stands.0, stands.1)))
 
 later_parts : {A B : Type 0} (R : A → A → Type 0) (S : B → B → Type 0) (f : A → List B) → ((x : A) → EachLater S (f x))
-    → ((x y : A) (a b : B) → R x y → StandsFor (f x) a → StandsFor (f y) b → S a b) → (xs : List A) → EachLater R xs → EachLater S (flat_map f xs)
+    → ((x y : A) (a b : B) → R x y → Contains (f x) a → Contains (f y) b → S a b) → (xs : List A) → EachLater R xs → EachLater S (flat_map f xs)
 later_parts R S f within across [] each = each_later_none S
 later_parts R S f within across (x ∷ xs) each =
     later_joined S (f x) (flat_map f xs) (within x) (later_parts R S f within across xs (rest_later R x xs each))
@@ -115,7 +115,7 @@ module _ (spec : Parts) where
       (by_subject (Halt (proc_id p) 0) (Halt (proc_id p) (words spec + 1)) refl (after_second p 0 (words spec + 1) (omega arith))))
       (later_one KindBefore (Halt (proc_id p) (words spec + 1)))
 
-  halt_is : (p : ℕ) (k : FaultKind) → StandsFor (proc_halts spec p) k → (step : ℕ) × (Halt (proc_id p) step ≡ k)
+  halt_is : (p : ℕ) (k : FaultKind) → Contains (proc_halts spec p) k → (step : ℕ) × (Halt (proc_id p) step ≡ k)
   halt_is p k stands = at stands.0 stands.1
     where
       at : (i : ℕ) → slice_get (proc_halts spec p) i ≡ Some k → (step : ℕ) × (Halt (proc_id p) step ≡ k)
@@ -135,19 +135,19 @@ module _ (spec : Parts) where
   restarts_ordered : EachLater KindBefore (restarts_of spec)
   restarts_ordered = later_listed KindBefore (λ p. Restart (proc_id p)) (length spec.procs) (λ i j less. by_subject (Restart (proc_id i)) (Restart (proc_id j)) refl (after_first i 0 j 0 less))
 
-  change_rank : (k : FaultKind) → StandsFor (flat_map (factor_changes spec) (numbers_below (length spec.factors))) k → rank k ≡ 0
+  change_rank : (k : FaultKind) → Contains (flat_map (factor_changes spec) (numbers_below (length spec.factors))) k → rank k ≡ 0
   change_rank k stands =
       let part = stands_in_part (factor_changes spec) (numbers_below (length spec.factors)) k stands in
       let at = stands_listed (λ value. Change (factor_id part.0) value) (factor_value_count spec part.0) k part.2 in
       ap rank (sym at.2)
 
-  halt_rank : (k : FaultKind) → StandsFor (flat_map (proc_halts spec) (numbers_below (length spec.procs))) k → rank k ≡ 1
+  halt_rank : (k : FaultKind) → Contains (flat_map (proc_halts spec) (numbers_below (length spec.procs))) k → rank k ≡ 1
   halt_rank k stands =
       let part = stands_in_part (proc_halts spec) (numbers_below (length spec.procs)) k stands in
       let at = halt_is part.0 k part.2 in
       ap rank (sym at.1)
 
-  restart_rank : (k : FaultKind) → StandsFor (restarts_of spec) k → rank k ≡ 2
+  restart_rank : (k : FaultKind) → Contains (restarts_of spec) k → rank k ≡ 2
   restart_rank k stands = let at = stands_listed (λ p. Restart (proc_id p)) (length spec.procs) k stands in ap rank (sym at.2)
 
   kinds_ordered : EachLater KindBefore (kinds_of spec)

@@ -17,7 +17,7 @@ use Rattle.fault_family.specs.declared.faults.Fault.{Fault}
 use Rattle.fault_family.specs.declared.faults.FaultKind.{FaultKind}
 use Rattle.fault_family.specs.declared.faults.FaultKind.TheVariants.{Change, Halt, Restart}
 use Rattle.fault_family.specs.Families.{extended, may_follow}
-use Rattle.fault_family.specs.Laws.{FamiliesHaveMembers, Follow, IsChangeKind, IsKind, IsNear, StandsFor}
+use Rattle.fault_family.specs.Laws.{Contains, FamiliesHaveMembers, Follow, IsChangeKind, IsKind, IsNear}
 use Rattle.fault_family.specs.NextFaults.{candidates, factor_changes, faults_in, frames_after, frames_behind, gaps, proc_halts, kinds_of, numbers_below, restarts_of, factor_value_count}
 use Rattle.fault_family.specs.Scripts.{is_within, script_of_faults}
 use Rattle.fault_family.proofs.Joined.{in_part_stands, listed_stands, mapped_stands, stands_in_part, stands_left, stands_listed, stands_mapped, stands_one, stands_part, stands_right, stands_where}
@@ -35,7 +35,7 @@ module _ (spec : Parts) where
   change_kind : (x value : ℕ) → value < factor_value_count spec x → IsChangeKind spec x value
   change_kind x value below = let found = values_by (slice_get spec.factors x) value below in record { is = found.0; there = found.1; below = found.2 }
 
-  is_change : (kind : FaultKind) → StandsFor (flat_map (factor_changes spec) (numbers_below (length spec.factors))) kind → IsKind spec kind
+  is_change : (kind : FaultKind) → Contains (flat_map (factor_changes spec) (numbers_below (length spec.factors))) kind → IsKind spec kind
   is_change kind stands =
       let part = stands_in_part (factor_changes spec) (numbers_below (length spec.factors)) kind stands in
       let it = stands_listed (λ value. Change (factor_id part.0) value) (factor_value_count spec part.0) kind part.2 in
@@ -46,18 +46,18 @@ module _ (spec : Parts) where
   is_halt_of p below kind (suc zero) there = subst (IsKind spec) (same_Some (Halt (proc_id p) (words spec + 1)) kind there) (record { there = below; moment = inr refl })
   is_halt_of p below kind (suc (suc i)) there = absurd cc
 
-  is_halt : (kind : FaultKind) → StandsFor (flat_map (proc_halts spec) (numbers_below (length spec.procs))) kind → IsKind spec kind
+  is_halt : (kind : FaultKind) → Contains (flat_map (proc_halts spec) (numbers_below (length spec.procs))) kind → IsKind spec kind
   is_halt kind stands =
       let part = stands_in_part (proc_halts spec) (numbers_below (length spec.procs)) kind stands in
       let p = stands_listed (λ k. k) (length spec.procs) part.0 part.1 in
       is_halt_of part.0 (subst (λ k. k < length spec.procs) p.2 p.1) kind part.2.0 part.2.1
 
-  is_restart : (kind : FaultKind) → StandsFor (restarts_of spec) kind → IsKind spec kind
+  is_restart : (kind : FaultKind) → Contains (restarts_of spec) kind → IsKind spec kind
   is_restart kind stands =
       let it = stands_listed (λ p. Restart (proc_id p)) (length spec.procs) kind stands in
       subst (IsKind spec) it.2 it.1
 
-  is_kind : (kind : FaultKind) → StandsFor (kinds_of spec) kind → IsKind spec kind
+  is_kind : (kind : FaultKind) → Contains (kinds_of spec) kind → IsKind spec kind
   is_kind kind stands = elim (stands_part (flat_map (factor_changes spec) (numbers_below (length spec.factors)) ++ flat_map (proc_halts spec) (numbers_below (length spec.procs))) (restarts_of spec) kind stands) [
     | inl earlier ↦ elim (stands_part (flat_map (factor_changes spec) (numbers_below (length spec.factors))) (flat_map (proc_halts spec) (numbers_below (length spec.procs))) kind earlier) [
       | inl change ↦ is_change kind change
@@ -66,7 +66,7 @@ module _ (spec : Parts) where
     | inr restart ↦ is_restart kind restart
   ]
 
-  kind_is : (kind : FaultKind) → IsKind spec kind → StandsFor (kinds_of spec) kind
+  kind_is : (kind : FaultKind) → IsKind spec kind → Contains (kinds_of spec) kind
   kind_is (Change factor value) is =
       let changes = flat_map (factor_changes spec) (numbers_below (length spec.factors)) in
       let halts = flat_map (proc_halts spec) (numbers_below (length spec.procs)) in
@@ -92,19 +92,19 @@ module _ (spec : Parts) where
 
   -- frames
 
-  gap_is : (gap : ℕ) → StandsFor (gaps spec) gap → (gap ≤ greatest_bound spec.bounds + 1) ⊎ (gap ≡ spec.window + 1)
+  gap_is : (gap : ℕ) → Contains (gaps spec) gap → (gap ≤ greatest_bound spec.bounds + 1) ⊎ (gap ≡ spec.window + 1)
   gap_is gap stands = elim (stands_part (numbers_below (greatest_bound spec.bounds + 2)) ((spec.window + 1) ∷ []) gap stands) [
     | inl near ↦ inl (let it = stands_listed (λ k. k) (greatest_bound spec.bounds + 2) gap near in let below = it.1 in let same = it.2 in omega (arith, below, same))
     | inr far ↦ inr (sym (stands_one (spec.window + 1) gap far))
   ]
 
-  near_gap_stands : (gap : ℕ) → gap ≤ greatest_bound spec.bounds + 1 → StandsFor (gaps spec) gap
+  near_gap_stands : (gap : ℕ) → gap ≤ greatest_bound spec.bounds + 1 → Contains (gaps spec) gap
   near_gap_stands gap near = stands_left (numbers_below (greatest_bound spec.bounds + 2)) ((spec.window + 1) ∷ []) gap (listed_stands (λ k. k) (greatest_bound spec.bounds + 2) gap (omega (arith, near)))
 
-  far_gap_stands : StandsFor (gaps spec) (spec.window + 1)
+  far_gap_stands : Contains (gaps spec) (spec.window + 1)
   far_gap_stands = stands_right (numbers_below (greatest_bound spec.bounds + 2)) ((spec.window + 1) ∷ []) (spec.window + 1) (0, refl)
 
-  is_near : (last : Option Fault) (frame : ℕ) → StandsFor (frames_behind spec last) frame → IsNear spec last frame
+  is_near : (last : Option Fault) (frame : ℕ) → Contains (frames_behind spec last) frame → IsNear spec last frame
   is_near None frame stands = sym (stands_one 1 frame stands)
   is_near (Some last) frame stands =
       let found = stands_mapped (λ gap. last.frame + gap) (gaps spec) frame stands in
@@ -114,27 +114,27 @@ module _ (spec : Parts) where
         | inr far ↦ inr (omega (arith, at, far))
       ]
 
-  near_is : (last : Option Fault) (frame : ℕ) → IsNear spec last frame → StandsFor (frames_behind spec last) frame
+  near_is : (last : Option Fault) (frame : ℕ) → IsNear spec last frame → Contains (frames_behind spec last) frame
   near_is None frame is = (0, ap Some (sym is))
   near_is (Some last) frame (inl near) =
       let gap = frame - last.frame in
       let low = near.0 in
       let high = near.1 in
       let back : last.frame + (frame - last.frame) ≡ frame = omega (arith, low) in
-      subst (StandsFor (map (λ gap. last.frame + gap) (gaps spec))) back
+      subst (Contains (map (λ gap. last.frame + gap) (gaps spec))) back
       (mapped_stands (λ gap. last.frame + gap) (gaps spec) (frame - last.frame) (near_gap_stands (frame - last.frame) (omega (arith, low, high))))
   near_is (Some last) frame (inr far) =
-      subst (StandsFor (map (λ gap. last.frame + gap) (gaps spec))) (sym far) (mapped_stands (λ gap. last.frame + gap) (gaps spec) (spec.window + 1) far_gap_stands)
+      subst (Contains (map (λ gap. last.frame + gap) (gaps spec))) (sym far) (mapped_stands (λ gap. last.frame + gap) (gaps spec) (spec.window + 1) far_gap_stands)
 
   -- candidates
 
-  is_candidate : (before : List Fault) (fault : Fault) → StandsFor (candidates spec before) fault → IsKind spec fault.kind × IsNear spec (last_of before) fault.frame
+  is_candidate : (before : List Fault) (fault : Fault) → Contains (candidates spec before) fault → IsKind spec fault.kind × IsNear spec (last_of before) fault.frame
   is_candidate before fault stands =
       let part = stands_in_part (faults_in spec) (frames_after spec before) fault stands in
       let it = stands_mapped (λ (kind : FaultKind). record { frame = part.0; kind = kind }) (kinds_of spec) fault part.2 in
       (subst (λ (f : Fault). IsKind spec f.kind) it.2 (is_kind it.0 it.1), subst (λ (f : Fault). IsNear spec (last_of before) f.frame) it.2 (is_near (last_of before) part.0 part.1))
 
-  candidate_stands : (before : List Fault) (fault : Fault) → IsKind spec fault.kind → IsNear spec (last_of before) fault.frame → StandsFor (candidates spec before) fault
+  candidate_stands : (before : List Fault) (fault : Fault) → IsKind spec fault.kind → IsNear spec (last_of before) fault.frame → Contains (candidates spec before) fault
   candidate_stands before fault kind near =
       in_part_stands (faults_in spec) (frames_after spec before) fault.frame fault (near_is (last_of before) fault.frame near)
       (mapped_stands (λ (kind : FaultKind). record { frame = fault.frame; kind = kind }) (kinds_of spec) fault.kind (kind_is fault.kind kind))
@@ -159,7 +159,7 @@ module _ (spec : Parts) where
     pub follow : Follow spec before rest
     pub within : IsWithin spec (script_of_faults spec faults)
 
-  pub goes_on : (more : ℕ) (before faults : List Fault) → StandsFor (extended spec more before) faults → GoesOn more before faults
+  pub goes_on : (more : ℕ) (before faults : List Fault) → Contains (extended spec more before) faults → GoesOn more before faults
   goes_on zero before faults stands =
       let it = stands_where (is_within spec (script_of_faults spec before)) (before ∷ []) faults stands in
       let same : before ≡ faults = stands_one before faults it.1 in
@@ -177,7 +177,7 @@ module _ (spec : Parts) where
         within = on.within;
       }
 
-  stands_on : (more : ℕ) (before rest : List Fault) → length rest ≡ more → Follow spec before rest → IsWithin spec (script_of_faults spec (before ++ rest)) → StandsFor (extended spec more before) (before ++ rest)
+  stands_on : (more : ℕ) (before rest : List Fault) → length rest ≡ more → Follow spec before rest → IsWithin spec (script_of_faults spec (before ++ rest)) → Contains (extended spec more before) (before ++ rest)
   stands_on zero before [] count follow within =
       let whole : IsWithin spec (script_of_faults spec before) = subst (λ (all : List Fault). IsWithin spec (script_of_faults spec all)) (append-nil before) within in
       rw (append-nil before, is_within_is before whole) (0, refl)
@@ -186,8 +186,8 @@ module _ (spec : Parts) where
   stands_on (suc more) before (fault ∷ rest) count follow within =
       let next = follow.0 in
       let parts : (before ++ fault ∷ []) ++ rest ≡ before ++ fault ∷ rest = append_assoc before (fault ∷ []) rest in
-      let behind : StandsFor (extended spec more (before ++ fault ∷ [])) (before ++ fault ∷ rest) =
-      subst (StandsFor (extended spec more (before ++ fault ∷ []))) parts
+      let behind : Contains (extended spec more (before ++ fault ∷ [])) (before ++ fault ∷ rest) =
+      subst (Contains (extended spec more (before ++ fault ∷ []))) parts
       (stands_on more (before ++ fault ∷ []) rest (let n = count in omega (arith, n)) follow.1 (subst (λ (all : List Fault). IsWithin spec (script_of_faults spec all)) (sym parts) within)) in
       in_part_stands (λ (fault : Fault). if may_follow spec before fault then extended spec more (before ++ fault ∷ []) else []) (candidates spec before) fault (before ++ fault ∷ rest)
       (candidate_stands before fault next.kind next.near)

@@ -60,13 +60,13 @@ pub record IsMember (spec : Parts) (count : ℕ) (faults : List Fault) : Type 0 
   pub within : IsWithin spec (script_of_faults spec faults)
 
 -- A list contains an element.
-abbrev pub StandsFor : {A : Type 0} → List A → A → Type 0
-StandsFor {A} xs x = (i : ℕ) × (slice_get xs i ≡ Some x)
+abbrev pub Contains : {A : Type 0} → List A → A → Type 0
+Contains {A} xs x = (i : ℕ) × (slice_get xs i ≡ Some x)
 
 -- The family contains a list of faults exactly if it is a member.
 pub record HasMembers (spec : Parts) (count : ℕ) (faults : List Fault) : Type 0 where
-  pub sound : StandsFor (family spec count) faults → IsMember spec count faults
-  pub complete : IsMember spec count faults → StandsFor (family spec count) faults
+  pub sound : Contains (family spec count) faults → IsMember spec count faults
+  pub complete : IsMember spec count faults → Contains (family spec count) faults
 
 -- The family of each specification has exactly its members.
 abbrev pub FamiliesHaveMembers : Type 0

@@ -4,7 +4,7 @@ ghost use Rattle.std.specs.Prelude.{◌≡◌, ◌+◌, ◌*◌, ◌≤◌, ◌�
 ghost use Rattle.coverage_check.specs.Acceptance.{first_refusal};
 ghost use Rattle.scram_io.specs.Outside.{Prints};
 ghost use Rattle.form_base.specs.Answers.{Gives};
-ghost use Rattle.form_base.specs.Endings.{Ends, IsTaken, Prepares, Settles};
+ghost use Rattle.form_base.specs.Endings.{Ends, IsTaken, Prepares, PreparesWithoutFiles};
 ghost use Rattle.fault_family.specs.NextFaults.{kinds_of};
 ghost use Rattle.fault_family.specs.Scripts.{last_fault_frame};
 ghost use Rattle.faults_form.specs.Answers.{FaultsAnswers, TellsFamily, faults_answer};
@@ -79,7 +79,7 @@ fn read_family<F: Files>(
 }
 
 fn find_family(alloc: Global, spec: Spec, count: FaultCount) -> Result<Family, Refusal>
-    ensures { Settles (Gives (faults_answer spec count (first_refusal spec))) TellsFamily result }
+    ensures { PreparesWithoutFiles (Gives (faults_answer spec count (first_refusal spec))) TellsFamily result }
 {
     match accept(alloc, spec) {
         Ok(spec) => Ok(Family { spec, count }),

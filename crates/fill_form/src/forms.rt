@@ -6,7 +6,7 @@ ghost use Rattle.coverage_check.specs.Form.{state_refusal};
 ghost use Rattle.reconf_spec.specs.Writable.{IsWritable};
 ghost use Rattle.spec_text.specs.Texts.{spec_text};
 ghost use Rattle.form_base.specs.Answers.{Gives};
-ghost use Rattle.form_base.specs.Endings.{Ends, IsTaken, Prepares, Settles};
+ghost use Rattle.form_base.specs.Endings.{Ends, IsTaken, Prepares, PreparesWithoutFiles};
 ghost use Rattle.form_base.specs.Lines.{shown_line};
 ghost use Rattle.form_base.specs.Refusals.{told};
 ghost use Rattle.form_base.specs.declared.status.TheConstants.{ANSWERED, NOT_ACCEPTED};
@@ -60,7 +60,7 @@ fn read_filled<F: Files>(
 
 fn fill_in(alloc: Global, spec: Spec) -> Result<Vec<u8>, Refusal>
     requires { IsWritable spec }
-    ensures { Settles (Gives (fill_answer spec (fill_refusal spec))) TellsText result }
+    ensures { PreparesWithoutFiles (Gives (fill_answer spec (fill_refusal spec))) TellsText result }
 {
     if let Some(shown) = refuse_states(&spec) {
         return Err(refuse(spec, &shown));
@@ -88,7 +88,7 @@ fn write_filled(alloc: Global, spec: Spec, filling: Filling) -> Result<Vec<u8>, 
     requires writable { IsWritable spec }
     requires few { state_refusal spec ≡ None }
     requires filling { IsFilling spec filling }
-    ensures { Settles (Gives (fill_answer spec (fill_refusal spec))) TellsText result }
+    ensures { PreparesWithoutFiles (Gives (fill_answer spec (fill_refusal spec))) TellsText result }
 {
     match filling.refusal {
         Some(shown) => {
@@ -128,7 +128,7 @@ fn with_times(spec: Spec, bounds: Vec<Bound>, window: u32) -> Spec
 
 // Returns the canonical text of a specification, as a line.
 fn write_line(alloc: Global, spec: Spec) -> Result<Vec<u8>, Refusal>
-    ensures { Settles (Gives (ANSWERED, spec_text spec ++ codes "\n")) TellsText result }
+    ensures { PreparesWithoutFiles (Gives (ANSWERED, spec_text spec ++ codes "\n")) TellsText result }
 {
     let text = make_line(alloc, &spec);
     drop(spec);

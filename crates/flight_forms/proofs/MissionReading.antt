@@ -10,7 +10,7 @@ use Rattle.schedule_replay.specs.Replaying.{AnswersReplay}
 use Rattle.schedule_replay.specs.declared.replays.ReplayError.{ReplayError}
 use Rattle.schedule_replay.specs.declared.replays.ReplayError.TheVariants as replay_error
 use Rattle.form_base.specs.Answers.{Gives}
-use Rattle.form_base.specs.Endings.{IsMemoryRefusal, IsTaken, Settles, Tells}
+use Rattle.form_base.specs.Endings.{IsMemoryRefusal, IsTaken, PreparesWithoutFiles, Tells}
 use Rattle.form_base.proofs.Endings.{given_tells, memory_tells, tells_other}
 use Rattle.form_base.specs.Loads.{IsOutOfMemory}
 use Rattle.form_base.specs.Refusals.{told}
@@ -35,7 +35,7 @@ refused_settles refusal A told (inr is) = inr (memory_refusal told is)
 
 -- a mission was made, or refused
 pub mission_settles : (spec : Parts) (script : ScriptParts) (A : MissionParts → ℕ → List ℕ → Type 0) (result : Result MissionParts Refusal) → MakesMission spec script result
-    → Settles (UnlessRefused (mission_refusal spec script) (A (mission_of spec script))) A result
+    → PreparesWithoutFiles (UnlessRefused (mission_refusal spec script) (A (mission_of spec script))) A result
 mission_settles spec script A (Ok mission) makes = λ status text is.
     unless_none (mission_refusal spec script) (A (mission_of spec script)) status text makes.1 (rw (makes.0) at is)
 mission_settles spec script A (Err refusal) makes =
@@ -49,7 +49,7 @@ replay_told spec script list replay status text mission_is list_is is =
 
 -- a mission that is flown by a list was made, or refused
 pub replay_settles : (spec : Parts) (script : ScriptParts) (list : List Event) (result : Result Replay Refusal) → MakesReplay spec script list result
-    → Settles (UnlessRefused (mission_refusal spec script) (IsReplayAnswer spec script list)) TellsReplay result
+    → PreparesWithoutFiles (UnlessRefused (mission_refusal spec script) (IsReplayAnswer spec script list)) TellsReplay result
 replay_settles spec script list (Ok replay) makes = λ status text is.
     unless_none (mission_refusal spec script) (IsReplayAnswer spec script list) status text makes.2 (replay_told spec script list replay status text makes.0 makes.1 is)
 replay_settles spec script list (Err refusal) makes =

@@ -2,7 +2,7 @@
 
 ghost use Rattle.std.specs.Prelude.{◌≤◌, ◌∷◌, [], IfOk, ℕ, List, length};
 ghost use Rattle.form_base.specs.Answers.{WithoutFiles};
-ghost use Rattle.form_base.specs.Endings.{Prepares, Settles};
+ghost use Rattle.form_base.specs.Endings.{Prepares, PreparesWithoutFiles};
 ghost use Rattle.flights_form.specs.Answers.{FlightsAnswers, ScriptsAnswers};
 ghost use Rattle.flights_form.specs.Printing.{TellsSeries};
 ghost use Rattle.flights_form.specs.Scripts.{AsksScripts};
@@ -69,7 +69,7 @@ fn read_scripts<F: Files>(
 
 fn make_series(alloc: Global, spec: Spec, scripts: List<u8>) -> Result<Series, Refusal>
     requires { length scripts ≤ MAX_SCRIPTS_BYTES }
-    ensures settles { Settles (ScriptsAnswers spec scripts) TellsSeries result }
+    ensures prepares { PreparesWithoutFiles (ScriptsAnswers spec scripts) TellsSeries result }
     ensures few { IfOk result (λ series. length series.scripts ≤ MAX_SCRIPTS_BYTES) }
 {
     match accept(alloc, spec) {

@@ -197,7 +197,7 @@ pub completes : (A : Answer) (names : List (List ℕ)) (before after : FilesStat
     → Completes A names before after old new
 completes A names before after old new code ends =
     let decides = ends.decides in
-    completes_by A names before.told before after old new decides.reads ends.status ends.text decides.grew.agrees decides.answer ends.shown.surely decides.quiet
+    completes_by A names before.known_map before after old new decides.reads ends.status ends.text decides.grew.agrees decides.answer ends.shown.surely decides.quiet
 
 -- the status of a file that was not read, and that of output that was not written
 

@@ -6,7 +6,7 @@ use Rattle.scram_io.proofs.Histories.{grew_more, grew_none}
 use Rattle.form_base.specs.declared.refusals.Refusal.{Refusal}
 use Rattle.form_base.specs.declared.status.TheConstants.{OUT_OF_MEMORY, UNREAD_FILE}
 use Rattle.form_base.specs.Answers.{Answer, AnswersDocument, AnswersFile, WithoutFiles}
-use Rattle.form_base.specs.Endings.{AreInTurn, AreThere, Decides, Ends, IsPrepared, IsMemoryRefusal, IsTaken, Prepares, Settles, StaysQuiet, Tells}
+use Rattle.form_base.specs.Endings.{AreInTurn, AreThere, Decides, Ends, IsPrepared, IsMemoryRefusal, IsTaken, Prepares, PreparesWithoutFiles, StaysQuiet, Tells}
 use Rattle.form_base.specs.Loads.{HasRead, IsOutOfMemory, IsUnloaded, Loads}
 use Rattle.form_base.specs.Refusals.{memory_line, read_line, told}
 
@@ -18,7 +18,7 @@ quiet_none_by None names files below = tt
 quiet_none_by (Some map) names files below = λ steady there. record { same = refl; below = below steady }
 
 quiet_none : (names : List (List ℕ)) (files : FilesState) → (IsTrue files.steady → files.faults < greatest_count) → StaysQuiet names files files
-quiet_none names files below = quiet_none_by files.told names files below
+quiet_none names files below = quiet_none_by files.known_map names files below
 
 quiet_last_by : (told : Option FileMap) (name : List ℕ) (names : List (List ℕ)) (still again : Bool) (before now : ℕ)
     → (IsTrue still → IfSome told (λ map. IsSome (file_at name map) → Unrisen before now × IsTrue again))
@@ -28,7 +28,7 @@ quiet_last_by (Some map) name names still again before now first = λ steady the
 
 -- one file was read, and nothing else
 quiet_last : (name : List ℕ) (names : List (List ℕ)) (before after : FilesState) → StaysSteady before after name → StaysQuiet (name ∷ names) before after
-quiet_last name names before after steady = quiet_last_by before.told name names before.steady after.steady before.faults after.faults steady
+quiet_last name names before after steady = quiet_last_by before.known_map name names before.steady after.steady before.faults after.faults steady
 
 quiet_since_by : (told : Option FileMap) (name : List ℕ) (names : List (List ℕ)) (still again : Bool) (before between now : ℕ)
     → (IsTrue still → IfSome told (λ map. IsSome (file_at name map) → Unrisen before between × IsTrue again))
@@ -44,7 +44,7 @@ quiet_since_by (Some map) name names still again before between now first second
 quiet_since : (name : List ℕ) (names : List (List ℕ)) (before mid after : FilesState) (reads : History) → Grew before mid reads
     → StaysSteady before mid name → StaysQuiet names mid after → StaysQuiet (name ∷ names) before after
 quiet_since name names before mid after reads grew steady quiet =
-    quiet_since_by before.told name names before.steady mid.steady before.faults mid.faults after.faults steady (rw (grew.told) at quiet)
+    quiet_since_by before.known_map name names before.steady mid.steady before.faults mid.faults after.faults steady (rw (grew.known_map) at quiet)
 
 -- no file is left to read
 
@@ -55,7 +55,7 @@ settled_answer A status text files (inr is) = inr (is, ([], refl))
 
 -- a decision that reads no file
 pub settled : {T : Type 0} (A : ℕ → List ℕ → Type 0) (Rest : T → ℕ → List ℕ → Type 0) (files : FilesState) (result : Result T Refusal)
-    → (IsTrue files.steady → files.faults < greatest_count) → Settles A Rest result → Prepares (WithoutFiles A) Rest [] files files result
+    → (IsTrue files.steady → files.faults < greatest_count) → PreparesWithoutFiles A Rest result → Prepares (WithoutFiles A) Rest [] files files result
 settled {T} A Rest files (Ok value) below answers = record {
   reads = [];
   grew = grew_none files;

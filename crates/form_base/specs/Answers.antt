@@ -35,7 +35,7 @@ pub record AnswersLonger (limit : ℕ) (long : ℕ × List ℕ) (name : List ℕ
   pub bytes : List ℕ
   pub read : reads ≡ (name, bytes) ∷ []
   pub longer : limit < length bytes
-  pub counted : IfNone before.told (Rose before.faults after.faults)
+  pub counted : IfNone before.known_map (Rose before.faults after.faults)
   pub gives : Gives long status text
 
 -- Reading the file of this name failed, and the answer says so.

@@ -21,7 +21,7 @@ AreThere map (name ∷ names) = IsSome (file_at name map) × AreThere map names
 
 -- If the map is known, the files are steady and these files exist, the fault count of the files did not rise.
 abbrev pub StaysQuiet : List (List ℕ) → FilesState → FilesState → Type 0
-StaysQuiet names before after = IfSome before.told (λ map. IsTrue before.steady → AreThere map names → Unrisen before.faults after.faults)
+StaysQuiet names before after = IfSome before.known_map (λ map. IsTrue before.steady → AreThere map names → Unrisen before.faults after.faults)
 
 -- The status and the text are the answer to what was read of the named files, in this order, or the allocator was out
 -- of memory. A file is reported as unread only if the fault count rose.
@@ -49,9 +49,9 @@ Prepares Answers Rest names before after (Err refusal) = Decides Answers names b
 
 -- The result of a decision that reads no file is a value, from which the rest of the answer is made, or a refusal. The
 -- refusal is the answer or says that the allocator was out of memory.
-abbrev pub Settles : {T : Type 0} → (ℕ → List ℕ → Type 0) → (T → ℕ → List ℕ → Type 0) → Result T Refusal → Type 0
-Settles Answers Rest (Ok value) = (status : ℕ) (text : List ℕ) → Rest value status text → Answers status text
-Settles Answers Rest (Err refusal) =
+abbrev pub PreparesWithoutFiles : {T : Type 0} → (ℕ → List ℕ → Type 0) → (T → ℕ → List ℕ → Type 0) → Result T Refusal → Type 0
+PreparesWithoutFiles Answers Rest (Ok value) = (status : ℕ) (text : List ℕ) → Rest value status text → Answers status text
+PreparesWithoutFiles Answers Rest (Err refusal) =
     (Answers (told refusal).0 (told refusal).1 ⊎ IsMemoryRefusal (told refusal).0 (told refusal).1) × ((told refusal).0 ≢ UNREAD_FILE)
 
 -- The sink took the text and the code is its status, or the sink failed, a prefix was taken, and the code is 4.
@@ -110,5 +110,5 @@ pub record HasRoom (Answers : Answer) (map : FileMap) (files : FilesState) (sink
 
 -- If the map is known, the files are steady, the named files exist and the sink has room, neither fault count rose.
 abbrev pub Completes : Answer → List (List ℕ) → FilesState → FilesState → SinkState → SinkState → Type 0
-Completes Answers names before after old new = IfSome before.told (λ map. IsTrue before.steady → AreThere map names
+Completes Answers names before after old new = IfSome before.known_map (λ map. IsTrue before.steady → AreThere map names
     → HasRoom Answers map before old → Unrisen before.faults after.faults × Unrisen old.faults new.faults)

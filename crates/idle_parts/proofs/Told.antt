@@ -11,7 +11,7 @@ use Rattle.choice_table.specs.Demands.{applies_in}
 use Rattle.coverage_check.proofs.Reaching.{target_test, target_tested}
 use Rattle.cube_cover.specs.Shares.{is_ruled_by}
 use Rattle.idle_parts.specs.Choices.{is_first_from, is_target_of_other}
-use Rattle.idle_parts.specs.Laws.{ConfsAreTold, DemandsAreTold, RulesAreTold}
+use Rattle.idle_parts.specs.Laws.{IdleConfsAreExact, IdleDemandsAreExact, IdleRulesAreExact}
 use Rattle.idle_parts.specs.Somewhere.{passes_somewhere}
 use Rattle.idle_parts.proofs.Firsts.{first_ruled, ruled_first}
 use Rattle.idle_parts.proofs.Somewhere.{fails_in, passes_found, passes_in}
@@ -24,8 +24,8 @@ not_false : (b : Bool) → not b ≡ false → b ≡ true
 not_false true h = refl
 not_false false h = absurd (cc)
 
-pub rules_are_told : RulesAreTold
-rules_are_told spec k rule made there = record {
+pub idle_rules_are_exact : IdleRulesAreExact
+idle_rules_are_exact spec k rule made there = record {
   idle = λ idle c v known belongs scope first. true_false (any_below (is_first_from spec k) (length spec.confs))
       (any_below_is (is_first_from spec k) (length spec.confs) c.0
       (passes_in spec made (is_ruled_by spec (conf_id c.0) k) v belongs scope (ruled_first spec k rule c v there first)) known)
@@ -43,8 +43,8 @@ rules_are_told spec k rule made there = record {
       });
 }
 
-pub confs_are_told : ConfsAreTold
-confs_are_told spec c made = record {
+pub idle_confs_are_exact : IdleConfsAreExact
+idle_confs_are_exact spec c made = record {
   idle = λ idle. (
     λ start. true_false (spec.start.0 == c.0) (equal_test _ _ start) (not_true _ (and_left (not (spec.start.0 == c.0)) _ idle)),
     λ i known apart target. true_false (any_below (is_target_of_other spec c.0) (length spec.confs))
@@ -65,8 +65,8 @@ confs_are_told spec c made = record {
       ));
 }
 
-pub demands_are_told : DemandsAreTold
-demands_are_told spec demand made = record {
+pub idle_demands_are_exact : IdleDemandsAreExact
+idle_demands_are_exact spec demand made = record {
   idle = λ idle v belongs scope. fails_in spec made (applies_in demand) (not_true (passes_somewhere spec (applies_in demand)) idle) v belongs scope;
   used = λ used.
       (let found = passes_found spec made (applies_in demand) (not_false (passes_somewhere spec (applies_in demand)) used) in

@@ -26,25 +26,25 @@ pub record IsFirstSomewhere (spec : Parts) (k : ℕ) (rule : Choice) : Type 0 wh
   pub first : IsFirstFit spec k rule c v
 
 -- A rule is idle if and only if it is the first that fits for no configuration and no environment in scope.
-pub record RuleIsTold (spec : Parts) (k : ℕ) (rule : Choice) : Type 0 where
+pub record IdleRuleIsExact (spec : Parts) (k : ℕ) (rule : Choice) : Type 0 where
   pub idle : is_rule_idle spec k ≡ true
       → (c : ConfId) (v : Env) → c.0 < length spec.confs → IsEnv spec v → in_scope spec v ≡ true → IsFirstFit spec k rule c v → ⊥
   pub used : is_rule_idle spec k ≡ false → IsFirstSomewhere spec k rule
 
 -- Each rule is shown as idle if and only if it is never the first that fits.
-abbrev pub RulesAreTold : Type 0
-RulesAreTold = (spec : Parts) (k : ℕ) (rule : Choice) → IsSpec spec → slice_get spec.rules k ≡ Some rule → RuleIsTold spec k rule
+abbrev pub IdleRulesAreExact : Type 0
+IdleRulesAreExact = (spec : Parts) (k : ℕ) (rule : Choice) → IsSpec spec → slice_get spec.rules k ≡ Some rule → IdleRuleIsExact spec k rule
 
 -- A configuration is idle if and only if it is neither the start nor a possible target of another one.
-pub record ConfIsTold (spec : Parts) (c : ConfId) : Type 0 where
+pub record IdleConfIsExact (spec : Parts) (c : ConfId) : Type 0 where
   pub idle : is_conf_idle spec c.0 ≡ true
       → (spec.start.0 ≢ c.0) × ((i : ConfId) → i.0 < length spec.confs → i.0 ≢ c.0 → IsTarget spec i c → ⊥)
   pub used : is_conf_idle spec c.0 ≡ false
       → (spec.start.0 ≡ c.0) ⊎ ((i : ConfId) × (i.0 < length spec.confs) × (i.0 ≢ c.0) × IsTarget spec i c)
 
 -- Each configuration is shown as idle if and only if it is neither the start nor a possible target of another one.
-abbrev pub ConfsAreTold : Type 0
-ConfsAreTold = (spec : Parts) (c : ConfId) → IsSpec spec → ConfIsTold spec c
+abbrev pub IdleConfsAreExact : Type 0
+IdleConfsAreExact = (spec : Parts) (c : ConfId) → IsSpec spec → IdleConfIsExact spec c
 
 -- A demand applies to some environment in scope.
 pub record SpeaksSomewhere (spec : Parts) (demand : Demand) : Type 0 where
@@ -54,10 +54,10 @@ pub record SpeaksSomewhere (spec : Parts) (demand : Demand) : Type 0 where
   pub speaks : applies_in demand v ≡ true
 
 -- A demand is idle if and only if it applies to no environment in scope.
-pub record DemandIsTold (spec : Parts) (demand : Demand) : Type 0 where
+pub record IdleDemandIsExact (spec : Parts) (demand : Demand) : Type 0 where
   pub idle : is_demand_idle spec demand ≡ true → (v : Env) → IsEnv spec v → in_scope spec v ≡ true → applies_in demand v ≡ false
   pub used : is_demand_idle spec demand ≡ false → SpeaksSomewhere spec demand
 
 -- Each demand is shown as idle if and only if it applies to no environment in scope.
-abbrev pub DemandsAreTold : Type 0
-DemandsAreTold = (spec : Parts) (demand : Demand) → IsSpec spec → DemandIsTold spec demand
+abbrev pub IdleDemandsAreExact : Type 0
+IdleDemandsAreExact = (spec : Parts) (demand : Demand) → IsSpec spec → IdleDemandIsExact spec demand

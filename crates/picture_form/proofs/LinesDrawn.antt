@@ -29,7 +29,7 @@ use Rattle.trace_text.specs.AppReading.{app_in, app_read, bare_act, bare_line, d
 use Rattle.trace_text.specs.Flights.{IsActShown}
 use Rattle.trace_text.specs.Lookups.{app_number, conf_or_none, listed_mode, mode_from}
 use Rattle.trace_text.specs.Pieces.{is_word, pieces_of, sides_of, word_at, words_in}
-use Rattle.trace_text.specs.Rules.{unless}
+use Rattle.trace_text.specs.Rules.{or_rule}
 use Rattle.trace_text.specs.ReportReading.{bound_or_none, finished_report, is_report_form, report_end, report_in, report_read, same_bound, unfinished_report}
 use Rattle.trace_text.specs.RowReading.{env_names, env_read, is_moving_form, is_stable_form, moving_row, row_begun, row_end, row_of_words, row_read, stable_row, up_in, values_from, values_in, world_at}
 use Rattle.trace_text.specs.Spelling.{signed_from, signed_of, spelled_number}
@@ -37,10 +37,10 @@ use Rattle.trace_text.specs.TraceReading.{with_app}
 use Rattle.trace_text.specs.declared.app_reading.Done.{Done}
 use Rattle.trace_text.specs.declared.app_reading.Phase.{Phase}
 use Rattle.trace_text.specs.declared.app_reading.Phase.TheVariants.{Halting, Preparing, Initialising}
-use Rattle.trace_text.specs.declared.progress.Standing.{Standing}
+use Rattle.trace_text.specs.declared.progress.Expected.{Expected}
 use Rattle.trace_text.specs.declared.rule.TheConstants.{NOT_NEXT, NO_FORM, OUT_OF_ORDER, UNKNOWN_NAME, WRONG_COUNT, WRONG_NUMBER}
 use Rattle.trace_text.proofs.Found.{place_named}
-use Rattle.trace_text.proofs.Inversion.{if_ok, kept_says, map_some, some_says, then_some, unless_ok}
+use Rattle.trace_text.proofs.Inversion.{if_ok, kept_says, map_some, or_rule_ok, some_says, then_some}
 use Rattle.trace_text.proofs.Spelling.{number_spelled}
 use Rattle.picture_form.specs.Laws.{IsReportDrawn, IsRowDrawn}
 
@@ -134,10 +134,10 @@ begun_drawn spec frame up mode values world bytes read =
 end_row : (spec : Parts) (next : ℕ) (ws : List (List ℕ)) (at : ℕ) (mode : KMode) (values : List ℕ) (row : Row) → AreBytes values
     → row_end spec next ws at mode values ≡ Ok row → IsRowRead spec next row
 end_row spec next ws at mode values row bytes h =
-    let f = unless_ok WRONG_NUMBER (spelled_number MAX_FRAMES (word_at ws 1)) _ row h in
-    let w = unless_ok WRONG_NUMBER (world_at ws (at + 5)) _ row f.2 in
+    let f = or_rule_ok WRONG_NUMBER (spelled_number MAX_FRAMES (word_at ws 1)) _ row h in
+    let w = or_rule_ok WRONG_NUMBER (world_at ws (at + 5)) _ row f.2 in
     let t = if_ok (f.0 == next) _ NOT_NEXT row w.2 in
-    let u = unless_ok OUT_OF_ORDER (up_in spec.procs (word_at ws (at + 3))) _ row t.1 in
+    let u = or_rule_ok OUT_OF_ORDER (up_in spec.procs (word_at ws (at + 3))) _ row t.1 in
     let same : row_begun f.0 mode (env_read u.0 values) w.0 ≡ row = let e = u.2 in cc in
     let is_next : f.0 ≡ next = eqb-true f.0 next t.0 in
     let below = (number_spelled MAX_FRAMES f.0 (word_at ws 1) f.1).1 in
@@ -148,17 +148,17 @@ end_row spec next ws at mode values row bytes h =
 
 stable_read : (spec : Parts) (next : ℕ) (ws : List (List ℕ)) (row : Row) → IsSpec spec → stable_row spec next ws ≡ Ok row → IsRowRead spec next row
 stable_read spec next ws row sound h =
-    let c = unless_ok UNKNOWN_NAME (conf_named spec (word_at ws 3)) _ row h in
-    let v = unless_ok UNKNOWN_NAME (env_names spec ws 4) _ row c.2 in
+    let c = or_rule_ok UNKNOWN_NAME (conf_named spec (word_at ws 3)) _ row h in
+    let v = or_rule_ok UNKNOWN_NAME (env_names spec ws 4) _ row c.2 in
     end_row spec next ws 4 (Stable c.0) v.0 row (names_bytes spec ws 4 v.0 sound v.1) v.2
 
 moving_read : (spec : Parts) (next : ℕ) (ws : List (List ℕ)) (row : Row) → IsSpec spec → moving_row spec next ws ≡ Ok row → IsRowRead spec next row
 moving_read spec next ws row sound h =
-    let f = unless_ok UNKNOWN_NAME (conf_named spec (word_at ws 3)) _ row h in
-    let g = unless_ok UNKNOWN_NAME (conf_or_none spec (word_at ws 4)) _ row f.2 in
-    let t = unless_ok UNKNOWN_NAME (conf_named spec (word_at ws 5)) _ row g.2 in
-    let v = unless_ok UNKNOWN_NAME (env_names spec ws 7) _ row t.2 in
-    let s = unless_ok WRONG_NUMBER (spelled_number MAX_FRAMES (word_at ws 6)) _ row v.2 in
+    let f = or_rule_ok UNKNOWN_NAME (conf_named spec (word_at ws 3)) _ row h in
+    let g = or_rule_ok UNKNOWN_NAME (conf_or_none spec (word_at ws 4)) _ row f.2 in
+    let t = or_rule_ok UNKNOWN_NAME (conf_named spec (word_at ws 5)) _ row g.2 in
+    let v = or_rule_ok UNKNOWN_NAME (env_names spec ws 7) _ row t.2 in
+    let s = or_rule_ok WRONG_NUMBER (spelled_number MAX_FRAMES (word_at ws 6)) _ row v.2 in
     end_row spec next ws 7 (Moving f.0 g.0 t.0 s.0) v.0 row (names_bytes spec ws 7 v.0 sound v.1) s.2
 
 words_read : (stable moving : Bool) (spec : Parts) (next : ℕ) (ws : List (List ℕ)) (row : Row) → IsSpec spec
@@ -169,7 +169,7 @@ words_read false false spec next ws row sound h = absurd (let e = h in cc)
 
 pub line_read : (spec : Parts) (next : ℕ) (line : List ℕ) (row : Row) → IsSpec spec → row_read spec next line ≡ Ok row → IsRowRead spec next row
 line_read spec next line row sound h =
-    let w = unless_ok NO_FORM (words_in line) (row_of_words spec next) row h in
+    let w = or_rule_ok NO_FORM (words_in line) (row_of_words spec next) row h in
     words_read (is_stable_form spec w.0) (is_moving_form spec w.0) spec next w.0 row sound w.2
 
 -- applications
@@ -203,10 +203,10 @@ IsShownDone spec a told = (app : AppSpec) → slice_get spec.apps a ≡ Some app
 
 ran_shown : (spec : Parts) (a : ℕ) (ws : List (List ℕ)) (told : Done) → ran_line spec a ws ≡ Ok told → IsShownDone spec a told
 ran_shown spec a ws told h app there =
-    let n = unless_ok UNKNOWN_NAME (app_number spec (word_at ws 1)) _ told h in
-    let m = unless_ok UNKNOWN_NAME (listed_mode spec n.0 (word_at ws 3)) _ told n.2 in
-    let p = unless_ok UNKNOWN_NAME (proc_named spec (word_at ws 4)) _ told m.2 in
-    let z = unless_ok WRONG_NUMBER (signed_from 8 6 ws) _ told p.2 in
+    let n = or_rule_ok UNKNOWN_NAME (app_number spec (word_at ws 1)) _ told h in
+    let m = or_rule_ok UNKNOWN_NAME (listed_mode spec n.0 (word_at ws 3)) _ told n.2 in
+    let p = or_rule_ok UNKNOWN_NAME (proc_named spec (word_at ws 4)) _ told m.2 in
+    let z = or_rule_ok WRONG_NUMBER (signed_from 8 6 ws) _ told p.2 in
     let t = if_ok (n.0 == a) _ NOT_NEXT told z.2 in
     let same : done (act.Ran m.0 p.0) z.0 ≡ told = let e = t.1 in cc in
     let at : n.0 ≡ a = eqb-true n.0 a t.0 in
@@ -222,11 +222,11 @@ step_shown spec app Initialising k n proc inside most on = record { inside = ins
 
 phase_shown : (spec : Parts) (a : ℕ) (ws : List (List ℕ)) (phase : Phase) (sides : List ℕ × List ℕ) (told : Done) → phase_line spec a ws phase sides ≡ Ok told → IsShownDone spec a told
 phase_shown spec a ws phase sides told h app there =
-    let m = unless_ok UNKNOWN_NAME (app_number spec (word_at ws 1)) _ told h in
-    let p = unless_ok UNKNOWN_NAME (proc_named spec (word_at ws 4)) _ told m.2 in
-    let k = unless_ok WRONG_NUMBER (spelled_number 256 sides.0) _ told p.2 in
-    let n = unless_ok WRONG_NUMBER (spelled_number 256 sides.1) _ told k.2 in
-    let z = unless_ok WRONG_NUMBER (signed_from 8 6 ws) _ told n.2 in
+    let m = or_rule_ok UNKNOWN_NAME (app_number spec (word_at ws 1)) _ told h in
+    let p = or_rule_ok UNKNOWN_NAME (proc_named spec (word_at ws 4)) _ told m.2 in
+    let k = or_rule_ok WRONG_NUMBER (spelled_number 256 sides.0) _ told p.2 in
+    let n = or_rule_ok WRONG_NUMBER (spelled_number 256 sides.1) _ told k.2 in
+    let z = or_rule_ok WRONG_NUMBER (signed_from 8 6 ws) _ told n.2 in
     let t = if_ok (m.0 == a) _ NOT_NEXT told z.2 in
     let r = if_ok (nat_lt k.0 n.0 && nat_le n.0 MAX_PHASE) _ OUT_OF_ORDER told t.1 in
     let inside = and_parts (nat_lt k.0 n.0) (nat_le n.0 MAX_PHASE) r.0 in
@@ -245,32 +245,32 @@ bare_by false false false did h spec app = absurd (let e = h in cc)
 
 bare_shown : (spec : Parts) (a : ℕ) (ws : List (List ℕ)) (did : Act) (told : Done) → IsBare did → bare_line spec a ws did ≡ Ok told → IsShownDone spec a told
 bare_shown spec a ws did told bare h app there =
-    let m = unless_ok UNKNOWN_NAME (app_number spec (word_at ws 1)) _ told h in
-    let z = unless_ok WRONG_NUMBER (signed_from 8 4 ws) _ told m.2 in
+    let m = or_rule_ok UNKNOWN_NAME (app_number spec (word_at ws 1)) _ told h in
+    let z = or_rule_ok WRONG_NUMBER (signed_from 8 4 ws) _ told m.2 in
     let t = if_ok (m.0 == a) _ NOT_NEXT told z.2 in
     let same : done did z.0 ≡ told = let e = t.1 in cc in
     rw (← same) (bare spec app)
 
 placed_by : (ran : Bool) (spec : Parts) (a : ℕ) (ws : List (List ℕ)) (told : Done)
-    → cond ran (ran_line spec a ws) (unless NO_FORM (phase_named (word_at ws 2)) (λ (phase : Phase). unless NO_FORM (sides_of (word_at ws 3)) (phase_line spec a ws phase))) ≡ Ok told
+    → cond ran (ran_line spec a ws) (or_rule NO_FORM (phase_named (word_at ws 2)) (λ (phase : Phase). or_rule NO_FORM (sides_of (word_at ws 3)) (phase_line spec a ws phase))) ≡ Ok told
     → IsShownDone spec a told
 placed_by true spec a ws told h = ran_shown spec a ws told h
 placed_by false spec a ws told h =
-    let p = unless_ok NO_FORM (phase_named (word_at ws 2)) _ told h in
-    let s = unless_ok NO_FORM (sides_of (word_at ws 3)) _ told p.2 in
+    let p = or_rule_ok NO_FORM (phase_named (word_at ws 2)) _ told h in
+    let s = or_rule_ok NO_FORM (sides_of (word_at ws 3)) _ told p.2 in
     phase_shown spec a ws p.0 s.0 told s.2
 
 app_by : (placed bare : Bool) (spec : Parts) (a : ℕ) (ws : List (List ℕ)) (told : Done)
-    → cond placed (placed_line spec a ws) (cond bare (unless NO_FORM (bare_act (word_at ws 2)) (bare_line spec a ws)) (Err NO_FORM)) ≡ Ok told → IsShownDone spec a told
+    → cond placed (placed_line spec a ws) (cond bare (or_rule NO_FORM (bare_act (word_at ws 2)) (bare_line spec a ws)) (Err NO_FORM)) ≡ Ok told → IsShownDone spec a told
 app_by true bare spec a ws told h = placed_by (is_word ws 2 (codes "ran")) spec a ws told h
 app_by false true spec a ws told h =
-    let b = unless_ok NO_FORM (bare_act (word_at ws 2)) _ told h in
+    let b = or_rule_ok NO_FORM (bare_act (word_at ws 2)) _ told h in
     bare_shown spec a ws b.0 told (bare_by _ _ _ b.0 b.1) b.2
 app_by false false spec a ws told h = absurd (let e = h in cc)
 
 pub app_shown : (spec : Parts) (a : ℕ) (line : List ℕ) (told : Done) → app_read spec a line ≡ Ok told → IsShownDone spec a told
 app_shown spec a line told h =
-    let w = unless_ok NO_FORM (words_in line) (app_in spec a) told h in
+    let w = or_rule_ok NO_FORM (words_in line) (app_in spec a) told h in
     app_by (is_placed_form w.0) (is_bare_form w.0) spec a w.0 told w.2
 
 -- a row that can be drawn, with the act of one further application
@@ -287,9 +287,9 @@ app_drawn spec row a told drawn shown = record {
 ended_drawn : (ws : List (List ℕ)) (from : ConfId) (to : Option ConfId) (end : ℕ) (given : Option ℕ) (report : Report) → end ≤ MAX_FRAMES
     → report_end ws from to end given ≡ Ok report → IsReportDrawn report
 ended_drawn ws from to end given report few h =
-    let s = unless_ok WRONG_NUMBER (spelled_number MAX_FRAMES (word_at ws 5)) _ report h in
-    let d = unless_ok WRONG_NUMBER (spelled_number (2 ^ 32) (word_at ws 9)) _ report s.2 in
-    let b = unless_ok WRONG_NUMBER (bound_or_none (word_at ws 11)) _ report d.2 in
+    let s = or_rule_ok WRONG_NUMBER (spelled_number MAX_FRAMES (word_at ws 5)) _ report h in
+    let d = or_rule_ok WRONG_NUMBER (spelled_number (2 ^ 32) (word_at ws 9)) _ report s.2 in
+    let b = or_rule_ok WRONG_NUMBER (bound_or_none (word_at ws 11)) _ report d.2 in
     let t = if_ok (nat_le s.0 end && (d.0 == end - s.0) && same_bound b.0 given) _ WRONG_COUNT report b.2 in
     let same : record { from = from; to = to; begin = s.0; end = end } ≡ report = let e = t.1 in cc in
     let begun = (number_spelled MAX_FRAMES s.0 (word_at ws 5) s.1).1 in
@@ -298,15 +298,15 @@ ended_drawn ws from to end given report few h =
 
 finished_drawn : (spec : Parts) (ws : List (List ℕ)) (report : Report) → finished_report spec ws ≡ Ok report → IsReportDrawn report
 finished_drawn spec ws report h =
-    let f = unless_ok UNKNOWN_NAME (conf_named spec (word_at ws 1)) _ report h in
-    let t = unless_ok UNKNOWN_NAME (conf_named spec (word_at ws 3)) _ report f.2 in
-    let e = unless_ok WRONG_NUMBER (spelled_number MAX_FRAMES (word_at ws 7)) _ report t.2 in
+    let f = or_rule_ok UNKNOWN_NAME (conf_named spec (word_at ws 1)) _ report h in
+    let t = or_rule_ok UNKNOWN_NAME (conf_named spec (word_at ws 3)) _ report f.2 in
+    let e = or_rule_ok WRONG_NUMBER (spelled_number MAX_FRAMES (word_at ws 7)) _ report t.2 in
     let below = (number_spelled MAX_FRAMES e.0 (word_at ws 7) e.1).1 in
     ended_drawn ws f.0 (Some t.0) e.0 (bound_in spec.bounds f.0.0 t.0.0) report (omega (arith, below)) e.2
 
 unfinished_drawn : (spec : Parts) (frames : ℕ) (ws : List (List ℕ)) (report : Report) → frames ≤ MAX_FRAMES → unfinished_report spec frames ws ≡ Ok report → IsReportDrawn report
 unfinished_drawn spec frames ws report few h =
-    let f = unless_ok UNKNOWN_NAME (conf_named spec (word_at ws 1)) _ report h in
+    let f = or_rule_ok UNKNOWN_NAME (conf_named spec (word_at ws 1)) _ report h in
     ended_drawn ws f.0 None frames (greatest_bound_in spec.bounds f.0.0) report few f.2
 
 report_by : (to end : Bool) (spec : Parts) (frames : ℕ) (ws : List (List ℕ)) (report : Report) → frames ≤ MAX_FRAMES
@@ -318,6 +318,6 @@ report_by false false spec frames ws report few h = finished_drawn spec ws repor
 
 pub report_drawn : (spec : Parts) (frames : ℕ) (line : List ℕ) (report : Report) → frames ≤ MAX_FRAMES → report_read spec frames line ≡ Ok report → IsReportDrawn report
 report_drawn spec frames line report few h =
-    let w = unless_ok NO_FORM (words_in line) (report_in spec frames) report h in
+    let w = or_rule_ok NO_FORM (words_in line) (report_in spec frames) report h in
     let f = if_ok (is_report_form w.0) _ NO_FORM report w.2 in
     report_by (is_word w.0 3 (codes "-")) (is_word w.0 7 (codes "-")) spec frames w.0 report few f.1

@@ -11,7 +11,7 @@ use Rattle.flight_facts.specs.declared.extremes.Quantity.TheVariants.{Altitude, 
 use Rattle.flight_facts.specs.declared.spans.Lane.TheVariants.{Factor as InFactor, Processor as InProcessor, Application as InApplication}
 use Rattle.form_base.specs.Texts.{texts_below}
 use Rattle.picture_form.specs.Lanes.{lanes_text, spans_text, strip_of}
-use Rattle.picture_form.specs.Laws.{DrawnAlike, IsDrawn, IsRowDrawn, drawn_in, drawn_titles, PicturesTell}
+use Rattle.picture_form.specs.Laws.{DrawnAlike, EqualPicturesShowTheSame, IsDrawn, IsRowDrawn, drawn_in, drawn_titles}
 use Rattle.picture_form.specs.Picture.{altitude_text, conf_strip, foot_text, grid_text, heading_text, legend_text, open_line, picture_text}
 use Rattle.picture_form.specs.Reconfigurations.{reconfiguration_boxes}
 use Rattle.picture_form.specs.Sheets.{curves_y, lane_of, lane_y, lanes_of, room_above, sheet_of}
@@ -202,8 +202,8 @@ heading_same spec rows others known drawn few same e =
     let sheet = sheet_of spec rows in
     (quantity_same sheet Heading (curves_y sheet + 64) rows others (legend_text sheet) (legend_text sheet) few same (λ i x there. (known i x there).heading) (λ i x there. (drawn i x there).heading) e).alike
 
-pub pictures_tell : PicturesTell
-pictures_tell spec rows others reports reported sound mine theirs e =
+pub equal_pictures_show_the_same : EqualPicturesShowTheSame
+equal_pictures_show_the_same spec rows others reports reported sound mine theirs e =
     let sheet = sheet_of spec rows in
     let parts = parts_same spec rows others reports reported sound mine theirs e in
     let tells : (n : ℕ) → n < lanes_of sheet → SameRows (lane_of sheet n) rows others

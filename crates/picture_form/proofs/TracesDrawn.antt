@@ -16,11 +16,11 @@ use Rattle.trace_text.specs.AppReading.{app_read, done}
 use Rattle.trace_text.specs.Pieces.{is_filled, pieces_of}
 use Rattle.trace_text.specs.ReportReading.{end_read, report_read}
 use Rattle.trace_text.specs.RowReading.{row_read}
-use Rattle.trace_text.specs.TraceReading.{SoFar, after_app, after_line, at_end, before_first, begins, closing, fault_at, go_on, is_plain, standing_line, trace_from, with_app, with_done, with_end, with_report, with_row}
+use Rattle.trace_text.specs.TraceReading.{ReadingState, after_app, after_line, at_end, before_first, begins, closing, fault_at, go_on, is_plain, standing_line, trace_from, with_app, with_done, with_end, with_report, with_row}
 use Rattle.trace_text.specs.declared.app_reading.Done.{Done}
 use Rattle.trace_text.specs.declared.app_reading.Phase.{Phase}
-use Rattle.trace_text.specs.declared.progress.Standing.{Standing}
-use Rattle.trace_text.specs.declared.progress.Standing.TheVariants.{Rows, Apps, Reports, Over}
+use Rattle.trace_text.specs.declared.progress.Expected.{Expected}
+use Rattle.trace_text.specs.declared.progress.Expected.TheVariants.{Rows, Apps, Reports, Over}
 use Rattle.trace_text.specs.declared.trace_reading.TraceFault.{TraceFault}
 use Rattle.trace_text.specs.declared.rule.TheConstants.{BROKEN_LINE, OUT_OF_PLACE, WRONG_END}
 use Rattle.trace_text.proofs.Inversion.{if_ok}
@@ -30,20 +30,20 @@ use Rattle.picture_form.specs.Laws.{IsReportDrawn, IsRowDrawn, TracesAreDrawn}
 -- line by line
 
 -- a row whose applications have been read can be drawn, and has its place in a flight
-abbrev OpenDrawn : Parts → List Row → Standing → Type 0
+abbrev OpenDrawn : Parts → List Row → Expected → Type 0
 OpenDrawn spec rows Rows = ⊤
 OpenDrawn spec rows (Apps a row) = IsRowDrawn spec row × (length rows < MAX_FRAMES)
 OpenDrawn spec rows Reports = ⊤
 OpenDrawn spec rows Over = ⊤
 
 -- the contents of the lines so far can be drawn
-record Drawn (spec : Parts) (s : SoFar) : Type 0 where
+record Drawn (spec : Parts) (s : ReadingState) : Type 0 where
   rows : Each (IsRowDrawn spec) s.rows
   reports : Each IsReportDrawn s.reports
   few : length s.rows ≤ MAX_FRAMES
   begun : OpenDrawn spec s.rows s.standing
 
-row_step : (spec : Parts) (s t : SoFar) (line : List ℕ) → IsSpec spec → Drawn spec s → (read : Result Row ℕ) → row_read spec (length s.rows) line ≡ read → with_row s read ≡ Ok t → Drawn spec t
+row_step : (spec : Parts) (s t : ReadingState) (line : List ℕ) → IsSpec spec → Drawn spec s → (read : Result Row ℕ) → row_read spec (length s.rows) line ≡ read → with_row s read ≡ Ok t → Drawn spec t
 row_step spec s t line sound drawn (Err rule) is h = absurd (let e = h in cc)
 row_step spec s t line sound drawn (Ok row) is h =
     let read = line_read spec (length s.rows) line row sound is in
@@ -52,21 +52,21 @@ row_step spec s t line sound drawn (Ok row) is h =
     = record { rows = drawn.rows; reports = drawn.reports; few = drawn.few; begun = (read.drawn, read.due) } in
     rw (← same) made
 
-after_drawn : (more : Bool) (spec : Parts) (s : SoFar) (a : ℕ) (row : Row) → Drawn spec s → IsRowDrawn spec row → length s.rows < MAX_FRAMES
+after_drawn : (more : Bool) (spec : Parts) (s : ReadingState) (a : ℕ) (row : Row) → Drawn spec s → IsRowDrawn spec row → length s.rows < MAX_FRAMES
     → Drawn spec (cond more (record { rows = s.rows; reports = s.reports; standing = Apps (a + 1) row }) (record { rows = s.rows ++ row ∷ []; reports = s.reports; standing = Rows }))
 after_drawn true spec s a row drawn new below = record { rows = drawn.rows; reports = drawn.reports; few = drawn.few; begun = (new, below) }
 after_drawn false spec s a row drawn new below =
     let one : length (s.rows ++ row ∷ []) ≡ length s.rows + 1 = length-append s.rows (row ∷ []) in
     record { rows = each_end (IsRowDrawn spec) s.rows row drawn.rows new; reports = drawn.reports; few = omega (arith, one, below); begun = tt }
 
-app_step : (spec : Parts) (s t : SoFar) (line : List ℕ) (a : ℕ) (row : Row) → Drawn spec s → IsRowDrawn spec row → length s.rows < MAX_FRAMES
+app_step : (spec : Parts) (s t : ReadingState) (line : List ℕ) (a : ℕ) (row : Row) → Drawn spec s → IsRowDrawn spec row → length s.rows < MAX_FRAMES
     → (read : Result Done ℕ) → app_read spec a line ≡ read → with_done spec s a row read ≡ Ok t → Drawn spec t
 app_step spec s t line a row drawn begun below (Err rule) is h = absurd (let e = h in cc)
 app_step spec s t line a row drawn begun below (Ok told) is h =
     let same : after_app spec s a (with_app row a told.act told.area) ≡ t = let e = h in cc in
     rw (← same) (after_drawn (nat_lt (a + 1) (length spec.apps)) spec s a (with_app row a told.act told.area) drawn (app_drawn spec row a told begun (app_shown spec a line told is)) below)
 
-report_step : (spec : Parts) (s t : SoFar) (line : List ℕ) → Drawn spec s → (read : Result Report ℕ) → report_read spec (length s.rows) line ≡ read → with_report s read ≡ Ok t → Drawn spec t
+report_step : (spec : Parts) (s t : ReadingState) (line : List ℕ) → Drawn spec s → (read : Result Report ℕ) → report_read spec (length s.rows) line ≡ read → with_report s read ≡ Ok t → Drawn spec t
 report_step spec s t line drawn (Err rule) is h = absurd (let e = h in cc)
 report_step spec s t line drawn (Ok report) is h =
     let same : record { rows = s.rows; reports = s.reports ++ report ∷ []; standing = Reports } ≡ t = let e = h in cc in
@@ -74,40 +74,40 @@ report_step spec s t line drawn (Ok report) is h =
     = record { rows = drawn.rows; reports = each_end IsReportDrawn s.reports report drawn.reports (report_drawn spec (length s.rows) line report drawn.few is); few = drawn.few; begun = tt } in
     rw (← same) made
 
-end_step : (spec : Parts) (s t : SoFar) → Drawn spec s → (read : Result ⊤ ℕ) → with_end s read ≡ Ok t → Drawn spec t
+end_step : (spec : Parts) (s t : ReadingState) → Drawn spec s → (read : Result ⊤ ℕ) → with_end s read ≡ Ok t → Drawn spec t
 end_step spec s t drawn (Err rule) h = absurd (let e = h in cc)
 end_step spec s t drawn (Ok done) h =
     let same : record { rows = s.rows; reports = s.reports; standing = Over } ≡ t = let e = h in cc in
     let made : Drawn spec (record { rows = s.rows; reports = s.reports; standing = Over }) = record { rows = drawn.rows; reports = drawn.reports; few = drawn.few; begun = tt } in
     rw (← same) made
 
-closing_by : (report end : Bool) (spec : Parts) (s t : SoFar) (line : List ℕ) → Drawn spec s
+closing_by : (report end : Bool) (spec : Parts) (s t : ReadingState) (line : List ℕ) → Drawn spec s
     → cond report (with_report s (report_read spec (length s.rows) line)) (cond end (with_end s (end_read (length s.rows) (length s.reports) line)) (Err OUT_OF_PLACE)) ≡ Ok t → Drawn spec t
 closing_by true end spec s t line drawn h = report_step spec s t line drawn (report_read spec (length s.rows) line) refl h
 closing_by false true spec s t line drawn h = end_step spec s t drawn (end_read (length s.rows) (length s.reports) line) h
 closing_by false false spec s t line drawn h = absurd (let e = h in cc)
 
-closing_step : (spec : Parts) (s t : SoFar) (line : List ℕ) → Drawn spec s → closing spec s line ≡ Ok t → Drawn spec t
+closing_step : (spec : Parts) (s t : ReadingState) (line : List ℕ) → Drawn spec s → closing spec s line ≡ Ok t → Drawn spec t
 closing_step spec s t line drawn h = closing_by (begins line (codes "reconfiguration")) (begins line (codes "end")) spec s t line drawn h
 
-rows_by : (frame : Bool) (spec : Parts) (s t : SoFar) (line : List ℕ) → IsSpec spec → Drawn spec s
+rows_by : (frame : Bool) (spec : Parts) (s t : ReadingState) (line : List ℕ) → IsSpec spec → Drawn spec s
     → cond frame (with_row s (row_read spec (length s.rows) line)) (closing spec s line) ≡ Ok t → Drawn spec t
 rows_by true spec s t line sound drawn h = row_step spec s t line sound drawn (row_read spec (length s.rows) line) refl h
 rows_by false spec s t line sound drawn h = closing_step spec s t line drawn h
 
-apps_by : (app : Bool) (spec : Parts) (s t : SoFar) (line : List ℕ) (a : ℕ) (row : Row) → Drawn spec s → IsRowDrawn spec row × (length s.rows < MAX_FRAMES)
+apps_by : (app : Bool) (spec : Parts) (s t : ReadingState) (line : List ℕ) (a : ℕ) (row : Row) → Drawn spec s → IsRowDrawn spec row × (length s.rows < MAX_FRAMES)
     → cond app (with_done spec s a row (app_read spec a line)) (Err OUT_OF_PLACE) ≡ Ok t → Drawn spec t
 apps_by true spec s t line a row drawn begun h = app_step spec s t line a row drawn begun.0 begun.1 (app_read spec a line) refl h
 apps_by false spec s t line a row drawn begun h = absurd (let e = h in cc)
 
-standing_step : (spec : Parts) (s t : SoFar) (standing : Standing) (line : List ℕ) → IsSpec spec → Drawn spec s → OpenDrawn spec s.rows standing
+standing_step : (spec : Parts) (s t : ReadingState) (standing : Expected) (line : List ℕ) → IsSpec spec → Drawn spec s → OpenDrawn spec s.rows standing
     → standing_line spec s standing line ≡ Ok t → Drawn spec t
 standing_step spec s t Rows line sound drawn begun h = rows_by (begins line (codes "frame")) spec s t line sound drawn h
 standing_step spec s t (Apps a row) line sound drawn begun h = apps_by (begins line (codes "app")) spec s t line a row drawn begun h
 standing_step spec s t Reports line sound drawn begun h = closing_step spec s t line drawn h
 standing_step spec s t Over line sound drawn begun h = absurd (let e = h in cc)
 
-line_step : (spec : Parts) (s t : SoFar) (line : List ℕ) → IsSpec spec → Drawn spec s → after_line spec s line ≡ Ok t → Drawn spec t
+line_step : (spec : Parts) (s t : ReadingState) (line : List ℕ) → IsSpec spec → Drawn spec s → after_line spec s line ≡ Ok t → Drawn spec t
 line_step spec s t line sound drawn h =
     standing_step spec s t s.standing line sound drawn drawn.begun (if_ok (is_plain line) (standing_line spec s s.standing line) BROKEN_LINE t h).1
 
@@ -116,7 +116,7 @@ record DrawnWhole (spec : Parts) (flown : Flown) : Type 0 where
   rows : Each (IsRowDrawn spec) flown.rows
   reports : Each IsReportDrawn flown.reports
 
-ended : (spec : Parts) (k : ℕ) (s : SoFar) (standing : Standing) (flown : Flown) → Drawn spec s → at_end k s standing ≡ Ok flown → DrawnWhole spec flown
+ended : (spec : Parts) (k : ℕ) (s : ReadingState) (standing : Expected) (flown : Flown) → Drawn spec s → at_end k s standing ≡ Ok flown → DrawnWhole spec flown
 ended spec k s Over flown drawn h =
     let same : record { rows = s.rows; reports = s.reports } ≡ flown = let e = h in cc in
     let made : DrawnWhole spec (record { rows = s.rows; reports = s.reports }) = record { rows = drawn.rows; reports = drawn.reports } in
@@ -125,17 +125,17 @@ ended spec k s Rows flown drawn h = absurd (let e = h in cc)
 ended spec k s (Apps a row) flown drawn h = absurd (let e = h in cc)
 ended spec k s Reports flown drawn h = absurd (let e = h in cc)
 
-last_by : (filled : Bool) (spec : Parts) (k : ℕ) (s : SoFar) (flown : Flown) → Drawn spec s → cond filled (Err (fault_at k BROKEN_LINE)) (at_end k s s.standing) ≡ Ok flown → DrawnWhole spec flown
+last_by : (filled : Bool) (spec : Parts) (k : ℕ) (s : ReadingState) (flown : Flown) → Drawn spec s → cond filled (Err (fault_at k BROKEN_LINE)) (at_end k s s.standing) ≡ Ok flown → DrawnWhole spec flown
 last_by true spec k s flown drawn h = absurd (let e = h in cc)
 last_by false spec k s flown drawn h = ended spec k s s.standing flown drawn h
 
-go_by : (spec : Parts) (k : ℕ) (s : SoFar) (line next : List ℕ) (lines : List (List ℕ)) (flown : Flown) → IsSpec spec → Drawn spec s
-    → ((t : SoFar) → Drawn spec t → trace_from spec (k + 1) t (next ∷ lines) ≡ Ok flown → DrawnWhole spec flown)
-    → (read : Result SoFar ℕ) → after_line spec s line ≡ read → go_on k read (λ (t : SoFar). trace_from spec (k + 1) t (next ∷ lines)) ≡ Ok flown → DrawnWhole spec flown
+go_by : (spec : Parts) (k : ℕ) (s : ReadingState) (line next : List ℕ) (lines : List (List ℕ)) (flown : Flown) → IsSpec spec → Drawn spec s
+    → ((t : ReadingState) → Drawn spec t → trace_from spec (k + 1) t (next ∷ lines) ≡ Ok flown → DrawnWhole spec flown)
+    → (read : Result ReadingState ℕ) → after_line spec s line ≡ read → go_on k read (λ (t : ReadingState). trace_from spec (k + 1) t (next ∷ lines)) ≡ Ok flown → DrawnWhole spec flown
 go_by spec k s line next lines flown sound drawn more (Err rule) is h = absurd (let e = h in cc)
 go_by spec k s line next lines flown sound drawn more (Ok t) is h = more t (line_step spec s t line sound drawn is) h
 
-lines_drawn : (spec : Parts) (k : ℕ) (s : SoFar) (lines : List (List ℕ)) (flown : Flown) → IsSpec spec → Drawn spec s → trace_from spec k s lines ≡ Ok flown → DrawnWhole spec flown
+lines_drawn : (spec : Parts) (k : ℕ) (s : ReadingState) (lines : List (List ℕ)) (flown : Flown) → IsSpec spec → Drawn spec s → trace_from spec k s lines ≡ Ok flown → DrawnWhole spec flown
 lines_drawn spec k s [] flown sound drawn h = ended spec k s s.standing flown drawn h
 lines_drawn spec k s (last ∷ []) flown sound drawn h = last_by (is_filled last) spec k s flown drawn h
 lines_drawn spec k s (line ∷ next ∷ lines) flown sound drawn h =

@@ -68,8 +68,8 @@ pub record ShowTheSame (spec : Parts) (rows others : List Row) (reports reported
   pub heading : DrawnAlike Heading rows others
 
 -- Flights of one specification that have the same picture show the same.
-abbrev pub PicturesTell : Type 0
-PicturesTell = (spec : Parts) (rows others : List Row) (reports reported : List Report) → IsSpec spec → IsDrawn spec rows reports
+abbrev pub EqualPicturesShowTheSame : Type 0
+EqualPicturesShowTheSame = (spec : Parts) (rows others : List Row) (reports reported : List Report) → IsSpec spec → IsDrawn spec rows reports
     → IsDrawn spec others reported → picture_text spec rows reports ≡ picture_text spec others reported → ShowTheSame spec rows others reports reported
 
 -- Every flight can be drawn.

@@ -32,7 +32,7 @@ pub fn sheet_of(spec: &Spec, rows: &[Row]) -> Sheet
 
 fn scale_of(rows: u32) -> u64
     ensures value { result ≡ scale_of rows }
-    ensures small { result ≤ 8 }
+    ensures at_most { result ≤ 8 }
 {
     if rows > 8000 {
         1
@@ -48,7 +48,7 @@ fn scale_of(rows: u32) -> u64
 fn rows_of_tick(rows: u32) -> u32
     ensures value { result ≡ rows_of_tick rows }
     ensures some { 10 ≤ result }
-    ensures small { result ≤ 100 }
+    ensures at_most { result ≤ 100 }
 {
     if rows > 8000 {
         100
@@ -65,7 +65,7 @@ impl Sheet {
     /// Returns the width of a row.
     pub fn scale(self) -> u64
         ensures value { result ≡ scale_of self.rows }
-        ensures small { result ≤ 8 }
+        ensures at_most { result ≤ 8 }
     {
         scale_of(self.rows)
     }
@@ -74,7 +74,7 @@ impl Sheet {
     pub fn tick(self) -> u32
         ensures value { result ≡ rows_of_tick self.rows }
         ensures some { 10 ≤ result }
-        ensures small { result ≤ 100 }
+        ensures at_most { result ≤ 100 }
     {
         rows_of_tick(self.rows)
     }
@@ -83,7 +83,7 @@ impl Sheet {
     pub fn x(self, k: u64) -> u64
         requires { k ≤ 2 ^ 40 }
         ensures value { result ≡ x_of self k }
-        ensures small { result ≤ 2 ^ 44 }
+        ensures at_most { result ≤ 2 ^ 44 }
     {
         136 + self.scale() * k
     }
@@ -130,7 +130,7 @@ impl Sheet {
     fn room_above(self, n: u8) -> u64
         requires { IsSheet self }
         ensures value { result ≡ room_above self n }
-        ensures small { result ≤ 16 }
+        ensures at_most { result ≤ 16 }
     {
         if n < self.factors {
             0
@@ -145,7 +145,7 @@ impl Sheet {
     pub fn lane_y(self, n: u8) -> u64
         requires { IsSheet self }
         ensures value { result ≡ lane_y self n }
-        ensures small { result ≤ 6000 }
+        ensures at_most { result ≤ 6000 }
     {
         72 + 20 * u64::from(n) + self.room_above(n)
     }
@@ -154,7 +154,7 @@ impl Sheet {
     pub fn curves_y(self) -> u64
         requires { IsSheet self }
         ensures value { result ≡ curves_y self }
-        ensures small { result ≤ 6000 }
+        ensures at_most { result ≤ 6000 }
     {
         96 + 20 * u64::from(self.lanes())
     }
@@ -163,7 +163,7 @@ impl Sheet {
     pub fn bottom(self) -> u64
         requires { IsSheet self }
         ensures value { result ≡ bottom_of self }
-        ensures small { result ≤ 7000 }
+        ensures at_most { result ≤ 7000 }
     {
         self.curves_y() + 120
     }

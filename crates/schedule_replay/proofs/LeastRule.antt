@@ -11,13 +11,13 @@ use Rattle.bank_words.specs.declared.events.Event.TheVariants as event
 use Rattle.fault_script.specs.Times.{words as width_of}
 use Rattle.trace_text.specs.LineRules.{keeps}
 use Rattle.trace_text.specs.Pieces.{is_filled, word_at, words_of}
-use Rattle.trace_text.specs.Rules.{unless}
+use Rattle.trace_text.specs.Rules.{or_rule}
 use Rattle.trace_text.specs.Spelling.{spelled_number}
-use Rattle.trace_text.proofs.FirstBroken.{least_from, tells_least, told_by}
+use Rattle.trace_text.proofs.FirstBroken.{least_from, reports_least, told_by}
 use Rattle.schedule_replay.specs.declared.rule.TheConstants.{BROKEN_LINE, NO_FORM, UNKNOWN_EVENT, UNKNOWN_WORD}
 use Rattle.schedule_replay.specs.declared.verbs.Verb.{Verb}
 use Rattle.schedule_replay.specs.declared.verbs.Verb.TheVariants.{Start, Look, Store, Flip, Done, Halt, Note, KernelStore, Release}
-use Rattle.schedule_replay.specs.LineRules.{LeastEventRuleIsTold, event_form, has_words, names_event}
+use Rattle.schedule_replay.specs.LineRules.{LeastEventRuleIsReported, event_form, has_words, names_event}
 use Rattle.schedule_replay.specs.Reading.{event_read, event_told, is_legible, line_event, proc_in, verb_of, words_counted, words_for}
 use Rattle.schedule_replay.specs.Verbs.{word_count}
 
@@ -41,7 +41,7 @@ named spec words Note = one_told event.KNote (proc_in spec words)
 named spec words KernelStore = one_told event.KStore (spelled_number 20 (word_at words 1))
 named spec words Release = refl
 
-last_rule : (o : Option Event) (kept : Bool) → is_some o ≡ kept → told_by (unless UNKNOWN_EVENT o (λ (event : Event). Ok event)) ≡ least_from 4 (kept ∷ [])
+last_rule : (o : Option Event) (kept : Bool) → is_some o ≡ kept → told_by (or_rule UNKNOWN_EVENT o (λ (event : Event). Ok event)) ≡ least_from 4 (kept ∷ [])
 last_rule None true is = cc
 last_rule None false is = refl
 last_rule (Some e) true is = refl
@@ -76,7 +76,7 @@ formed verb line =
 
 -- rules 3 and 4 if the first word is known
 form_case : (spec : Parts) (line : List ℕ) (verb : Verb) (has : Bool) →
-    told_by (unless NO_FORM (if has then Some (words_of line) else None) (λ (words : List (List ℕ)). unless UNKNOWN_EVENT (event_told spec verb words) (λ (event : Event). Ok event)))
+    told_by (or_rule NO_FORM (if has then Some (words_of line) else None) (λ (words : List (List ℕ)). or_rule UNKNOWN_EVENT (event_told spec verb words) (λ (event : Event). Ok event)))
     ≡ least_from 3 (is_some (if has then Some verb else None) ∷ keeps (if has then Some verb else None) (names_event spec (words_of line)) ∷ [])
 form_case spec line verb true = last_rule (event_told spec verb (words_of line)) (names_event spec (words_of line) verb) (named spec (words_of line) verb)
 form_case spec line verb false = refl
@@ -85,18 +85,18 @@ abbrev form_by : List ℕ → Option Verb → Option Verb
 form_by line told = option_and_then (λ (verb : Verb). if has_words (words_of line) verb then Some verb else None) told
 
 verb_case : (spec : Parts) (line : List ℕ) (told : Option Verb) →
-    told_by (unless UNKNOWN_WORD told (λ (verb : Verb). unless NO_FORM (words_for verb line) (λ (words : List (List ℕ)). unless UNKNOWN_EVENT (event_told spec verb words) (λ (event : Event). Ok event))))
+    told_by (or_rule UNKNOWN_WORD told (λ (verb : Verb). or_rule NO_FORM (words_for verb line) (λ (words : List (List ℕ)). or_rule UNKNOWN_EVENT (event_told spec verb words) (λ (event : Event). Ok event))))
     ≡ least_from 2 (is_some told ∷ is_some (form_by line told) ∷ keeps (form_by line told) (names_event spec (words_of line)) ∷ [])
 verb_case spec line None = refl
 verb_case spec line (Some verb) =
-    ap (λ (o : Option (List (List ℕ))). told_by (unless NO_FORM o (λ (words : List (List ℕ)). unless UNKNOWN_EVENT (event_told spec verb words) (λ (event : Event). Ok event)))) (formed verb line)
+    ap (λ (o : Option (List (List ℕ))). told_by (or_rule NO_FORM o (λ (words : List (List ℕ)). or_rule UNKNOWN_EVENT (event_told spec verb words) (λ (event : Event). Ok event)))) (formed verb line)
     ∙ form_case spec line verb (has_words (words_of line) verb)
 
 legible_case : (legible : Bool) (read : Result Event ℕ) (more : List Bool) → told_by read ≡ least_from 2 more → told_by (if legible then read else Err BROKEN_LINE) ≡ least_from 1 (legible ∷ more)
 legible_case true read more is = is
 legible_case false read more is = refl
 
-pub least_rule : LeastEventRuleIsTold
+pub least_rule : LeastEventRuleIsReported
 least_rule spec line =
-    tells_least 1 (is_legible line ∷ is_some (verb_of line) ∷ is_some (event_form line) ∷ keeps (event_form line) (names_event spec (words_of line)) ∷ []) (event_read spec line)
+    reports_least 1 (is_legible line ∷ is_some (verb_of line) ∷ is_some (event_form line) ∷ keeps (event_form line) (names_event spec (words_of line)) ∷ []) (event_read spec line)
     (legible_case (is_legible line) (line_event spec line) (is_some (verb_of line) ∷ is_some (event_form line) ∷ keeps (event_form line) (names_event spec (words_of line)) ∷ []) (verb_case spec line (verb_of line)))

@@ -4,7 +4,7 @@ use Rattle.std.specs.List.{list_all}
 use Rattle.scram_types.specs.Specification.{Parts}
 use Rattle.scram_types.specs.Lookups.{proc_named}
 use Rattle.fault_script.specs.Times.{words as width_of}
-use Rattle.trace_text.specs.LineRules.{TellsLeast, keeps}
+use Rattle.trace_text.specs.LineRules.{ReportsLeast, keeps}
 use Rattle.trace_text.specs.Pieces.{is_filled, word_at, words_of}
 use Rattle.trace_text.specs.Spelling.{spelled_number}
 use Rattle.schedule_replay.specs.declared.rule.TheConstants.{BROKEN_LINE, NO_FORM, UNKNOWN_EVENT, UNKNOWN_WORD}
@@ -42,5 +42,5 @@ breaks_event_rule spec line rule =
     else (if rule == UNKNOWN_EVENT then not (keeps (event_form line) (names_event spec (words_of line))) else false)))
 
 -- A line that breaks no rule is read, and for any other line the first rule that it breaks, by number, is reported.
-abbrev pub LeastEventRuleIsTold : Type 0
-LeastEventRuleIsTold = (spec : Parts) (line : List ℕ) → TellsLeast (breaks_event_rule spec line) (event_read spec line)
+abbrev pub LeastEventRuleIsReported : Type 0
+LeastEventRuleIsReported = (spec : Parts) (line : List ℕ) → ReportsLeast (breaks_event_rule spec line) (event_read spec line)

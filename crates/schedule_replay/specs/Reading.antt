@@ -8,7 +8,7 @@ use Rattle.bank_words.specs.declared.events.Event.{Event}
 use Rattle.bank_words.specs.declared.events.Event.TheVariants as event
 use Rattle.fault_script.specs.Times.{words as width_of}
 use Rattle.trace_text.specs.Pieces.{is_filled, pieces_of, word_at, words_in, words_of}
-use Rattle.trace_text.specs.Rules.{unless}
+use Rattle.trace_text.specs.Rules.{or_rule}
 use Rattle.trace_text.specs.Spelling.{spelled_number}
 use Rattle.trace_text.specs.TraceReading.{is_printable}
 use Rattle.schedule_replay.specs.declared.limits.TheConstants.{MAX_EVENT_BYTES, MAX_SCHEDULE_BYTES}
@@ -58,9 +58,9 @@ event_told spec Release words = Some event.Release
 -- The event that a printable line encodes, or the first rule that the line breaks.
 abbrev pub line_event : Parts → List ℕ → Result Event ℕ
 line_event spec line =
-    unless UNKNOWN_WORD (verb_of line) (λ (verb : Verb).
-    unless NO_FORM (words_for verb line) (λ (words : List (List ℕ)).
-    unless UNKNOWN_EVENT (event_told spec verb words) (λ (event : Event). Ok event)))
+    or_rule UNKNOWN_WORD (verb_of line) (λ (verb : Verb).
+    or_rule NO_FORM (words_for verb line) (λ (words : List (List ℕ)).
+    or_rule UNKNOWN_EVENT (event_told spec verb words) (λ (event : Event). Ok event)))
 
 -- The event that a line encodes, or the first rule that the line breaks.
 abbrev pub event_read : Parts → List ℕ → Result Event ℕ

@@ -3,7 +3,7 @@
 ghost use Rattle.std.specs.Prelude.{◌≡◌};
 ghost use Rattle.schedule_replay.specs.Events.{HasEvents};
 ghost use Rattle.schedule_replay.specs.Laws.{OneAnswer};
-ghost use Rattle.schedule_replay.specs.LineRules.{LeastEventRuleIsTold};
+ghost use Rattle.schedule_replay.specs.LineRules.{LeastEventRuleIsReported};
 ghost use Rattle.schedule_replay.specs.Turns.{TurnsLeadToTheEnd};
 
 use event_core::Core;
@@ -16,8 +16,8 @@ pub fn turns_lead_to_the_end()
 
 /// A line that breaks no rule is read, and for any other line the first rule that it breaks, by number, is reported.
 /// Each rule is stated on its own, without an order of tests.
-pub fn least_rule_is_told()
-    ensures { LeastEventRuleIsTold }
+pub fn least_rule_is_reported()
+    ensures { LeastEventRuleIsReported }
 {}
 
 /// Apart from out of memory, a list of events has one answer. It is that of a whole schedule, the first event that is

@@ -166,7 +166,7 @@ pub missions_are_answered : MissionsAreAnswered
 missions_are_answered specification script map mission before after old new code answer complete told steady holds room =
     let there : AreThere map (specification ∷ script ∷ []) = (rw (holds.specification_file) refl, (rw (holds.script_file) refl, tt)) in
     let quiet : Unrisen before.faults after.faults × Unrisen old.faults new.faults =
-    quiet_of (RunAnswers specification script) (specification ∷ script ∷ []) before.told map before after old new told complete steady there
+    quiet_of (RunAnswers specification script) (specification ∷ script ∷ []) before.known_map map before after old new told complete steady there
     (has_room specification script map mission before old holds room) in
     let agrees : IfSome (Some map) (λ m. Agrees m answer.decides.reads) = rw told at answer.decides.grew.agrees in
     answers_by (RunAnswers specification script) (specification ∷ script ∷ []) before after answer.decides.reads (flight_text Trace mission) old new code

@@ -56,5 +56,5 @@ abbrev pub MissionsAreAnswered : Type 0
 MissionsAreAnswered = (specification script : List ℕ) (map : FileMap) (mission : MissionParts) (before after : FilesState) (old new : SinkState) (code : ℕ)
     → Ends (FormAnswers (form_of (run_words specification script))) (files_of (form_of (run_words specification script))) before after (IsSent old new code)
     → Completes (FormAnswers (form_of (run_words specification script))) (files_of (form_of (run_words specification script))) before after old new
-    → before.told ≡ Some map → IsTrue before.steady → HoldsMission map specification script mission
+    → before.known_map ≡ Some map → IsTrue before.steady → HoldsMission map specification script mission
     → HasRoomFor old (flight_text Trace mission) → EndsAnswered (flight_text Trace mission) old new code

@@ -8,7 +8,7 @@ none_agree (Some map) = tt
 
 -- no read
 pub grew_none : (files : FilesState) → Grew files files []
-grew_none files = record { history = sym (append-nil files.history); told = refl; agrees = none_agree files.told; count = omega arith }
+grew_none files = record { history = sym (append-nil files.history); known_map = refl; agrees = none_agree files.known_map; count = omega arith }
 
 agrees_more : (map : FileMap) (a b : History) → Agrees map a → Agrees map b → Agrees map (a ++ b)
 agrees_more map [] b first second = second
@@ -21,10 +21,10 @@ told_agrees (Some map) a b first second = agrees_more map a b first second
 -- first these reads, then those
 pub grew_more : (old mid new : FilesState) (a b : History) → Grew old mid a → Grew mid new b → Grew old new (a ++ b)
 grew_more old mid new a b first second =
-    let later : IfSome old.told (λ map. Agrees map b) = rw first.told at second.agrees in
+    let later : IfSome old.known_map (λ map. Agrees map b) = rw first.known_map at second.agrees in
     record {
       history = second.history ∙ ap (λ (front : History). front ++ b) first.history ∙ append_assoc old.history a b;
-      told = second.told ∙ first.told;
-      agrees = told_agrees old.told a b first.agrees later;
+      known_map = second.known_map ∙ first.known_map;
+      agrees = told_agrees old.known_map a b first.agrees later;
       count = omega (arith, first.count, second.count);
     }

@@ -26,7 +26,7 @@ unread_files map failing = record { history = []; map = map; failing = failing; 
 abbrev pub files_state : FilesHeld → FilesState
 files_state held = record {
   history = held.history;
-  told = Some held.map;
+  known_map = Some held.map;
   steady = nat_eq (length held.failing) 0 && nat_lt held.faults greatest_count;
   faults = held.faults;
 }

@@ -37,7 +37,7 @@ file_at name (entry ∷ rest) = if bytes_eq entry.0 name then Some entry.1 else 
 -- faults. If the files are steady, a read of a name in the map does not fail.
 pub record FilesState : Type 0 where
   pub history : History
-  pub told : Option FileMap
+  pub known_map : Option FileMap
   pub steady : Bool
   pub faults : ℕ
 
@@ -48,8 +48,8 @@ Agrees map reads = AllByRecursion (λ (read : List ℕ × List ℕ). file_at rea
 -- The history grew by exactly these reads, in order. If the map is known, the reads have its bytes.
 pub record Grew (old new : FilesState) (reads : History) : Type 0 where
   pub history : new.history ≡ old.history ++ reads
-  pub told : new.told ≡ old.told
-  pub agrees : IfSome old.told (λ map. Agrees map reads)
+  pub known_map : new.known_map ≡ old.known_map
+  pub agrees : IfSome old.known_map (λ map. Agrees map reads)
   pub count : old.faults ≤ new.faults
 
 -- The file of this name is longer than the limit, and more bytes than the limit were read. If the map is known, all of
@@ -58,12 +58,12 @@ pub record FoundLonger (old new : FilesState) (name : List ℕ) (limit : ℕ) : 
   pub bytes : List ℕ
   pub grew : Grew old new ((name, bytes) ∷ [])
   pub longer : limit < length bytes
-  pub counted : IfNone old.told (Rose old.faults new.faults)
+  pub counted : IfNone old.known_map (Rose old.faults new.faults)
 
 -- If the files are steady and the map is known, a read of a name in the map raises no count and leaves the files
 -- steady.
 abbrev pub StaysSteady : FilesState → FilesState → List ℕ → Type 0
-StaysSteady old new name = IsTrue old.steady → IfSome old.told (λ map. IsSome (file_at name map) → Unrisen old.faults new.faults × IsTrue new.steady)
+StaysSteady old new name = IsTrue old.steady → IfSome old.known_map (λ map. IsSome (file_at name map) → Unrisen old.faults new.faults × IsTrue new.steady)
 
 -- The state of a sink: the bytes sent, the bytes held back, the number of further bytes that it surely takes and sends,
 -- if known, and the count of faults.

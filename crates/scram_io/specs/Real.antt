@@ -9,7 +9,7 @@ pub record FilesSeen : Type 0 where
 
 -- The state of the system's files, which have no map known beforehand and are not steady.
 abbrev pub real_files : FilesSeen → FilesState
-real_files seen = record { history = seen.history; told = None; steady = false; faults = seen.faults }
+real_files seen = record { history = seen.history; known_map = None; steady = false; faults = seen.faults }
 
 -- Standard output: the bytes sent, the bytes held back and the count of faults.
 pub record SinkSeen : Type 0 where

@@ -20,7 +20,7 @@ use Rattle.frame_model.proofs.ReadLaws.{row_by_row}
 use Rattle.scram_kernel.specs.Drawing.{keepers_drawn, row_drawn}
 use Rattle.frame_model.specs.Storage.{kernel_image}
 use Rattle.scram_kernel.specs.Images.{image_given, image_next, state_left}
-use Rattle.scram_kernel.specs.Kernels.{KernelKeeps, KernelParts, Stands, kernel_after, rows_below}
+use Rattle.scram_kernel.specs.Kernels.{HoldsFlight, KernelKeeps, KernelParts, kernel_after, rows_below}
 use Rattle.scram_kernel.specs.Marks.{AreImages, AreMarks}
 use Rattle.scram_kernel.proofs.Rows.{keepers_are, row_is}
 use Rattle.frame_model.specs.Frames.{sys_of}
@@ -37,13 +37,13 @@ pub record Ticks (spec : Parts) (script : ScriptParts) (n : ℕ) (image : Kernel
   pub next_is : next ≡ image_next spec row keepers v
 
 row_told : {spec : Parts} {script : ScriptParts} {n : ℕ} {image : KernelImage} {areas : List (List ℤ)} {reading : Reading} {rows : List Row} {reports : List Report} {marks : List ℕ} {images : List (List ℤ)} {v : Env} {row : Row} {keepers : List (Option ProcId)} {next : KernelImage}
-    → Stands spec script n image areas reading rows reports → Ticks spec script n image areas marks images v row keepers next → row ≡ row_at spec script n
+    → HoldsFlight spec script n image areas reading rows reports → Ticks spec script n image areas marks images v row keepers next → row ≡ row_at spec script n
 row_told {spec} {script} {n} {image} {areas} {marks = marks} {images = images} s t =
     t.row_is ∙ ap (λ i. row_drawn spec i marks images areas) s.image_is ∙ ap (row_drawn spec (kernel_image spec script n) marks images) s.areas_are
     ∙ row_is spec t.facts script n marks images t.marks_are t.images_are
 
 keepers_told : {spec : Parts} {script : ScriptParts} {n : ℕ} {image : KernelImage} {areas : List (List ℤ)} {reading : Reading} {rows : List Row} {reports : List Report} {marks : List ℕ} {images : List (List ℤ)} {v : Env} {row : Row} {keepers : List (Option ProcId)} {next : KernelImage}
-    → Stands spec script n image areas reading rows reports → Ticks spec script n image areas marks images v row keepers next → keepers ≡ (state_after spec script (suc n)).keepers
+    → HoldsFlight spec script n image areas reading rows reports → Ticks spec script n image areas marks images v row keepers next → keepers ≡ (state_after spec script (suc n)).keepers
 keepers_told {spec} {script} {n} {image} {marks = marks} s t =
     t.keepers_are ∙ ap (λ i. keepers_drawn spec i marks) s.image_is ∙ keepers_are spec t.facts script n marks t.marks_are
 
@@ -60,7 +60,7 @@ image_left spec script n row keepers v is_row is_keepers is_env =
     ∙ ap (image_given spec (sys_of (suc n) 0 (state_after spec script (suc n)))) is_env
 
 pub next_told : {spec : Parts} {script : ScriptParts} {n : ℕ} {image : KernelImage} {areas : List (List ℤ)} {reading : Reading} {rows : List Row} {reports : List Report} {marks : List ℕ} {images : List (List ℤ)} {v : Env} {row : Row} {keepers : List (Option ProcId)} {next : KernelImage}
-    → Stands spec script n image areas reading rows reports → Ticks spec script n image areas marks images v row keepers next → next ≡ kernel_image spec script (suc n)
+    → HoldsFlight spec script n image areas reading rows reports → Ticks spec script n image areas marks images v row keepers next → next ≡ kernel_image spec script (suc n)
 next_told {spec} {script} {n} {v = v} {row} {keepers} s t =
     t.next_is ∙ image_left spec script n row keepers v (row_told s t) (keepers_told s t) t.env_is
 
@@ -75,8 +75,8 @@ reports_same spec script n reading reports row is is_row is_reports =
     rw (is, is_row, is_reports, (row_by_row spec (rows_below spec script n) (row_at spec script n)).1, length_listed (row_at spec script) n) refl
 
 pub stands_more : {spec : Parts} {script : ScriptParts} {n : ℕ} {image : KernelImage} {areas : List (List ℤ)} {reading : Reading} {rows : List Row} {reports : List Report} {marks : List ℕ} {images : List (List ℤ)} {v : Env} {row : Row} {keepers : List (Option ProcId)} {next : KernelImage}
-    → Stands spec script n image areas reading rows reports → Ticks spec script n image areas marks images v row keepers next
-    → Stands spec script (suc n) next row.areas (read_row spec reading row.frame row.acts) (rows ++ row ∷ []) (reports ++ as_list (report_of spec reading row.frame row.acts))
+    → HoldsFlight spec script n image areas reading rows reports → Ticks spec script n image areas marks images v row keepers next
+    → HoldsFlight spec script (suc n) next row.areas (read_row spec reading row.frame row.acts) (rows ++ row ∷ []) (reports ++ as_list (report_of spec reading row.frame row.acts))
 stands_more {spec} {script} {n} {reading = reading} {rows} {reports} {row = row} s t =
     let is_row = row_told s t in record {
       image_is = next_told s t;
@@ -87,11 +87,11 @@ stands_more {spec} {script} {n} {reading = reading} {rows} {reports} {row = row}
     }
 
 pub rows_all : {spec : Parts} {script : ScriptParts} {n : ℕ} {image : KernelImage} {areas : List (List ℤ)} {reading : Reading} {rows : List Row} {reports : List Report}
-    → Stands spec script n image areas reading rows reports → n ≡ script.frames → rows ≡ rows_of spec script
+    → HoldsFlight spec script n image areas reading rows reports → n ≡ script.frames → rows ≡ rows_of spec script
 rows_all {spec} {script} s is = s.rows_are ∙ ap (rows_below spec script) is
 
 pub reports_all : {spec : Parts} {script : ScriptParts} {n : ℕ} {image : KernelImage} {areas : List (List ℤ)} {reading : Reading} {rows : List Row} {reports : List Report}
-    → Stands spec script n image areas reading rows reports → n ≡ script.frames → reports ++ as_list (close reading script.frames) ≡ reports_of spec script
+    → HoldsFlight spec script n image areas reading rows reports → n ≡ script.frames → reports ++ as_list (close reading script.frames) ≡ reports_of spec script
 reports_all {spec} {script} {n} s is =
     rw (s.reports_are, s.reading_is, is, length_listed (row_at spec script) script.frames) refl
 
@@ -110,7 +110,7 @@ kernel_more {spec} {script} {walk} {image} {reading = reading} {rows} {reports} 
       walk_is = subst (λ f. IsWalk spec script f walk_after) (sym walked.frame) walked;
       walk_at = walked.frame ∙ ap (λ f. f + 1) k.walk_at ∙ omega (arith, at);
       stands = rw (is_read, is_rows, is_reports)
-          (subst (λ m. Stands spec script m next row.areas (read_row spec reading row.frame row.acts) (rows ++ row ∷ []) (reports ++ as_list (report_of spec reading row.frame row.acts))) (sym at) (stands_more k.stands t));
+          (subst (λ m. HoldsFlight spec script m next row.areas (read_row spec reading row.frame row.acts) (rows ++ row ∷ []) (reports ++ as_list (report_of spec reading row.frame row.acts))) (sym at) (stands_more k.stands t));
       room = rw at (record {
         within = omega arith;
         rows_fit = omega (arith, k.room.rows_fit, is_rra);

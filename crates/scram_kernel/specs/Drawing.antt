@@ -23,20 +23,20 @@ area_from committed images a old None = zeros
 area_from committed images a old (Some proc) = if committed proc.0 then slot_in (image_in images proc.0) a else old
 
 -- The task of application `a` in the image's frame.
-abbrev pub task_said : Parts → KernelImage → ℕ → Task
-task_said spec image a = task_of spec image.mode image.frame a
+abbrev pub task_in_image : Parts → KernelImage → ℕ → Task
+task_in_image spec image a = task_of spec image.mode image.frame a
 
 -- The act of application `a` in the image's frame.
 abbrev pub act_drawn : Parts → KernelImage → List ℕ → ℕ → Act
-act_drawn spec image marks a = act_after (has_committed marks image.frame) (task_said spec image a)
+act_drawn spec image marks a = act_after (has_committed marks image.frame) (task_in_image spec image a)
 
 -- The processor that keeps the area of application `a` after the image's frame.
 abbrev pub keeper_drawn : Parts → KernelImage → List ℕ → ℕ → Option ProcId
-keeper_drawn spec image marks a = keeper_on (has_committed marks image.frame) (keeper_at image.keepers a) (task_said spec image a).proc
+keeper_drawn spec image marks a = keeper_on (has_committed marks image.frame) (keeper_at image.keepers a) (task_in_image spec image a).proc
 
 -- The area of application `a` after the image's frame, by the areas before it.
 abbrev pub area_drawn : Parts → KernelImage → List ℕ → List (List ℤ) → List (List ℤ) → ℕ → List ℤ
-area_drawn spec image marks images areas a = area_from (has_committed marks image.frame) images a (area_at areas a) (task_said spec image a).proc
+area_drawn spec image marks images areas a = area_from (has_committed marks image.frame) images a (area_at areas a) (task_in_image spec image a).proc
 
 -- The areas of the eight applications after the image's frame.
 abbrev pub areas_drawn : Parts → KernelImage → List ℕ → List (List ℤ) → List (List ℤ) → List (List ℤ)

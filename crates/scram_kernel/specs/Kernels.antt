@@ -30,7 +30,7 @@ rows_below spec script f = listed_below (row_at spec script) f
 
 -- A kernel after `f` frames holds the image of frame `f` and the areas before it. It holds the rows of the first `f`
 -- frames, their reading, and the reports of the reconfigurations that ended in them.
-pub record Stands (spec : Parts) (script : ScriptParts) (f : ℕ) (image : KernelImage) (areas : List (List ℤ))
+pub record HoldsFlight (spec : Parts) (script : ScriptParts) (f : ℕ) (image : KernelImage) (areas : List (List ℤ))
     (reading : Reading) (rows : List Row) (reports : List Report) : Type 0 where
   pub image_is : image ≡ kernel_image spec script f
   pub areas_are : areas ≡ (state_after spec script f).areas
@@ -55,5 +55,5 @@ pub record KernelKeeps (spec : Parts) (script : ScriptParts) (walk : Walk) (imag
   pub fits : Fits spec script
   pub walk_is : IsWalk spec script walk.frame walk
   pub walk_at : walk.frame ≡ image.frame
-  pub stands : Stands spec script image.frame image areas reading rows reports
+  pub stands : HoldsFlight spec script image.frame image areas reading rows reports
   pub room : HasRoomForFlight script.frames image.frame room_of_rows room_of_reports count_of_rows count_of_reports

@@ -5,7 +5,7 @@ ghost use Rattle.scram_types.specs.Eights.{eight};
 ghost use Rattle.scram_types.specs.Specification.{Parts};
 ghost use Rattle.frame_model.specs.Flights.{image_in, slot_in};
 ghost use Rattle.frame_model.specs.States.{act_after, keeper_on};
-ghost use Rattle.scram_kernel.specs.Drawing.{act_drawn, area_from, areas_drawn, has_committed, keepers_drawn, row_drawn, task_said};
+ghost use Rattle.scram_kernel.specs.Drawing.{act_drawn, area_from, areas_drawn, has_committed, keepers_drawn, row_drawn, task_in_image};
 ghost use Rattle.scram_kernel.specs.Marks.{mark_in};
 
 use bank_words::KernelImage;
@@ -28,7 +28,7 @@ pub(crate) fn draw(
     stored: &Stored<'_>,
     areas: &mut [Area; 8],
 ) -> Row
-    requires tasks { tasks.now ≡ eight (task_said spec.now image.now) }
+    requires tasks { tasks.now ≡ eight (task_in_image spec.now image.now) }
     ensures row { result ≡ row_drawn spec.now image.now stored.now.marks.now stored.now.images.now areas.old }
     ensures areas { areas.new ≡ result.areas }
 {
@@ -44,7 +44,7 @@ pub(crate) fn draw(
 }
 
 fn acts_drawn(image: &KernelImage, tasks: &[Task; 8], marks: &[u64; 8]) -> [Act; 8]
-    ensures { (spec : Parts) → tasks.now ≡ eight (task_said spec image.now) → result ≡ eight (act_drawn spec image.now marks.now) }
+    ensures { (spec : Parts) → tasks.now ≡ eight (task_in_image spec image.now) → result ≡ eight (act_drawn spec image.now marks.now) }
 {
     [
         act_after(&tasks[0], marks, image.frame),
@@ -60,7 +60,7 @@ fn acts_drawn(image: &KernelImage, tasks: &[Task; 8], marks: &[u64; 8]) -> [Act;
 
 // Replaces the areas before the frame by those after it.
 fn draw_areas(image: &KernelImage, tasks: &[Task; 8], stored: &Stored<'_>, areas: &mut [Area; 8])
-    ensures { (spec : Parts) → tasks.now ≡ eight (task_said spec image.now)
+    ensures { (spec : Parts) → tasks.now ≡ eight (task_in_image spec image.now)
         → areas.new ≡ areas_drawn spec image.now stored.now.marks.now stored.now.images.now areas.old }
 {
     for a in 0..8 {
@@ -75,7 +75,7 @@ pub(crate) fn keepers_drawn(
     tasks: &[Task; 8],
     marks: &[u64; 8],
 ) -> [Option<ProcId>; 8]
-    ensures { (spec : Parts) → tasks.now ≡ eight (task_said spec image.now) → result ≡ keepers_drawn spec image.now marks.now }
+    ensures { (spec : Parts) → tasks.now ≡ eight (task_in_image spec image.now) → result ≡ keepers_drawn spec image.now marks.now }
 {
     [
         keeper_on(&tasks[0], marks, image.frame, image.keepers[0]),

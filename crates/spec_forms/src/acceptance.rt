@@ -3,7 +3,7 @@
 ghost use Rattle.std.specs.Prelude.{◌∷◌, [], List, ℕ};
 ghost use Rattle.coverage_check.specs.Acceptance.{first_refusal};
 ghost use Rattle.form_base.specs.Answers.{Gives};
-ghost use Rattle.form_base.specs.Endings.{Ends, IsTaken, Prepares, Settles};
+ghost use Rattle.form_base.specs.Endings.{Ends, IsTaken, Prepares, PreparesWithoutFiles};
 ghost use Rattle.form_base.specs.declared.status.TheConstants.{ANSWERED};
 ghost use Rattle.spec_forms.specs.Answers.{CheckAnswers, check_answer};
 
@@ -48,7 +48,7 @@ fn read_line<F: Files>(alloc: Global, specification: &str, files: &mut F) -> Res
 }
 
 fn accepted_line_of(alloc: Global, spec: Spec) -> Result<Line, Refusal>
-    ensures { Settles (Gives (check_answer spec (first_refusal spec))) (λ (line : List ℕ). Gives (ANSWERED, line)) result }
+    ensures { PreparesWithoutFiles (Gives (check_answer spec (first_refusal spec))) (λ (line : List ℕ). Gives (ANSWERED, line)) result }
 {
     match accept(alloc, spec) {
         Ok(accepted) => {

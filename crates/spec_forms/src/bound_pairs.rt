@@ -6,7 +6,7 @@ ghost use Rattle.coverage_check.specs.Form.{state_refusal};
 ghost use Rattle.coverage_check.specs.Timing.{asked_bounds, is_bound_asked};
 ghost use Rattle.scram_io.specs.Outside.{Prints};
 ghost use Rattle.form_base.specs.Answers.{Gives};
-ghost use Rattle.form_base.specs.Endings.{Ends, IsTaken, Prepares, Settles};
+ghost use Rattle.form_base.specs.Endings.{Ends, IsTaken, Prepares, PreparesWithoutFiles};
 ghost use Rattle.form_base.specs.declared.status.TheConstants.{ANSWERED};
 ghost use Rattle.spec_forms.specs.Answers.{BoundsAnswers, bounds_answer};
 ghost use Rattle.spec_forms.specs.Asked.{AreAsked, TellsBounds};
@@ -65,7 +65,7 @@ fn read_asked<F: Files>(alloc: Global, specification: &str, files: &mut F) -> Re
 }
 
 fn find_bounds(alloc: Global, spec: Spec) -> Result<Asked, Refusal>
-    ensures settles { Settles (Gives (bounds_answer spec (state_refusal spec))) TellsBounds result }
+    ensures prepares { PreparesWithoutFiles (Gives (bounds_answer spec (state_refusal spec))) TellsBounds result }
     ensures asked { IfOk result AreAsked }
 {
     if let Some(shown) = refuse_states(&spec) {

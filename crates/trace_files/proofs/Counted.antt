@@ -11,55 +11,55 @@ use Rattle.scram_types.specs.declared.rows.Report.{Report}
 use Rattle.scram_types.specs.declared.rows.Row.{Row}
 use Rattle.trace_text.specs.declared.app_reading.Done.{Done}
 use Rattle.trace_text.specs.declared.rule.TheConstants.{WRONG_END}
-use Rattle.trace_text.specs.declared.progress.Standing.{Standing}
-use Rattle.trace_text.specs.declared.progress.Standing.TheVariants.{Rows, Apps, Reports, Over}
+use Rattle.trace_text.specs.declared.progress.Expected.{Expected}
+use Rattle.trace_text.specs.declared.progress.Expected.TheVariants.{Rows, Apps, Reports, Over}
 use Rattle.trace_text.specs.declared.trace_reading.TraceFault.{TraceFault}
 use Rattle.trace_text.specs.AppReading.{app_read}
 use Rattle.trace_text.specs.Pieces.{pieces_of}
 use Rattle.trace_text.specs.ReportReading.{end_read, report_read}
 use Rattle.trace_text.specs.RowReading.{row_read}
-use Rattle.trace_text.specs.TraceReading.{SoFar, after_app, after_line, at_end, before_first, begins, closing, fault_at, go_on, is_plain, standing_line, trace_from, trace_of, with_app, with_done, with_end, with_report, with_row}
+use Rattle.trace_text.specs.TraceReading.{ReadingState, after_app, after_line, at_end, before_first, begins, closing, fault_at, go_on, is_plain, standing_line, trace_from, trace_of, with_app, with_done, with_end, with_report, with_row}
 use Rattle.trace_text.specs.Pieces.{is_filled}
 
 -- at most one further row, and at most one further report
-abbrev AddsOne : SoFar → SoFar → Type 0
+abbrev AddsOne : ReadingState → ReadingState → Type 0
 AddsOne s t = (length t.rows ≤ length s.rows + 1) × (length t.reports ≤ length s.reports + 1)
 
-abbrev Adds : SoFar → Result SoFar ℕ → Type 0
+abbrev Adds : ReadingState → Result ReadingState ℕ → Type 0
 Adds s (Ok t) = AddsOne s t
 Adds s (Err rule) = ⊤
 
-either : (s : SoFar) (b : Bool) (r q : Result SoFar ℕ) → Adds s r → Adds s q → Adds s (if b then r else q)
+either : (s : ReadingState) (b : Bool) (r q : Result ReadingState ℕ) → Adds s r → Adds s q → Adds s (if b then r else q)
 either s true r q first second = first
 either s false r q first second = second
 
-adds_row : (s : SoFar) (r : Result Row ℕ) → Adds s (with_row s r)
+adds_row : (s : ReadingState) (r : Result Row ℕ) → Adds s (with_row s r)
 adds_row s (Ok row) = (omega arith, omega arith)
 adds_row s (Err rule) = tt
 
-adds_report : (s : SoFar) (r : Result Report ℕ) → Adds s (with_report s r)
+adds_report : (s : ReadingState) (r : Result Report ℕ) → Adds s (with_report s r)
 adds_report s (Ok report) = (omega arith, omega (arith, length-append s.reports (report ∷ [])))
 adds_report s (Err rule) = tt
 
-adds_end : (s : SoFar) (r : Result ⊤ ℕ) → Adds s (with_end s r)
+adds_end : (s : ReadingState) (r : Result ⊤ ℕ) → Adds s (with_end s r)
 adds_end s (Ok done) = (omega arith, omega arith)
 adds_end s (Err rule) = tt
 
-one_of : (s t u : SoFar) (b : Bool) → AddsOne s t → AddsOne s u → AddsOne s (if b then t else u)
+one_of : (s t u : ReadingState) (b : Bool) → AddsOne s t → AddsOne s u → AddsOne s (if b then t else u)
 one_of s t u true first second = first
 one_of s t u false first second = second
 
-adds_app : (spec : Parts) (s : SoFar) (a : ℕ) (row : Row) → AddsOne s (after_app spec s a row)
+adds_app : (spec : Parts) (s : ReadingState) (a : ℕ) (row : Row) → AddsOne s (after_app spec s a row)
 adds_app spec s a row =
     one_of s (record { rows = s.rows; reports = s.reports; standing = Apps (a + 1) row })
     (record { rows = s.rows ++ row ∷ []; reports = s.reports; standing = Rows }) (nat_lt (a + 1) (length spec.apps))
     (omega arith, omega arith) (omega (arith, length-append s.rows (row ∷ [])), omega arith)
 
-adds_done : (spec : Parts) (s : SoFar) (a : ℕ) (row : Row) (r : Result Done ℕ) → Adds s (with_done spec s a row r)
+adds_done : (spec : Parts) (s : ReadingState) (a : ℕ) (row : Row) (r : Result Done ℕ) → Adds s (with_done spec s a row r)
 adds_done spec s a row (Ok done) = adds_app spec s a (with_app row a done.act done.area)
 adds_done spec s a row (Err rule) = tt
 
-adds_closing : (spec : Parts) (s : SoFar) (line : List ℕ) → Adds s (closing spec s line)
+adds_closing : (spec : Parts) (s : ReadingState) (line : List ℕ) → Adds s (closing spec s line)
 adds_closing spec s line =
     either s (begins line (codes "reconfiguration")) (with_report s (report_read spec (length s.rows) line))
     (if begins line (codes "end") then with_end s (end_read (length s.rows) (length s.reports) line) else Err 2)
@@ -67,7 +67,7 @@ adds_closing spec s line =
     (either s (begins line (codes "end")) (with_end s (end_read (length s.rows) (length s.reports) line)) (Err 2)
     (adds_end s (end_read (length s.rows) (length s.reports) line)) tt)
 
-adds_standing : (spec : Parts) (s : SoFar) (standing : Standing) (line : List ℕ) → Adds s (standing_line spec s standing line)
+adds_standing : (spec : Parts) (s : ReadingState) (standing : Expected) (line : List ℕ) → Adds s (standing_line spec s standing line)
 adds_standing spec s Rows line =
     either s (begins line (codes "frame")) (with_row s (row_read spec (length s.rows) line)) (closing spec s line)
     (adds_row s (row_read spec (length s.rows) line)) (adds_closing spec s line)
@@ -77,7 +77,7 @@ adds_standing spec s (Apps a row) line =
 adds_standing spec s Reports line = adds_closing spec s line
 adds_standing spec s Over line = tt
 
-adds_line : (spec : Parts) (s : SoFar) (line : List ℕ) → Adds s (after_line spec s line)
+adds_line : (spec : Parts) (s : ReadingState) (line : List ℕ) → Adds s (after_line spec s line)
 adds_line spec s line = either s (is_plain line) (standing_line spec s s.standing line) (Err 1) (adds_standing spec s s.standing line) tt
 
 -- at most this number of rows and of reports
@@ -85,13 +85,13 @@ abbrev UpTo : ℕ → ℕ → Result Flown TraceFault → Type 0
 UpTo rows reports (Ok flown) = (length flown.rows ≤ rows) × (length flown.reports ≤ reports)
 UpTo rows reports (Err fault) = ⊤
 
-up_to_end : (k more : ℕ) (s : SoFar) (standing : Standing) → UpTo (length s.rows + more) (length s.reports + more) (at_end k s standing)
+up_to_end : (k more : ℕ) (s : ReadingState) (standing : Expected) → UpTo (length s.rows + more) (length s.reports + more) (at_end k s standing)
 up_to_end k more s Over = (omega arith, omega arith)
 up_to_end k more s Rows = tt
 up_to_end k more s (Apps a row) = tt
 up_to_end k more s Reports = tt
 
-up_to_last_by : (k more : ℕ) (s : SoFar) (b : Bool) →
+up_to_last_by : (k more : ℕ) (s : ReadingState) (b : Bool) →
     UpTo (length s.rows + more) (length s.reports + more) (if b then Err (fault_at k 1) else at_end k s s.standing)
 up_to_last_by k more s true = tt
 up_to_last_by k more s false = up_to_end k more s s.standing
@@ -101,20 +101,20 @@ wider : (rows reports more_rows more_reports : ℕ) (r : Result Flown TraceFault
 wider rows reports more_rows more_reports (Ok flown) h g known = (omega (arith, known.0, h), omega (arith, known.1, g))
 wider rows reports more_rows more_reports (Err fault) h g known = tt
 
-up_to_on : (k more : ℕ) (s : SoFar) (r : Result SoFar ℕ) (next : SoFar → Result Flown TraceFault) → Adds s r →
-    ((t : SoFar) → UpTo (length t.rows + more) (length t.reports + more) (next t)) →
+up_to_on : (k more : ℕ) (s : ReadingState) (r : Result ReadingState ℕ) (next : ReadingState → Result Flown TraceFault) → Adds s r →
+    ((t : ReadingState) → UpTo (length t.rows + more) (length t.reports + more) (next t)) →
     UpTo (length s.rows + suc more) (length s.reports + suc more) (go_on k r next)
 up_to_on k more s (Ok t) next adds rest =
     wider (length t.rows + more) (length t.reports + more) (length s.rows + suc more) (length s.reports + suc more) (next t)
     (omega (arith, adds.0)) (omega (arith, adds.1)) (rest t)
 up_to_on k more s (Err rule) next adds rest = tt
 
-up_to_lines : (spec : Parts) (k : ℕ) (s : SoFar) (lines : List (List ℕ)) →
+up_to_lines : (spec : Parts) (k : ℕ) (s : ReadingState) (lines : List (List ℕ)) →
     UpTo (length s.rows + length lines) (length s.reports + length lines) (trace_from spec k s lines)
 up_to_lines spec k s [] = up_to_end k 0 s s.standing
 up_to_lines spec k s (last ∷ []) = up_to_last_by k 1 s (is_filled last)
 up_to_lines spec k s (line ∷ next ∷ lines) =
-    up_to_on k (length (next ∷ lines)) s (after_line spec s line) (λ (t : SoFar). trace_from spec (k + 1) t (next ∷ lines)) (adds_line spec s line)
+    up_to_on k (length (next ∷ lines)) s (after_line spec s line) (λ (t : ReadingState). trace_from spec (k + 1) t (next ∷ lines)) (adds_line spec s line)
     (λ t. up_to_lines spec (k + 1) t (next ∷ lines))
 
 few_pieces : (bytes : List ℕ) → length (pieces_of 10 bytes) ≤ length bytes + 1

@@ -30,8 +30,8 @@ AssuresView view specification trace =
     (reads ≡ []) × (text ≡ view spec flown.rows flown.reports)))
 
 -- The status and the text are the answer that shows the view of a flight.
-abbrev pub TellsView : View → Flight → ℕ → List ℕ → Type 0
-TellsView view flight = Gives (ANSWERED, view flight.spec flight.flown.rows flight.flown.reports)
+abbrev pub GivesView : View → Flight → ℕ → List ℕ → Type 0
+GivesView view flight = Gives (ANSWERED, view flight.spec flight.flown.rows flight.flown.reports)
 
 -- The rows and the reports of a flight can be counted with 32 bits.
 abbrev pub IsCounted : Flight → Type 0

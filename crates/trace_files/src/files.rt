@@ -5,7 +5,7 @@ ghost use Rattle.scram_types.specs.declared.rows.Flown.{Flown};
 ghost use Rattle.form_base.specs.Answers.{Gives, WithoutFiles};
 ghost use Rattle.form_base.specs.Endings.{Prepares};
 ghost use Rattle.form_base.specs.declared.status.TheConstants.{ANSWERED};
-ghost use Rattle.trace_files.specs.Looks.{IsCounted, TellsView, View, ViewAnswers};
+ghost use Rattle.trace_files.specs.Looks.{GivesView, IsCounted, View, ViewAnswers};
 ghost use Rattle.trace_files.specs.Traces.{AsksTrace};
 
 use crate::documents::Trace;
@@ -36,7 +36,7 @@ pub fn read_flight<F: Files>(
     named: TraceFiles<'_>,
     files: &mut F,
 ) -> Result<Flight, Refusal>
-    ensures reads { (view : View) → Prepares (ViewAnswers view named.entry.specification.now named.entry.trace.now) (TellsView view)
+    ensures reads { (view : View) → Prepares (ViewAnswers view named.entry.specification.now named.entry.trace.now) (GivesView view)
         (named.entry.specification.now ∷ named.entry.trace.now ∷ []) (F.state files.old) (F.state files.new) result }
     ensures counted { IfOk result IsCounted }
 {

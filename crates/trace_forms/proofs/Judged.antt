@@ -10,15 +10,15 @@ use Rattle.form_base.specs.Endings.{IsTaken, Tells}
 use Rattle.form_base.proofs.Endings.{given_tells}
 use Rattle.trace_forms.specs.declared.judgements.Judgement.{Judgement}
 use Rattle.trace_forms.specs.Answers.{IsJudgement}
-use Rattle.trace_forms.specs.Verdicts.{HasVerdict, TellsJudgement}
+use Rattle.trace_forms.specs.Verdicts.{GivesJudgement, HasVerdict}
 
 pub judgement_settles : (spec : Parts) (flown : Flown) (judgement : Judgement) → IsJudgement spec flown judgement.code judgement.line
-    → (status : ℕ) (text : List ℕ) → TellsJudgement judgement status text → IsJudgement spec flown status text
+    → (status : ℕ) (text : List ℕ) → GivesJudgement judgement status text → IsJudgement spec flown status text
 judgement_settles spec flown judgement is status text gives =
     record { judged = is.judged; judges = is.judges; gives = is.gives ∙ gives }
 
 pub judgement_tells : (judgement : Judgement) (old new : SinkState) (code : ℕ) → HasVerdict judgement → IsTaken old new code judgement.code judgement.line
-    → Tells (TellsJudgement judgement) old new code
+    → Tells (GivesJudgement judgement) old new code
 judgement_tells judgement old new code (inl holds) taken =
     given_tells judgement.code judgement.line old new code (λ same. absurd (omega (arith, holds, same))) (λ same. absurd (omega (arith, holds, same))) taken
 judgement_tells judgement old new code (inr broken) taken =

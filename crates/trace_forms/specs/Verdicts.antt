@@ -9,5 +9,5 @@ abbrev pub HasVerdict : Judgement → Type 0
 HasVerdict judgement = (judgement.code ≡ ANSWERED) ⊎ (judgement.code ≡ BROKEN_PROPERTY)
 
 -- Status and text are those of the judgement.
-abbrev pub TellsJudgement : Judgement → ℕ → List ℕ → Type 0
-TellsJudgement judgement = Gives (judgement.code, judgement.line)
+abbrev pub GivesJudgement : Judgement → ℕ → List ℕ → Type 0
+GivesJudgement judgement = Gives (judgement.code, judgement.line)

@@ -7,7 +7,7 @@ ghost use Rattle.form_base.specs.Endings.{Ends, IsTaken, Prepares};
 ghost use Rattle.form_base.specs.declared.status.TheConstants.{ANSWERED, BROKEN_PROPERTY};
 ghost use Rattle.trace_files.specs.Traces.{AsksTrace};
 ghost use Rattle.trace_forms.specs.Answers.{IsJudgement, PropsAnswers};
-ghost use Rattle.trace_forms.specs.Verdicts.{HasVerdict, TellsJudgement};
+ghost use Rattle.trace_forms.specs.Verdicts.{GivesJudgement, HasVerdict};
 
 use crate::lines::{make_broken_line, make_holds_line};
 use form_base::loads::load;
@@ -51,7 +51,7 @@ fn read_judgement<F: Files>(
     named: TraceFiles<'_>,
     files: &mut F,
 ) -> Result<Judgement, Refusal>
-    ensures reads { Prepares (PropsAnswers named.entry.specification.now named.entry.trace.now) TellsJudgement
+    ensures reads { Prepares (PropsAnswers named.entry.specification.now named.entry.trace.now) GivesJudgement
         (named.entry.specification.now ∷ named.entry.trace.now ∷ []) (F.state files.old) (F.state files.new) result }
     ensures verdict { IfOk result HasVerdict }
 {
@@ -71,7 +71,7 @@ fn judge_file<F: Files>(
     trace: &str,
     files: &mut F,
 ) -> Result<Judgement, Refusal>
-    ensures reads { Prepares (AsksTrace spec.now trace.now (λ (flown : Flown). WithoutFiles (IsJudgement spec.now flown))) TellsJudgement (trace.now ∷ [])
+    ensures reads { Prepares (AsksTrace spec.now trace.now (λ (flown : Flown). WithoutFiles (IsJudgement spec.now flown))) GivesJudgement (trace.now ∷ [])
         (F.state files.old) (F.state files.new) result }
     ensures verdict { IfOk result HasVerdict }
 {

@@ -18,14 +18,14 @@ use Rattle.trace_text.specs.Lookups.{app_number, listed_mode}
 use Rattle.scram_types.specs.Lookups.{proc_named, proc_name}
 use Rattle.app_model.specs.Names.{mode_text}
 use Rattle.trace_text.specs.Pieces.{pieces_of, sides, sides_of, words_in, words_of, is_word, word_at}
-use Rattle.trace_text.specs.Rules.{unless}
+use Rattle.trace_text.specs.Rules.{or_rule}
 use Rattle.trace_text.specs.Spelling.{signed_from, signed_of, spelled_number}
 use Rattle.trace_text.specs.Text.{act_text, app_line}
 use Rattle.trace_text.specs.TraceReading.{begins}
 use Rattle.trace_text.specs.declared.rule.TheConstants.{NOT_NEXT, NO_FORM, OUT_OF_ORDER, UNKNOWN_NAME, WRONG_NUMBER}
 use Rattle.trace_text.proofs.Found.{Named, app_found, mode_found, proc_found}
 use Rattle.scram_types.proofs.Equality.{same_text}
-use Rattle.trace_text.proofs.Inversion.{both, if_ok, is_text, line_joined, map_some, tab, then_some, unless_ok, words_are, words_listed}
+use Rattle.trace_text.proofs.Inversion.{both, if_ok, is_text, line_joined, map_some, or_rule_ok, tab, then_some, words_are, words_listed}
 use Rattle.trace_text.proofs.Shapes.{bare_shape, phase_shape, ran_shape}
 use Rattle.trace_text.proofs.Spelling.{number_spelled, signed_spelled}
 
@@ -70,10 +70,10 @@ the_next spec next a text same h = let e : a ≡ next = eqb-true a next same in 
 ran_read : (spec : Parts) (next : ℕ) (line : List ℕ) (ws : List (List ℕ)) (told : Done) → line ≡ join_with_byte 32 ws → word_at ws 0 ≡ codes "app" → (length ws == 14) ≡ true →
     word_at ws 5 ≡ codes ":" → word_at ws 2 ≡ codes "ran" → ran_line spec next ws ≡ Ok told → AppRead spec next line told
 ran_read spec next line ws told joined_is w0 count w5 w2 h =
-    let a = unless_ok UNKNOWN_NAME (app_number spec (word_at ws 1)) _ told h in
-    let m = unless_ok UNKNOWN_NAME (listed_mode spec a.0 (word_at ws 3)) _ told a.2 in
-    let p = unless_ok UNKNOWN_NAME (proc_named spec (word_at ws 4)) _ told m.2 in
-    let v = unless_ok WRONG_NUMBER (signed_from 8 6 ws) _ told p.2 in
+    let a = or_rule_ok UNKNOWN_NAME (app_number spec (word_at ws 1)) _ told h in
+    let m = or_rule_ok UNKNOWN_NAME (listed_mode spec a.0 (word_at ws 3)) _ told a.2 in
+    let p = or_rule_ok UNKNOWN_NAME (proc_named spec (word_at ws 4)) _ told m.2 in
+    let v = or_rule_ok WRONG_NUMBER (signed_from 8 6 ws) _ told p.2 in
     let n = if_ok (a.0 == next) (Ok (done (act.Ran m.0 p.0) v.0)) NOT_NEXT told v.2 in
     let named = the_next spec next a.0 (word_at ws 1) n.0 a.1 in
     let same : a.0 ≡ next = eqb-true a.0 next n.0 in
@@ -116,11 +116,11 @@ phase_read : (spec : Parts) (next : ℕ) (line : List ℕ) (ws : List (List ℕ)
     word_at ws 0 ≡ codes "app" → (length ws == 14) ≡ true → word_at ws 5 ≡ codes ":" → word_at ws 2 ≡ tag_of phase → word_at ws 3 ≡ fraction.0 ++ 47 ∷ fraction.1 →
     phase_line spec next ws phase fraction ≡ Ok told → AppRead spec next line told
 phase_read spec next line ws told phase fraction joined_is w0 count w5 w2 w3 h =
-    let a = unless_ok UNKNOWN_NAME (app_number spec (word_at ws 1)) _ told h in
-    let p = unless_ok UNKNOWN_NAME (proc_named spec (word_at ws 4)) _ told a.2 in
-    let k = unless_ok WRONG_NUMBER (spelled_number 256 fraction.0) _ told p.2 in
-    let l = unless_ok WRONG_NUMBER (spelled_number 256 fraction.1) _ told k.2 in
-    let v = unless_ok WRONG_NUMBER (signed_from 8 6 ws) _ told l.2 in
+    let a = or_rule_ok UNKNOWN_NAME (app_number spec (word_at ws 1)) _ told h in
+    let p = or_rule_ok UNKNOWN_NAME (proc_named spec (word_at ws 4)) _ told a.2 in
+    let k = or_rule_ok WRONG_NUMBER (spelled_number 256 fraction.0) _ told p.2 in
+    let l = or_rule_ok WRONG_NUMBER (spelled_number 256 fraction.1) _ told k.2 in
+    let v = or_rule_ok WRONG_NUMBER (signed_from 8 6 ws) _ told l.2 in
     let n = if_ok (a.0 == next) (cond (nat_lt k.0 l.0 && nat_le l.0 16) (Ok (done (phase_act phase k.0 l.0 p.0) v.0)) (Err OUT_OF_ORDER)) NOT_NEXT told v.2 in
     let o = if_ok (nat_lt k.0 l.0 && nat_le l.0 16) (Ok (done (phase_act phase k.0 l.0 p.0) v.0)) OUT_OF_ORDER told n.1 in
     let named = the_next spec next a.0 (word_at ws 1) n.0 a.1 in
@@ -149,8 +149,8 @@ bare_tag spec kind text did h = bare_by (bytes_eq text (codes "held")) (bytes_eq
 bare_read : (spec : Parts) (next : ℕ) (line : List ℕ) (ws : List (List ℕ)) (told : Done) (did : Act) → line ≡ join_with_byte 32 ws → word_at ws 0 ≡ codes "app" → (length ws == 12) ≡ true →
     word_at ws 3 ≡ codes ":" → bare_act (word_at ws 2) ≡ Some did → bare_line spec next ws did ≡ Ok told → AppRead spec next line told
 bare_read spec next line ws told did joined_is w0 count w3 tag h =
-    let a = unless_ok UNKNOWN_NAME (app_number spec (word_at ws 1)) _ told h in
-    let v = unless_ok WRONG_NUMBER (signed_from 8 4 ws) _ told a.2 in
+    let a = or_rule_ok UNKNOWN_NAME (app_number spec (word_at ws 1)) _ told h in
+    let v = or_rule_ok WRONG_NUMBER (signed_from 8 4 ws) _ told a.2 in
     let n = if_ok (a.0 == next) (Ok (done did v.0)) NOT_NEXT told v.2 in
     let named = the_next spec next a.0 (word_at ws 1) n.0 a.1 in
     let w1 : word_at ws 1 ≡ named.0.name = sym named.2 in
@@ -164,30 +164,30 @@ bare_read spec next line ws told did joined_is w0 count w3 tag h =
 
 placed_by : (t : Bool) (spec : Parts) (next : ℕ) (line : List ℕ) (ws : List (List ℕ)) (told : Done) → (t ≡ true → word_at ws 2 ≡ codes "ran") → line ≡ join_with_byte 32 ws →
     word_at ws 0 ≡ codes "app" → (length ws == 14) ≡ true → word_at ws 5 ≡ codes ":" →
-    cond t (ran_line spec next ws) (unless NO_FORM (phase_named (word_at ws 2)) (λ (phase : Phase). unless NO_FORM (sides_of (word_at ws 3)) (phase_line spec next ws phase))) ≡ Ok told → AppRead spec next line told
+    cond t (ran_line spec next ws) (or_rule NO_FORM (phase_named (word_at ws 2)) (λ (phase : Phase). or_rule NO_FORM (sides_of (word_at ws 3)) (phase_line spec next ws phase))) ≡ Ok told → AppRead spec next line told
 placed_by true spec next line ws told ran joined_is w0 count w5 h = ran_read spec next line ws told joined_is w0 count w5 (ran refl) h
 placed_by false spec next line ws told ran joined_is w0 count w5 h =
-    let p = unless_ok NO_FORM (phase_named (word_at ws 2)) (λ (phase : Phase). unless NO_FORM (sides_of (word_at ws 3)) (phase_line spec next ws phase)) told h in
-    let f = unless_ok NO_FORM (sides_of (word_at ws 3)) (phase_line spec next ws p.0) told p.2 in
+    let p = or_rule_ok NO_FORM (phase_named (word_at ws 2)) (λ (phase : Phase). or_rule NO_FORM (sides_of (word_at ws 3)) (phase_line spec next ws phase)) told h in
+    let f = or_rule_ok NO_FORM (sides_of (word_at ws 3)) (phase_line spec next ws p.0) told p.2 in
     phase_read spec next line ws told p.0 f.0 joined_is w0 count w5 (phase_tag (word_at ws 2) p.0 p.1)
     (sides_text (word_at ws 3) f.0.0 f.0.1 (pieces_of 47 (word_at ws 3)) refl f.1) f.2
 
 forms_by : (p b : Bool) (spec : Parts) (next : ℕ) (line : List ℕ) (ws : List (List ℕ)) (told : Done) → (p ≡ true → is_placed_form ws ≡ true) → (b ≡ true → is_bare_form ws ≡ true) →
     line ≡ join_with_byte 32 ws → word_at ws 0 ≡ codes "app" →
-    cond p (placed_line spec next ws) (cond b (unless NO_FORM (bare_act (word_at ws 2)) (bare_line spec next ws)) (Err NO_FORM)) ≡ Ok told → AppRead spec next line told
+    cond p (placed_line spec next ws) (cond b (or_rule NO_FORM (bare_act (word_at ws 2)) (bare_line spec next ws)) (Err NO_FORM)) ≡ Ok told → AppRead spec next line told
 forms_by true b spec next line ws told placed bare joined_is w0 h =
     let f = and_parts (length ws == 14) (is_word ws 5 (codes ":")) (placed refl) in
     placed_by (is_word ws 2 (codes "ran")) spec next line ws told (is_text ws 2 (codes "ran")) joined_is w0 f.0 (is_text ws 5 (codes ":") f.1) h
 forms_by false true spec next line ws told placed bare joined_is w0 h =
     let f = and_parts (length ws == 12) (is_word ws 3 (codes ":")) (bare refl) in
-    let d = unless_ok NO_FORM (bare_act (word_at ws 2)) (bare_line spec next ws) told h in
+    let d = or_rule_ok NO_FORM (bare_act (word_at ws 2)) (bare_line spec next ws) told h in
     bare_read spec next line ws told d.0 joined_is w0 f.0 (is_text ws 3 (codes ":") f.1) d.1 d.2
 forms_by false false spec next line ws told placed bare joined_is w0 h = absurd (let e = h in cc)
 
 -- no second spelling of an application's line
 pub app_only : (spec : Parts) (next : ℕ) (line : List ℕ) (told : Done) → begins line (codes "app") ≡ true → app_read spec next line ≡ Ok told → AppRead spec next line told
 app_only spec next line told first h =
-    let w = unless_ok NO_FORM (words_in line) (app_in spec next) told h in
+    let w = or_rule_ok NO_FORM (words_in line) (app_in spec next) told h in
     let same = words_are line w.0 w.1 in
     let w0 : word_at w.0 0 ≡ codes "app" = rw (← same) (is_text (words_of line) 0 (codes "app") first) in
     forms_by (is_placed_form w.0) (is_bare_form w.0) spec next line w.0 told (λ e. e) (λ e. e) (line_joined line w.0 w.1) w0 w.2

@@ -3,7 +3,7 @@ use Rattle.std.proofs.Common.{ℕ, suc, ◌≡◌, ◌<◌, ◌≤◌, Bool, tru
 use Rattle.std.specs.Prelude.{◌==◌}
 use Rattle.std.proofs.lemmas.Bool.{eq-eqb, ne_eqb}
 use Rattle.scram_types.proofs.Options.{some_none}
-use Rattle.trace_text.specs.LineRules.{TellsLeast}
+use Rattle.trace_text.specs.LineRules.{ReportsLeast}
 
 -- the rule that a reading reports
 abbrev pub told_by : {A : Type 0} → Result A ℕ → Option ℕ
@@ -56,6 +56,6 @@ least_broken first (true ∷ ks) least h = later first ks least (least_broken (s
 least_broken first (false ∷ ks) least h = let e : first ≡ least = cc in rw (← e) (here first ks)
 
 -- a reading that reports the first rule that is not kept reports the least
-pub tells_least : {A : Type 0} (first : ℕ) (kept : List Bool) (read : Result A ℕ) → told_by read ≡ least_from first kept → TellsLeast (breaks_from first kept) read
-tells_least first kept (Ok a) h = λ rule. none_broken first kept rule (let e : None ≡ least_from first kept = h in cc)
-tells_least first kept (Err least) h = let p = least_broken first kept least (let e : Some least ≡ least_from first kept = h in cc) in (p.broken, p.others)
+pub reports_least : {A : Type 0} (first : ℕ) (kept : List Bool) (read : Result A ℕ) → told_by read ≡ least_from first kept → ReportsLeast (breaks_from first kept) read
+reports_least first kept (Ok a) h = λ rule. none_broken first kept rule (let e : None ≡ least_from first kept = h in cc)
+reports_least first kept (Err least) h = let p = least_broken first kept least (let e : Some least ≡ least_from first kept = h in cc) in (p.broken, p.others)

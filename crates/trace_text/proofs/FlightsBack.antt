@@ -15,12 +15,12 @@ use Rattle.scram_types.specs.declared.orders.Act.{Act}
 use Rattle.scram_types.specs.declared.orders.Act.TheVariants.{Off}
 use Rattle.scram_types.specs.declared.orders.KMode.{KMode}
 use Rattle.scram_types.specs.declared.specification.AppSpec.{AppSpec}
-use Rattle.trace_text.specs.declared.progress.Standing.TheVariants.{Over}
+use Rattle.trace_text.specs.declared.progress.Expected.TheVariants.{Over}
 use Rattle.trace_text.specs.Flights.{IsReportShown, IsRowShown, PrintedIsRead}
 use Rattle.trace_text.specs.Pieces.{pieces_of}
 use Rattle.trace_text.specs.RowReading.{row_begun}
 use Rattle.trace_text.specs.Text.{app_line_in, app_lines, end_line, ending_text, report_line, reports_text, row_line, row_text, rows_text, text_of}
-use Rattle.trace_text.specs.TraceReading.{SoFar, after_app, after_line, go_on, trace_from, with_app}
+use Rattle.trace_text.specs.TraceReading.{ReadingState, after_app, after_line, go_on, trace_from, with_app}
 use Rattle.trace_text.proofs.LinesBack.{LineBack, app_back, in_apps}
 use Rattle.trace_text.proofs.ReportsBack.{end_back, in_closing, report_back}
 use Rattle.trace_text.proofs.RowsBack.{in_rows, row_back}
@@ -29,15 +29,15 @@ use Rattle.trace_text.proofs.Walk.{line_then, of_length}
 use Rattle.trace_text.proofs.WordBytes.{line_split}
 
 -- from this state on, a text is read as a flight, and it has at most this number of bytes
-record Reads (spec : Parts) (s : SoFar) (text : List ℕ) (flown : Flown) (most : ℕ) : Type 0 where
+record Reads (spec : Parts) (s : ReadingState) (text : List ℕ) (flown : Flown) (most : ℕ) : Type 0 where
   read : (k : ℕ) → trace_from spec k s (pieces_of 10 text) ≡ Ok flown
   short : length text ≤ most
 
-after_plain : (spec : Parts) (s t : SoFar) (text : List ℕ) (most : ℕ) (back : LineBack spec s t text most) → after_line spec s back.line ≡ Ok t
+after_plain : (spec : Parts) (s t : ReadingState) (text : List ℕ) (most : ℕ) (back : LineBack spec s t text most) → after_line spec s back.line ≡ Ok t
 after_plain spec s t text most back = rw back.plain back.read
 
 -- a further line before the others
-before_lines : (spec : Parts) (s t : SoFar) (text rest : List ℕ) (flown : Flown) (most more : ℕ) → LineBack spec s t text most → Reads spec t rest flown more →
+before_lines : (spec : Parts) (s t : ReadingState) (text rest : List ℕ) (flown : Flown) (most more : ℕ) → LineBack spec s t text most → Reads spec t rest flown more →
     Reads spec s (text ++ rest) flown (most + more)
 before_lines spec s t text rest flown most more back reads =
     let whole : text ++ rest ≡ back.line ++ 10 ∷ rest = ap (λ (l : List ℕ). l ++ rest) back.text_is ∙ append_assoc back.line (codes "\n") rest in
@@ -47,13 +47,13 @@ before_lines spec s t text rest flown most more back reads =
     let two = reads.short in
     record {
       read = λ k. ap (trace_from spec k s) split ∙ line_then spec k s back.line (pieces_of 10 rest) (some_piece 10 rest)
-          ∙ ap (λ (r : Result SoFar ℕ). go_on k r (λ (u : SoFar). trace_from spec (k + 1) u (pieces_of 10 rest))) (after_plain spec s t text most back)
+          ∙ ap (λ (r : Result ReadingState ℕ). go_on k r (λ (u : ReadingState). trace_from spec (k + 1) u (pieces_of 10 rest))) (after_plain spec s t text most back)
           ∙ reads.read (k + 1);
       short = omega (arith, size, one, two);
     }
 
 -- the same text, and a greater bound
-same_lines : (spec : Parts) (s : SoFar) (text other : List ℕ) (flown : Flown) (most more : ℕ) → text ≡ other → most ≤ more → Reads spec s text flown most → Reads spec s other flown more
+same_lines : (spec : Parts) (s : ReadingState) (text other : List ℕ) (flown : Flown) (most more : ℕ) → text ≡ other → most ≤ more → Reads spec s text flown most → Reads spec s other flown more
 same_lines spec s text other flown most more same wide reads =
     let low = reads.short in
     rw (← same) (record { read = reads.read; short = omega (arith, low, wide) })
@@ -174,7 +174,7 @@ part_whole spec f row part shown is =
     same_row part.frame row.frame part.env row.env part.mode row.mode part.acts row.acts part.areas row.areas part.world row.world is.frame is.env is.mode acts areas is.world
 
 -- an application's line, after which the others are read
-one_app : (spec : Parts) (rows : List Row) (reports : List Report) (row part : Row) (a : ℕ) (app : AppSpec) (apps : List AppSpec) (t : SoFar) (rest : List ℕ) (flown : Flown) (more : ℕ) →
+one_app : (spec : Parts) (rows : List Row) (reports : List Report) (row part : Row) (a : ℕ) (app : AppSpec) (apps : List AppSpec) (t : ReadingState) (rest : List ℕ) (flown : Flown) (more : ℕ) →
     LineBack spec (in_apps rows reports a part) t (app_line_in spec row app a) 140 → Reads spec t (app_lines spec row apps (a + 1) ++ rest) flown (140 * length apps + more) →
     Reads spec (in_apps rows reports a part) (app_lines spec row (app ∷ apps) a ++ rest) flown (140 * suc (length apps) + more)
 one_app spec rows reports row part a app apps t rest flown more back read =

@@ -7,12 +7,12 @@ use Rattle.std.proofs.lemmas.List.{drop_all, drop_more}
 use Rattle.std.proofs.lemmas.List.Splits.{join_with_byte-slice_split}
 use Rattle.scram_types.proofs.Equality.{same_text}
 use Rattle.trace_text.specs.Pieces.{words_of, words_in, is_word, is_filled, word_at}
-use Rattle.trace_text.specs.Rules.{unless}
+use Rattle.trace_text.specs.Rules.{or_rule}
 
-pub unless_ok : {A B : Type 0} (rule : ℕ) (o : Option A) (next : A → Result B ℕ) (b : B) → unless rule o next ≡ Ok b →
+pub or_rule_ok : {A B : Type 0} (rule : ℕ) (o : Option A) (next : A → Result B ℕ) (b : B) → or_rule rule o next ≡ Ok b →
     (a : A) × (o ≡ Some a) × (next a ≡ Ok b)
-unless_ok rule None next b h = absurd (let e = h in cc)
-unless_ok rule (Some a) next b h = (a, refl, h)
+or_rule_ok rule None next b h = absurd (let e = h in cc)
+or_rule_ok rule (Some a) next b h = (a, refl, h)
 
 pub if_ok : {B : Type 0} (t : Bool) (r : Result B ℕ) (rule : ℕ) (b : B) → cond t r (Err rule) ≡ Ok b → (t ≡ true) × (r ≡ Ok b)
 if_ok true r rule b h = (refl, h)

@@ -19,13 +19,13 @@ use Rattle.scram_types.proofs.FoundByName.{proc_found_back}
 use Rattle.app_model.specs.Names.{mode_text}
 use Rattle.trace_text.specs.declared.app_reading.Phase.{Phase}
 use Rattle.trace_text.specs.declared.app_reading.Phase.TheVariants.{Halting, Preparing, Initialising}
-use Rattle.trace_text.specs.declared.progress.Standing.TheVariants.{Apps}
+use Rattle.trace_text.specs.declared.progress.Expected.TheVariants.{Apps}
 use Rattle.trace_text.specs.AppReading.{app_in, bare_act, done, phase_act, phase_named}
 use Rattle.trace_text.specs.Flights.{IsActShown, IsAreaShown, IsRun, IsShown, IsStep}
 use Rattle.trace_text.specs.Pieces.{is_filled, sides_of}
 use Rattle.trace_text.specs.Spelling.{signed_from, signed_of, spelled_number}
 use Rattle.trace_text.specs.Text.{app_line, area_text}
-use Rattle.trace_text.specs.TraceReading.{SoFar, after_app, is_plain, standing_line, with_app}
+use Rattle.trace_text.specs.TraceReading.{ReadingState, after_app, is_plain, standing_line, with_app}
 use Rattle.trace_text.proofs.AppOnly.{phase_line_text, tag_of}
 use Rattle.trace_text.proofs.NamesBack.{app_found_back, listed_back, mode_spelled, mode_valid, proc_back}
 use Rattle.trace_text.proofs.Shapes.{bare_shape, ran_shape}
@@ -33,14 +33,14 @@ use Rattle.trace_text.proofs.Spelling.{number_some, signed_some}
 use Rattle.trace_text.proofs.WordBytes.{all_over, decimal_over, decimal_visible, is_visible, line_length, line_of, line_plain, name_short, name_visible, over, pieces_back, signed_visible, width, words_back, words_in_back}
 
 -- a printed line: its text without the line feed, the state after it, and its maximum number of bytes
-pub record LineBack (spec : Parts) (s t : SoFar) (text : List ℕ) (most : ℕ) : Type 0 where
+pub record LineBack (spec : Parts) (s t : ReadingState) (text : List ℕ) (most : ℕ) : Type 0 where
   pub line : List ℕ
   pub text_is : text ≡ line ++ codes "\n"
   pub plain : is_plain line ≡ true
   pub read : standing_line spec s s.standing line ≡ Ok t
   pub short : length text ≤ most
 
-pub from_words : (spec : Parts) (s t : SoFar) (word : List ℕ) (words : List (List ℕ)) (text : List ℕ) (most : ℕ) → list_all is_visible (word ∷ words) ≡ true → width (word ∷ words) ≤ most → most ≤ 513 →
+pub from_words : (spec : Parts) (s t : ReadingState) (word : List ℕ) (words : List (List ℕ)) (text : List ℕ) (most : ℕ) → list_all is_visible (word ∷ words) ≡ true → width (word ∷ words) ≤ most → most ≤ 513 →
     line_of (word ∷ words) ++ codes "\n" ≡ text → standing_line spec s s.standing (line_of (word ∷ words)) ≡ Ok t → LineBack spec s t text most
 from_words spec s t word words text most visible narrow few is read =
     let size = line_length word words in
@@ -136,7 +136,7 @@ area_bare name tag area shown =
 
 -- applications
 
-abbrev pub in_apps : List Row → List Report → ℕ → Row → SoFar
+abbrev pub in_apps : List Row → List Report → ℕ → Row → ReadingState
 in_apps rows reports a row = record { rows = rows; reports = reports; standing = Apps a row }
 
 abbrev AppBack : Parts → List Row → List Report → ℕ → Row → AppSpec → Act → List ℤ → Type 0

@@ -16,7 +16,7 @@ use Rattle.trace_text.specs.TraceReading.{begins}
 use Rattle.trace_text.specs.declared.rule.TheConstants.{NO_FORM, UNKNOWN_NAME, WRONG_COUNT, WRONG_NUMBER}
 use Rattle.trace_text.proofs.Found.{conf_found}
 use Rattle.scram_types.proofs.Equality.{same_text}
-use Rattle.trace_text.proofs.Inversion.{both, if_ok, is_text, line_joined, map_some, unless_ok, words_are, words_listed}
+use Rattle.trace_text.proofs.Inversion.{both, if_ok, is_text, line_joined, map_some, or_rule_ok, words_are, words_listed}
 use Rattle.trace_text.proofs.Shapes.{end_shape, finished_shape, unfinished_shape}
 use Rattle.trace_text.proofs.Spelling.{number_spelled}
 
@@ -47,9 +47,9 @@ record ReportEnd (ws : List (List ℕ)) (from : ConfId) (to : Option ConfId) (en
 report_ended : (ws : List (List ℕ)) (from : ConfId) (to : Option ConfId) (end : ℕ) (given : Option ℕ) (report : Report) → report_end ws from to end given ≡ Ok report →
     ReportEnd ws from to end given report
 report_ended ws from to end given report h =
-    let s = unless_ok WRONG_NUMBER (spelled_number MAX_FRAMES (word_at ws 5)) _ report h in
-    let d = unless_ok WRONG_NUMBER (spelled_number (2 ^ 32) (word_at ws 9)) _ report s.2 in
-    let b = unless_ok WRONG_NUMBER (bound_or_none (word_at ws 11)) _ report d.2 in
+    let s = or_rule_ok WRONG_NUMBER (spelled_number MAX_FRAMES (word_at ws 5)) _ report h in
+    let d = or_rule_ok WRONG_NUMBER (spelled_number (2 ^ 32) (word_at ws 9)) _ report s.2 in
+    let b = or_rule_ok WRONG_NUMBER (bound_or_none (word_at ws 11)) _ report d.2 in
     let t = if_ok (nat_le s.0 end && (d.0 == end - s.0) && same_bound b.0 given) _ WRONG_COUNT report b.2 in
     let p = and_parts (nat_le s.0 end && (d.0 == end - s.0)) (same_bound b.0 given) t.0 in
     let q = and_parts (nat_le s.0 end) (d.0 == end - s.0) p.0 in
@@ -82,9 +82,9 @@ report_form ws h =
 finished_read : (spec : Parts) (line : List ℕ) (ws : List (List ℕ)) (report : Report) → line ≡ join_with_byte 32 ws → word_at ws 0 ≡ codes "reconfiguration" → ReportForm ws →
     finished_report spec ws ≡ Ok report → report_line spec report ≡ line ++ codes "\n"
 finished_read spec line ws report joined_is w0 form h =
-    let f = unless_ok UNKNOWN_NAME (conf_named spec (word_at ws 1)) _ report h in
-    let t = unless_ok UNKNOWN_NAME (conf_named spec (word_at ws 3)) _ report f.2 in
-    let e = unless_ok WRONG_NUMBER (spelled_number MAX_FRAMES (word_at ws 7)) _ report t.2 in
+    let f = or_rule_ok UNKNOWN_NAME (conf_named spec (word_at ws 1)) _ report h in
+    let t = or_rule_ok UNKNOWN_NAME (conf_named spec (word_at ws 3)) _ report f.2 in
+    let e = or_rule_ok WRONG_NUMBER (spelled_number MAX_FRAMES (word_at ws 7)) _ report t.2 in
     let told = report_ended ws f.0 (Some t.0) e.0 (bound_in spec.bounds f.0.0 t.0.0) report e.2 in
     let w1 : word_at ws 1 ≡ conf_name spec f.0.0 = conf_found spec (word_at ws 1) f.0 f.1 in
     let w2 = form.w2 in
@@ -107,7 +107,7 @@ finished_read spec line ws report joined_is w0 form h =
 unfinished_read : (spec : Parts) (frames : ℕ) (line : List ℕ) (ws : List (List ℕ)) (report : Report) → line ≡ join_with_byte 32 ws → word_at ws 0 ≡ codes "reconfiguration" → ReportForm ws →
     word_at ws 3 ≡ codes "-" → word_at ws 7 ≡ codes "-" → unfinished_report spec frames ws ≡ Ok report → report_line spec report ≡ line ++ codes "\n"
 unfinished_read spec frames line ws report joined_is w0 form w3 w7 h =
-    let f = unless_ok UNKNOWN_NAME (conf_named spec (word_at ws 1)) _ report h in
+    let f = or_rule_ok UNKNOWN_NAME (conf_named spec (word_at ws 1)) _ report h in
     let told = report_ended ws f.0 None frames (greatest_bound_in spec.bounds f.0.0) report f.2 in
     let w1 : word_at ws 1 ≡ conf_name spec f.0.0 = conf_found spec (word_at ws 1) f.0 f.1 in
     let w2 = form.w2 in
@@ -137,7 +137,7 @@ dashes_by false false spec frames line ws report to end joined_is w0 form h = fi
 pub report_only : (spec : Parts) (frames : ℕ) (line : List ℕ) (report : Report) → begins line (codes "reconfiguration") ≡ true → report_read spec frames line ≡ Ok report →
     report_line spec report ≡ line ++ codes "\n"
 report_only spec frames line report first h =
-    let w = unless_ok NO_FORM (words_in line) (report_in spec frames) report h in
+    let w = or_rule_ok NO_FORM (words_in line) (report_in spec frames) report h in
     let same = words_are line w.0 w.1 in
     let w0 : word_at w.0 0 ≡ codes "reconfiguration" = rw (← same) (is_text (words_of line) 0 (codes "reconfiguration") first) in
     let f = if_ok (is_report_form w.0) _ NO_FORM report w.2 in
@@ -148,15 +148,15 @@ report_only spec frames line report first h =
 pub end_only : (frames reports : ℕ) (line : List ℕ) (done : ⊤) → begins line (codes "end") ≡ true → end_read frames reports line ≡ Ok done →
     end_line frames reports ≡ line ++ codes "\n"
 end_only frames reports line done first h =
-    let w = unless_ok NO_FORM (words_in line) (end_in frames reports) done h in
+    let w = or_rule_ok NO_FORM (words_in line) (end_in frames reports) done h in
     let ws = w.0 in
     let same = words_are line ws w.1 in
     let w0 : word_at ws 0 ≡ codes "end" = rw (← same) (is_text (words_of line) 0 (codes "end") first) in
     let f = if_ok (is_end_form ws) _ NO_FORM done w.2 in
     let a = and_parts ((length ws == 5) && is_word ws 1 (codes "frames")) (is_word ws 3 (codes "reconfigurations")) f.0 in
     let b = and_parts (length ws == 5) (is_word ws 1 (codes "frames")) a.0 in
-    let n = unless_ok WRONG_NUMBER (spelled_number (2 ^ 32) (word_at ws 2)) _ done f.1 in
-    let r = unless_ok WRONG_NUMBER (spelled_number (2 ^ 32) (word_at ws 4)) _ done n.2 in
+    let n = or_rule_ok WRONG_NUMBER (spelled_number (2 ^ 32) (word_at ws 2)) _ done f.1 in
+    let r = or_rule_ok WRONG_NUMBER (spelled_number (2 ^ 32) (word_at ws 4)) _ done n.2 in
     let t = if_ok ((n.0 == frames) && (r.0 == reports)) (Ok done) WRONG_COUNT done r.2 in
     let p = and_parts (n.0 == frames) (r.0 == reports) t.0 in
     let w1 : word_at ws 1 ≡ codes "frames" = is_text ws 1 _ b.1 in

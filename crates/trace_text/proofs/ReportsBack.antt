@@ -11,24 +11,24 @@ use Rattle.scram_types.specs.declared.rows.Row.{Row}
 use Rattle.scram_types.specs.declared.ids.ConfId.{ConfId}
 use Rattle.scram_types.specs.declared.limits.TheConstants.{MAX_FRAMES}
 use Rattle.scram_types.specs.declared.specification.Bound.{Bound}
-use Rattle.trace_text.specs.declared.progress.Standing.TheVariants.{Rows, Reports, Over}
-use Rattle.trace_text.specs.declared.progress.Standing.{Standing}
+use Rattle.trace_text.specs.declared.progress.Expected.TheVariants.{Rows, Reports, Over}
+use Rattle.trace_text.specs.declared.progress.Expected.{Expected}
 use Rattle.trace_text.specs.Flights.{IsEndShown, IsReportShown}
 use Rattle.trace_text.specs.Pieces.{words_of}
 use Rattle.trace_text.specs.ReportReading.{bound_or_none, end_in, report_in, same_bound}
 use Rattle.trace_text.specs.Text.{bound_text, end_line, report_line}
-use Rattle.trace_text.specs.TraceReading.{SoFar, begins, closing, standing_line}
+use Rattle.trace_text.specs.TraceReading.{ReadingState, begins, closing, standing_line}
 use Rattle.trace_text.proofs.NamesBack.{conf_back, conf_found_back, name_not_dash, not_dash}
 use Rattle.trace_text.proofs.Shapes.{end_shape, finished_shape, unfinished_shape}
 use Rattle.trace_text.proofs.WordBytes.{decimal_over, decimal_visible, is_visible, line_of, name_short, name_visible, words_back, words_in_back}
 use Rattle.trace_text.proofs.LinesBack.{LineBack, frame_short, from_words, number_back}
 
 -- a row may still come, or none
-abbrev pub closing_by : Bool → Standing
+abbrev pub closing_by : Bool → Expected
 closing_by true = Rows
 closing_by false = Reports
 
-abbrev pub in_closing : Bool → List Row → List Report → SoFar
+abbrev pub in_closing : Bool → List Row → List Report → ReadingState
 in_closing early rows reports = record { rows = rows; reports = reports; standing = closing_by early }
 
 closing_taken : (early : Bool) (spec : Parts) (rows : List Row) (reports : List Report) (line : List ℕ) → begins line (codes "frame") ≡ false →

@@ -27,7 +27,7 @@ use Rattle.trace_text.specs.TraceReading.{begins}
 use Rattle.trace_text.specs.declared.rule.TheConstants.{NOT_NEXT, NO_FORM, OUT_OF_ORDER, UNKNOWN_NAME, WRONG_NUMBER}
 use Rattle.trace_text.proofs.Found.{conf_found, conf_or_dash_found, value_found}
 use Rattle.scram_types.proofs.Equality.{same_text}
-use Rattle.trace_text.proofs.Inversion.{both, if_ok, is_text, kept_says, line_joined, map_some, then_some, unless_ok, words_are, words_listed}
+use Rattle.trace_text.proofs.Inversion.{both, if_ok, is_text, kept_says, line_joined, map_some, or_rule_ok, then_some, words_are, words_listed}
 use Rattle.trace_text.proofs.Shapes.{moving_shape, stable_shape}
 use Rattle.trace_text.proofs.Spelling.{number_spelled, signed_spelled}
 use Rattle.trace_text.proofs.Splitting.{some_piece}
@@ -173,10 +173,10 @@ record RowEnd (spec : Parts) (next : ℕ) (ws : List (List ℕ)) (at : ℕ) (mod
 row_ended : (spec : Parts) (next : ℕ) (ws : List (List ℕ)) (at : ℕ) (mode : KMode) (values : List ℕ) (row : Row) → row_end spec next ws at mode values ≡ Ok row →
     RowEnd spec next ws at mode values row
 row_ended spec next ws at mode values row h =
-    let f = unless_ok WRONG_NUMBER (spelled_number MAX_FRAMES (word_at ws 1)) _ row h in
-    let w = unless_ok WRONG_NUMBER (world_at ws (at + 5)) _ row f.2 in
+    let f = or_rule_ok WRONG_NUMBER (spelled_number MAX_FRAMES (word_at ws 1)) _ row h in
+    let w = or_rule_ok WRONG_NUMBER (world_at ws (at + 5)) _ row f.2 in
     let n = if_ok (f.0 == next) _ NOT_NEXT row w.2 in
-    let u = unless_ok OUT_OF_ORDER (up_in spec.procs (word_at ws (at + 3))) _ row n.1 in
+    let u = or_rule_ok OUT_OF_ORDER (up_in spec.procs (word_at ws (at + 3))) _ row n.1 in
     record {
       frame = f.0;
       world = w.0;
@@ -230,8 +230,8 @@ stable_read spec next line ws row few joined_is w0 form h =
     let b = and_parts ((length ws == 13) && is_word ws 2 (codes "stable")) (is_env_form spec ws 4) form in
     let a = and_parts (length ws == 13) (is_word ws 2 (codes "stable")) b.0 in
     let env = env_form spec ws 4 b.1 in
-    let c = unless_ok UNKNOWN_NAME (conf_named spec (word_at ws 3)) _ row h in
-    let v = unless_ok UNKNOWN_NAME (env_names spec ws 4) _ row c.2 in
+    let c = or_rule_ok UNKNOWN_NAME (conf_named spec (word_at ws 3)) _ row h in
+    let v = or_rule_ok UNKNOWN_NAME (env_names spec ws 4) _ row c.2 in
     let told = row_ended spec next ws 4 (Stable c.0) v.0 row v.2 in
     let w1 : word_at ws 1 ≡ decimal told.frame = told.spelled in
     let w2 : word_at ws 2 ≡ codes "stable" = is_text ws 2 (codes "stable") a.1 in
@@ -259,11 +259,11 @@ moving_read spec next line ws row few joined_is w0 form h =
     let b = and_parts ((length ws == 16) && is_word ws 2 (codes "moving")) (is_env_form spec ws 7) form in
     let a = and_parts (length ws == 16) (is_word ws 2 (codes "moving")) b.0 in
     let env = env_form spec ws 7 b.1 in
-    let c = unless_ok UNKNOWN_NAME (conf_named spec (word_at ws 3)) _ row h in
-    let d = unless_ok UNKNOWN_NAME (conf_or_none spec (word_at ws 4)) _ row c.2 in
-    let e = unless_ok UNKNOWN_NAME (conf_named spec (word_at ws 5)) _ row d.2 in
-    let v = unless_ok UNKNOWN_NAME (env_names spec ws 7) _ row e.2 in
-    let s = unless_ok WRONG_NUMBER (spelled_number MAX_FRAMES (word_at ws 6)) _ row v.2 in
+    let c = or_rule_ok UNKNOWN_NAME (conf_named spec (word_at ws 3)) _ row h in
+    let d = or_rule_ok UNKNOWN_NAME (conf_or_none spec (word_at ws 4)) _ row c.2 in
+    let e = or_rule_ok UNKNOWN_NAME (conf_named spec (word_at ws 5)) _ row d.2 in
+    let v = or_rule_ok UNKNOWN_NAME (env_names spec ws 7) _ row e.2 in
+    let s = or_rule_ok WRONG_NUMBER (spelled_number MAX_FRAMES (word_at ws 6)) _ row v.2 in
     let told = row_ended spec next ws 7 (Moving c.0 d.0 e.0 s.0) v.0 row s.2 in
     let w1 : word_at ws 1 ≡ decimal told.frame = told.spelled in
     let w2 : word_at ws 2 ≡ codes "moving" = is_text ws 2 (codes "moving") a.1 in
@@ -300,7 +300,7 @@ forms_by false false spec next line ws row stable moving h = absurd (let e = h i
 pub row_only : (spec : Parts) (next : ℕ) (line : List ℕ) (row : Row) → length spec.factors ≤ 6 → begins line (codes "frame") ≡ true → row_read spec next line ≡ Ok row →
     RowRead spec next line row
 row_only spec next line row few first h =
-    let w = unless_ok NO_FORM (words_in line) (row_of_words spec next) row h in
+    let w = or_rule_ok NO_FORM (words_in line) (row_of_words spec next) row h in
     let same = words_are line w.0 w.1 in
     let w0 : word_at w.0 0 ≡ codes "frame" = rw (← same) (is_text (words_of line) 0 (codes "frame") first) in
     let text = line_joined line w.0 w.1 in

@@ -14,19 +14,19 @@ use Rattle.scram_types.specs.declared.ids.ConfId.{ConfId}
 use Rattle.scram_types.specs.declared.limits.TheConstants.{MAX_FRAMES}
 use Rattle.scram_types.specs.declared.orders.KMode.{KMode}
 use Rattle.scram_types.specs.declared.orders.KMode.TheVariants.{Stable, Moving}
-use Rattle.trace_text.specs.declared.progress.Standing.TheVariants.{Rows}
+use Rattle.trace_text.specs.declared.progress.Expected.TheVariants.{Rows}
 use Rattle.trace_text.specs.Flights.{IsEnvShown, IsModeShown, IsMove, IsWorldShown}
 use Rattle.trace_text.specs.Names.{conf_or_dash}
 use Rattle.trace_text.specs.RowReading.{row_begun, row_of_words}
 use Rattle.trace_text.specs.Text.{row_line, up_text, values_text}
-use Rattle.trace_text.specs.TraceReading.{SoFar, standing_line}
+use Rattle.trace_text.specs.TraceReading.{ReadingState, standing_line}
 use Rattle.trace_text.proofs.ListsBack.{up_text_back, values_text_back}
 use Rattle.trace_text.proofs.NamesBack.{conf_back, conf_found_back, conf_or_dash_back}
 use Rattle.trace_text.proofs.Shapes.{moving_shape, stable_shape}
 use Rattle.trace_text.proofs.WordBytes.{decimal_visible, is_visible, line_of, name_short, name_visible, width, words_back, words_in_back}
 use Rattle.trace_text.proofs.LinesBack.{LineBack, frame_short, from_words, in_apps, number_back, shown_back, shown_short, shown_visible}
 
-abbrev pub in_rows : List Row → List Report → SoFar
+abbrev pub in_rows : List Row → List Report → ReadingState
 in_rows rows reports = record { rows = rows; reports = reports; standing = Rows }
 
 row_taken : (spec : Parts) (rows : List Row) (reports : List Report) (words : List (List ℕ)) (row : Row) →

@@ -12,7 +12,7 @@ use Rattle.trace_text.specs.declared.app_reading.Phase.TheVariants.{Halting, Pre
 use Rattle.trace_text.specs.Lookups.{app_number, listed_mode}
 use Rattle.scram_types.specs.Lookups.{proc_named}
 use Rattle.trace_text.specs.Pieces.{words_in, is_word, sides_of, word_at}
-use Rattle.trace_text.specs.Rules.{unless}
+use Rattle.trace_text.specs.Rules.{or_rule}
 use Rattle.trace_text.specs.Spelling.{signed_from, spelled_number}
 use Rattle.trace_text.specs.declared.rule.TheConstants.{NOT_NEXT, NO_FORM, OUT_OF_ORDER, UNKNOWN_NAME, WRONG_NUMBER}
 
@@ -51,20 +51,20 @@ bare_act tag =
 -- The result of reading the line of an application that ran: its names, its area, and whether it is the next one.
 abbrev pub ran_line : Parts → ℕ → List (List ℕ) → Result Done ℕ
 ran_line spec next words =
-    unless UNKNOWN_NAME (app_number spec (word_at words 1)) (λ (app : ℕ).
-    unless UNKNOWN_NAME (listed_mode spec app (word_at words 3)) (λ (mode : Mode).
-    unless UNKNOWN_NAME (proc_named spec (word_at words 4)) (λ (proc : ProcId).
-    unless WRONG_NUMBER (signed_from 8 6 words) (λ (area : List ℤ).
+    or_rule UNKNOWN_NAME (app_number spec (word_at words 1)) (λ (app : ℕ).
+    or_rule UNKNOWN_NAME (listed_mode spec app (word_at words 3)) (λ (mode : Mode).
+    or_rule UNKNOWN_NAME (proc_named spec (word_at words 4)) (λ (proc : ProcId).
+    or_rule WRONG_NUMBER (signed_from 8 6 words) (λ (area : List ℤ).
     if app == next then Ok (done (act.Ran mode proc) area) else Err NOT_NEXT))))
 
 -- The result of reading the line of an application in a phase, given the two sides of the slash between its frames.
 abbrev pub phase_line : Parts → ℕ → List (List ℕ) → Phase → List ℕ × List ℕ → Result Done ℕ
 phase_line spec next words phase fraction =
-    unless UNKNOWN_NAME (app_number spec (word_at words 1)) (λ (app : ℕ).
-    unless UNKNOWN_NAME (proc_named spec (word_at words 4)) (λ (proc : ProcId).
-    unless WRONG_NUMBER (spelled_number 256 fraction.0) (λ (k : ℕ).
-    unless WRONG_NUMBER (spelled_number 256 fraction.1) (λ (n : ℕ).
-    unless WRONG_NUMBER (signed_from 8 6 words) (λ (area : List ℤ).
+    or_rule UNKNOWN_NAME (app_number spec (word_at words 1)) (λ (app : ℕ).
+    or_rule UNKNOWN_NAME (proc_named spec (word_at words 4)) (λ (proc : ProcId).
+    or_rule WRONG_NUMBER (spelled_number 256 fraction.0) (λ (k : ℕ).
+    or_rule WRONG_NUMBER (spelled_number 256 fraction.1) (λ (n : ℕ).
+    or_rule WRONG_NUMBER (signed_from 8 6 words) (λ (area : List ℤ).
     if app == next then
     (if nat_lt k n && nat_le n MAX_PHASE then Ok (done (phase_act phase k n proc) area) else Err OUT_OF_ORDER)
     else Err NOT_NEXT)))))
@@ -72,8 +72,8 @@ phase_line spec next words phase fraction =
 -- The result of reading the line of an application without a processor.
 abbrev pub bare_line : Parts → ℕ → List (List ℕ) → Act → Result Done ℕ
 bare_line spec next words told =
-    unless UNKNOWN_NAME (app_number spec (word_at words 1)) (λ (app : ℕ).
-    unless WRONG_NUMBER (signed_from 8 4 words) (λ (area : List ℤ).
+    or_rule UNKNOWN_NAME (app_number spec (word_at words 1)) (λ (app : ℕ).
+    or_rule WRONG_NUMBER (signed_from 8 4 words) (λ (area : List ℤ).
     if app == next then Ok (done told area) else Err NOT_NEXT))
 
 -- The result of reading the line of an act on a processor: `ran`, or the phase that it names.
@@ -81,15 +81,15 @@ abbrev pub placed_line : Parts → ℕ → List (List ℕ) → Result Done ℕ
 placed_line spec next words =
     if is_word words 2 (codes "ran") then ran_line spec next words
     else
-    unless NO_FORM (phase_named (word_at words 2)) (λ (phase : Phase).
-    unless NO_FORM (sides_of (word_at words 3)) (phase_line spec next words phase))
+    or_rule NO_FORM (phase_named (word_at words 2)) (λ (phase : Phase).
+    or_rule NO_FORM (sides_of (word_at words 3)) (phase_line spec next words phase))
 
 -- The result of reading the words of an application's line.
 abbrev pub app_in : Parts → ℕ → List (List ℕ) → Result Done ℕ
 app_in spec next words =
     if is_placed_form words then placed_line spec next words
-    else (if is_bare_form words then unless NO_FORM (bare_act (word_at words 2)) (bare_line spec next words) else Err NO_FORM)
+    else (if is_bare_form words then or_rule NO_FORM (bare_act (word_at words 2)) (bare_line spec next words) else Err NO_FORM)
 
 -- The result of reading the line of application `next`.
 abbrev pub app_read : Parts → ℕ → List ℕ → Result Done ℕ
-app_read spec next line = unless NO_FORM (words_in line) (app_in spec next)
+app_read spec next line = or_rule NO_FORM (words_in line) (app_in spec next)

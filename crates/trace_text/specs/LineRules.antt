@@ -4,8 +4,8 @@ use Rattle.scram_types.specs.declared.limits.TheConstants.{MAX_FRAMES, MAX_PHASE
 use Rattle.scram_types.specs.Specification.{Parts, bound_in, greatest_bound_in}
 use Rattle.scram_types.specs.Lookups.{conf_named, proc_named}
 use Rattle.scram_types.specs.declared.ids.ConfId.{ConfId}
-use Rattle.trace_text.specs.declared.progress.Standing.{Standing}
-use Rattle.trace_text.specs.declared.progress.Standing.TheVariants.{Rows, Apps, Reports, Over}
+use Rattle.trace_text.specs.declared.progress.Expected.{Expected}
+use Rattle.trace_text.specs.declared.progress.Expected.TheVariants.{Rows, Apps, Reports, Over}
 use Rattle.trace_text.specs.declared.rule.TheConstants.{BROKEN_LINE, NOT_NEXT, NO_FORM, OUT_OF_ORDER, OUT_OF_PLACE, UNKNOWN_NAME, WRONG_COUNT, WRONG_END, WRONG_NUMBER}
 use Rattle.trace_text.specs.AppReading.{bare_act, is_bare_form, is_placed_form, phase_named}
 use Rattle.trace_text.specs.Lookups.{app_number, conf_or_none, listed_mode}
@@ -13,7 +13,7 @@ use Rattle.trace_text.specs.Pieces.{is_word, sides_of, word_at, words_in, words_
 use Rattle.trace_text.specs.ReportReading.{bound_or_none, is_end_form, is_report_form, same_bound}
 use Rattle.trace_text.specs.RowReading.{env_names, is_moving_form, is_stable_form, up_in, world_at}
 use Rattle.trace_text.specs.Spelling.{signed_from, spelled_number}
-use Rattle.trace_text.specs.TraceReading.{SoFar, after_line, begins, is_plain}
+use Rattle.trace_text.specs.TraceReading.{ReadingState, after_line, begins, is_plain}
 
 -- The forms of lines: a row with a stable or a moving mode; an application that ran, is in a phase, or has no
 -- processor; a reconfiguration that ended or was cut off; and the end line.
@@ -32,12 +32,12 @@ abbrev pub Words : Type 0
 Words = List (List ℕ)
 
 -- The value is given, and passes a test.
-abbrev pub is_told : {A : Type 0} → Option A → (A → Bool) → Bool
-is_told None ask = false
-is_told (Some a) ask = ask a
+abbrev pub is_some_and : {A : Type 0} → Option A → (A → Bool) → Bool
+is_some_and None ask = false
+is_some_and (Some a) ask = ask a
 
 -- Rule 2: the first word of the line is allowed here. After the end line no word is tested.
-abbrev pub is_in_place : Standing → List ℕ → Bool
+abbrev pub is_in_place : Expected → List ℕ → Bool
 is_in_place Rows line = begins line (codes "frame") || begins line (codes "reconfiguration") || begins line (codes "end")
 is_in_place (Apps a row) line = begins line (codes "app")
 is_in_place Reports line = begins line (codes "reconfiguration") || begins line (codes "end")
@@ -79,7 +79,7 @@ abbrev pub line_form : Parts → List ℕ → Option Form
 line_form spec line = option_and_then (form_by spec line) (words_in line)
 
 -- Rule 3: the words of the line match a form.
-abbrev pub has_form : Parts → Standing → List ℕ → Bool
+abbrev pub has_form : Parts → Expected → List ℕ → Bool
 has_form spec Rows line = is_some (line_form spec line)
 has_form spec (Apps a row) line = is_some (line_form spec line)
 has_form spec Reports line = is_some (line_form spec line)
@@ -92,7 +92,7 @@ knows_names spec words MovingRow =
     is_some (conf_named spec (word_at words 3)) && is_some (conf_or_none spec (word_at words 4)) && is_some (conf_named spec (word_at words 5))
     && is_some (env_names spec words 7)
 knows_names spec words RanApp =
-    is_told (app_number spec (word_at words 1)) (λ (app : ℕ). is_some (listed_mode spec app (word_at words 3))) && is_some (proc_named spec (word_at words 4))
+    is_some_and (app_number spec (word_at words 1)) (λ (app : ℕ). is_some (listed_mode spec app (word_at words 3))) && is_some (proc_named spec (word_at words 4))
 knows_names spec words PhaseApp = is_some (app_number spec (word_at words 1)) && is_some (proc_named spec (word_at words 4))
 knows_names spec words BareApp = is_some (app_number spec (word_at words 1))
 knows_names spec words Finished = is_some (conf_named spec (word_at words 1)) && is_some (conf_named spec (word_at words 3))
@@ -116,7 +116,7 @@ abbrev pub spells_numbers : Words → Form → Bool
 spells_numbers words StableRow = is_frame_number (word_at words 1) && is_some (world_at words 9)
 spells_numbers words MovingRow = is_frame_number (word_at words 6) && is_frame_number (word_at words 1) && is_some (world_at words 12)
 spells_numbers words RanApp = is_some (signed_from 8 6 words)
-spells_numbers words PhaseApp = is_told (sides_of (word_at words 3)) are_bytes && is_some (signed_from 8 6 words)
+spells_numbers words PhaseApp = is_some_and (sides_of (word_at words 3)) are_bytes && is_some (signed_from 8 6 words)
 spells_numbers words BareApp = is_some (signed_from 8 4 words)
 spells_numbers words Finished =
     is_frame_number (word_at words 7) && is_frame_number (word_at words 5) && is_count (word_at words 9) && is_some (bound_or_none (word_at words 11))
@@ -124,22 +124,22 @@ spells_numbers words Unfinished = is_frame_number (word_at words 5) && is_count 
 spells_numbers words Ending = is_count (word_at words 2) && is_count (word_at words 4)
 
 -- The number of the application whose line is due.
-abbrev pub app_due : Standing → ℕ
+abbrev pub app_due : Expected → ℕ
 app_due Rows = 0
 app_due (Apps a row) = a
 app_due Reports = 0
 app_due Over = 0
 
 -- The line's frame is the frame after the rows so far.
-abbrev pub is_frame_due : SoFar → Words → Bool
-is_frame_due s words = is_told (spelled_number MAX_FRAMES (word_at words 1)) (λ (frame : ℕ). frame == length s.rows)
+abbrev pub is_frame_due : ReadingState → Words → Bool
+is_frame_due s words = is_some_and (spelled_number MAX_FRAMES (word_at words 1)) (λ (frame : ℕ). frame == length s.rows)
 
 -- The line's application is the one whose line is due.
-abbrev pub is_app_due : Parts → SoFar → Words → Bool
-is_app_due spec s words = is_told (app_number spec (word_at words 1)) (λ (app : ℕ). app == app_due s.standing)
+abbrev pub is_app_due : Parts → ReadingState → Words → Bool
+is_app_due spec s words = is_some_and (app_number spec (word_at words 1)) (λ (app : ℕ). app == app_due s.standing)
 
 -- Rule 6: the frame or the application is the next one.
-abbrev pub is_due : Parts → SoFar → Words → Form → Bool
+abbrev pub is_due : Parts → ReadingState → Words → Form → Bool
 is_due spec s words StableRow = is_frame_due s words
 is_due spec s words MovingRow = is_frame_due s words
 is_due spec s words RanApp = is_app_due spec s words
@@ -152,14 +152,14 @@ is_due spec s words Ending = true
 -- The frame k is below the length n of a phase, which is at most 16.
 abbrev pub is_in_phase : List ℕ × List ℕ → Bool
 is_in_phase sides =
-    is_told (spelled_number 256 sides.0) (λ (k : ℕ). is_told (spelled_number 256 sides.1) (λ (n : ℕ). nat_lt k n && nat_le n MAX_PHASE))
+    is_some_and (spelled_number 256 sides.0) (λ (k : ℕ). is_some_and (spelled_number 256 sides.1) (λ (n : ℕ). nat_lt k n && nat_le n MAX_PHASE))
 
 -- Rule 7: the frame of a phase is below its length, and processors are in order.
 abbrev pub is_in_order : Parts → Words → Form → Bool
 is_in_order spec words StableRow = is_some (up_in spec.procs (word_at words 7))
 is_in_order spec words MovingRow = is_some (up_in spec.procs (word_at words 10))
 is_in_order spec words RanApp = true
-is_in_order spec words PhaseApp = is_told (sides_of (word_at words 3)) is_in_phase
+is_in_order spec words PhaseApp = is_some_and (sides_of (word_at words 3)) is_in_phase
 is_in_order spec words BareApp = true
 is_in_order spec words Finished = true
 is_in_order spec words Unfinished = true
@@ -168,30 +168,30 @@ is_in_order spec words Ending = true
 -- The reconfiguration begins no later than its end, and shows its length and the bound that is given.
 abbrev pub is_measured : Words → ℕ → Option ℕ → Bool
 is_measured words end given =
-    is_told (spelled_number MAX_FRAMES (word_at words 5)) (λ (begin : ℕ).
-    is_told (spelled_number (2 ^ 32) (word_at words 9)) (λ (took : ℕ).
-    is_told (bound_or_none (word_at words 11)) (λ (bound : Option ℕ).
+    is_some_and (spelled_number MAX_FRAMES (word_at words 5)) (λ (begin : ℕ).
+    is_some_and (spelled_number (2 ^ 32) (word_at words 9)) (λ (took : ℕ).
+    is_some_and (bound_or_none (word_at words 11)) (λ (bound : Option ℕ).
     nat_le begin end && (took == end - begin) && same_bound bound given)))
 
 -- Rule 8: lengths, bounds and counts are right.
-abbrev pub counts_rightly : Parts → SoFar → Words → Form → Bool
+abbrev pub counts_rightly : Parts → ReadingState → Words → Form → Bool
 counts_rightly spec s words StableRow = true
 counts_rightly spec s words MovingRow = true
 counts_rightly spec s words RanApp = true
 counts_rightly spec s words PhaseApp = true
 counts_rightly spec s words BareApp = true
 counts_rightly spec s words Finished =
-    is_told (conf_named spec (word_at words 1)) (λ (from : ConfId).
-    is_told (conf_named spec (word_at words 3)) (λ (to : ConfId).
-    is_told (spelled_number MAX_FRAMES (word_at words 7)) (λ (end : ℕ). is_measured words end (bound_in spec.bounds from.0 to.0))))
+    is_some_and (conf_named spec (word_at words 1)) (λ (from : ConfId).
+    is_some_and (conf_named spec (word_at words 3)) (λ (to : ConfId).
+    is_some_and (spelled_number MAX_FRAMES (word_at words 7)) (λ (end : ℕ). is_measured words end (bound_in spec.bounds from.0 to.0))))
 counts_rightly spec s words Unfinished =
-    is_told (conf_named spec (word_at words 1)) (λ (from : ConfId). is_measured words (length s.rows) (greatest_bound_in spec.bounds from.0))
+    is_some_and (conf_named spec (word_at words 1)) (λ (from : ConfId). is_measured words (length s.rows) (greatest_bound_in spec.bounds from.0))
 counts_rightly spec s words Ending =
-    is_told (spelled_number (2 ^ 32) (word_at words 2)) (λ (frames : ℕ).
-    is_told (spelled_number (2 ^ 32) (word_at words 4)) (λ (reports : ℕ). (frames == length s.rows) && (reports == length s.reports)))
+    is_some_and (spelled_number (2 ^ 32) (word_at words 2)) (λ (frames : ℕ).
+    is_some_and (spelled_number (2 ^ 32) (word_at words 4)) (λ (reports : ℕ). (frames == length s.rows) && (reports == length s.reports)))
 
 -- Rule 9: the end line has not been read.
-abbrev pub is_open : Standing → Bool
+abbrev pub is_open : Expected → Bool
 is_open Rows = true
 is_open (Apps a row) = true
 is_open Reports = true
@@ -203,14 +203,14 @@ keeps None ask = true
 keeps (Some form) ask = ask form
 
 -- The form that rules 4 to 8 test, or nothing if they do not apply.
-abbrev pub asked_form : Parts → Standing → List ℕ → Option Form
+abbrev pub asked_form : Parts → Expected → List ℕ → Option Form
 asked_form spec Rows line = line_form spec line
 asked_form spec (Apps a row) line = line_form spec line
 asked_form spec Reports line = line_form spec line
 asked_form spec Over line = None
 
 -- A line, read after the lines so far, breaks the rule of this number.
-abbrev pub breaks_rule : Parts → SoFar → List ℕ → ℕ → Bool
+abbrev pub breaks_rule : Parts → ReadingState → List ℕ → ℕ → Bool
 breaks_rule spec s line rule =
     if rule == BROKEN_LINE then not (is_plain line)
     else (if rule == OUT_OF_PLACE then not (is_in_place s.standing line)
@@ -223,10 +223,10 @@ breaks_rule spec s line rule =
     else (if rule == WRONG_END then not (is_open s.standing) else false))))))))
 
 -- The result of a reading is `Ok` if no rule is broken, or else the first rule that is broken.
-abbrev pub TellsLeast : {A : Type 0} → (ℕ → Bool) → Result A ℕ → Type 0
-TellsLeast breaks (Ok a) = (rule : ℕ) → breaks rule ≡ false
-TellsLeast breaks (Err least) = (breaks least ≡ true) × ((rule : ℕ) → rule < least → breaks rule ≡ false)
+abbrev pub ReportsLeast : {A : Type 0} → (ℕ → Bool) → Result A ℕ → Type 0
+ReportsLeast breaks (Ok a) = (rule : ℕ) → breaks rule ≡ false
+ReportsLeast breaks (Err least) = (breaks least ≡ true) × ((rule : ℕ) → rule < least → breaks rule ≡ false)
 
 -- A line that breaks no rule is read, and for any other line the first rule that it breaks is reported.
-abbrev pub LeastRuleIsTold : Type 0
-LeastRuleIsTold = (spec : Parts) (s : SoFar) (line : List ℕ) → TellsLeast (breaks_rule spec s line) (after_line spec s line)
+abbrev pub LeastRuleIsReported : Type 0
+LeastRuleIsReported = (spec : Parts) (s : ReadingState) (line : List ℕ) → ReportsLeast (breaks_rule spec s line) (after_line spec s line)

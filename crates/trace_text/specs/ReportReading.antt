@@ -6,7 +6,7 @@ use Rattle.scram_types.specs.declared.ids.ConfId.{ConfId}
 use Rattle.scram_types.specs.declared.rows.Report.{Report}
 use Rattle.scram_types.specs.Lookups.{conf_named}
 use Rattle.trace_text.specs.Pieces.{words_in, is_word, word_at}
-use Rattle.trace_text.specs.Rules.{unless}
+use Rattle.trace_text.specs.Rules.{or_rule}
 use Rattle.trace_text.specs.Spelling.{spelled_number}
 use Rattle.trace_text.specs.declared.rule.TheConstants.{NO_FORM, UNKNOWN_NAME, WRONG_COUNT, WRONG_NUMBER}
 
@@ -30,9 +30,9 @@ same_bound (Some a) (Some b) = a == b
 -- The result of rules 5 and 8, except for the spelling of the end.
 abbrev pub report_end : List (List ℕ) → ConfId → Option ConfId → ℕ → Option ℕ → Result Report ℕ
 report_end words from to end given =
-    unless WRONG_NUMBER (spelled_number MAX_FRAMES (word_at words 5)) (λ (begin : ℕ).
-    unless WRONG_NUMBER (spelled_number (2 ^ 32) (word_at words 9)) (λ (took : ℕ).
-    unless WRONG_NUMBER (bound_or_none (word_at words 11)) (λ (bound : Option ℕ).
+    or_rule WRONG_NUMBER (spelled_number MAX_FRAMES (word_at words 5)) (λ (begin : ℕ).
+    or_rule WRONG_NUMBER (spelled_number (2 ^ 32) (word_at words 9)) (λ (took : ℕ).
+    or_rule WRONG_NUMBER (bound_or_none (word_at words 11)) (λ (bound : Option ℕ).
     if nat_le begin end && (took == end - begin) && same_bound bound given then
     Ok (record { from = from; to = to; begin = begin; end = end })
     else Err WRONG_COUNT)))
@@ -40,15 +40,15 @@ report_end words from to end given =
 -- The result of reading a reconfiguration that ended, which shows its target, its end and the bound of the pair.
 abbrev pub finished_report : Parts → List (List ℕ) → Result Report ℕ
 finished_report spec words =
-    unless UNKNOWN_NAME (conf_named spec (word_at words 1)) (λ (from : ConfId).
-    unless UNKNOWN_NAME (conf_named spec (word_at words 3)) (λ (to : ConfId).
-    unless WRONG_NUMBER (spelled_number MAX_FRAMES (word_at words 7)) (λ (end : ℕ).
+    or_rule UNKNOWN_NAME (conf_named spec (word_at words 1)) (λ (from : ConfId).
+    or_rule UNKNOWN_NAME (conf_named spec (word_at words 3)) (λ (to : ConfId).
+    or_rule WRONG_NUMBER (spelled_number MAX_FRAMES (word_at words 7)) (λ (end : ℕ).
     report_end words from (Some to) end (bound_in spec.bounds from.0 to.0))))
 
 -- The result of reading a reconfiguration that was cut off, which ends with the frames of the flight.
 abbrev pub unfinished_report : Parts → ℕ → List (List ℕ) → Result Report ℕ
 unfinished_report spec frames words =
-    unless UNKNOWN_NAME (conf_named spec (word_at words 1)) (λ (from : ConfId).
+    or_rule UNKNOWN_NAME (conf_named spec (word_at words 1)) (λ (from : ConfId).
     report_end words from None frames (greatest_bound_in spec.bounds from.0))
 
 -- The result of reading the words of a reconfiguration, of which the target and the end are both `-` or neither is.
@@ -62,7 +62,7 @@ report_in spec frames words =
 
 -- The result of reading the line of a reconfiguration of a flight with this number of frames.
 abbrev pub report_read : Parts → ℕ → List ℕ → Result Report ℕ
-report_read spec frames line = unless NO_FORM (words_in line) (report_in spec frames)
+report_read spec frames line = or_rule NO_FORM (words_in line) (report_in spec frames)
 
 -- The words have the form of the end line.
 abbrev pub is_end_form : List (List ℕ) → Bool
@@ -72,11 +72,11 @@ is_end_form words = (length words == 5) && is_word words 1 (codes "frames") && i
 abbrev pub end_in : ℕ → ℕ → List (List ℕ) → Result ⊤ ℕ
 end_in frames reports words =
     if is_end_form words then
-    unless WRONG_NUMBER (spelled_number (2 ^ 32) (word_at words 2)) (λ (f : ℕ).
-    unless WRONG_NUMBER (spelled_number (2 ^ 32) (word_at words 4)) (λ (r : ℕ).
+    or_rule WRONG_NUMBER (spelled_number (2 ^ 32) (word_at words 2)) (λ (f : ℕ).
+    or_rule WRONG_NUMBER (spelled_number (2 ^ 32) (word_at words 4)) (λ (r : ℕ).
     if (f == frames) && (r == reports) then Ok tt else Err WRONG_COUNT))
     else Err NO_FORM
 
 -- The result of reading the end line of a trace with these numbers of rows and reports.
 abbrev pub end_read : ℕ → ℕ → List ℕ → Result ⊤ ℕ
-end_read frames reports line = unless NO_FORM (words_in line) (end_in frames reports)
+end_read frames reports line = or_rule NO_FORM (words_in line) (end_in frames reports)

@@ -17,7 +17,7 @@ use Rattle.scram_types.specs.declared.specification.Proc.{Proc}
 use Rattle.trace_text.specs.Lookups.{conf_or_none}
 use Rattle.scram_types.specs.Lookups.{value_named, proc_named, conf_named}
 use Rattle.trace_text.specs.Pieces.{pieces_of, items_of, words_in, is_word, word_at}
-use Rattle.trace_text.specs.Rules.{unless}
+use Rattle.trace_text.specs.Rules.{or_rule}
 use Rattle.trace_text.specs.Spelling.{signed_of, spelled_number}
 use Rattle.trace_text.specs.declared.rule.TheConstants.{NOT_NEXT, NO_FORM, OUT_OF_ORDER, UNKNOWN_NAME, WRONG_NUMBER}
 
@@ -105,27 +105,27 @@ row_begun frame mode env world =
 -- The result of rules 5 to 7, except for `since`.
 abbrev pub row_end : Parts → ℕ → List (List ℕ) → ℕ → KMode → List ℕ → Result Row ℕ
 row_end spec next words at mode values =
-    unless WRONG_NUMBER (spelled_number MAX_FRAMES (word_at words 1)) (λ (frame : ℕ).
-    unless WRONG_NUMBER (world_at words (at + 5)) (λ (world : World).
+    or_rule WRONG_NUMBER (spelled_number MAX_FRAMES (word_at words 1)) (λ (frame : ℕ).
+    or_rule WRONG_NUMBER (world_at words (at + 5)) (λ (world : World).
     if frame == next then
-    unless OUT_OF_ORDER (up_in spec.procs (word_at words (at + 3))) (λ (up : ℕ). Ok (row_begun frame mode (env_read up values) world))
+    or_rule OUT_OF_ORDER (up_in spec.procs (word_at words (at + 3))) (λ (up : ℕ). Ok (row_begun frame mode (env_read up values) world))
     else Err NOT_NEXT))
 
 -- The result of reading the first line of a row whose mode is stable.
 abbrev pub stable_row : Parts → ℕ → List (List ℕ) → Result Row ℕ
 stable_row spec next words =
-    unless UNKNOWN_NAME (conf_named spec (word_at words 3)) (λ (conf : ConfId).
-    unless UNKNOWN_NAME (env_names spec words 4) (λ (values : List ℕ).
+    or_rule UNKNOWN_NAME (conf_named spec (word_at words 3)) (λ (conf : ConfId).
+    or_rule UNKNOWN_NAME (env_names spec words 4) (λ (values : List ℕ).
     row_end spec next words 4 (Stable conf) values))
 
 -- The result of reading the first line of a row whose mode is moving.
 abbrev pub moving_row : Parts → ℕ → List (List ℕ) → Result Row ℕ
 moving_row spec next words =
-    unless UNKNOWN_NAME (conf_named spec (word_at words 3)) (λ (from : ConfId).
-    unless UNKNOWN_NAME (conf_or_none spec (word_at words 4)) (λ (halting : Option ConfId).
-    unless UNKNOWN_NAME (conf_named spec (word_at words 5)) (λ (to : ConfId).
-    unless UNKNOWN_NAME (env_names spec words 7) (λ (values : List ℕ).
-    unless WRONG_NUMBER (spelled_number MAX_FRAMES (word_at words 6)) (λ (since : ℕ).
+    or_rule UNKNOWN_NAME (conf_named spec (word_at words 3)) (λ (from : ConfId).
+    or_rule UNKNOWN_NAME (conf_or_none spec (word_at words 4)) (λ (halting : Option ConfId).
+    or_rule UNKNOWN_NAME (conf_named spec (word_at words 5)) (λ (to : ConfId).
+    or_rule UNKNOWN_NAME (env_names spec words 7) (λ (values : List ℕ).
+    or_rule WRONG_NUMBER (spelled_number MAX_FRAMES (word_at words 6)) (λ (since : ℕ).
     row_end spec next words 7 (Moving from halting to since) values)))))
 
 -- The result of reading the words of a row's first line, in one of the two forms.
@@ -136,4 +136,4 @@ row_of_words spec next words =
 
 -- The result of reading the first line of row `next`.
 abbrev pub row_read : Parts → ℕ → List ℕ → Result Row ℕ
-row_read spec next line = unless NO_FORM (words_in line) (row_of_words spec next)
+row_read spec next line = or_rule NO_FORM (words_in line) (row_of_words spec next)

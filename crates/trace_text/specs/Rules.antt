@@ -3,6 +3,6 @@
 use Rattle.std.specs.Prelude.{ℕ, Option, Some, None, Result, Err}
 
 -- The result that follows from a value, or a broken rule if there is no value.
-abbrev pub unless : {A B : Type 0} → ℕ → Option A → (A → Result B ℕ) → Result B ℕ
-unless rule None next = Err rule
-unless rule (Some a) next = next a
+abbrev pub or_rule : {A B : Type 0} → ℕ → Option A → (A → Result B ℕ) → Result B ℕ
+or_rule rule None next = Err rule
+or_rule rule (Some a) next = next a

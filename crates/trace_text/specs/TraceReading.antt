@@ -8,8 +8,8 @@ use Rattle.scram_types.specs.declared.rows.Report.{Report}
 use Rattle.scram_types.specs.declared.rows.Row.{Row}
 use Rattle.scram_types.specs.declared.orders.Act.{Act}
 use Rattle.trace_text.specs.declared.app_reading.Done.{Done}
-use Rattle.trace_text.specs.declared.progress.Standing.{Standing}
-use Rattle.trace_text.specs.declared.progress.Standing.TheVariants.{Rows, Apps, Reports, Over}
+use Rattle.trace_text.specs.declared.progress.Expected.{Expected}
+use Rattle.trace_text.specs.declared.progress.Expected.TheVariants.{Rows, Apps, Reports, Over}
 use Rattle.trace_text.specs.declared.progress.Stop.{Stop}
 use Rattle.trace_text.specs.declared.progress.Stop.TheVariants as stop
 use Rattle.trace_text.specs.declared.trace_reading.TraceFault.{TraceFault}
@@ -22,20 +22,20 @@ use Rattle.trace_text.specs.RowReading.{row_read}
 use Rattle.trace_text.specs.declared.rule.TheConstants.{BROKEN_LINE, OUT_OF_PLACE, WRONG_END}
 
 -- The contents of the lines so far, and the lines that may come next.
-pub record SoFar : Type 0 where
+pub record ReadingState : Type 0 where
   pub rows : List Row
   pub reports : List Report
-  pub standing : Standing
+  pub standing : Expected
 
 -- The maximum number of rows that have been read, since frames are below 20,000.
-abbrev pub rows_before : Standing → ℕ
+abbrev pub rows_before : Expected → ℕ
 rows_before Rows = MAX_FRAMES
 rows_before (Apps a row) = MAX_FRAMES - 1
 rows_before Reports = MAX_FRAMES
 rows_before Over = MAX_FRAMES
 
 -- The state before the first line, in which a row may begin.
-abbrev pub before_first : SoFar
+abbrev pub before_first : ReadingState
 before_first = record { rows = []; reports = []; standing = Rows }
 
 -- The byte is printable; the space is.
@@ -56,39 +56,39 @@ with_app row a act area =
     record { frame = row.frame; env = row.env; mode = row.mode; acts = slice_set row.acts a act; areas = slice_set row.areas a area; world = row.world }
 
 -- The state after application a of a row, which is complete after its last application.
-abbrev pub after_app : Parts → SoFar → ℕ → Row → SoFar
+abbrev pub after_app : Parts → ReadingState → ℕ → Row → ReadingState
 after_app spec s a row =
     if nat_lt (a + 1) (length spec.apps) then record { rows = s.rows; reports = s.reports; standing = Apps (a + 1) row }
     else record { rows = s.rows ++ row ∷ []; reports = s.reports; standing = Rows }
 
 -- The state after the first line of a row, whose applications are due.
-abbrev pub with_row : SoFar → Result Row ℕ → Result SoFar ℕ
+abbrev pub with_row : ReadingState → Result Row ℕ → Result ReadingState ℕ
 with_row s (Ok row) = Ok (record { rows = s.rows; reports = s.reports; standing = Apps 0 row })
 with_row s (Err rule) = Err rule
 
 -- The state after the line of application a, whose act and area are added to the row.
-abbrev pub with_done : Parts → SoFar → ℕ → Row → Result Done ℕ → Result SoFar ℕ
+abbrev pub with_done : Parts → ReadingState → ℕ → Row → Result Done ℕ → Result ReadingState ℕ
 with_done spec s a row (Ok done) = Ok (after_app spec s a (with_app row a done.act done.area))
 with_done spec s a row (Err rule) = Err rule
 
 -- The state after a reconfiguration, after which no row may come.
-abbrev pub with_report : SoFar → Result Report ℕ → Result SoFar ℕ
+abbrev pub with_report : ReadingState → Result Report ℕ → Result ReadingState ℕ
 with_report s (Ok report) = Ok (record { rows = s.rows; reports = s.reports ++ report ∷ []; standing = Reports })
 with_report s (Err rule) = Err rule
 
 -- The state after the end line, after which no line may come.
-abbrev pub with_end : SoFar → Result ⊤ ℕ → Result SoFar ℕ
+abbrev pub with_end : ReadingState → Result ⊤ ℕ → Result ReadingState ℕ
 with_end s (Ok done) = Ok (record { rows = s.rows; reports = s.reports; standing = Over })
 with_end s (Err rule) = Err rule
 
 -- The state after a report or the end line.
-abbrev pub closing : Parts → SoFar → List ℕ → Result SoFar ℕ
+abbrev pub closing : Parts → ReadingState → List ℕ → Result ReadingState ℕ
 closing spec s line =
     if begins line (codes "reconfiguration") then with_report s (report_read spec (length s.rows) line)
     else (if begins line (codes "end") then with_end s (end_read (length s.rows) (length s.reports) line) else Err OUT_OF_PLACE)
 
 -- The state after a further printable line, by the lines that may come here.
-abbrev pub standing_line : Parts → SoFar → Standing → List ℕ → Result SoFar ℕ
+abbrev pub standing_line : Parts → ReadingState → Expected → List ℕ → Result ReadingState ℕ
 standing_line spec s Rows line =
     if begins line (codes "frame") then with_row s (row_read spec (length s.rows) line) else closing spec s line
 standing_line spec s (Apps a row) line =
@@ -97,7 +97,7 @@ standing_line spec s Reports line = closing spec s line
 standing_line spec s Over line = Err WRONG_END
 
 -- The state after a further line, or the first rule that the line breaks.
-abbrev pub after_line : Parts → SoFar → List ℕ → Result SoFar ℕ
+abbrev pub after_line : Parts → ReadingState → List ℕ → Result ReadingState ℕ
 after_line spec s line = if is_plain line then standing_line spec s s.standing line else Err BROKEN_LINE
 
 -- The fault of breaking a rule in a line, counted from 1.
@@ -105,27 +105,27 @@ abbrev pub fault_at : ℕ → ℕ → TraceFault
 fault_at line rule = record { line = line; rule = rule }
 
 -- The result at the end of the bytes. Rule 9 requires that the end line has been read.
-abbrev pub at_end : ℕ → SoFar → Standing → Result Flown TraceFault
+abbrev pub at_end : ℕ → ReadingState → Expected → Result Flown TraceFault
 at_end k s Over = Ok (record { rows = s.rows; reports = s.reports })
 at_end k s Rows = Err (fault_at k WRONG_END)
 at_end k s (Apps a row) = Err (fault_at k WRONG_END)
 at_end k s Reports = Err (fault_at k WRONG_END)
 
 -- The result after the last line feed. Rule 1 requires that no bytes follow it.
-abbrev pub at_last : ℕ → SoFar → List ℕ → Result Flown TraceFault
+abbrev pub at_last : ℕ → ReadingState → List ℕ → Result Flown TraceFault
 at_last k s last = if is_filled last then Err (fault_at k BROKEN_LINE) else at_end k s s.standing
 
 -- The result after line k: the reading continues, or ends with a fault if the line breaks a rule.
-abbrev pub go_on : ℕ → Result SoFar ℕ → (SoFar → Result Flown TraceFault) → Result Flown TraceFault
+abbrev pub go_on : ℕ → Result ReadingState ℕ → (ReadingState → Result Flown TraceFault) → Result Flown TraceFault
 go_on k (Ok s) next = next s
 go_on k (Err rule) next = Err (fault_at k rule)
 
 -- The result of reading from line k on, given the lines and the bytes after the last line feed.
-abbrev pub trace_from : Parts → ℕ → SoFar → List (List ℕ) → Result Flown TraceFault
+abbrev pub trace_from : Parts → ℕ → ReadingState → List (List ℕ) → Result Flown TraceFault
 trace_from spec k s [] = at_end k s s.standing
 trace_from spec k s (last ∷ []) = at_last k s last
 trace_from spec k s (line ∷ next ∷ lines) =
-    go_on k (after_line spec s line) (λ (t : SoFar). trace_from spec (k + 1) t (next ∷ lines))
+    go_on k (after_line spec s line) (λ (t : ReadingState). trace_from spec (k + 1) t (next ∷ lines))
 
 -- The result of reading bytes as a trace. Bytes that are too many break rule 9 at line 0.
 abbrev pub trace_of : Parts → List ℕ → Result Flown TraceFault
@@ -138,7 +138,7 @@ stopped line (stop.Rule rule) = Fault (fault_at line rule)
 stopped line stop.NoMemory = NoMemory
 
 -- The reader's result for a line is the result of the definition, or out of memory.
-abbrev pub AnswersLine : Result SoFar ℕ → Result SoFar Stop → Type 0
+abbrev pub AnswersLine : Result ReadingState ℕ → Result ReadingState Stop → Type 0
 AnswersLine reading (Ok s) = reading ≡ Ok s
 AnswersLine reading (Err (stop.Rule rule)) = reading ≡ Err rule
 AnswersLine reading (Err stop.NoMemory) = ⊤

@@ -4,7 +4,7 @@ ghost use Rattle.std.specs.Prelude.{◌≡◌, ◌≤◌, ◌<◌, Ok, length};
 ghost use Rattle.std.specs.List.{list_all};
 ghost use Rattle.trace_text.specs.ReportReading.{report_read};
 ghost use Rattle.trace_text.specs.TraceReading.{AnswersLine, after_app, after_line, before_first, begins, closing, is_plain, is_printable, standing_line, with_app, with_report};
-ghost use Rattle.trace_text.specs.declared.progress.Standing.TheVariants.{Apps, Rows};
+ghost use Rattle.trace_text.specs.declared.progress.Expected.TheVariants.{Apps, Rows};
 ghost use Rattle.scram_types.specs.declared.limits.TheConstants.{MAX_FRAMES};
 
 use crate::app_reading::{Done, read_app};
@@ -18,7 +18,7 @@ use std::alloc::Global;
 
 /// The lines that may come next.
 #[derive(Clone, Copy, Debug, PartialEq, Eq)]
-pub enum Standing {
+pub enum Expected {
     /// The first line of a row, a reconfiguration or the end line.
     Rows,
     /// The line of the application of this number, in a row whose reading has begun.
@@ -43,14 +43,14 @@ pub enum Stop {
 pub struct Progress {
     pub rows: Vec<Row>,
     pub reports: Vec<Report>,
-    pub standing: Standing,
+    pub standing: Expected,
 }
 
 impl std::marker::Model for Progress {
     ghost use Rattle.std.specs.Prelude.{◌≤◌, length};
-    ghost use Rattle.trace_text.specs.TraceReading.{SoFar, rows_before};
+    ghost use Rattle.trace_text.specs.TraceReading.{ReadingState, rows_before};
 
-    ghost Value = { SoFar };
+    ghost Value = { ReadingState };
 
     ghost view = { λ p. record { rows = p.rows.items; reports = p.reports.items; standing = p.standing } };
 
@@ -65,7 +65,7 @@ impl Progress {
         Progress {
             rows: Vec::new(alloc),
             reports: Vec::new(alloc),
-            standing: Standing::Rows,
+            standing: Expected::Rows,
         }
     }
 
@@ -77,10 +77,10 @@ impl Progress {
             return Err(Stop::Rule(rule::BROKEN_LINE));
         }
         match self.standing {
-            Standing::Rows => self.read_open(spec, line),
-            Standing::Apps(a, row) => self.read_app_line(spec, a, row, line),
-            Standing::Reports => self.read_closing(spec, line),
-            Standing::Over => Err(Stop::Rule(rule::WRONG_END)),
+            Expected::Rows => self.read_open(spec, line),
+            Expected::Apps(a, row) => self.read_app_line(spec, a, row, line),
+            Expected::Reports => self.read_closing(spec, line),
+            Expected::Over => Err(Stop::Rule(rule::WRONG_END)),
         }
     }
 
@@ -96,7 +96,7 @@ impl Progress {
             Ok(row) => Ok(Progress {
                 rows: self.rows,
                 reports: self.reports,
-                standing: Standing::Apps(0, row),
+                standing: Expected::Apps(0, row),
             }),
             Err(rule) => Err(Stop::Rule(rule)),
         }
@@ -125,14 +125,14 @@ impl Progress {
         let count = spec.apps.items().len();
         let row = row_with(row, a, done);
         if usize::from(a) + 1 < count {
-            self.standing = Standing::Apps(a + 1, row);
+            self.standing = Expected::Apps(a + 1, row);
             return Ok(self);
         }
         match self.rows.push(row) {
             Ok(()) => {}
             Err(_) => return Err(Stop::NoMemory),
         }
-        self.standing = Standing::Rows;
+        self.standing = Expected::Rows;
         Ok(self)
     }
 
@@ -151,7 +151,7 @@ impl Progress {
             Ok(()) => Ok(Progress {
                 rows: self.rows,
                 reports: self.reports,
-                standing: Standing::Over,
+                standing: Expected::Over,
             }),
             Err(rule) => Err(Stop::Rule(rule)),
         }
@@ -168,7 +168,7 @@ impl Progress {
             },
             Err(rule) => return Err(Stop::Rule(rule)),
         }
-        self.standing = Standing::Reports;
+        self.standing = Expected::Reports;
         Ok(self)
     }
 }

@@ -5,7 +5,7 @@ ghost use Rattle.trace_text.specs.Text.{text_of};
 ghost use Rattle.trace_text.specs.TraceReading.{AnswersTrace, at_last, stopped, trace_of};
 
 use crate::pieces::split_once;
-use crate::progress::{Progress, Standing, Stop};
+use crate::progress::{Expected, Progress, Stop};
 use crate::rule;
 use scram_types::limits::MAX_TRACE_BYTES;
 use scram_types::{Flown, List, Spec};
@@ -88,19 +88,19 @@ fn finish(progress: Progress, line: u32, last: &[u8]) -> Result<Flown, TraceErro
         }));
     }
     match progress.standing {
-        Standing::Over => Ok(Flown {
+        Expected::Over => Ok(Flown {
             rows: List::of(progress.rows),
             reports: List::of(progress.reports),
         }),
-        Standing::Rows => Err(TraceError::Fault(TraceFault {
+        Expected::Rows => Err(TraceError::Fault(TraceFault {
             line,
             rule: rule::WRONG_END,
         })),
-        Standing::Apps(_, _) => Err(TraceError::Fault(TraceFault {
+        Expected::Apps(_, _) => Err(TraceError::Fault(TraceFault {
             line,
             rule: rule::WRONG_END,
         })),
-        Standing::Reports => Err(TraceError::Fault(TraceFault {
+        Expected::Reports => Err(TraceError::Fault(TraceFault {
             line,
             rule: rule::WRONG_END,
         })),

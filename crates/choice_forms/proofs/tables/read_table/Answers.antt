@@ -12,7 +12,7 @@ pub returns-in-Ok-clause-reads : goal.returns-in-Ok-clause-reads
 returns-in-Ok-clause-reads g c =
     specification_reads c.args.specification.now [] (λ (spec : Parts). WithoutFiles (Gives (choices_answer spec (state_refusal spec)))) TellsChoices
     c.in-Ok.spec _ _ _ c.find_table.result c.in-Ok.ensures.loads c.load.ensures.steady
-    (settled (Gives (choices_answer c.in-Ok.spec (state_refusal c.in-Ok.spec))) TellsChoices _ c.find_table.result (g.met.F.Files.steady_below _) c.find_table.ensures.settles)
+    (settled (Gives (choices_answer c.in-Ok.spec (state_refusal c.in-Ok.spec))) TellsChoices _ c.find_table.result (g.met.F.Files.steady_below _) c.find_table.ensures.prepares)
 
 pub returns-in-Err-clause-reads : goal.returns-in-Err-clause-reads
 returns-in-Err-clause-reads g c =

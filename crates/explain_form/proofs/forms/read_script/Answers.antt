@@ -12,7 +12,7 @@ returns-in-Ok-clause-reads g c =
     let spec = c.args.spec in
     let script = c.in-Ok.script in
     explained_script_reads spec c.args.script.now [] (MissionAnswers spec) TellsExplanation script _ _ _ c.explain_both.result c.in-Ok.ensures.loads c.load.ensures.steady
-    (settled (Gives (script_answer spec script (first_refusal spec))) TellsExplanation _ c.explain_both.result (g.met.F.Files.steady_below _) c.explain_both.ensures.settles)
+    (settled (Gives (script_answer spec script (first_refusal spec))) TellsExplanation _ c.explain_both.result (g.met.F.Files.steady_below _) c.explain_both.ensures.prepares)
 
 pub returns-in-Err-clause-reads : goal.returns-in-Err-clause-reads
 returns-in-Err-clause-reads g c =

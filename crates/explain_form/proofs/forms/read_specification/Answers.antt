@@ -11,7 +11,7 @@ pub returns-in-Ok-clause-reads : goal.returns-in-Ok-clause-reads
 returns-in-Ok-clause-reads g c =
     explained_specification_reads c.args.specification.now [] SpecificationAnswers TellsExplanation
     c.in-Ok.spec _ _ _ c.explain_specification.result c.in-Ok.ensures.loads c.load.ensures.steady
-    (settled (Gives (explain_answer c.in-Ok.spec (first_refusal c.in-Ok.spec))) TellsExplanation _ c.explain_specification.result (g.met.F.Files.steady_below _) c.explain_specification.ensures.settles)
+    (settled (Gives (explain_answer c.in-Ok.spec (first_refusal c.in-Ok.spec))) TellsExplanation _ c.explain_specification.result (g.met.F.Files.steady_below _) c.explain_specification.ensures.prepares)
 
 pub returns-in-Err-clause-reads : goal.returns-in-Err-clause-reads
 returns-in-Err-clause-reads g c =

@@ -13,7 +13,7 @@ returns-in-Ok-clause-reads g c =
     let spec = c.args.spec in
     document_reads SaysScripts BreaksScripts MAX_SCRIPTS_BYTES long_script c.args.scripts.now [] (λ (bytes : List ℕ). WithoutFiles (ScriptsAnswers spec bytes)) TellsSeries
     c.in-Ok.scripts _ _ _ c.make_series.result c.in-Ok.ensures.loads c.load_scripts.ensures.steady
-    (settled (ScriptsAnswers spec c.in-Ok.scripts) TellsSeries _ c.make_series.result (g.met.F.Files.steady_below _) c.make_series.ensures.settles)
+    (settled (ScriptsAnswers spec c.in-Ok.scripts) TellsSeries _ c.make_series.result (g.met.F.Files.steady_below _) c.make_series.ensures.prepares)
 
 pub returns-in-Err-clause-reads : goal.returns-in-Err-clause-reads
 returns-in-Err-clause-reads g c =

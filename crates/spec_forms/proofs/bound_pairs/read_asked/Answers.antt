@@ -12,7 +12,7 @@ pub returns-in-Ok-clause-reads : goal.returns-in-Ok-clause-reads
 returns-in-Ok-clause-reads g c =
     specification_reads c.args.specification.now [] (λ (spec : Parts). WithoutFiles (Gives (bounds_answer spec (state_refusal spec)))) TellsBounds
     c.in-Ok.spec _ _ _ c.find_bounds.result c.in-Ok.ensures.loads c.load.ensures.steady
-    (settled (Gives (bounds_answer c.in-Ok.spec (state_refusal c.in-Ok.spec))) TellsBounds _ c.find_bounds.result (g.met.F.Files.steady_below _) c.find_bounds.ensures.settles)
+    (settled (Gives (bounds_answer c.in-Ok.spec (state_refusal c.in-Ok.spec))) TellsBounds _ c.find_bounds.result (g.met.F.Files.steady_below _) c.find_bounds.ensures.prepares)
 
 pub returns-in-Err-clause-reads : goal.returns-in-Err-clause-reads
 returns-in-Err-clause-reads g c =
