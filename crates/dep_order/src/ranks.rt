@@ -160,7 +160,7 @@ fn find_cycle(apps: &[AppSpec], ranks: &Ranks, start: AppId) -> ArrayVec<AppId, 
     }
     let path = path.as_slice();
     let cycle = &path[place_of(path, at)..];
-    turned(cycle, place_of_least(cycle))
+    rotated_to(cycle, place_of_least(cycle))
 }
 
 // Returns the index of an application in a list.
@@ -192,13 +192,13 @@ fn place_of_least(cycle: &[AppId]) -> usize
 }
 
 // Returns the list rotated so that the element at `place` is first.
-fn turned(cycle: &[AppId], place: usize) -> ArrayVec<AppId, 8>
+fn rotated_to(cycle: &[AppId], place: usize) -> ArrayVec<AppId, 8>
     requires few { length cycle.now ≤ 8 }
     requires place { place ≤ length cycle.now }
     ensures { result.items ≡ drop place cycle.now ++ take place cycle.now }
 {
-    let mut turned: ArrayVec<AppId, 8> = ArrayVec::new();
-    let _back = turned.try_extend_from_slice(&cycle[place..]);
-    let _front = turned.try_extend_from_slice(&cycle[..place]);
-    turned
+    let mut rotated: ArrayVec<AppId, 8> = ArrayVec::new();
+    let _back = rotated.try_extend_from_slice(&cycle[place..]);
+    let _front = rotated.try_extend_from_slice(&cycle[..place]);
+    rotated
 }

@@ -18,8 +18,8 @@ use Rattle.frame_model.specs.Flights.{row_at}
 use Rattle.scram_kernel.specs.Kernels.{rows_below}
 use Rattle.scram_types.proofs.Searches.{length_listed}
 use Rattle.event_core.specs.declared.places.Places.{Places as KeptPlaces}
-use Rattle.event_core.specs.Cores.{CoreParts, core_of, flown, frames_ended, standing, standing_words}
-use Rattle.event_core.specs.Counts.{HistoriesTellFrames, notes_in, releases_in, with_note, with_release}
+use Rattle.event_core.specs.Cores.{CoreParts, core_of, core_places, core_words, flown, frames_ended}
+use Rattle.event_core.specs.Counts.{HistoriesCountFrames, notes_in, releases_in, with_note, with_release}
 use Rattle.event_core.specs.Replays.{IsReplay}
 use Rattle.event_core.proofs.Ending.{ended_by}
 
@@ -91,7 +91,7 @@ ended_notes spec places some = by_side (dec_le (length spec.procs) places.step) 
       let sum : procs * places.frame + places.step ≡ places.frame * procs + places.step = grind arith in
       ended_by spec places false going ∙ sym (div-mul-add places.frame procs places.step low) ∙ ap (λ n. n / procs) (sym sum) ∙ ap (λ n. (procs * places.frame + n) / procs) (sym kept)
 
-pub counted : HistoriesTellFrames
+pub counted : HistoriesCountFrames
 counted spec script facts events places words r =
     let m = flight_of spec script in
     let frame : places.frame ≡ releases_in events = ap (λ (at : Places). at.frame) r.places_are ∙ frames_on m (opening m) events r.state r.schedule ∙ (let sum : 0 + releases_in events ≡ releases_in events = omega arith in sum) in
@@ -107,8 +107,8 @@ counted spec script facts events places words r =
 -- the rows of a core, by its history
 pub rows_counted : (core : CoreParts) (spec : Parts) (script : ScriptParts) (places : KeptPlaces) (stored : List ℕ) (history : List Event) (rows : List Row) → core_of spec script places stored history ≡ core
     → IsSpec spec → rows ≡ rows_below core.spec core.script (frames_ended core.spec core.places)
-    → IsReplay (flown core) core.history (standing core) (standing_words core) → length rows ≡ notes_in core.history / length core.spec.procs
+    → IsReplay (flown core) core.history (core_places core) (core_words core) → length rows ≡ notes_in core.history / length core.spec.procs
 rows_counted core spec script places stored history rows view facts is replay =
     let sound : IsSpec core.spec = subst (λ (core : CoreParts). IsSpec core.spec) view facts in
     ap length is ∙ length_listed (row_at core.spec core.script) (frames_ended core.spec core.places)
-    ∙ (counted core.spec core.script sound core.history core.places (standing_words core) replay).ended
+    ∙ (counted core.spec core.script sound core.history core.places (core_words core) replay).ended

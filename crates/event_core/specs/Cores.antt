@@ -8,7 +8,7 @@ use Rattle.fault_script.specs.Fits.{Fits}
 use Rattle.scram_kernel.specs.Kernels.{KernelParts, kernel_after}
 use Rattle.fail_stop.specs.Events.{Happens, IsNext, Places, Word, next_of_actor}
 use Rattle.fail_stop.specs.Flights.{Flight}
-use Rattle.fail_stop.specs.Listed.{places_of_words, stored_in}
+use Rattle.fail_stop.specs.Listed.{stored_in, word_index_count}
 use Rattle.fail_stop.specs.ScriptFlights.{flight_of}
 use Rattle.event_core.specs.declared.places.Places.{Places as KeptPlaces}
 use Rattle.event_core.specs.Places.{machine_places}
@@ -34,28 +34,28 @@ abbrev pub flown : CoreParts → Flight
 flown core = flight_of core.spec core.script
 
 -- The places of all actors of a core.
-abbrev pub standing : CoreParts → Places
-standing core = machine_places core.places
+abbrev pub core_places : CoreParts → Places
+core_places core = machine_places core.places
 
 -- The value of each word in a core.
-abbrev pub standing_words : CoreParts → Word → ℕ
-standing_words core = stored_in core.stored
+abbrev pub core_words : CoreParts → Word → ℕ
+core_words core = stored_in core.stored
 
 -- An event is the next of its actor in a core.
 abbrev pub IsNextIn : CoreParts → Event → Type 0
-IsNextIn core event = IsNext (flown core) (standing core) (standing_words core) event
+IsNextIn core event = IsNext (flown core) (core_places core) (core_words core) event
 
 -- The next event of the actor of an event, or `None` if the actor has none.
 abbrev pub next_event : CoreParts → Event → Option Event
-next_event core event = next_of_actor (flown core) (standing core) (standing_words core) event
+next_event core event = next_of_actor (flown core) (core_places core) (core_words core) event
 
 -- A word is a valid argument for an event in a core: the word that the event stores, if it is a store.
 abbrev pub IsWordIn : CoreParts → Event → ℕ → Type 0
-IsWordIn core event word = IsEventWord (flown core) (standing core) event word
+IsWordIn core event word = IsEventWord (flown core) (core_places core) event word
 
 -- An event takes one core to another.
 abbrev pub HappensIn : CoreParts → Event → CoreParts → Type 0
-HappensIn old event new = Happens (flown old) (standing old) (standing_words old) event (standing new) (standing_words new)
+HappensIn old event new = Happens (flown old) (core_places old) (core_words old) event (core_places new) (core_words new)
 
 -- An event is not the next of its actor, and the error holds that event and the actor's next event.
 abbrev pub RefusesEvent : CoreParts → Event → Illegal → Type 0
@@ -82,7 +82,7 @@ ends_frame spec Release = false
 pub record MachineKeeps (spec : Parts) (script : ScriptParts) (places : KeptPlaces) (stored : List ℕ) (history : List Event) (room count : ℕ) : Type 0 where
   pub facts : IsSpec spec
   pub fits : Fits spec script
-  pub long : length stored ≡ places_of_words
+  pub long : length stored ≡ word_index_count
   pub replay : IsReplay (flight_of spec script) history (machine_places places) (stored_in stored)
   pub room_left : count + events_left (flight_of spec script) (machine_places places) ≤ room
 

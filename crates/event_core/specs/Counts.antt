@@ -54,6 +54,6 @@ pub record AreCounted (spec : Parts) (events : List Event) (places : KeptPlaces)
   pub ended : frames_ended spec places ≡ notes_in events / length spec.procs
 
 -- The releases and the notes of a history give the number of frames that have ended.
-abbrev pub HistoriesTellFrames : Type 0
-HistoriesTellFrames = (spec : Parts) (script : ScriptParts) → IsSpec spec → (events : List Event) (places : KeptPlaces) (words : Word → ℕ)
+abbrev pub HistoriesCountFrames : Type 0
+HistoriesCountFrames = (spec : Parts) (script : ScriptParts) → IsSpec spec → (events : List Event) (places : KeptPlaces) (words : Word → ℕ)
     → IsReplay (flight_of spec script) events (machine_places places) words → AreCounted spec events places

@@ -8,7 +8,7 @@ use Rattle.frame_model.specs.Flights.{draft}
 use Rattle.scram_types.specs.Scripts.{ScriptParts}
 use Rattle.scram_types.specs.Specification.{Parts}
 use Rattle.event_core.specs.declared.flyers.Flyers.{Flyers}
-use Rattle.event_core.specs.Cores.{CoreParts, standing}
+use Rattle.event_core.specs.Cores.{CoreParts, core_places}
 
 -- The last draft of processor `p`, if there is one, is its draft of that frame in the one-thread trace.
 abbrev pub IsLastDraft : Parts → ScriptParts → ℕ → Option Draft → Type 0
@@ -25,4 +25,4 @@ pub record FlyersFit {X : Type 0} {Y : X → Type 0} (spec : Parts) (script : Sc
 
 -- The processors fly with a core: they are at the places of its machine.
 abbrev pub FlyBy : {X : Type 0} {Y : X → Type 0} → CoreParts → Flyers X Y → Type 0
-FlyBy core flyers = FlyersFit core.spec core.script (standing core).proc flyers
+FlyBy core flyers = FlyersFit core.spec core.script (core_places core).proc flyers

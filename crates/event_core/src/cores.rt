@@ -55,7 +55,7 @@ impl<'a> Core<'a> {
     ghost use Rattle.frame_model.specs.Flights.{reports_of, rows_of};
     ghost use Rattle.scram_kernel.specs.Kernels.{rows_below};
     ghost use Rattle.event_core.specs.Counts.{notes_in};
-    ghost use Rattle.event_core.specs.Cores.{HappensIn, IsNextIn, IsWordIn, RefusesEvent, flown, frames_ended, next_event, standing, standing_words};
+    ghost use Rattle.event_core.specs.Cores.{HappensIn, IsNextIn, IsWordIn, RefusesEvent, core_places, core_words, flown, frames_ended, next_event};
     ghost use Rattle.fault_script.specs.Fits.{Fits};
     ghost use Rattle.event_core.specs.Places.{HasLooked, kept_opening};
     ghost use Rattle.event_core.specs.Rooms.{events_left};
@@ -86,7 +86,7 @@ impl<'a> Core<'a> {
     /// Returns the next event of a processor. Returns `None` exactly if the processor waits for the release, has halted
     /// for good, has flown all frames, or does not exist.
     pub fn next_of(&self, p: ProcId) -> Option<Event>
-        ensures { result ≡ next_of (flown self.now) (standing self.now) (standing_words self.now) p.0 }
+        ensures { result ≡ next_of (flown self.now) (core_places self.now) (core_words self.now) p.0 }
     {
         next_of(self.spec, self.script, &self.places, &self.stored, p)
     }
@@ -94,7 +94,7 @@ impl<'a> Core<'a> {
     /// Returns the next event of the kernel. Returns `None` exactly if the processor that it would note may not be
     /// noted yet, or if all frames are noted.
     pub fn next_kernel(&self) -> Option<Event>
-        ensures { result ≡ next_kernel (flown self.now) (standing self.now) (standing_words self.now) }
+        ensures { result ≡ next_kernel (flown self.now) (core_places self.now) (core_words self.now) }
     {
         next_kernel(self.spec, self.script, &self.places, &self.stored)
     }
@@ -102,14 +102,14 @@ impl<'a> Core<'a> {
     /// Returns the frame in which a processor is or in which it has halted.
     pub fn frame_of(&self, p: ProcId) -> u32
         requires { p.0 < length self.now.spec.procs }
-        ensures { result ≡ frame_of ((standing self.now).proc p.0) }
+        ensures { result ≡ frame_of ((core_places self.now).proc p.0) }
     {
         frame_of(kept_place(&self.places.procs, p))
     }
 
     /// Returns the frame in which the kernel is.
     pub fn kernel_frame(&self) -> u32
-        ensures { result ≡ (standing self.now).frame }
+        ensures { result ≡ (core_places self.now).frame }
     {
         self.places.frame
     }
@@ -118,7 +118,7 @@ impl<'a> Core<'a> {
     /// words.
     pub fn history(&self) -> &[Event]
         ensures history { result.now ≡ self.now.history }
-        ensures schedule { IsReplay (flown self.now) self.now.history (standing self.now) (standing_words self.now) }
+        ensures schedule { IsReplay (flown self.now) self.now.history (core_places self.now) (core_words self.now) }
         ensures few { length result.now < 2 ^ 32 }
     {
         &self.history
@@ -137,8 +137,8 @@ impl<'a> Core<'a> {
     /// holds the kernel image of that frame and every processor's image before it.
     pub fn snapshot(&self, p: ProcId) -> Snapshot
         requires known { p.0 < length self.now.spec.procs }
-        requires looked { HasLooked (flown self.now) ((standing self.now).proc p.0) }
-        ensures { IsSnapshot self.now.spec self.now.script (frame_of ((standing self.now).proc p.0)) result }
+        requires looked { HasLooked (flown self.now) ((core_places self.now).proc p.0) }
+        ensures { IsSnapshot self.now.spec self.now.script (frame_of ((core_places self.now).proc p.0)) result }
     {
         readers_find();
         let frame = self.frame_of(p);
@@ -150,7 +150,7 @@ impl<'a> Core<'a> {
 
     /// States that some actor has a next event if the flight is not over, and does nothing.
     pub fn goes_on(&self)
-        ensures { IsOver (flown self.now) (standing self.now) ⊎ ((event : Event) × IsNextIn self.now event) }
+        ensures { IsOver (flown self.now) (core_places self.now) ⊎ ((event : Event) × IsNextIn self.now event) }
     {
         let _places = &self.places;
         machine_goes_on();
@@ -168,7 +168,7 @@ impl<'a> Core<'a> {
     /// Returns whether no further event can come. Then each processor has flown all frames or has halted for good and
     /// the kernel has made its last note, or the flight has no frame.
     pub fn over(&self) -> bool
-        ensures { IsTrue result ↔ IsOver (flown self.now) (standing self.now) }
+        ensures { IsTrue result ↔ IsOver (flown self.now) (core_places self.now) }
     {
         let spec = self.spec;
         let script = self.script;
@@ -179,7 +179,7 @@ impl<'a> Core<'a> {
 
     /// Returns the rows and reports of a flight that is over, which are the one-thread trace whatever its schedule was.
     pub fn finish(self) -> Flown
-        requires { IsOver (flown self) (standing self) }
+        requires { IsOver (flown self) (core_places self) }
         ensures rows { result.rows ≡ rows_of self.entry.spec self.entry.script }
         ensures reports { result.reports ≡ reports_of self.entry.spec self.entry.script }
     {
@@ -212,7 +212,7 @@ impl<'a> Core<'a> {
         ensures script { self.new.script ≡ self.old.script }
         ensures next { IfOk result (λ _. IsNextIn self.old event) }
         ensures happens { IfOk result (λ _. HappensIn self.old event self.new) }
-        ensures fewer { IfOk result (λ _. events_left (flown self.new) (standing self.new) < events_left (flown self.old) (standing self.old)) }
+        ensures fewer { IfOk result (λ _. events_left (flown self.new) (core_places self.new) < events_left (flown self.old) (core_places self.old)) }
         ensures history { IfOk result (λ _. self.new.history ≡ self.old.history ++ event ∷ []) }
         ensures illegal { IfErr result (RefusesEvent self.old event) }
         ensures same { IfErr result (λ _. self.new ≡ self.old) }
@@ -242,8 +242,8 @@ impl<'a> Core<'a> {
 pub fn finish_both<'a>(one: Core<'a>, other: Core<'a>) -> (Flown, Flown)
     requires spec { other.spec ≡ one.spec }
     requires script { other.script ≡ one.script }
-    requires one_over { IsOver (flown one) (standing one) }
-    requires other_over { IsOver (flown other) (standing other) }
+    requires one_over { IsOver (flown one) (core_places one) }
+    requires other_over { IsOver (flown other) (core_places other) }
     ensures equal_rows { result.1.rows ≡ result.0.rows }
     ensures equal_reports { result.1.reports ≡ result.0.reports }
     ensures rows { result.0.rows ≡ rows_of one.entry.spec one.entry.script }
@@ -256,7 +256,7 @@ ghost use Rattle.std.specs.Prelude.{◌≡◌, ◌==◌, ◌*◌, ◌+◌, ◌<�
 ghost use Rattle.scram_types.specs.Specification.{IsSpec};
 ghost use Rattle.fail_stop.specs.Ends.{IsOver};
 ghost use Rattle.frame_model.specs.Flights.{reports_of, rows_of};
-ghost use Rattle.event_core.specs.Cores.{ends_frame, flown, standing};
+ghost use Rattle.event_core.specs.Cores.{core_places, ends_frame, flown};
 ghost use Rattle.event_core.specs.Places.{kept_opening};
 ghost use Rattle.event_core.specs.declared.cores.Illegal.{Illegal};
 

@@ -4,7 +4,7 @@ ghost use Rattle.std.specs.Prelude.{◌≡◌, ◌<◌, ◌+◌, length};
 ghost use Rattle.scram_types.specs.Specification.{IsSpec};
 ghost use Rattle.fault_script.specs.Fits.{Fits};
 ghost use Rattle.fail_stop.specs.Kept.{Kept};
-ghost use Rattle.fail_stop.specs.Listed.{places_of_words, stored_in};
+ghost use Rattle.fail_stop.specs.Listed.{stored_in, word_index_count};
 ghost use Rattle.fail_stop.specs.ScriptFlights.{flight_of};
 ghost use Rattle.scram_kernel.specs.Kernels.{kernel_after};
 ghost use Rattle.event_core.specs.Places.{machine_places};
@@ -25,7 +25,7 @@ pub(crate) fn end_frame(
 )
     requires facts { IsSpec spec.now }
     requires fits { Fits spec.now script.now }
-    requires stored { length stored.now ≡ places_of_words }
+    requires stored { length stored.now ≡ word_index_count }
     requires kept { Kept (flight_of spec.now script.now) (machine_places places.now) (stored_in stored.now) }
     requires noted { places.now.step ≡ length spec.now.procs }
     requires frame { places.now.frame < script.now.frames }

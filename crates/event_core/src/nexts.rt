@@ -7,7 +7,7 @@ ghost use Rattle.scram_types.specs.Specification.{Parts};
 ghost use Rattle.bank_words.specs.declared.events.Event.TheVariants.{KNote};
 ghost use Rattle.scram_types.specs.declared.scripts.HaltAt.{HaltAt};
 ghost use Rattle.fail_stop.specs.Events.{EndWord, halts_at, may_note, next_from, next_halted, next_kernel, next_of, plan, plan_step};
-ghost use Rattle.fail_stop.specs.Listed.{places_of_words, stored_in};
+ghost use Rattle.fail_stop.specs.Listed.{stored_in, word_index_count};
 ghost use Rattle.fail_stop.specs.ScriptFlights.{flight_of};
 ghost use Rattle.event_core.specs.Places.{kept_place, machine_place, machine_places};
 
@@ -36,7 +36,7 @@ pub(crate) fn next_of(
     stored: &[u64],
     p: ProcId,
 ) -> Option<Event>
-    requires { length stored.now ≡ places_of_words }
+    requires { length stored.now ≡ word_index_count }
     ensures { result ≡ next_of (flight_of spec.now script.now) (machine_places places.now) (stored_in stored.now) p.0 }
 {
     if usize::from(p.0) < spec.procs.items().len() {
@@ -124,7 +124,7 @@ pub(crate) fn next_kernel(
     places: &Places,
     stored: &[u64],
 ) -> Option<Event>
-    requires { length stored.now ≡ places_of_words }
+    requires { length stored.now ≡ word_index_count }
     ensures { result ≡ next_kernel (flight_of spec.now script.now) (machine_places places.now) (stored_in stored.now) }
 {
     let procs = spec.procs.items().len() as u32;
@@ -158,7 +158,7 @@ fn next_note(script: &Script, p: ProcId, frame: u32, end: u64) -> Option<Event>
 }
 
 fn end_in(stored: &[u64], p: ProcId) -> u64
-    requires stored { length stored.now ≡ places_of_words }
+    requires stored { length stored.now ≡ word_index_count }
     requires p { p.0 < 8 }
     ensures { result ≡ stored_in stored.now (EndWord p.0) }
 {

@@ -5,7 +5,7 @@ ghost use Rattle.scram_types.specs.Eights.{eight};
 ghost use Rattle.bank_words.specs.Images.{kernel_encode};
 ghost use Rattle.fail_stop.specs.Events.{KernelWord, MarkWord};
 ghost use Rattle.fail_stop.specs.Flights.{word_in};
-ghost use Rattle.fail_stop.specs.Listed.{places_of_words, stored_in};
+ghost use Rattle.fail_stop.specs.Listed.{stored_in, word_index_count};
 ghost use Rattle.frame_model.specs.Flights.{image_in};
 ghost use Rattle.event_core.specs.Reads.{bank_taken, kernel_words_stored, word_read};
 
@@ -15,7 +15,7 @@ use scram_types::{Image, ProcId, Spec};
 
 /// Returns the marks of the processors.
 pub(crate) fn marks_read(stored: &[u64]) -> [u64; 8]
-    requires { length stored.now ≡ places_of_words }
+    requires { length stored.now ≡ word_index_count }
     ensures { result ≡ eight (λ p. stored_in stored.now (MarkWord p)) }
 {
     [
@@ -31,7 +31,7 @@ pub(crate) fn marks_read(stored: &[u64]) -> [u64; 8]
 }
 
 fn mark_read(stored: &[u64], p: usize) -> u64
-    requires stored { length stored.now ≡ places_of_words }
+    requires stored { length stored.now ≡ word_index_count }
     requires p { p < 8 }
     ensures { result ≡ stored_in stored.now (MarkWord p) }
 {
@@ -41,7 +41,7 @@ fn mark_read(stored: &[u64], p: usize) -> u64
 /// Returns the image of a processor that a reader in a frame finds.
 #[tactic(auto, using(fail_stop::proofs::Decoding::word_set, fail_stop::proofs::Decoding::none_read))]
 pub(crate) fn image_read(spec: &Spec, stored: &[u64], frame: u32, p: usize) -> Image
-    requires stored { length stored.now ≡ places_of_words }
+    requires stored { length stored.now ≡ word_index_count }
     requires p { p < 8 }
     ensures words { (i : ℕ) → i < 64 → slice_index_or result i (pos 0) ≡ word_read spec.now stored.now frame p i }
     ensures long { length result ≡ 64 }
@@ -57,7 +57,7 @@ pub(crate) fn image_read(spec: &Spec, stored: &[u64], frame: u32, p: usize) -> I
 
 /// Returns the images of the processors that a reader in a frame finds.
 pub(crate) fn images_read(spec: &Spec, stored: &[u64], frame: u32) -> [Image; 8]
-    requires { length stored.now ≡ places_of_words }
+    requires { length stored.now ≡ word_index_count }
     ensures words { (p : ℕ) → p < 8 → (i : ℕ) → i < 64 → slice_index_or (image_in result p) i (pos 0) ≡ word_read spec.now stored.now frame p i }
     ensures long { (p : ℕ) → p < 8 → length (image_in result p) ≡ 64 }
 {
@@ -75,7 +75,7 @@ pub(crate) fn images_read(spec: &Spec, stored: &[u64], frame: u32) -> [Image; 8]
 
 /// Returns the kernel image of a frame, decoded from its words, which are those of `image`.
 pub(crate) fn kernel_read(stored: &[u64], image: &KernelImage) -> KernelImage
-    requires stored { length stored.now ≡ places_of_words }
+    requires stored { length stored.now ≡ word_index_count }
     requires held { (i : ℕ) → i < 20 → stored_in stored.now (KernelWord i) ≡ word_in (kernel_encode image.now) i }
     ensures { result ≡ image.now }
 {
@@ -84,7 +84,7 @@ pub(crate) fn kernel_read(stored: &[u64], image: &KernelImage) -> KernelImage
 }
 
 fn kernel_words(stored: &[u64]) -> [u64; 20]
-    requires { length stored.now ≡ places_of_words }
+    requires { length stored.now ≡ word_index_count }
     ensures { result ≡ kernel_words_stored stored.now }
 {
     [

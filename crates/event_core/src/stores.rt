@@ -3,7 +3,7 @@
 ghost use Rattle.std.specs.Prelude.{◌≡◌, suc, ◌<◌, ◌≤◌, ◌-◌, ◌%◌, length};
 ghost use Rattle.fail_stop.specs.Events.{BankWord, MarkWord, frame_of, writes};
 ghost use Rattle.fail_stop.specs.Flights.{Flight};
-ghost use Rattle.fail_stop.specs.Listed.{list_after, places_of_words, stored_in};
+ghost use Rattle.fail_stop.specs.Listed.{list_after, stored_in, word_index_count};
 ghost use Rattle.event_core.specs.Places.{CanGoOn, kept_place, machine_place, machine_places};
 ghost use Rattle.event_core.specs.Stores.{CanMove, IsInside, IsEventWord};
 
@@ -15,7 +15,7 @@ use scram_types::ProcId;
 
 /// Writes the word that an event stores. For a store, its value is `word`.
 pub(crate) fn store(stored: &mut Vec<u64>, places: &Places, event: Event, word: u64)
-    requires stored { length stored.old.items ≡ places_of_words }
+    requires stored { length stored.old.items ≡ word_index_count }
     requires event { IsInside event }
     requires room { CanMove places.now event }
     ensures { (m : Flight) → IsEventWord m (machine_places places.now) event word
@@ -70,7 +70,7 @@ fn frames_through(place: Place) -> u32
 
 // Returns the bank that the mark of a processor does not name.
 fn other_bank(stored: &[u64], p: ProcId) -> u8
-    requires stored { length stored.now ≡ places_of_words }
+    requires stored { length stored.now ≡ word_index_count }
     requires p { p.0 < 8 }
     ensures bank { result ≡ 1 - stored_in stored.now (MarkWord p.0) % 2 }
     ensures side { result ≤ 1 }

@@ -7,7 +7,7 @@ use Rattle.fail_stop.specs.Flights.{Flight, Flies, word_in, image_before, is_com
 use Rattle.fail_stop.specs.Events.{Place, At, Halted, Places, Word, ReleaseWord, KernelWord, MarkWord, BankWord}
 use Rattle.fail_stop.specs.Kept.{Kept, IsPlaced, Running, Stopped, last_step, mark_at, bank_at, stores_made, is_flipped, kernel_at}
 use Rattle.bank_words.specs.Marks.{pick}
-use Rattle.fail_stop.specs.Consistency.{IsConsistent, marked, other, Reads}
+use Rattle.fail_stop.specs.Consistency.{IsConsistent, marked, Reads, unmarked_bank}
 use Rattle.fail_stop.proofs.FrameFacts.{side_le, side_count, img_last, laid_new, laid_past, bank_side, laid_side, stores_commits}
 use Rattle.fail_stop.proofs.ProcessorEvents.{made_all, bank_end}
 use Rattle.fail_stop.proofs.Reading.{picks, holds, kernel_reads}
@@ -69,8 +69,8 @@ module _ (m : Flight) (at : Places) (words : Word → ℕ) (y : Flies m) (k : Ke
       let b = side_le m p (marked m (at.proc p)) in
       rw (e, g) (bank_word p (side m p (marked m (at.proc p))) i l (omega arith) li ∙ held m at.frame at.step p (at.proc p) i (k.placed p l) li)
 
-  other_is : (p f n : ℕ) → at.proc p ≡ At f n → n ≤ m.procs + 1 + m.width → other m at p ≡ 1 - side m p f
-  other_is p f n here h = ap (λ (x : Place). 1 - commit_count m p (marked m x) % 2) here ∙ ap (λ (z : ℕ). 1 - commit_count m p z % 2) (marked_low m f n h) ∙ ap (λ (z : ℕ). 1 - z) (sym (side_count m p f))
+  unmarked_bank_is : (p f n : ℕ) → at.proc p ≡ At f n → n ≤ m.procs + 1 + m.width → unmarked_bank m at p ≡ 1 - side m p f
+  unmarked_bank_is p f n here h = ap (λ (x : Place). 1 - commit_count m p (marked m x) % 2) here ∙ ap (λ (z : ℕ). 1 - commit_count m p z % 2) (marked_low m f n h) ∙ ap (λ (z : ℕ). 1 - z) (sym (side_count m p f))
 
   bank_in : (p f n b i : ℕ) → p < m.procs → i < m.width → at.proc p ≡ At f n → b ≡ 1 - side m p f → words (BankWord p b i) ≡ laid m p f (stores_made m n) b i (bank_before m p f b i)
   bank_in p f n b i l li here e = bank_word p b i l (omega arith) li ∙ ap (λ (x : Place). bank_at m p x b i) here
@@ -100,9 +100,9 @@ module _ (m : Flight) (at : Places) (words : Word → ℕ) (y : Flies m) (k : Ke
   facts = record {
     mark = λ p l. k.words_are (MarkWord p) l ∙ mark_marked m p (at.proc p);
     marked_bank = at_side;
-    drafted = λ p f n i l li here h g. let e = other_is p f n here h in bank_in p f n (other m at p) i l li here e ∙ laid_new m p f (stores_made m n) (other m at p) i _ e g;
-    not_drafted = λ p f n i l li here h g. let e = other_is p f n here h in bank_in p f n (other m at p) i l li here e ∙ laid_past m p f (stores_made m n) (other m at p) i _ g;
-    after_flip = λ p i l li h. bank_word p (other m at p) i l (omega arith) li ∙ flipped_bank m at.frame at.step p (at.proc p) (other m at p) i (k.placed p l) h;
+    drafted = λ p f n i l li here h g. let e = unmarked_bank_is p f n here h in bank_in p f n (unmarked_bank m at p) i l li here e ∙ laid_new m p f (stores_made m n) (unmarked_bank m at p) i _ e g;
+    not_drafted = λ p f n i l li here h g. let e = unmarked_bank_is p f n here h in bank_in p f n (unmarked_bank m at p) i l li here e ∙ laid_past m p f (stores_made m n) (unmarked_bank m at p) i _ g;
+    after_flip = λ p i l li h. bank_word p (unmarked_bank m at p) i l (omega arith) li ∙ flipped_bank m at.frame at.step p (at.proc p) (unmarked_bank m at p) i (k.placed p l) h;
     running = λ p f n l here. let r = runs p f n l here in run_frame at.frame f n r.low r.high r.fresh (dec_le f at.frame);
     halted = λ p h l here. let s = stops p h l here in (s.high, s.later);
     release = release_word;

@@ -17,7 +17,7 @@ use Rattle.fail_stop.specs.Events.{BankWord, EndWord, IsStored, KernelWord, Mark
 use Rattle.fail_stop.specs.Flights.{word_in}
 use Rattle.fail_stop.specs.Kept.{opening_words}
 use Rattle.fail_stop.specs.Laws.{IsOpening}
-use Rattle.fail_stop.specs.Listed.{index_of, places_of_words, stored_in}
+use Rattle.fail_stop.specs.Listed.{index_of, stored_in, word_index_count}
 use Rattle.fail_stop.specs.ScriptFlights.{flight_of, image_words_after, kernel_words}
 use Rattle.fail_stop.specs.Openings.{opening_at, opening_list, proc_opening, start_word}
 
@@ -105,12 +105,12 @@ index_low spec script (MarkWord p) few narrow s = omega (arith, s, few)
 index_low spec script (EndWord p) few narrow s = omega (arith, s, few)
 index_low spec script (BankWord p b i) few narrow s = let x = s.0 in let y = s.1 in let z = s.2 in omega (arith, x, y, z, few, narrow)
 
-pub list_whole : (frames : ℕ) (first : List ℕ) (areas : List (List ℤ)) (keepers : List (Option ProcId)) (n : ℕ) → n ≡ places_of_words
+pub list_whole : (frames : ℕ) (first : List ℕ) (areas : List (List ℤ)) (keepers : List (Option ProcId)) (n : ℕ) → n ≡ word_index_count
     → listed_below (opening_at frames first areas keepers) n ≡ opening_list frames first areas keepers
 unfolding opening_list
 list_whole frames first areas keepers n is = ap (listed_below (opening_at frames first areas keepers)) is
 
-listed_whole : (spec : Parts) (script : ScriptParts) (w : Word) (n : ℕ) → n ≡ places_of_words → length spec.procs ≤ 8 → 8 * length spec.apps ≤ 64 → IsStored (flight_of spec script) w
+listed_whole : (spec : Parts) (script : ScriptParts) (w : Word) (n : ℕ) → n ≡ word_index_count → length spec.procs ≤ 8 → 8 * length spec.apps ≤ 64 → IsStored (flight_of spec script) w
     → stored_in (listed_below (first_of spec script) n) w ≡ opening_words (flight_of spec script) w
 listed_whole spec script w n is few narrow s =
     let low = index_low spec script w few narrow s in
@@ -119,11 +119,11 @@ listed_whole spec script w n is few narrow s =
 pub opening_listed : (spec : Parts) (script : ScriptParts) (list : List ℕ) (w : Word) → list ≡ opening_list script.frames (kernel_words spec script 0) (eight (start_area_of spec)) (eight (start_keeper_of spec))
     → length spec.procs ≤ 8 → 8 * length spec.apps ≤ 64 → IsStored (flight_of spec script) w → stored_in list w ≡ opening_words (flight_of spec script) w
 unfolding opening_list
-opening_listed spec script list w is few narrow s = ap (λ l. stored_in l w) is ∙ listed_whole spec script w places_of_words refl few narrow s
+opening_listed spec script list w is few narrow s = ap (λ l. stored_in l w) is ∙ listed_whole spec script w word_index_count refl few narrow s
 
-pub opening_long : (frames : ℕ) (first : List ℕ) (areas : List (List ℤ)) (keepers : List (Option ProcId)) → length (opening_list frames first areas keepers) ≡ places_of_words
+pub opening_long : (frames : ℕ) (first : List ℕ) (areas : List (List ℤ)) (keepers : List (Option ProcId)) → length (opening_list frames first areas keepers) ≡ word_index_count
 unfolding opening_list
-opening_long frames first areas keepers = length_listed (opening_at frames first areas keepers) places_of_words
+opening_long frames first areas keepers = length_listed (opening_at frames first areas keepers) word_index_count
 
 pub list_opens : (spec : Parts) (script : ScriptParts) → IsSpec spec
     → IsOpening spec script (opening_list script.frames (kernel_words spec script 0) (eight (start_area_of spec)) (eight (start_keeper_of spec)))

@@ -11,8 +11,8 @@ marked m (At f n) = if is_flipped m n then suc f else f
 marked m (Halted h) = suc h
 
 -- The bank that the mark of processor `p` does not name.
-abbrev pub other : Flight → Places → ℕ → ℕ
-other m at p = 1 - commit_count m p (marked m (at.proc p)) % 2
+abbrev pub unmarked_bank : Flight → Places → ℕ → ℕ
+unmarked_bank m at p = 1 - commit_count m p (marked m (at.proc p)) % 2
 
 -- Processor `p` reads in frame `f`, after `n` steps of the frame.
 abbrev pub Reads : Places → ℕ → ℕ → ℕ → Type 0
@@ -29,11 +29,11 @@ pub record IsConsistent (m : Flight) (at : Places) (words : Word → ℕ) : Type
   pub marked_bank : (p i : ℕ) → p < m.procs → i < m.width → words (BankWord p (commit_count m p (marked m (at.proc p)) % 2) i)
       ≡ word_in (image_before m p (last_commit m p (marked m (at.proc p)))) i
   pub drafted : (p f n i : ℕ) → p < m.procs → i < m.width → at.proc p ≡ At f n → n ≤ m.procs + 1 + m.width → i < stores_made m n
-      → words (BankWord p (other m at p) i) ≡ word_in (m.draft p f) i
+      → words (BankWord p (unmarked_bank m at p) i) ≡ word_in (m.draft p f) i
   pub not_drafted : (p f n i : ℕ) → p < m.procs → i < m.width → at.proc p ≡ At f n → n ≤ m.procs + 1 + m.width → stores_made m n ≤ i
-      → words (BankWord p (other m at p) i) ≡ bank_before m p f (other m at p) i
+      → words (BankWord p (unmarked_bank m at p) i) ≡ bank_before m p f (unmarked_bank m at p) i
   pub after_flip : (p i : ℕ) → p < m.procs → i < m.width → ((f n : ℕ) → at.proc p ≡ At f n → m.procs + 1 + m.width < n)
-      → words (BankWord p (other m at p) i) ≡ bank_before m p (marked m (at.proc p)) (other m at p) i
+      → words (BankWord p (unmarked_bank m at p) i) ≡ bank_before m p (marked m (at.proc p)) (unmarked_bank m at p) i
   pub running : (p f n : ℕ) → p < m.procs → at.proc p ≡ At f n → (f ≡ at.frame) ⊎ ((f ≡ suc at.frame) × (n ≡ 0))
   pub halted : (p h : ℕ) → p < m.procs → at.proc p ≡ Halted h → (h ≤ at.frame) × ((r : ℕ) → m.restart p ≡ Some r → h < r → at.frame ≤ r)
   pub release : 0 < m.frames → words ReleaseWord ≡ suc at.frame

@@ -17,7 +17,7 @@ use Rattle.fail_stop.specs.Ends.{IsOver, IsStoredLast}
 use Rattle.fail_stop.specs.Events.{BankWord, EndWord, Happens, IsNext, KernelWord, MarkWord, Places, ReleaseWord, Word, writes}
 use Rattle.fail_stop.specs.Flights.{Flies, bank_before, image_before, is_committed, mark_before, side, word_in}
 use Rattle.fail_stop.specs.Kept.{Kept, opening_places, opening_words}
-use Rattle.fail_stop.specs.Listed.{Moves, list_after, places_of_words, stored_in}
+use Rattle.fail_stop.specs.Listed.{Moves, list_after, stored_in, word_index_count}
 use Rattle.fail_stop.specs.Openings.{opening_list}
 use Rattle.fail_stop.specs.Schedules.{IsSchedule, Machine, opening}
 use Rattle.fail_stop.specs.ScriptFlights.{flight_of, image_words_after, kernel_words}
@@ -43,7 +43,7 @@ OpeningKeeps = (spec : Parts) (script : ScriptParts) → Fits spec script
 -- are those of frame 0, and marks and end words are 0. Bank 0 of each processor holds its image before frame 0, and
 -- bank 1 holds zeros.
 pub record IsOpening (spec : Parts) (script : ScriptParts) (list : List ℕ) : Type 0 where
-  pub long : length list ≡ places_of_words
+  pub long : length list ≡ word_index_count
   pub released : 0 < script.frames → stored_in list ReleaseWord ≡ 1
   pub unreleased : script.frames ≡ 0 → stored_in list ReleaseWord ≡ 0
   pub kernel : (i : ℕ) → i < 20 → stored_in list (KernelWord i) ≡ word_in (kernel_words spec script 0) i
@@ -70,7 +70,7 @@ EventsKeep = (spec : Parts) (script : ScriptParts) → Fits spec script
 abbrev pub EventsKeepLists : Type 0
 EventsKeepLists = (spec : Parts) (script : ScriptParts) → IsSpec spec → Fits spec script
     → (at : Places) (list : List ℕ) (event : Event) (at_after : Places)
-    → length list ≡ places_of_words → Kept (flight_of spec script) at (stored_in list) → IsNext (flight_of spec script) at (stored_in list) event
+    → length list ≡ word_index_count → Kept (flight_of spec script) at (stored_in list) → IsNext (flight_of spec script) at (stored_in list) event
     → Moves (flight_of spec script) at event at_after
     → Kept (flight_of spec script) at_after (stored_in (list_after list (writes (flight_of spec script) at (stored_in list) event)))
 

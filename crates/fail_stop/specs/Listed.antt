@@ -14,8 +14,8 @@ index_of (EndWord p) = 33 + 136 * p
 index_of (BankWord p b i) = 40 + 136 * p + 64 * b + i
 
 -- The number of indices.
-abbrev pub places_of_words : ℕ
-places_of_words = 1120
+abbrev pub word_index_count : ℕ
+word_index_count = 1120
 
 -- The value of a word in a list.
 abbrev pub stored_in : List ℕ → Word → ℕ
@@ -30,7 +30,7 @@ list_after list (Some t) = slice_set list (index_of t.0) t.1
 pub record HoldsWords (m : Flight) (list : List ℕ) : Type 0 where
   pub procs : m.procs ≤ 8
   pub width : m.width ≤ 64
-  pub long : length list ≡ places_of_words
+  pub long : length list ≡ word_index_count
 
 -- Event `e` moves the place of its actor alone.
 pub record Moves (m : Flight) (at : Places) (e : Event) (at2 : Places) : Type 0 where

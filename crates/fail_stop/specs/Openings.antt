@@ -6,7 +6,7 @@ use Rattle.bank_words.specs.Numbers.{encode}
 use Rattle.scram_types.specs.Searches.{listed_below}
 use Rattle.frame_model.specs.Flights.{is_proc}
 use Rattle.frame_model.specs.States.{area_at, keeper_at}
-use Rattle.fail_stop.specs.Listed.{places_of_words}
+use Rattle.fail_stop.specs.Listed.{word_index_count}
 
 -- Word `i` of the start image of processor `p`.
 abbrev pub start_word : List (List ℤ) → List (Option ProcId) → ℕ → ℕ → ℕ
@@ -28,4 +28,4 @@ opening_at frames first areas keepers n =
 
 -- The list of all words.
 unfoldable pub opening_list : ℕ → List ℕ → List (List ℤ) → List (Option ProcId) → List ℕ
-opening_list frames first areas keepers = listed_below (opening_at frames first areas keepers) places_of_words
+opening_list frames first areas keepers = listed_below (opening_at frames first areas keepers) word_index_count

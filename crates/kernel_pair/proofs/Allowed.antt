@@ -14,7 +14,7 @@ use Rattle.kernel_pair.specs.declared.events.PairEvent.{PairEvent}
 use Rattle.kernel_pair.specs.declared.events.PairEvent.TheVariants.{Note, Store, Release}
 use Rattle.kernel_pair.specs.declared.states.PairState.{PairState}
 use Rattle.kernel_pair.specs.Machines.{IsPairStep, PairKeeps, parts_of}
-use Rattle.kernel_pair.specs.Pairs.{IsPairNext, IsPairReplay, IsPairSchedule, Pair, pair_after, next_unit, other_unit, to_make}
+use Rattle.kernel_pair.specs.Pairs.{IsPairNext, IsPairReplay, IsPairSchedule, Pair, pair_after, next_unit, other_unit, frame_to_make}
 use Rattle.kernel_pair.specs.States.{pair_of}
 use Rattle.kernel_pair.specs.Kept.{IsUnit, PairKept}
 use Rattle.kernel_pair.specs.Rooms.{pair_left}
@@ -66,7 +66,7 @@ module _ (spec : Parts) (script : ScriptParts) (halt : Option UnitHalt) (s : Pai
       let most = fits.frames in
       omega (arith, more, most)
 
-  pub fly_small : (p : ProcId) (u f : ℕ) → p.0 < length spec.procs → u < 2 → to_make ((flight_of spec script).restart p.0) (s.proc p.0).place ≡ Some f → f < (s.unit u).release → (p.0 < 8) × (f + 1 < 4294967296)
+  pub fly_small : (p : ProcId) (u f : ℕ) → p.0 < length spec.procs → u < 2 → frame_to_make ((flight_of spec script).restart p.0) (s.proc p.0).place ≡ Some f → f < (s.unit u).release → (p.0 < 8) × (f + 1 < 4294967296)
   fly_small p u f lp lu e low =
       let r : Read (flight_of spec script) halt s (script_flies spec script fits) k u f = read (flight_of spec script) halt s (script_flies spec script fits) k p.0 u f lp lu e low in
       let x : IsUnit (flight_of spec script) halt u (s.unit u) = k.units u lu in

@@ -8,7 +8,7 @@ use Rattle.fail_stop.proofs.Moves.{nat_eq_self, nat_eq_other}
 use Rattle.kernel_pair.specs.declared.events.UnitHalt.{UnitHalt}
 use Rattle.kernel_pair.specs.declared.events.PairEvent.{PairEvent}
 use Rattle.kernel_pair.specs.declared.events.PairEvent.TheVariants.{Fly, Note, Store, Ready, Meet, Release, Stop}
-use Rattle.kernel_pair.specs.Pairs.{Processor, IsPairNext, KernelUnit, Pair, frame_made, halt_frame, halted_unit, pair_after, noted, other_unit, readied, released, stepped, stops_at, stored, to_make, with_at, with_unit}
+use Rattle.kernel_pair.specs.Pairs.{Processor, IsPairNext, KernelUnit, Pair, frame_made, halt_frame, halted_unit, pair_after, noted, other_unit, readied, released, stepped, stops_at, stored, frame_to_make, with_at, with_unit}
 use Rattle.kernel_pair.specs.Kept.{IsNamed, IsUnit, PairKept, frames_past}
 use Rattle.kernel_pair.specs.Rooms.{frames_below, halt_left, pair_left, steps_left}
 use Rattle.kernel_pair.proofs.Frames.{past_after, restart_past_is}
@@ -77,12 +77,12 @@ halt_none (Some h) u x t e = rw e (by_unit (nat_eq u h.unit))
     by_unit true = refl
     by_unit false = refl
 
-past_of : (m : Flight) (p f : ℕ) (place : Place) → to_make (m.restart p) place ≡ Some f → frames_past place ≤ f
+past_of : (m : Flight) (p f : ℕ) (place : Place) → frame_to_make (m.restart p) place ≡ Some f → frames_past place ≤ f
 past_of m p f (At g n) e = let same : g ≡ f = cc in omega arith
 past_of m p f (Halted h) e = (restart_past_is (m.restart p) h f e).1
 
 module _ (m : Flight) (halt : Option UnitHalt) (s : Pair) (y : Flies m) (k : PairKept m halt s) where
-  fly_fewer : (p u f : ℕ) → p < m.procs → u < 2 → to_make (m.restart p) (s.proc p).place ≡ Some f → f < (s.unit u).release → frames_below m (with_at s.proc p (frame_made m p f (s.proc p))) m.procs < frames_below m s.proc m.procs
+  fly_fewer : (p u f : ℕ) → p < m.procs → u < 2 → frame_to_make (m.restart p) (s.proc p).place ≡ Some f → f < (s.unit u).release → frames_below m (with_at s.proc p (frame_made m p f (s.proc p))) m.procs < frames_below m s.proc m.procs
   fly_fewer p u f lp lu e low =
       let r : Read m halt s y k u f = read m halt s y k p u f lp lu e low in
       let x : IsUnit m halt u (s.unit u) = k.units u lu in

@@ -9,7 +9,7 @@ use Rattle.fail_stop.proofs.FrameSteps.{last_yes, last_no, side_yes, side_no, en
 use Rattle.fail_stop.proofs.FrameFacts.{bank_suc, halted_still, Same}
 use Rattle.fail_stop.proofs.Plans.{gate, is_less}
 use Rattle.fail_stop.proofs.ProcessorEvents.{unflipped, made_none, bank_begin, side_of, some_same}
-use Rattle.kernel_pair.specs.Pairs.{Processor, frame_made, restart_past, to_make}
+use Rattle.kernel_pair.specs.Pairs.{Processor, frame_made, frame_to_make, restart_past}
 use Rattle.kernel_pair.specs.Kept.{IsProcessor, IsStanding, frames_past}
 
 pub restart_past_is : (o : Option ℕ) (h f : ℕ) → restart_past h o ≡ Some f → (o ≡ Some f) × (h < f)
@@ -30,7 +30,7 @@ pub record Begun (m : Flight) (p f : ℕ) (x : Processor) : Type 0 where
   pub bank : (b i : ℕ) → b < 2 → i < m.width → x.bank b i ≡ bank_before m p f b i
 
 begun_at : (m : Flight) (p f : ℕ) (place : Place) (x : Processor) → Flies m → IsStanding m p place → x.mark ≡ mark_at m p place
-    → ((b i : ℕ) → b < 2 → i < m.width → x.bank b i ≡ bank_at m p place b i) → to_make (m.restart p) place ≡ Some f → Begun m p f x
+    → ((b i : ℕ) → b < 2 → i < m.width → x.bank b i ≡ bank_at m p place b i) → frame_to_make (m.restart p) place ≡ Some f → Begun m p f x
 begun_at m p f (At g n) x y w mark bank e =
     let same : g ≡ f = cc in
     let z = w.fresh in record {
@@ -46,7 +46,7 @@ begun_at m p f (Halted h) x y d mark bank e =
       bank = λ b i l g. bank b i l g ∙ sym (same.banks b i);
     }
 
-pub begun : (m : Flight) (p f : ℕ) (x : Processor) → Flies m → IsProcessor m p x → to_make (m.restart p) x.place ≡ Some f → Begun m p f x
+pub begun : (m : Flight) (p f : ℕ) (x : Processor) → Flies m → IsProcessor m p x → frame_to_make (m.restart p) x.place ≡ Some f → Begun m p f x
 begun m p f x y o e = begun_at m p f x.place x y o.place o.mark o.bank e
 
 -- at the place after frame f, marks, end words and banks are those before the next frame

@@ -12,13 +12,13 @@ use Rattle.fail_stop.proofs.KernelEvents.{Noted, kernel_zero, noted_by}
 use Rattle.fail_stop.proofs.ProcessorEvents.{side_of}
 use Rattle.fail_stop.proofs.Reading.{Gives, Shows, gives, shows}
 use Rattle.kernel_pair.specs.declared.events.UnitHalt.{UnitHalt}
-use Rattle.kernel_pair.specs.Pairs.{Pair, other_unit, to_make}
+use Rattle.kernel_pair.specs.Pairs.{Pair, frame_to_make, other_unit}
 use Rattle.kernel_pair.specs.Kept.{HasMet, IsProcessor, IsStanding, IsUnit, PairKept, NotBelow, meetings, frames_past, readies}
 use Rattle.kernel_pair.proofs.Frames.{restart_past_is, restart_past_some}
 use Rattle.kernel_pair.proofs.Moving.{both, two}
 
 -- while no unit is ahead of frame k, a processor has the same place as with one kernel in frame k
-pub placed_by : (m : Flight) (k j p : ℕ) (place : Place) → IsStanding m p place → ((f : ℕ) → to_make (m.restart p) place ≡ Some f → NotBelow k j p f) → frames_past place ≤ suc k → IsPlaced m k j p place
+pub placed_by : (m : Flight) (k j p : ℕ) (place : Place) → IsStanding m p place → ((f : ℕ) → frame_to_make (m.restart p) place ≡ Some f → NotBelow k j p f) → frames_past place ≤ suc k → IsPlaced m k j p place
 placed_by m k j p (At f n) w a b = record { up = w.up; low = (a f refl).0; high = b; fresh = λ g. w.fresh; within = rw w.fresh (omega arith); noted = (a f refl).1; done = λ g. w.done }
 placed_by m k j p (Halted h) d a b = record {
   step = d.step;
@@ -30,7 +30,7 @@ placed_by m k j p (Halted h) d a b = record {
 }
 
 -- a processor that may be noted in frame k makes a later frame next
-noted_ahead : (m : Flight) (k p f : ℕ) (place : Place) → Noted m k p place → to_make (m.restart p) place ≡ Some f → k < f
+noted_ahead : (m : Flight) (k p f : ℕ) (place : Place) → Noted m k p place → frame_to_make (m.restart p) place ≡ Some f → k < f
 noted_ahead m k p f (At g n) l e = let same : g ≡ f = cc in subst (λ (x : ℕ). k < x) same l
 noted_ahead m k p f (Halted h) l e = let r = restart_past_is (m.restart p) h f e in l f r.0 r.1
 
@@ -73,7 +73,7 @@ module _ (m : Flight) (halt : Option UnitHalt) (s : Pair) (y : Flies m) (k : Pai
 
   -- a processor that unit u may note has its mark and its image after the unit's frame
   pub record Told (u p : ℕ) : Type 0 where
-    pub ahead : (f : ℕ) → to_make (m.restart p) (s.proc p).place ≡ Some f → (s.unit u).frame < f
+    pub ahead : (f : ℕ) → frame_to_make (m.restart p) (s.proc p).place ≡ Some f → (s.unit u).frame < f
     pub mark : (s.proc p).mark ≡ mark_before m p (suc (s.unit u).frame)
     pub image : (i : ℕ) → i < m.width → (s.proc p).bank ((s.proc p).mark % 2) i ≡ word_in (image_before m p (suc (s.unit u).frame)) i
 
@@ -83,7 +83,7 @@ module _ (m : Flight) (halt : Option UnitHalt) (s : Pair) (y : Flies m) (k : Pai
       let high = bounded p lp (s.unit u).frame (none_ahead u l going (omega arith)) in
       let here : IsPlaced m (s.unit u).frame p p (s.proc p).place = placed_by m (s.unit u).frame p p (s.proc p).place o.place (λ f e. ((k.ahead u p l lp f e).0, λ g. absurd (omega arith))) high in
       let seen = noted_by m (s.unit u).frame p p (s.proc p).end (s.proc p).place y here o.end may in
-      let later : (f : ℕ) → to_make (m.restart p) (s.proc p).place ≡ Some f → (s.unit u).frame < f = λ f e. noted_ahead m (s.unit u).frame p f (s.proc p).place seen e in
+      let later : (f : ℕ) → frame_to_make (m.restart p) (s.proc p).place ≡ Some f → (s.unit u).frame < f = λ f e. noted_ahead m (s.unit u).frame p f (s.proc p).place seen e in
       let there : IsPlaced m (s.unit u).frame (suc p) p (s.proc p).place = placed_by m (s.unit u).frame (suc p) p (s.proc p).place o.place (λ f e. ((k.ahead u p l lp f e).0, λ g. later f e)) high in
       let g : Gives m p (s.unit u).frame (s.proc p).place = gives m p (s.unit u).frame (suc p) (s.proc p).place y (omega arith) there in
       let mark : (s.proc p).mark ≡ mark_before m p (suc (s.unit u).frame) = o.mark ∙ g.mark in
@@ -101,7 +101,7 @@ module _ (m : Flight) (halt : Option UnitHalt) (s : Pair) (y : Flies m) (k : Pai
     pub picked : (q : ℕ) → q < m.procs → pick (s.proc q).mark f ≡ side m q f
     pub held : (q i : ℕ) → q < m.procs → i < m.width → (s.proc q).bank (side m q f) i ≡ word_in (image_before m q f) i
 
-  pub read : (p u f : ℕ) → p < m.procs → u < 2 → to_make (m.restart p) (s.proc p).place ≡ Some f → f < (s.unit u).release → Read u f
+  pub read : (p u f : ℕ) → p < m.procs → u < 2 → frame_to_make (m.restart p) (s.proc p).place ≡ Some f → f < (s.unit u).release → Read u f
   read p u f lp lu e low =
       let x : IsUnit m halt u (s.unit u) = k.units u lu in
       let a = released m (s.unit u).frame f (subst (λ (r : ℕ). f < r) x.release low) in

@@ -14,7 +14,7 @@ use Rattle.fail_stop.proofs.Progress.{may_done, may_halted, Found, found}
 use Rattle.kernel_pair.specs.declared.events.UnitHalt.{UnitHalt}
 use Rattle.kernel_pair.specs.declared.events.PairEvent.TheVariants.{Fly, Note, Store, Ready, Meet, Release, Stop}
 use Rattle.kernel_pair.specs.Laws.{HasNext, noted_frames}
-use Rattle.kernel_pair.specs.Pairs.{IsAtEnd, IsPairOver, KernelUnit, Pair, may_meet, next_going, next_unit, other_unit, plan_noted, plan_unit, restart_past, stops_at, to_make}
+use Rattle.kernel_pair.specs.Pairs.{IsAtEnd, IsPairOver, KernelUnit, Pair, frame_to_make, may_meet, next_going, next_unit, other_unit, plan_noted, plan_unit, restart_past, stops_at}
 use Rattle.kernel_pair.specs.Kept.{IsProcessor, IsNamed, IsStanding, IsUnit, PairKept, frames_past, readies, ready_at}
 use Rattle.kernel_pair.proofs.Frames.{restart_past_some}
 use Rattle.kernel_pair.proofs.Moving.{both}
@@ -22,7 +22,7 @@ use Rattle.kernel_pair.proofs.Placing.{bounded, none_ahead, readies_high, releas
 
 -- a processor for which a unit waits in frame k makes frame k next
 to_make_now : (m : Flight) (p k e : ℕ) (place : Place) → IsStanding m p place → e ≡ end_at m p place → may_note m p k e ≡ false
-    → ((f : ℕ) → to_make (m.restart p) place ≡ Some f → k ≤ f) → frames_past place ≤ suc k → to_make (m.restart p) place ≡ Some k
+    → ((f : ℕ) → frame_to_make (m.restart p) place ≡ Some f → k ≤ f) → frames_past place ≤ suc k → frame_to_make (m.restart p) place ≡ Some k
 to_make_now m p k e (At f n) w i may low high = ap (λ (x : ℕ). Some x) (now (ℕ_discrete f (suc k)) (low f refl))
   where
     now : Dec (f ≡ suc k) → k ≤ f → f ≡ k
@@ -168,7 +168,7 @@ module _ (m : Flight) (halt : Option UnitHalt) (s : Pair) (y : Flies m) (k : Pai
   all_done : (u : ℕ) → u < 2 → IsAtEnd m (s.unit u) → ((p r : ℕ) → m.restart p ≡ Some r → suc r ≤ m.frames) → (p : ℕ) → p < m.procs → IsDone m p (s.proc p).place
   all_done u l end within p lp = by_place (s.proc p).place (let o : IsProcessor m p (s.proc p) = k.processors p lp in o.place) (λ f e. (k.ahead u p l lp f e).1 (let n = end.noted_all in omega arith))
     where
-      by_place : (place : Place) → IsStanding m p place → ((f : ℕ) → to_make (m.restart p) place ≡ Some f → (s.unit u).frame < f) → IsDone m p place
+      by_place : (place : Place) → IsStanding m p place → ((f : ℕ) → frame_to_make (m.restart p) place ≡ Some f → (s.unit u).frame < f) → IsDone m p place
       by_place (At f n) w a = let b = a f refl in let c = end.last in let d = w.within in omega arith
       by_place (Halted h) w a = λ r e. by_order r e (dec_le r h)
         where

@@ -11,7 +11,7 @@ use Rattle.fail_stop.proofs.Moves.{nat_eq_self, nat_eq_other}
 use Rattle.kernel_pair.specs.declared.events.UnitHalt.{UnitHalt}
 use Rattle.kernel_pair.specs.declared.events.PairEvent.{PairEvent}
 use Rattle.kernel_pair.specs.declared.events.PairEvent.TheVariants.{Fly, Note, Store, Ready, Meet, Release, Stop}
-use Rattle.kernel_pair.specs.Pairs.{IsPairNext, Pair, frame_made, halt_frame, halted_unit, pair_after, may_meet, noted, other_unit, readied, released, stepped, stops_at, stored, to_make, with_proc, with_unit}
+use Rattle.kernel_pair.specs.Pairs.{IsPairNext, Pair, frame_made, halt_frame, halted_unit, pair_after, may_meet, noted, other_unit, readied, released, stepped, stops_at, stored, frame_to_make, with_proc, with_unit}
 use Rattle.kernel_pair.specs.Kept.{IsUnit, PairKept, NotBelow, readies, ready_at}
 use Rattle.kernel_pair.proofs.Frames.{begun, made_is, past_after, restart_past_is}
 use Rattle.kernel_pair.proofs.Moving.{by_proc, by_unit}
@@ -19,7 +19,7 @@ use Rattle.kernel_pair.proofs.Placing.{Read, Told, met_other, meetings_high, mee
 use Rattle.kernel_pair.proofs.Plans.{Behind, Goes, goes, named}
 
 -- after a frame of a processor
-ahead_past : (m : Flight) (k j p f : ℕ) (o r : Option ℕ) → k ≤ f → (g : ℕ) → to_make r (after_frame f o) ≡ Some g → NotBelow k j p g
+ahead_past : (m : Flight) (k j p f : ℕ) (o r : Option ℕ) → k ≤ f → (g : ℕ) → frame_to_make r (after_frame f o) ≡ Some g → NotBelow k j p g
 ahead_past m k j p f None r l g e = let same : suc f ≡ g = cc in (omega arith, λ z. omega arith)
 ahead_past m k j p f (Some s) r l g e = let a = (restart_past_is r f g e).1 in (omega arith, λ z. omega arith)
 
@@ -43,7 +43,7 @@ may_meet_is : (k r : ℕ) → may_meet k (2 * r) ≡ true → suc k ≤ r
 may_meet_is k r e = let even : 2 * r % 2 ≡ 0 = omega arith in grind (arith, nat_tests)
 
 module _ (m : Flight) (halt : Option UnitHalt) (s : Pair) (y : Flies m) (k : PairKept m halt s) where
-  fly_keeps : (p u f : ℕ) → p < m.procs → u < 2 → to_make (m.restart p) (s.proc p).place ≡ Some f → f < (s.unit u).release → PairKept m halt (with_proc s p (frame_made m p f (s.proc p)))
+  fly_keeps : (p u f : ℕ) → p < m.procs → u < 2 → frame_to_make (m.restart p) (s.proc p).place ≡ Some f → f < (s.unit u).release → PairKept m halt (with_proc s p (frame_made m p f (s.proc p)))
   fly_keeps p u f lp lu e low =
       let r : Read m halt s y k u f = read m halt s y k p u f lp lu e low in
       let x : IsUnit m halt u (s.unit u) = k.units u lu in
@@ -60,7 +60,7 @@ module _ (m : Flight) (halt : Option UnitHalt) (s : Pair) (y : Flies m) (k : Pai
     x = k.units u l
 
     -- once all processors are noted
-    past_notes : (j : ℕ) → m.procs ≤ (s.unit u).step → (p : ℕ) → p < m.procs → (f : ℕ) → to_make (m.restart p) (s.proc p).place ≡ Some f → NotBelow (s.unit u).frame j p f
+    past_notes : (j : ℕ) → m.procs ≤ (s.unit u).step → (p : ℕ) → p < m.procs → (f : ℕ) → frame_to_make (m.restart p) (s.proc p).place ≡ Some f → NotBelow (s.unit u).frame j p f
     past_notes j low p lp f e = let a = k.ahead u p l lp f e in let b = a.1 (omega arith) in (a.0, λ g. b)
 
     note_keeps : (s.unit u).step < m.procs → may_note m (s.unit u).step (s.unit u).frame (s.proc (s.unit u).step).end ≡ true → PairKept m halt (with_unit s u (noted (s.unit u).step (s.proc (s.unit u).step) (s.unit u)))
@@ -95,9 +95,9 @@ module _ (m : Flight) (halt : Option UnitHalt) (s : Pair) (y : Flies m) (k : Pai
         image_at p i lp g li t (yes d) = rw (d, nat_eq_self (s.unit u).step) (t.image i li)
         image_at p i lp g li t (no d) = rw (nat_eq_other p (s.unit u).step d) (x.images p i lp (omega arith) li)
 
-        ahead_at : (p : ℕ) → p < m.procs → (f : ℕ) → to_make (m.restart p) (s.proc p).place ≡ Some f → Told m halt s y k u (s.unit u).step → Dec (p ≡ (s.unit u).step) → NotBelow (s.unit u).frame (suc (s.unit u).step) p f
+        ahead_at : (p : ℕ) → p < m.procs → (f : ℕ) → frame_to_make (m.restart p) (s.proc p).place ≡ Some f → Told m halt s y k u (s.unit u).step → Dec (p ≡ (s.unit u).step) → NotBelow (s.unit u).frame (suc (s.unit u).step) p f
         ahead_at p lp f e t (yes d) =
-            let later = t.ahead f (subst (λ (q : ℕ). to_make (m.restart q) (s.proc q).place ≡ Some f) d e) in
+            let later = t.ahead f (subst (λ (q : ℕ). frame_to_make (m.restart q) (s.proc q).place ≡ Some f) d e) in
             ((k.ahead u p l lp f e).0, λ g. later)
         ahead_at p lp f e t (no d) = let a = k.ahead u p l lp f e in (a.0, λ g. a.1 (omega arith))
 

@@ -5,7 +5,7 @@ use Rattle.fail_stop.specs.Flights.{Flight, word_in, mark_before, end_before, im
 use Rattle.fail_stop.specs.Events.{Place, At, Halted}
 use Rattle.fail_stop.specs.Kept.{mark_at, end_at, bank_at, kernel_at, release_at}
 use Rattle.kernel_pair.specs.declared.events.UnitHalt.{UnitHalt}
-use Rattle.kernel_pair.specs.Pairs.{Processor, KernelUnit, Pair, other_unit, to_make}
+use Rattle.kernel_pair.specs.Pairs.{Processor, KernelUnit, Pair, other_unit, frame_to_make}
 
 -- Processor `p` may be at the beginning of frame `f`: it is up in the frame and done with the frame before.
 pub record Waiting (m : Flight) (p f n : ℕ) : Type 0 where
@@ -71,7 +71,7 @@ NotBelow k j p f = (k ≤ f) × (p < j → k < f)
 
 -- The frame that processor `p` makes next is not below that of a unit, which may have halted.
 abbrev pub IsAhead : Flight → ℕ → Place → KernelUnit → Type 0
-IsAhead m p place x = (f : ℕ) → to_make (m.restart p) place ≡ Some f → NotBelow x.frame x.step p f
+IsAhead m p place x = (f : ℕ) → frame_to_make (m.restart p) place ≡ Some f → NotBelow x.frame x.step p f
 
 -- The number of frames before the place of a processor, including the frame in which it has halted.
 abbrev pub frames_past : Place → ℕ

@@ -9,7 +9,7 @@ use Rattle.kernel_pair.specs.declared.events.UnitHalt.{UnitHalt}
 use Rattle.kernel_pair.specs.declared.events.PairEvent.{PairEvent}
 use Rattle.kernel_pair.specs.declared.events.PairEvent.TheVariants.{Fly, Note, Store, Ready, Meet, Release, Stop}
 use Rattle.kernel_pair.specs.declared.states.PairState.{PairState}
-use Rattle.kernel_pair.specs.Pairs.{IsPairReplay, Pair, pair_after, to_make}
+use Rattle.kernel_pair.specs.Pairs.{IsPairReplay, Pair, frame_to_make, pair_after}
 use Rattle.kernel_pair.specs.Rooms.{pair_left}
 use Rattle.kernel_pair.specs.States.{pair_of}
 
@@ -49,7 +49,7 @@ pub record PairKeeps (spec : Parts) (script : ScriptParts) (halt : Option UnitHa
 -- A frame has the words of its draft, and a store has its word.
 abbrev pub AreEventWords : Flight → Pair → PairEvent → List ℕ → ℕ → Type 0
 AreEventWords m s (Fly p u) draft word =
-    (f : ℕ) → to_make (m.restart p.0) (s.proc p.0).place ≡ Some f → (i : ℕ) → slice_index_or draft i 0 ≡ word_in (m.draft p.0 f) i
+    (f : ℕ) → frame_to_make (m.restart p.0) (s.proc p.0).place ≡ Some f → (i : ℕ) → slice_index_or draft i 0 ≡ word_in (m.draft p.0 f) i
 AreEventWords m s (Store u i) draft word = word ≡ word_in (m.kernel_image (suc (s.unit u).frame)) i
 AreEventWords m s (Note u p) draft word = Unit {0}
 AreEventWords m s (Ready u) draft word = Unit {0}

@@ -43,13 +43,13 @@ restart_past h None = None
 restart_past h (Some r) = if nat_lt h r then Some r else None
 
 -- The frame that a processor makes next: the frame at whose beginning it is, or that of its restart.
-abbrev pub to_make : Option ℕ → Place → Option ℕ
-to_make restart (At f n) = Some f
-to_make restart (Halted h) = restart_past h restart
+abbrev pub frame_to_make : Option ℕ → Place → Option ℕ
+frame_to_make restart (At f n) = Some f
+frame_to_make restart (Halted h) = restart_past h restart
 
 -- The frame that a processor makes next is below a release word.
 abbrev pub MakesReleased : Option ℕ → Place → ℕ → Type 0
-MakesReleased restart place release = (f : ℕ) × (to_make restart place ≡ Some f) × (f < release)
+MakesReleased restart place release = (f : ℕ) × (frame_to_make restart place ≡ Some f) × (f < release)
 
 -- The end of the range of the numbers of steps after which a unit may halt in frame `f`. All steps of a frame may come
 -- before a halt, but the last frame ends with the last note.
@@ -223,7 +223,7 @@ with_proc s p y = record { proc = with_at s.proc p y; unit = s.unit }
 
 -- The state after an event.
 abbrev pub pair_after : Flight → Option UnitHalt → Pair → PairEvent → Pair
-pair_after m halt s (Fly p u) = with_proc s p.0 (next_made m p.0 (to_make (m.restart p.0) (s.proc p.0).place) (s.proc p.0))
+pair_after m halt s (Fly p u) = with_proc s p.0 (next_made m p.0 (frame_to_make (m.restart p.0) (s.proc p.0).place) (s.proc p.0))
 pair_after m halt s (Note u p) = with_unit s u (noted p.0 (s.proc p.0) (s.unit u))
 pair_after m halt s (Store u i) = with_unit s u (stored m i (s.unit u))
 pair_after m halt s (Ready u) = with_unit s u (readied (s.unit u))

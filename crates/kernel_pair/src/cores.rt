@@ -44,7 +44,7 @@ impl<'a> PairCore<'a> {
     ghost use Rattle.kernel_pair.specs.Cores.{IsTurn};
     ghost use Rattle.kernel_pair.specs.Laws.{PairHolds, noted_frames};
     ghost use Rattle.kernel_pair.specs.Machines.{IsPairStep, pair_flight, pair_in};
-    ghost use Rattle.kernel_pair.specs.Pairs.{IsPairNext, IsPairOpening, IsPairOver, IsPairReplay, next_unit, to_make};
+    ghost use Rattle.kernel_pair.specs.Pairs.{IsPairNext, IsPairOpening, IsPairOver, IsPairReplay, frame_to_make, next_unit};
     ghost use Rattle.kernel_pair.specs.declared.events.PairEvent.TheVariants.{Fly, Note, Store};
 
     /// Returns a flight before the first event, with `racks[p]` as the boxes of processor `p` and `spares[p]` as its
@@ -194,7 +194,7 @@ impl<'a> PairCore<'a> {
     /// frame, and every processor's image before the frame.
     pub fn snapshot(&self, p: ProcId, unit: u8, frame: u32) -> Snapshot
         requires next { IsPairNext (pair_flight self.now) self.now.halt (pair_in self.now) (Fly p unit) }
-        requires frame { to_make (restart_of self.now.script p.0) ((pair_in self.now).proc p.0).place ≡ Some frame }
+        requires frame { frame_to_make (restart_of self.now.script p.0) ((pair_in self.now).proc p.0).place ≡ Some frame }
         ensures { IsSnapshot self.now.spec self.now.script frame result }
     {
         self.machine.snapshot(p, unit, frame)

@@ -10,7 +10,7 @@ ghost use Rattle.scram_types.specs.Specification.{IsSpec};
 ghost use Rattle.scram_types.specs.declared.scripts.HaltAt.{HaltAt};
 ghost use Rattle.kernel_pair.specs.Cores.{flyer_after, places_in};
 ghost use Rattle.kernel_pair.specs.Machines.{AreEventWords, pair_flight, pair_in, pair_with};
-ghost use Rattle.kernel_pair.specs.Pairs.{IsPairNext, to_make};
+ghost use Rattle.kernel_pair.specs.Pairs.{IsPairNext, frame_to_make};
 ghost use Rattle.kernel_pair.specs.declared.events.PairEvent.TheVariants.{Fly};
 ghost use Rattle.kernel_pair.specs.States.{flight_by};
 ghost use Rattle.kernel_pair.specs.declared.setups.Setup.{Setup};
@@ -52,7 +52,7 @@ fn draft_frame(
     requires facts { IsSpec setup.now.spec.now }
     requires known { p.0 < length setup.now.spec.now.procs }
     requires few { p.0 < 8 }
-    requires stands { (place : Place) × IsFlyerAt (flight_by setup.now) p.0 place flyer.old × (to_make ((flight_by setup.now).restart p.0) place ≡ Some frame) }
+    requires stands { (place : Place) × IsFlyerAt (flight_by setup.now) p.0 place flyer.old × (frame_to_make ((flight_by setup.now).restart p.0) place ≡ Some frame) }
     requires snap { IsSnapshot setup.now.spec.now setup.now.script.now frame snap.now }
     ensures words { (i : ℕ) → slice_index_or result i 0 ≡ word_in (draft_words setup.now.spec.now setup.now.script.now p.0 frame) i }
     ensures flyer { IsFlyerAt (flight_by setup.now) p.0 (after_frame frame ((flight_by setup.now).halt p.0 frame)) flyer.new }

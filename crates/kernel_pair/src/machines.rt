@@ -44,7 +44,7 @@ impl<'a> PairMachine<'a> {
     ghost use Rattle.kernel_pair.specs.Kept.{PairKept};
     ghost use Rattle.kernel_pair.specs.Laws.{PairHolds};
     ghost use Rattle.kernel_pair.specs.Machines.{AreEventWords, IsPairStep, pair_flight, pair_in};
-    ghost use Rattle.kernel_pair.specs.Pairs.{IsPairNext, IsPairOpening, IsPairOver, IsPairReplay, next_unit, to_make};
+    ghost use Rattle.kernel_pair.specs.Pairs.{IsPairNext, IsPairOpening, IsPairOver, IsPairReplay, frame_to_make, next_unit};
     ghost use Rattle.kernel_pair.specs.declared.events.PairEvent.TheVariants.{Fly};
 
     /// Returns the opening, with the kernel's words of the first frame and with room for every possible event.
@@ -124,7 +124,7 @@ impl<'a> PairMachine<'a> {
     /// Returns the frame that a processor makes next.
     pub(crate) fn frame_of(&self, p: ProcId) -> Option<u32>
         requires { p.0 < 8 }
-        ensures { result ≡ to_make (restart_of self.now.script p.0) ((pair_in self.now).proc p.0).place }
+        ensures { result ≡ frame_to_make (restart_of self.now.script p.0) ((pair_in self.now).proc p.0).place }
     {
         frame_of(self.setup.script, &self.state, p)
     }
@@ -132,7 +132,7 @@ impl<'a> PairMachine<'a> {
     /// Returns the snapshot of a processor that may make this frame by the words of a unit.
     pub(crate) fn snapshot(&self, p: ProcId, u: u8, frame: u32) -> Snapshot
         requires next { IsPairNext (pair_flight self.now) self.now.halt (pair_in self.now) (Fly p u) }
-        requires frame { to_make (restart_of self.now.script p.0) ((pair_in self.now).proc p.0).place ≡ Some frame }
+        requires frame { frame_to_make (restart_of self.now.script p.0) ((pair_in self.now).proc p.0).place ≡ Some frame }
         ensures { IsSnapshot self.now.spec self.now.script frame result }
     {
         self.holds();

@@ -4,7 +4,7 @@ ghost use Rattle.std.specs.Prelude.{◌≡◌, ℕ, ◌<◌, ◌≤◌, ◌+◌,
 ghost use Rattle.scram_types.specs.Lookups.{proc_id};
 ghost use Rattle.fault_script.specs.Times.{restart_of};
 ghost use Rattle.fail_stop.specs.Events.{may_note};
-ghost use Rattle.kernel_pair.specs.Pairs.{IsPairNext, MakesReleased, halts_below, is_at_halt, may_meet, next_unit, plan_noted, plan_unit, restart_past, stops_at, to_make};
+ghost use Rattle.kernel_pair.specs.Pairs.{IsPairNext, MakesReleased, frame_to_make, halts_below, is_at_halt, may_meet, next_unit, plan_noted, plan_unit, restart_past, stops_at};
 ghost use Rattle.kernel_pair.specs.States.{end_word_in, flight_by, pair_of, stand_place};
 ghost use Rattle.kernel_pair.specs.declared.events.PairEvent.TheVariants.{Fly, Note};
 ghost use Rattle.kernel_pair.specs.declared.setups.Setup.{Setup};
@@ -52,13 +52,13 @@ fn may_fly(script: &Script, state: &PairState, p: ProcId, u: u8) -> bool
 /// Returns the frame that a processor makes next.
 pub(crate) fn frame_of(script: &Script, state: &PairState, p: ProcId) -> Option<u32>
     requires { p.0 < 8 }
-    ensures { result ≡ to_make (restart_of script.now p.0) ((pair_of state.now).proc p.0).place }
+    ensures { result ≡ frame_to_make (restart_of script.now p.0) ((pair_of state.now).proc p.0).place }
 {
-    to_make(script, p, state.procs[usize::from(p.0)].stand)
+    frame_to_make(script, p, state.procs[usize::from(p.0)].stand)
 }
 
-fn to_make(script: &Script, p: ProcId, stand: Stand) -> Option<u32>
-    ensures { result ≡ to_make (restart_of script.now p.0) (stand_place stand) }
+fn frame_to_make(script: &Script, p: ProcId, stand: Stand) -> Option<u32>
+    ensures { result ≡ frame_to_make (restart_of script.now p.0) (stand_place stand) }
 {
     match stand {
         Stand::Before(frame) => Some(frame),

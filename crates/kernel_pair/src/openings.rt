@@ -3,7 +3,7 @@
 ghost use Rattle.std.specs.Prelude.{◌≡◌, ◌<◌, ℕ, IfOk, length, slice_index_or};
 ghost use Rattle.scram_types.specs.Specification.{IsSpec};
 ghost use Rattle.fail_stop.specs.Events.{At, BankWord};
-ghost use Rattle.fail_stop.specs.Listed.{places_of_words, stored_in};
+ghost use Rattle.fail_stop.specs.Listed.{stored_in, word_index_count};
 ghost use Rattle.fail_stop.specs.ScriptFlights.{flight_of, kernel_words};
 ghost use Rattle.kernel_pair.specs.Cores.{places_in};
 ghost use Rattle.kernel_pair.specs.Openings.{IsProcessorOpened, IsUnitOpened};
@@ -44,7 +44,7 @@ pub(crate) fn opening_state(
 }
 
 fn processors_opened(words: &[u64]) -> [ProcessorState; 8]
-    requires { length words.now ≡ places_of_words }
+    requires { length words.now ≡ word_index_count }
     ensures { (p : ℕ) → p < 8 → IsProcessorOpened words.now p (slice_index_or result p blank_processor) }
 {
     [
@@ -60,7 +60,7 @@ fn processors_opened(words: &[u64]) -> [ProcessorState; 8]
 }
 
 fn processor_opened(words: &[u64], p: u8) -> ProcessorState
-    requires words { length words.now ≡ places_of_words }
+    requires words { length words.now ≡ word_index_count }
     requires p { p < 8 }
     ensures { IsProcessorOpened words.now p result }
 {
@@ -73,7 +73,7 @@ fn processor_opened(words: &[u64], p: u8) -> ProcessorState
 }
 
 fn bank_opened(words: &[u64], p: u8, b: usize) -> [u64; 64]
-    requires words { length words.now ≡ places_of_words }
+    requires words { length words.now ≡ word_index_count }
     requires p { p < 8 }
     requires b { b < 2 }
     ensures { (i : ℕ) → i < 64 → slice_index_or result i 0 ≡ stored_in words.now (BankWord p b i) }

@@ -41,7 +41,7 @@ impl ProcessorState {
     {
         let halt = halt_in(setup.script, p, frame);
         let width = words(setup.spec);
-        lay_on(
+        copy_prefix_to_bank(
             &mut self.banks,
             (1 - self.mark % 2) as usize,
             draft,
@@ -103,16 +103,16 @@ fn mark_made(width: u32, frame: u32, halt: Option<HaltAt>, mark: u64) -> u64
 
 // Copies the first words of a draft to one of two banks.
 #[tactic(auto, using(crate::proofs::Flying::laid_on))]
-fn lay_on(banks: &mut [[u64; 64]; 2], side: usize, draft: &[u64; 64], count: u32)
+fn copy_prefix_to_bank(banks: &mut [[u64; 64]; 2], side: usize, draft: &[u64; 64], count: u32)
     requires count { count ≤ 64 }
     requires side { side < 2 }
     ensures { (b i : ℕ) → bank_word banks.new b i ≡ (if nat_eq b side && nat_lt i count then slice_index_or draft.now i 0 else bank_word banks.old b i) }
 {
-    lay(&mut banks[side], draft, count);
+    copy_prefix(&mut banks[side], draft, count);
 }
 
 // Copies the first words of a draft to a bank.
-fn lay(bank: &mut [u64; 64], draft: &[u64; 64], count: u32)
+fn copy_prefix(bank: &mut [u64; 64], draft: &[u64; 64], count: u32)
     requires { count ≤ 64 }
     ensures { (i : ℕ) → slice_index_or bank.new i 0 ≡ (if nat_lt i count then slice_index_or draft.now i 0 else slice_index_or bank.old i 0) }
 {

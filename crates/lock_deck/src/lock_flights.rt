@@ -2,7 +2,7 @@
 
 ghost use Rattle.std.specs.Prelude.{◌≡◌, ◌≤◌, ◌<◌, ◌+◌, [], All, IfOk, IfSome, OnOk, Some, length, vec_capacity, vec_len};
 ghost use Rattle.coverage_check.specs.Missions.{MissionParts, mission_of};
-ghost use Rattle.event_core.specs.Cores.{flown, standing};
+ghost use Rattle.event_core.specs.Cores.{core_places, flown};
 ghost use Rattle.fail_stop.specs.Ends.{IsOver};
 ghost use Rattle.frame_model.specs.Flights.{reports_of, rows_of};
 ghost use Rattle.lock_deck.specs.Members.{MemberFits};
@@ -70,7 +70,7 @@ impl<'a> LockFlight<'a> {
         requires fits { All (λ member. MemberFits self.mission.now member.value) self.members.items }
         ensures spec { result.spec ≡ self.entry.mission.now.spec }
         ensures script { result.script ≡ self.entry.mission.now.script }
-        ensures over { IsOver (flown result) (standing result) }
+        ensures over { IsOver (flown result) (core_places result) }
         ensures assured { let m = self.entry.mission.now in HoldsAll m.spec (rows_of m.spec m.script) (reports_of m.spec m.script) }
     {
         self.run_on(rt, [true; 8])
@@ -82,7 +82,7 @@ impl<'a> LockFlight<'a> {
         requires fits { All (λ member. MemberFits self.mission.now member.value) self.members.items }
         ensures spec { result.spec ≡ self.entry.mission.now.spec }
         ensures script { result.script ≡ self.entry.mission.now.script }
-        ensures over { IsOver (flown result) (standing result) }
+        ensures over { IsOver (flown result) (core_places result) }
         ensures assured { let m = self.entry.mission.now in HoldsAll m.spec (rows_of m.spec m.script) (reports_of m.spec m.script) }
     {
         self.mission.holds();
@@ -185,7 +185,7 @@ fn fly<'a, J: FlightOf + Send + Sync, R: Threads + Wait + Sync>(
     requires fits { All (λ member. MemberFits mission.now member.value) roster.members.items }
     requires back { (roster.back.items ≡ []) × (vec_len roster.members ≤ vec_capacity roster.back) }
     ensures core { mission_of result.spec result.script ≡ mission.now }
-    ensures over { IsOver (flown result) (standing result) }
+    ensures over { IsOver (flown result) (core_places result) }
 {
     let shared: Mutex<SharedCore<'a, J>> = Mutex::new(SharedCore::new(core));
     let moved = Condvar::new();
@@ -197,7 +197,7 @@ fn fly<'a, J: FlightOf + Send + Sync, R: Threads + Wait + Sync>(
 fn finish<'a, R: Wait>(rt: &R, core: Core<'a>) -> Core<'a>
     ensures spec { result.spec ≡ core.entry.spec }
     ensures script { result.script ≡ core.entry.script }
-    ensures over { IsOver (flown result) (standing result) }
+    ensures over { IsOver (flown result) (core_places result) }
 {
     let mut core = core;
     for _ in rt.forever() {

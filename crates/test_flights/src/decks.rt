@@ -1,7 +1,7 @@
 //! Flights over both decks.
 
 ghost use Rattle.std.specs.Prelude.{◌≡◌, IfOk, vec_len};
-ghost use Rattle.event_core.specs.Cores.{flown, standing};
+ghost use Rattle.event_core.specs.Cores.{core_places, flown};
 ghost use Rattle.fail_stop.specs.Ends.{IsOver};
 
 use app_model::Rack;
@@ -83,7 +83,7 @@ pub fn fly_over_lock<'a, R: AllocGlobal + Threads + Wait + Sync>(
     requires racks { vec_len racks ≡ 8 }
     requires spares { vec_len spares ≡ 8 }
     ensures spec { IfOk result (λ core. core.spec ≡ mission.now.spec) }
-    ensures over { IfOk result (λ core. IsOver (flown core) (standing core)) }
+    ensures over { IfOk result (λ core. IsOver (flown core) (core_places core)) }
 {
     let Ok(flight) = LockFlight::open(rt.alloc(), mission, racks, spares) else {
         return Err(ErrorKind::OutOfMemory.into());

@@ -2,7 +2,7 @@
 //! resulting core is that of the specification and the script, and is over.
 
 ghost use Rattle.std.specs.Prelude.{◌≡◌, ◌<◌, ◌≤◌, ◌⊎◌, ◌++◌, [], ◌∷◌, IfOk, length};
-ghost use Rattle.event_core.specs.Cores.{HappensIn, IsNextIn, IsWordIn, flown, standing, standing_words};
+ghost use Rattle.event_core.specs.Cores.{HappensIn, IsNextIn, IsWordIn, core_places, core_words, flown};
 ghost use Rattle.event_core.specs.Flyers.{FlyBy};
 ghost use Rattle.event_core.specs.Rooms.{events_left};
 ghost use Rattle.fail_stop.specs.Ends.{IsOver};
@@ -32,8 +32,8 @@ pub fn fly<'a>(
     requires script { Fits spec.now script.now }
     ensures spec { IfOk result (λ core. core.spec ≡ spec.now) }
     ensures script { IfOk result (λ core. core.script ≡ script.now) }
-    ensures rule { IfOk result (λ core. IsByRule (flown core) rule core.history (standing core) (standing_words core)) }
-    ensures over { IfOk result (λ core. IsOver (flown core) (standing core)) }
+    ensures rule { IfOk result (λ core. IsByRule (flown core) rule core.history (core_places core) (core_words core)) }
+    ensures over { IfOk result (λ core. IsOver (flown core) (core_places core)) }
 {
     let racks = empty_racks(alloc)?;
     let spares = empty_racks(alloc)?;
@@ -57,8 +57,8 @@ pub fn fly_some<'a>(
     requires script { Fits spec.now script.now }
     ensures spec { IfOk result (λ core. core.spec ≡ spec.now) }
     ensures script { IfOk result (λ core. core.script ≡ script.now) }
-    ensures rule { IfOk result (λ core. IsByRule (flown core) rule core.history (standing core) (standing_words core)) }
-    ensures count { IfOk result (λ core. (length core.history ≡ events) ⊎ (IsOver (flown core) (standing core) × (length core.history < events))) }
+    ensures rule { IfOk result (λ core. IsByRule (flown core) rule core.history (core_places core) (core_words core)) }
+    ensures count { IfOk result (λ core. (length core.history ≡ events) ⊎ (IsOver (flown core) (core_places core) × (length core.history < events))) }
 {
     let racks = empty_racks(alloc)?;
     let spares = empty_racks(alloc)?;
@@ -74,8 +74,8 @@ fn fly_on<'a>(core: Core<'a>, spec: &Spec, flyers: &mut Flyers, rule: Rule) -> C
     requires fits { FlyBy core flyers.old }
     ensures spec { result.spec ≡ core.entry.spec }
     ensures script { result.script ≡ core.entry.script }
-    ensures rule { IsByRule (flown result) rule result.history (standing result) (standing_words result) }
-    ensures over { IsOver (flown result) (standing result) }
+    ensures rule { IsByRule (flown result) rule result.history (core_places result) (core_words result) }
+    ensures over { IsOver (flown result) (core_places result) }
 {
     let mut core = core;
     let _opened = core.history();
@@ -100,8 +100,8 @@ fn fly_events<'a>(
     requires fits { FlyBy core flyers.old }
     ensures spec { result.spec ≡ core.entry.spec }
     ensures script { result.script ≡ core.entry.script }
-    ensures rule { IsByRule (flown result) rule result.history (standing result) (standing_words result) }
-    ensures count { (length result.history ≡ events) ⊎ (IsOver (flown result) (standing result) × (length result.history < events)) }
+    ensures rule { IsByRule (flown result) rule result.history (core_places result) (core_words result) }
+    ensures count { (length result.history ≡ events) ⊎ (IsOver (flown result) (core_places result) × (length result.history < events)) }
 {
     let mut core = core;
     let _opened = core.history();
@@ -125,7 +125,7 @@ fn make(core: &mut Core, spec: &Spec, flyers: &mut Flyers, event: Event)
     ensures script { core.new.script ≡ core.old.script }
     ensures happens { HappensIn core.old event core.new }
     ensures history { core.new.history ≡ core.old.history ++ event ∷ [] }
-    ensures fewer { events_left (flown core.new) (standing core.new) < events_left (flown core.old) (standing core.old) }
+    ensures fewer { events_left (flown core.new) (core_places core.new) < events_left (flown core.old) (core_places core.old) }
     ensures fits { FlyBy core.new flyers.new }
 {
     let word = flyers.word(core, spec, event);
@@ -140,7 +140,7 @@ fn step(core: &mut Core, event: Event, word: u64)
     ensures script { core.new.script ≡ core.old.script }
     ensures happens { HappensIn core.old event core.new }
     ensures history { core.new.history ≡ core.old.history ++ event ∷ [] }
-    ensures fewer { events_left (flown core.new) (standing core.new) < events_left (flown core.old) (standing core.old) }
+    ensures fewer { events_left (flown core.new) (core_places core.new) < events_left (flown core.old) (core_places core.old) }
 {
     match core.step(event, word) {
         Ok(()) => {}

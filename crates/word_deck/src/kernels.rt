@@ -93,7 +93,7 @@ impl<'a> KernelCrew<'a> {
         if self.kseat.frame() + 1 == frames {
             return Turn::Finished;
         }
-        say(words, procs, &mut self.kseat, &image);
+        publish_frame(words, procs, &mut self.kseat, &image);
         Turn::Worked
     }
 
@@ -152,7 +152,7 @@ fn end_frame(mission: &Mission, noted: &Noted, kernel: &mut Kernel) -> KernelIma
 }
 
 // Publishes the kernel image of the next frame, word by word, and releases the frame.
-fn say(words: &WordTable, procs: u32, kseat: &mut KSeat, image: &KernelImage)
+fn publish_frame(words: &WordTable, procs: u32, kseat: &mut KSeat, image: &KernelImage)
     requires seat { IsKernelSeatOf words.now kseat.old }
     requires procs { procs ≡ length (mission_in words.now).spec.procs }
     requires steps { kernel_steps kseat.old ≡ procs }

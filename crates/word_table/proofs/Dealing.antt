@@ -14,7 +14,7 @@ use Rattle.coverage_check.specs.Missions.{MissionParts}
 use Rattle.fail_stop.specs.Events.{IsStored, Places, Word}
 use Rattle.fail_stop.specs.Flights.{Flight}
 use Rattle.fail_stop.specs.Kept.{Kept, opening_places, opening_words}
-use Rattle.fail_stop.specs.Listed.{places_of_words, stored_in}
+use Rattle.fail_stop.specs.Listed.{stored_in, word_index_count}
 use Rattle.fail_stop.proofs.Keeps.{opens}
 use Rattle.fail_stop.proofs.Moves.{nat_eq_other}
 use Rattle.word_table.specs.declared.actors.Actor.{Actor}
@@ -309,7 +309,7 @@ one_view : (v u : View) (j : ℕ) → get_elem? (v ∷ []) j ≡ some u → (j �
 one_view v u zero e = (refl, some-injective v u e)
 one_view v u (suc j) e = absurd (some-ne-none u (sym e))
 
-module _ (mission : MissionParts) (list : List ℕ) (y : IsSound (mission_flight mission)) (long : length list ≡ places_of_words)
+module _ (mission : MissionParts) (list : List ℕ) (y : IsSound (mission_flight mission)) (long : length list ≡ word_index_count)
     (are : (w : Word) → IsStored (mission_flight mission) w → stored_in list w ≡ opening_words (mission_flight mission) w) where
   abbrev m : Flight
   m = mission_flight mission

@@ -10,7 +10,7 @@ use Rattle.coverage_check.specs.Missions.{MissionParts}
 use Rattle.fault_script.specs.Fits.{Fits}
 use Rattle.fault_script.specs.Times.{restart_of, words}
 use Rattle.frame_model.specs.States.{start_area_of, start_keeper_of}
-use Rattle.fail_stop.specs.Listed.{places_of_words}
+use Rattle.fail_stop.specs.Listed.{word_index_count}
 use Rattle.fail_stop.specs.Openings.{opening_list}
 use Rattle.fail_stop.specs.ScriptFlights.{kernel_words}
 use Rattle.fail_stop.proofs.OpeningLists.{opening_listed, opening_long}
@@ -30,7 +30,7 @@ laid mission list first areas keepers facts fits is is_first is_areas is_keepers
 pub flown_is : (mission key : MissionParts) → IsSpec mission.spec → Fits mission.spec mission.script → key ≡ mission → IsFlown key
 flown_is mission key facts fits is = rw is record { facts = facts; fits = fits }
 
-pub kept_by : (mission key : MissionParts) (id : TableId) (frames procs width : ℕ) (restarts : List (Option ℕ)) → IsSpec mission.spec → key ≡ mission → id.words ≡ places_of_words → id.slots ≡ 0
+pub kept_by : (mission key : MissionParts) (id : TableId) (frames procs width : ℕ) (restarts : List (Option ℕ)) → IsSpec mission.spec → key ≡ mission → id.words ≡ word_index_count → id.slots ≡ 0
     → frames ≡ mission.script.frames → procs ≡ length mission.spec.procs → width ≡ words mission.spec → restarts ≡ eight (restart_of mission.script) → TableKeeps key id frames procs width restarts
 kept_by mission key id frames procs width restarts facts is places slots is_frames is_procs is_width is_restarts = rw is record {
   places = places;

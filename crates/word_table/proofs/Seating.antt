@@ -13,7 +13,7 @@ use Rattle.atomic_table.specs.Table.{State, keeps, stepped}
 use Rattle.atomic_table.proofs.Lists.{at_set, set_else, set_here}
 use Rattle.fail_stop.specs.Events.{Place, At, Halted, Places, IsNext, writes, is_actor, moved, places_after, frame_after, step_after}
 use Rattle.fail_stop.specs.Flights.{Flies, Flight}
-use Rattle.fail_stop.specs.Listed.{HoldsWords, Moves, list_after, places_of_words, stored_in}
+use Rattle.fail_stop.specs.Listed.{HoldsWords, Moves, list_after, stored_in, word_index_count}
 use Rattle.fail_stop.proofs.ListLaw.{list_keeps}
 use Rattle.fail_stop.proofs.Moves.{nat_eq_other, nat_eq_self}
 use Rattle.fail_stop.proofs.ScriptBorder.{script_flies}
@@ -36,7 +36,7 @@ sound mission facts fits = record { flies = script_flies mission.spec mission.sc
 pub moves_so : (m : Flight) (at : Places) (e : Event) → Moves m at e (places_after m at e)
 moves_so m at e = record { proc = λ q. refl; frame = refl; step = refl }
 
-holds_words : (m : Flight) (list : List ℕ) → IsSound m → length list ≡ places_of_words → HoldsWords m list
+holds_words : (m : Flight) (list : List ℕ) → IsSound m → length list ≡ word_index_count → HoldsWords m list
 holds_words m list y long = record { procs = y.few; width = y.narrow; long = long }
 
 pub long_set : (l : List ℕ) (i n : ℕ) → length (slice_set l i n) ≡ length l

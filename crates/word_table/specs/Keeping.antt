@@ -4,7 +4,7 @@ use Rattle.scram_types.specs.Eights.{eight}
 use Rattle.scram_types.specs.Specification.{IsSpec}
 use Rattle.atomic_table.specs.Seated.{TableId}
 use Rattle.coverage_check.specs.Missions.{MissionParts}
-use Rattle.fail_stop.specs.Listed.{places_of_words}
+use Rattle.fail_stop.specs.Listed.{word_index_count}
 use Rattle.fault_script.specs.Fits.{Fits}
 use Rattle.fault_script.specs.Times.{restart_of, words}
 
@@ -15,7 +15,7 @@ pub record IsFlown (mission : MissionParts) : Type 0 where
 
 -- The table has a place for each word, and its numbers are those of the mission.
 pub record TableKeeps (mission : MissionParts) (table : TableId) (frames procs width : ℕ) (restarts : List (Option ℕ)) : Type 0 where
-  pub places : table.words ≡ places_of_words
+  pub places : table.words ≡ word_index_count
   pub slots : table.slots ≡ 0
   pub frames_are : frames ≡ mission.script.frames
   pub procs_are : procs ≡ length mission.spec.procs

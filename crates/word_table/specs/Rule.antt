@@ -7,7 +7,7 @@ use Rattle.coverage_check.specs.Missions.{MissionParts}
 use Rattle.fail_stop.specs.Events.{Places}
 use Rattle.fail_stop.specs.Flights.{Flight}
 use Rattle.fail_stop.specs.Kept.{Kept}
-use Rattle.fail_stop.specs.Listed.{places_of_words, stored_in}
+use Rattle.fail_stop.specs.Listed.{stored_in, word_index_count}
 use Rattle.word_table.specs.declared.actors.Actor.{Actor}
 use Rattle.word_table.specs.declared.actors.Actor.TheVariants.{Runs, Kernel}
 use Rattle.word_table.specs.declared.actors.View.{View}
@@ -49,7 +49,7 @@ pub record IsViewOf (views : List View) (o : Option ℕ) (j : ℕ) : Type 0 wher
 pub record Ruled (m : Flight) (mission : MissionParts) (s : State (Unit {0}) View) : Type 0 where
   pub at : Places
   pub home : Option ℕ → ℕ
-  pub long : length s.words ≡ places_of_words
+  pub long : length s.words ≡ word_index_count
   pub kept : Kept m at (stored_in s.words)
   pub each : (j : ℕ) (v : View) → get_elem? s.views j ≡ some v → Hosts at home j v.actors
   pub planned : (j : ℕ) (v : View) → get_elem? s.views j ≡ some v → v.actors ≢ [] → v.mission ≡ Some mission

@@ -2,7 +2,7 @@
 
 ghost use Rattle.std.specs.Prelude.{◌≡◌, ◌+◌, ◌≤◌, ◌<◌, ◌∷◌, [], length, map, slice_index, slice_index_or, ℕ};
 ghost use Rattle.std.specs.Mem.Slots.{IsFull, slots_items, slots_len};
-ghost use Rattle.fail_stop.specs.Listed.{places_of_words};
+ghost use Rattle.fail_stop.specs.Listed.{word_index_count};
 ghost use Rattle.word_table.specs.Closing.{AreLast, AreNobodysFrom, IsStoredImage};
 ghost use Rattle.word_table.specs.Tables.{AreImagesOf, AreMarksOf, AreSeatsOf, IsKernelSeatOf, actor_of, kernel_frame, kernel_steps, mission_in};
 ghost use Rattle.word_table.specs.declared.actors.Actor.TheVariants.{Kernel};
@@ -82,7 +82,7 @@ impl WordTable {
 // Returns the marks in the words, and the images that the marks name.
 fn last_words(closed: &Closed<(), Global>, procs: usize, width: usize) -> LastWords
     requires full { IsFull closed.now.words }
-    requires places { slots_len closed.now.words ≡ places_of_words }
+    requires places { slots_len closed.now.words ≡ word_index_count }
     requires procs { procs ≤ 8 }
     requires width { width ≤ 64 }
     ensures last { (p : ℕ) → p < procs → AreLast (slots_items closed.now.words) width p (slice_index result.marks p) (slice_index_or result.images p []) }
@@ -102,8 +102,8 @@ fn last_words(closed: &Closed<(), Global>, procs: usize, width: usize) -> LastWo
 // Returns the image whose words are stored from place `at` on.
 fn stored_image(closed: &Closed<(), Global>, at: usize, width: usize) -> Image
     requires full { IsFull closed.now.words }
-    requires places { slots_len closed.now.words ≡ places_of_words }
-    requires at { at + 64 ≤ places_of_words }
+    requires places { slots_len closed.now.words ≡ word_index_count }
+    requires at { at + 64 ≤ word_index_count }
     requires width { width ≤ 64 }
     ensures { IsStoredImage (slots_items closed.now.words) width at result }
 {

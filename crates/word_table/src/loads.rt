@@ -2,7 +2,7 @@
 
 ghost use Rattle.std.specs.Prelude.{◌≡◌, ◌+◌, ◌≤◌, ◌<◌, ℕ, [], Some, length, slice_index};
 ghost use Rattle.frame_model.specs.Storage.{image_bank_after};
-ghost use Rattle.fail_stop.specs.Listed.{places_of_words};
+ghost use Rattle.fail_stop.specs.Listed.{word_index_count};
 ghost use Rattle.word_table.specs.Keeping.{IsFlown};
 ghost use Rattle.word_table.specs.Plays.{IsFound};
 ghost use Rattle.word_table.specs.Reading.{AreRead, IsReader};
@@ -21,7 +21,7 @@ impl WordTable {
         requires holds { IsFlown (mission_in self.now) }
         requires mission { seat.old.me.0.mission ≡ Some (mission_in self.now) }
         requires empty { seat.old.me.1 ≡ [] }
-        requires i { i < places_of_words }
+        requires i { i < word_index_count }
         ensures table { seat.new.table_id ≡ seat.old.table_id }
         ensures same { seat.new.me ≡ seat.old.me }
         ensures found { IsFound (flight_in self.now) seat.old.me.0.actors i result }
@@ -42,7 +42,7 @@ impl WordTable {
         requires holds { IsFlown (mission_in self.now) }
         requires mission { seat.old.me.0.mission ≡ Some (mission_in self.now) }
         requires empty { seat.old.me.1 ≡ [] }
-        requires at { at + 64 ≤ places_of_words }
+        requires at { at + 64 ≤ word_index_count }
         requires from { from ≤ 1 }
         ensures table { seat.new.table_id ≡ seat.old.table_id }
         ensures same { seat.new.me ≡ seat.old.me }

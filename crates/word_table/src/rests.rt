@@ -8,7 +8,7 @@
 //! that it loaded.
 
 ghost use Rattle.std.specs.Prelude.{◌≡◌, ◌<◌};
-ghost use Rattle.fail_stop.specs.Listed.{places_of_words};
+ghost use Rattle.fail_stop.specs.Listed.{word_index_count};
 ghost use Rattle.word_table.specs.Tables.{IsSeatOf, proc_of};
 
 use crate::seats::{KSeat, Seat};
@@ -38,7 +38,7 @@ impl Sleepers {
 impl WordTable {
     /// Wakes the kernel if it sleeps on the word at place `at`, which has been stored.
     pub(crate) fn wake_kernel(&self, at: usize)
-        requires { at < places_of_words }
+        requires { at < word_index_count }
     {
         if self.sleepers.kernel.load(Ordering::SeqCst) != 0 {
             self.table.shared.wake_one(at);

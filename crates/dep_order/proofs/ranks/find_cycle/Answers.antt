@@ -52,6 +52,6 @@ loop-path-preserved c = record {
 pub returns : goal.returns
 returns c =
     closes c.args.apps.now c.loop-path.path.items c.as_slice-path.result.now c.loop-path.at c.place_of.result c.place_of_least.result
-    (take (length c.as_slice-path.result.now - c.place_of.result) (drop c.place_of.result c.as_slice-path.result.now)) c.turned.result.items
-    c.as_slice-path.ensures.value c.place_of.ensures.inside c.place_of.ensures.found refl c.place_of_least.ensures.inside c.place_of_least.ensures.least c.turned.ensures
+    (take (length c.as_slice-path.result.now - c.place_of.result) (drop c.place_of.result c.as_slice-path.result.now)) c.rotated_to.result.items
+    c.as_slice-path.ensures.value c.place_of.ensures.inside c.place_of.ensures.found refl c.place_of_least.ensures.inside c.place_of_least.ensures.least c.rotated_to.ensures
     c.loop-path.invariant.turn c.loop-path.invariant.differ

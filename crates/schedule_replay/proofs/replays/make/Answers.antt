@@ -1,7 +1,7 @@
 use Rattle.std.proofs.Common.{◌++◌, ◌∷◌, ◌∙◌, [], ℕ, List, Some, ap, subst, sym, take}
 use Rattle.std.specs.Prelude.{slice_get}
 use Rattle.bank_words.specs.declared.events.Event.{Event}
-use Rattle.event_core.specs.Cores.{flown, standing, standing_words}
+use Rattle.event_core.specs.Cores.{core_places, core_words, flown}
 use Rattle.event_core.specs.Replays.{IsReplay}
 use Rattle.fail_stop.specs.Events.{next_of_actor}
 use Rattle.event_core.proofs.Following.{fly_on}
@@ -13,15 +13,15 @@ returns-in-Err-clause-refused g c = λ list before there.
     let refused = c.in-Err.ensures.illegal in
     let count = c.events_made-index.ensures.count in
     record {
-      at = standing core;
-      words = standing_words core;
-      before = subst (λ (events : List Event). IsReplay (flown core) events (standing core) (standing_words core)) (sym (ap (λ (n : ℕ). take n list) count ∙ before)) c.events_made-index.ensures.schedule;
+      at = core_places core;
+      words = core_words core;
+      before = subst (λ (events : List Event). IsReplay (flown core) events (core_places core) (core_words core)) (sym (ap (λ (n : ℕ). take n list) count ∙ before)) c.events_made-index.ensures.schedule;
       there = ap (λ (n : ℕ). slice_get list n) count ∙ there ∙ ap (λ (e : Event). Some e) (sym refused.1);
-      next_is = refused.2 ∙ ap (λ (e : Event). next_of_actor (flown core) (standing core) (standing_words core) e) (sym refused.1);
+      next_is = refused.2 ∙ ap (λ (e : Event). next_of_actor (flown core) (core_places core) (core_words core) e) (sym refused.1);
       not_next = λ same. refused.0 (sym refused.2 ∙ same ∙ ap (λ (e : Event). Some e) refused.1);
     }
 
 pub returns-in-Ok-clause-fits : goal.returns-in-Ok-clause-fits
 returns-in-Ok-clause-fits g c =
-    fly_on c.args.core.now c.step.new.self (standing_words c.args.core.now) (standing_words c.step.new.self) c.args.event c.word_where_next-word.new.flyers c.step.ensures.spec c.step.ensures.script
+    fly_on c.args.core.now c.step.new.self (core_words c.args.core.now) (core_words c.step.new.self) c.args.event c.word_where_next-word.new.flyers c.step.ensures.spec c.step.ensures.script
     c.in-Ok.ensures.happens (c.word_where_next-word.ensures.fits c.in-Ok.ensures.next)

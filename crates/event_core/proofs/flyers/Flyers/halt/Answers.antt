@@ -1,6 +1,6 @@
 use Rattle.std.proofs.Common.{rules, ◌≡◌, refl}
 use Rattle.bank_words.specs.declared.events.Event.TheVariants.{Halt}
-use Rattle.event_core.specs.Cores.{flown, standing}
+use Rattle.event_core.specs.Cores.{core_places, flown}
 use Rattle.event_core.proofs.Following.{flyer_stopped, flyers_turn}
 use Rattle.event_core.proofs.flyers.Flyers.halt.Goals as goal
 
@@ -11,8 +11,8 @@ returns g c =
     let few = c.requires.few in
     record {
       fits = record {
-        all = rw place (flyers_turn m (standing c.args.core.now) (Halt c.args.p) c.args.self.now.all.items c.args.p.0 c.halt.new.self (λ q. refl) c.requires.fits.all few
-            (rw (c.halt.ensures, c.frame_of.ensures) (flyer_stopped m c.args.p.0 ((standing c.args.core.now).proc c.args.p.0) c.index_mut.result.now (search rules))));
+        all = rw place (flyers_turn m (core_places c.args.core.now) (Halt c.args.p) c.args.self.now.all.items c.args.p.0 c.halt.new.self (λ q. refl) c.requires.fits.all few
+            (rw (c.halt.ensures, c.frame_of.ensures) (flyer_stopped m c.args.p.0 ((core_places c.args.core.now).proc c.args.p.0) c.index_mut.result.now (search rules))));
         drafted = c.requires.fits.drafted;
       };
     }

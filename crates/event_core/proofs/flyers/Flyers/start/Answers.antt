@@ -1,6 +1,6 @@
 use Rattle.std.proofs.Common.{rules, ◌≡◌, refl}
 use Rattle.bank_words.specs.declared.events.Event.TheVariants.{Start}
-use Rattle.event_core.specs.Cores.{flown, standing, standing_words}
+use Rattle.event_core.specs.Cores.{core_places, core_words, flown}
 use Rattle.event_core.proofs.Following.{flyer_begun, flyers_turn}
 use Rattle.event_core.proofs.flyers.Flyers.start.Goals as goal
 
@@ -11,8 +11,8 @@ returns g c =
     let few = c.requires.few in
     record {
       fits = record {
-        all = rw place (flyers_turn m (standing c.args.core.now) (Start c.args.p) c.args.self.now.all.items c.args.p.0 c.start.new.self (λ q. refl) c.requires.fits.all few
-            (rw c.start.ensures (flyer_begun m (standing c.args.core.now) (standing_words c.args.core.now) c.args.p c.index_mut.result.now c.requires.known c.requires.next (search rules))));
+        all = rw place (flyers_turn m (core_places c.args.core.now) (Start c.args.p) c.args.self.now.all.items c.args.p.0 c.start.new.self (λ q. refl) c.requires.fits.all few
+            (rw c.start.ensures (flyer_begun m (core_places c.args.core.now) (core_words c.args.core.now) c.args.p c.index_mut.result.now c.requires.known c.requires.next (search rules))));
         drafted = c.requires.fits.drafted;
       };
     }

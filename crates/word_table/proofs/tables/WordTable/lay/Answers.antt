@@ -1,5 +1,5 @@
 use Rattle.std.proofs.Common.{◌≡◌, ◌∙◌, ℕ, ap, rules, List, length}
-use Rattle.fail_stop.specs.Listed.{places_of_words}
+use Rattle.fail_stop.specs.Listed.{word_index_count}
 use Rattle.fail_stop.proofs.OpeningLists.{opening_long}
 use Rattle.word_table.proofs.Laying.{flown_is, kept_by, laid}
 use Rattle.word_table.proofs.tables.WordTable.lay.Goals as goal
@@ -10,7 +10,7 @@ of_words-requires c =
 
 pub invariant_of-words : goal.invariant_of-words
 invariant_of-words c =
-    let long : length c.in_ok-stored.stored.items ≡ places_of_words = ap (λ (l : List ℕ). length l) c.in_ok-stored.ensures ∙ opening_long _ _ _ _ in
+    let long : length c.in_ok-stored.stored.items ≡ word_index_count = ap (λ (l : List ℕ). length l) c.in_ok-stored.ensures ∙ opening_long _ _ _ _ in
     let stands : c.in_ok-table.table.shared.table_id.words ≡ length c.in_ok-stored.stored.items = search rules in
     record { keeps = kept_by c.args.mission.now _ _ _ _ _ _ c.holds.ensures.spec (search rules) (stands ∙ long) (search rules) (search rules) (search rules) (search rules) (search rules) }
 

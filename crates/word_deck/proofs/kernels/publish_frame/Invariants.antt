@@ -1,6 +1,6 @@
 use Rattle.std.proofs.Common.{◌≡◌, ◌+◌}
 use Rattle.word_table.specs.Tables.{IsKernelSeatOf, kernel_frame, kernel_steps, kernel_tries}
-use Rattle.word_deck.proofs.kernels.say.Given as goal
+use Rattle.word_deck.proofs.kernels.publish_frame.Given as goal
 
 abbrev pub invariant-loop-i : goal.invariant-loop-i
 invariant-loop-i l = record {

@@ -2,7 +2,7 @@ use Rattle.std.proofs.Common.{◌+◌, ap, refl}
 use Rattle.std.specs.Prelude.{slice_index_or}
 use Rattle.word_table.specs.Tables.{mission_in, kernel_frame}
 use Rattle.word_deck.proofs.Noting.{word_said}
-use Rattle.word_deck.proofs.kernels.say.Goals as goal
+use Rattle.word_deck.proofs.kernels.publish_frame.Goals as goal
 
 pub publish-requires-clause-word : goal.publish-requires-clause-word
 publish-requires-clause-word c =
