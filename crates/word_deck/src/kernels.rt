@@ -139,7 +139,6 @@ fn note_all(words: &WordTable, procs: u32, kseat: &mut KSeat, noted: &mut Noted)
 }
 
 // Ends the frame all of whose processors have been noted, and returns the kernel image of the next frame.
-#[tactic(auto, using(crate::proofs::Noting::images_for, crate::proofs::Noting::marks_for))]
 fn end_frame(mission: &Mission, noted: &Noted, kernel: &mut Kernel) -> KernelImage
     requires frame { kernel.old.past < mission.now.script.frames }
     requires kernel { kernel.old ≡ kernel_after mission.now.spec mission.now.script kernel.old.past }

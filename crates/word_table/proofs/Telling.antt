@@ -1,6 +1,6 @@
 -- The effects of a step on a seat with a known mission and known actors.
 use Rattle.std.proofs.Common.{◌≡◌, ◌∙◌, ℕ, suc, ◌<◌, Bool, true, false, refl, ap, subst, arith, List, [], ◌∷◌, map}
-use Rattle.std.specs.Prelude.{Option, Some, IfSome, nat_lt}
+use Rattle.std.specs.Prelude.{Option, Some, IfSome, nat_eq, nat_lt}
 use Rattle.std.proofs.lemmas.Bool.Decides.{nat_tests}
 use Rattle.coverage_check.specs.Missions.{MissionParts}
 use Rattle.fail_stop.specs.Events.{At, Halted, Place, may_note}
@@ -9,7 +9,7 @@ use Rattle.word_table.specs.declared.actors.Actor.{Actor}
 use Rattle.word_table.specs.declared.actors.Actor.TheVariants.{Kernel, Runs}
 use Rattle.word_table.specs.declared.actors.View.{View}
 use Rattle.word_table.specs.Actors.{Waits, actor_at, awaited, begun, frame_awaited, mission_flight, one_more, with_actor, with_actors}
-use Rattle.word_table.specs.Plays.{AwaitsEnd, AwaitsRelease, GoesOrTries, GoesWhereItWaits, Has, IsFound, Sat, ShowsWord, TellsNote, TellsStart, can_note, each_actor, may_start}
+use Rattle.word_table.specs.Plays.{AwaitsEnd, AwaitsRelease, GoesOrTries, GoesWhereItWaits, Has, IsFound, Sat, ShowsWord, StepsIf, TellsNote, TellsStart, can_note, each_actor, may_start, word_due}
 
 pub third : {A B C : Type 0} → A × B × C → C
 third t = t.2
@@ -24,6 +24,23 @@ pub shown_to : (mission : MissionParts) (v : View) (actors : List Actor) (i n : 
 shown_to mission v actors i n planned alone shows =
     subst (λ (l : List Actor). IsFound (mission_flight mission) l i n) alone
     (subst (λ (o : Option MissionParts). IfSome o (λ mission. IsFound (mission_flight mission) v.actors i n)) planned shows)
+
+-- A load that may make a store did so exactly if it found the word that is stored.
+module _ (mission : MissionParts) (v : View) (after : Sat) (n word : ℕ) (a : Actor) (planned : v.mission ≡ Some mission) (alone : v.actors ≡ a ∷ []) (due : word_due (mission_flight mission) (a ∷ []) ≡ word)
+    (told : IfSome v.mission (λ mission. StepsIf (nat_eq n (word_due (mission_flight mission) v.actors)) v after)) where
+  repeat_told : (b : Bool) → nat_eq n word ≡ b → StepsIf b v after
+  repeat_told b is =
+      let by_mission : StepsIf (nat_eq n (word_due (mission_flight mission) v.actors)) v after =
+      subst (λ (o : Option MissionParts). IfSome o (λ mission. StepsIf (nat_eq n (word_due (mission_flight mission) v.actors)) v after)) planned told in
+      let by_actors : StepsIf (nat_eq n (word_due (mission_flight mission) (a ∷ []))) v after =
+      subst (λ (l : List Actor). StepsIf (nat_eq n (word_due (mission_flight mission) l)) v after) alone by_mission in
+      subst (λ c. StepsIf c v after) is (subst (λ w. StepsIf (nat_eq n w) v after) due by_actors)
+
+  pub repeat_left : (n ≡ word → ⊥) → Has after v
+  repeat_left other = repeat_told false (grind (arith, nat_tests, other))
+
+  pub repeat_made : n ≡ word → Has after (each_actor one_more v)
+  repeat_made same = repeat_told true (grind (arith, nat_tests, same))
 
 by_true : (b : Bool) (go : Actor → Actor) (v : View) (after : Sat) → b ≡ true → GoesOrTries b go v after → Has after (each_actor go v)
 by_true true go v after is told = told

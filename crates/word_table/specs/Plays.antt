@@ -1,9 +1,9 @@
 -- The effects of steps, as relations between a step, the seat before it, the number found and the seat after it.
-use Rattle.std.specs.Prelude.{◌≡◌, ◌<◌, ℕ, Bool, false, List, [], ◌∷◌, ◌++◌, map, slice_index, None, IfSome, nat_lt}
+use Rattle.std.specs.Prelude.{◌≡◌, ◌+◌, ◌-◌, ◌<◌, ℕ, suc, Bool, false, List, [], ◌∷◌, ◌++◌, map, slice_index, None, IfSome, nat_eq, nat_lt}
 use Rattle.std.specs.Bool.{MatchBool}
 use Rattle.atomic_table.specs.Table.{Me, Step}
 use Rattle.fail_stop.specs.Events.{At, EndWord, Halted, Places, ReleaseWord, may_note}
-use Rattle.fail_stop.specs.Flights.{Flight}
+use Rattle.fail_stop.specs.Flights.{Flight, word_in}
 use Rattle.fail_stop.specs.Kept.{Kept}
 use Rattle.fail_stop.specs.Listed.{index_of, stored_in}
 use Rattle.word_table.specs.declared.actors.Actor.{Actor}
@@ -87,6 +87,17 @@ TellsStart m i n v after = GoesWhereItWaits (AwaitsRelease m i v.actors) (may_st
 abbrev pub TellsNote : Flight → ℕ → ℕ → View → Sat → Type 0
 TellsNote m i n v after = GoesWhereItWaits (AwaitsEnd m i v.actors) (can_note m v.actors n) one_more v after
 
+-- The word that the first actor stores next, if its next step is a store into a bank or of one of the kernel's words.
+abbrev pub word_due : Flight → List Actor → ℕ
+word_due m [] = 0
+word_due m (Runs p f n ∷ rest) = word_in (m.draft p f) (n - (m.procs + 1))
+word_due m (Stopped p h ∷ rest) = 0
+word_due m (Kernel k j ∷ rest) = word_in (m.kernel_image (suc k)) (j - m.procs)
+
+-- The seat makes a step if the condition holds, and otherwise stays.
+abbrev pub StepsIf : Bool → View → Sat → Type 0
+StepsIf condition v after = MatchBool condition (Has after (each_actor one_more v)) (Has after v)
+
 -- A load that is no event shows a word and leaves the seat as it is.
 abbrev pub reads : Stepped → Sat → ℕ → Sat → Type 0
 reads s me n after = Has after me.0 × ShowsWord me.0 s.word n
@@ -107,6 +118,10 @@ notes s me n after = IfSome me.0.mission (λ mission. TellsNote (mission_flight 
 -- A store into a bank, of a mark, or of one of the kernel's words.
 abbrev pub stores : Stepped → Sat → ℕ → Sat → Type 0
 stores s me n after = Has after (each_actor one_more me.0)
+
+-- A load makes the store that is next if it finds the value to be stored, and otherwise leaves the seat.
+abbrev pub repeats : Stepped → Sat → ℕ → Sat → Type 0
+repeats s me n after = IfSome me.0.mission (λ mission. StepsIf (nat_eq n (word_due (mission_flight mission) me.0.actors)) me.0 after)
 
 -- A store of the end word of a finished frame, or of the release. After it the actor is at the begin of the next frame.
 abbrev pub finishes_frame : Stepped → Sat → ℕ → Sat → Type 0

@@ -69,6 +69,15 @@ impl Play<(), View> for Stores {
     ghost then = { stores };
 }
 
+/// A load with which a store is made if the word already has the value to be stored.
+pub struct Repeats;
+
+impl Play<(), View> for Repeats {
+    ghost use Rattle.word_table.specs.Plays.{repeats};
+
+    ghost then = { repeats };
+}
+
 /// A store of the end word of a finished frame.
 pub struct Ends;
 

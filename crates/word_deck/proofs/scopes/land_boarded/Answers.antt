@@ -1,4 +1,4 @@
-use Rattle.std.proofs.Common.{◌≡◌, ◌∙◌, ap, subst, List, [], ◌∷◌, ◌++◌, ℕ}
+use Rattle.std.proofs.Common.{◌≡◌, ◌∙◌, ap, subst, [], ◌∷◌, ◌++◌}
 use Rattle.word_table.specs.Tables.{proc_of}
 use Rattle.word_deck.specs.Flights.{numbers_boarded, numbers_in}
 use Rattle.word_deck.specs.Landing.{IsLanded}
