@@ -25,6 +25,13 @@ pub(crate) struct Regions {
     pub(crate) unruled: Vec<Cube>,
 }
 
+// A configuration of a specification, from which rules choose targets.
+#[derive(Clone, Copy)]
+struct Source<'a> {
+    spec: &'a Spec,
+    c: ConfId,
+}
+
 // Splits cubes by the rules of configuration `c`, rule by rule.
 pub(crate) fn regions_of(
     alloc: Global,
@@ -38,7 +45,7 @@ pub(crate) fn regions_of(
     let mut ruled = Vec::new(alloc);
     let mut open = cubes;
     for rule in spec.rules.items() {
-        open = apply_rule(alloc, spec, c, rule, open, &mut ruled)?;
+        open = apply_rule(alloc, &Source { spec, c }, rule, open, &mut ruled)?;
     }
     Ok(Regions {
         ruled,
@@ -49,23 +56,22 @@ pub(crate) fn regions_of(
 // Moves the environments that a rule fits from the cubes to the regions, and returns the rest.
 fn apply_rule(
     alloc: Global,
-    spec: &Spec,
-    c: ConfId,
+    source: &Source,
     rule: &Choice,
     cubes: Vec<Cube>,
     ruled: &mut Vec<Region>,
 ) -> Result<Vec<Cube>, NoMemory>
-    requires { IsSpec spec.now }
-    ensures rest { IfOk result (λ rest. Agree spec.now (is_in rest.items) (λ v. is_in cubes.items v && not (rule_fits c v rule.now))) }
-    ensures ruled { OnOk result (Rule spec.now c rule.now cubes.items ruled.old.items ruled.new.items) }
+    requires { IsSpec source.now.spec.now }
+    ensures rest { IfOk result (λ rest. Agree source.now.spec.now (is_in rest.items) (λ v. is_in cubes.items v && not (rule_fits source.now.c v rule.now))) }
+    ensures ruled { OnOk result (Rule source.now.spec.now source.now.c rule.now cubes.items ruled.old.items ruled.new.items) }
 {
-    if !is_source(rule.from, c) {
+    if !is_source(rule.from, source.c) {
         return Ok(cubes);
     }
     if cubes.is_empty() {
         return Ok(cubes);
     }
-    let parts = split_by(alloc, spec, &cubes, rule_cube(rule))?;
+    let parts = split_by(alloc, source.spec, &cubes, rule_cube(rule))?;
     assign(ruled, &parts.inside, rule.to)?;
     Ok(parts.outside)
 }

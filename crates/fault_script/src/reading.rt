@@ -10,7 +10,7 @@ ghost use Rattle.fault_script.specs.Reading.{find_members, find_value, keep, kee
 use crate::order::{change_follows, halt_follows, may_halt, restart_follows};
 use crate::version::{Version, version_of};
 use crate::{ScriptError, ScriptFault, rule};
-use scram_doc::{Elements, Path, need, no_more, object, parse, read_list, text, whole_in};
+use scram_doc::{Elements, Lengths, Path, need, no_more, object, parse, read_list, text, whole_in};
 use scram_types::limits::{MAX_CHANGES, MAX_FRAMES, MAX_SCRIPT_BYTES};
 use scram_types::{Change, FactorId, HaltAt, List, ProcId, RestartAt, Script, Spec};
 use serde_json::Value;
@@ -129,7 +129,13 @@ fn read_changes(
     requires { length at.now ≤ 30 }
     ensures { Answers (read_changes spec.now frames at.now (view v.now)) (λ changes. changes) result }
 {
-    let changes = read_list(alloc, &Changes { spec, frames }, v, 0, MAX_CHANGES, at)?;
+    let changes = read_list(
+        alloc,
+        &Changes { spec, frames },
+        v,
+        Lengths::up_to(MAX_CHANGES),
+        at,
+    )?;
     Ok(List::of(changes))
 }
 
@@ -197,7 +203,13 @@ fn read_halts(
     ensures halts { Answers (read_halts halts.now.spec.now halts.now.version halts.now.frames at.now (view v.now)) (λ halts. halts) result }
     ensures few { IfOk result (λ halts. length halts ≤ 16) }
 {
-    let halts = read_list(alloc, halts, v, 0, halts.version.halts_limit(), at)?;
+    let halts = read_list(
+        alloc,
+        halts,
+        v,
+        Lengths::up_to(halts.version.halts_limit()),
+        at,
+    )?;
     Ok(List::of(halts))
 }
 
@@ -261,7 +273,7 @@ fn read_restarts(
 {
     match v {
         Some(v) => {
-            let restarts = read_list(alloc, restarts, v, 0, 8, at)?;
+            let restarts = read_list(alloc, restarts, v, Lengths::up_to(8), at)?;
             Ok(List::of(restarts))
         }
         None => Ok(List::of(Vec::new(alloc))),

@@ -57,23 +57,39 @@ pub fn read_items<T: Drop, E: Elements<T>>(
     Ok(done)
 }
 
-/// Reads a list of `least` to `most` elements.
+/// The minimum and the maximum number of elements of a list, both inclusive.
+#[derive(Clone, Copy)]
+pub struct Lengths {
+    pub least: usize,
+    pub most: usize,
+}
+
+impl Lengths {
+    /// Returns the lengths from 0 to `most`.
+    pub fn up_to(most: usize) -> Lengths
+        ensures least { result.least ≡ 0 }
+        ensures most { result.most ≡ most }
+    {
+        Lengths { least: 0, most }
+    }
+}
+
+/// Reads a list whose length is within `lengths`.
 pub fn read_list<T: Drop, E: Elements<T>>(
     alloc: Global,
     elements: &E,
     v: &Value,
-    least: usize,
-    most: usize,
+    lengths: Lengths,
     at: &Path,
 ) -> Result<Vec<T>, DocError>
     requires room { length at.now + 6 ≤ E.room }
     requires path { length at.now ≤ 58 }
-    requires few { most ≤ 100000 }
-    ensures value { Answers (elements_at (E.reading elements.now) least most at.now (view v.now)) (λ l. l.items) result }
-    ensures least { IfOk result (λ l. least ≤ length l.items) }
-    ensures most { IfOk result (λ l. length l.items ≤ most) }
+    requires few { lengths.most ≤ 100000 }
+    ensures value { Answers (elements_at (E.reading elements.now) lengths.least lengths.most at.now (view v.now)) (λ l. l.items) result }
+    ensures least { IfOk result (λ l. lengths.least ≤ length l.items) }
+    ensures most { IfOk result (λ l. length l.items ≤ lengths.most) }
     ensures fits { IfOk result (λ l. AllAfter (E.Fits elements.now) l.items) }
 {
-    let items = list(v, least, most, at)?;
+    let items = list(v, lengths.least, lengths.most, at)?;
     read_items(alloc, elements, items, at)
 }

@@ -15,7 +15,7 @@ mod values;
 mod writers;
 
 pub use document::parse;
-pub use elements::{Elements, read_items, read_list};
+pub use elements::{Elements, Lengths, read_items, read_list};
 pub use fault::{DocError, DocFault};
 pub use members::{field, need, no_more, object};
 pub use name::name_of;

@@ -6,7 +6,7 @@ ghost use Rattle.scram_doc.specs.Faults.{Answers};
 ghost use Rattle.scram_doc.specs.Lists.{AllAfter, elements_from, elements_at};
 ghost use Rattle.scram_doc.specs.Numbering.{itself, place_named};
 
-use crate::{DocError, Path, list};
+use crate::{DocError, Lengths, Path, list};
 use indexmap::IndexSet;
 use serde_json::Value;
 use std::alloc::{AllocError, Global};
@@ -209,23 +209,22 @@ pub fn read_named_items<T: Drop, N: Naming<T>, E: NamedElements<T, N>>(
     Ok(done)
 }
 
-/// Reads a list of `least` to `most` named elements.
+/// Reads a list of named elements whose length is within `lengths`.
 pub fn read_named_list<T: Drop, N: Naming<T>, E: NamedElements<T, N>>(
     alloc: Global,
     elements: &E,
     v: &Value,
-    least: usize,
-    most: usize,
+    lengths: Lengths,
     at: &Path,
 ) -> Result<Numbered<T, N>, DocError>
     requires room { length at.now + 6 ≤ E.room }
     requires path { length at.now ≤ 58 }
-    requires few { most ≤ 100000 }
-    ensures value { Answers (elements_at (E.reading elements.now) least most at.now (view v.now)) (λ l. l) result }
-    ensures least { IfOk result (λ l. least ≤ length l) }
-    ensures most { IfOk result (λ l. length l ≤ most) }
+    requires few { lengths.most ≤ 100000 }
+    ensures value { Answers (elements_at (E.reading elements.now) lengths.least lengths.most at.now (view v.now)) (λ l. l) result }
+    ensures least { IfOk result (λ l. lengths.least ≤ length l) }
+    ensures most { IfOk result (λ l. length l ≤ lengths.most) }
     ensures fits { IfOk result (λ l. AllAfter (E.Fits elements.now) l) }
 {
-    let items = list(v, least, most, at)?;
+    let items = list(v, lengths.least, lengths.most, at)?;
     read_named_items(alloc, elements, items, at)
 }

@@ -12,8 +12,8 @@ ghost use Rattle.spec_apps.specs.Facts.{IsNewMode, IsNewApp};
 
 use app_model::{kind_named, mode_named};
 use scram_doc::{
-    DocError, DocFault, Elements, NamedElements, Numbered, Path, list, need, no_more, object,
-    read_list, text, whole_in,
+    DocError, DocFault, Elements, Lengths, NamedElements, Numbered, Path, list, need, no_more,
+    object, read_list, text, whole_in,
 };
 use scram_types::limits::{MAX_APPLICATIONS, MAX_LOAD, MAX_MODES, MAX_PHASE};
 use scram_types::{AppSpec, KindId, List, Mode, ModeSpec};
@@ -148,7 +148,16 @@ impl NamedElements<AppSpec, ByName> for Apps {
         let kind = read_kind(kind, &at.member("kind"))?;
         check_text_list(needs, &at.member("needs"))?;
         let at = at.member("modes");
-        let modes = read_list(alloc, &Modes { kind }, modes, 1, MAX_MODES, &at)?;
+        let modes = read_list(
+            alloc,
+            &Modes { kind },
+            modes,
+            Lengths {
+                least: 1,
+                most: MAX_MODES,
+            },
+            &at,
+        )?;
         Ok(AppSpec {
             name,
             kind,

@@ -21,7 +21,7 @@ use crate::{SpecError, SpecFault};
 use arrayvec::ArrayVec;
 use dep_order::{Cycle, rank};
 use scram_doc::{
-    DocError, DocFault, Elements, Numbered, Path, list, need, read_items, read_list,
+    DocError, DocFault, Elements, Lengths, Numbered, Path, list, need, read_items, read_list,
     read_named_items,
 };
 use scram_types::limits::MAX_APPLICATIONS;
@@ -85,7 +85,13 @@ impl Elements<List<AppId>> for Needs<'_> {
     ) -> Result<List<AppId>, DocError> {
         let needs = need(v, "needs", at)?;
         let at = at.member("needs");
-        let needs: Vec<AppId> = read_list(alloc, self, needs, 0, MAX_APPLICATIONS, &at)?;
+        let needs: Vec<AppId> = read_list(
+            alloc,
+            self,
+            needs,
+            Lengths::up_to(MAX_APPLICATIONS),
+            &at,
+        )?;
         Ok(List::of(needs))
     }
 }

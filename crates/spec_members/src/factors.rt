@@ -11,7 +11,9 @@ ghost use Rattle.spec_members.specs.Found.{AreMembers};
 
 use crate::members::Members;
 use crate::names::{ByName, read_new_name};
-use scram_doc::{DocError, NamedElements, Numbered, Path, need, no_more, object, read_named_list};
+use scram_doc::{
+    DocError, Lengths, NamedElements, Numbered, Path, need, no_more, object, read_named_list,
+};
 use scram_types::limits::{MAX_FACTORS, MAX_VALUES, MIN_VALUES};
 use scram_types::{Factor, List, Name};
 use serde_json::Value;
@@ -63,7 +65,16 @@ impl NamedElements<Factor, ByName> for Factors {
         no_more(v, 2, at)?;
         let name = read_new_name(done, name, &at.member("name"))?;
         let at = at.member("values");
-        let values = read_named_list(alloc, &Values, values, MIN_VALUES, MAX_VALUES, &at)?;
+        let values = read_named_list(
+            alloc,
+            &Values,
+            values,
+            Lengths {
+                least: MIN_VALUES,
+                most: MAX_VALUES,
+            },
+            &at,
+        )?;
         Ok(Factor {
             name,
             values: List::of(values.into_items()),
@@ -82,5 +93,11 @@ pub fn read_factors(
     ensures fits { IfOk result (λ l. AllAfter IsNewFactor l) }
 {
     let at = Path::root().member("factors");
-    read_named_list(alloc, &Factors, members.factors, 0, MAX_FACTORS, &at)
+    read_named_list(
+        alloc,
+        &Factors,
+        members.factors,
+        Lengths::up_to(MAX_FACTORS),
+        &at,
+    )
 }

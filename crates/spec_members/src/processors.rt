@@ -12,7 +12,8 @@ ghost use Rattle.spec_members.specs.Found.{AreMembers};
 use crate::members::Members;
 use crate::names::{ByName, read_new_name};
 use scram_doc::{
-    DocError, NamedElements, Numbered, Path, need, no_more, object, read_named_list, whole_in,
+    DocError, Lengths, NamedElements, Numbered, Path, need, no_more, object, read_named_list,
+    whole_in,
 };
 use scram_types::Proc;
 use scram_types::limits::{MAX_LOAD, MAX_PROCESSORS};
@@ -56,5 +57,14 @@ pub fn read_procs(alloc: Global, members: &Members<'_>) -> Result<Numbered<Proc,
     ensures fits { IfOk result (λ l. AllAfter IsNewProc l) }
 {
     let at = Path::root().member("processors");
-    read_named_list(alloc, &Procs, members.procs, 1, MAX_PROCESSORS, &at)
+    read_named_list(
+        alloc,
+        &Procs,
+        members.procs,
+        Lengths {
+            least: 1,
+            most: MAX_PROCESSORS,
+        },
+        &at,
+    )
 }

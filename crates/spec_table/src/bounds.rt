@@ -13,7 +13,8 @@ ghost use Rattle.spec_members.specs.Found.{AreMembers};
 use crate::choices::read_conf_id;
 use crate::vocabulary::Vocabulary;
 use scram_doc::{
-    DocError, DocFault, Elements, Numbered, Path, need, no_more, object, read_list, whole_in,
+    DocError, DocFault, Elements, Lengths, Numbered, Path, need, no_more, object, read_list,
+    whole_in,
 };
 use scram_types::limits::{MAX_BOUND, MAX_BOUNDS};
 use scram_types::{Bound, Conf, ConfId};
@@ -103,8 +104,7 @@ pub fn read_bounds(
         alloc,
         &Bounds { vocabulary },
         members.bounds,
-        0,
-        MAX_BOUNDS,
+        Lengths::up_to(MAX_BOUNDS),
         &at,
     )
 }

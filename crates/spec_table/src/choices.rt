@@ -17,7 +17,7 @@ ghost use Rattle.spec_members.specs.Found.{AreMembers};
 use crate::sets::read_procs_set;
 use crate::vocabulary::Vocabulary;
 use scram_doc::{
-    DocError, DocFault, Elements, Numbered, Path, need, no_more, object, read_list, text,
+    DocError, DocFault, Elements, Lengths, Numbered, Path, need, no_more, object, read_list, text,
 };
 use scram_types::limits::{MAX_FACTORS, MAX_RULES};
 use scram_types::{Choice, Conf, ConfId, Factor, FactorId, List, Want};
@@ -163,8 +163,8 @@ impl Elements<Choice> for Choices<'_> {
         let vocabulary = self.vocabulary;
         let confs = &vocabulary.confs;
         let from = read_source(confs, from, &at.member("from"))?;
-        let known = Wants { vocabulary };
-        let wants = read_list(alloc, &known, wants, 0, MAX_FACTORS, &at.member("when"))?;
+        let few = Lengths::up_to(MAX_FACTORS);
+        let wants = read_list(alloc, &Wants { vocabulary }, wants, few, &at.member("when"))?;
         let procs = &vocabulary.procs;
         let up = read_procs_set(procs, 0, up, &at.member("up"))?;
         let to = read_conf_id(confs, to, &at.member("to"))?;
@@ -194,8 +194,7 @@ pub fn read_choices(
         alloc,
         &Choices { vocabulary },
         members.rules,
-        0,
-        MAX_RULES,
+        Lengths::up_to(MAX_RULES),
         &at,
     )
 }

@@ -12,7 +12,8 @@ ghost use Rattle.spec_table.specs.Facts.{ListsMode, IsPlacedAfter, ArePlaces, Is
 ghost use Rattle.spec_members.specs.Found.{AreMembers};
 
 use scram_doc::{
-    DocError, DocFault, NamedElements, Numbered, Path, list, need, no_more, object, read_named_list,
+    DocError, DocFault, Lengths, NamedElements, Numbered, Path, list, need, no_more, object,
+    read_named_list,
 };
 use scram_types::limits::{MAX_APPLICATIONS, MAX_CONFIGURATIONS};
 use scram_types::{AppId, AppSpec, Conf, Mode, Place, Proc, ProcId};
@@ -179,8 +180,10 @@ pub fn read_confs(
         alloc,
         &Confs { procs, apps },
         members.confs,
-        1,
-        MAX_CONFIGURATIONS,
+        Lengths {
+            least: 1,
+            most: MAX_CONFIGURATIONS,
+        },
         &at,
     )
 }

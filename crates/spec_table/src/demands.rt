@@ -16,8 +16,8 @@ use crate::configurations::read_listed_mode;
 use crate::sets::{read_apps_set, read_confs_set, read_procs_set};
 use crate::vocabulary::Vocabulary;
 use scram_doc::{
-    DocError, DocFault, NamedElements, Numbered, Path, list, need, no_more, object, read_list,
-    read_named_list,
+    DocError, DocFault, Lengths, NamedElements, Numbered, Path, list, need, no_more, object,
+    read_list, read_named_list,
 };
 use scram_types::limits::{MAX_APPLICATIONS, MAX_DEMANDS, MAX_FACTORS, MAX_MODES};
 use scram_types::{AppId, AppSpec, Demand, List, Mode, Modes};
@@ -230,8 +230,8 @@ impl NamedElements<Demand, ByName> for Demands<'_> {
         let vocabulary = self.vocabulary;
         let name = read_new_name(done, name, &at.member("name"))?;
         let from = read_confs_set(&vocabulary.confs, from, &at.member("from"))?;
-        let known = Wants { vocabulary };
-        let wants = read_list(alloc, &known, wants, 0, MAX_FACTORS, &at.member("when"))?;
+        let few = Lengths::up_to(MAX_FACTORS);
+        let wants = read_list(alloc, &Wants { vocabulary }, wants, few, &at.member("when"))?;
         let members = RequirementMembers {
             up,
             down,
@@ -272,6 +272,12 @@ pub fn read_demands(
     ensures few { IfOk result (λ l. length l.items ≤ 64) }
     ensures fits { IfOk result (λ l. AllAfter (IsNewDemand vocabulary.now.procs vocabulary.now.apps vocabulary.now.confs vocabulary.now.factors) l.items) }
 {
-    let demands = read_named_list(alloc, &Demands { vocabulary }, v, 0, MAX_DEMANDS, at)?;
+    let demands = read_named_list(
+        alloc,
+        &Demands { vocabulary },
+        v,
+        Lengths::up_to(MAX_DEMANDS),
+        at,
+    )?;
     Ok(demands.into_items())
 }

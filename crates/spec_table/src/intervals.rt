@@ -14,7 +14,8 @@ use crate::choices::{read_conf_id, read_source};
 use crate::vocabulary::Vocabulary;
 use app_model::variable_named;
 use scram_doc::{
-    DocError, DocFault, Elements, Numbered, Path, int_in, need, no_more, object, read_list, text,
+    DocError, DocFault, Elements, Lengths, Numbered, Path, int_in, need, no_more, object,
+    read_list, text,
 };
 use scram_types::limits::{MAX_INTERVAL_END, MAX_INTERVALS};
 use scram_types::{AppId, AppSpec, Invariant, Precondition};
@@ -216,7 +217,13 @@ pub fn read_invariants(
 {
     let at = Path::root().member("invariants");
     let intervals = Intervals { vocabulary };
-    read_list(alloc, &intervals, members.invariants, 0, MAX_INTERVALS, &at)
+    read_list(
+        alloc,
+        &intervals,
+        members.invariants,
+        Lengths::up_to(MAX_INTERVALS),
+        &at,
+    )
 }
 
 /// Reads the preconditions of a document, 0 to 64 of them.
@@ -237,8 +244,7 @@ pub fn read_preconditions(
         alloc,
         &intervals,
         members.preconditions,
-        0,
-        MAX_INTERVALS,
+        Lengths::up_to(MAX_INTERVALS),
         &at,
     )
 }

@@ -4,7 +4,7 @@ use Rattle.spec_table.proofs.choices.ChoicesElementsChoice.read.Goals as goal
 pub returns-clause-fits : goal.returns-clause-fits
 returns-clause-fits c = rw (c.of.ensures) (record {
   from = search rules;
-  few = c.in_ok-wants-2.ensures.most;
+  few = search rules;
   wants = c.in_ok-wants-2.ensures.fits;
   up = search rules;
   to = search rules;

@@ -5,7 +5,7 @@ pub returns-clause-fits : goal.returns-clause-fits
 returns-clause-fits c = rw (c.of.ensures) (record {
   name = c.in_ok-name-2.ensures.fresh;
   from = search rules;
-  few = c.in_ok-wants-2.ensures.most;
+  few = search rules;
   wants = c.in_ok-wants-2.ensures.fits;
   asked = c.in_ok-up-2.ensures.fits;
 })
