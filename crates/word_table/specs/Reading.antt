@@ -24,3 +24,9 @@ pub record AreRead (m : Flight) (actors : List Actor) (at from to : ℕ) (image 
   pub long : length image ≡ 64
   pub read : (i : ℕ) → from ≤ i → i < to → IsWordRead m actors (at + i) (slice_index_or image i (pos 0))
   pub past : (i : ℕ) → to ≤ i → slice_index_or image i (pos 0) ≡ pos 0
+
+-- The numbers of an image from `from` up to `to` have become zero, and those below `from` are as before.
+pub record AreCleared (from to : ℕ) (before after : List ℤ) : Type 0 where
+  pub long : length after ≡ length before
+  pub kept : (i : ℕ) → i < from → slice_index_or after i (pos 0) ≡ slice_index_or before i (pos 0)
+  pub past : (i : ℕ) → from ≤ i → i < to → slice_index_or after i (pos 0) ≡ pos 0

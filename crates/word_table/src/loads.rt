@@ -5,7 +5,7 @@ ghost use Rattle.frame_model.specs.Storage.{image_bank_after};
 ghost use Rattle.fail_stop.specs.Listed.{word_index_count};
 ghost use Rattle.word_table.specs.Keeping.{IsFlown};
 ghost use Rattle.word_table.specs.Plays.{IsFound};
-ghost use Rattle.word_table.specs.Reading.{AreRead, IsReader};
+ghost use Rattle.word_table.specs.Reading.{AreCleared, AreRead, IsReader};
 ghost use Rattle.word_table.specs.Tables.{flight_in, mission_in};
 
 use crate::actors::{Reads, View};
@@ -49,13 +49,10 @@ impl WordTable {
         ensures read { AreRead (flight_in self.now) seat.old.me.0.actors at from (flight_in self.now).width image.new }
     {
         let width = self.width as usize;
-        for i in from..64 {
-            if i < width {
-                image[i] = decode(self.load(seat, at + i));
-            } else {
-                image[i] = 0;
-            }
+        for i in from..width {
+            image[i] = decode(self.load(seat, at + i));
         }
+        clear_from(image, width);
     }
 
     /// Returns the bank of a processor that a reader in a frame reads.
@@ -91,5 +88,14 @@ impl WordTable {
             words[i] = self.load(seat, kernel_index(i));
         }
         words
+    }
+}
+
+// Makes the numbers of an image from number `from` on zero. A loop of its own compiles to one call of `memset`.
+fn clear_from(image: &mut Image, from: usize)
+    ensures { AreCleared from 64 image.old image.new }
+{
+    for i in from..64 {
+        image[i] = 0;
     }
 }

@@ -7,5 +7,5 @@ abbrev pub invariant-loop-i : goal.invariant-loop-i
 invariant-loop-i l = record {
   table : l.seat.table_id ≡ l.fn.seat.table_id;
   same : l.seat.me ≡ l.fn.seat.me;
-  read : AreReadBelow (flight_in l.self) l.fn.seat.me.0.actors l.at l.from (flight_in l.self).width l.i l.image;
+  read : AreReadBelow (flight_in l.self) l.fn.seat.me.0.actors l.at l.from l.i l.image;
 }
