@@ -35,31 +35,31 @@ use Rattle.condition_breaks.specs.declared.breaks.Break.TheVariants as broken
 use Rattle.condition_breaks.specs.declared.breaks.Unheld.{Unheld}
 use Rattle.condition_breaks.specs.declared.breaks.Way.{Way}
 use Rattle.condition_breaks.specs.Breaks.{bound_break, bound_breaks_from, breaks, demand_break, demand_break_of, demand_breaks_in, invariant_break, load_break, load_breaks_in, need_break, need_breaks_in, need_breaks_of, precondition_break, shape_break, unentered_of, unheld, unheld_of, unmet_break, unmet_breaks}
-use Rattle.condition_breaks.specs.Complete.{Contains, HasEach, NoneIsLeftOut}
+use Rattle.condition_breaks.specs.Complete.{HasPlace, HasEach, NoneIsLeftOut}
 use Rattle.condition_breaks.specs.Form.{first_twin, is_need_off}
 use Rattle.condition_breaks.specs.Lists.{gathered_below, one_if}
 use Rattle.condition_breaks.specs.Ranges.{all_ways, first_unheld, hull_of, interval, range_on}
 use Rattle.condition_breaks.proofs.WayRanges.{unheld_shown}
 
-last_part : (xs ys : List Break) (i : ℕ) (place : Break) → slice_get ys i ≡ Some place → Contains (xs ++ ys) place
+last_part : (xs ys : List Break) (i : ℕ) (place : Break) → slice_get ys i ≡ Some place → HasPlace (xs ++ ys) place
 last_part [] ys i place there = (i, there)
 last_part (x ∷ xs) ys i place there = let more = last_part xs ys i place there in (suc more.0, more.1)
 
-in_first : (xs ys : List Break) (place : Break) → Contains xs place → Contains (xs ++ ys) place
+in_first : (xs ys : List Break) (place : Break) → HasPlace xs place → HasPlace (xs ++ ys) place
 in_first xs ys place stands = (stands.0, first_part xs ys stands.0 place stands.1)
 
-in_gathered : (items : ℕ → List Break) (n k : ℕ) (place : Break) → k < n → Contains (items k) place → Contains (gathered_below items n) place
+in_gathered : (items : ℕ → List Break) (n k : ℕ) (place : Break) → k < n → HasPlace (items k) place → HasPlace (gathered_below items n) place
 in_gathered items zero k place less stands = absurd (omega (arith, less))
 in_gathered items (suc n) k place less stands = elim (below_or_at k n less) [
   | inl lower ↦ in_first (gathered_below items n) (items n) place (in_gathered items n k place lower stands)
-  | inr same ↦ (let here = subst (λ (m : ℕ). Contains (items m) place) same stands in last_part (gathered_below items n) (items n) here.0 place here.1)
+  | inr same ↦ (let here = subst (λ (m : ℕ). HasPlace (items m) place) same stands in last_part (gathered_below items n) (items n) here.0 place here.1)
 ]
 
-in_one : (b : Bool) (place : Break) → b ≡ true → Contains (one_if b place) place
+in_one : (b : Bool) (place : Break) → b ≡ true → HasPlace (one_if b place) place
 in_one true place e = (0, refl)
 in_one false place e = absurd (cc)
 
-in_mapped : {A : Type 0} (f : A → Break) (o : Option A) (x : A) → o ≡ Some x → Contains (option_to_list (option_map f o)) (f x)
+in_mapped : {A : Type 0} (f : A → Break) (o : Option A) (x : A) → o ≡ Some x → HasPlace (option_to_list (option_map f o)) (f x)
 in_mapped f o x e = rw e (0, refl)
 
 -- a search that finds something
@@ -79,22 +79,22 @@ module _ (spec : Parts) where
   shape_break_of c empty =
       if empty then broken.NothingOn (conf_id c) ∷ [] else option_to_list (option_map (λ (d : ConfId). broken.SameAgain (conf_id c) d) (first_twin spec c))
 
-  empty_stands : (c : ℕ) → is_empty spec (conf_id c) ≡ true → Contains (shape_break spec c) (broken.NothingOn (conf_id c))
+  empty_stands : (c : ℕ) → is_empty spec (conf_id c) ≡ true → HasPlace (shape_break spec c) (broken.NothingOn (conf_id c))
   unfolding shape_break_of
-  empty_stands c e = subst (λ (empty : Bool). Contains (shape_break_of c empty) (broken.NothingOn (conf_id c))) (sym e) (0, refl)
+  empty_stands c e = subst (λ (empty : Bool). HasPlace (shape_break_of c empty) (broken.NothingOn (conf_id c))) (sym e) (0, refl)
 
   twin_stands : (c d : ℕ) → d < c → is_empty spec (conf_id c) ≡ false → is_same spec (conf_id c) (conf_id d) ≡ true
-      → (twin : ConfId) × Contains (shape_break spec c) (broken.SameAgain (conf_id c) twin)
+      → (twin : ConfId) × HasPlace (shape_break spec c) (broken.SameAgain (conf_id c) twin)
   unfolding shape_break_of
   twin_stands c d less full same =
       let twin = some_below (λ n. shown_if (is_same spec (conf_id c) (conf_id n)) (conf_id n)) c d (conf_id d) less (is_shown (is_same spec (conf_id c) (conf_id d)) (conf_id d) same) in (
         twin.0,
-        subst (λ (empty : Bool). Contains (shape_break_of c empty) (broken.SameAgain (conf_id c) twin.0)) (sym full)
+        subst (λ (empty : Bool). HasPlace (shape_break_of c empty) (broken.SameAgain (conf_id c) twin.0)) (sym full)
             (in_mapped (λ (one : ConfId). broken.SameAgain (conf_id c) one) (first_twin spec c) twin.0 twin.1),
       )
 
   unmet_stands : (asked : Requirement) (c n : ℕ) → c < length spec.confs → n < environments spec → is_number_in_scope spec n ≡ true
-      → is_unmet spec asked (conf_id c) (numbered spec n) ≡ true → (v : Env) × Contains (unmet_breaks spec asked) (broken.Unmet asked (conf_id c) v)
+      → is_unmet spec asked (conf_id c) (numbered spec n) ≡ true → (v : Env) × HasPlace (unmet_breaks spec asked) (broken.Unmet asked (conf_id c) v)
   unmet_stands asked c n inside less scope unmet =
       let first = passes_somewhere (is_unmet spec asked (conf_id c)) n less scope unmet in (
         first.0,
@@ -102,7 +102,7 @@ module _ (spec : Parts) where
             (in_mapped (λ (v : Env). broken.Unmet asked (conf_id c) v) (first_unmet_env spec asked (conf_id c)) first.0 first.1),
       )
 
-  by_number : (asked : Requirement) (place : Break) → Contains (unmet_breaks spec asked) place → Contains (breaks spec (number_of_requirement asked)) place
+  by_number : (asked : Requirement) (place : Break) → HasPlace (unmet_breaks spec asked) place → HasPlace (breaks spec (number_of_requirement asked)) place
   by_number requirement.HasRule place stands = stands
   by_number requirement.CanRun place stands = stands
   by_number requirement.Stays place stands = stands
@@ -112,7 +112,7 @@ module _ (spec : Parts) where
   mapped_some f (Some x) y e = (x, refl)
 
   unheld_stands : (k i : ℕ) (inv : Invariant) → slice_get spec.invariants k ≡ Some inv → i < length spec.confs → breaks_from spec inv (conf_id i) ≡ true
-      → (found : Unheld) × (found.invariant ≡ k) × Contains (breaks spec 11) (broken.Unheld found)
+      → (found : Unheld) × (found.invariant ≡ k) × HasPlace (breaks spec 11) (broken.Unheld found)
   unheld_stands k i inv there inside breaks =
       let shown = some_below (λ n. shown_if (breaks_from spec inv (conf_id n)) (shown_at 11 n (other.Item k))) (length spec.confs) i (shown_at 11 i (other.Item k)) inside
       (is_shown (breaks_from spec inv (conf_id i)) (shown_at 11 i (other.Item k)) breaks) in
@@ -122,29 +122,29 @@ module _ (spec : Parts) where
         found,
         refl,
         in_gathered (invariant_break spec) (length spec.invariants) k (broken.Unheld found) (slice_get_within spec.invariants k inv there)
-            (subst (λ (o : Option Invariant). Contains (option_to_list (option_map_or (unheld_of spec k) o None)) (broken.Unheld found)) (sym there)
+            (subst (λ (o : Option Invariant). HasPlace (option_to_list (option_map_or (unheld_of spec k) o None)) (broken.Unheld found)) (sym there)
             (in_mapped (unheld spec k inv) (first_unheld spec inv (all_ways spec)) way.0 way.1)),
       )
 
-  in_shown : (b : Bool) (place : Break) → b ≡ true → Contains (option_to_list (shown_if b place)) place
+  in_shown : (b : Bool) (place : Break) → b ≡ true → HasPlace (option_to_list (shown_if b place)) place
   in_shown true place e = (0, refl)
   in_shown false place e = absurd (cc)
 
   precondition_stands : (k : ℕ) (pre : Precondition) → slice_get spec.preconditions k ≡ Some pre → breaks_entering spec pre ≡ true
-      → Contains (breaks spec 12) (broken.PreconditionMissed k)
+      → HasPlace (breaks spec 12) (broken.PreconditionMissed k)
   precondition_stands k pre there breaks =
       in_gathered (precondition_break spec) (length spec.preconditions) k (broken.PreconditionMissed k) (slice_get_within spec.preconditions k pre there)
-      (subst (λ (o : Option Precondition). Contains (option_to_list (option_map_or (unentered_of spec k) o None)) (broken.PreconditionMissed k)) (sym there)
+      (subst (λ (o : Option Precondition). HasPlace (option_to_list (option_map_or (unentered_of spec k) o None)) (broken.PreconditionMissed k)) (sym there)
       (in_shown (breaks_entering spec pre) (broken.PreconditionMissed k) breaks))
 
   demand_stands : (c k n : ℕ) (demand : Demand) → c < length spec.confs → slice_get spec.demands k ≡ Some demand → n < environments spec
-      → is_number_in_scope spec n ≡ true → misses spec demand (conf_id c) (numbered spec n) ≡ true → (v : Env) × Contains (breaks spec 13) (broken.DemandMissed (conf_id c) k v)
+      → is_number_in_scope spec n ≡ true → misses spec demand (conf_id c) (numbered spec n) ≡ true → (v : Env) × HasPlace (breaks spec 13) (broken.DemandMissed (conf_id c) k v)
   demand_stands c k n demand inside there less scope missed =
       let first = passes_somewhere (misses spec demand (conf_id c)) n less scope missed in (
         first.0,
         in_gathered (demand_breaks_in spec) (length spec.confs) c (broken.DemandMissed (conf_id c) k first.0) inside
             (in_gathered (demand_break spec c) (length spec.demands) k (broken.DemandMissed (conf_id c) k first.0) (slice_get_within spec.demands k demand there)
-            (subst (λ (o : Option Demand). Contains (option_map_or (demand_break_of spec c k) o []) (broken.DemandMissed (conf_id c) k first.0)) (sym there)
+            (subst (λ (o : Option Demand). HasPlace (option_map_or (demand_break_of spec c k) o []) (broken.DemandMissed (conf_id c) k first.0)) (sym there)
             (in_mapped (λ (v : Env). broken.DemandMissed (conf_id c) k v) (first_missed_env spec demand (conf_id c)) first.0 first.1))),
       )
 

@@ -20,35 +20,35 @@ use Rattle.condition_breaks.specs.declared.breaks.Unheld.{Unheld}
 use Rattle.condition_breaks.specs.Breaks.{breaks}
 use Rattle.condition_breaks.specs.Form.{is_need_off}
 
--- A list contains a place.
-abbrev pub Contains : List Break → Break → Type 0
-Contains found place = (i : ℕ) × (slice_get found i ≡ Some place)
+-- A list of breaks has a place.
+abbrev pub HasPlace : List Break → Break → Type 0
+HasPlace found place = (i : ℕ) × (slice_get found i ≡ Some place)
 
 -- Wherever a condition does not hold, its place is among those of the condition. One place represents all equal
 -- configurations, all environments and all sources of an invariant.
 pub record HasEach (spec : Parts) : Type 0 where
   pub needs : (c a b : ℕ) → c < length spec.confs → a < length spec.apps → b < length spec.apps → is_need_off spec (conf_id c) a b ≡ true
-      → Contains (breaks spec 1) (broken.NeedOff (conf_id c) (app_id a) (app_id b))
-  pub states : has_too_many_states spec ≡ true → Contains (breaks spec 2) broken.ManyStates
-  pub empty : (c : ℕ) → c < length spec.confs → is_empty spec (conf_id c) ≡ true → Contains (breaks spec 3) (broken.NothingOn (conf_id c))
+      → HasPlace (breaks spec 1) (broken.NeedOff (conf_id c) (app_id a) (app_id b))
+  pub states : has_too_many_states spec ≡ true → HasPlace (breaks spec 2) broken.ManyStates
+  pub empty : (c : ℕ) → c < length spec.confs → is_empty spec (conf_id c) ≡ true → HasPlace (breaks spec 3) (broken.NothingOn (conf_id c))
   pub twins : (c d : ℕ) → c < length spec.confs → d < c → is_empty spec (conf_id c) ≡ false → is_same spec (conf_id c) (conf_id d) ≡ true
-      → (twin : ConfId) × Contains (breaks spec 3) (broken.SameAgain (conf_id c) twin)
+      → (twin : ConfId) × HasPlace (breaks spec 3) (broken.SameAgain (conf_id c) twin)
   pub loads : (c p : ℕ) → c < length spec.confs → p < length spec.procs → is_overloaded spec (conf_id c) p ≡ true
-      → Contains (breaks spec 4) (broken.Overloaded (conf_id c) (proc_id p))
+      → HasPlace (breaks spec 4) (broken.Overloaded (conf_id c) (proc_id p))
   pub unmet : (asked : Requirement) (c n : ℕ) → c < length spec.confs → n < environments spec → is_number_in_scope spec n ≡ true
       → is_unmet spec asked (conf_id c) (numbered spec n) ≡ true
-      → (v : Env) × Contains (breaks spec (number_of_requirement asked)) (broken.Unmet asked (conf_id c) v)
-  pub start : leaves_start spec ≡ true → Contains (breaks spec 8) broken.StartLeft
+      → (v : Env) × HasPlace (breaks spec (number_of_requirement asked)) (broken.Unmet asked (conf_id c) v)
+  pub start : leaves_start spec ≡ true → HasPlace (breaks spec 8) broken.StartLeft
   pub bounds : (i j : ℕ) → i < length spec.confs → j < length spec.confs → lacks_bound spec (conf_id i) j ≡ true
-      → Contains (breaks spec 9) (broken.BoundLacking (conf_id i) (conf_id j))
-  pub window : has_short_window spec ≡ true → Contains (breaks spec 10) broken.WindowShort
+      → HasPlace (breaks spec 9) (broken.BoundLacking (conf_id i) (conf_id j))
+  pub window : has_short_window spec ≡ true → HasPlace (breaks spec 10) broken.WindowShort
   pub invariants : (k i : ℕ) (inv : Invariant) → slice_get spec.invariants k ≡ Some inv → i < length spec.confs → breaks_from spec inv (conf_id i) ≡ true
-      → (found : Unheld) × (found.invariant ≡ k) × Contains (breaks spec 11) (broken.Unheld found)
+      → (found : Unheld) × (found.invariant ≡ k) × HasPlace (breaks spec 11) (broken.Unheld found)
   pub preconditions : (k : ℕ) (pre : Precondition) → slice_get spec.preconditions k ≡ Some pre → breaks_entering spec pre ≡ true
-      → Contains (breaks spec 12) (broken.PreconditionMissed k)
+      → HasPlace (breaks spec 12) (broken.PreconditionMissed k)
   pub demands : (c k n : ℕ) (demand : Demand) → c < length spec.confs → slice_get spec.demands k ≡ Some demand → n < environments spec
       → is_number_in_scope spec n ≡ true → misses spec demand (conf_id c) (numbered spec n) ≡ true
-      → (v : Env) × Contains (breaks spec 13) (broken.DemandMissed (conf_id c) k v)
+      → (v : Env) × HasPlace (breaks spec 13) (broken.DemandMissed (conf_id c) k v)
 
 -- No place is left out.
 abbrev pub NoneIsLeftOut : Type 0

@@ -19,7 +19,7 @@ use Rattle.word_table.specs.declared.actors.Actor.{Actor}
 use Rattle.word_table.specs.declared.actors.Actor.TheVariants.{Runs, Stopped, Kernel}
 use Rattle.word_table.specs.declared.actors.View.{View}
 use Rattle.word_table.specs.Actors.{Waits, actor_at, awaited, begun, halted_actor, mission_flight, next_frame, one_more, restart_or, tried}
-use Rattle.word_table.specs.Plays.{AwaitsEnd, AwaitsRelease, GoesWhereItWaits, Has, Sat, StepsIf, TellsNote, TellsStart, can_note, each_actor, finishes_frame, halts, looks, may_start, notes, reads, repeats, starts, stores, word_due}
+use Rattle.word_table.specs.Plays.{AwaitsEnd, AwaitsRelease, GoesWhereItWaits, Has, Sat, StepsIf, TellsNote, TellsStart, can_note, confirms, each_actor, finishes_frame, halts, looks, may_start, notes, reads, starts, stores, word_due}
 use Rattle.word_table.specs.Rule.{Ruled}
 use Rattle.word_table.proofs.Seating.{IsSound, kernel_by, kernel_stands, loaded, set_same, shown, stands, stepped_by}
 
@@ -32,19 +32,19 @@ module _ (mission : MissionParts) (slots id : ℕ) (me : Sat) (y : IsSound (miss
   read_allows i planned = λ s r homes here small.
       (me.0, keeps, tt, loaded m mission s id me.0 y r here me.0 i refl refl, ((refl, empty), shown mission s id me.0 i r here planned))
 
-  -- a load that makes the store of its actor, if the word has the value to be stored
+  -- a load that confirms the store of its actor
   module _ (a : Actor) (v : ℕ) (alone : me.0.actors ≡ a ∷ []) (planned : me.0.mission ≡ Some mission) (due : word_due m (a ∷ []) ≡ v) where
-    repeat_told : (i : ℕ) (w : View) (n : ℕ) (b : Bool) → nat_eq n v ≡ b → MatchBool b (Has (w, me.1) (each_actor one_more me.0)) (Has (w, me.1) me.0) → repeats (step slots i 0 0 none) me n (w, me.1)
-    repeat_told i w n b is told =
+    confirm_told : (i : ℕ) (w : View) (n : ℕ) (b : Bool) → nat_eq n v ≡ b → MatchBool b (Has (w, me.1) (each_actor one_more me.0)) (Has (w, me.1) me.0) → confirms (step slots i 0 0 none) me n (w, me.1)
+    confirm_told i w n b is told =
         subst (λ (o : Option MissionParts). IfSome o (λ mission. StepsIf (nat_eq n (word_due (mission_flight mission) me.0.actors)) me.0 (w, me.1))) (sym planned)
         (subst (λ (actors : List Actor). StepsIf (nat_eq n (word_due m actors)) me.0 (w, me.1)) (sym alone) (rw (due, is) told))
 
-    repeat_by : (i : ℕ) (s : State (Unit {0}) View) (r : Ruled m mission s) → get_elem? s.views id ≡ some me.0 → (slice_index s.words i ≡ v → Ruled m mission (stepped s i (slice_index s.words i) id me.1 (each_actor one_more me.0) keeps))
+    confirm_by : (i : ℕ) (s : State (Unit {0}) View) (r : Ruled m mission s) → get_elem? s.views id ≡ some me.0 → (slice_index s.words i ≡ v → Ruled m mission (stepped s i (slice_index s.words i) id me.1 (each_actor one_more me.0) keeps))
         → (b : Bool) → nat_eq (slice_index s.words i) v ≡ b
-        → (w : View) × (act : Act (Unit {0})) × Valid s.homes me.1 act × Ruled m mission (stepped s i (slice_index s.words i) id me.1 w act) × repeats (step slots i 0 0 none) me (slice_index s.words i) (w, carried_after me.1 act)
-    repeat_by i s r here made false b = (me.0, keeps, tt, loaded m mission s id me.0 y r here me.0 i refl refl, repeat_told i me.0 (slice_index s.words i) false b (refl, empty))
-    repeat_by i s r here made true b =
-        (each_actor one_more me.0, keeps, tt, made (grind (arith, nat_tests, b)), repeat_told i (each_actor one_more me.0) (slice_index s.words i) true b (refl, empty))
+        → (w : View) × (act : Act (Unit {0})) × Valid s.homes me.1 act × Ruled m mission (stepped s i (slice_index s.words i) id me.1 w act) × confirms (step slots i 0 0 none) me (slice_index s.words i) (w, carried_after me.1 act)
+    confirm_by i s r here made false b = (me.0, keeps, tt, loaded m mission s id me.0 y r here me.0 i refl refl, confirm_told i me.0 (slice_index s.words i) false b (refl, empty))
+    confirm_by i s r here made true b =
+        (each_actor one_more me.0, keeps, tt, made (grind (arith, nat_tests, b)), confirm_told i (each_actor one_more me.0) (slice_index s.words i) true b (refl, empty))
 
   module _ (p f n : ℕ) (l : p < m.procs) (alone : me.0.actors ≡ Runs p f (suc n) ∷ []) where
     -- the load that is a look
@@ -80,13 +80,13 @@ module _ (mission : MissionParts) (slots id : ℕ) (me : Sat) (y : IsSound (miss
           (refl, empty),
         )
 
-    pub repeat_store_allows : (x i v : ℕ) → me.0.mission ≡ Some mission → plan m p f (suc n) ≡ Some (Store (proc_id p) x) → suc n ≡ m.procs + 1 + x → x < m.width → i ≡ index_of (BankWord p (1 - side m p f) x) → v ≡ word_in (m.draft p f) x
-        → Allows (Ruled m mission) slots id me i (λ n. n) (repeats (step slots i 0 0 none) me)
-    repeat_store_allows x i v planned next steps low place value = λ s r homes here small.
+    pub confirm_store_allows : (x i v : ℕ) → me.0.mission ≡ Some mission → plan m p f (suc n) ≡ Some (Store (proc_id p) x) → suc n ≡ m.procs + 1 + x → x < m.width → i ≡ index_of (BankWord p (1 - side m p f) x) → v ≡ word_in (m.draft p f) x
+        → Allows (Ruled m mission) slots id me i (λ n. n) (confirms (step slots i 0 0 none) me)
+    confirm_store_allows x i v planned next steps low place value = λ s r homes here small.
         let there : r.at.proc p ≡ At f (suc n) = stands m mission s id me.0 y r here p (At f (suc n)) alone in
         let go : IsNext m r.at (stored_in s.words) (Store (proc_id p) x) = rw (lt-ltb p m.procs l, there) next in
         let left : suc n - (m.procs + 1) ≡ x = omega (arith, steps) in
-        repeat_by (Runs p f (suc n)) v alone planned (ap (word_in (m.draft p f)) left ∙ sym value) i s r here
+        confirm_by (Runs p f (suc n)) v alone planned (ap (word_in (m.draft p f)) left ∙ sym value) i s r here
         (λ found. stepped_by m mission s id me.0 y r here p (At f (suc n)) alone (Store (proc_id p) x) (λ x. refl) refl refl i (slice_index s.words i) go
         (ap (slice_set s.words i) found ∙ rw (bank_stands s r here (omega (arith, steps, low)), there, place, value) refl) one_more refl)
         (nat_eq (slice_index s.words i) v) refl
@@ -211,15 +211,15 @@ module _ (mission : MissionParts) (slots id : ℕ) (me : Sat) (y : IsSound (miss
         (refl, empty),
       )
 
-  pub repeat_publish_allows : (k j x i v : ℕ) → me.0.mission ≡ Some mission → x < 20 → suc k < m.frames → j ≡ m.procs + x → me.0.actors ≡ Kernel k j ∷ [] → i ≡ index_of (KernelWord x) → v ≡ word_in (m.kernel_image (suc k)) x
-      → Allows (Ruled m mission) slots id me i (λ n. n) (repeats (step slots i 0 0 none) me)
-  repeat_publish_allows k j x i v planned low flown steps alone place value = λ s r homes here small.
+  pub confirm_publish_allows : (k j x i v : ℕ) → me.0.mission ≡ Some mission → x < 20 → suc k < m.frames → j ≡ m.procs + x → me.0.actors ≡ Kernel k j ∷ [] → i ≡ index_of (KernelWord x) → v ≡ word_in (m.kernel_image (suc k)) x
+      → Allows (Ruled m mission) slots id me i (λ n. n) (confirms (step slots i 0 0 none) me)
+  confirm_publish_allows k j x i v planned low flown steps alone place value = λ s r homes here small.
       let there : (r.at.frame ≡ k) × (r.at.step ≡ j) = kernel_stands m mission s id me.0 y r here k j alone in
       let left : j - m.procs ≡ x = omega arith in
       let go : IsNext m r.at (stored_in s.words) (KStore x) = rw (there.0, there.1, lt-ltb k m.frames (omega arith), le-ltb j m.procs (omega arith), lt-ltb (suc k) m.frames flown, lt-ltb j (m.procs + 20) (omega arith), left) refl in
       let put : slice_set s.words i v ≡ list_after s.words (writes m r.at (stored_in s.words) (KStore x)) =
       ap (λ n. slice_set s.words n v) place ∙ ap (slice_set s.words (index_of (KernelWord x))) (value ∙ ap (λ f. word_in (m.kernel_image (suc f)) x) (sym there.0)) in
-      repeat_by (Kernel k j) v alone planned (ap (word_in (m.kernel_image (suc k))) left ∙ sym value) i s r here
+      confirm_by (Kernel k j) v alone planned (ap (word_in (m.kernel_image (suc k))) left ∙ sym value) i s r here
       (λ found. kernel_by m mission s id me.0 y r here k j alone (KStore x) (λ x. refl) k (suc j) there.0 (ap (λ (z : ℕ). suc z) there.1) i (slice_index s.words i) go (ap (slice_set s.words i) found ∙ put) one_more refl)
       (nat_eq (slice_index s.words i) v) refl
 

@@ -25,22 +25,22 @@ shown_to mission v actors i n planned alone shows =
     subst (λ (l : List Actor). IsFound (mission_flight mission) l i n) alone
     (subst (λ (o : Option MissionParts). IfSome o (λ mission. IsFound (mission_flight mission) v.actors i n)) planned shows)
 
--- A load that may make a store did so exactly if it found the word that is stored.
+-- A load confirms a store exactly if it finds the word to be stored.
 module _ (mission : MissionParts) (v : View) (after : Sat) (n word : ℕ) (a : Actor) (planned : v.mission ≡ Some mission) (alone : v.actors ≡ a ∷ []) (due : word_due (mission_flight mission) (a ∷ []) ≡ word)
     (told : IfSome v.mission (λ mission. StepsIf (nat_eq n (word_due (mission_flight mission) v.actors)) v after)) where
-  repeat_told : (b : Bool) → nat_eq n word ≡ b → StepsIf b v after
-  repeat_told b is =
+  confirm_told : (b : Bool) → nat_eq n word ≡ b → StepsIf b v after
+  confirm_told b is =
       let by_mission : StepsIf (nat_eq n (word_due (mission_flight mission) v.actors)) v after =
       subst (λ (o : Option MissionParts). IfSome o (λ mission. StepsIf (nat_eq n (word_due (mission_flight mission) v.actors)) v after)) planned told in
       let by_actors : StepsIf (nat_eq n (word_due (mission_flight mission) (a ∷ []))) v after =
       subst (λ (l : List Actor). StepsIf (nat_eq n (word_due (mission_flight mission) l)) v after) alone by_mission in
       subst (λ c. StepsIf c v after) is (subst (λ w. StepsIf (nat_eq n w) v after) due by_actors)
 
-  pub repeat_left : (n ≡ word → ⊥) → Has after v
-  repeat_left other = repeat_told false (grind (arith, nat_tests, other))
+  pub unconfirmed : (n ≡ word → ⊥) → Has after v
+  unconfirmed other = confirm_told false (grind (arith, nat_tests, other))
 
-  pub repeat_made : n ≡ word → Has after (each_actor one_more v)
-  repeat_made same = repeat_told true (grind (arith, nat_tests, same))
+  pub confirmed : n ≡ word → Has after (each_actor one_more v)
+  confirmed same = confirm_told true (grind (arith, nat_tests, same))
 
 by_true : (b : Bool) (go : Actor → Actor) (v : View) (after : Sat) → b ≡ true → GoesOrTries b go v after → Has after (each_actor go v)
 by_true true go v after is told = told

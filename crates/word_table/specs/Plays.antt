@@ -119,9 +119,9 @@ notes s me n after = IfSome me.0.mission (λ mission. TellsNote (mission_flight 
 abbrev pub stores : Stepped → Sat → ℕ → Sat → Type 0
 stores s me n after = Has after (each_actor one_more me.0)
 
--- A load makes the store that is next if it finds the value to be stored, and otherwise leaves the seat.
-abbrev pub repeats : Stepped → Sat → ℕ → Sat → Type 0
-repeats s me n after = IfSome me.0.mission (λ mission. StepsIf (nat_eq n (word_due (mission_flight mission) me.0.actors)) me.0 after)
+-- A load that finds the value to be stored is a step of the actor. Any other load leaves the seat as it is.
+abbrev pub confirms : Stepped → Sat → ℕ → Sat → Type 0
+confirms s me n after = IfSome me.0.mission (λ mission. StepsIf (nat_eq n (word_due (mission_flight mission) me.0.actors)) me.0 after)
 
 -- A store of the end word of a finished frame, or of the release. After it the actor is at the begin of the next frame.
 abbrev pub finishes_frame : Stepped → Sat → ℕ → Sat → Type 0

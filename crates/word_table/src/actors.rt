@@ -69,13 +69,13 @@ impl Play<(), View> for Stores {
     ghost then = { stores };
 }
 
-/// A load with which a store is made if the word already has the value to be stored.
-pub struct Repeats;
+/// A load that takes the place of a store if the word has the value to be stored already.
+pub struct Confirms;
 
-impl Play<(), View> for Repeats {
-    ghost use Rattle.word_table.specs.Plays.{repeats};
+impl Play<(), View> for Confirms {
+    ghost use Rattle.word_table.specs.Plays.{confirms};
 
-    ghost then = { repeats };
+    ghost then = { confirms };
 }
 
 /// A store of the end word of a finished frame.

@@ -5,7 +5,7 @@ ghost use Rattle.fail_stop.specs.Events.{may_note};
 ghost use Rattle.fail_stop.specs.Flights.{word_in};
 ghost use Rattle.word_table.specs.Tables.{IsKernelSeatOf, committed_image, committed_mark, flight_in, has_halted_by, kernel_frame, kernel_steps, kernel_tries, kernel_words_of, mission_in};
 
-use crate::actors::{Notes, Publishes, Releases, Repeats};
+use crate::actors::{Confirms, Notes, Publishes, Releases};
 use crate::seats::KSeat;
 use crate::tables::WordTable;
 use fail_stop::notes::may_note;
@@ -74,8 +74,8 @@ impl WordTable {
         ensures tries { kernel_tries kseat.new ≡ kernel_tries kseat.old }
     {
         let at = kernel_index(i as usize);
-        // As in `store`, no line is taken from the readers' caches for a value that stands there already.
-        if self.table.shared.load::<Repeats>(&mut kseat.inner, at) != word {
+        // A load makes the step if the word has the value already, as in `store`.
+        if self.table.shared.load::<Confirms>(&mut kseat.inner, at) != word {
             self.table
                 .shared
                 .store::<Publishes>(&mut kseat.inner, at, word);

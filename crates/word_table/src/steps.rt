@@ -8,7 +8,7 @@ ghost use Rattle.fail_stop.specs.Flights.{word_in};
 ghost use Rattle.word_table.specs.Actors.{Waits, frame_awaited};
 ghost use Rattle.word_table.specs.Tables.{IsAwaitedImage, IsSeatOf, awaited_by, committed_image, drafted_words, flight_in, mission_in, next_step, proc_of, seat_place, started_place, tries_of};
 
-use crate::actors::{Ends, Halts, Looks, Repeats, Starts, Stores};
+use crate::actors::{Confirms, Ends, Halts, Looks, Starts, Stores};
 use crate::seats::Seat;
 use crate::tables::WordTable;
 use bank_words::{KernelImage, decode, kernel_decode, mark_word};
@@ -74,7 +74,7 @@ impl WordTable {
     }
 
     /// Stores word `i` of the draft of the seat's frame in the bank that the mark does not name. It does not block.
-    // If the word has that value already, a load makes the step: a store would take its line from the readers' caches.
+    // If the word has that value already, a load makes the step. A store would take its line from the readers' caches.
     pub fn store(&self, seat: &mut Seat, i: u32, word: u64)
         requires seat { IsSeatOf self.now seat.old }
         requires next { next_step self.now seat.old ≡ Some (Store (proc_id (proc_of seat.old)) i) }
@@ -86,7 +86,7 @@ impl WordTable {
     {
         let bank = self.bank_picked(&mut seat.inner, seat.frame, seat.proc);
         let at = bank_index(seat.proc, 1 - bank) + i as usize;
-        if self.table.shared.load::<Repeats>(&mut seat.inner, at) != word {
+        if self.table.shared.load::<Confirms>(&mut seat.inner, at) != word {
             self.table.shared.store::<Stores>(&mut seat.inner, at, word);
         }
         seat.step += 1;

@@ -9,9 +9,9 @@ use Rattle.word_table.specs.declared.tables.WordTable.{WordTable}
 use Rattle.word_table.specs.Actors.{mission_flight, one_more}
 use Rattle.word_table.specs.Plays.{Has, Sat, StepsIf, each_actor, word_due}
 use Rattle.word_table.specs.Tables.{IsKernelSeatOf, flight_in, kernel_words_of, mission_in}
-use Rattle.word_table.proofs.Allowing.{publish_allows, repeat_publish_allows}
+use Rattle.word_table.proofs.Allowing.{confirm_publish_allows, publish_allows}
 use Rattle.word_table.proofs.Seating.{sound}
-use Rattle.word_table.proofs.Telling.{repeat_left, repeat_made, third}
+use Rattle.word_table.proofs.Telling.{confirmed, third, unconfirmed}
 use Rattle.word_table.proofs.tables.WordTable.publish.Goals as goal
 use Rattle.word_table.proofs.tables.WordTable.publish.Goals.{then-load-word, else-load-word}
 
@@ -29,10 +29,10 @@ module _ (words : WordTable) (kseat : KSeat) (i word n : ℕ) (after : Sat) (fit
       ap (word_in ((flight_in words).kernel_image (suc kseat.frame))) made ∙ sym value
 
   left : (n ≡ word → ⊥) → Has after kseat.inner.me.0
-  left other = repeat_left (mission_in words) kseat.inner.me.0 after n word (Kernel kseat.frame kseat.step) fits.mission kseat.alone due told other
+  left other = unconfirmed (mission_in words) kseat.inner.me.0 after n word (Kernel kseat.frame kseat.step) fits.mission kseat.alone due told other
 
   made : n ≡ word → Has after (each_actor one_more kseat.inner.me.0)
-  made same = repeat_made (mission_in words) kseat.inner.me.0 after n word (Kernel kseat.frame kseat.step) fits.mission kseat.alone due told same
+  made same = confirmed (mission_in words) kseat.inner.me.0 after n word (Kernel kseat.frame kseat.step) fits.mission kseat.alone due told same
 
 -- The kernel one step on.
 moved : (v u : View) (k j : ℕ) → u ≡ each_actor one_more v → v.actors ≡ Kernel k j ∷ [] → u.actors ≡ Kernel k (j + 1) ∷ []
@@ -48,7 +48,7 @@ load-requires c =
     let next : kseat.frame + 1 ≡ suc kseat.frame = omega arith in (
       c.requires.seat.table,
       omega (arith, c.requires.i, words.keeps.places, c.kernel_index-at.ensures),
-      repeat_publish_allows (mission_in words) words.table.shared.table_id.slots kseat.inner.id kseat.inner.me (sound (mission_in words) c.requires.seat.holds.facts c.requires.seat.holds.fits) kseat.empty
+      confirm_publish_allows (mission_in words) words.table.shared.table_id.slots kseat.inner.id kseat.inner.me (sound (mission_in words) c.requires.seat.holds.facts c.requires.seat.holds.fits) kseat.empty
           kseat.frame kseat.step c.args.i c.kernel_index-at.result c.args.word c.requires.seat.mission c.requires.i (omega (arith, c.requires.frame)) c.requires.next kseat.alone c.kernel_index-at.ensures
           (c.requires.word ∙ ap (λ k. word_in (m.kernel_image k) c.args.i) next),
     )

@@ -12,10 +12,10 @@ use Rattle.word_table.specs.declared.seats.Seat.{Seat}
 use Rattle.word_table.specs.declared.tables.WordTable.{WordTable}
 use Rattle.word_table.specs.Plays.{Sat, word_due}
 use Rattle.word_table.specs.Tables.{IsSeatOf, drafted_words, flight_in, mission_in, next_step, proc_of, seat_place}
-use Rattle.word_table.proofs.Allowing.{repeat_store_allows, store_allows}
+use Rattle.word_table.proofs.Allowing.{confirm_store_allows, store_allows}
 use Rattle.word_table.proofs.Seating.{sound}
 use Rattle.word_table.proofs.Stepping.{IsStep, frame_at, runs_there, step_is, store_low}
-use Rattle.word_table.proofs.Telling.{repeat_left, third}
+use Rattle.word_table.proofs.Telling.{third, unconfirmed}
 use Rattle.word_table.proofs.tables.WordTable.store.Goals as goal
 
 -- The next step of a seat is the store of word i of its draft.
@@ -58,7 +58,7 @@ load-requires c =
     let own = bank words seat c.args.i c.args.word fits c.requires.next c.requires.word c.bank_picked-bank.result c.bank_picked-bank.ensures.bank in (
       c.bank_picked-bank.ensures.table ∙ fits.table,
       omega (arith, fits.proc, words.keeps.places, fits.holds.facts.procs_count.few, c.bank_index.ensures, few.1, c.bank_picked-bank.ensures.low, fits.holds.facts.apps_count.few),
-      repeat_store_allows (mission_in words) words.table.shared.table_id.slots c.bank_picked-bank.new.seat.id c.bank_picked-bank.new.seat.me (sound (mission_in words) fits.holds.facts fits.holds.fits) (ap (λ (me : Sat). me.1) same ∙ seat.empty)
+      confirm_store_allows (mission_in words) words.table.shared.table_id.slots c.bank_picked-bank.new.seat.id c.bank_picked-bank.new.seat.me (sound (mission_in words) fits.holds.facts fits.holds.fits) (ap (λ (me : Sat). me.1) same ∙ seat.empty)
           (proc_of seat) seat.frame is.before fits.proc (alone words seat c.args.i c.args.word fits c.requires.next c.requires.word c.bank_picked-bank.new.seat.me same)
           c.args.i _ c.args.word (ap (λ (me : Sat). me.0.mission) same ∙ fits.mission) is.next few.0 few.1 (omega (arith, c.bank_index.ensures, own))
           (value words seat c.args.i c.args.word fits c.requires.next c.requires.word),
@@ -74,7 +74,7 @@ store-requires c =
     let few = low words seat c.args.i c.args.word fits c.requires.next c.requires.word in
     let own = bank words seat c.args.i c.args.word fits c.requires.next c.requires.word c.bank_picked-bank.result c.bank_picked-bank.ensures.bank in
     let here = alone words seat c.args.i c.args.word fits c.requires.next c.requires.word c.bank_picked-bank.new.seat.me same in
-    let left = repeat_left (mission_in words) c.bank_picked-bank.new.seat.me.0 c.load.new.seat.me c.load.result c.args.word (Runs (proc_of seat) seat.frame (suc is.before))
+    let left = unconfirmed (mission_in words) c.bank_picked-bank.new.seat.me.0 c.load.new.seat.me c.load.result c.args.word (Runs (proc_of seat) seat.frame (suc is.before))
     (ap (λ (me : Sat). me.0.mission) same ∙ fits.mission) here (due words seat c.args.i c.args.word fits c.requires.next c.requires.word) (third c.load.ensures) c.if-load-word.true in (
       c.load.ensures.0 ∙ c.bank_picked-bank.ensures.table ∙ fits.table,
       omega (arith, fits.proc, words.keeps.places, fits.holds.facts.procs_count.few, c.bank_index.ensures, few.1, c.bank_picked-bank.ensures.low, fits.holds.facts.apps_count.few),
