@@ -15,7 +15,7 @@ macro_rules! rack {
                 $crate::Datalink::new(),
             ),
         )?;
-        $crate::rack_of($rt.alloc(), first, second, third, fourth, fifth)?
+        $crate::rack_of($rt.alloc(), [first, second, third, fourth, fifth])?
     }};
 }
 

@@ -2,7 +2,7 @@
 //! functions here take the values, and then the boxes, so that a body that uses `rack!` has two early returns instead
 //! of ten.
 
-ghost use Rattle.std.specs.Prelude.{◌≡◌, ◌∷◌, [], IfOk};
+ghost use Rattle.std.specs.Prelude.{◌≡◌, IfOk};
 
 use app_model::{App, Rack};
 use std::alloc::{AllocError, Global};
@@ -29,21 +29,10 @@ pub fn boxed<A: App, B: App, C: App, D: App, E: App>(
 }
 
 /// Returns the rack of these boxes in this order, or `Err` when out of memory.
-pub fn rack_of(
-    alloc: Global,
-    first: Box<dyn App + Send>,
-    second: Box<dyn App + Send>,
-    third: Box<dyn App + Send>,
-    fourth: Box<dyn App + Send>,
-    fifth: Box<dyn App + Send>,
-) -> Result<Rack, AllocError>
-    ensures { IfOk result (λ rack. rack.boxes.items ≡ first ∷ second ∷ third ∷ fourth ∷ fifth ∷ []) }
+pub fn rack_of(alloc: Global, boxes: [Box<dyn App + Send>; 5]) -> Result<Rack, AllocError>
+    ensures { IfOk result (λ rack. rack.boxes.items ≡ boxes) }
 {
-    let mut boxes = Vec::with_capacity(alloc, 5)?;
-    boxes.push(first)?;
-    boxes.push(second)?;
-    boxes.push(third)?;
-    boxes.push(fourth)?;
-    boxes.push(fifth)?;
-    Ok(Rack { boxes })
+    Ok(Rack {
+        boxes: Vec::from_array(alloc, boxes)?,
+    })
 }

@@ -17,7 +17,7 @@ macro_rules! counted_rack {
                 $crate::Counted::new($crate::Datalink::new(), own, awaited),
             ),
         )?;
-        $crate::rack_of($rt.alloc(), first, second, third, fourth, fifth)?
+        $crate::rack_of($rt.alloc(), [first, second, third, fourth, fifth])?
     }};
 }
 

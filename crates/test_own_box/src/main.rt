@@ -23,7 +23,7 @@ fn main(rt: HostRuntime) -> io::Result<()> {
                 Datalink::new(),
             ),
         )?;
-        racks.push(rack_of(rt.alloc(), first, second, third, fourth, fifth)?)?;
+        racks.push(rack_of(rt.alloc(), [first, second, third, fourth, fifth])?)?;
     }
     fly(&rt, &rt, racks)
 }
