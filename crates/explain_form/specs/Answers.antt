@@ -32,7 +32,7 @@ ExplainScriptAnswers specification script =
     AsksExplainedSpecification specification (λ (spec : Parts). AsksExplainedScript spec script (MissionAnswers spec))
 
 -- The status of the explanation is not that of an unread file or of unwritten output.
-pub record IsTold (explanation : Explanation) : Type 0 where
+pub record HasNoFault (explanation : Explanation) : Type 0 where
   pub read : explanation.code ≢ UNREAD_FILE
   pub written : explanation.code ≢ UNWRITTEN_OUTPUT
 

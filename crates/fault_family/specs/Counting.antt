@@ -7,6 +7,6 @@ use Rattle.fault_family.specs.declared.within.Counts.{Counts}
 
 -- The counts are those of frame `f`: the number of change frames up to it, and the number of change frames before the
 -- window that ends with it.
-pub record AreCounts (spec : Parts) (script : ScriptParts) (f : ℕ) (counts : Counts) : Type 0 where
+pub record AreChangeFrameCounts (spec : Parts) (script : ScriptParts) (f : ℕ) (counts : Counts) : Type 0 where
   pub upto : counts.upto ≡ changes_upto spec script f
   pub past : counts.past ≡ changes_upto spec script (f - spec.window)

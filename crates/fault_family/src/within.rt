@@ -5,7 +5,7 @@ ghost use Rattle.scram_types.specs.Bits.{bits_below};
 ghost use Rattle.fault_script.specs.Assumption.{brings_too_many_down, changes_upto, down_below, has_too_many_down, is_change_frame, is_change_too_many, is_same_env, outside_at};
 ghost use Rattle.fault_script.specs.Environments.{env_at};
 ghost use Rattle.fault_script.specs.Times.{factors_at, is_up};
-ghost use Rattle.fault_family.specs.Counting.{AreCounts};
+ghost use Rattle.fault_family.specs.Counting.{AreChangeFrameCounts};
 ghost use Rattle.fault_family.specs.Scripts.{is_within, faults_in_frames};
 
 use crate::scripts::{FaultScript, is_up, value_at};
@@ -39,8 +39,8 @@ struct Counts {
 // Returns the counts of a frame, given those of the previous frame.
 fn counts_with(spec: &Spec, script: &FaultScript<'_>, counts: &Counts, frame: u32) -> Counts
     requires frame { frame ≤ 5003 }
-    requires counts { AreCounts spec.now (faults_in_frames script.now.frames script.now.faults.now) (frame - 1) counts.now }
-    ensures { AreCounts spec.now (faults_in_frames script.now.frames script.now.faults.now) frame result }
+    requires counts { AreChangeFrameCounts spec.now (faults_in_frames script.now.frames script.now.faults.now) (frame - 1) counts.now }
+    ensures { AreChangeFrameCounts spec.now (faults_in_frames script.now.frames script.now.faults.now) frame result }
 {
     let past = if spec.window <= frame {
         count_with(spec, script, counts.past, frame - spec.window)
@@ -70,7 +70,7 @@ fn count_with(spec: &Spec, script: &FaultScript<'_>, count: u32, frame: u32) -> 
 fn is_outside_at(spec: &Spec, script: &FaultScript<'_>, counts: &Counts, frame: u32) -> bool
     requires few { script.now.frames ≤ 5003 }
     requires frame { frame ≤ script.now.frames }
-    requires counts { AreCounts spec.now (faults_in_frames script.now.frames script.now.faults.now) frame counts.now }
+    requires counts { AreChangeFrameCounts spec.now (faults_in_frames script.now.frames script.now.faults.now) frame counts.now }
     ensures { result ≡ is_some (outside_at spec.now (faults_in_frames script.now.frames script.now.faults.now) frame) }
 {
     brings_too_many_down(spec, script, frame) || is_change_too_many(spec, script, counts, frame)
@@ -78,7 +78,7 @@ fn is_outside_at(spec: &Spec, script: &FaultScript<'_>, counts: &Counts, frame: 
 
 // Returns whether a frame is a change that exceeds the limit of the window that ends with it.
 fn is_change_too_many(spec: &Spec, script: &FaultScript<'_>, counts: &Counts, frame: u32) -> bool
-    requires counts { AreCounts spec.now (faults_in_frames script.now.frames script.now.faults.now) frame counts.now }
+    requires counts { AreChangeFrameCounts spec.now (faults_in_frames script.now.frames script.now.faults.now) frame counts.now }
     ensures { result ≡ is_change_too_many spec.now (faults_in_frames script.now.frames script.now.faults.now) frame }
 {
     is_change_frame(spec, script, frame) && u32::from(spec.changes) + 1 < counts.upto - counts.past

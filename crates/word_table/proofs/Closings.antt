@@ -8,7 +8,7 @@ use native.Mathlib.Decide.{ℕ_discrete}
 use lib.ListN.{get_elem?}
 use Rattle.bank_words.specs.Numbers.{decode}
 use Rattle.word_table.specs.declared.seats.Seat.{Seat}
-use Rattle.word_table.specs.Closing.{AreLast, AreNobodys, IsStoredImage}
+use Rattle.word_table.specs.Closing.{AreLast, AreZero, IsStoredImage}
 
 pub index_is : (l : List ℕ) (i w : ℕ) → get_elem? l i ≡ some w → slice_index l i ≡ w
 index_is [] i w there = absurd (some-ne-none w (sym there))
@@ -49,8 +49,8 @@ one_last list width p marks images mark image long longer low before last q most
         rw (at_mark, at_image) (before q (omega (arith, most, d)))
 
 -- the entries past the processors that have been read are unchanged
-pub nobodys_left : (p : ℕ) (marks : List ℕ) (images : List (List ℤ)) (mark : ℕ) (image : List ℤ) → ((q : ℕ) → p ≤ q → q < 8 → AreNobodys (slice_index marks q) (slice_index_or images q []))
-    → (q : ℕ) → p + 1 ≤ q → q < 8 → AreNobodys (slice_index (slice_set marks p mark) q) (slice_index_or (slice_set images p image) q [])
+pub nobodys_left : (p : ℕ) (marks : List ℕ) (images : List (List ℤ)) (mark : ℕ) (image : List ℤ) → ((q : ℕ) → p ≤ q → q < 8 → AreZero (slice_index marks q) (slice_index_or images q []))
+    → (q : ℕ) → p + 1 ≤ q → q < 8 → AreZero (slice_index (slice_set marks p mark) q) (slice_index_or (slice_set images p image) q [])
 nobodys_left p marks images mark image before q least most =
     let other : ¬ (q ≡ p) = λ same. omega (arith, same, least) in
     let was = before q (omega (arith, least)) most in (

@@ -16,9 +16,9 @@ pub record AreLast (list : List ℕ) (width p mark : ℕ) (image : List ℤ) : T
   pub image_is : IsStoredImage list width (index_of (BankWord p (mark % 2) 0)) image
 
 -- A mark and an image that belong to no processor, which are zero.
-abbrev pub AreNobodys : ℕ → List ℤ → Type 0
-AreNobodys mark image = (mark ≡ 0) × (image ≡ replicate 64 (pos 0))
+abbrev pub AreZero : ℕ → List ℤ → Type 0
+AreZero mark image = (mark ≡ 0) × (image ≡ replicate 64 (pos 0))
 
 -- The marks and images from index `n` on belong to no processor.
-abbrev pub AreNobodysFrom : ℕ → List ℕ → List (List ℤ) → Type 0
-AreNobodysFrom n marks images = (p : ℕ) → n ≤ p → p < 8 → AreNobodys (slice_index marks p) (slice_index_or images p [])
+abbrev pub AreZeroFrom : ℕ → List ℕ → List (List ℤ) → Type 0
+AreZeroFrom n marks images = (p : ℕ) → n ≤ p → p < 8 → AreZero (slice_index marks p) (slice_index_or images p [])

@@ -3,7 +3,7 @@
 ghost use Rattle.std.specs.Prelude.{◌≡◌, ◌+◌, ◌≤◌, ◌<◌, ◌∷◌, [], length, map, slice_index, slice_index_or, ℕ};
 ghost use Rattle.std.specs.Mem.Slots.{IsFull, slots_items, slots_len};
 ghost use Rattle.fail_stop.specs.Listed.{word_index_count};
-ghost use Rattle.word_table.specs.Closing.{AreLast, AreNobodysFrom, IsStoredImage};
+ghost use Rattle.word_table.specs.Closing.{AreLast, AreZeroFrom, IsStoredImage};
 ghost use Rattle.word_table.specs.Tables.{AreImagesOf, AreMarksOf, AreSeatsOf, IsKernelSeatOf, actor_of, kernel_frame, kernel_steps, mission_in};
 ghost use Rattle.word_table.specs.declared.actors.Actor.TheVariants.{Kernel};
 ghost use Rattle.word_table.specs.declared.seats.Seat as seat_types;
@@ -33,7 +33,7 @@ impl WordTable {
         requires seats { AreSeatsOf self seats.items }
         ensures marks { AreMarksOf self seats.items result.marks }
         ensures images { AreImagesOf self seats.items result.images }
-        ensures past { AreNobodysFrom (length (mission_in self).spec.procs) result.marks result.images }
+        ensures past { AreZeroFrom (length (mission_in self).spec.procs) result.marks result.images }
     {
         let all = self.gather(kseat, seats);
         let procs = self.procs as usize;
@@ -86,7 +86,7 @@ fn last_words(closed: &Closed<(), Global>, procs: usize, width: usize) -> LastWo
     requires procs { procs ≤ 8 }
     requires width { width ≤ 64 }
     ensures last { (p : ℕ) → p < procs → AreLast (slots_items closed.now.words) width p (slice_index result.marks p) (slice_index_or result.images p []) }
-    ensures past { AreNobodysFrom procs result.marks result.images }
+    ensures past { AreZeroFrom procs result.marks result.images }
 {
     let mut marks = [0; 8];
     let mut images = [[0; 64]; 8];

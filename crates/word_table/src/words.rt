@@ -28,7 +28,7 @@ impl<'a> Words<'a> {
     ghost use Rattle.fail_stop.specs.Events.{frame_of, frame_on, halted_there, one_on};
     ghost use Rattle.fail_stop.specs.Flights.{word_in};
     ghost use Rattle.word_table.specs.Actors.{Waits};
-    ghost use Rattle.word_table.specs.Closing.{AreNobodysFrom};
+    ghost use Rattle.word_table.specs.Closing.{AreZeroFrom};
     ghost use Rattle.word_table.specs.Tables.{AreImagesOf, AreMarksOf, AreOpening, AreSeatsOf, IsAwaitedImage, IsKernelSeatOf, IsSeatOf, committed_image, committed_mark, drafted_words, flight_in, has_halted_by, kernel_frame, kernel_steps, kernel_tries, kernel_words_of, mission_in, next_step, proc_of, seat_place, started_place, tries_of};
     ghost use Rattle.word_table.specs.declared.seats.Seat as seat_types;
 
@@ -201,7 +201,7 @@ impl<'a> Words<'a> {
         requires seats { AreSeatsOf self.table seats.items }
         ensures marks { AreMarksOf self.entry.table seats.items result.marks }
         ensures images { AreImagesOf self.entry.table seats.items result.images }
-        ensures past { AreNobodysFrom (length (mission_in self.entry.table).spec.procs) result.marks result.images }
+        ensures past { AreZeroFrom (length (mission_in self.entry.table).spec.procs) result.marks result.images }
     {
         self.table.close(kseat, seats)
     }
