@@ -2,7 +2,7 @@
 
 ghost use Rattle.cube_cover.specs.Shares.{SharesAddUp};
 
-/// Proves that the shares of a configuration count each environment in scope once. A share belongs to each rule, and
+/// States that the shares of a configuration count each environment in scope once. A share belongs to each rule, and
 /// the last share to the environments that no rule fits.
 pub fn shares_add_up()
     ensures { SharesAddUp }
